@@ -1,0 +1,38 @@
+use Rattle.std.proofs.Common.{◌≡◌, ◌≤◌, ◌-◌, ℕ, Ok, sym, ap, subst, ◌∙◌, arith}
+use Rattle.cp_tree.specs.Denotes.{Root}
+use Rattle.cp_tree.specs.Node.{Node}
+use Rattle.cp_tree.specs.NodeOf.{words_of}
+use Rattle.cp_tree.specs.Reading.{root_of, area_read, node_in, top, most_nesting, most_traversal}
+use Rattle.cp_tree.proofs.Fills.{inner_cost}
+use Rattle.cp_tree.proofs.Roots.{root_found, root_given}
+use Rattle.cp_tree.proofs.Sound.{ok_is}
+use Rattle.cp_tree.proofs.Views.{body_again, ok_is_ok, read-node}
+use Rattle.cp_tree.proofs.view.View.root.Goals as goal
+
+-- the root's body is read within the greatest limits too
+again : (c : goal.In_ok-area) → let r = c.in_ok-area.ensures.read in area_read (words_of c.lists-lists.result.now) c.in_ok-area.area ≡ Ok (r.tree, most_traversal - inner_cost r.tree)
+unfolding most_nesting most_traversal
+again c =
+    let r = c.in_ok-area.ensures.read in
+    body_again (words_of c.lists-lists.result.now) top c.nesting.result c.traversal.result c.in_ok-area.area (r.tree, r.left) (omega (arith, c.nesting.ensures.range)) (omega (arith, c.traversal.ensures.range)) r.within r.body
+
+pub returns-in_err-area-clause-only : goal.returns-in_err-area-clause-only
+returns-in_err-area-clause-only c t r =
+    let given = root_given c.nesting.result c.traversal.result (words_of c.lists-lists.result.now) c.args.limits t (sym c.nesting.ensures.value) (sym c.traversal.ensures.value) (rw c.lists-lists.ensures.all r) in
+    let fault = c.in_err-area.ensures.fault in
+    cc (given, fault)
+
+pub invariant_of-result : goal.invariant_of-result
+invariant_of-result c = (c.in_ok-area.ensures.read.within, c.in_ok-area.ensures.small, ok_is_ok _ _ (again c))
+
+pub returns-clause-found : goal.returns-clause-found
+returns-clause-found c =
+    let r = c.in_ok-area.ensures.read in
+    let found = root_found c.nesting.result c.traversal.result (words_of c.lists-lists.result.now) c.args.limits r.tree (sym c.nesting.ensures.value) (sym c.traversal.ensures.value) r.root in
+    subst (Root c.args.segments.now c.args.limits) (sym (read-node _ _ _ (again c))) (rw c.lists-lists.ensures.all at found)
+
+pub returns-clause-only : goal.returns-clause-only
+returns-clause-only c t r =
+    let read = c.in_ok-area.ensures.read in
+    let given = root_given c.nesting.result c.traversal.result (words_of c.lists-lists.result.now) c.args.limits t (sym c.nesting.ensures.value) (sym c.traversal.ensures.value) (rw c.lists-lists.ensures.all r) in
+    ap (λ x. Ok x) (read-node _ _ _ (again c) ∙ ok_is (sym read.root ∙ given))

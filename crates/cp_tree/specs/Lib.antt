@@ -1,0 +1,12 @@
+pub use Rattle.cp_words.specs.Limits
+pub use Rattle.cp_words.specs.Word
+pub mod Node
+pub mod NodeOf
+pub mod Code
+pub mod Answers
+pub mod Aims
+pub mod Denotes
+pub mod Reading
+pub mod Parts
+pub mod Rows
+pub mod Seen

@@ -1,0 +1,22 @@
+//! The tree that hangs on the root pointer of a Cap'n Proto message: reading it in place and as an
+//! owned value.
+#![tactic(auto)]
+
+mod aim;
+mod area;
+mod check;
+mod fault;
+mod read;
+mod tree;
+mod view;
+mod whole;
+
+pub use cp_words::Limits;
+pub use fault::{Place, TreeFault};
+pub use read::read_root;
+pub use tree::{Body, Tree};
+pub use view::{Shape, View};
+pub use whole::{Object, Whole};
+
+#[cfg(test)]
+mod tests;

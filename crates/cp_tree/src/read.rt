@@ -1,0 +1,200 @@
+//! Owned trees, built from views.
+
+ghost use Rattle.std.specs.Prelude.{◌≡◌, ◌<◌, ◌≤◌, ◌+◌, ◌*◌, ◌/◌, ◌^◌, map, length, IfOk};
+ghost use Rattle.cp_words.specs.Word.{words_for};
+ghost use Rattle.cp_words.specs.declared.pointer.ElementSize.TheVariants as sizes;
+ghost use Rattle.cp_tree.specs.Answers.{Answers};
+ghost use Rattle.cp_tree.specs.Denotes.{element, numbers, flags, elements_of, Root};
+ghost use Rattle.cp_tree.specs.Node.{Node, IsStruct, struct, list, count, number_of};
+ghost use Rattle.cp_tree.specs.NodeOf.{node_of, body_of, nodes_of, bodies_of};
+ghost use Rattle.cp_tree.specs.Rows.{row_of, bodies_in, IsData};
+
+use crate::fault::TreeFault;
+use crate::tree::{Body, Tree};
+use crate::view::{Shape, View};
+use crate::whole::{Object, Whole};
+use cp_words::{ElementSize, Limits, Segments};
+use std::alloc::{AllocError, Global};
+
+/// Element `index`, of so many bits.
+fn element_of(words: &[u64], width: usize, index: u32) -> u64
+    requires some { 0 < width }
+    requires fits { width ≤ 64 }
+    requires inside { index * width / 64 < length words.now }
+    ensures value { result ≡ element words.now width index }
+    ensures narrow { result < 2 ^ width }
+{
+    let bit = index as usize * width;
+    let shifted = words[bit / 64] >> (bit % 64);
+    if width == 64 {
+        shifted
+    } else {
+        shifted % (1 << width)
+    }
+}
+
+/// The first so many bits.
+fn bits_of(alloc: Global, words: &[u64], count: u32) -> Result<Vec<bool>, AllocError>
+    requires { words_for sizes.Bit count ≤ length words.now }
+    ensures { IfOk result (λ v. v.items ≡ flags words.now count) }
+{
+    let mut items = Vec::with_capacity(alloc, count as usize)?;
+    for i in 0..count {
+        items.push(element_of(words, 1, i) == 1)?;
+    }
+    Ok(items)
+}
+
+/// The first so many bytes.
+fn bytes_of(alloc: Global, words: &[u64], count: u32) -> Result<Vec<u8>, AllocError>
+    requires { words_for sizes.Byte count ≤ length words.now }
+    ensures { IfOk result (λ v. v.items ≡ numbers words.now 8 count) }
+{
+    let mut items = Vec::with_capacity(alloc, count as usize)?;
+    for i in 0..count {
+        items.push(element_of(words, 8, i) as u8)?;
+    }
+    Ok(items)
+}
+
+/// The first so many numbers of two bytes.
+fn halves_of(alloc: Global, words: &[u64], count: u32) -> Result<Vec<u16>, AllocError>
+    requires { words_for sizes.TwoBytes count ≤ length words.now }
+    ensures { IfOk result (λ v. v.items ≡ numbers words.now 16 count) }
+{
+    let mut items = Vec::with_capacity(alloc, count as usize)?;
+    for i in 0..count {
+        items.push(element_of(words, 16, i) as u16)?;
+    }
+    Ok(items)
+}
+
+/// The first so many numbers of four bytes.
+fn quads_of(alloc: Global, words: &[u64], count: u32) -> Result<Vec<u32>, AllocError>
+    requires { words_for sizes.FourBytes count ≤ length words.now }
+    ensures { IfOk result (λ v. v.items ≡ numbers words.now 32 count) }
+{
+    let mut items = Vec::with_capacity(alloc, count as usize)?;
+    for i in 0..count {
+        items.push(element_of(words, 32, i) as u32)?;
+    }
+    Ok(items)
+}
+
+/// The first so many words.
+fn words_of(alloc: Global, words: &[u64], count: u32) -> Result<Vec<u64>, AllocError>
+    requires { words_for sizes.EightBytes count ≤ length words.now }
+    ensures { IfOk result (λ v. v.items ≡ numbers words.now 64 count) }
+{
+    let mut items = Vec::with_capacity(alloc, count as usize)?;
+    for i in 0..count {
+        items.push(element_of(words, 64, i))?;
+    }
+    Ok(items)
+}
+
+/// A list without pointers, of the words that hold its elements.
+fn list_of(alloc: Global, words: &[u64], size: ElementSize, count: u32) -> Result<Tree, AllocError>
+    requires sized { IsData size }
+    requires whole { words_for size count ≤ length words.now }
+    ensures { IfOk result (λ t. node_of t ≡ list (elements_of words.now size count)) }
+{
+    match size {
+        ElementSize::Void => Ok(Tree::Voids(count)),
+        ElementSize::Bit => Ok(Tree::Bits(bits_of(alloc, words, count)?)),
+        ElementSize::Byte => Ok(Tree::Bytes(bytes_of(alloc, words, count)?)),
+        ElementSize::TwoBytes => Ok(Tree::Halves(halves_of(alloc, words, count)?)),
+        ElementSize::FourBytes => Ok(Tree::Quads(quads_of(alloc, words, count)?)),
+        ElementSize::EightBytes | ElementSize::Pointer | ElementSize::Composite => {
+            Ok(Tree::Words(words_of(alloc, words, count)?))
+        }
+    }
+}
+
+/// The tree that is viewed.
+#[cycle(build)]
+fn build(alloc: Global, view: &View) -> Result<Tree, AllocError>
+    ensures { IfOk result (λ t. node_of t ≡ view.now) }
+{
+    match view.shape() {
+        Shape::Null => Ok(Tree::Null),
+        Shape::Cap(index) => Ok(Tree::Cap(index)),
+        Shape::Struct { ptrs, .. } => Ok(Tree::Struct(build_body(alloc, view, ptrs)?)),
+        Shape::List { size, count } => match size {
+            ElementSize::Pointer => Ok(Tree::Ptrs(build_row(alloc, view, count)?)),
+            _ => list_of(alloc, view.words(), size, count),
+        },
+        Shape::Structs { words, ptrs, count } => Ok(Tree::Structs {
+            words,
+            ptrs,
+            items: build_bodies(alloc, view, count)?,
+        }),
+    }
+}
+
+/// The struct that is viewed.
+#[cycle(build)]
+fn build_body(alloc: Global, view: &View, ptrs: u16) -> Result<Body, AllocError>
+    requires is_struct { IsStruct view.now }
+    requires all { count (row_of view.now) ≡ ptrs }
+    ensures { IfOk result (λ b. struct (body_of b).0 (body_of b).1 ≡ view.now) }
+{
+    let words = Vec::from_slice(alloc, view.words())?;
+    let ptrs = build_row(alloc, view, ptrs as u32)?;
+    Ok(Body { words, ptrs })
+}
+
+/// The pointers of the struct or list that is viewed.
+#[cycle(build)]
+fn build_row(alloc: Global, view: &View, number: u32) -> Result<Vec<Tree>, AllocError>
+    requires { count (row_of view.now) ≡ number }
+    ensures { IfOk result (λ v. nodes_of (map node_of v.items) ≡ row_of view.now) }
+{
+    let mut found = Vec::with_capacity(alloc, number as usize)?;
+    for i in 0..number {
+        found.push(build(alloc, &view.child(i))?)?;
+    }
+    Ok(found)
+}
+
+/// The elements of the composite list that is viewed.
+#[cycle(build)]
+fn build_bodies(alloc: Global, view: &View, number: u32) -> Result<Vec<Body>, AllocError>
+    requires { number_of (bodies_in view.now) ≡ number }
+    ensures { IfOk result (λ v. bodies_of (map body_of v.items) ≡ bodies_in view.now) }
+{
+    let mut found = Vec::with_capacity(alloc, number as usize)?;
+    for i in 0..number {
+        let element = view.child(i);
+        let Shape::Struct { ptrs, .. } = element.shape() else {
+            unreachable!();
+        };
+        found.push(build_body(alloc, &element, ptrs)?)?;
+    }
+    Ok(found)
+}
+
+/// The tree that is viewed, owned.
+pub(crate) fn whole_of(alloc: Global, view: &View) -> Result<Whole, AllocError>
+    ensures { IfOk result (λ w. w ≡ view.now) }
+{
+    Ok(Whole {
+        tree: build(alloc, view)?,
+    })
+}
+
+/// The message's tree, owned: what word 0 of segment 0 stands for (encoding specification,
+/// "Messages"). All that is reachable is checked against the limits before memory is taken. Each
+/// fault from G1 to G9 names the pointer word where it was met first; G10 is want of memory.
+pub fn read_root(alloc: Global, segments: &Segments, limits: Limits) -> Result<Object, TreeFault>
+    // What is read is the message's tree.
+    ensures found { IfOk result (λ t. Root segments.now limits t) }
+    // The message's tree is read, unless memory runs out.
+    ensures only { (t : Node) → Root segments.now limits t → Answers result t }
+{
+    let root = View::root(segments, limits)?;
+    match whole_of(alloc, &root)?.into_object() {
+        Ok(object) => Ok(object),
+        Err(_) => unreachable!(),
+    }
+}

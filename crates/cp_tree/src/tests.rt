@@ -1,0 +1,317 @@
+//! Messages from outside, read in place and as owned trees.
+
+use super::*;
+use cp_words::{ElementSize, Segments};
+use std::alloc::{AllocError, Global};
+use std::test::Fail;
+
+/// A word by its eight bytes in hexadecimal, in the order of the stream.
+fn word(text: &str) -> u64 {
+    let mut word = 0u64;
+    for digit in text.bytes() {
+        let value = match digit {
+            b'0'..=b'9' => digit - b'0',
+            b'a'..=b'f' => digit - b'a' + 10,
+            _ => 0,
+        };
+        word = word.wrapping_mul(16).wrapping_add(value as u64);
+    }
+    word.swap_bytes()
+}
+
+/// Segments, each by its words.
+fn segments(alloc: Global, lists: &[&str]) -> Result<Segments, Fail> {
+    let mut all = Vec::new(alloc);
+    for list in lists {
+        let mut words = Vec::new(alloc);
+        for text in list.split_whitespace() {
+            words.push(word(text))?;
+        }
+        all.push(words)?;
+    }
+    match Segments::new(all) {
+        Ok(segments) => Ok(segments),
+        Err(_) => Err(Fail::from("no segment")),
+    }
+}
+
+/// The tree that one segment holds, within limits on nesting and traversal.
+fn read(
+    alloc: Global,
+    lists: &[&str],
+    nesting: u32,
+    traversal: u32,
+) -> Result<Result<Object, TreeFault>, Fail> {
+    let segments = segments(alloc, lists)?;
+    let limits = Limits::new(nesting, traversal, 512, 67_108_864).ok_or("limits")?;
+    let in_place = View::root(&segments, limits).map(|_| ());
+    let owned = read_root(alloc, &segments, limits);
+    match (&in_place, &owned) {
+        (Ok(()), Ok(_)) => Ok(owned),
+        (Err(a), Err(b)) if *a == *b => Ok(owned),
+        _ => Err(Fail::from("the view and the owned tree disagree")),
+    }
+}
+
+const FINISH: &str = "0000000001000100 0400000000000000 0000000001000000 0700000000000000";
+
+fn at(segment: usize, word: usize) -> Place {
+    Place { segment, word }
+}
+
+fn body(alloc: Global, words: &[u64], ptrs: Vec<Tree>) -> Result<Body, AllocError> {
+    Ok(Body {
+        words: Vec::from_slice(alloc, words)?,
+        ptrs,
+    })
+}
+
+fn leaf(alloc: Global, word: u64) -> Result<Tree, AllocError> {
+    Ok(Tree::Struct(body(alloc, &[word], Vec::new(alloc))?))
+}
+
+#[test]
+fn views_lend_parts(rt: HostRuntime) -> Result<(), Fail> {
+    let segments = segments(rt.alloc(), &[FINISH])?;
+    let Ok(root) = View::root(&segments, Limits::standard()) else {
+        return Err(Fail::from("refused"));
+    };
+    assert_eq!(rt; root.shape(), Shape::Struct { words: 1, ptrs: 1 });
+    assert_eq!(rt; root.words(), [4].as_slice());
+    let member = root.child(0);
+    assert_eq!(rt; member.shape(), Shape::Struct { words: 1, ptrs: 0 });
+    assert_eq!(rt; member.again().words(), [7].as_slice());
+    assert_eq!(rt; root.child(1).shape(), Shape::Null);
+    Ok(())
+}
+
+/// Whether these segments hold the message `finish`, in place and owned.
+fn is_finish(alloc: Global, lists: &[&str]) -> Result<bool, Fail> {
+    let whole = Tree::Struct(body(alloc, &[4], vec![in alloc; leaf(alloc, 7)?]?)?);
+    match read(alloc, lists, 64, 8_388_608)? {
+        Ok(found) => Ok(*found.tree() == whole && found.into_tree() == whole),
+        Err(_) => Ok(false),
+    }
+}
+
+#[test]
+fn one_message_in_any_segments(rt: HostRuntime) -> Result<(), Fail> {
+    let alloc = rt.alloc();
+    assert!(rt; is_finish(alloc, &[FINISH])?);
+    assert!(rt; is_finish(alloc, &["0200000001000000", FINISH])?);
+    let by_two = [
+        "0600000001000000",
+        "0200000002000000 0000000001000100",
+        "0400000000000000 0000000001000000 0700000000000000",
+    ];
+    assert!(rt; is_finish(alloc, &by_two)?);
+    Ok(())
+}
+
+#[test]
+fn a_pad_of_zero_bits_is_an_empty_struct(rt: HostRuntime) -> Result<(), Fail> {
+    let alloc = rt.alloc();
+    let lists = ["0600000001000000", "0200000002000000 0000000000000000", ""];
+    let Ok(found) = read(alloc, &lists, 64, 8_388_608)? else {
+        return Err(Fail::from("refused"));
+    };
+    assert!(rt; *found.tree() == Tree::Struct(body(alloc, &[], Vec::new(alloc))?));
+    let one_word = read(
+        alloc,
+        &["0200000001000000", "0000000000000000"],
+        64,
+        8_388_608,
+    )?;
+    assert!(rt; one_word.is_err());
+    Ok(())
+}
+
+#[test]
+fn lists_of_every_size(rt: HostRuntime) -> Result<(), Fail> {
+    let alloc = rt.alloc();
+    let rows = [
+        ("0100000048000000", "0000000000000000", Tree::Voids(9)),
+        (
+            "0100000021000000",
+            "0a00000000000000",
+            Tree::Bits(vec![in alloc; false, true, false, true]?),
+        ),
+        (
+            "010000000a000000",
+            "ab00000000000000",
+            Tree::Bytes(vec![in alloc; 0xab]?),
+        ),
+        (
+            "0100000013000000",
+            "0102030400000000",
+            Tree::Halves(vec![in alloc; 0x0201, 0x0403]?),
+        ),
+        (
+            "010000000c000000",
+            "0102030400000000",
+            Tree::Quads(vec![in alloc; 0x0403_0201]?),
+        ),
+        (
+            "010000000d000000",
+            "0500000000000000",
+            Tree::Words(vec![in alloc; 5]?),
+        ),
+    ];
+    for (pointer, words, tree) in rows {
+        let text = format!(in alloc; "0000000000000100 {pointer} {words}")?;
+        let Ok(found) = read(alloc, &[text.as_str()], 64, 8_388_608)? else {
+            return Err(Fail::from("refused"));
+        };
+        let mut ptrs = Vec::new(alloc);
+        ptrs.push(tree)?;
+        assert!(rt;
+            *found.tree() == Tree::Struct(body(alloc, &[], ptrs)?),
+            "{pointer}"
+        );
+    }
+    Ok(())
+}
+
+#[test]
+fn lists_of_pointers_and_structs(rt: HostRuntime) -> Result<(), Fail> {
+    let alloc = rt.alloc();
+    let pointers = "0000000000000100 0100000016000000 0000000000000000 0300000009000000";
+    let Ok(found) = read(alloc, &[pointers], 64, 8_388_608)? else {
+        return Err(Fail::from("refused"));
+    };
+    let list = Tree::Ptrs(vec![in alloc; Tree::Null, Tree::Cap(9)]?);
+    assert!(rt; *found.tree() == Tree::Struct(body(alloc, &[], vec![in alloc; list]?)?));
+
+    let structs = "0000000000000100 0100000027000000 0800000001000100 \
+        0700000000000000 0000000000000000 0800000000000000 0300000002000000";
+    let segments = segments(alloc, &[structs])?;
+    let Ok(root) = View::root(&segments, Limits::standard()) else {
+        return Err(Fail::from("refused"));
+    };
+    let list = root.child(0);
+    assert_eq!(rt;
+        list.shape(),
+        Shape::Structs {
+            words: 1,
+            ptrs: 1,
+            count: 2
+        }
+    );
+    assert_eq!(rt; list.child(1).words(), [8].as_slice());
+    assert_eq!(rt; list.child(1).child(0).shape(), Shape::Cap(2));
+    assert_eq!(rt; list.child(2).shape(), Shape::Null);
+    let items = vec![in alloc;
+        body(alloc, &[7], vec![in alloc; Tree::Null]?)?,
+        body(alloc, &[8], vec![in alloc; Tree::Cap(2)]?)?,
+    ]?;
+    let whole = Tree::Structs {
+        words: 1,
+        ptrs: 1,
+        items,
+    };
+    assert!(rt; *list.tree(alloc)?.tree() == whole);
+    Ok(())
+}
+
+#[test]
+fn a_shared_body_is_paid_for_each_way(rt: HostRuntime) -> Result<(), Fail> {
+    let alloc = rt.alloc();
+    let shared = ["0000000000000200 0400000001000000 0000000001000000 0500000000000000"];
+    assert!(rt; read(alloc, &shared, 64, 7)?.is_ok());
+    assert_eq!(rt;
+        read(alloc, &shared, 64, 6)?.err(),
+        Some(TreeFault::TraversalLimit(at(0, 2)))
+    );
+    let segments = segments(alloc, &shared)?;
+    let Ok(root) = View::root(&segments, Limits::standard()) else {
+        return Err(Fail::from("refused"));
+    };
+    assert_eq!(rt; root.child(0).words(), [5].as_slice());
+    assert_eq!(rt; root.child(1).words(), [5].as_slice());
+    assert_eq!(rt; root.child(2).shape(), Shape::Null);
+    Ok(())
+}
+
+#[test]
+fn faults_have_their_places(rt: HostRuntime) -> Result<(), Fail> {
+    let alloc = rt.alloc();
+    let rows = [
+        ("", TreeFault::NoRoot(at(0, 0))),
+        ("0000000000000000", TreeFault::NoRoot(at(0, 0))),
+        ("0300000000000000", TreeFault::RootKind(at(0, 0))),
+        ("0100000000000000", TreeFault::RootKind(at(0, 0))),
+        ("0000000001000100", TreeFault::OutOfBounds(at(0, 0))),
+        ("f8ffffff01000000", TreeFault::OutOfBounds(at(0, 0))),
+        ("0200000001000000", TreeFault::NoSegment(at(0, 0))),
+        ("0200000000000000", TreeFault::BadPad(at(0, 0))),
+        ("0a00000000000000", TreeFault::OutOfBounds(at(0, 0))),
+        ("fcffffff00000100", TreeFault::NestingLimit(at(0, 0))),
+        (
+            "0000000000000100 0700000005000000",
+            TreeFault::BadCapability(at(0, 1)),
+        ),
+        (
+            "0000000000000100 0100000007000000 0100000000000000",
+            TreeFault::BadTag(at(0, 1)),
+        ),
+        (
+            "0000000000000100 010000000f000000 0800000001000000 0000000000000000",
+            TreeFault::OutOfBounds(at(0, 1)),
+        ),
+        (
+            "0000000000000100 0100000007000000 fcffffff00000000",
+            TreeFault::TraversalLimit(at(0, 1)),
+        ),
+        (
+            "0000000000000200 fcffffff00000100 0000000001000000",
+            TreeFault::NestingLimit(at(0, 1)),
+        ),
+    ];
+    for (text, fault) in rows {
+        assert_eq!(rt;
+            read(alloc, &[text], 64, 8_388_608)?.err(),
+            Some(fault),
+            "{text}"
+        );
+    }
+    Ok(())
+}
+
+/// So many nested structs of one pointer, then a null pointer.
+fn nested(alloc: Global, depth: usize) -> Result<String, AllocError> {
+    let mut text = String::new(alloc);
+    for _ in 0..depth {
+        text.push_str("0000000000000100 ")?;
+    }
+    text.push_str("0000000000000000")?;
+    Ok(text)
+}
+
+#[test]
+fn nesting_has_a_limit(rt: HostRuntime) -> Result<(), Fail> {
+    let alloc = rt.alloc();
+    let text = nested(alloc, 64)?;
+    assert!(rt; read(alloc, &[text.as_str()], 64, 8_388_608)?.is_ok());
+    let text = nested(alloc, 65)?;
+    let deep = read(alloc, &[text.as_str()], 64, 8_388_608)?;
+    assert_eq!(rt; deep.err(), Some(TreeFault::NestingLimit(at(0, 64))));
+    assert!(rt; read(alloc, &[text.as_str()], 65, 130)?.is_ok());
+    let dear = read(alloc, &[text.as_str()], 65, 129)?;
+    assert_eq!(rt; dear.err(), Some(TreeFault::TraversalLimit(at(0, 64))));
+    Ok(())
+}
+
+#[test]
+fn amplified_input_costs_what_it_denotes(rt: HostRuntime) -> Result<(), Fail> {
+    let alloc = rt.alloc();
+    let mut text = String::from_str(alloc, "0000000000000100 0100000016000000")?;
+    for _ in 0..59 {
+        text.push_str(" 0500000016000000 0100000016000000")?;
+    }
+    text.push_str(" 0000000000000000 0000000000000000")?;
+    let found = read(alloc, &[text.as_str()], 64, 8_388_608)?;
+    assert_eq!(rt; found.err(), Some(TreeFault::TraversalLimit(at(0, 117))));
+    let found = read(alloc, &[text.as_str()], 64, 100)?;
+    assert_eq!(rt; found.err(), Some(TreeFault::TraversalLimit(at(0, 64))));
+    Ok(())
+}

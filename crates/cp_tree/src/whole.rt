@@ -1,0 +1,100 @@
+//! Owned trees.
+
+use crate::tree::Tree;
+use std::marker::Model;
+
+/// A tree, owned. Contracts see it as its tree without where it lies in memory.
+#[derive(Drop)]
+pub struct Whole {
+    pub(crate) tree: Tree,
+}
+
+impl Model for Whole {
+    ghost use Rattle.cp_tree.specs.Node.{Node};
+    ghost use Rattle.cp_tree.specs.Code.{tree_code};
+
+    ghost Value = { Node };
+
+    ghost coded = { tree_code };
+
+    ghost use Rattle.cp_tree.specs.NodeOf.{node_of};
+
+    ghost view = { λ w. node_of w.tree };
+}
+
+/// A tree that is a struct, owned. Contracts see it as its tree without where it lies in memory.
+#[derive(Drop)]
+pub struct Object {
+    pub(crate) tree: Tree,
+}
+
+impl Model for Object {
+    ghost use Rattle.cp_tree.specs.Node.{Node};
+    ghost use Rattle.cp_tree.specs.Code.{tree_code};
+
+    ghost Value = { Node };
+
+    ghost coded = { tree_code };
+
+    ghost use Rattle.cp_tree.specs.Node.{IsStruct};
+    ghost use Rattle.cp_tree.specs.NodeOf.{node_of};
+
+    ghost view = { λ o. node_of o.tree };
+
+    ghost invariant = { λ o. IsStruct (node_of o.tree) };
+}
+
+impl Whole {
+    ghost use Rattle.std.specs.Prelude.{◌≡◌, IfOk, IfErr};
+    ghost use Rattle.cp_tree.specs.Node.{IsStruct};
+    ghost use Rattle.cp_tree.specs.NodeOf.{node_of};
+
+    /// The tree, lent.
+    pub fn tree(&self) -> &Tree
+        ensures { node_of result.now ≡ self.now }
+    {
+        &self.tree
+    }
+
+    /// The tree itself.
+    pub fn into_tree(self) -> Tree
+        ensures { node_of result ≡ self }
+    {
+        self.tree
+    }
+
+    /// The same tree as an object, if it is a struct; else the tree is handed back.
+    pub fn into_object(self) -> Result<Object, Whole>
+        ensures object { IfOk result (λ o. (o ≡ self) × IsStruct self) }
+        ensures other { IfErr result (λ w. (w ≡ self) × ¬ (IsStruct self)) }
+    {
+        match self.tree {
+            Tree::Struct(body) => Ok(Object {
+                tree: Tree::Struct(body),
+            }),
+            tree => Err(Whole { tree }),
+        }
+    }
+}
+
+impl Object {
+    ghost use Rattle.std.specs.Prelude.{◌≡◌};
+    ghost use Rattle.cp_tree.specs.Node.{IsStruct};
+    ghost use Rattle.cp_tree.specs.NodeOf.{node_of};
+
+    /// The tree, lent.
+    pub fn tree(&self) -> &Tree
+        ensures tree { node_of result.now ≡ self.now }
+        ensures is_struct { IsStruct self.now }
+    {
+        &self.tree
+    }
+
+    /// The tree itself.
+    pub fn into_tree(self) -> Tree
+        ensures tree { node_of result ≡ self }
+        ensures is_struct { IsStruct self }
+    {
+        self.tree
+    }
+}
