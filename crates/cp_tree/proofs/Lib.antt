@@ -6,3 +6,4 @@ pub mod Complete
 pub mod Views
 pub mod Roots
 pub mod Builds
+pub mod Pointees

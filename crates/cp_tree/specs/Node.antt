@@ -95,6 +95,11 @@ abbrev mutual
   body_cost no_bodies = 0
   body_cost (body ws ts bs) = total_cost ts + body_cost bs
 
+-- A struct's data words. A null pointer stands for the struct with all parts zero and null.
+abbrev pub data_of : Node → List ℕ
+data_of (struct ws ts) = ws
+data_of other = []
+
 abbrev pub IsStruct : Node → Type 0
 IsStruct (struct ws ts) = Unit {0}
 IsStruct other = ⊥

@@ -35,6 +35,11 @@ part_of (ptrs ts) i = node_at ts i
 part_of (structs d n bs) i = body_at bs i
 part_of other i = null
 
+-- pointer i of a struct, and null past its end; no other tree has one
+abbrev pub pointee_of : Node → ℕ → Node
+pointee_of (struct ws ts) i = node_at ts i
+pointee_of other i = null
+
 -- The words are a struct's data words, or those that hold a list's elements of one bit to eight bytes (bits past the
 -- last element aside). Of any other tree there are none.
 abbrev pub AreWordsOf : List ℕ → Node → Type 0

@@ -5,6 +5,7 @@
 mod aim;
 mod area;
 mod check;
+mod copy;
 mod fault;
 mod read;
 mod tree;

@@ -1,5 +1,10 @@
 //! Trees, as a program holds them.
 
+ghost use Rattle.std.specs.Prelude.{◌≡◌, MatchOption};
+ghost use Rattle.cp_tree.specs.Node.{null, data_of};
+ghost use Rattle.cp_tree.specs.NodeOf.{node_of};
+ghost use Rattle.cp_tree.specs.Seen.{pointee_of};
+
 /// What a pointer word stands for (encoding specification, "Structs", "Lists", "Capabilities").
 #[cycle(tree)]
 #[derive(PartialEq, Eq, Debug, Drop)]
@@ -32,4 +37,31 @@ pub enum Tree {
 pub struct Body {
     pub words: Vec<u64>,
     pub ptrs: Vec<Tree>,
+}
+
+impl Tree {
+    /// A struct's data words; of any other tree there are none.
+    pub fn data(&self) -> &[u64]
+        ensures { result.now ≡ data_of (node_of self.now) }
+    {
+        match self {
+            Tree::Struct(body) => &body.words,
+            _ => &[],
+        }
+    }
+
+    /// What pointer `i` of a struct stands for. `None` is past the end, or of a tree that is no
+    /// struct.
+    pub fn pointer(&self, i: u32) -> Option<&Tree>
+        ensures { MatchOption result (pointee_of (node_of self.now) i ≡ null) (λ t. node_of t.now ≡ pointee_of (node_of self.now) i) }
+    {
+        let Tree::Struct(body) = self else {
+            return None;
+        };
+        let ptrs = body.ptrs.as_slice();
+        if i as usize >= ptrs.len() {
+            return None;
+        }
+        Some(&ptrs[i as usize])
+    }
 }

@@ -1,6 +1,8 @@
 //! Owned trees.
 
+use crate::copy::tree_copy;
 use crate::tree::Tree;
+use std::alloc::{AllocError, Global};
 use std::marker::Model;
 
 /// A tree, owned. Contracts see it as its tree without where it lies in memory.
@@ -63,6 +65,15 @@ impl Whole {
         self.tree
     }
 
+    /// An equal tree.
+    pub fn copy(&self, alloc: Global) -> Result<Whole, AllocError>
+        ensures { IfOk result (λ w. w ≡ self.now) }
+    {
+        Ok(Whole {
+            tree: tree_copy(alloc, &self.tree)?,
+        })
+    }
+
     /// The same tree as an object, if it is a struct; else the tree is handed back.
     pub fn into_object(self) -> Result<Object, Whole>
         ensures object { IfOk result (λ o. (o ≡ self) × IsStruct self) }
@@ -78,8 +89,9 @@ impl Whole {
 }
 
 impl Object {
-    ghost use Rattle.std.specs.Prelude.{◌≡◌};
+    ghost use Rattle.std.specs.Prelude.{◌≡◌, IfOk};
     ghost use Rattle.cp_tree.specs.Node.{IsStruct};
+    ghost use Rattle.cp_tree.specs.Seen.{pointee_of};
     ghost use Rattle.cp_tree.specs.NodeOf.{node_of};
 
     /// The tree, lent.
@@ -88,6 +100,27 @@ impl Object {
         ensures is_struct { IsStruct self.now }
     {
         &self.tree
+    }
+
+    /// A copy of what pointer `i` of the struct stands for. Past the end it is null.
+    pub fn child(&self, alloc: Global, i: u32) -> Result<Whole, AllocError>
+        ensures { IfOk result (λ w. w ≡ pointee_of self.now i) }
+    {
+        Ok(Whole {
+            tree: match self.tree.pointer(i) {
+                Some(tree) => tree_copy(alloc, tree)?,
+                None => Tree::Null,
+            },
+        })
+    }
+
+    /// An equal object.
+    pub fn copy(&self, alloc: Global) -> Result<Object, AllocError>
+        ensures { IfOk result (λ o. o ≡ self.now) }
+    {
+        Ok(Object {
+            tree: tree_copy(alloc, &self.tree)?,
+        })
     }
 
     /// The tree itself.

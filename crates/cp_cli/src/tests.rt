@@ -1,0 +1,210 @@
+//! Frames from outside, by `show`.
+
+use crate::{Plan, act};
+use std::alloc::Global;
+use std::io::{self, ErrorKind, Read};
+use std::test::Fail;
+
+/// What a command wrote, what it said, and its status.
+fn shown(alloc: Global, hexadecimal: &str) -> Result<(String, String, u8), Fail> {
+    let mut text = String::new(alloc);
+    for part in hexadecimal.split_whitespace() {
+        text.push_str(part)?;
+    }
+    let bytes = hex::decode(alloc, text.as_str()).map_err(|_| "not hexadecimal")?;
+    let mut from = bytes.as_slice();
+    let (mut out, mut err) = (Vec::new(alloc), Vec::new(alloc));
+    let status = act(alloc, &Plan::Show, &mut from, &mut out, &mut err);
+    let out = String::from_utf8(out).map_err(|_| "not UTF-8")?;
+    let err = String::from_utf8(err).map_err(|_| "not UTF-8")?;
+    Ok((out, err, status))
+}
+
+#[test]
+fn messages_are_shown(rt: HostRuntime) -> Result<(), Fail> {
+    let rows = [
+        ("", ""),
+        (
+            "0000000004000000 0000000001000100 0400000000000000 0000000001000000 0700000000000000",
+            "finish q=7 releaseResultCaps=true\n",
+        ),
+        (
+            "0000000004000000 0000000001000100 0400000000000000 0000000001000000 0700000001000000",
+            "finish q=7 releaseResultCaps=false\n",
+        ),
+        (
+            "0000000003000000 0000000001000100 0400000000000000 fcffffff00000000",
+            "finish q=0 releaseResultCaps=true\n",
+        ),
+        (
+            "0000000004000000 0000000001000100 0600000000000000 0000000001000000 0500000003000000",
+            "release id=5 count=3\n",
+        ),
+        (
+            "0000000005000000 0000000001000100 0800000000000000 0000000001000100 \
+             0000000000000000 0000000000000000",
+            "bootstrap q=0\n",
+        ),
+        (
+            "0000000005000000 0000000001000100 0800000000000000 0000000001000100 \
+             ffffffff00000000 0000000000000000",
+            "bootstrap q=4294967295\n",
+        ),
+    ];
+    for (frame, lines) in rows {
+        let (out, err, status) = shown(rt.alloc(), frame)?;
+        assert_eq!(rt; out.as_str(), lines);
+        assert_eq!(rt; err.as_str(), "");
+        assert_eq!(rt; status, 0);
+    }
+    Ok(())
+}
+
+#[test]
+fn trees_have_a_notation(rt: HostRuntime) -> Result<(), Fail> {
+    let rows = [
+        ("0000000000000000", "null"),
+        ("0300000009000000", "cap:9"),
+        ("fcffffff00000000", "(;)"),
+        ("0000000001000000 0500000000000000", "(0500000000000000;)"),
+        ("0100000048000000", "void:9"),
+        ("0100000021000000 0a00000000000000", "bits[0101]"),
+        ("0100000012000000 ab01000000000000", "bytes[ab01]"),
+        ("0100000013000000 0102030400000000", "halves[0102,0304]"),
+        (
+            "0100000014000000 0102030405060708",
+            "quads[01020304,05060708]",
+        ),
+        (
+            "010000000d000000 0500000000000000",
+            "words[0500000000000000]",
+        ),
+        (
+            "0100000016000000 0000000000000000 0300000002000000",
+            "ptrs[null,cap:2]",
+        ),
+        (
+            "0100000027000000 0800000001000100 0700000000000000 0000000000000000 \
+             0800000000000000 0300000002000000",
+            "structs:1,1[(0700000000000000;null),(0800000000000000;cap:2)]",
+        ),
+    ];
+    let alloc = rt.alloc();
+    for (words, tree) in rows {
+        let size = words.split_whitespace().count() + 1;
+        let frame = format!(in alloc; "00000000{size:02x}000000 0000000000000100 {words}")?;
+        let (out, err, status) = shown(alloc, frame.as_str())?;
+        let line = format!(in alloc; "unimplemented {tree}\n")?;
+        assert_eq!(rt; err.as_str(), "");
+        assert_eq!(rt; out.as_str(), line.as_str());
+        assert_eq!(rt; status, 0);
+    }
+    Ok(())
+}
+
+#[test]
+fn refusals_say_where_and_why(rt: HostRuntime) -> Result<(), Fail> {
+    let rows = [
+        ("ffffffff", "F1 TooManySegments"),
+        ("00000000 01008000", "F2 FrameTooLarge"),
+        ("000000", "F3 Truncated"),
+        ("0000000004000000 0000000001000100", "F3 Truncated"),
+        ("0100000001000000", "F0 NotYet"),
+        ("0000000000000000", "G1 NoRoot segment 0 word 0"),
+        (
+            "0000000001000000 0100000000000000",
+            "G2 RootKind segment 0 word 0",
+        ),
+        (
+            "0000000001000000 0000000001000100",
+            "G3 OutOfBounds segment 0 word 0",
+        ),
+        (
+            "0000000001000000 0200000001000000",
+            "G4 NoSegment segment 0 word 0",
+        ),
+        (
+            "0000000001000000 0200000000000000",
+            "G5 BadPad segment 0 word 0",
+        ),
+        (
+            "0000000003000000 0000000000000100 0100000007000000 0100000000000000",
+            "G6 BadTag segment 0 word 1",
+        ),
+        (
+            "0000000002000000 0000000000000100 0700000005000000",
+            "G7 BadCapability segment 0 word 1",
+        ),
+        (
+            "0000000001000000 fcffffff00000100",
+            "G8 NestingLimit segment 0 word 0",
+        ),
+        (
+            "0000000003000000 0000000000000100 0100000007000000 fcffffff00000000",
+            "G9 TraversalLimit segment 0 word 1",
+        ),
+        (
+            "0000000002000000 0000000001000000 0200000000000000",
+            "S0 NotYet",
+        ),
+        (
+            "0000000003000000 0000000001000100 0400000000000000 0100000002000000",
+            "S1 Kind Message.finish",
+        ),
+    ];
+    let alloc = rt.alloc();
+    for (frame, fault) in rows {
+        let (out, err, status) = shown(alloc, frame)?;
+        let line = format!(in alloc; "refused at byte 0: {fault}\n")?;
+        assert_eq!(rt; err.as_str(), line.as_str());
+        assert_eq!(rt; out.as_str(), "");
+        assert_eq!(rt; status, 1);
+    }
+    Ok(())
+}
+
+/// A frame of so many nested structs of one pointer.
+fn nested(alloc: Global, depth: u8) -> Result<String, Fail> {
+    let mut frame = format!(in alloc; "00000000{:02x}000000", depth as u16 + 1)?;
+    for _ in 0..depth {
+        frame.push_str("0000000000000100")?;
+    }
+    frame.push_str("0000000000000000")?;
+    Ok(frame)
+}
+
+#[test]
+fn nesting_ends_at_64(rt: HostRuntime) -> Result<(), Fail> {
+    let alloc = rt.alloc();
+    let (out, _, status) = shown(alloc, nested(alloc, 64)?.as_str())?;
+    assert!(rt; out.as_str().starts_with("unimplemented (;(;"));
+    assert_eq!(rt; status, 0);
+    let (out, err, status) = shown(alloc, nested(alloc, 65)?.as_str())?;
+    assert_eq!(rt; out.as_str(), "");
+    assert_eq!(rt;
+        err.as_str(),
+        "refused at byte 0: G8 NestingLimit segment 0 word 64\n"
+    );
+    assert_eq!(rt; status, 1);
+    Ok(())
+}
+
+/// A reader whose device fails.
+#[derive(Drop)]
+struct Broken;
+
+impl Read for Broken {
+    fn read(&mut self, _buf: &mut [u8]) -> io::Result<usize> {
+        Err(io::Error::from(ErrorKind::Other))
+    }
+}
+
+#[test]
+fn a_device_may_fail(rt: HostRuntime) -> Result<(), Fail> {
+    let alloc = rt.alloc();
+    let (mut out, mut err) = (Vec::new(alloc), Vec::new(alloc));
+    let status = act(alloc, &Plan::Show, &mut Broken, &mut out, &mut err);
+    assert_eq!(rt; status, 2);
+    assert_eq!(rt; err.as_slice(), b"device\n".as_slice());
+    Ok(())
+}

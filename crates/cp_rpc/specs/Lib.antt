@@ -1,0 +1,5 @@
+pub use Rattle.cp_tree.specs.Node
+pub mod Answers
+pub mod Told
+pub mod Fields
+pub mod Says
