@@ -25,17 +25,20 @@ fn said(alloc: Global, words: &[u64]) -> Result<Result<Message, SchemaFault>, Fa
     let Ok(object) = read_root(alloc, &segments, limits) else {
         return Err(Fail::from("refused"));
     };
-    match (message_view(root), message_of(alloc, &object)) {
-        (Ok(view), Ok(owned)) => {
-            let message = view.message(alloc)?;
-            if is_same(&message, &owned) {
-                Ok(Ok(message))
-            } else {
-                Err(Fail::from("the view and the owned message disagree"))
-            }
-        }
-        (Err(a), Err(b)) if a == b => Ok(Err(a)),
-        _ => Err(Fail::from("the view and the owned message disagree")),
+    let owned = message_of(alloc, &object);
+    let viewed = match message_view(root) {
+        Ok(view) => Ok(view.message(alloc)?),
+        Err(fault) => Err(fault),
+    };
+    let agree = match (&viewed, &owned) {
+        (Ok(a), Ok(b)) => is_same(a, b),
+        (Err(a), Err(b)) => *a == *b,
+        _ => false,
+    };
+    if agree {
+        Ok(viewed)
+    } else {
+        Err(Fail::from("the view and the owned message disagree"))
     }
 }
 
