@@ -8,5 +8,8 @@ pub mod Aims
 pub mod Denotes
 pub mod Reading
 pub mod Parts
+pub mod Shaped
+pub mod Pruned
+pub mod Layout
 pub mod Rows
 pub mod Seen
