@@ -1,0 +1,40 @@
+//! Why a call of a table is refused.
+
+use std::alloc::{AllocError, AllocFailed};
+
+/// Why a call of a table was refused. A refused call changes nothing and drops what it was handed.
+#[derive(Clone, Copy, PartialEq, Eq, Debug)]
+pub enum TableFault {
+    /// The number has an entry already, or the entry has that note already.
+    Taken,
+    /// The number has no entry.
+    Unknown,
+    /// A count is to be lowered by more than it is.
+    TooMany,
+    /// The table holds as many entries as it can, or a count can't be raised any more.
+    Full,
+    /// There was no memory for a new entry.
+    OutOfMemory,
+}
+
+impl From<AllocError> for TableFault {
+    ghost use Rattle.std.specs.Prelude.{◌≡◌};
+    ghost use Rattle.cp_tables.specs.declared.fault.TableFault.TheVariants.{OutOfMemory};
+
+    ghost from_gives = { λ _ fault. fault ≡ OutOfMemory };
+
+    fn from(_: AllocError) -> TableFault {
+        TableFault::OutOfMemory
+    }
+}
+
+impl<T: Drop> From<AllocFailed<T>> for TableFault {
+    ghost use Rattle.std.specs.Prelude.{◌≡◌};
+    ghost use Rattle.cp_tables.specs.declared.fault.TableFault.TheVariants.{OutOfMemory};
+
+    ghost from_gives = { λ _ fault. fault ≡ OutOfMemory };
+
+    fn from(_: AllocFailed<T>) -> TableFault {
+        TableFault::OutOfMemory
+    }
+}
