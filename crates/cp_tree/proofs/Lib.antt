@@ -7,3 +7,7 @@ pub mod Views
 pub mod Roots
 pub mod Builds
 pub mod Pointees
+pub mod Blank
+pub mod Faulted
+pub mod Misaimed
+pub mod RootFaults

@@ -32,7 +32,7 @@ bind_ok (Ok x) f y e = (x, refl, e)
 bind_ok (Err d) f y e = cc
 
 -- a test, and what comes where it holds
-passed : {A : Type 0} (b : Bool) (x : Result A TreeFault) (d : TreeFault) (y : A) → cond b x (Err d) ≡ Ok y → (b ≡ true) × (x ≡ Ok y)
+pub passed : {A : Type 0} (b : Bool) (x : Result A TreeFault) (d : TreeFault) (y : A) → cond b x (Err d) ≡ Ok y → (b ≡ true) × (x ≡ Ok y)
 passed true x d y e = (refl, e)
 passed false x d y e = cc
 
@@ -49,7 +49,7 @@ start_begins p (negsuc n) start e = go (nat_le n p) refl e
     go true t e = let is : p - n ≡ start = cc in let le : n ≤ p = grind (arith, nat_tests) in omega (arith, ints)
     go false t e = cc
 
-inside_is : (ws : List ℕ) (size : ℕ) (o : Option ℕ) (start : ℕ) → in_segment ws size o ≡ Some start → (o ≡ Some start) × (start + size ≤ length ws)
+pub inside_is : (ws : List ℕ) (size : ℕ) (o : Option ℕ) (start : ℕ) → in_segment ws size o ≡ Some start → (o ≡ Some start) × (start + size ≤ length ws)
 inside_is ws size None start e = cc
 inside_is ws size (Some p) start e = go (nat_le (p + size) (length ws)) refl e
   where
@@ -57,7 +57,7 @@ inside_is ws size (Some p) start e = go (nat_le (p + size) (length ws)) refl e
     go true t e = let is : p ≡ start = cc in (e, grind (arith, nat_tests))
     go false t e = cc
 
-placed_is : (at : Place) (o : Option ℕ) (q : ℕ) → placed at o ≡ Ok q → o ≡ Some q
+pub placed_is : (at : Place) (o : Option ℕ) (q : ℕ) → placed at o ≡ Ok q → o ≡ Some q
 placed_is at None q e = cc
 placed_is at (Some p) q e = let is : p ≡ q = cc in rw is refl
 
@@ -231,7 +231,7 @@ pub record ReadsBody (S : List (List ℕ)) (s m q left : ℕ) (f : Form) (x : No
   pub costs : left ≡ x.1 + inner_cost x.0
 
 -- rows are read, of a segment
-pub RowsRead : List (List ℕ) → ℕ → ℕ → (ℕ → ℕ → ℕ → Read Nodes) → Type 0
+unfoldable pub RowsRead : List (List ℕ) → ℕ → ℕ → (ℕ → ℕ → ℕ → Read Nodes) → Type 0
 RowsRead S s m k = (size p left : ℕ) (y : Nodes × ℕ) → p + size ≤ length (segment S s) → k size p left ≡ Ok y → ReadsRow S s m size p left y
 
 -- kids read the rows of trees that nest no deeper than n - 1

@@ -39,7 +39,7 @@ area_reads S a w e =
     let k = ok_of (area_read S a) e in
     (k.0, k.1, within_sound most_nesting S a.segment a.start most_traversal a.form k.0 w.1 w.2 k.1)
 
-some_is : {A : Type 0} {x y : A} → Some x ≡ Some y → x ≡ y
+pub some_is : {A : Type 0} {x y : A} → Some x ≡ Some y → x ≡ y
 some_is e = cc
 
 -- A body that was paid for is read within the greatest limits too.

@@ -3,13 +3,14 @@ pub use Rattle.cp_words.specs.Word
 pub mod Node
 pub mod NodeOf
 pub mod Code
-pub mod Answers
 pub mod Aims
 pub mod Denotes
 pub mod Reading
 pub mod Parts
 pub mod Shaped
 pub mod Pruned
+pub mod Faults
+pub mod Answers
 pub mod Layout
 pub mod Rows
 pub mod Seen

@@ -1,9 +1,9 @@
 //! Owned trees, built from views.
 
-ghost use Rattle.std.specs.Prelude.{◌≡◌, ◌<◌, ◌≤◌, ◌+◌, ◌*◌, ◌/◌, ◌^◌, map, length, IfOk};
+ghost use Rattle.std.specs.Prelude.{◌≡◌, ◌<◌, ◌≤◌, ◌+◌, ◌*◌, ◌/◌, ◌^◌, map, length, IfOk, IfErr};
 ghost use Rattle.cp_words.specs.Word.{words_for};
 ghost use Rattle.cp_words.specs.declared.pointer.ElementSize.TheVariants as sizes;
-ghost use Rattle.cp_tree.specs.Answers.{Answers};
+ghost use Rattle.cp_tree.specs.Answers.{Answers, IsRefusalOf};
 ghost use Rattle.cp_tree.specs.Denotes.{element, numbers, flags, elements_of, Root};
 ghost use Rattle.cp_tree.specs.Node.{Node, IsStruct, struct, list, count, number_of};
 ghost use Rattle.cp_tree.specs.NodeOf.{node_of, body_of, nodes_of, bodies_of};
@@ -191,6 +191,8 @@ pub fn read_root(alloc: Global, segments: &Segments, limits: Limits) -> Result<O
     ensures found { IfOk result (λ t. Root segments.now limits t) }
     // The message's tree is read, unless memory runs out.
     ensures only { (t : Node) → Root segments.now limits t → Answers result t }
+    // A fault is one that the message has, or want of memory.
+    ensures fault { IfErr result (IsRefusalOf segments.now limits) }
 {
     let root = View::root(segments, limits)?;
     match whole_of(alloc, &root)?.into_object() {

@@ -65,8 +65,9 @@ impl<'a> Model for View<'a> {
 }
 
 impl<'a> View<'a> {
-    ghost use Rattle.std.specs.Prelude.{◌≡◌, IfOk, Ok};
+    ghost use Rattle.std.specs.Prelude.{◌≡◌, IfOk, IfErr, Ok};
     ghost use Rattle.cp_tree.specs.Denotes.{Root};
+    ghost use Rattle.cp_tree.specs.Faults.{IsFaultOf};
     ghost use Rattle.cp_tree.specs.Node.{Node};
     ghost use Rattle.cp_tree.specs.Seen.{shape_of, part_of, AreWordsOf};
 
@@ -78,6 +79,8 @@ impl<'a> View<'a> {
         ensures found { IfOk result (λ t. Root segments.now limits t) }
         // The message's tree is viewed.
         ensures only { (t : Node) → Root segments.now limits t → result ≡ Ok t }
+        // A fault is one that the message has: of its root, of a reachable word, or of a limit.
+        ensures fault { IfErr result (IsFaultOf segments.now limits) }
     {
         let lists = segments.lists();
         let area = check_root(lists, limits.nesting(), limits.traversal())?;

@@ -1,10 +1,12 @@
-use Rattle.std.proofs.Common.{◌≡◌, ◌≤◌, ◌-◌, ℕ, Ok, sym, ap, subst, ◌∙◌, arith}
+use Rattle.std.proofs.Common.{◌≡◌, ◌≤◌, ◌-◌, ℕ, Ok, Err, sym, ap, subst, ◌∙◌, arith}
+use Rattle.std.proofs.lemmas.Result.{err_from_is_err_and}
 use Rattle.cp_tree.specs.Denotes.{Root}
 use Rattle.cp_tree.specs.Node.{Node}
 use Rattle.cp_tree.specs.NodeOf.{words_of}
 use Rattle.cp_tree.specs.Reading.{root_of, area_read, node_in, top, most_nesting, most_traversal}
 use Rattle.cp_tree.proofs.Fills.{inner_cost}
 use Rattle.cp_tree.proofs.Roots.{root_found, root_given}
+use Rattle.cp_tree.proofs.RootFaults.{root_faulted}
 use Rattle.cp_tree.proofs.Sound.{ok_is}
 use Rattle.cp_tree.proofs.Views.{body_again, ok_is_ok, read-node}
 use Rattle.cp_tree.proofs.view.View.root.Goals as goal
@@ -21,6 +23,12 @@ returns-in_err-area-clause-only c t r =
     let given = root_given c.nesting.result c.traversal.result (words_of c.lists-lists.result.now) c.args.limits t (sym c.nesting.ensures.value) (sym c.traversal.ensures.value) (rw c.lists-lists.ensures.all r) in
     let fault = c.in_err-area.ensures.fault in
     cc (given, fault)
+
+pub returns-in_err-area-clause-fault : goal.returns-in_err-area-clause-fault
+returns-in_err-area-clause-fault c =
+    let p = err_from_is_err_and c.from_residual.result c.from_residual.ensures.1 in
+    let fault : root_of c.args.limits.nesting c.args.limits.traversal c.args.segments.now ≡ Err c.in_err-area.field-0.0 = rw (← c.lists-lists.ensures.all, ← c.nesting.ensures.value, ← c.traversal.ensures.value) c.in_err-area.ensures.fault in
+    rw (p.1, p.2) (root_faulted c.args.segments.now c.args.limits _ fault)
 
 pub invariant_of-result : goal.invariant_of-result
 invariant_of-result c = (c.in_ok-area.ensures.read.within, c.in_ok-area.ensures.small, ok_is_ok _ _ (again c))
