@@ -29,7 +29,11 @@ impl Model for Limits {
 }
 
 impl Clone for Limits {
-    fn clone(&self) -> Result<Limits, AllocError> {
+    ghost use Rattle.std.specs.Prelude.{◌≡◌, IfOk};
+
+    fn clone(&self) -> Result<Limits, AllocError>
+        ensures { IfOk result (λ l. l ≡ self.now) }
+    {
         Ok(*self)
     }
 }
