@@ -12,8 +12,13 @@ pub enum Field {
 }
 
 impl Field {
+    ghost use Rattle.std.specs.Prelude.{◌≡◌};
+    ghost use Rattle.cp_rpc.specs.Names.{name_of};
+
     /// The field's name, as `Message.finish`.
-    pub fn name(self) -> &'static str {
+    pub fn name(self) -> &'static str
+        ensures { result.now ≡ name_of self }
+    {
         match self {
             Field::MessageBootstrap => "Message.bootstrap",
             Field::MessageFinish => "Message.finish",
@@ -23,6 +28,11 @@ impl Field {
 }
 
 impl fmt::Display for Field {
+    ghost use Rattle.std.specs.Prelude.{Some};
+    ghost use Rattle.cp_rpc.specs.Names.{name_of};
+
+    ghost output = { λ f. Some (name_of f) };
+
     fn fmt<W: fmt::Write>(&self, f: &mut fmt::Formatter<W>) -> fmt::Result {
         f.write_str(self.name())
     }

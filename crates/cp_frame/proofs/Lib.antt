@@ -1,0 +1,10 @@
+pub mod Numbers
+pub mod Framing
+pub mod Streams
+pub mod Tables
+pub mod Filling
+pub mod Opened
+pub mod Ends
+pub mod Readers
+pub mod Whole
+pub mod Groups

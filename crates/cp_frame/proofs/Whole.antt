@@ -1,0 +1,174 @@
+-- What holds of every stream that is fed to a reader.
+use Rattle.std.proofs.Common.{◌≢◌, ◌≡◌, ◌⊎◌, inl, inr, ◌==◌, if◌then◌else◌, Bool, true, false, ℕ, ◌+◌, ◌-◌, ◌*◌, ◌%◌, ◌^◌, ◌<◌, ◌≤◌, List, [], ◌∷◌, ◌++◌, length, sum, refl, sym, ◌∙◌, ap, subst, append_assoc, length-append, arith}
+use Rattle.std.specs.List.{AllByRecursion, flat_map}
+use Rattle.std.proofs.lemmas.List.{append-nil, take_at}
+use Rattle.std.proofs.lemmas.Bool.Decides.{nat_tests}
+use Rattle.std.proofs.lemmas.List.Sums.{sum_by-cons}
+use Rattle.cp_words.specs.Limits.{Bounds}
+use Rattle.cp_frame.specs.declared.fault.FrameFault.{FrameFault}
+use Rattle.cp_frame.specs.declared.fault.FrameFault.TheVariants as faults
+use Rattle.cp_frame.specs.declared.mode.Mode.{Mode}
+use Rattle.cp_frame.specs.declared.mode.Mode.TheVariants as modes
+use Rattle.cp_frame.specs.Framed.{bytes_of, spelled, sizes_of, table}
+use Rattle.cp_frame.specs.Stream.{Frames, NoFront, NamesFault, NamesTooMany, NamesTooMuch, HasFault, numbers, HasOneFault}
+use Rattle.cp_frame.specs.Reader.{Reader, State, failed, refusing, reading, Stands, StandsFor, IsReading, IsToldFor}
+use Rattle.cp_frame.specs.Runs.{joined, Fed, ReadsAll, TellsAll, ReadsAnyCut, IsReadBack}
+use Rattle.cp_frame.proofs.Numbers.{length_spelled}
+use Rattle.cp_frame.proofs.Framing.{numbers_framed, length_sizes}
+use Rattle.cp_frame.proofs.Streams.{cut, one_reading, one_front_plain, plain_fault}
+
+-- which faults a plain rest may have
+pub kinds : (limits : Bounds) (ns : List ℕ) (fault : FrameFault) → NamesFault limits ns fault
+    → ((fault ≡ faults.TooManySegments) × NamesTooMany limits ns) ⊎ ((fault ≡ faults.FrameTooLarge) × NamesTooMuch limits ns)
+kinds limits ns faults.TooManySegments h = inl (refl, h)
+kinds limits ns faults.FrameTooLarge h = inr (refl, h)
+kinds limits ns faults.Truncated h = absurd h
+kinds limits ns faults.RunPastFrame h = absurd h
+kinds limits ns faults.Failed h = absurd h
+kinds limits ns faults.OutOfMemory h = absurd h
+
+not_both : (limits : Bounds) (ns : List ℕ) → NamesTooMany limits ns → NamesTooMuch limits ns → ⊥
+not_both limits [] h k = h
+not_both limits (n ∷ ns) h k = omega (arith, h, k.0)
+
+pub one_fault_plain : HasOneFault modes.Plain
+one_fault_plain limits b fault other h k = go (kinds limits (numbers b) fault (plain_fault limits b fault h)) (kinds limits (numbers b) other (plain_fault limits b other k))
+  where
+    go : ((fault ≡ faults.TooManySegments) × NamesTooMany limits (numbers b)) ⊎ ((fault ≡ faults.FrameTooLarge) × NamesTooMuch limits (numbers b))
+        → ((other ≡ faults.TooManySegments) × NamesTooMany limits (numbers b)) ⊎ ((other ≡ faults.FrameTooLarge) × NamesTooMuch limits (numbers b)) → fault ≡ other
+    go (inl p) (inl q) = p.0 ∙ sym q.0
+    go (inl p) (inr q) = absurd (not_both limits (numbers b) p.1 q.1)
+    go (inr p) (inl q) = absurd (not_both limits (numbers b) q.1 p.1)
+    go (inr p) (inr q) = p.0 ∙ sym q.0
+
+-- a frame's own numbers are within the limits
+pub too_many_front : (limits : Bounds) (S : List (List ℕ)) (others : List ℕ) → 0 < length S → length S ≤ limits.segments → NamesTooMany limits ((length S - 1) ∷ (sizes_of S ++ others)) → ⊥
+too_many_front limits S others some few h = omega (arith, some, few, h)
+
+pub too_much_front : (limits : Bounds) (S : List (List ℕ)) (others : List ℕ) → 0 < length S → sum (sizes_of S) ≤ limits.frame_words → NamesTooMuch limits ((length S - 1) ∷ (sizes_of S ++ others)) → ⊥
+too_much_front limits S others some small h =
+    let count : length (sizes_of S) ≡ length S - 1 + 1 = omega (arith, length_sizes S, some) in
+    let all = ap (λ (ns : List ℕ). sum ns) (take_at (sizes_of S) others (length S - 1 + 1) count) in
+    omega (arith, h.1, all, small)
+
+-- a rest with a fault begins with no frame
+pub fault_no_front : (limits : Bounds) (b : List ℕ) (fault : FrameFault) → HasFault modes.Plain limits b fault → NoFront modes.Plain limits b
+fault_no_front limits b fault h S front back e k = go (kinds limits (numbers b) fault (plain_fault limits b fault h))
+  where
+    named : numbers b ≡ (length S - 1) ∷ (sizes_of S ++ numbers (k.form.padding ++ (flat_map bytes_of S ++ back)))
+    named = ap numbers e ∙ numbers_framed S front back k.form
+
+    go : ((fault ≡ faults.TooManySegments) × NamesTooMany limits (numbers b)) ⊎ ((fault ≡ faults.FrameTooLarge) × NamesTooMuch limits (numbers b)) → ⊥
+    go (inl p) = too_many_front limits S (numbers (k.form.padding ++ (flat_map bytes_of S ++ back))) k.form.some k.within.few (subst (λ (ns : List ℕ). NamesTooMany limits ns) named p.1)
+    go (inr p) = too_much_front limits S (numbers (k.form.padding ++ (flat_map bytes_of S ++ back))) k.form.some k.within.small (subst (λ (ns : List ℕ). NamesTooMuch limits ns) named p.1)
+
+pub stands_no_front : (limits : Bounds) (state : State) (b : List ℕ) → Stands modes.Plain limits state b → NoFront modes.Plain limits b
+stands_no_front limits failed b h = absurd h
+stands_no_front limits (refusing fault) b h = fault_no_front limits b fault h
+stands_no_front limits (reading rest taken) b h = h.2.no_front
+
+-- what pieces give are the frames of the stream that they make
+pub reads_all : ReadsAll
+reads_all old new [] given b h k =
+    (b, subst (λ (gs : List (ℕ × List (List ℕ))). Frames old.mode old.limits (b ++ []) gs b) (sym k.0) (append-nil b), subst (λ (r : Reader). StandsFor r b) (sym k.1) h)
+reads_all old new (piece ∷ pieces) given b h k =
+    let one = k.3.frames b h in
+    let later = reads_all k.2 new pieces k.1 one.0 one.2 k.4 in
+    let frames = subst (λ (mode : Mode). Frames mode k.2.limits (one.0 ++ joined pieces) k.1 later.0) k.3.same_mode later.1 in
+    let framed = subst (λ (limits : Bounds). Frames old.mode limits (one.0 ++ joined pieces) k.1 later.0) k.3.same_limits frames in
+    let all = cut old.mode old.limits (b ++ piece) (joined pieces) k.0 k.1 one.0 later.0 one.1 framed in (
+      later.0,
+      subst (λ (x : List ℕ). Frames old.mode old.limits x given later.0) (append_assoc b piece (joined pieces)) (subst (λ (gs : List (ℕ × List (List ℕ))). Frames old.mode old.limits ((b ++ piece) ++ joined pieces) gs later.0) (sym k.5) all),
+      later.2,
+    )
+
+-- a reader keeps its form and its limits
+pub same_form : (old new : Reader) (pieces : List (List ℕ)) (given : List (ℕ × List (List ℕ))) → Fed old pieces given new → (new.mode ≡ old.mode) × (new.limits ≡ old.limits)
+same_form old new [] given h = (ap (λ (r : Reader). r.mode) h.1, ap (λ (r : Reader). r.limits) h.1)
+same_form old new (piece ∷ pieces) given h = let later = same_form h.2 new pieces h.1 h.4 in (later.0 ∙ h.3.same_mode, later.1 ∙ h.3.same_limits)
+
+-- what stands for a rest without a fault, or with one, has one state
+same_state : (limits : Bounds) (state other : State) (b : List ℕ) → Stands modes.Plain limits state b → Stands modes.Plain limits other b → state ≡ other
+same_state limits failed other b h k = absurd h
+same_state limits (refusing fault) failed b h k = absurd k
+same_state limits (refusing fault) (refusing kept) b h k = ap (λ (f : FrameFault). refusing f) (one_fault_plain limits b fault kept h k)
+same_state limits (refusing fault) (reading rest taken) b h k = absurd (k.2.no_fault fault h)
+same_state limits (reading rest taken) failed b h k = absurd k
+same_state limits (reading rest taken) (refusing kept) b h k = absurd (h.2.no_fault kept k)
+same_state limits (reading rest taken) (reading others count) b h k =
+    ap (λ (x : List ℕ). reading x taken) (h.0 ∙ sym k.0) ∙ ap (λ (n : ℕ). reading others n) (h.1 ∙ sym k.1)
+
+-- after pieces a reader stands in the form and the limits of its beginning
+stands_as : (old new : Reader) (pieces : List (List ℕ)) (given : List (ℕ × List (List ℕ))) (rest : List ℕ) → old.mode ≡ modes.Plain → Fed old pieces given new → StandsFor new rest
+    → Stands modes.Plain old.limits new.state rest
+stands_as old new pieces given rest e h k =
+    let same = same_form old new pieces given h in
+    subst (λ (limits : Bounds). Stands modes.Plain limits new.state rest) same.1 (subst (λ (mode : Mode). Stands mode new.limits new.state rest) (same.0 ∙ e) k)
+
+pub reads_any_cut : ReadsAnyCut modes.Plain
+reads_any_cut old new other pieces others given gotten b e h k m same =
+    let one = reads_all old new pieces given b h k in
+    let two = reads_all old other others gotten b h m in
+    let first = subst (λ (mode : Mode). Frames mode old.limits (b ++ joined pieces) given one.0) e one.1 in
+    let second = subst (λ (mode : Mode). Frames mode old.limits (b ++ joined others) gotten two.0) e two.1 in
+    let third = subst (λ (x : List ℕ). Frames modes.Plain old.limits (b ++ x) gotten two.0) (sym same) second in
+    let left = stands_as old new pieces given one.0 e k one.2 in
+    let right = stands_as old other others gotten two.0 e m two.2 in
+    let read = one_reading modes.Plain one_front_plain old.limits (b ++ joined pieces) given gotten one.0 two.0 first (stands_no_front old.limits new.state one.0 left) third
+    (stands_no_front old.limits other.state two.0 right) in
+    (read.0, same_state old.limits new.state other.state one.0 left (subst (λ (x : List ℕ). Stands modes.Plain old.limits other.state x) (sym read.1) right))
+
+-- while a stream is read, a fault that is told is that of the rest
+told_of : (r : Reader) (piece : List ℕ) (state : State) (fault : FrameFault) → IsReading state → IsToldFor r piece state fault → fault ≢ faults.OutOfMemory
+    → (b : List ℕ) → StandsFor r b → HasFault r.mode r.limits (b ++ piece) fault
+told_of r piece failed fault h k n = absurd h
+told_of r piece (refusing kept) fault h k n = absurd h
+told_of r piece (reading rest taken) fault h (inl k) n = absurd (n k)
+told_of r piece (reading rest taken) fault h (inr k) n = k
+
+pub tells_all : TellsAll
+tells_all old mid new pieces piece given fault b h k r t n =
+    let all = reads_all old mid pieces given b h k in
+    let same = same_form old mid pieces given k in
+    let here = told_of mid piece mid.state fault r t.told n all.0 all.2 in
+    let there = subst (λ (mode : Mode). HasFault mode mid.limits (all.0 ++ piece) fault) same.0 here in
+    let longer = cut old.mode old.limits (b ++ joined pieces) piece given [] all.0 (all.0 ++ piece) all.1 refl in (
+      all.0 ++ piece,
+      subst (λ (gs : List (ℕ × List (List ℕ))). Frames old.mode old.limits (b ++ (joined pieces ++ piece)) gs (all.0 ++ piece)) (append-nil given)
+          (subst (λ (x : List ℕ). Frames old.mode old.limits x (given ++ []) (all.0 ++ piece)) (append_assoc b (joined pieces) piece) longer),
+      subst (λ (limits : Bounds). HasFault old.mode limits (all.0 ++ piece) fault) same.1 there,
+    )
+
+-- what is written is a frame
+pub size_small : (ns : List ℕ) (n : ℕ) → sum ns < n → AllByRecursion (λ size. size < n) ns
+size_small [] n h = tt
+size_small (m ∷ ns) n h = let all = sum_by-cons (λ x. x) m ns in (omega (arith, h, all), size_small ns n (omega (arith, h, all)))
+
+-- a number is even exactly if its remainder tests so
+even_by : (n : ℕ) → (n == 0) ≡ true → n ≡ 0
+even_by n h = grind (arith, nat_tests)
+
+odd_by : (n : ℕ) → (n == 0) ≡ false → 0 < n
+odd_by n h = grind (arith, nat_tests)
+
+pad_by : (b : Bool) (n : ℕ) → (n % 2 == 0) ≡ b → length (if b then spelled (0 ∷ []) else []) ≡ 4 * ((n + 1) % 2)
+pad_by true n h = omega (arith, even_by (n % 2) h)
+pad_by false n h = omega (arith, odd_by (n % 2) h)
+
+pub length_padding : (n : ℕ) → length (if n % 2 == 0 then spelled (0 ∷ []) else []) ≡ 4 * ((n + 1) % 2)
+length_padding n = pad_by (n % 2 == 0) n refl
+
+pub read_back_plain : IsReadBack modes.Plain
+read_back_plain limits S b allowed some words h = record {
+  within = h.within;
+  form = record {
+    some = some;
+    few = omega (arith, h.within.few, allowed.few);
+    small = size_small (sizes_of S) (2 ^ 32) (omega (arith, h.within.small, allowed.holds_little));
+    are_words = words;
+    padding = if length S % 2 == 0 then spelled (0 ∷ []) else [];
+    short = omega (arith, length_padding (length S));
+    whole = omega (arith, length_padding (length S), length-append (table S) (if length S % 2 == 0 then spelled (0 ∷ []) else []), length_spelled ((length S - 1) ∷ sizes_of S), length_sizes S, some);
+    spells = h.form;
+  };
+}

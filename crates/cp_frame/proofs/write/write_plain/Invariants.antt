@@ -1,0 +1,9 @@
+use Rattle.std.proofs.Common.{◌≡◌, ◌++◌, take}
+use Rattle.std.specs.List.{flat_map}
+use Rattle.cp_frame.specs.Framed.{bytes_of}
+use Rattle.cp_frame.specs.Frame.{padded_table}
+use Rattle.cp_frame.specs.Parts.{lists}
+use Rattle.cp_frame.proofs.write.write_plain.Given as goal
+
+abbrev pub invariant-loop-segment : goal.invariant-loop-segment
+invariant-loop-segment l = l.out.items ≡ padded_table (lists l.segments) ++ flat_map bytes_of (take l.segment-index (lists l.segments))

@@ -1,0 +1,9 @@
+pub use Rattle.cp_words.specs.Limits
+pub mod Framed
+pub mod Packed
+pub mod Frame
+pub mod Stream
+pub mod Reader
+pub mod Runs
+pub mod Parts
+pub mod Kept

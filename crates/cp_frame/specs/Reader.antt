@@ -1,0 +1,96 @@
+-- A reader of a stream, as its callers see it.
+use Rattle.std.specs.Prelude.{◌≡◌, ◌≢◌, ◌⊎◌, ◌↔◌, ℕ, ◌+◌, ◌*◌, ◌≤◌, List, [], ◌++◌, length, sum}
+use Rattle.cp_words.specs.Limits.{Bounds}
+use Rattle.cp_frame.specs.declared.fault.FrameFault.{FrameFault}
+use Rattle.cp_frame.specs.declared.fault.FrameFault.TheVariants as faults
+use Rattle.cp_frame.specs.declared.mode.Mode.{Mode}
+use Rattle.cp_frame.specs.declared.mode.Mode.TheVariants as modes
+use Rattle.cp_frame.specs.Stream.{Frames, HasFault, Open, Laid, numbers, named_sizes}
+use Rattle.cp_frame.specs.Packed.{Packed}
+
+-- A fault was told; or one was met behind frames and is told next; or the stream is read on, of which a rest of so many bytes goes on as these do.
+pub data State : Type 0 where
+  failed : State
+  refusing : FrameFault → State
+  reading : List ℕ → ℕ → State
+
+-- The form and the limits that it was made for, its state, and how many bytes and words its vectors hold together.
+pub record Reader : Type 0 where
+  pub mode : Mode
+  pub limits : Bounds
+  pub state : State
+  pub bytes : ℕ
+  pub words : ℕ
+
+-- the rests of two streams go on alike: they are the same, or unpack to the same whatever follows
+abbrev pub GoesOnAs : Mode → List ℕ → List ℕ → Type 0
+GoesOnAs modes.Plain b other = b ≡ other
+GoesOnAs modes.Packed b other = (ws more : List ℕ) → Packed ws (b ++ more) ↔ Packed ws (other ++ more)
+
+-- a state stands for a rest: it goes on as the rest does, and has come open so far; or the rest has the fault that is told next
+abbrev pub Stands : Mode → Bounds → State → List ℕ → Type 0
+Stands mode limits failed b = ⊥
+Stands mode limits (refusing fault) b = HasFault mode limits b fault
+Stands mode limits (reading rest taken) b = GoesOnAs mode rest b × (taken ≡ length b) × Open mode limits b
+
+-- The reader stands for a stream of which nothing but the rest b is still to be told.
+abbrev pub StandsFor : Reader → List ℕ → Type 0
+StandsFor r b = Stands r.mode r.limits r.state b
+
+-- the stream is read on
+abbrev pub IsReading : State → Type 0
+IsReading failed = ⊥
+IsReading (refusing fault) = ⊥
+IsReading (reading rest taken) = Unit {0}
+
+-- a fault is kept
+abbrev pub IsRefusing : State → Type 0
+IsRefusing failed = ⊥
+IsRefusing (refusing fault) = Unit {0}
+IsRefusing (reading rest taken) = ⊥
+
+-- The piece was read: what stood for b gave the frames of b and the piece, and stands for their rest. It keeps a fault of the rest only behind frames.
+pub record Gives (old : Reader) (piece : List ℕ) (new : Reader) (given : List (ℕ × List (List ℕ))) : Type 0 where
+  pub was_reading : IsReading old.state
+  pub same_mode : new.mode ≡ old.mode
+  pub same_limits : new.limits ≡ old.limits
+  pub frames : (b : List ℕ) → StandsFor old b → (rest : List ℕ) × Frames old.mode old.limits (b ++ piece) given rest × StandsFor new rest
+  pub kept : IsRefusing new.state → given ≢ []
+
+-- why a fault is told for a piece: it was told before or kept, memory ran out, or the rest has it
+abbrev pub IsToldFor : Reader → List ℕ → State → FrameFault → Type 0
+IsToldFor r piece failed fault = fault ≡ faults.Failed
+IsToldFor r piece (refusing kept) fault = fault ≡ kept
+IsToldFor r piece (reading rest taken) fault = (fault ≡ faults.OutOfMemory) ⊎ ((b : List ℕ) → StandsFor r b → HasFault r.mode r.limits (b ++ piece) fault)
+
+-- A fault was told, and the reader has failed.
+pub record Tells (old : Reader) (piece : List ℕ) (new : Reader) (fault : FrameFault) : Type 0 where
+  pub told : IsToldFor old piece old.state fault
+  pub failed : new.state ≡ failed
+
+-- why a fault is told at the end: it was told before or kept, or the stream ends inside a frame
+abbrev pub IsToldAtEnd : Reader → State → FrameFault → Type 0
+IsToldAtEnd r failed fault = fault ≡ faults.Failed
+IsToldAtEnd r (refusing kept) fault = fault ≡ kept
+IsToldAtEnd r (reading rest taken) fault = (fault ≡ faults.Truncated) × ((b : List ℕ) → StandsFor r b → b ≢ [])
+
+-- The stream ended behind a frame, and the reader is as it was.
+pub record EndsWell (old new : Reader) : Type 0 where
+  pub was_reading : IsReading old.state
+  pub same : new ≡ old
+  pub nothing : (b : List ℕ) → StandsFor old b → b ≡ []
+
+-- The end told a fault, and the reader has failed.
+pub record TellsAtEnd (old new : Reader) (fault : FrameFault) : Type 0 where
+  pub told : IsToldAtEnd old old.state fault
+  pub failed : new.state ≡ failed
+
+-- a reader of which nothing has come
+abbrev pub new_reader : Mode → Bounds → Reader
+new_reader mode limits = record { mode = mode; limits = limits; state = reading [] 0; bytes = 0; words = 0 }
+
+-- The words kept are no more than the rest lays, whole, and no more than the segment table and the sizes that it names.
+pub record KeepsLittle (r : Reader) : Type 0 where
+  pub bytes : r.bytes ≤ 9
+  pub laid : (b l : List ℕ) → StandsFor r b → Laid r.mode b l → 8 * r.words ≤ length l
+  pub named : (b l : List ℕ) → StandsFor r b → Laid r.mode b l → r.words ≤ 257 + sum (named_sizes (numbers l))

@@ -1,0 +1,39 @@
+//! Why a stream isn't read on, or a frame isn't written.
+
+ghost use Rattle.std.specs.Prelude.{◌≡◌};
+ghost use Rattle.cp_frame.specs.declared.fault.FrameFault.TheVariants.{OutOfMemory};
+
+use std::alloc::{AllocError, AllocFailed};
+
+/// What is wrong with a frame, or with the call.
+#[derive(Clone, Copy, PartialEq, Eq, Debug)]
+pub enum FrameFault {
+    /// F1: the frame has more segments than the limits allow.
+    TooManySegments,
+    /// F2: the segments of the frame have together more words than the limits allow.
+    FrameTooLarge,
+    /// F3: the stream ends inside a frame.
+    Truncated,
+    /// F4: a run of the packed form goes past the end of the frame.
+    RunPastFrame,
+    /// F5: a fault was told before.
+    Failed,
+    /// F6: memory ran out.
+    OutOfMemory,
+}
+
+impl From<AllocError> for FrameFault {
+    ghost from_gives = { λ _ e. e ≡ OutOfMemory };
+
+    fn from(_: AllocError) -> FrameFault {
+        FrameFault::OutOfMemory
+    }
+}
+
+impl<T: Drop> From<AllocFailed<T>> for FrameFault {
+    ghost from_gives = { λ _ e. e ≡ OutOfMemory };
+
+    fn from(_: AllocFailed<T>) -> FrameFault {
+        FrameFault::OutOfMemory
+    }
+}

@@ -1,0 +1,294 @@
+//! The frame of which a part has come.
+
+ghost use Rattle.std.specs.Prelude.{◌≡◌, ◌⊎◌, ◌^◌, ◌+◌, ◌*◌, ◌/◌, ◌%◌, ◌<◌, ◌≤◌, ◌++◌, ◌∷◌, [], ◌↔◌, IsTrue, IfOk, OnOk, IfErr, length, sum, slice_index, vec_capacity};
+ghost use Rattle.cp_frame.specs.Framed.{sizes_of};
+ghost use Rattle.std.specs.Int.{to_le_bytes, w64};
+ghost use Rattle.cp_frame.specs.Parts.{Takes, IsBegun, InTable, InSegments, halves, count_of, IsWholeTable, IsTable, IsFaultOf, Fills, body, lists, words_in, rest_of, IsOpen, IsComplete, IsEmpty, kept_words};
+ghost use Rattle.cp_frame.specs.Stream.{numbers, named_sizes};
+
+use crate::fault::FrameFault;
+use crate::table;
+use byteorder::{ByteOrder, LittleEndian};
+use cp_words::{Limits, Segments};
+use std::alloc::{AllocError, Global};
+use std::mem;
+
+/// How many words a header alone may reserve: with the table and the list of segments 1 MiB.
+const FIRST_ROOM: usize = 129_024;
+
+/// What has come of a frame.
+#[derive(Drop)]
+pub struct OpenFrame {
+    /// The words of the segment table.
+    pub table: Vec<u64>,
+    /// The sizes that they name, together.
+    pub total: u64,
+    /// The segments that are whole.
+    pub segments: Vec<Vec<u64>>,
+    /// The words of the segment behind them.
+    pub words: Vec<u64>,
+    /// The bytes of a word that isn't whole.
+    pub part: Vec<u8>,
+}
+
+/// A segment of which nothing has come. A large one begins with less room than it will need, since
+/// its bytes may never come.
+fn new_segment(alloc: Global, table: &[u64], segment: usize) -> Result<Vec<u64>, AllocError>
+    requires { IsWholeTable table.now }
+    ensures items { IfOk result (λ v. v.items ≡ []) }
+    ensures room { IfOk result (λ v. vec_capacity v ≤ FIRST_ROOM) }
+{
+    let room = if segment < table::count(table) {
+        table::size(table, segment).min(FIRST_ROOM)
+    } else {
+        0
+    };
+    Vec::with_capacity(alloc, room)
+}
+
+/// Puts away each segment that is whole.
+fn close(
+    alloc: Global,
+    table: &[u64],
+    segments: &mut Vec<Vec<u64>>,
+    words: &mut Vec<u64>,
+) -> Result<(), AllocError>
+    requires whole { IsWholeTable table.now }
+    requires fills { Fills (named_sizes (halves table.now)) (lists segments.old.items) words.old.items }
+    ensures fills { OnOk result (Fills (named_sizes (halves table.now)) (lists segments.new.items) words.new.items) }
+    ensures body { OnOk result (body (lists segments.new.items) words.new.items ≡ body (lists segments.old.items) words.old.items) }
+    ensures ends { OnOk result ((length segments.new.items ≡ count_of table.now) ⊎ (length words.new.items < slice_index (named_sizes (halves table.now)) (length segments.new.items))) }
+{
+    let count = table::count(table);
+    'closing: while segments.len() < count && words.len() == table::size(table, segments.len()) {
+        let next = new_segment(alloc, table, segments.len() + 1)?;
+        segments.push(mem::replace(words, next))?;
+    }
+    Ok(())
+}
+
+/// Takes the words of these bytes.
+fn push_words(words: &mut Vec<u64>, bytes: &[u8]) -> Result<(), AllocError>
+    ensures { OnOk result (words.new.items ≡ words.old.items ++ words_in bytes.now) }
+{
+    words.extend(
+        bytes
+            .as_chunks::<8>()
+            .0
+            .iter()
+            .map(|bytes| u64::from_le_bytes(*bytes)),
+    )
+}
+
+/// Takes whole words of the open segment, and gives back what follows them.
+fn take_words<'a>(
+    alloc: Global,
+    table: &[u64],
+    segments: &mut Vec<Vec<u64>>,
+    words: &mut Vec<u64>,
+    left: &'a [u8],
+) -> Result<&'a [u8], AllocError>
+    requires whole { IsWholeTable table.now }
+    requires fills { Fills (named_sizes (halves table.now)) (lists segments.old.items) words.old.items }
+    requires open { length words.old.items < slice_index (named_sizes (halves table.now)) (length segments.old.items) }
+    requires some { 8 ≤ length left.now }
+    ensures fills { OnOk result (Fills (named_sizes (halves table.now)) (lists segments.new.items) words.new.items) }
+    ensures ends { OnOk result ((length segments.new.items ≡ count_of table.now) ⊎ (length words.new.items < slice_index (named_sizes (halves table.now)) (length segments.new.items))) }
+    ensures body { IfOk result (λ back. body (lists segments.new.items) words.new.items ++ back.now ≡ body (lists segments.old.items) words.old.items ++ left.now) }
+    ensures shorter { IfOk result (λ back. length back.now < length left.now) }
+{
+    let missing = table::size(table, segments.len()) - words.len();
+    let taken = missing.min(left.len() / 8);
+    let (front, back) = left.split_at(8 * taken);
+    push_words(words, front)?;
+    close(alloc, table, segments, words)?;
+    Ok(back)
+}
+
+/// The word that eight bytes are.
+fn word_of(bytes: &[u8]) -> u64
+    requires { length bytes.now ≡ 8 }
+    ensures { to_le_bytes w64 result ≡ bytes.now }
+{
+    LittleEndian::read_u64(bytes)
+}
+
+/// Takes the bytes of one word, or of what there is of it, and gives back what follows them.
+fn take_word<'a>(part: &mut Vec<u8>, left: &'a [u8]) -> Result<(Option<u64>, &'a [u8]), AllocError>
+    requires short { length part.old.items < 8 }
+    requires some { 0 < length left.now }
+    ensures takes { IfOk result (λ taken. Takes part.old.items left.now part.new.items taken.0 taken.1.now) }
+    ensures shorter { IfOk result (λ taken. length taken.1.now < length left.now) }
+{
+    if part.is_empty() && 8 <= left.len() {
+        let (front, back) = left.split_at(8);
+        return Ok((Some(word_of(front)), back));
+    }
+    let (front, back) = left.split_at((8 - part.len()).min(left.len()));
+    part.extend_from_slice(front)?;
+    if part.len() < 8 {
+        return Ok((None, back));
+    }
+    let word = word_of(part);
+    part.clear();
+    Ok((Some(word), back))
+}
+
+impl OpenFrame {
+    /// Nothing of a frame.
+    pub fn new(alloc: Global) -> OpenFrame
+        ensures { IsEmpty result }
+    {
+        OpenFrame {
+            table: Vec::new(alloc),
+            total: 0,
+            segments: Vec::new(alloc),
+            words: Vec::new(alloc),
+            part: Vec::new(alloc),
+        }
+    }
+
+    /// All segments have come.
+    pub fn is_complete(&self) -> bool
+        ensures { IsTrue result ↔ (IsWholeTable self.now.table.items × (length self.now.segments.items ≡ count_of self.now.table.items)) }
+    {
+        table::is_whole(&self.table) && self.segments.len() == table::count(&self.table)
+    }
+
+    /// Takes one word of the table. With the last, the segments begin.
+    fn push_table(&mut self, alloc: Global, limits: Limits, word: u64) -> Result<(), FrameFault>
+        requires begun { InTable limits self.old }
+        requires no_part { self.old.part.items ≡ [] }
+        ensures rest { OnOk result (rest_of self.new ≡ rest_of self.old ++ to_le_bytes w64 word) }
+        ensures begun { OnOk result (IsBegun limits self.new) }
+        ensures fault { IfErr result (IsFaultOf limits (halves (self.old.table.items ++ word ∷ []))) }
+    {
+        table::push(&mut self.table, &mut self.total, limits, word)?;
+        if table::is_whole(&self.table) {
+            self.segments = Vec::with_capacity(alloc, table::count(&self.table))?;
+            self.words = new_segment(alloc, &self.table, 0)?;
+            close(alloc, &self.table, &mut self.segments, &mut self.words)?;
+        }
+        Ok(())
+    }
+
+    /// Takes bytes of the table.
+    fn take_of_table<'a>(
+        &mut self,
+        alloc: Global,
+        limits: Limits,
+        left: &'a [u8],
+    ) -> Result<&'a [u8], FrameFault>
+        requires begun { InTable limits self.old }
+        requires some { 0 < length left.now }
+        ensures rest { IfOk result (λ back. rest_of self.new ++ back.now ≡ rest_of self.old ++ left.now) }
+        ensures shorter { IfOk result (λ back. length back.now < length left.now) }
+        ensures begun { OnOk result (IsBegun limits self.new) }
+        ensures fault { IfErr result (IsFaultOf limits (numbers (rest_of self.old ++ left.now))) }
+    {
+        let (word, back) = take_word(&mut self.part, left)?;
+        match word {
+            None => table::check_part(&self.table, self.total, limits, &self.part)?,
+            Some(word) => self.push_table(alloc, limits, word)?,
+        }
+        Ok(back)
+    }
+
+    /// Takes bytes of the segments.
+    fn take_of_segments<'a>(
+        &mut self,
+        alloc: Global,
+        limits: Limits,
+        left: &'a [u8],
+    ) -> Result<&'a [u8], AllocError>
+        requires begun { InSegments limits self.old }
+        requires some { 0 < length left.now }
+        ensures rest { IfOk result (λ back. rest_of self.new ++ back.now ≡ rest_of self.old ++ left.now) }
+        ensures shorter { IfOk result (λ back. length back.now < length left.now) }
+        ensures begun { OnOk result (IsBegun limits self.new) }
+    {
+        if self.part.is_empty() && 8 <= left.len() {
+            return take_words(
+                alloc,
+                &self.table,
+                &mut self.segments,
+                &mut self.words,
+                left,
+            );
+        }
+        let (word, back) = take_word(&mut self.part, left)?;
+        if let Some(word) = word {
+            self.words.push(word)?;
+            close(alloc, &self.table, &mut self.segments, &mut self.words)?;
+        }
+        Ok(back)
+    }
+
+    /// Takes bytes up to the end of the frame at most, and gives back what follows them.
+    pub fn take<'a>(
+        &mut self,
+        alloc: Global,
+        limits: Limits,
+        left: &'a [u8],
+    ) -> Result<&'a [u8], FrameFault>
+        requires begun { IsOpen limits self.old }
+        requires some { 0 < length left.now }
+        ensures rest { IfOk result (λ back. rest_of self.new ++ back.now ≡ rest_of self.old ++ left.now) }
+        ensures shorter { IfOk result (λ back. length back.now < length left.now) }
+        ensures begun { OnOk result (IsBegun limits self.new) }
+        ensures fault { IfErr result (IsFaultOf limits (numbers (rest_of self.old ++ left.now))) }
+    {
+        if table::is_whole(&self.table) {
+            Ok(self.take_of_segments(alloc, limits, left)?)
+        } else {
+            self.take_of_table(alloc, limits, left)
+        }
+    }
+
+    /// The frame, with the number of its bytes. Nothing is left of it.
+    pub fn finish(&mut self, alloc: Global) -> (u64, Segments)
+        requires some { 0 < length self.old.segments.items }
+        requires total { self.old.total ≡ sum (sizes_of (lists self.old.segments.items)) }
+        requires small { length self.old.table.items + self.old.total < 2 ^ 40 }
+        requires no_words { self.old.words.items ≡ [] }
+        requires no_part { self.old.part.items ≡ [] }
+        ensures taken { result.0 ≡ length (rest_of self.old) }
+        ensures segments { result.1 ≡ lists self.old.segments.items }
+        ensures empty { IsEmpty self.new }
+    {
+        let taken = 8 * (self.table.len() as u64 + self.total);
+        let lists = mem::replace(&mut self.segments, Vec::new(alloc));
+        self.table.clear();
+        self.total = 0;
+        let Ok(segments) = Segments::new(lists) else {
+            unreachable!()
+        };
+        (taken, segments)
+    }
+
+    /// Forgets what has come.
+    pub fn clear(&mut self, alloc: Global)
+        ensures { IsEmpty self.new }
+    {
+        *self = OpenFrame::new(alloc);
+    }
+
+    /// Nothing has come.
+    pub fn is_empty(&self) -> bool
+        ensures { IsTrue result ↔ (length self.now.table.items + length self.now.part.items ≡ 0) }
+    {
+        self.table.is_empty() && self.part.is_empty()
+    }
+
+    /// How many words are kept.
+    pub fn kept_words(&self) -> usize
+        requires { kept_words self.now < 2 ^ 64 }
+        ensures { result ≡ kept_words self.now }
+    {
+        let mut words = self.table.len() + self.words.len();
+        for segment in &self.segments {
+            words += segment.len();
+        }
+        words
+    }
+}

@@ -1,0 +1,30 @@
+//! What holds of every stream.
+
+ghost use Rattle.cp_frame.specs.Runs.{ReadsAll, TellsAll, ReadsAnyCut, IsReadBack};
+ghost use Rattle.cp_frame.specs.Stream.{HasOneReading, CutAnywhere, FaultStays, HasOneFault};
+ghost use Rattle.cp_frame.specs.declared.mode.Mode.{Mode};
+ghost use Rattle.cp_frame.specs.declared.mode.Mode.TheVariants.{Plain};
+
+/// A stream of either form has one reading, wherever it is cut.
+pub fn one_reading()
+    ensures one { (mode : Mode) → HasOneReading mode }
+    ensures cut { (mode : Mode) → CutAnywhere mode }
+{}
+
+/// A rest of a stream has one fault at most, and keeps it, whatever follows.
+pub fn one_fault()
+    ensures one { HasOneFault Plain }
+    ensures stays { FaultStays Plain }
+{}
+
+/// What a reader gives and tells doesn't depend on the pieces in which a stream comes.
+pub fn any_cut()
+    ensures all { ReadsAll }
+    ensures told { TellsAll }
+    ensures any { ReadsAnyCut Plain }
+{}
+
+/// What is written is read back.
+pub fn read_back()
+    ensures { IsReadBack Plain }
+{}

@@ -1,0 +1,23 @@
+//! Frames of Cap'n Proto messages (encoding specification, "Serialization Over a Stream" and
+//! "Packing"): a stream is read in any pieces, and each message's segments are given with the piece
+//! that brings their last byte.
+#![tactic(auto)]
+
+mod fault;
+mod frame;
+mod laws;
+mod mode;
+mod reader;
+mod status;
+mod table;
+mod write;
+
+pub use cp_words::Limits;
+pub use fault::FrameFault;
+pub use laws::{any_cut, one_fault, one_reading, read_back};
+pub use mode::Mode;
+pub use reader::FrameReader;
+pub use write::write_frame;
+
+#[cfg(test)]
+mod tests;

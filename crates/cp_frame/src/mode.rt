@@ -1,0 +1,10 @@
+//! The two forms of a stream.
+
+/// How frames stand on a stream.
+#[derive(Clone, Copy, PartialEq, Eq, Debug)]
+pub enum Mode {
+    /// The segment table and the segments, as they are (encoding specification, "Serialization Over a Stream").
+    Plain,
+    /// The same words, packed (encoding specification, "Packing").
+    Packed,
+}

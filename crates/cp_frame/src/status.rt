@@ -1,0 +1,13 @@
+//! Whether a stream is read on.
+
+use crate::fault::FrameFault;
+
+/// Whether a stream is read on.
+#[derive(Clone, Copy)]
+pub enum Status {
+    Reading,
+    /// A fault was met behind frames, and is told next.
+    Refusing(FrameFault),
+    /// A fault was told.
+    Failed,
+}
