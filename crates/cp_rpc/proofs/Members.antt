@@ -1,5 +1,5 @@
 -- The member of a message that is viewed.
-use Rattle.std.proofs.Common.{◌≡◌, ℕ, List, refl, sym, subst, ◌∙◌}
+use Rattle.std.proofs.Common.{◌≡◌, ℕ, List, refl}
 use Rattle.cp_tree.specs.Node.{Node, null, cap, struct, list, ptrs, structs, IsStruct, data_of}
 use Rattle.cp_tree.specs.Seen.{shape_of, part_of, pointee_of, AreWordsOf}
 use Rattle.cp_tree.specs.declared.view.Shape.{Shape}

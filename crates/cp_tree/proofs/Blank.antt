@@ -1,7 +1,6 @@
 -- Pruned trees: what is denoted, and a body with nothing on its pointers.
-use Rattle.std.proofs.Common.{◌≡◌, ℕ, zero, suc, ◌+◌, ◌*◌, ◌/◌, ◌<◌, ◌≤◌, List, length, refl, ap, arith}
+use Rattle.std.proofs.Common.{◌≡◌, ℕ, zero, suc, ◌+◌, ◌*◌, ◌/◌, ◌≤◌, List, length, refl, ap, arith}
 use Rattle.cp_words.specs.Word.{words_for}
-use Rattle.cp_words.specs.declared.pointer.ElementSize.{ElementSize}
 use Rattle.cp_words.specs.declared.pointer.ElementSize.TheVariants as sizes
 use Rattle.cp_tree.specs.declared.area.Form.{Form}
 use Rattle.cp_tree.specs.declared.area.Form.TheVariants as forms

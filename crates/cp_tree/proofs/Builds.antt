@@ -1,14 +1,10 @@
 -- Trees that are built part by part.
-use Rattle.std.proofs.Common.{◌≡◌, ℕ, zero, suc, ◌+◌, ◌<◌, ◌≤◌, max, List, [], ◌∷◌, ◌++◌, length, take, get_or, refl, sym, ap, ◌∙◌, arith}
+use Rattle.std.proofs.Common.{◌≡◌, ℕ, zero, suc, ◌+◌, ◌<◌, ◌≤◌, List, [], ◌∷◌, ◌++◌, length, take, get_or, refl, ap, ◌∙◌, arith}
 use Rattle.std.proofs.lemmas.List.{take_more, take_all}
-use Rattle.std.specs.List.{range_with_len}
-use Rattle.cp_words.specs.declared.pointer.ElementSize.{ElementSize}
-use Rattle.cp_words.specs.declared.pointer.ElementSize.TheVariants as sizes
-use Rattle.cp_tree.specs.Node.{Elements, voids, Node, null, cap, struct, list, ptrs, structs, Nodes, no_nodes, node, Bodies, no_bodies, body, element_size, element_count, count, number_of, depth, greatest_depth, deepest_body, IsStruct}
+use Rattle.cp_tree.specs.Node.{Node, null, cap, struct, list, ptrs, structs, Nodes, no_nodes, node, Bodies, no_bodies, body, count, number_of, depth, greatest_depth, deepest_body, IsStruct}
 use Rattle.cp_tree.specs.NodeOf.{nodes_of, bodies_of}
-use Rattle.cp_tree.specs.Rows.{row_of, bodies_in, IsData}
+use Rattle.cp_tree.specs.Rows.{row_of, bodies_in}
 use Rattle.cp_tree.specs.Seen.{shape_of, node_at, body_at, part_of}
-use Rattle.cp_tree.specs.declared.view.Shape.{Shape}
 use Rattle.cp_tree.specs.declared.view.Shape.TheVariants as shapes
 
 abbrev pub trees_of : Nodes → List Node

@@ -1,6 +1,6 @@
 -- What going over the words leaves, step by step.
 use Rattle.std.proofs.Common.{◌≡◌, ℕ, zero, suc, ◌+◌, ◌-◌, ◌*◌, ◌<◌, List, Result, Ok, Err, Option, Some, refl, sym, ap, ◌∙◌, arith}
-use Rattle.cp_tree.specs.Node.{Node, Nodes, no_nodes, node, Bodies, no_bodies}
+use Rattle.cp_tree.specs.Node.{Node, Nodes, node}
 use Rattle.cp_tree.specs.Reading.{◌>>=◌, Read, Kids, left_of, row_by, bodies_by, aim_by, area_by, body_by, pointer_by}
 use Rattle.cp_tree.specs.declared.aim.Aim.{Aim}
 use Rattle.cp_tree.specs.declared.fault.Place.{Place}

@@ -1,25 +1,22 @@
 -- What is denoted within the limits is read.
-use Rattle.std.proofs.Common.{◌≡◌, ◌==◌, ℕ, ◌+◌, ◌-◌, ◌*◌, ◌/◌, ◌<◌, ◌≤◌, ℤ, pos, negsuc, ◌+ℤ◌, List, [], length, Option, Some, Result, Ok, Bool, true, false, nat_lt, nat_le, slice_index, refl, sym, ap, ◌∙◌, subst, inl, inr, arith}
+use Rattle.std.proofs.Common.{◌≡◌, ◌==◌, ℕ, ◌+◌, ◌-◌, ◌*◌, ◌/◌, ◌<◌, ◌≤◌, ℤ, pos, negsuc, ◌+ℤ◌, List, [], length, Some, Ok, Bool, true, false, nat_lt, nat_le, slice_index, refl, sym, ap, ◌∙◌, subst, inl, inr, arith}
 use Rattle.std.proofs.lemmas.Bool.Decides.{nat_tests}
 use Rattle.std.proofs.lemmas.Int.{ints}
 use Rattle.std.proofs.lemmas.List.{get_or_past}
-use Rattle.cp_words.specs.Word.{pointer_of, tag_of, words_for}
+use Rattle.cp_words.specs.Word.{pointer_of, words_for}
 use Rattle.cp_words.specs.declared.pointer.Pointer.{Pointer}
 use Rattle.cp_words.specs.declared.pointer.Pointer.TheVariants as pointers
-use Rattle.cp_words.specs.declared.pointer.ElementSize.{ElementSize}
 use Rattle.cp_words.specs.declared.pointer.ElementSize.TheVariants as sizes
-use Rattle.cp_tree.specs.Node.{Elements, voids, element_size, element_count, Node, null, cap, struct, list, ptrs, structs, Nodes, no_nodes, node, Bodies, no_bodies, body, count, number_of, depth, greatest_depth, deepest_body, cost, total_cost, body_cost}
-use Rattle.cp_tree.specs.Aims.{segment, IsBodyPointer, IsPadTag, AimsHere, AimsByPad, AimsByTwo, Aims, HasBody, Locates}
-use Rattle.cp_tree.specs.Denotes.{words_at, Denotes, EachDenotes, EachBody}
-use Rattle.cp_tree.specs.Reading.{◌>>=◌, Kids, rooted, root_by, top, row_by, bodies_by, start_of, in_segment, placed, tagged, area_by_kind, area_by, aim_here, aim_second, tag_kind_of, aim_two, aim_by, pad_or, filled, price, IsWhole, body_by, toll, pointer_by, kids_at, tree_at, rows_at}
+use Rattle.cp_tree.specs.Node.{Elements, voids, Node, null, cap, struct, list, ptrs, structs, Nodes, no_nodes, node, Bodies, no_bodies, body, count, number_of, depth, greatest_depth, deepest_body, cost, total_cost, body_cost}
+use Rattle.cp_tree.specs.Aims.{segment, IsBodyPointer, IsPadTag, AimsHere, AimsByPad, AimsByTwo, Aims, Locates}
+use Rattle.cp_tree.specs.Denotes.{Denotes, EachDenotes, EachBody}
+use Rattle.cp_tree.specs.Reading.{◌>>=◌, Kids, row_by, bodies_by, start_of, in_segment, area_by, aim_here, tag_kind_of, aim_by, pad_or, filled, price, IsWhole, body_by, toll, pointer_by, kids_at, tree_at, rows_at}
 use Rattle.cp_tree.specs.declared.aim.Aim.{Aim}
 use Rattle.cp_tree.specs.declared.aim.Kind.{Kind}
 use Rattle.cp_tree.specs.declared.aim.Kind.TheVariants as kinds
-use Rattle.cp_tree.specs.declared.area.Area.{Area}
 use Rattle.cp_tree.specs.declared.area.Form.{Form}
 use Rattle.cp_tree.specs.declared.area.Form.TheVariants as forms
 use Rattle.cp_tree.specs.declared.fault.Place.{Place}
-use Rattle.cp_tree.specs.declared.fault.TreeFault.{TreeFault}
 use Rattle.cp_tree.proofs.Checks.{aimed}
 use Rattle.cp_tree.proofs.Entries.{entered_ok}
 use Rattle.cp_tree.proofs.Fills.{IsBody, form_of, form_of-whole, Fills, inner_depth, inner_cost, depth-body, cost-body}

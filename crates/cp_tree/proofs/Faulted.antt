@@ -1,33 +1,27 @@
 -- What a fault of reading says.
-use Rattle.std.proofs.Common.{◌≡◌, ℕ, zero, suc, ◌+◌, ◌-◌, ◌*◌, ◌/◌, ◌<◌, ◌≤◌, ℤ, pos, negsuc, ◌+ℤ◌, ◌<ℤ◌, List, length, Option, Some, None, Result, Ok, Err, Bool, true, false, nat_lt, nat_le, cond, ◌==◌, slice_index, refl, sym, ap, subst, inl, inr, ◌⊎◌, max, arith}
+use Rattle.std.proofs.Common.{◌≡◌, ℕ, zero, suc, ◌+◌, ◌-◌, ◌*◌, ◌/◌, ◌<◌, ◌≤◌, List, length, Option, Some, None, Result, Ok, Err, Bool, true, false, nat_lt, cond, slice_index, refl, sym, ap, subst, inl, inr, ◌⊎◌, arith}
 use Rattle.std.proofs.lemmas.Bool.Decides.{nat_tests}
-use Rattle.std.proofs.lemmas.Int.{ints}
-use Rattle.cp_words.specs.Limits.{Bounds}
-use Rattle.cp_words.specs.Word.{pointer_of, tag_of, words_for}
+use Rattle.cp_words.specs.Word.{pointer_of}
 use Rattle.cp_words.specs.declared.pointer.Pointer.{Pointer}
 use Rattle.cp_words.specs.declared.pointer.Pointer.TheVariants as pointers
-use Rattle.cp_words.specs.declared.pointer.Tag.{Tag}
-use Rattle.cp_words.specs.declared.pointer.ElementSize.{ElementSize}
 use Rattle.cp_words.specs.declared.pointer.ElementSize.TheVariants as sizes
-use Rattle.cp_tree.specs.Node.{Node, null, struct, ptrs, structs, Nodes, no_nodes, node, Bodies, no_bodies, body, count, number_of, depth, greatest_depth, deepest_body, cost, total_cost, body_cost}
-use Rattle.cp_tree.specs.Aims.{segment, Holds, IsBodyPointer, IsPadTag, Aims, Locates}
+use Rattle.cp_tree.specs.Node.{Node, struct, ptrs, structs, Nodes, node, Bodies, body, count, number_of, depth, greatest_depth, deepest_body, cost, total_cost, body_cost}
+use Rattle.cp_tree.specs.Aims.{segment, Holds, Locates}
 use Rattle.cp_tree.specs.Denotes.{words_at}
-use Rattle.cp_tree.specs.Faults.{kind_words, IsNoBody, NamesNoSegment, HasBadPad, StartsBefore, HasNoRoom, FaultBy}
+use Rattle.cp_tree.specs.Faults.{FaultBy}
 use Rattle.cp_tree.specs.Pruned.{Prunes, EachPrunes, EachPrunesBody, IsPointerOf, IsReachable, below}
-use Rattle.cp_tree.specs.Reading.{◌>>=◌, Read, Kids, row_by, bodies_by, start_of, in_segment, placed, tagged, aim_here, tag_kind_of, aim_second, aim_two, pad_or, pad_one, aim_by, area_by_kind, area_by, entered, filled, price, body_words, IsWhole, body_by, pointer_by, word_by, kids_at, tree_at, rows_at}
+use Rattle.cp_tree.specs.Reading.{◌>>=◌, Read, Kids, row_by, bodies_by, aim_by, area_by, entered, filled, price, body_words, IsWhole, body_by, pointer_by, word_by, kids_at, tree_at, rows_at}
 use Rattle.cp_tree.specs.declared.aim.Aim.{Aim}
-use Rattle.cp_tree.specs.declared.aim.Kind.{Kind}
-use Rattle.cp_tree.specs.declared.aim.Kind.TheVariants as kinds
 use Rattle.cp_tree.specs.declared.area.Area.{Area}
 use Rattle.cp_tree.specs.declared.area.Form.{Form}
 use Rattle.cp_tree.specs.declared.area.Form.TheVariants as forms
 use Rattle.cp_tree.specs.declared.fault.Place.{Place}
 use Rattle.cp_tree.specs.declared.fault.TreeFault.{TreeFault}
 use Rattle.cp_tree.specs.declared.fault.TreeFault.TheVariants as faults
-use Rattle.cp_tree.proofs.Blank.{denotes_prunes, each_prunes, PrunesBody, prunes_body, nulls, count-nulls, nulls_prune, blank_bodies, number_of-blank, blank_bodies_prune, blank, IsBlank, blank_stands}
+use Rattle.cp_tree.proofs.Blank.{denotes_prunes, each_prunes, PrunesBody, prunes_body, nulls, count-nulls, nulls_prune, blank_bodies, number_of-blank, blank_bodies_prune, blank, blank_stands}
 use Rattle.cp_tree.proofs.Fills.{IsBody, form_of, inner_depth, inner_cost, depth-body, cost-body}
 use Rattle.cp_tree.proofs.Misaimed.{bind_err, err_is, aim_fails, area_fails}
-use Rattle.cp_tree.proofs.Sound.{Found, Reads, ReadsRow, RowsRead, sound, rows_sound, aim_sound, area_sound, bind_ok, ok_is, width, entered_is}
+use Rattle.cp_tree.proofs.Sound.{Found, Reads, ReadsRow, RowsRead, sound, rows_sound, aim_sound, area_sound, bind_ok, width, entered_is}
 
 -- what is said of a limit may be said of more
 pub FaultBy-map : (S : List (List ℕ)) {D D' C C' : Type 0} (e : TreeFault) → (D → D') → (C → C') → FaultBy S D C e → FaultBy S D' C' e

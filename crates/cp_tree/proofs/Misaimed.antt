@@ -1,15 +1,14 @@
 -- What a fault of a far pointer, or of a body's place, says.
-use Rattle.std.proofs.Common.{◌≡◌, ℕ, zero, suc, ◌+◌, ◌-◌, ◌*◌, ◌<◌, ◌≤◌, ℤ, pos, negsuc, ◌+ℤ◌, ◌<ℤ◌, List, length, Option, Some, None, Result, Ok, Err, Bool, true, false, nat_lt, nat_le, cond, slice_index, refl, sym, ap, subst, inl, inr, ◌⊎◌, ◌∙◌, arith}
+use Rattle.std.proofs.Common.{◌≡◌, ℕ, ◌+◌, ◌-◌, ◌*◌, ◌<◌, ℤ, pos, negsuc, ◌+ℤ◌, ◌<ℤ◌, List, length, Option, Some, None, Result, Ok, Err, Bool, true, false, nat_lt, nat_le, cond, slice_index, refl, sym, ap, subst, inl, inr, ◌⊎◌, ◌∙◌, arith}
 use Rattle.std.proofs.lemmas.Bool.Decides.{nat_tests}
 use Rattle.std.proofs.lemmas.Int.{ints}
 use Rattle.cp_words.specs.Word.{pointer_of, tag_of, words_for}
 use Rattle.cp_words.specs.declared.pointer.Pointer.{Pointer}
 use Rattle.cp_words.specs.declared.pointer.Pointer.TheVariants as pointers
 use Rattle.cp_words.specs.declared.pointer.Tag.{Tag}
-use Rattle.cp_words.specs.declared.pointer.ElementSize.{ElementSize}
 use Rattle.cp_words.specs.declared.pointer.ElementSize.TheVariants as sizes
 use Rattle.cp_tree.specs.Aims.{segment, Holds, IsBodyPointer, IsPadTag, Aims}
-use Rattle.cp_tree.specs.Faults.{kind_words, IsNoBody, NamesNoSegment, HasBadPad, StartsBefore, HasNoRoom, HasBadTag, FaultBy}
+use Rattle.cp_tree.specs.Faults.{kind_words, StartsBefore, HasNoRoom, FaultBy}
 use Rattle.cp_tree.specs.Pruned.{IsReachable}
 use Rattle.cp_tree.specs.Reading.{◌>>=◌, start_of, in_segment, placed, tagged, aim_here, tag_kind_of, aim_second, aim_two, pad_or, pad_one, aim_far, aim_by, area_by_kind, area_by}
 use Rattle.cp_tree.specs.declared.aim.Aim.{Aim}

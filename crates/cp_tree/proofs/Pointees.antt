@@ -1,7 +1,7 @@
 -- What the pointers of an owned struct stand for.
 use Rattle.std.proofs.Common.{◌≡◌, ℕ, zero, suc, ◌<◌, ◌≤◌, List, [], ◌∷◌, length, map, get_or, refl, arith, rules}
-use Rattle.cp_tree.specs.Node.{Node, null}
-use Rattle.cp_tree.specs.NodeOf.{node_of, nodes_of, body_of}
+use Rattle.cp_tree.specs.Node.{null}
+use Rattle.cp_tree.specs.NodeOf.{node_of, nodes_of}
 use Rattle.cp_tree.specs.Seen.{node_at, pointee_of}
 use Rattle.cp_tree.specs.declared.tree.Tree.{Tree, Struct}
 use Rattle.cp_tree.specs.declared.tree.Body.{Body, the_lemmas}

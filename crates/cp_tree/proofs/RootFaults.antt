@@ -1,5 +1,5 @@
 -- What a fault of reading the message's tree says.
-use Rattle.std.proofs.Common.{◌≡◌, ℕ, zero, suc, ◌+◌, ◌<◌, ◌≤◌, ◌==◌, ℤ, pos, negsuc, List, length, Option, Some, None, Result, Ok, Err, Bool, true, false, nat_lt, cond, slice_index, refl, sym, ap, subst, inl, inr, ◌⊎◌, ◌∙◌, arith}
+use Rattle.std.proofs.Common.{◌≡◌, ℕ, zero, suc, ◌+◌, ◌<◌, ◌==◌, ℤ, pos, negsuc, List, length, Option, Some, None, Result, Ok, Err, Bool, true, false, nat_lt, cond, slice_index, refl, ap, subst, inl, inr, ◌⊎◌, ◌∙◌, arith}
 use Rattle.std.proofs.lemmas.Bool.Decides.{nat_tests}
 use Rattle.cp_words.specs.Limits.{Bounds}
 use Rattle.cp_words.specs.Word.{pointer_of}
@@ -9,7 +9,7 @@ use Rattle.cp_words.specs.declared.pointer.Pointer.TheVariants as pointers
 use Rattle.cp_tree.specs.Node.{Node, null, cap, struct, list, ptrs, structs, depth, cost}
 use Rattle.cp_tree.specs.Aims.{segment, Holds}
 use Rattle.cp_tree.specs.Faults.{FaultBy, RootIsNoStruct, IsFaultOf}
-use Rattle.cp_tree.specs.Pruned.{Prunes, Pruned, IsReachable, root}
+use Rattle.cp_tree.specs.Pruned.{Prunes, Pruned, root}
 use Rattle.cp_tree.specs.Reading.{◌>>=◌, Read, tag_kind_of, aim_here, aim_second, aim_two, pad_or, pad_one, aim_by, area_by, body_by, kids_at, tree_at, rooted, root_by, root_of, top}
 use Rattle.cp_tree.specs.declared.aim.Aim.{Aim}
 use Rattle.cp_tree.specs.declared.aim.Kind.{Kind}

@@ -1,14 +1,14 @@
 -- The message's tree, as a relation and as a function.
-use Rattle.std.proofs.Common.{◌≡◌, ℕ, ◌+◌, ◌-◌, ◌<◌, ◌==◌, List, length, Option, Some, None, Result, Ok, Err, false, slice_index, refl, sym, ap, ◌∙◌, subst, inl, inr, arith}
+use Rattle.std.proofs.Common.{◌≡◌, ℕ, ◌+◌, ◌<◌, ◌==◌, List, length, Option, Some, None, Result, Ok, Err, false, slice_index, refl, sym, ap, ◌∙◌, subst, inl, inr, arith}
 use Rattle.std.proofs.lemmas.Bool.Decides.{nat_tests}
 use Rattle.cp_words.specs.Limits.{Bounds}
 use Rattle.cp_words.specs.Word.{pointer_of}
 use Rattle.cp_words.specs.declared.pointer.Pointer.{Pointer}
 use Rattle.cp_words.specs.declared.pointer.Pointer.TheVariants as pointers
-use Rattle.cp_tree.specs.Node.{Node, null, cap, struct, list, ptrs, structs, count, cost, IsStruct}
+use Rattle.cp_tree.specs.Node.{Node, null, cap, struct, list, ptrs, structs, count, IsStruct}
 use Rattle.cp_tree.specs.Aims.{segment, Aims}
-use Rattle.cp_tree.specs.Denotes.{words_at, Root}
-use Rattle.cp_tree.specs.Reading.{◌>>=◌, Read, Kids, left_of, aim_by, area_by, area_by_kind, placed, in_segment, entered, filled, price, body_by, tree_at, kids_at, rooted, root_by, root_of, top}
+use Rattle.cp_tree.specs.Denotes.{Root}
+use Rattle.cp_tree.specs.Reading.{◌>>=◌, Read, Kids, left_of, aim_by, area_by, area_by_kind, placed, in_segment, entered, filled, body_by, tree_at, kids_at, rooted, root_by, root_of, top}
 use Rattle.cp_tree.specs.declared.aim.Aim.{Aim}
 use Rattle.cp_tree.specs.declared.aim.Kind.{Kind}
 use Rattle.cp_tree.specs.declared.aim.Kind.TheVariants as kinds
@@ -16,7 +16,7 @@ use Rattle.cp_tree.specs.declared.area.Area.{Area}
 use Rattle.cp_tree.specs.declared.area.Form.TheVariants as forms
 use Rattle.cp_tree.specs.declared.fault.TreeFault.{TreeFault}
 use Rattle.cp_tree.proofs.Checks.{aimed}
-use Rattle.cp_tree.proofs.Complete.{Found, aims_found, fits, complete}
+use Rattle.cp_tree.proofs.Complete.{Found, aims_found, complete}
 use Rattle.cp_tree.proofs.Sound.{sound, ok_is, bind_ok, not_stopped}
 
 -- a word that aims at a body stands in its segment

@@ -1,17 +1,17 @@
 -- What reading gives is denoted, within the limits.
-use Rattle.std.proofs.Common.{◌≡◌, ℕ, zero, suc, ◌+◌, ◌-◌, ◌*◌, ◌/◌, ◌<◌, ◌≤◌, ℤ, pos, negsuc, ◌+ℤ◌, List, length, take, drop, Option, Some, None, Result, Ok, Err, Bool, true, false, nat_lt, nat_le, cond, slice_index, length-take, length-drop, refl, sym, ap, subst, inl, inr, arith}
+use Rattle.std.proofs.Common.{◌≡◌, ℕ, zero, suc, ◌+◌, ◌-◌, ◌*◌, ◌/◌, ◌<◌, ◌≤◌, ℤ, pos, negsuc, ◌+ℤ◌, List, length, Option, Some, None, Result, Ok, Err, Bool, true, false, nat_lt, nat_le, cond, slice_index, length-take, length-drop, refl, sym, ap, subst, inl, inr, arith}
 use Rattle.std.proofs.lemmas.Bool.Decides.{nat_tests}
 use Rattle.std.proofs.lemmas.Int.{ints}
 use Rattle.std.proofs.lemmas.List.FromFn.{length-map-range_with_len}
-use Rattle.cp_words.specs.Word.{pointer_of, tag_of, words_for, bits_of}
+use Rattle.cp_words.specs.Word.{pointer_of, tag_of, words_for}
 use Rattle.cp_words.specs.declared.pointer.Pointer.{Pointer}
 use Rattle.cp_words.specs.declared.pointer.Pointer.TheVariants as pointers
 use Rattle.cp_words.specs.declared.pointer.Tag.{Tag}
 use Rattle.cp_words.specs.declared.pointer.ElementSize.{ElementSize}
 use Rattle.cp_words.specs.declared.pointer.ElementSize.TheVariants as sizes
-use Rattle.cp_tree.specs.Node.{Node, Nodes, Bodies, element_size, element_count, count, number_of, depth, greatest_depth, deepest_body, cost, total_cost, body_cost}
-use Rattle.cp_tree.specs.Aims.{segment, Holds, IsBodyPointer, IsPadTag, AimsHere, Aims, Locates}
-use Rattle.cp_tree.specs.Denotes.{words_at, element, elements_of, Denotes, EachDenotes, EachBody}
+use Rattle.cp_tree.specs.Node.{Node, Nodes, Bodies, element_count, count, number_of, depth, greatest_depth, deepest_body, cost, total_cost, body_cost}
+use Rattle.cp_tree.specs.Aims.{segment, Holds, IsPadTag, AimsHere, Aims, Locates}
+use Rattle.cp_tree.specs.Denotes.{words_at, elements_of, Denotes, EachDenotes, EachBody}
 use Rattle.cp_tree.specs.Reading.{◌>>=◌, Read, Kids, row_by, bodies_by, start_of, in_segment, placed, tagged, aim_here, tag_kind_of, aim_second, aim_two, pad_or, pad_one, aim_by, area_by_kind, area_by, entered, filled, price, body_words, IsWhole, body_by, pointer_by, word_by, kids_at, tree_at, rows_at}
 use Rattle.cp_tree.specs.declared.aim.Aim.{Aim}
 use Rattle.cp_tree.specs.declared.aim.Kind.{Kind}

@@ -1,15 +1,13 @@
 -- What a view's body says of its parts.
-use Rattle.std.proofs.Common.{◌≡◌, ℕ, zero, suc, ◌+◌, ◌-◌, ◌*◌, ◌/◌, ◌<◌, ◌≤◌, List, [], length, Option, Some, None, Result, Ok, Err, Bool, true, false, is_ok, slice_index, refl, sym, ap, ◌∙◌, subst, arith}
+use Rattle.std.proofs.Common.{◌≡◌, ℕ, zero, suc, ◌+◌, ◌-◌, ◌*◌, ◌/◌, ◌<◌, ◌≤◌, List, length, Some, Result, Ok, Err, true, is_ok, refl, sym, ap, ◌∙◌, subst, arith}
 use Rattle.std.proofs.Math.Nat.{mul-le-mul_left}
-use Rattle.cp_words.specs.Word.{pointer_of, words_for}
-use Rattle.cp_words.specs.declared.pointer.ElementSize.{ElementSize}
+use Rattle.cp_words.specs.Word.{words_for}
 use Rattle.cp_words.specs.declared.pointer.ElementSize.TheVariants as sizes
-use Rattle.cp_words.specs.declared.pointer.Pointer.{Pointer}
-use Rattle.cp_tree.specs.Node.{Elements, voids, element_size, element_count, Node, null, cap, struct, list, ptrs, structs, Nodes, no_nodes, node, Bodies, no_bodies, body, count, number_of, depth, greatest_depth, deepest_body, cost, total_cost, body_cost}
+use Rattle.cp_tree.specs.Node.{voids, Node, null, cap, struct, list, ptrs, structs, Nodes, no_nodes, node, Bodies, no_bodies, body, count, number_of, greatest_depth, deepest_body, cost, total_cost, body_cost}
 use Rattle.cp_tree.specs.Aims.{segment}
-use Rattle.cp_tree.specs.Denotes.{words_at, elements_of, Denotes, EachDenotes, EachBody}
+use Rattle.cp_tree.specs.Denotes.{words_at, EachDenotes, EachBody}
 use Rattle.cp_tree.specs.Parts.{form_shape_of, part_node, IsPart}
-use Rattle.cp_tree.specs.Reading.{◌>>=◌, Read, Kids, entered, filled, bodies_by, price, body_words, lent_words, IsWhole, IsWithin, body_by, kids_at, tree_at, rows_at, most_nesting, most_traversal, node_in, tree_read, area_read}
+use Rattle.cp_tree.specs.Reading.{Read, Kids, entered, filled, bodies_by, price, body_words, lent_words, IsWhole, IsWithin, body_by, kids_at, rows_at, most_nesting, most_traversal, node_in, tree_read, area_read}
 use Rattle.cp_tree.specs.Seen.{shape_of, node_at, body_at, part_of, AreWordsOf}
 use Rattle.cp_tree.specs.declared.area.Area.{Area}
 use Rattle.cp_tree.specs.declared.area.Form.{Form}
@@ -18,8 +16,6 @@ use Rattle.cp_tree.specs.declared.fault.Place.{Place}
 use Rattle.cp_tree.specs.declared.fault.TreeFault.{TreeFault}
 use Rattle.cp_tree.specs.declared.view.Part.{Part}
 use Rattle.cp_tree.specs.declared.view.Part.TheVariants as parts
-use Rattle.cp_tree.specs.declared.view.Shape.{Shape}
-use Rattle.cp_tree.specs.declared.view.Shape.TheVariants as shapes
 use Rattle.cp_tree.proofs.Complete.{complete, fills_read}
 use Rattle.cp_tree.proofs.Fills.{IsBody, form_of, Fills, inner_depth, inner_cost}
 use Rattle.cp_tree.proofs.Sound.{ReadsBody, elements-made, width, bind_ok, ok_is, within_sound, entered_is}

@@ -1,5 +1,5 @@
 -- What a fault of reading says.
-use Rattle.std.specs.Prelude.{◌≡◌, ◌⊎◌, ℕ, ◌+◌, ◌*◌, ◌≤◌, ◌<◌, ℤ, pos, ◌+ℤ◌, ◌<ℤ◌, List, length, Bool, Option, Some, None, true, false, slice_index}
+use Rattle.std.specs.Prelude.{◌≡◌, ◌⊎◌, ℕ, ◌+◌, ◌*◌, ◌≤◌, ◌<◌, ℤ, pos, ◌+ℤ◌, ◌<ℤ◌, List, length, Bool, Some, None, true, false, slice_index}
 use Rattle.cp_words.specs.Limits.{Bounds}
 use Rattle.cp_words.specs.Word.{pointer_of, tag_of, words_for}
 use Rattle.cp_words.specs.declared.pointer.ElementSize.{ElementSize}
@@ -9,12 +9,10 @@ use Rattle.cp_words.specs.declared.pointer.Pointer.TheVariants as pointers
 use Rattle.cp_words.specs.declared.pointer.Tag.{Tag}
 use Rattle.cp_tree.specs.declared.aim.Kind.{Kind}
 use Rattle.cp_tree.specs.declared.aim.Kind.TheVariants as kinds
-use Rattle.cp_tree.specs.declared.fault.Place.{Place}
 use Rattle.cp_tree.specs.declared.fault.TreeFault.{TreeFault}
 use Rattle.cp_tree.specs.declared.fault.TreeFault.TheVariants as faults
-use Rattle.cp_tree.specs.Node.{Node, null, depth, cost, IsStruct}
+use Rattle.cp_tree.specs.Node.{Node, depth, cost}
 use Rattle.cp_tree.specs.Aims.{segment, Holds, IsBodyPointer, IsPadTag, Aims}
-use Rattle.cp_tree.specs.Denotes.{Root}
 use Rattle.cp_tree.specs.Pruned.{Pruned, IsReachable}
 
 -- the words that a body of this kind takes, a composite list's tag included

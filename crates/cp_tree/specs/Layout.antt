@@ -1,5 +1,5 @@
 -- How a tree is written into segments. (Encoding specification: "Messages", "Inter-Segment Pointers".)
-use Rattle.std.specs.Prelude.{◌≡◌, ◌≢◌, ◌⊎◌, ℕ, ◌+◌, ◌*◌, ◌^◌, ◌<◌, ◌≤◌, ℤ, pos, negsuc, ◌+ℤ◌, List, [], ◌∷◌, length, All, max, Some, slice_index}
+use Rattle.std.specs.Prelude.{◌≡◌, ◌≢◌, ◌⊎◌, ℕ, ◌+◌, ◌*◌, ◌<◌, ◌≤◌, negsuc, List, [], ◌∷◌, length, All, max, Some, slice_index}
 use Rattle.cp_words.specs.Word.{bits_of, words_for, tag_of}
 use Rattle.cp_words.specs.declared.pointer.ElementSize.TheVariants as sizes
 use Rattle.cp_words.specs.declared.pointer.Pointer.TheVariants as pointers

@@ -1,12 +1,11 @@
 -- Trees of which parts are left out, and the pointer words that reading may come to.
 use Rattle.std.specs.Prelude.{◌≡◌, ℕ, ◌+◌, ◌*◌, ◌<◌, List, length}
-use Rattle.cp_words.specs.Word.{words_for}
 use Rattle.cp_words.specs.declared.pointer.ElementSize.TheVariants as sizes
 use Rattle.cp_tree.specs.declared.area.Form.{Form}
 use Rattle.cp_tree.specs.declared.area.Form.TheVariants as forms
-use Rattle.cp_tree.specs.Node.{element_size, element_count, Node, null, cap, struct, list, ptrs, structs, Nodes, no_nodes, node, Bodies, no_bodies, body, count, number_of}
+use Rattle.cp_tree.specs.Node.{Node, null, cap, struct, list, ptrs, structs, Nodes, no_nodes, node, Bodies, no_bodies, body, count, number_of}
 use Rattle.cp_tree.specs.Aims.{segment, Locates}
-use Rattle.cp_tree.specs.Denotes.{words_at, elements_of, Denotes}
+use Rattle.cp_tree.specs.Denotes.{words_at, Denotes}
 
 -- As the word denotes, but null may stand for any word below it, and for the word itself.
 abbrev mutual

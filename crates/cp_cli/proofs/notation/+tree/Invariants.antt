@@ -1,4 +1,4 @@
-use Rattle.std.proofs.Common.{ℕ, ◌+◌, ◌*◌}
+use Rattle.std.proofs.Common.{◌+◌, ◌*◌}
 use Rattle.cp_tree.specs.Node.{depth}
 use Rattle.cp_cli.proofs.notation.+tree.Given as goal
 

@@ -1,5 +1,4 @@
-use Rattle.std.proofs.Common.{◌≡◌, refl, sym, subst, ◌∙◌}
-use Rattle.cp_tree.specs.Node.{data_of}
+use Rattle.std.proofs.Common.{refl, sym, subst, ◌∙◌}
 use Rattle.cp_rpc.specs.Fields.{IsStructField}
 use Rattle.cp_rpc.proofs.Members.{part-pointee, words-struct, shape-other}
 use Rattle.cp_rpc.proofs.read.member_words.Goals as goal

@@ -1,11 +1,7 @@
-use Rattle.std.proofs.Common.{◌≡◌, ◌<◌, ◌≤◌, ◌+◌, ◌*◌, ℕ, Some, Ok, Err, slice_index, ◌-◌, arith, add-zero, sym, refl, ap, ◌∙◌}
-use Rattle.std.proofs.lemmas.Grind.{common_steps}
+use Rattle.std.proofs.Common.{◌≡◌, ◌<◌, ◌+◌, Some, ◌-◌, arith, add-zero, sym, refl}
 use Rattle.std.proofs.lemmas.Result.{err_from_is_err_and}
 use Rattle.cp_words.specs.Word.{pointer_of}
-use Rattle.cp_tree.specs.Aims.{segment}
-use Rattle.cp_tree.specs.NodeOf.{words_of}
-use Rattle.cp_tree.specs.Reading.{left_of, filled, tree_at}
-use Rattle.cp_tree.proofs.Checks.{row_fails, row_goes_on, row_ends, bodies_fail, bodies_go_on, bodies_end, left-made, left-flat, aimed, one_fewer}
+use Rattle.cp_tree.proofs.Checks.{row_fails, row_goes_on, row_ends, bodies_fail, bodies_go_on, bodies_end, left-flat, aimed, one_fewer}
 use Rattle.cp_tree.proofs.Entries.{entered_err, entered_ok}
 use Rattle.cp_tree.proofs.check.+check.Goals as goal
 

@@ -1,10 +1,9 @@
-use Rattle.std.proofs.Common.{◌≡◌, ◌<◌, ◌==◌, false, ℕ, Ok, Err, length, arith, refl, sym, ap, ◌∙◌}
+use Rattle.std.proofs.Common.{◌≡◌, ◌<◌, ◌==◌, false, length, arith, refl, sym, ◌∙◌}
 use Rattle.std.proofs.lemmas.Bool.Decides.{nat_tests}
 use Rattle.std.proofs.lemmas.Result.{err_from_is_err_and}
 use Rattle.cp_tree.specs.Aims.{segment}
 use Rattle.cp_tree.specs.NodeOf.{words_of}
-use Rattle.cp_tree.specs.Reading.{root_of}
-use Rattle.cp_tree.proofs.Roots.{root_steps, read_left, read_fault}
+use Rattle.cp_tree.proofs.Roots.{root_steps, read_fault}
 use Rattle.cp_tree.proofs.check.check_root.Goals as goal
 
 pub returns-in_err-check_body-in-Some-clause-fault : goal.returns-in_err-check_body-in-Some-clause-fault

@@ -1,4 +1,4 @@
-use Rattle.std.proofs.Common.{◌≡◌, ℕ, ◌+◌, ◌*◌, map, take}
+use Rattle.std.proofs.Common.{◌≡◌, ◌+◌, ◌*◌, map, take}
 use Rattle.cp_tree.specs.Node.{depth}
 use Rattle.cp_tree.specs.NodeOf.{node_of, body_of}
 use Rattle.cp_tree.specs.Rows.{row_of, bodies_in}

@@ -1,8 +1,8 @@
-use Rattle.std.proofs.Common.{◌≡◌, ℕ, Ok, arith, refl, sym, ap, ◌∙◌, is_ok, true}
+use Rattle.std.proofs.Common.{◌≡◌, ℕ, Ok, arith, refl, sym, ap, ◌∙◌}
 use Rattle.cp_tree.specs.Node.{Node}
 use Rattle.cp_tree.specs.NodeOf.{words_of}
-use Rattle.cp_tree.specs.Reading.{◌>>=◌, Read, aim_by, area_by, body_by, kids_at, most_nesting, most_traversal, pointer_read, area_read, node_in}
-use Rattle.cp_tree.proofs.Views.{body_again, ok_of, ok_is_ok, read-node}
+use Rattle.cp_tree.specs.Reading.{body_by, kids_at, most_nesting, most_traversal, pointer_read, area_read, node_in}
+use Rattle.cp_tree.proofs.Views.{body_again, ok_of, ok_is_ok}
 use Rattle.cp_tree.proofs.view.body_at.Goals as goal
 
 -- what the pointer was read as is what its body is read as

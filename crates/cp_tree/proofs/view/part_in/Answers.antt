@@ -1,4 +1,4 @@
-use Rattle.std.proofs.Common.{◌≡◌, ◌+◌, ◌*◌, arith, refl, sym, ap, ◌∙◌, inl}
+use Rattle.std.proofs.Common.{◌≡◌, ◌+◌, ◌*◌, arith, refl, ap, ◌∙◌}
 use Rattle.cp_tree.proofs.Views.{ok_is_ok, read-node, part-end, part-struct, part-pointer, part-element, element-inside}
 use Rattle.cp_tree.specs.Reading.{body_words}
 use Rattle.cp_tree.specs.declared.area.Form.TheVariants as forms

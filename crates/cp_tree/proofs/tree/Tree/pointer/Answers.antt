@@ -1,4 +1,4 @@
-use Rattle.std.proofs.Common.{◌≡◌, ◌<◌, ◌≤◌, length, get_or, sym, ap, ◌∙◌}
+use Rattle.std.proofs.Common.{◌<◌, ◌≤◌, length, get_or, sym, ap, ◌∙◌}
 use Rattle.cp_tree.specs.NodeOf.{node_of}
 use Rattle.cp_tree.specs.Seen.{pointee_of}
 use Rattle.cp_tree.proofs.Pointees.{pointee-Struct, node_at-map, node_at-map-past}

@@ -1,9 +1,8 @@
-use Rattle.std.proofs.Common.{◌≡◌, ◌≤◌, ◌-◌, ℕ, Ok, Err, sym, ap, subst, ◌∙◌, arith}
+use Rattle.std.proofs.Common.{◌≡◌, ◌-◌, Ok, Err, sym, ap, subst, ◌∙◌, arith}
 use Rattle.std.proofs.lemmas.Result.{err_from_is_err_and}
 use Rattle.cp_tree.specs.Denotes.{Root}
-use Rattle.cp_tree.specs.Node.{Node}
 use Rattle.cp_tree.specs.NodeOf.{words_of}
-use Rattle.cp_tree.specs.Reading.{root_of, area_read, node_in, top, most_nesting, most_traversal}
+use Rattle.cp_tree.specs.Reading.{root_of, area_read, top, most_nesting, most_traversal}
 use Rattle.cp_tree.proofs.Fills.{inner_cost}
 use Rattle.cp_tree.proofs.Roots.{root_found, root_given}
 use Rattle.cp_tree.proofs.RootFaults.{root_faulted}
