@@ -9,7 +9,7 @@ use Rattle.cp_tree.specs.Aims.{segment, Locates}
 use Rattle.cp_tree.specs.Denotes.{words_at, elements_of, Denotes, EachDenotes, EachBody}
 use Rattle.cp_tree.specs.Pruned.{Prunes, EachPrunes, EachPrunesBody}
 use Rattle.cp_tree.specs.Reading.{body_words, IsWhole}
-use Rattle.cp_tree.proofs.Fills.{IsBody, form_of}
+use Rattle.cp_tree.specs.Fills.{IsBody, form_of}
 use Rattle.cp_tree.proofs.Sound.{width, elements-made}
 
 mutual

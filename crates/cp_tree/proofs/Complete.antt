@@ -19,7 +19,8 @@ use Rattle.cp_tree.specs.declared.area.Form.TheVariants as forms
 use Rattle.cp_tree.specs.declared.fault.Place.{Place}
 use Rattle.cp_tree.proofs.Checks.{aimed}
 use Rattle.cp_tree.proofs.Entries.{entered_ok}
-use Rattle.cp_tree.proofs.Fills.{IsBody, form_of, form_of-whole, Fills, inner_depth, inner_cost, depth-body, cost-body}
+use Rattle.cp_tree.specs.Fills.{IsBody, form_of, Fills}
+use Rattle.cp_tree.proofs.Fills.{form_of-whole, inner_depth, inner_cost, depth-body, cost-body}
 
 begins_start : (p : ℕ) (offset : ℤ) (start : ℕ) → pos start ≡ pos (p + 1) +ℤ offset → start_of p offset ≡ Some start
 begins_start p (pos n) start b = let is : p + 1 + n ≡ start = omega (arith, ints, b) in rw is

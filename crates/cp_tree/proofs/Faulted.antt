@@ -19,7 +19,8 @@ use Rattle.cp_tree.specs.declared.fault.Place.{Place}
 use Rattle.cp_tree.specs.declared.fault.TreeFault.{TreeFault}
 use Rattle.cp_tree.specs.declared.fault.TreeFault.TheVariants as faults
 use Rattle.cp_tree.proofs.Blank.{denotes_prunes, each_prunes, PrunesBody, prunes_body, nulls, count-nulls, nulls_prune, blank_bodies, number_of-blank, blank_bodies_prune, blank, blank_stands}
-use Rattle.cp_tree.proofs.Fills.{IsBody, form_of, inner_depth, inner_cost, depth-body, cost-body}
+use Rattle.cp_tree.specs.Fills.{IsBody, form_of}
+use Rattle.cp_tree.proofs.Fills.{inner_depth, inner_cost, depth-body, cost-body}
 use Rattle.cp_tree.proofs.Misaimed.{bind_err, err_is, aim_fails, area_fails}
 use Rattle.cp_tree.proofs.Sound.{Found, Reads, ReadsRow, RowsRead, sound, rows_sound, aim_sound, area_sound, bind_ok, width, entered_is}
 

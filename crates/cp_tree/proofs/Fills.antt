@@ -1,35 +1,10 @@
 -- A body's tree, apart from the pointer word that has the body.
-use Rattle.std.proofs.Common.{◌≡◌, ℕ, ◌+◌, ◌*◌, ◌/◌, List, length, refl, arith}
-use Rattle.cp_words.specs.Word.{words_for}
-use Rattle.cp_words.specs.declared.pointer.ElementSize.TheVariants as sizes
-use Rattle.cp_tree.specs.declared.area.Form.{Form}
-use Rattle.cp_tree.specs.declared.area.Form.TheVariants as forms
-use Rattle.cp_tree.specs.Node.{voids, bits, bytes, halves, quads, words, element_size, element_count, Node, null, cap, struct, list, ptrs, structs, count, number_of, greatest_depth, deepest_body, depth, total_cost, body_cost, cost}
+use Rattle.std.proofs.Common.{◌≡◌, ℕ, ◌+◌, ◌*◌, ◌/◌, List, refl, arith}
+use Rattle.cp_tree.specs.Node.{voids, bits, bytes, halves, quads, words, Node, null, cap, struct, list, ptrs, structs, count, greatest_depth, deepest_body, depth, total_cost, body_cost, cost}
 use Rattle.cp_tree.specs.Aims.{Locates}
-use Rattle.cp_tree.specs.Denotes.{words_at, elements_of, Denotes, EachDenotes, EachBody}
+use Rattle.cp_tree.specs.Denotes.{Denotes}
+use Rattle.cp_tree.specs.Fills.{IsBody, form_of, Fills}
 use Rattle.cp_tree.specs.Reading.{price, IsWhole}
-
--- a tree that has a body
-abbrev pub IsBody : Node → Type 0
-IsBody null = ⊥
-IsBody (cap i) = ⊥
-IsBody other = Unit {0}
-
--- the form of its body
-abbrev pub form_of : Node → Form
-form_of (struct ws ts) = forms.Struct (length ws) (count ts)
-form_of (list es) = forms.List (element_size es) (element_count es)
-form_of (ptrs ts) = forms.List sizes.Pointer (count ts)
-form_of (structs d n bs) = forms.Structs d n (number_of bs)
-form_of other = forms.Structs 0 0 0
-
--- the tree's body stands from word q of segment s on
-abbrev pub Fills : List (List ℕ) → ℕ → ℕ → Node → Type 0
-Fills S s q (struct ws ts) = (ws ≡ words_at S s q (length ws)) × EachDenotes S s (q + length ws) ts
-Fills S s q (list es) = es ≡ elements_of (words_at S s q (words_for (element_size es) (element_count es))) (element_size es) (element_count es)
-Fills S s q (ptrs ts) = EachDenotes S s q ts
-Fills S s q (structs d n bs) = EachBody S s q d n bs
-Fills S s q other = ⊥
 
 -- how deep the tree nests below its body
 abbrev pub inner_depth : Node → ℕ

@@ -3,6 +3,7 @@ pub mod Entries
 pub mod Fills
 pub mod Sound
 pub mod Complete
+pub mod Decided
 pub mod Views
 pub mod Roots
 pub mod Builds

@@ -21,7 +21,8 @@ use Rattle.cp_tree.specs.declared.area.Form.{Form}
 use Rattle.cp_tree.specs.declared.area.Form.TheVariants as forms
 use Rattle.cp_tree.specs.declared.fault.Place.{Place}
 use Rattle.cp_tree.specs.declared.fault.TreeFault.{TreeFault}
-use Rattle.cp_tree.proofs.Fills.{IsBody, form_of, Fills, inner_depth, inner_cost, depth-body, cost-body, denotes_body}
+use Rattle.cp_tree.specs.Fills.{IsBody, form_of, Fills}
+use Rattle.cp_tree.proofs.Fills.{inner_depth, inner_cost, depth-body, cost-body, denotes_body}
 
 -- Tools for steps that may fail.
 pub ok_is : {A : Type 0} {x y : A} → ◌≡◌ {A = Result A TreeFault} (Ok x) (Ok y) → x ≡ y

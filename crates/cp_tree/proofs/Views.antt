@@ -17,7 +17,8 @@ use Rattle.cp_tree.specs.declared.fault.TreeFault.{TreeFault}
 use Rattle.cp_tree.specs.declared.view.Part.{Part}
 use Rattle.cp_tree.specs.declared.view.Part.TheVariants as parts
 use Rattle.cp_tree.proofs.Complete.{complete, fills_read}
-use Rattle.cp_tree.proofs.Fills.{IsBody, form_of, Fills, inner_depth, inner_cost}
+use Rattle.cp_tree.specs.Fills.{IsBody, form_of, Fills}
+use Rattle.cp_tree.proofs.Fills.{inner_depth, inner_cost}
 use Rattle.cp_tree.proofs.Sound.{ReadsBody, elements-made, width, bind_ok, ok_is, within_sound, entered_is}
 
 -- a reading that went well

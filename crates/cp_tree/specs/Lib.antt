@@ -10,6 +10,7 @@ pub mod Parts
 pub mod Shaped
 pub mod Pruned
 pub mod Faults
+pub mod Fills
 pub mod Answers
 pub mod Layout
 pub mod Rows

@@ -6,6 +6,7 @@ mod aim;
 mod area;
 mod check;
 mod copy;
+mod decide;
 mod fault;
 mod read;
 mod tree;

@@ -34,7 +34,7 @@ fn element_of(words: &[u64], width: usize, index: u32) -> u64
 }
 
 /// The first so many bits.
-fn bits_of(alloc: Global, words: &[u64], count: u32) -> Result<Vec<bool>, AllocError>
+pub(crate) fn bits_of(alloc: Global, words: &[u64], count: u32) -> Result<Vec<bool>, AllocError>
     requires { words_for sizes.Bit count ≤ length words.now }
     ensures { IfOk result (λ v. v.items ≡ flags words.now count) }
 {
@@ -46,7 +46,7 @@ fn bits_of(alloc: Global, words: &[u64], count: u32) -> Result<Vec<bool>, AllocE
 }
 
 /// The first so many bytes.
-fn bytes_of(alloc: Global, words: &[u64], count: u32) -> Result<Vec<u8>, AllocError>
+pub(crate) fn bytes_of(alloc: Global, words: &[u64], count: u32) -> Result<Vec<u8>, AllocError>
     requires { words_for sizes.Byte count ≤ length words.now }
     ensures { IfOk result (λ v. v.items ≡ numbers words.now 8 count) }
 {
@@ -58,7 +58,7 @@ fn bytes_of(alloc: Global, words: &[u64], count: u32) -> Result<Vec<u8>, AllocEr
 }
 
 /// The first so many numbers of two bytes.
-fn halves_of(alloc: Global, words: &[u64], count: u32) -> Result<Vec<u16>, AllocError>
+pub(crate) fn halves_of(alloc: Global, words: &[u64], count: u32) -> Result<Vec<u16>, AllocError>
     requires { words_for sizes.TwoBytes count ≤ length words.now }
     ensures { IfOk result (λ v. v.items ≡ numbers words.now 16 count) }
 {
@@ -70,7 +70,7 @@ fn halves_of(alloc: Global, words: &[u64], count: u32) -> Result<Vec<u16>, Alloc
 }
 
 /// The first so many numbers of four bytes.
-fn quads_of(alloc: Global, words: &[u64], count: u32) -> Result<Vec<u32>, AllocError>
+pub(crate) fn quads_of(alloc: Global, words: &[u64], count: u32) -> Result<Vec<u32>, AllocError>
     requires { words_for sizes.FourBytes count ≤ length words.now }
     ensures { IfOk result (λ v. v.items ≡ numbers words.now 32 count) }
 {
@@ -82,7 +82,7 @@ fn quads_of(alloc: Global, words: &[u64], count: u32) -> Result<Vec<u32>, AllocE
 }
 
 /// The first so many words.
-fn words_of(alloc: Global, words: &[u64], count: u32) -> Result<Vec<u64>, AllocError>
+pub(crate) fn words_of(alloc: Global, words: &[u64], count: u32) -> Result<Vec<u64>, AllocError>
     requires { words_for sizes.EightBytes count ≤ length words.now }
     ensures { IfOk result (λ v. v.items ≡ numbers words.now 64 count) }
 {

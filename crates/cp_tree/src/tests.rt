@@ -1,6 +1,7 @@
 //! Messages from outside, read in place and as owned trees.
 
 use super::*;
+use crate::decide::root_denotes;
 use cp_words::{ElementSize, Segments};
 use std::alloc::{AllocError, Global};
 use std::test::Fail;
@@ -19,8 +20,8 @@ fn word(text: &str) -> u64 {
     word.swap_bytes()
 }
 
-/// Segments, each by its words.
-fn segments(alloc: Global, lists: &[&str]) -> Result<Segments, Fail> {
+/// Lists of words.
+fn lists_of(alloc: Global, lists: &[&str]) -> Result<Vec<Vec<u64>>, AllocError> {
     let mut all = Vec::new(alloc);
     for list in lists {
         let mut words = Vec::new(alloc);
@@ -29,6 +30,15 @@ fn segments(alloc: Global, lists: &[&str]) -> Result<Segments, Fail> {
         }
         all.push(words)?;
     }
+    Ok(all)
+}
+
+/// Segments, each by its words. A growth that is refused once is asked for again.
+fn segments(alloc: Global, lists: &[&str]) -> Result<Segments, Fail> {
+    let all = match lists_of(alloc, lists) {
+        Ok(all) => all,
+        Err(_) => lists_of(alloc, lists)?,
+    };
     match Segments::new(all) {
         Ok(segments) => Ok(segments),
         Err(_) => Err(Fail::from("no segment")),
@@ -47,9 +57,9 @@ fn read(
     let in_place = View::root(&segments, limits).map(|_| ());
     let owned = read_root(alloc, &segments, limits);
     match (&in_place, &owned) {
-        (Ok(()), Ok(_)) => Ok(owned),
+        (Ok(()), Ok(found)) if root_denotes(alloc, &segments, found.tree())? => Ok(owned),
         (Err(a), Err(b)) if *a == *b => Ok(owned),
-        _ => Err(Fail::from("the view and the owned tree disagree")),
+        _ => Err(Fail::from("the view, the owned tree and the relation disagree")),
     }
 }
 
@@ -313,5 +323,100 @@ fn amplified_input_costs_what_it_denotes(rt: HostRuntime) -> Result<(), Fail> {
     assert_eq!(rt; found.err(), Some(TreeFault::TraversalLimit(at(0, 117))));
     let found = read(alloc, &[text.as_str()], 64, 100)?;
     assert_eq!(rt; found.err(), Some(TreeFault::TraversalLimit(at(0, 64))));
+    Ok(())
+}
+
+/// Words of every kind: structs of two sizes, an empty one before its word, one that has itself,
+/// lists of pointers, bytes and structs, a capability, and far pointers by one word and by two.
+const KINDS: [&str; 11] = [
+    "0000000000000000",
+    "0000000000000100",
+    "0000000001000000",
+    "fcffffff00000000",
+    "fcffffff00000100",
+    "010000000e000000",
+    "010000000a000000",
+    "0100000007000000",
+    "0300000005000000",
+    "0a00000000000000",
+    "0600000000000000",
+];
+
+/// All messages of one segment of three such words.
+fn small_messages(alloc: Global) -> Result<Vec<Segments>, Fail> {
+    let mut all = Vec::new(alloc);
+    for first in KINDS {
+        for second in KINDS {
+            for third in KINDS {
+                let text = format!(in alloc; "{first} {second} {third}")?;
+                all.push(segments(alloc, &[text.as_str()])?)?;
+            }
+        }
+    }
+    Ok(all)
+}
+
+/// The trees that the reader finds in the messages, each once.
+fn trees_of(alloc: Global, messages: &[Segments]) -> Result<Vec<Object>, AllocError> {
+    let mut trees: Vec<Object> = Vec::new(alloc);
+    for message in messages {
+        if let Ok(found) = read_root(alloc, message, Limits::standard()) {
+            if !trees.iter().any(|tree| *tree.tree() == *found.tree()) {
+                trees.push(found)?;
+            }
+        }
+    }
+    Ok(trees)
+}
+
+#[test]
+fn the_reader_finds_what_is_denoted(rt: HostRuntime) -> Result<(), Fail> {
+    let alloc = rt.alloc();
+    let messages = small_messages(alloc)?;
+    let trees = trees_of(alloc, &messages)?;
+    assert!(rt; trees.len() > 20);
+    for message in &messages {
+        let found = read_root(alloc, message, Limits::standard());
+        for tree in &trees {
+            let is_found = match &found {
+                Ok(found) => *found.tree() == *tree.tree(),
+                Err(_) => false,
+            };
+            assert_eq!(rt; root_denotes(alloc, message, tree.tree())?, is_found);
+        }
+    }
+    Ok(())
+}
+
+// With memory enough no growth is refused. `rt try --test --fail-alloc N` refuses the Nth.
+#[test]
+fn want_of_memory_is_told_and_changes_nothing(rt: HostRuntime) -> Result<(), Fail> {
+    let alloc = rt.alloc();
+    let rows: [&[&str]; 6] = [
+        &[FINISH],
+        &[
+            "0600000001000000",
+            "0200000002000000 0000000001000100",
+            "0400000000000000 0000000001000000 0700000000000000",
+        ],
+        &["0000000000000100 0100000021000000 0a00000000000000"],
+        &["0000000000000100 010000000a000000 ab00000000000000"],
+        &["0000000000000100 0100000016000000 0000000000000000 0300000009000000"],
+        &[
+            "0000000000000100 0100000027000000 0800000001000100 \
+            0700000000000000 0000000000000000 0800000000000000 0300000002000000",
+        ],
+    ];
+    for lists in rows {
+        let segments = segments(alloc, lists)?;
+        let first = read_root(alloc, &segments, Limits::standard());
+        let second = read_root(alloc, &segments, Limits::standard());
+        let same = match (&first, &second) {
+            (Ok(first), Ok(second)) => *first.tree() == *second.tree(),
+            (Err(fault), Ok(_)) | (Ok(_), Err(fault)) => *fault == TreeFault::OutOfMemory,
+            (Err(_), Err(_)) => false,
+        };
+        assert!(rt; same);
+    }
     Ok(())
 }

@@ -156,7 +156,7 @@ fn form_shape(form: Form) -> Shape
 }
 
 /// So many words of a segment.
-fn words_at(lists: &[Vec<u64>], list: usize, start: usize, count: usize) -> &[u64]
+pub(crate) fn words_at(lists: &[Vec<u64>], list: usize, start: usize, count: usize) -> &[u64]
     requires exists { list < length lists.now }
     requires within { start + count ≤ length (segment (words_of lists.now) list) }
     ensures { result.now ≡ words_at (words_of lists.now) list start count }
