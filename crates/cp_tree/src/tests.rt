@@ -22,9 +22,9 @@ fn word(text: &str) -> u64 {
 
 /// Lists of words.
 fn lists_of(alloc: Global, lists: &[&str]) -> Result<Vec<Vec<u64>>, AllocError> {
-    let mut all = Vec::new(alloc);
+    let mut all = Vec::with_capacity(alloc, lists.len())?;
     for list in lists {
-        let mut words = Vec::new(alloc);
+        let mut words = Vec::with_capacity(alloc, list.len() / 16)?;
         for text in list.split_whitespace() {
             words.push(word(text))?;
         }
@@ -289,7 +289,7 @@ fn faults_have_their_places(rt: HostRuntime) -> Result<(), Fail> {
 
 /// So many nested structs of one pointer, then a null pointer.
 fn nested(alloc: Global, depth: usize) -> Result<String, AllocError> {
-    let mut text = String::new(alloc);
+    let mut text = String::with_capacity(alloc, 2_048)?;
     for _ in 0..depth {
         text.push_str("0000000000000100 ")?;
     }
@@ -388,35 +388,86 @@ fn the_reader_finds_what_is_denoted(rt: HostRuntime) -> Result<(), Fail> {
     Ok(())
 }
 
-// With memory enough no growth is refused. `rt try --test --fail-alloc N` refuses the Nth.
+/// Whether reading these segments twice gives the same tree, or once that memory ran out.
+fn reads_again(alloc: Global, lists: &[&str], limits: Limits) -> Result<bool, Fail> {
+    let segments = segments(alloc, lists)?;
+    let first = read_root(alloc, &segments, limits);
+    let second = read_root(alloc, &segments, limits);
+    Ok(match (&first, &second) {
+        (Ok(first), Ok(second)) => *first.tree() == *second.tree(),
+        (Err(fault), Ok(_)) | (Ok(_), Err(fault)) => *fault == TreeFault::OutOfMemory,
+        (Err(_), Err(_)) => false,
+    })
+}
+
+// With memory enough no growth is refused. `rt try --test --fail-alloc N` refuses the Nth of each
+// of the five tests below.
 #[test]
-fn want_of_memory_is_told_and_changes_nothing(rt: HostRuntime) -> Result<(), Fail> {
+fn want_of_memory_for_a_message(rt: HostRuntime) -> Result<(), Fail> {
     let alloc = rt.alloc();
-    let rows: [&[&str]; 6] = [
-        &[FINISH],
-        &[
-            "0600000001000000",
-            "0200000002000000 0000000001000100",
-            "0400000000000000 0000000001000000 0700000000000000",
-        ],
-        &["0000000000000100 0100000021000000 0a00000000000000"],
-        &["0000000000000100 010000000a000000 ab00000000000000"],
-        &["0000000000000100 0100000016000000 0000000000000000 0300000009000000"],
-        &[
-            "0000000000000100 0100000027000000 0800000001000100 \
-            0700000000000000 0000000000000000 0800000000000000 0300000002000000",
-        ],
+    assert!(rt; reads_again(alloc, &[FINISH], Limits::standard())?);
+    assert!(rt; reads_again(alloc, &["0200000001000000", FINISH], Limits::standard())?);
+    Ok(())
+}
+
+#[test]
+fn want_of_memory_behind_two_words(rt: HostRuntime) -> Result<(), Fail> {
+    let alloc = rt.alloc();
+    let by_two = [
+        "0600000001000000",
+        "0200000002000000 0000000001000100",
+        "0400000000000000 0000000001000000 0700000000000000",
     ];
-    for lists in rows {
-        let segments = segments(alloc, lists)?;
-        let first = read_root(alloc, &segments, Limits::standard());
-        let second = read_root(alloc, &segments, Limits::standard());
-        let same = match (&first, &second) {
-            (Ok(first), Ok(second)) => *first.tree() == *second.tree(),
-            (Err(fault), Ok(_)) | (Ok(_), Err(fault)) => *fault == TreeFault::OutOfMemory,
-            (Err(_), Err(_)) => false,
+    assert!(rt; reads_again(alloc, &by_two, Limits::standard())?);
+    let zero_bits = ["0600000001000000", "0200000002000000 0000000000000000", ""];
+    assert!(rt; reads_again(alloc, &zero_bits, Limits::standard())?);
+    Ok(())
+}
+
+#[test]
+fn want_of_memory_for_lists(rt: HostRuntime) -> Result<(), Fail> {
+    let alloc = rt.alloc();
+    for list in [
+        "0100000048000000",
+        "0100000021000000",
+        "010000000a000000",
+        "0100000013000000",
+        "010000000c000000",
+        "010000000d000000",
+    ] {
+        let text = format!(in alloc; "0000000000000100 {list} 0500000000000000");
+        let text = match text {
+            Ok(text) => text,
+            Err(_) => format!(in alloc; "0000000000000100 {list} 0500000000000000")?,
         };
-        assert!(rt; same);
+        assert!(rt;
+            reads_again(alloc, &[text.as_str()], Limits::standard())?,
+            "{list}"
+        );
     }
+    Ok(())
+}
+
+#[test]
+fn want_of_memory_for_lists_of_pointers_and_structs(rt: HostRuntime) -> Result<(), Fail> {
+    let alloc = rt.alloc();
+    let pointers = "0000000000000100 0100000016000000 0000000000000000 0300000009000000";
+    assert!(rt; reads_again(alloc, &[pointers], Limits::standard())?);
+    let structs = "0000000000000100 0100000027000000 0800000001000100 \
+        0700000000000000 0000000000000000 0800000000000000 0300000002000000";
+    assert!(rt; reads_again(alloc, &[structs], Limits::standard())?);
+    let shared = "0000000000000200 0400000001000000 0000000001000000 0500000000000000";
+    assert!(rt; reads_again(alloc, &[shared], Limits::standard())?);
+    Ok(())
+}
+
+#[test]
+fn want_of_memory_for_nested_structs(rt: HostRuntime) -> Result<(), Fail> {
+    let alloc = rt.alloc();
+    let text = match nested(alloc, 64) {
+        Ok(text) => text,
+        Err(_) => nested(alloc, 64)?,
+    };
+    assert!(rt; reads_again(alloc, &[text.as_str()], Limits::standard())?);
     Ok(())
 }
