@@ -5,6 +5,7 @@ use Rattle.cp_tree.specs.Node.{Node, null, cap, struct, list, ptrs, structs, Nod
 use Rattle.cp_tree.specs.NodeOf.{nodes_of, bodies_of}
 use Rattle.cp_tree.specs.Rows.{row_of, bodies_in}
 use Rattle.cp_tree.specs.Seen.{shape_of, node_at, body_at, part_of}
+use Rattle.cp_tree.specs.Visited.{pointers, pointers_of_row, pointers_of_bodies}
 use Rattle.cp_tree.specs.declared.view.Shape.TheVariants as shapes
 
 abbrev pub trees_of : Nodes → List Node
@@ -134,3 +135,59 @@ struct-shape (structs d n bs) s = absurd s
 
 pub pointers-shape : (t : Node) (d n : ℕ) → IsStruct t → shapes.Struct d n ≡ shape_of t → count (row_of t) ≡ n
 pointers-shape t d n s e = let k = struct-shape t s in let same : shapes.Struct d n ≡ shapes.Struct k.0 (count (row_of t)) = e ∙ k.1 in cc
+
+-- the words visited to build the first so many trees of a row
+abbrev pub first_pointers : Nodes → ℕ → ℕ
+first_pointers no_nodes i = 0
+first_pointers (node t ts) zero = 0
+first_pointers (node t ts) (suc i) = 1 + pointers t + first_pointers ts i
+
+pub no_pointers : (ts : Nodes) → first_pointers ts 0 ≡ 0
+no_pointers no_nodes = refl
+no_pointers (node t ts) = refl
+
+next_pointers : (ts : Nodes) (i : ℕ) → i < count ts → first_pointers ts (suc i) ≡ first_pointers ts i + 1 + pointers (node_at ts i)
+next_pointers no_nodes i within = absurd (omega arith)
+next_pointers (node t ts) zero within = omega (arith, no_pointers ts)
+next_pointers (node t ts) (suc i) within = omega (arith, next_pointers ts i (omega arith))
+
+pub more_pointers : (ts : Nodes) (i : ℕ) → i < count ts → first_pointers ts (i + 1) ≡ first_pointers ts i + 1 + pointers (node_at ts i)
+more_pointers ts i within = let e : i + 1 ≡ suc i = omega arith in rw e (next_pointers ts i within)
+
+pub all_pointers : (ts : Nodes) (i : ℕ) → count ts ≤ i → first_pointers ts i ≡ pointers_of_row ts
+all_pointers no_nodes i end = refl
+all_pointers (node t ts) zero end = absurd (omega arith)
+all_pointers (node t ts) (suc i) end = omega (arith, all_pointers ts i (omega arith))
+
+pub few_pointers : (ts : Nodes) (i : ℕ) → first_pointers ts i ≤ pointers_of_row ts
+few_pointers no_nodes i = omega arith
+few_pointers (node t ts) zero = omega arith
+few_pointers (node t ts) (suc i) = omega (arith, few_pointers ts i)
+
+-- the same for the first elements of a composite list
+abbrev pub first_elements : Bodies → ℕ → ℕ
+first_elements no_bodies i = 0
+first_elements (body ws ts bs) zero = 0
+first_elements (body ws ts bs) (suc i) = pointers_of_row ts + first_elements bs i
+
+pub no_elements : (bs : Bodies) → first_elements bs 0 ≡ 0
+no_elements no_bodies = refl
+no_elements (body ws ts bs) = refl
+
+next_elements : (bs : Bodies) (i : ℕ) → i < number_of bs → first_elements bs (suc i) ≡ first_elements bs i + pointers (body_at bs i)
+next_elements no_bodies i within = absurd (omega arith)
+next_elements (body ws ts bs) zero within = omega (arith, no_elements bs)
+next_elements (body ws ts bs) (suc i) within = omega (arith, next_elements bs i (omega arith))
+
+pub more_elements : (bs : Bodies) (i : ℕ) → i < number_of bs → first_elements bs (i + 1) ≡ first_elements bs i + pointers (body_at bs i)
+more_elements bs i within = let e : i + 1 ≡ suc i = omega arith in rw e (next_elements bs i within)
+
+pub all_elements : (bs : Bodies) (i : ℕ) → number_of bs ≤ i → first_elements bs i ≡ pointers_of_bodies bs
+all_elements no_bodies i end = refl
+all_elements (body ws ts bs) zero end = absurd (omega arith)
+all_elements (body ws ts bs) (suc i) end = omega (arith, all_elements bs i (omega arith))
+
+pub few_elements : (bs : Bodies) (i : ℕ) → first_elements bs i ≤ pointers_of_bodies bs
+few_elements no_bodies i = omega arith
+few_elements (body ws ts bs) zero = omega arith
+few_elements (body ws ts bs) (suc i) = omega (arith, few_elements bs i)

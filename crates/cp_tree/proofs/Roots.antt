@@ -8,7 +8,8 @@ use Rattle.cp_words.specs.declared.pointer.Pointer.TheVariants as pointers
 use Rattle.cp_tree.specs.Node.{Node, null, cap, struct, list, ptrs, structs, count, IsStruct}
 use Rattle.cp_tree.specs.Aims.{segment, Aims}
 use Rattle.cp_tree.specs.Denotes.{Root}
-use Rattle.cp_tree.specs.Reading.{◌>>=◌, Read, Kids, left_of, aim_by, area_by, area_by_kind, placed, in_segment, entered, filled, body_by, tree_at, kids_at, rooted, root_by, root_of, top}
+use Rattle.cp_tree.specs.Reading.{◌>>=◌, Read, Kids, aim_by, area_by, area_by_kind, placed, in_segment, entered, filled, body_by, tree_at, kids_at, rooted, root_by, root_of, top}
+use Rattle.cp_tree.specs.Visited.{passed}
 use Rattle.cp_tree.specs.declared.aim.Aim.{Aim}
 use Rattle.cp_tree.specs.declared.aim.Kind.{Kind}
 use Rattle.cp_tree.specs.declared.aim.Kind.TheVariants as kinds
@@ -111,11 +112,15 @@ module _ (n b : ℕ) (S : List (List ℕ)) where
       rw (some, a.1) (root_led a.0 aim a.2 ∙ ap (λ q. q >>= λ x. Ok x.0) (sym same ∙ read))
 
 -- What a check left was read.
-pub read_left : {A : Type 0} (r : Read A) (left : ℕ) → left_of r ≡ Ok left → (x : A) × (r ≡ Ok (x, left))
-read_left (Ok x) left e = let is : x.1 ≡ left = ok_is e in (x.0, rw (← is) refl)
-read_left (Err d) left e = cc
+pub read_left : {A : Type 0} (visited : A → ℕ) (before left visits : ℕ) (r : Read A) → passed visited before r ≡ Ok (left, visits) → (x : A) × (r ≡ Ok (x, left)) × (visits ≡ before + visited x)
+read_left visited before left visits (Ok x) e =
+    let is : (x.1, before + visited x.0) ≡ (left, visits) = ok_is e in
+    let l : x.1 ≡ left = ap (λ p. p.0) is in
+    let v : before + visited x.0 ≡ visits = ap (λ p. p.1) is in
+    (x.0, rw (← l) refl, sym v)
+read_left visited before left visits (Err d) e = cc
 
 -- a fault of a check is one of reading
-pub read_fault : {A : Type 0} (r : Read A) (d : TreeFault) → left_of r ≡ Err d → r ≡ Err d
-read_fault (Ok x) d e = cc
-read_fault (Err c) d e = let is : c ≡ d = cc in rw is refl
+pub read_fault : {A : Type 0} (visited : A → ℕ) (before : ℕ) (r : Read A) (d : TreeFault) → passed visited before r ≡ Err d → r ≡ Err d
+read_fault visited before (Ok x) d e = cc
+read_fault visited before (Err c) d e = let is : c ≡ d = cc in rw is refl

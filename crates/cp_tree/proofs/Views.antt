@@ -7,7 +7,7 @@ use Rattle.cp_tree.specs.Node.{voids, Node, null, cap, struct, list, ptrs, struc
 use Rattle.cp_tree.specs.Aims.{segment}
 use Rattle.cp_tree.specs.Denotes.{words_at, EachDenotes, EachBody}
 use Rattle.cp_tree.specs.Parts.{form_shape_of, part_node, IsPart}
-use Rattle.cp_tree.specs.Reading.{Read, Kids, entered, filled, bodies_by, price, body_words, lent_words, IsWhole, IsWithin, body_by, kids_at, rows_at, most_nesting, most_traversal, node_in, tree_read, area_read}
+use Rattle.cp_tree.specs.Reading.{Read, Kids, entered, filled, bodies_by, price, body_words, lent_words, IsWhole, IsWithin, IsRootArea, top, body_by, kids_at, rows_at, most_nesting, most_traversal, node_in, tree_read, area_read}
 use Rattle.cp_tree.specs.Seen.{shape_of, node_at, body_at, part_of, AreWordsOf}
 use Rattle.cp_tree.specs.declared.area.Area.{Area}
 use Rattle.cp_tree.specs.declared.area.Form.{Form}
@@ -52,6 +52,11 @@ body_again S at (suc m) left a x deep dear w e =
     let b = within_sound m S a.segment a.start into.0.1 a.form x w.1 w.2 read in
     let again = fills_read x.0 most_nesting S a.segment a.start most_traversal b.fills (omega (arith, b.nests)) (omega (arith, b.costs, paid.1)) in
     subst (λ f. filled (rows_at most_nesting S) S f a.segment a.start most_traversal ≡ Ok (x.0, most_traversal - inner_cost x.0)) b.form again
+
+-- the root's body is read within the greatest limits too
+pub root_again : (n b : ℕ) (S : List (List ℕ)) (a : Area) (r : IsRootArea n b S a) → n ≤ 256 → b ≤ 67108864 → area_read S a ≡ Ok (r.tree, most_traversal - inner_cost r.tree)
+unfolding most_nesting most_traversal
+root_again n b S a r deep dear = body_again S top n b a (r.tree, r.left) deep dear r.within r.body
 
 pub node_at-past : (ts : Nodes) (i : ℕ) → count ts ≤ i → node_at ts i ≡ null
 node_at-past no_nodes i past = refl

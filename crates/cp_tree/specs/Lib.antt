@@ -6,6 +6,7 @@ pub mod Code
 pub mod Aims
 pub mod Denotes
 pub mod Reading
+pub mod Visited
 pub mod Parts
 pub mod Shaped
 pub mod Pruned

@@ -27,16 +27,6 @@ abbrev pub ◌>>=◌ : {A B : Type 0} → Result A TreeFault → (A → Result B
 abbrev pub Read : Type 0 → Type 0
 Read A = Result (A × ℕ) TreeFault
 
--- what is left, where something was read
-abbrev pub left_of : {A : Type 0} → Read A → Result ℕ TreeFault
-left_of (Ok x) = Ok x.1
-left_of (Err e) = Err e
-
--- what a check answers: what is left after it, or its fault
-abbrev pub left_after : Result (Unit {0}) TreeFault → ℕ → Result ℕ TreeFault
-left_after (Ok done) left = Ok left
-left_after (Err e) left = Err e
-
 -- where a body begins, unless that is before its segment
 abbrev pub start_of : ℕ → ℤ → Option ℕ
 start_of p (pos n) = Some (p + 1 + n)

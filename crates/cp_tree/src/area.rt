@@ -1,6 +1,6 @@
 //! Bodies, and where they lie.
 
-ghost use Rattle.std.specs.Prelude.{◌≡◌, ◌<◌, ◌≤◌, ◌+◌, ◌*◌, ◌^◌, length, Some, IfSome, IfOk, IfErr, Ok, Err, slice_index};
+ghost use Rattle.std.specs.Prelude.{◌≡◌, ◌<◌, ◌≤◌, ◌+◌, ◌*◌, ◌^◌, length, Some, IfSome, IfOk, IfErr, OnOk, OnErr, Ok, Err, slice_index};
 ghost use Rattle.cp_words.specs.Word.{tag_of, words_for};
 ghost use Rattle.cp_tree.specs.Aims.{segment};
 ghost use Rattle.cp_tree.specs.NodeOf.{words_of};
@@ -140,8 +140,10 @@ pub(crate) fn area_of(lists: &[Vec<u64>], at: Place, aim: Aim) -> Result<Area, T
 /// left.
 pub(crate) fn pay(at: Place, depth: u32, price: u64, left: &mut u64) -> Result<(), TreeFault>
     ensures paid { IfOk result (λ _. toll at depth price left.old ≡ Ok left.new) }
+    ensures cost { OnOk result (left.new + price ≡ left.old) }
     ensures deep { IfOk result (λ _. 0 < depth) }
     ensures refused { IfErr result (λ e. toll at depth price left.old ≡ Err e) }
+    ensures kept { OnErr result (left.new ≡ left.old) }
 {
     if depth == 0 {
         return Err(TreeFault::NestingLimit(at));

@@ -2,62 +2,78 @@
 
 ghost use Rattle.std.specs.Prelude.{◌≡◌, ◌<◌, ◌≤◌, ◌+◌, ◌*◌, ◌^◌, List, ℕ, length, Some, Ok, Err, IfOk, IfErr, slice_index};
 ghost use Rattle.cp_tree.specs.Aims.{segment};
+ghost use Rattle.cp_tree.specs.Node.{Node};
 ghost use Rattle.cp_tree.specs.NodeOf.{words_of};
-ghost use Rattle.cp_tree.specs.Reading.{left_of, left_after, body_by, filled, bodies_by, kids_at, tree_at, rows_at, root_of, body_words, IsRootArea, IsWithin};
+ghost use Rattle.cp_tree.specs.Reading.{body_by, filled, price, bodies_by, kids_at, tree_at, rows_at, root_of, body_words, IsRootArea, IsWithin};
+ghost use Rattle.cp_tree.specs.Visited.{passed, answered, pointers, pointers_of_row, pointers_of_bodies};
 
 use crate::aim::{Kind, aim_of, pointer_at, pointer_in, segment_at};
 use crate::area::{Area, Form, area_of, pay};
 use crate::fault::{Place, TreeFault};
+use crate::visits::Visits;
 use cp_words::{ElementSize, Pointer};
+use std::sync::ledger::Ledger;
 
 /// Checks what hangs on one pointer word.
 #[cycle(check)]
-pub(crate) fn check_word(
+pub(crate) fn check_word<L: Ledger>(
     lists: &[Vec<u64>],
     at: Place,
     word: u64,
     depth: u32,
     left: &mut u64,
+    visits: &mut Visits<L>,
 ) -> Result<(), TreeFault>
     requires exists { at.segment < length lists.now }
     requires stands { word ≡ slice_index (segment (words_of lists.now) at.segment) at.word }
     requires small { at.word < 2 ^ 63 }
-    ensures { left_of (tree_at depth (words_of lists.now) at.segment at.word left.old) ≡ left_after result left.new }
+    ensures told { passed pointers (visits.old + 1) (tree_at depth (words_of lists.now) at.segment at.word left.old) ≡ answered result left.new visits.new }
+    ensures few { visits.new + left.new ≤ visits.old + 1 + left.old }
 {
+    visits.tick();
     match pointer_in(word) {
         None => Err(TreeFault::BadCapability(at)),
         Some(Pointer::Null | Pointer::Cap(_)) => Ok(()),
         Some(pointer) => {
             let aim = aim_of(lists, at, pointer)?;
             let area = area_of(lists, at, aim)?;
-            check_body(lists, at, area, depth, left)
+            check_body(lists, at, area, depth, left, visits)
         }
     }
 }
 
 /// Checks a body and what hangs on it.
 #[cycle(check)]
-pub(crate) fn check_body(
+pub(crate) fn check_body<L: Ledger>(
     lists: &[Vec<u64>],
     at: Place,
     area: Area,
     depth: u32,
     left: &mut u64,
+    visits: &mut Visits<L>,
 ) -> Result<(), TreeFault>
     requires within { IsWithin (words_of lists.now) area }
     requires small { area.start + body_words area.form < 2 ^ 63 }
-    ensures { left_of (body_by at (kids_at depth (words_of lists.now)) (words_of lists.now) left.old area) ≡ left_after result left.new }
+    ensures told { passed pointers visits.old (body_by at (kids_at depth (words_of lists.now)) (words_of lists.now) left.old area) ≡ answered result left.new visits.new }
+    ensures few { visits.new + left.new ≤ visits.old + left.old }
 {
     pay(at, depth, area.form.price(), left)?;
-    check_parts(lists, area, depth - 1, left)
+    check_parts(lists, area, depth - 1, left, visits)
 }
 
 /// Checks the pointers of a body.
 #[cycle(check)]
-fn check_parts(lists: &[Vec<u64>], area: Area, depth: u32, left: &mut u64) -> Result<(), TreeFault>
+fn check_parts<L: Ledger>(
+    lists: &[Vec<u64>],
+    area: Area,
+    depth: u32,
+    left: &mut u64,
+    visits: &mut Visits<L>,
+) -> Result<(), TreeFault>
     requires within { IsWithin (words_of lists.now) area }
     requires small { area.start + body_words area.form < 2 ^ 63 }
-    ensures { left_of (filled (rows_at depth (words_of lists.now)) (words_of lists.now) area.form area.segment area.start left.old) ≡ left_after result left.new }
+    ensures told { passed pointers visits.old (filled (rows_at depth (words_of lists.now)) (words_of lists.now) area.form area.segment area.start left.old) ≡ answered result left.new visits.new }
+    ensures few { visits.new + left.new < visits.old + price area.form + left.old }
 {
     let first = Place {
         segment: area.segment,
@@ -69,22 +85,22 @@ fn check_parts(lists: &[Vec<u64>], area: Area, depth: u32, left: &mut u64) -> Re
                 segment: area.segment,
                 word: area.start + words as usize,
             };
-            check_row(lists, first, ptrs as usize, depth, left)
+            check_row(lists, first, ptrs as usize, depth, left, visits)
         }
         Form::List {
             size: ElementSize::Pointer,
             count,
-        } => check_row(lists, first, count as usize, depth, left),
+        } => check_row(lists, first, count as usize, depth, left, visits),
         Form::List { .. } => Ok(()),
         Form::Structs { words, ptrs, count } => {
-            check_elements(lists, first, words, ptrs, count, depth, left)
+            check_elements(lists, first, words, ptrs, count, depth, left, visits)
         }
     }
 }
 
 /// Checks the pointers of a composite list's elements.
 #[cycle(check)]
-fn check_elements(
+fn check_elements<L: Ledger>(
     lists: &[Vec<u64>],
     first: Place,
     words: u16,
@@ -92,11 +108,13 @@ fn check_elements(
     count: u32,
     depth: u32,
     left: &mut u64,
+    visits: &mut Visits<L>,
 ) -> Result<(), TreeFault>
     requires exists { first.segment < length lists.now }
     requires within { first.word + count * (words + ptrs) ≤ length (segment (words_of lists.now) first.segment) }
     requires small { first.word + count * (words + ptrs) < 2 ^ 63 }
-    ensures { left_of (bodies_by (rows_at depth (words_of lists.now) first.segment) (words_of lists.now) first.segment words ptrs count first.word left.old) ≡ left_after result left.new }
+    ensures told { passed pointers_of_bodies visits.old (bodies_by (rows_at depth (words_of lists.now) first.segment) (words_of lists.now) first.segment words ptrs count first.word left.old) ≡ answered result left.new visits.new }
+    ensures few { visits.new + left.new ≤ visits.old + count * (words + ptrs) + left.old }
 {
     if ptrs == 0 {
         return Ok(());
@@ -107,7 +125,7 @@ fn check_elements(
             segment: first.segment,
             word: start + words as usize,
         };
-        check_row(lists, row, ptrs as usize, depth, left)?;
+        check_row(lists, row, ptrs as usize, depth, left, visits)?;
         start = row.word + ptrs as usize;
     }
     Ok(())
@@ -115,17 +133,19 @@ fn check_elements(
 
 /// Checks the pointer words from `first` on.
 #[cycle(check)]
-fn check_row(
+fn check_row<L: Ledger>(
     lists: &[Vec<u64>],
     first: Place,
     count: usize,
     depth: u32,
     left: &mut u64,
+    visits: &mut Visits<L>,
 ) -> Result<(), TreeFault>
     requires exists { first.segment < length lists.now }
     requires within { first.word + count ≤ length (segment (words_of lists.now) first.segment) }
     requires small { first.word + count < 2 ^ 63 }
-    ensures { left_of (rows_at depth (words_of lists.now) first.segment count first.word left.old) ≡ left_after result left.new }
+    ensures told { passed pointers_of_row visits.old (rows_at depth (words_of lists.now) first.segment count first.word left.old) ≡ answered result left.new visits.new }
+    ensures few { visits.new + left.new ≤ visits.old + count + left.old }
 {
     let words = &segment_at(lists, first.segment)[first.word..first.word + count];
     for (i, word) in words.iter().enumerate() {
@@ -133,7 +153,7 @@ fn check_row(
             segment: first.segment,
             word: first.word + i,
         };
-        check_word(lists, at, *word, depth, left)?;
+        check_word(lists, at, *word, depth, left, visits)?;
     }
     Ok(())
 }
@@ -146,19 +166,23 @@ const TOP: Place = Place {
 
 /// Checks the root struct and what hangs on it.
 #[tactic(auto, unfolding(crate::specs::Reading::root_of))]
-pub(crate) fn check_root(
+pub(crate) fn check_root<L: Ledger>(
     lists: &[Vec<u64>],
     nesting: u32,
     traversal: u32,
+    visits: &mut Visits<L>,
 ) -> Result<Area, TreeFault>
     requires { 0 < length lists.now }
     ensures fault { IfErr result (λ e. root_of nesting traversal (words_of lists.now) ≡ Err e) }
     ensures read { IfOk result (λ a. IsRootArea nesting traversal (words_of lists.now) a) }
     ensures small { IfOk result (λ a. a.start + body_words a.form < 2 ^ 63) }
+    ensures exact { IfOk result (λ a. (t : Node) → root_of nesting traversal (words_of lists.now) ≡ Ok t → visits.new ≡ visits.old + 1 + pointers t) }
+    ensures few { visits.new ≤ visits.old + 1 + traversal }
 {
     if segment_at(lists, 0).is_empty() {
         return Err(TreeFault::NoRoot(TOP));
     }
+    visits.tick();
     match pointer_at(lists, TOP) {
         None => Err(TreeFault::BadCapability(TOP)),
         Some(Pointer::Null) => Err(TreeFault::NoRoot(TOP)),
@@ -170,7 +194,7 @@ pub(crate) fn check_root(
             };
             let area = area_of(lists, TOP, aim)?;
             let mut left = traversal as u64;
-            check_body(lists, TOP, area, nesting, &mut left)?;
+            check_body(lists, TOP, area, nesting, &mut left, visits)?;
             Ok(area)
         }
     }

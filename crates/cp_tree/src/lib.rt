@@ -11,13 +11,15 @@ mod fault;
 mod read;
 mod tree;
 mod view;
+mod visits;
 mod whole;
 
 pub use cp_words::Limits;
 pub use fault::{Place, TreeFault};
-pub use read::read_root;
+pub use read::{read_counted, read_root};
 pub use tree::{Body, Tree};
 pub use view::{Shape, View};
+pub use visits::Visits;
 pub use whole::{Object, Whole};
 
 #[cfg(test)]

@@ -1,6 +1,6 @@
 //! Owned trees, built from views.
 
-ghost use Rattle.std.specs.Prelude.{◌≡◌, ◌<◌, ◌≤◌, ◌+◌, ◌*◌, ◌/◌, ◌^◌, map, length, IfOk, IfErr};
+ghost use Rattle.std.specs.Prelude.{◌≡◌, ◌<◌, ◌≤◌, ◌+◌, ◌*◌, ◌/◌, ◌^◌, map, length, IfOk, IfErr, OnOk, ◌≢◌};
 ghost use Rattle.cp_words.specs.Word.{words_for};
 ghost use Rattle.cp_words.specs.declared.pointer.ElementSize.TheVariants as sizes;
 ghost use Rattle.cp_tree.specs.Answers.{Answers, IsRefusalOf};
@@ -8,13 +8,18 @@ ghost use Rattle.cp_tree.specs.Denotes.{element, numbers, flags, elements_of, Ro
 ghost use Rattle.cp_tree.specs.Node.{Node, IsStruct, struct, list, count, number_of};
 ghost use Rattle.cp_tree.specs.NodeOf.{node_of, body_of, nodes_of, bodies_of};
 ghost use Rattle.cp_tree.specs.Rows.{row_of, bodies_in, IsData};
+ghost use Rattle.cp_tree.specs.Visited.{pointers, pointers_of_row, pointers_of_bodies};
+ghost use Rattle.cp_tree.specs.declared.fault.TreeFault.TheVariants.{OutOfMemory};
 
 use crate::fault::TreeFault;
 use crate::tree::{Body, Tree};
-use crate::view::{Shape, View};
+use crate::view::{Shape, View, root_counted};
+use crate::visits::Visits;
 use crate::whole::{Object, Whole};
 use cp_words::{ElementSize, Limits, Segments};
 use std::alloc::{AllocError, Global};
+use std::marker::Brand;
+use std::sync::ledger::{Blank, Ledger};
 
 /// Element `index`, of so many bits.
 fn element_of(words: &[u64], width: usize, index: u32) -> u64
@@ -113,55 +118,79 @@ fn list_of(alloc: Global, words: &[u64], size: ElementSize, count: u32) -> Resul
 
 /// The tree that is viewed.
 #[cycle(build)]
-fn build(alloc: Global, view: &View) -> Result<Tree, AllocError>
-    ensures { IfOk result (λ t. node_of t ≡ view.now) }
+fn build<L: Ledger>(alloc: Global, view: &View, visits: &mut Visits<L>) -> Result<Tree, AllocError>
+    ensures tree { IfOk result (λ t. node_of t ≡ view.now) }
+    ensures exact { OnOk result (visits.new ≡ visits.old + pointers view.now) }
+    ensures few { visits.new ≤ visits.old + pointers view.now }
 {
     match view.shape() {
         Shape::Null => Ok(Tree::Null),
         Shape::Cap(index) => Ok(Tree::Cap(index)),
-        Shape::Struct { ptrs, .. } => Ok(Tree::Struct(build_body(alloc, view, ptrs)?)),
+        Shape::Struct { ptrs, .. } => Ok(Tree::Struct(build_body(alloc, view, ptrs, visits)?)),
         Shape::List { size, count } => match size {
-            ElementSize::Pointer => Ok(Tree::Ptrs(build_row(alloc, view, count)?)),
+            ElementSize::Pointer => Ok(Tree::Ptrs(build_row(alloc, view, count, visits)?)),
             _ => list_of(alloc, view.words(), size, count),
         },
         Shape::Structs { words, ptrs, count } => Ok(Tree::Structs {
             words,
             ptrs,
-            items: build_bodies(alloc, view, count)?,
+            items: build_bodies(alloc, view, count, visits)?,
         }),
     }
 }
 
 /// The struct that is viewed.
 #[cycle(build)]
-fn build_body(alloc: Global, view: &View, ptrs: u16) -> Result<Body, AllocError>
+fn build_body<L: Ledger>(
+    alloc: Global,
+    view: &View,
+    ptrs: u16,
+    visits: &mut Visits<L>,
+) -> Result<Body, AllocError>
     requires is_struct { IsStruct view.now }
     requires all { count (row_of view.now) ≡ ptrs }
-    ensures { IfOk result (λ b. struct (body_of b).0 (body_of b).1 ≡ view.now) }
+    ensures body { IfOk result (λ b. struct (body_of b).0 (body_of b).1 ≡ view.now) }
+    ensures exact { OnOk result (visits.new ≡ visits.old + pointers view.now) }
+    ensures few { visits.new ≤ visits.old + pointers view.now }
 {
     let words = Vec::from_slice(alloc, view.words())?;
-    let ptrs = build_row(alloc, view, ptrs as u32)?;
+    let ptrs = build_row(alloc, view, ptrs as u32, visits)?;
     Ok(Body { words, ptrs })
 }
 
 /// The pointers of the struct or list that is viewed.
 #[cycle(build)]
-fn build_row(alloc: Global, view: &View, number: u32) -> Result<Vec<Tree>, AllocError>
+fn build_row<L: Ledger>(
+    alloc: Global,
+    view: &View,
+    number: u32,
+    visits: &mut Visits<L>,
+) -> Result<Vec<Tree>, AllocError>
     requires { count (row_of view.now) ≡ number }
-    ensures { IfOk result (λ v. nodes_of (map node_of v.items) ≡ row_of view.now) }
+    ensures row { IfOk result (λ v. nodes_of (map node_of v.items) ≡ row_of view.now) }
+    ensures exact { OnOk result (visits.new ≡ visits.old + pointers_of_row (row_of view.now)) }
+    ensures few { visits.new ≤ visits.old + pointers_of_row (row_of view.now) }
 {
     let mut found = Vec::with_capacity(alloc, number as usize)?;
     for i in 0..number {
-        found.push(build(alloc, &view.child(i))?)?;
+        visits.tick();
+        found.push(build(alloc, &view.child(i), visits)?)?;
     }
     Ok(found)
 }
 
 /// The elements of the composite list that is viewed.
 #[cycle(build)]
-fn build_bodies(alloc: Global, view: &View, number: u32) -> Result<Vec<Body>, AllocError>
+fn build_bodies<L: Ledger>(
+    alloc: Global,
+    view: &View,
+    number: u32,
+    visits: &mut Visits<L>,
+) -> Result<Vec<Body>, AllocError>
     requires { number_of (bodies_in view.now) ≡ number }
-    ensures { IfOk result (λ v. bodies_of (map body_of v.items) ≡ bodies_in view.now) }
+    ensures bodies { IfOk result (λ v. bodies_of (map body_of v.items) ≡ bodies_in view.now) }
+    ensures exact { OnOk result (visits.new ≡ visits.old + pointers_of_bodies (bodies_in view.now)) }
+    ensures few { visits.new ≤ visits.old + pointers_of_bodies (bodies_in view.now) }
 {
     let mut found = Vec::with_capacity(alloc, number as usize)?;
     for i in 0..number {
@@ -169,17 +198,23 @@ fn build_bodies(alloc: Global, view: &View, number: u32) -> Result<Vec<Body>, Al
         let Shape::Struct { ptrs, .. } = element.shape() else {
             unreachable!();
         };
-        found.push(build_body(alloc, &element, ptrs)?)?;
+        found.push(build_body(alloc, &element, ptrs, visits)?)?;
     }
     Ok(found)
 }
 
 /// The tree that is viewed, owned.
-pub(crate) fn whole_of(alloc: Global, view: &View) -> Result<Whole, AllocError>
-    ensures { IfOk result (λ w. w ≡ view.now) }
+pub(crate) fn whole_of<L: Ledger>(
+    alloc: Global,
+    view: &View,
+    visits: &mut Visits<L>,
+) -> Result<Whole, AllocError>
+    ensures tree { IfOk result (λ w. w ≡ view.now) }
+    ensures exact { OnOk result (visits.new ≡ visits.old + pointers view.now) }
+    ensures few { visits.new ≤ visits.old + pointers view.now }
 {
     Ok(Whole {
-        tree: build(alloc, view)?,
+        tree: build(alloc, view, visits)?,
     })
 }
 
@@ -194,8 +229,50 @@ pub fn read_root(alloc: Global, segments: &Segments, limits: Limits) -> Result<O
     // A fault is one that the message has, or want of memory.
     ensures fault { IfErr result (IsRefusalOf segments.now limits) }
 {
-    let root = View::root(segments, limits)?;
-    match whole_of(alloc, &root)?.into_object() {
+    read_uncounted::<Brand>(alloc, segments, limits, Blank::new(1))
+}
+
+/// As `read_root`, by a count that is dropped.
+fn read_uncounted<L: Ledger>(
+    alloc: Global,
+    segments: &Segments,
+    limits: Limits,
+    blank: Blank,
+) -> Result<Object, TreeFault>
+    requires name { blank.name ≡ L.name }
+    requires parts { blank.parts ≡ L.parts }
+    requires some { 0 < blank.parts }
+    ensures found { IfOk result (λ t. Root segments.now limits t) }
+    ensures only { (t : Node) → Root segments.now limits t → Answers result t }
+    ensures fault { IfErr result (IsRefusalOf segments.now limits) }
+{
+    read_counted(alloc, segments, limits, &mut Visits::<L>::new(blank))
+}
+
+/// As `read_root`, and counts each pointer word that it visits: all are gone over once to check
+/// them, and once more to build the tree. Words of pads aren't counted; a far pointer has at most
+/// two.
+pub fn read_counted<L: Ledger>(
+    alloc: Global,
+    segments: &Segments,
+    limits: Limits,
+    visits: &mut Visits<L>,
+) -> Result<Object, TreeFault>
+    // What is read is the message's tree.
+    ensures found { IfOk result (λ t. Root segments.now limits t) }
+    // The message's tree is read, unless memory runs out.
+    ensures only { (t : Node) → Root segments.now limits t → Answers result t }
+    // A fault is one that the message has, or want of memory.
+    ensures fault { IfErr result (IsRefusalOf segments.now limits) }
+    // A tree's root word is visited once, and each pointer word below it twice.
+    ensures exact { IfOk result (λ t. visits.new ≡ visits.old + 1 + 2 * pointers t) }
+    // A refused message has been gone over once, and no further than the traversal limit.
+    ensures refused { IfErr result (λ e. e ≢ OutOfMemory → visits.new ≤ visits.old + 1 + limits.traversal) }
+    // No pass visits more than one word beyond the traversal limit.
+    ensures few { visits.new ≤ visits.old + 2 * (1 + limits.traversal) }
+{
+    let root = root_counted(segments, limits, visits)?;
+    match whole_of(alloc, &root, visits)?.into_object() {
         Ok(object) => Ok(object),
         Err(_) => unreachable!(),
     }

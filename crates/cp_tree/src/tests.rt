@@ -1,9 +1,13 @@
 //! Messages from outside, read in place and as owned trees.
 
+ghost use Rattle.std.specs.Prelude.{◌≡◌, ◌<◌};
+
 use super::*;
 use crate::decide::root_denotes;
 use cp_words::{ElementSize, Segments};
 use std::alloc::{AllocError, Global};
+use std::marker::Brand;
+use std::sync::ledger::{Blank, Ledger};
 use std::test::Fail;
 
 /// A word by its eight bytes in hexadecimal, in the order of the stream.
@@ -385,6 +389,34 @@ fn the_reader_finds_what_is_denoted(rt: HostRuntime) -> Result<(), Fail> {
             assert_eq!(rt; root_denotes(alloc, message, tree.tree())?, is_found);
         }
     }
+    Ok(())
+}
+
+/// Reads the message's tree, and counts.
+fn read_with_count<L: Ledger>(
+    alloc: Global,
+    segments: &Segments,
+    limits: Limits,
+    blank: Blank,
+) -> Result<Object, TreeFault>
+    requires name { blank.name ≡ L.name }
+    requires parts { blank.parts ≡ L.parts }
+    requires some { 0 < blank.parts }
+{
+    read_counted(alloc, segments, limits, &mut Visits::<L>::new(blank))
+}
+
+#[test]
+fn counting_changes_no_answer(rt: HostRuntime) -> Result<(), Fail> {
+    let alloc = rt.alloc();
+    let segments = segments(alloc, &[FINISH])?;
+    let limits = Limits::standard();
+    let counted = read_with_count::<Brand>(alloc, &segments, limits, Blank::new(1));
+    let plain = read_root(alloc, &segments, limits);
+    let (Ok(counted), Ok(plain)) = (counted, plain) else {
+        return Err(Fail::from("the message has a tree"));
+    };
+    assert!(rt; *counted.tree() == *plain.tree());
     Ok(())
 }
 

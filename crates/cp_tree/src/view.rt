@@ -1,8 +1,11 @@
 //! Trees that are read in place.
 
-ghost use Rattle.std.specs.Prelude.{◌≡◌, ◌<◌, ◌≤◌, ◌+◌, ◌*◌, ◌^◌, length, true, is_ok, IfOk, Ok};
+ghost use Rattle.std.specs.Prelude.{◌≡◌, ◌<◌, ◌≤◌, ◌+◌, ◌*◌, ◌^◌, length, true, is_ok, IfOk, IfErr, Ok};
 ghost use Rattle.cp_tree.specs.Aims.{segment};
-ghost use Rattle.cp_tree.specs.Denotes.{words_at};
+ghost use Rattle.cp_tree.specs.Denotes.{words_at, Root};
+ghost use Rattle.cp_tree.specs.Faults.{IsFaultOf};
+ghost use Rattle.cp_tree.specs.Node.{Node};
+ghost use Rattle.cp_tree.specs.Visited.{pointers};
 ghost use Rattle.cp_tree.specs.NodeOf.{words_of};
 ghost use Rattle.cp_tree.specs.Reading.{tree_read, pointer_read, area_read, node_in, body_words, IsWithin};
 ghost use Rattle.cp_tree.specs.Parts.{form_shape_of, part_node, IsPart};
@@ -14,10 +17,12 @@ use crate::area::{Area, Form, area_of};
 use crate::check::check_root;
 use crate::fault::{Place, TreeFault};
 use crate::read::whole_of;
+use crate::visits::Visits;
 use crate::whole::Whole;
 use cp_words::{ElementSize, Limits, Pointer, Segments};
 use std::alloc::{AllocError, Global};
-use std::marker::Model;
+use std::marker::{Brand, Model};
+use std::sync::ledger::{Blank, Ledger};
 
 /// A tree's kind and sizes.
 #[derive(Clone, Copy, PartialEq, Eq, Debug)]
@@ -82,12 +87,7 @@ impl<'a> View<'a> {
         // A fault is one that the message has: of its root, of a reachable word, or of a limit.
         ensures fault { IfErr result (IsFaultOf segments.now limits) }
     {
-        let lists = segments.lists();
-        let area = check_root(lists, limits.nesting(), limits.traversal())?;
-        Ok(View {
-            lists,
-            part: Part::Body(area),
-        })
+        root_uncounted::<Brand>(segments, limits, Blank::new(1))
     }
 
     /// The same view once more.
@@ -140,8 +140,54 @@ impl<'a> View<'a> {
     pub fn tree(&self, alloc: Global) -> Result<Whole, AllocError>
         ensures { IfOk result (λ w. w ≡ self.now) }
     {
-        whole_of(alloc, self)
+        tree_uncounted::<Brand>(alloc, self, Blank::new(1))
     }
+}
+
+/// The message's tree, with each visited pointer word counted.
+pub(crate) fn root_counted<'a, L: Ledger>(
+    segments: &'a Segments,
+    limits: Limits,
+    visits: &mut Visits<L>,
+) -> Result<View<'a>, TreeFault>
+    ensures found { IfOk result (λ t. Root segments.now limits t) }
+    ensures only { (t : Node) → Root segments.now limits t → result ≡ Ok t }
+    ensures fault { IfErr result (IsFaultOf segments.now limits) }
+    ensures exact { IfOk result (λ t. visits.new ≡ visits.old + 1 + pointers t) }
+    ensures few { visits.new ≤ visits.old + 1 + limits.traversal }
+{
+    let lists = segments.lists();
+    let area = check_root(lists, limits.nesting(), limits.traversal(), visits)?;
+    Ok(View {
+        lists,
+        part: Part::Body(area),
+    })
+}
+
+/// The message's tree, by a count that is dropped.
+fn root_uncounted<'a, L: Ledger>(
+    segments: &'a Segments,
+    limits: Limits,
+    blank: Blank,
+) -> Result<View<'a>, TreeFault>
+    requires name { blank.name ≡ L.name }
+    requires parts { blank.parts ≡ L.parts }
+    requires some { 0 < blank.parts }
+    ensures found { IfOk result (λ t. Root segments.now limits t) }
+    ensures only { (t : Node) → Root segments.now limits t → result ≡ Ok t }
+    ensures fault { IfErr result (IsFaultOf segments.now limits) }
+{
+    root_counted(segments, limits, &mut Visits::<L>::new(blank))
+}
+
+/// The tree, owned, by a count that is dropped.
+fn tree_uncounted<L: Ledger>(alloc: Global, view: &View, blank: Blank) -> Result<Whole, AllocError>
+    requires name { blank.name ≡ L.name }
+    requires parts { blank.parts ≡ L.parts }
+    requires some { 0 < blank.parts }
+    ensures { IfOk result (λ w. w ≡ view.now) }
+{
+    whole_of(alloc, view, &mut Visits::<L>::new(blank))
 }
 
 /// The kind and sizes of a tree that has a body.
