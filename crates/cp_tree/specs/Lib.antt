@@ -8,6 +8,7 @@ pub mod Denotes
 pub mod Reading
 pub mod Parts
 pub mod Shaped
+pub mod Spent
 pub mod Pruned
 pub mod Faults
 pub mod Fills

@@ -8,13 +8,16 @@ mod check;
 mod copy;
 mod decide;
 mod fault;
+mod measure;
 mod read;
+mod shape;
 mod tree;
 mod view;
 mod whole;
 
 pub use cp_words::Limits;
 pub use fault::{Place, TreeFault};
+pub use measure::fits;
 pub use read::read_root;
 pub use tree::{Body, Tree};
 pub use view::{Shape, View};

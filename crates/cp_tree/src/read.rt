@@ -8,6 +8,7 @@ ghost use Rattle.cp_tree.specs.Denotes.{element, numbers, flags, elements_of, Ro
 ghost use Rattle.cp_tree.specs.Node.{Node, IsStruct, struct, list, count, number_of};
 ghost use Rattle.cp_tree.specs.NodeOf.{node_of, body_of, nodes_of, bodies_of};
 ghost use Rattle.cp_tree.specs.Rows.{row_of, bodies_in, IsData};
+ghost use Rattle.cp_tree.specs.Shaped.{Shaped};
 
 use crate::fault::TreeFault;
 use crate::tree::{Body, Tree};
@@ -176,6 +177,7 @@ fn build_bodies(alloc: Global, view: &View, number: u32) -> Result<Vec<Body>, Al
 
 /// The tree that is viewed, owned.
 pub(crate) fn whole_of(alloc: Global, view: &View) -> Result<Whole, AllocError>
+    requires { Shaped view.now }
     ensures { IfOk result (λ w. w ≡ view.now) }
 {
     Ok(Whole {
@@ -195,7 +197,7 @@ pub fn read_root(alloc: Global, segments: &Segments, limits: Limits) -> Result<O
     ensures fault { IfErr result (IsRefusalOf segments.now limits) }
 {
     let root = View::root(segments, limits)?;
-    match whole_of(alloc, &root)?.into_object() {
+    match root.tree(alloc)?.into_object() {
         Ok(object) => Ok(object),
         Err(_) => unreachable!(),
     }

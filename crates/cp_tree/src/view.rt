@@ -14,6 +14,7 @@ use crate::area::{Area, Form, area_of};
 use crate::check::check_root;
 use crate::fault::{Place, TreeFault};
 use crate::read::whole_of;
+use crate::shape::lists_fit;
 use crate::whole::Whole;
 use cp_words::{ElementSize, Limits, Pointer, Segments};
 use std::alloc::{AllocError, Global};
@@ -58,10 +59,11 @@ impl<'a> Model for View<'a> {
 
     ghost use Rattle.cp_tree.specs.NodeOf.{words_of};
     ghost use Rattle.cp_tree.specs.Parts.{part_node, IsPart};
+    ghost use Rattle.cp_tree.specs.Shaped.{Shaped};
 
     ghost view = { λ v. part_node (words_of v.lists.now) v.part };
 
-    ghost invariant = { λ v. IsPart (words_of v.lists.now) v.part };
+    ghost invariant = { λ v. IsPart (words_of v.lists.now) v.part × Shaped (part_node (words_of v.lists.now) v.part) };
 }
 
 impl<'a> View<'a> {
@@ -70,6 +72,7 @@ impl<'a> View<'a> {
     ghost use Rattle.cp_tree.specs.Faults.{IsFaultOf};
     ghost use Rattle.cp_tree.specs.Node.{Node};
     ghost use Rattle.cp_tree.specs.Seen.{shape_of, part_of, AreWordsOf};
+    ghost use Rattle.cp_tree.specs.Shaped.{Shaped};
 
     /// The message's tree: what word 0 of segment 0 stands for (encoding specification,
     /// "Messages"). All that is reachable is gone over once and checked against the limits, without
@@ -83,6 +86,7 @@ impl<'a> View<'a> {
         ensures fault { IfErr result (IsFaultOf segments.now limits) }
     {
         let lists = segments.lists();
+        lists_fit(lists);
         let area = check_root(lists, limits.nesting(), limits.traversal())?;
         Ok(View {
             lists,
@@ -140,7 +144,15 @@ impl<'a> View<'a> {
     pub fn tree(&self, alloc: Global) -> Result<Whole, AllocError>
         ensures { IfOk result (λ w. w ≡ self.now) }
     {
+        self.holds_a_shaped_tree();
         whole_of(alloc, self)
+    }
+
+    /// What was read in words fits them again. This says so and does nothing.
+    fn holds_a_shaped_tree(&self)
+        ensures { Shaped self.now }
+    {
+        let _part = self.part;
     }
 }
 
