@@ -8,6 +8,9 @@ pub mod Views
 pub mod Roots
 pub mod Builds
 pub mod Pointees
+pub mod Shapes
+pub mod Spending
+pub mod Fitting
 pub mod Blank
 pub mod Faulted
 pub mod Misaimed

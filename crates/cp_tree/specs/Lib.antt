@@ -9,6 +9,7 @@ pub mod Reading
 pub mod Visited
 pub mod Parts
 pub mod Shaped
+pub mod Spent
 pub mod Pruned
 pub mod Faults
 pub mod Fills

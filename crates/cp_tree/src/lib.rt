@@ -8,7 +8,9 @@ mod check;
 mod copy;
 mod decide;
 mod fault;
+mod measure;
 mod read;
+mod shape;
 mod tree;
 mod view;
 mod visits;
@@ -16,6 +18,7 @@ mod whole;
 
 pub use cp_words::Limits;
 pub use fault::{Place, TreeFault};
+pub use measure::fits;
 pub use read::{read_counted, read_root};
 pub use tree::{Body, Tree};
 pub use view::{Shape, View};

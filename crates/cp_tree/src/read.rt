@@ -213,6 +213,7 @@ pub(crate) fn whole_of<L: Ledger>(
     ensures exact { OnOk result (visits.new ≡ visits.old + pointers view.now) }
     ensures few { visits.new ≤ visits.old + pointers view.now }
 {
+    view.holds_a_shaped_tree();
     Ok(Whole {
         tree: build(alloc, view, visits)?,
     })

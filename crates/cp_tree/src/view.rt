@@ -17,6 +17,7 @@ use crate::area::{Area, Form, area_of};
 use crate::check::check_root;
 use crate::fault::{Place, TreeFault};
 use crate::read::whole_of;
+use crate::shape::lists_fit;
 use crate::visits::Visits;
 use crate::whole::Whole;
 use cp_words::{ElementSize, Limits, Pointer, Segments};
@@ -63,10 +64,11 @@ impl<'a> Model for View<'a> {
 
     ghost use Rattle.cp_tree.specs.NodeOf.{words_of};
     ghost use Rattle.cp_tree.specs.Parts.{part_node, IsPart};
+    ghost use Rattle.cp_tree.specs.Shaped.{Shaped};
 
     ghost view = { λ v. part_node (words_of v.lists.now) v.part };
 
-    ghost invariant = { λ v. IsPart (words_of v.lists.now) v.part };
+    ghost invariant = { λ v. IsPart (words_of v.lists.now) v.part × Shaped (part_node (words_of v.lists.now) v.part) };
 }
 
 impl<'a> View<'a> {
@@ -75,6 +77,7 @@ impl<'a> View<'a> {
     ghost use Rattle.cp_tree.specs.Faults.{IsFaultOf};
     ghost use Rattle.cp_tree.specs.Node.{Node};
     ghost use Rattle.cp_tree.specs.Seen.{shape_of, part_of, AreWordsOf};
+    ghost use Rattle.cp_tree.specs.Shaped.{Shaped};
 
     /// The message's tree: what word 0 of segment 0 stands for (encoding specification,
     /// "Messages"). All that is reachable is gone over once and checked against the limits, without
@@ -142,6 +145,13 @@ impl<'a> View<'a> {
     {
         tree_uncounted::<Brand>(alloc, self, Blank::new(1))
     }
+
+    /// What was read in words fits them again. This says so and does nothing.
+    pub(crate) fn holds_a_shaped_tree(&self)
+        ensures { Shaped self.now }
+    {
+        let _part = self.part;
+    }
 }
 
 /// The message's tree, with each visited pointer word counted.
@@ -157,6 +167,7 @@ pub(crate) fn root_counted<'a, L: Ledger>(
     ensures few { visits.new ≤ visits.old + 1 + limits.traversal }
 {
     let lists = segments.lists();
+    lists_fit(lists);
     let area = check_root(lists, limits.nesting(), limits.traversal(), visits)?;
     Ok(View {
         lists,

@@ -1,11 +1,13 @@
 //! Owned trees.
 
 use crate::copy::tree_copy;
+use crate::shape::is_shaped;
 use crate::tree::Tree;
 use std::alloc::{AllocError, Global};
 use std::marker::Model;
 
-/// A tree, owned. Contracts see it as its tree without where it lies in memory.
+/// A tree that a message can hold, owned. Contracts see it as its tree without where it lies in
+/// memory.
 #[derive(Drop)]
 pub struct Whole {
     pub(crate) tree: Tree,
@@ -20,11 +22,15 @@ impl Model for Whole {
     ghost coded = { tree_code };
 
     ghost use Rattle.cp_tree.specs.NodeOf.{node_of};
+    ghost use Rattle.cp_tree.specs.Shaped.{Shaped};
 
     ghost view = { λ w. node_of w.tree };
+
+    ghost invariant = { λ w. Shaped (node_of w.tree) };
 }
 
-/// A tree that is a struct, owned. Contracts see it as its tree without where it lies in memory.
+/// A struct that a message can hold, owned. Contracts see it as its tree without where it lies in
+/// memory.
 #[derive(Drop)]
 pub struct Object {
     pub(crate) tree: Tree,
@@ -40,27 +46,45 @@ impl Model for Object {
 
     ghost use Rattle.cp_tree.specs.Node.{IsStruct};
     ghost use Rattle.cp_tree.specs.NodeOf.{node_of};
+    ghost use Rattle.cp_tree.specs.Shaped.{Shaped};
 
     ghost view = { λ o. node_of o.tree };
 
-    ghost invariant = { λ o. IsStruct (node_of o.tree) };
+    ghost invariant = { λ o. IsStruct (node_of o.tree) × Shaped (node_of o.tree) };
 }
 
 impl Whole {
     ghost use Rattle.std.specs.Prelude.{◌≡◌, IfOk, IfErr};
     ghost use Rattle.cp_tree.specs.Node.{IsStruct};
     ghost use Rattle.cp_tree.specs.NodeOf.{node_of};
+    ghost use Rattle.cp_tree.specs.Shaped.{Shaped};
+
+    /// Holds the tree, if a message can: each number fits its bits, and the elements of a composite
+    /// list are all of its sizes (encoding specification, "Structs", "Lists"). Else the tree is
+    /// handed back.
+    pub fn new(tree: Tree) -> Result<Whole, Tree>
+        ensures held { IfOk result (λ w. (w ≡ node_of tree) × Shaped w) }
+        ensures other { IfErr result (λ back. (back ≡ tree) × ¬ (Shaped (node_of tree))) }
+    {
+        if is_shaped(&tree) {
+            Ok(Whole { tree })
+        } else {
+            Err(tree)
+        }
+    }
 
     /// The tree, lent.
     pub fn tree(&self) -> &Tree
-        ensures { node_of result.now ≡ self.now }
+        ensures tree { node_of result.now ≡ self.now }
+        ensures shaped { Shaped self.now }
     {
         &self.tree
     }
 
     /// The tree itself.
     pub fn into_tree(self) -> Tree
-        ensures { node_of result ≡ self }
+        ensures tree { node_of result ≡ self }
+        ensures shaped { Shaped self }
     {
         self.tree
     }
@@ -89,15 +113,29 @@ impl Whole {
 }
 
 impl Object {
-    ghost use Rattle.std.specs.Prelude.{◌≡◌, IfOk};
+    ghost use Rattle.std.specs.Prelude.{◌≡◌, IfOk, IfErr};
     ghost use Rattle.cp_tree.specs.Node.{IsStruct};
     ghost use Rattle.cp_tree.specs.Seen.{pointee_of};
     ghost use Rattle.cp_tree.specs.NodeOf.{node_of};
+    ghost use Rattle.cp_tree.specs.Shaped.{Shaped};
+
+    /// Holds the tree, if it is a struct that a message can hold. Else the tree is handed back.
+    pub fn new(tree: Tree) -> Result<Object, Tree>
+        ensures held { IfOk result (λ o. (o ≡ node_of tree) × IsStruct o × Shaped o) }
+        ensures other { IfErr result (λ back. (back ≡ tree) × ¬ (IsStruct (node_of tree) × Shaped (node_of tree))) }
+    {
+        if matches!(tree, Tree::Struct(_)) && is_shaped(&tree) {
+            Ok(Object { tree })
+        } else {
+            Err(tree)
+        }
+    }
 
     /// The tree, lent.
     pub fn tree(&self) -> &Tree
         ensures tree { node_of result.now ≡ self.now }
         ensures is_struct { IsStruct self.now }
+        ensures shaped { Shaped self.now }
     {
         &self.tree
     }
@@ -127,7 +165,11 @@ impl Object {
     pub fn into_tree(self) -> Tree
         ensures tree { node_of result ≡ self }
         ensures is_struct { IsStruct self }
+        ensures shaped { Shaped self }
     {
         self.tree
     }
 }
+
+#[cfg(test)]
+mod tests;

@@ -3,6 +3,8 @@ use Rattle.std.proofs.lemmas.Result.{err_from_is_err_and}
 use Rattle.cp_tree.specs.Denotes.{Root}
 use Rattle.cp_tree.specs.NodeOf.{words_of}
 use Rattle.cp_tree.specs.Reading.{root_of}
+use Rattle.cp_tree.specs.Shaped.{Shaped}
+use Rattle.cp_tree.proofs.Fitting.{denotes_shaped}
 use Rattle.cp_tree.proofs.Roots.{root_found, root_given}
 use Rattle.cp_tree.proofs.RootFaults.{root_faulted}
 use Rattle.cp_tree.proofs.Sound.{ok_is}
@@ -22,7 +24,12 @@ returns-in_err-area-clause-fault g c =
     rw (p.1, p.2) (root_faulted c.args.segments.now c.args.limits _ fault)
 
 pub invariant_of-result : goal.invariant_of-result
-invariant_of-result g c = (c.in_ok-area.ensures.read.within, c.in_ok-area.ensures.small, ok_is_ok _ _ (root_again _ _ _ _ c.in_ok-area.ensures.read c.nesting.ensures.range c.traversal.ensures.range))
+invariant_of-result g c =
+    let r = c.in_ok-area.ensures.read in
+    let again = root_again _ _ _ _ r c.nesting.ensures.range c.traversal.ensures.range in
+    let found = root_found c.nesting.result c.traversal.result (words_of c.lists-lists.result.now) c.args.limits r.tree (sym c.nesting.ensures.value) (sym c.traversal.ensures.value) r.root in
+    let shaped = denotes_shaped _ c.lists_fit.ensures r.tree 0 0 found.denoted in
+    ((r.within, c.in_ok-area.ensures.small, ok_is_ok _ _ again), subst Shaped (sym (read-node _ _ _ again)) shaped)
 
 pub returns-clause-found : goal.returns-clause-found
 returns-clause-found g c =

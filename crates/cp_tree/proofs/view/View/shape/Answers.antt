@@ -4,4 +4,4 @@ use Rattle.cp_tree.proofs.Views.{part-shape}
 use Rattle.cp_tree.proofs.view.View.shape.Goals as goal
 
 pub returns-in-Body : goal.returns-in-Body
-returns-in-Body c = c.form_shape.ensures ∙ part-shape _ _ _ c.in-Body.is c.self.invariant ∙ ap shape_of c.self.view_is
+returns-in-Body c = c.form_shape.ensures ∙ part-shape _ _ _ c.in-Body.is c.self.invariant.0 ∙ ap shape_of c.self.view_is

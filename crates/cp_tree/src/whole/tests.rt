@@ -1,0 +1,100 @@
+//! Owned trees: which are held, copies, and how deep they nest and what they cost.
+
+use super::*;
+use crate::fits;
+use crate::tree::Body;
+use std::test::Fail;
+
+fn body(alloc: Global, words: &[u64], ptrs: Vec<Tree>) -> Result<Body, AllocError> {
+    Ok(Body {
+        words: Vec::from_slice(alloc, words)?,
+        ptrs,
+    })
+}
+
+/// A composite list of elements of one data word and one pointer, the second of these words.
+fn structs(alloc: Global, second: &[u64]) -> Result<Tree, AllocError> {
+    let items = vec![in alloc;
+        body(
+            alloc,
+            &[7],
+            vec![in alloc; Tree::Bytes(Vec::from_slice(alloc, b"text")?)]?
+        )?,
+        body(alloc, second, vec![in alloc; Tree::Cap(9)]?)?,
+    ]?;
+    Ok(Tree::Structs {
+        words: 1,
+        ptrs: 1,
+        items,
+    })
+}
+
+/// A struct of one data word and that list.
+fn whole(alloc: Global, second: &[u64]) -> Result<Tree, AllocError> {
+    let ptrs = vec![in alloc; structs(alloc, second)?]?;
+    Ok(Tree::Struct(body(alloc, &[4], ptrs)?))
+}
+
+#[test]
+fn what_a_message_can_hold_is_held(rt: HostRuntime) -> Result<(), Fail> {
+    let alloc = rt.alloc();
+    let Ok(object) = Object::new(whole(alloc, &[8])?) else {
+        return Err(Fail::from("refused"));
+    };
+    assert!(rt; object.into_tree() == whole(alloc, &[8])?);
+    let Ok(list) = Whole::new(structs(alloc, &[8])?) else {
+        return Err(Fail::from("refused"));
+    };
+    assert!(rt; list.into_tree() == structs(alloc, &[8])?);
+    Ok(())
+}
+
+#[test]
+fn uneven_elements_are_handed_back(rt: HostRuntime) -> Result<(), Fail> {
+    let alloc = rt.alloc();
+    let Err(back) = Whole::new(structs(alloc, &[8, 9])?) else {
+        return Err(Fail::from("held"));
+    };
+    assert!(rt; back == structs(alloc, &[8, 9])?);
+    let Err(back) = Object::new(whole(alloc, &[])?) else {
+        return Err(Fail::from("held"));
+    };
+    assert!(rt; back == whole(alloc, &[])?);
+    Ok(())
+}
+
+#[test]
+fn what_is_no_struct_or_too_long_is_handed_back(rt: HostRuntime) -> Result<(), Fail> {
+    assert!(rt; Object::new(Tree::Null).is_err());
+    assert!(rt; Whole::new(Tree::Voids(0x1fff_ffff)).is_ok());
+    assert!(rt; Whole::new(Tree::Voids(0x2000_0000)).is_err());
+    Ok(())
+}
+
+#[test]
+fn copies_are_equal(rt: HostRuntime) -> Result<(), Fail> {
+    let alloc = rt.alloc();
+    let tree = whole(alloc, &[8])?;
+    let Ok(object) = Object::new(whole(alloc, &[8])?) else {
+        return Err(Fail::from("refused"));
+    };
+    let Ok(list) = Whole::new(structs(alloc, &[8])?) else {
+        return Err(Fail::from("refused"));
+    };
+    assert!(rt; *object.copy(alloc)?.tree() == tree);
+    assert!(rt; *list.copy(alloc)?.tree() == structs(alloc, &[8])?);
+    Ok(())
+}
+
+#[test]
+fn depth_and_cost_are_counted(rt: HostRuntime) -> Result<(), Fail> {
+    let alloc = rt.alloc();
+    let tree = whole(alloc, &[8])?;
+    // A struct of 2 words, a list of 2 elements of 2 words, a list of 1 word.
+    assert!(rt; fits(&tree, 3, 3 + 8 + 2));
+    assert!(rt; !fits(&tree, 2, 13));
+    assert!(rt; !fits(&tree, 3, 12));
+    assert!(rt; fits(&Tree::Cap(1), 0, 0));
+    assert!(rt; !fits(&Tree::Voids(5), 0, 1));
+    Ok(())
+}
