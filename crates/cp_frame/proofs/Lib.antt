@@ -8,3 +8,14 @@ pub mod Ends
 pub mod Readers
 pub mod Whole
 pub mod Groups
+pub mod Opens
+pub mod Unpacks
+pub mod Laying
+pub mod Certain
+pub mod Spreading
+pub mod Headers
+pub mod Limited
+pub mod Sparing
+pub mod Pieces
+pub mod Rests
+pub mod Cuts

@@ -68,6 +68,6 @@ plain_fault limits b faults.Failed h = h.2
 plain_fault limits b faults.OutOfMemory h = h.2
 
 pub fault_stays_plain : FaultStays modes.Plain
-fault_stays_plain limits b more fault h =
+fault_stays_plain limits b more fault f h =
     let m = numbers_more b more in
     fault_plain limits (b ++ more) fault (subst (λ (ns : List ℕ). NamesFault limits ns fault) (sym m.1) (names_more limits (numbers b) m.0 fault (plain_fault limits b fault h)))

@@ -27,7 +27,7 @@ kinds limits ns faults.RunPastFrame h = absurd h
 kinds limits ns faults.Failed h = absurd h
 kinds limits ns faults.OutOfMemory h = absurd h
 
-not_both : (limits : Bounds) (ns : List ℕ) → NamesTooMany limits ns → NamesTooMuch limits ns → ⊥
+pub not_both : (limits : Bounds) (ns : List ℕ) → NamesTooMany limits ns → NamesTooMuch limits ns → ⊥
 not_both limits [] h k = h
 not_both limits (n ∷ ns) h k = omega (arith, h, k.0)
 
@@ -62,11 +62,6 @@ fault_no_front limits b fault h S front back e k = go (kinds limits (numbers b) 
     go (inl p) = too_many_front limits S (numbers (k.form.padding ++ (flat_map bytes_of S ++ back))) k.form.some k.within.few (subst (λ (ns : List ℕ). NamesTooMany limits ns) named p.1)
     go (inr p) = too_much_front limits S (numbers (k.form.padding ++ (flat_map bytes_of S ++ back))) k.form.some k.within.small (subst (λ (ns : List ℕ). NamesTooMuch limits ns) named p.1)
 
-pub stands_no_front : (limits : Bounds) (state : State) (b : List ℕ) → Stands modes.Plain limits state b → NoFront modes.Plain limits b
-stands_no_front limits failed b h = absurd h
-stands_no_front limits (refusing fault) b h = fault_no_front limits b fault h
-stands_no_front limits (reading rest taken) b h = h.2.no_front
-
 -- what pieces give are the frames of the stream that they make
 pub reads_all : ReadsAll
 reads_all old new [] given b h k =
@@ -86,37 +81,6 @@ reads_all old new (piece ∷ pieces) given b h k =
 pub same_form : (old new : Reader) (pieces : List (List ℕ)) (given : List (ℕ × List (List ℕ))) → Fed old pieces given new → (new.mode ≡ old.mode) × (new.limits ≡ old.limits)
 same_form old new [] given h = (ap (λ (r : Reader). r.mode) h.1, ap (λ (r : Reader). r.limits) h.1)
 same_form old new (piece ∷ pieces) given h = let later = same_form h.2 new pieces h.1 h.4 in (later.0 ∙ h.3.same_mode, later.1 ∙ h.3.same_limits)
-
--- what stands for a rest without a fault, or with one, has one state
-same_state : (limits : Bounds) (state other : State) (b : List ℕ) → Stands modes.Plain limits state b → Stands modes.Plain limits other b → state ≡ other
-same_state limits failed other b h k = absurd h
-same_state limits (refusing fault) failed b h k = absurd k
-same_state limits (refusing fault) (refusing kept) b h k = ap (λ (f : FrameFault). refusing f) (one_fault_plain limits b fault kept h k)
-same_state limits (refusing fault) (reading rest taken) b h k = absurd (k.2.no_fault fault h)
-same_state limits (reading rest taken) failed b h k = absurd k
-same_state limits (reading rest taken) (refusing kept) b h k = absurd (h.2.no_fault kept k)
-same_state limits (reading rest taken) (reading others count) b h k =
-    ap (λ (x : List ℕ). reading x taken) (h.0 ∙ sym k.0) ∙ ap (λ (n : ℕ). reading others n) (h.1 ∙ sym k.1)
-
--- after pieces a reader stands in the form and the limits of its beginning
-stands_as : (old new : Reader) (pieces : List (List ℕ)) (given : List (ℕ × List (List ℕ))) (rest : List ℕ) → old.mode ≡ modes.Plain → Fed old pieces given new → StandsFor new rest
-    → Stands modes.Plain old.limits new.state rest
-stands_as old new pieces given rest e h k =
-    let same = same_form old new pieces given h in
-    subst (λ (limits : Bounds). Stands modes.Plain limits new.state rest) same.1 (subst (λ (mode : Mode). Stands mode new.limits new.state rest) (same.0 ∙ e) k)
-
-pub reads_any_cut : ReadsAnyCut modes.Plain
-reads_any_cut old new other pieces others given gotten b e h k m same =
-    let one = reads_all old new pieces given b h k in
-    let two = reads_all old other others gotten b h m in
-    let first = subst (λ (mode : Mode). Frames mode old.limits (b ++ joined pieces) given one.0) e one.1 in
-    let second = subst (λ (mode : Mode). Frames mode old.limits (b ++ joined others) gotten two.0) e two.1 in
-    let third = subst (λ (x : List ℕ). Frames modes.Plain old.limits (b ++ x) gotten two.0) (sym same) second in
-    let left = stands_as old new pieces given one.0 e k one.2 in
-    let right = stands_as old other others gotten two.0 e m two.2 in
-    let read = one_reading modes.Plain one_front_plain old.limits (b ++ joined pieces) given gotten one.0 two.0 first (stands_no_front old.limits new.state one.0 left) third
-    (stands_no_front old.limits other.state two.0 right) in
-    (read.0, same_state old.limits new.state other.state one.0 left (subst (λ (x : List ℕ). Stands modes.Plain old.limits other.state x) (sym read.1) right))
 
 -- while a stream is read, a fault that is told is that of the rest
 told_of : (r : Reader) (piece : List ℕ) (state : State) (fault : FrameFault) → IsReading state → IsToldFor r piece state fault → fault ≢ faults.OutOfMemory

@@ -7,6 +7,10 @@ use Rattle.std.specs.Int.{to_le_bytes, w32, w64}
 abbrev pub AreWords : List ℕ → Type 0
 AreWords ws = AllByRecursion (λ w. w < 2 ^ 64) ws
 
+-- numbers of 8 bits
+abbrev pub AreBytes : List ℕ → Type 0
+AreBytes b = AllByRecursion (λ x. x < 2 ^ 8) b
+
 -- words as bytes, the lowest byte of each first
 abbrev pub bytes_of : List ℕ → List ℕ
 bytes_of ws = flat_map (to_le_bytes w64) ws

@@ -1,6 +1,8 @@
 pub use Rattle.cp_words.specs.Limits
 pub mod Framed
 pub mod Packed
+pub mod Unpacking
+pub mod Packing
 pub mod Frame
 pub mod Stream
 pub mod Reader

@@ -8,7 +8,7 @@ use Rattle.cp_frame.specs.declared.mode.Mode.{Mode}
 use Rattle.cp_frame.specs.Framed.{AreWords}
 use Rattle.cp_frame.specs.Frame.{Frame, Written}
 use Rattle.cp_frame.specs.Stream.{Frames, HasFault}
-use Rattle.cp_frame.specs.Reader.{Reader, StandsFor, IsReading, Gives, Tells}
+use Rattle.cp_frame.specs.Reader.{Reader, State, failed, refusing, reading, GoesOnAs, StandsFor, IsReading, Gives, Tells}
 
 -- the pieces, one after another
 abbrev pub joined : List (List ℕ) → List ℕ
@@ -33,11 +33,16 @@ TellsAll = (old mid new : Reader) (pieces : List (List ℕ)) (piece : List ℕ) 
     → StandsFor old b → Fed old pieces given mid → IsReading mid.state → Tells mid piece new fault → fault ≢ faults.OutOfMemory
     → (rest : List ℕ) × Frames old.mode old.limits (b ++ (joined pieces ++ piece)) given rest × HasFault old.mode old.limits rest fault
 
--- it doesn't matter how a stream is cut: it gives the same frames, and leaves the same state
+-- two states go on alike: they are the same, or the stream is read on, of rests of as many bytes that go on alike
+abbrev pub AreAlike : Mode → State → State → Type 0
+AreAlike mode (reading rest taken) (reading other count) = GoesOnAs mode rest other × (taken ≡ count)
+AreAlike mode state other = state ≡ other
+
+-- it doesn't matter how a stream is cut: it gives the same frames, and leaves a state that goes on alike
 abbrev pub ReadsAnyCut : Mode → Type 0
 ReadsAnyCut mode = (old new other : Reader) (pieces others : List (List ℕ)) (given gotten : List (ℕ × List (List ℕ))) (b : List ℕ)
     → old.mode ≡ mode → StandsFor old b → Fed old pieces given new → Fed old others gotten other → joined pieces ≡ joined others
-    → (given ≡ gotten) × (new.state ≡ other.state)
+    → (given ≡ gotten) × AreAlike mode new.state other.state
 
 -- what is written is a frame of the same segments
 abbrev pub IsReadBack : Mode → Type 0

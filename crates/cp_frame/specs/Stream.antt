@@ -1,13 +1,13 @@
 -- A stream: its frames one after another, and what is wrong with the rest. (Encoding specification, "Serialization Over
 -- a Stream" and "Packing".)
-use Rattle.std.specs.Prelude.{◌≡◌, ℕ, ◌+◌, ◌<◌, ◌≤◌, List, [], ◌∷◌, ◌++◌, length, sum, take}
+use Rattle.std.specs.Prelude.{◌≡◌, ℕ, ◌+◌, ◌/◌, ◌<◌, ◌≤◌, List, [], ◌∷◌, ◌++◌, length, sum, take}
 use Rattle.std.specs.Int.{from_le_bytes, w32}
 use Rattle.cp_words.specs.Limits.{Bounds}
 use Rattle.cp_frame.specs.declared.fault.FrameFault.{FrameFault}
 use Rattle.cp_frame.specs.declared.fault.FrameFault.TheVariants as faults
 use Rattle.cp_frame.specs.declared.mode.Mode.{Mode}
 use Rattle.cp_frame.specs.declared.mode.Mode.TheVariants as modes
-use Rattle.cp_frame.specs.Framed.{bytes_of}
+use Rattle.cp_frame.specs.Framed.{AreBytes, bytes_of}
 use Rattle.cp_frame.specs.Frame.{Frame}
 use Rattle.cp_frame.specs.Packed.{Packed}
 
@@ -29,6 +29,13 @@ Lays b l = (ws more : List ℕ) → Packed ws (b ++ more) → (others : List ℕ
 abbrev pub Laid : Mode → List ℕ → List ℕ → Type 0
 Laid modes.Plain b l = l ≡ b
 Laid modes.Packed b l = Lays b l × ((longer : List ℕ) → Lays b longer → length longer ≤ length l)
+
+-- why packed bytes aren't unpacked within a limit: the words that they lay whole pass it, or else they end inside a group, or memory ran out
+abbrev pub IsNotUnpackedFor : List ℕ → ℕ → FrameFault → Type 0
+IsNotUnpackedFor b limit faults.FrameTooLarge = (l : List ℕ) × Laid modes.Packed b l × (limit < length l / 8)
+IsNotUnpackedFor b limit faults.Truncated = (l : List ℕ) × Laid modes.Packed b l × (length l / 8 ≤ limit) × ((ws : List ℕ) → Packed ws b → ⊥)
+IsNotUnpackedFor b limit faults.OutOfMemory = Unit {0}
+IsNotUnpackedFor b limit _ = ⊥
 
 -- the numbers of 32 bits that bytes begin with
 abbrev pub numbers : List ℕ → List ℕ
@@ -85,9 +92,14 @@ abbrev pub CutAnywhere : Mode → Type 0
 CutAnywhere mode = (limits : Bounds) (a b : List ℕ) (first second : List (ℕ × List (List ℕ))) (rest last : List ℕ)
     → Frames mode limits a first rest → Frames mode limits (rest ++ b) second last → Frames mode limits (a ++ b) (first ++ second) last
 
+-- what may follow: packed bytes lay nothing where numbers that aren't bytes stand among them
+abbrev pub MayFollow : Mode → List ℕ → Type 0
+MayFollow modes.Plain more = Unit {0}
+MayFollow modes.Packed more = AreBytes more
+
 -- a fault stays, whatever follows
 abbrev pub FaultStays : Mode → Type 0
-FaultStays mode = (limits : Bounds) (b more : List ℕ) (fault : FrameFault) → HasFault mode limits b fault → HasFault mode limits (b ++ more) fault
+FaultStays mode = (limits : Bounds) (b more : List ℕ) (fault : FrameFault) → MayFollow mode more → HasFault mode limits b fault → HasFault mode limits (b ++ more) fault
 
 -- a rest has one fault at most
 abbrev pub HasOneFault : Mode → Type 0

@@ -68,7 +68,7 @@ fn close(
 }
 
 /// Takes the words of these bytes.
-fn push_words(words: &mut Vec<u64>, bytes: &[u8]) -> Result<(), AllocError>
+pub fn take_in(words: &mut Vec<u64>, bytes: &[u8]) -> Result<(), AllocError>
     ensures { OnOk result (words.new.items ≡ words.old.items ++ words_in bytes.now) }
 {
     words.extend(
@@ -100,7 +100,7 @@ fn take_words<'a>(
     let missing = table::size(table, segments.len()) - words.len();
     let taken = missing.min(left.len() / 8);
     let (front, back) = left.split_at(8 * taken);
-    push_words(words, front)?;
+    take_in(words, front)?;
     close(alloc, table, segments, words)?;
     Ok(back)
 }

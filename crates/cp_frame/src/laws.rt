@@ -3,7 +3,6 @@
 ghost use Rattle.cp_frame.specs.Runs.{ReadsAll, TellsAll, ReadsAnyCut, IsReadBack};
 ghost use Rattle.cp_frame.specs.Stream.{HasOneReading, CutAnywhere, FaultStays, HasOneFault};
 ghost use Rattle.cp_frame.specs.declared.mode.Mode.{Mode};
-ghost use Rattle.cp_frame.specs.declared.mode.Mode.TheVariants.{Plain};
 
 /// A stream of either form has one reading, wherever it is cut.
 pub fn one_reading()
@@ -13,18 +12,18 @@ pub fn one_reading()
 
 /// A rest of a stream has one fault at most, and keeps it, whatever follows.
 pub fn one_fault()
-    ensures one { HasOneFault Plain }
-    ensures stays { FaultStays Plain }
+    ensures one { (mode : Mode) → HasOneFault mode }
+    ensures stays { (mode : Mode) → FaultStays mode }
 {}
 
 /// What a reader gives and tells doesn't depend on the pieces in which a stream comes.
 pub fn any_cut()
     ensures all { ReadsAll }
     ensures told { TellsAll }
-    ensures any { ReadsAnyCut Plain }
+    ensures any { (mode : Mode) → ReadsAnyCut mode }
 {}
 
 /// What is written is read back.
 pub fn read_back()
-    ensures { IsReadBack Plain }
+    ensures { (mode : Mode) → IsReadBack mode }
 {}

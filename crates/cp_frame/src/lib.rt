@@ -5,19 +5,26 @@
 
 mod fault;
 mod frame;
+mod group;
 mod laws;
 mod mode;
+mod packing;
 mod reader;
 mod status;
 mod table;
+mod unpacking;
 mod write;
 
 pub use cp_words::Limits;
 pub use fault::FrameFault;
 pub use laws::{any_cut, one_fault, one_reading, read_back};
 pub use mode::Mode;
+pub use packing::pack;
 pub use reader::FrameReader;
+pub use unpacking::unpack;
 pub use write::write_frame;
 
+#[cfg(test)]
+mod packed_tests;
 #[cfg(test)]
 mod tests;

@@ -2,12 +2,14 @@
 
 ghost use Rattle.std.specs.Prelude.{◌≡◌, ◌+◌, ◌^◌, ◌<◌, ◌≤◌, ◌++◌, IfOk, OnOk, IfErr, IfSome, IfNone, length, sum};
 ghost use Rattle.cp_frame.specs.Framed.{bytes_of, sizes_of};
-ghost use Rattle.cp_frame.specs.Frame.{Written, IsRefusedFor, padded_table};
+ghost use Rattle.cp_frame.specs.Frame.{IsWithin, Written, IsWritten, IsRefusedFor, padded_table};
 ghost use Rattle.cp_frame.specs.Parts.{lists};
-ghost use Rattle.cp_frame.specs.declared.mode.Mode.TheVariants.{Plain};
+ghost use Rattle.cp_frame.specs.declared.mode.Mode.TheVariants.{Plain, Packed};
 
 use crate::fault::FrameFault;
+use crate::frame::take_in;
 use crate::mode::Mode;
+use crate::packing::push_packed;
 use byteorder::{ByteOrder, LittleEndian};
 use cp_words::{Limits, Segments};
 use std::alloc::{AllocError, Global};
@@ -57,18 +59,26 @@ fn push_words(out: &mut Vec<u8>, words: &[u64]) -> Result<(), AllocError>
     Ok(())
 }
 
-/// The frame of the segments, in the plain form.
-fn write_plain(alloc: Global, segments: &Segments, limits: Limits) -> Result<Vec<u8>, FrameFault>
-    ensures written { IfOk result (λ out. Written Plain limits segments.now out.items) }
-    ensures refused { IfErr result (IsRefusedFor limits segments.now) }
+/// The words of all segments together, within the limits.
+fn count_words(segments: &[Vec<u64>], limits: Limits) -> Result<u64, FrameFault>
+    ensures words { IfOk result (λ words. words ≡ sum (sizes_of (lists segments.now))) }
+    ensures within { OnOk result (IsWithin limits (lists segments.now)) }
+    ensures refused { IfErr result (IsRefusedFor limits (lists segments.now)) }
 {
-    let segments = segments.lists();
     if (limits.segments() as usize) < segments.len() {
         return Err(FrameFault::TooManySegments);
     }
-    let Some(words) = words_in(segments, limits.frame_words() as u64) else {
-        return Err(FrameFault::FrameTooLarge);
-    };
+    words_in(segments, limits.frame_words() as u64).ok_or(FrameFault::FrameTooLarge)
+}
+
+/// The frame of the segments, in the plain form.
+fn write_plain(alloc: Global, segments: &[Vec<u64>], words: u64) -> Result<Vec<u8>, AllocError>
+    requires some { 0 < length segments.now }
+    requires few { length segments.now ≤ 512 }
+    requires words { words ≡ sum (sizes_of (lists segments.now)) }
+    requires small { words ≤ 67108864 }
+    ensures { IfOk result (λ out. IsWritten Plain (lists segments.now) out.items) }
+{
     let table = segments.len() / 2 + 1;
     let mut out = Vec::with_capacity(alloc, 8 * (table + words as usize))?;
     push_table(&mut out, segments)?;
@@ -78,8 +88,39 @@ fn write_plain(alloc: Global, segments: &Segments, limits: Limits) -> Result<Vec
     Ok(out)
 }
 
-/// The bytes of the segments' frame (encoding specification, "Serialization Over a Stream"), with
-/// padding of zeros. Only the plain form is written so far.
+/// The segment table, as words.
+fn table_words(alloc: Global, segments: &[Vec<u64>]) -> Result<Vec<u64>, AllocError>
+    requires some { 0 < length segments.now }
+    requires few { length segments.now ≤ 512 }
+    requires small { sum (sizes_of (lists segments.now)) < 2 ^ 32 }
+    ensures { IfOk result (λ words. padded_table (lists segments.now) ≡ bytes_of words.items) }
+{
+    let mut bytes = Vec::new(alloc);
+    push_table(&mut bytes, segments)?;
+    let mut words = Vec::new(alloc);
+    take_in(&mut words, &bytes)?;
+    Ok(words)
+}
+
+/// The frame of the segments, in the packed form: the table and each segment are a piece each.
+fn write_packed(alloc: Global, segments: &[Vec<u64>]) -> Result<Vec<u8>, AllocError>
+    requires some { 0 < length segments.now }
+    requires few { length segments.now ≤ 512 }
+    requires small { sum (sizes_of (lists segments.now)) < 2 ^ 32 }
+    ensures { IfOk result (λ out. IsWritten Packed (lists segments.now) out.items) }
+{
+    let table = table_words(alloc, segments)?;
+    let mut out = Vec::new(alloc);
+    push_packed(&mut out, &table)?;
+    for segment in segments {
+        push_packed(&mut out, segment)?;
+    }
+    Ok(out)
+}
+
+/// The bytes of the segments' frame (encoding specification, "Serialization Over a Stream" and
+/// "Packing"), with padding of zeros. In the packed form the table and each segment are packed as
+/// pieces of their own.
 ///
 /// Where the limits are passed, `TooManySegments` (F1) is told, or else `FrameTooLarge` (F2).
 pub fn write_frame(
@@ -88,12 +129,14 @@ pub fn write_frame(
     mode: Mode,
     limits: Limits,
 ) -> Result<Vec<u8>, FrameFault>
-    requires plain { mode ≡ Plain }
     ensures written { IfOk result (λ out. Written mode limits segments.now out.items) }
     ensures refused { IfErr result (IsRefusedFor limits segments.now) }
 {
-    match mode {
-        Mode::Plain => write_plain(alloc, segments, limits),
-        Mode::Packed => unreachable!(),
-    }
+    let segments = segments.lists();
+    let words = count_words(segments, limits)?;
+    let out = match mode {
+        Mode::Plain => write_plain(alloc, segments, words)?,
+        Mode::Packed => write_packed(alloc, segments)?,
+    };
+    Ok(out)
 }

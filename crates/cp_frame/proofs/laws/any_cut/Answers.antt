@@ -1,4 +1,5 @@
-use Rattle.cp_frame.proofs.Whole.{reads_all, tells_all, reads_any_cut}
+use Rattle.cp_frame.proofs.Cuts.{reads_any_cut}
+use Rattle.cp_frame.proofs.Whole.{reads_all, tells_all}
 use Rattle.cp_frame.proofs.laws.any_cut.Goals as goal
 
 pub returns-clause-all : goal.returns-clause-all

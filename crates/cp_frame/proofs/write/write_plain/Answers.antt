@@ -8,15 +8,15 @@ use Rattle.cp_frame.proofs.write.write_plain.Goals as goal
 
 pub push_words-requires : goal.push_words-requires
 push_words-requires c =
-    let vs = c.lists-segments.result.now in
-    let few : length vs ≤ 512 = omega (arith, c.if-segments.false, c.segments.ensures.range) in
-    let small : sum (sizes_of (lists vs)) ≤ 67108864 = omega (arith, c.in-Some.ensures.words, c.in-Some.ensures.within, c.frame_words.ensures.range) in
+    let vs = c.args.segments.now in
+    let few : length vs ≤ 512 = c.requires.few in
+    let small : sum (sizes_of (lists vs)) ≤ 67108864 = omega (arith, c.requires.words, c.requires.small) in
     let short = written_short vs c.loop-segment.segment-index c.segment-item.result c.loop-segment-test.true c.segment-item.is few small in
     omega (arith, short, ap (λ (b : List ℕ). length b) c.loop-segment.invariant, ap (λ (b : List ℕ). length b) c.deref.ensures.value)
 
 pub loop-segment-preserved : goal.loop-segment-preserved
 loop-segment-preserved c =
-    let vs = c.lists-segments.result.now in
+    let vs = c.args.segments.now in
     let i = c.loop-segment.segment-index in
     let front = padded_table (lists vs) in
     let before = flat_map bytes_of (take i (lists vs)) in

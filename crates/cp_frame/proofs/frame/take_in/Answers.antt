@@ -4,7 +4,7 @@ use Rattle.std.proofs.lemmas.Iterator.{YieldsList-from_map, YieldsList-from_slic
 use Rattle.std.proofs.lemmas.Iterator.Consumers.{YieldsList-at}
 use Rattle.std.proofs.lemmas.Iterator.Adapters.{items_from_extend}
 use Rattle.std.proofs.lemmas.Result.{on_ok_weaker}
-use Rattle.cp_frame.proofs.frame.push_words.Goals as goal
+use Rattle.cp_frame.proofs.frame.take_in.Goals as goal
 
 pub returns : goal.returns
 returns c =

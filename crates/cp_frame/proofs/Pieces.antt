@@ -1,0 +1,78 @@
+-- A frame that is written in packed pieces.
+use Rattle.std.proofs.Common.{◌≡◌, ◌==◌, if◌then◌else◌, Bool, true, false, ℕ, ◌+◌, ◌-◌, ◌*◌, ◌/◌, ◌%◌, ◌<◌, ◌≤◌, List, [], ◌∷◌, ◌++◌, length, take, get_or, refl, sym, ◌∙◌, ap, subst, append_assoc, length-append, arith}
+use Rattle.std.specs.List.{AllByRecursion, AllZip, flat_map}
+use Rattle.std.specs.Int.{to_le_bytes, w32}
+use Rattle.std.specs.Global.{Vec}
+use Rattle.std.proofs.lemmas.List.{append-nil, take_all}
+use Rattle.std.proofs.lemmas.Grind.{flat_map-append}
+use Rattle.cp_frame.specs.declared.mode.Mode.TheVariants as modes
+use Rattle.cp_frame.specs.Framed.{AreBytes, bytes_of, spelled, sizes_of, table}
+use Rattle.cp_frame.specs.Frame.{IsWritten, padded_table}
+use Rattle.cp_frame.specs.Packed.{Spelt}
+use Rattle.cp_frame.specs.Packing.{PutsSpelt}
+use Rattle.cp_frame.specs.Parts.{lists, words_in}
+use Rattle.cp_frame.proofs.Numbers.{length_spelled}
+use Rattle.cp_frame.proofs.Filling.{words_in_is}
+use Rattle.cp_frame.proofs.Framing.{length_sizes}
+use Rattle.cp_frame.proofs.Opened.{next_list}
+use Rattle.cp_frame.proofs.Whole.{length_padding}
+use Rattle.cp_frame.proofs.Unpacks.{byte_at}
+use Rattle.cp_frame.proofs.Certain.{are-append}
+
+all_zip-push : (S : List (List ℕ)) (T : List (List ℕ)) (s t : List ℕ) → AllZip Spelt S T → Spelt s t → AllZip Spelt (S ++ s ∷ []) (T ++ t ∷ [])
+all_zip-push [] [] s t h k = (k, tt)
+all_zip-push [] (y ∷ T) s t h k = absurd h
+all_zip-push (x ∷ S) [] s t h k = absurd h
+all_zip-push (x ∷ S) (y ∷ T) s t h k = (h.0, all_zip-push S T s t h.1 k)
+
+-- The table and some segments were written.
+pub record WritesPieces (head : List ℕ) (S : List (List ℕ)) (out : List ℕ) : Type 0 where
+  pub front : List ℕ
+  pub pieces : List (List ℕ)
+  pub first : Spelt head front
+  pub each : AllZip Spelt S pieces
+  pub text : out ≡ front ++ flat_map (λ piece. piece) pieces
+
+pub pieces_none : (head old out : List ℕ) → old ≡ [] → PutsSpelt old out head → WritesPieces head [] out
+pieces_none head old out e h =
+    record { front = h.0; pieces = []; first = h.1; each = tt; text = h.2 ∙ ap (λ (b : List ℕ). b ++ h.0) e ∙ sym (append-nil h.0) }
+
+pub pieces_more : (head : List ℕ) (vs : List (Vec ℕ)) (i : ℕ) (v : Vec ℕ) (words old out : List ℕ) → i < length vs → v ≡ get_or vs i v → words ≡ v.items
+    → WritesPieces head (take i (lists vs)) old → PutsSpelt old out words → WritesPieces head (take (i + 1) (lists vs)) out
+pieces_more head vs i v words old out l r e h p =
+    let piece : Spelt v.items p.0 = subst (λ (ws : List ℕ). Spelt ws p.0) e p.1 in
+    record {
+      front = h.front;
+      pieces = h.pieces ++ p.0 ∷ [];
+      first = h.first;
+      each = subst (λ (S : List (List ℕ)). AllZip Spelt S (h.pieces ++ p.0 ∷ [])) (sym (next_list vs i v l r)) (all_zip-push (take i (lists vs)) h.pieces v.items p.0 h.each piece);
+      text =
+          p.2 ∙ ap (λ (b : List ℕ). b ++ p.0) h.text ∙ append_assoc h.front (flat_map (λ piece. piece) h.pieces) p.0
+          ∙ ap (λ (b : List ℕ). h.front ++ (flat_map (λ piece. piece) h.pieces ++ b)) (sym (append-nil p.0)) ∙ ap (λ (b : List ℕ). h.front ++ b) (sym (flat_map-append (λ (piece : List ℕ). piece) h.pieces (p.0 ∷ [])));
+    }
+
+pub pieces_all : (head : List ℕ) (S : List (List ℕ)) (i : ℕ) (out : List ℕ) → padded_table S ≡ bytes_of head → length S ≤ i → WritesPieces head (take i S) out → IsWritten modes.Packed S out
+pieces_all head S i out e l h =
+    (head, h.front, h.pieces, e, h.first, subst (λ (T : List (List ℕ)). AllZip Spelt T h.pieces) (take_all i S l) h.each, h.text)
+
+-- the padded table is whole words
+pub length_table : (S : List (List ℕ)) → 0 < length S → length (padded_table S) ≡ 8 * (length S / 2 + 1)
+length_table S h =
+    omega (arith, length-append (table S) (if length S % 2 == 0 then spelled (0 ∷ []) else []), length_spelled ((length S - 1) ∷ sizes_of S), length_sizes S, length_padding (length S), h)
+
+pub table_in_words : (S : List (List ℕ)) (b : List ℕ) → 0 < length S → b ≡ padded_table S → ((i : ℕ) → get_or b i 0 < 256) → padded_table S ≡ bytes_of (words_in b)
+table_in_words S b h e k =
+    let long : length b ≡ 8 * (length S / 2 + 1) = ap (λ (c : List ℕ). length c) e ∙ length_table S h in
+    sym e ∙ sym (words_in_is (length S / 2 + 1) b long k).2
+
+-- its bytes are bytes
+spelled_are : (ns : List ℕ) → AreBytes (spelled ns)
+spelled_are [] = tt
+spelled_are (n ∷ ns) = are-append (to_le_bytes w32 n) (spelled ns) (omega arith, (omega arith, (omega arith, (omega arith, tt)))) (spelled_are ns)
+
+padding_are : (b : Bool) → AreBytes (if b then spelled (0 ∷ []) else [])
+padding_are true = spelled_are (0 ∷ [])
+padding_are false = tt
+
+pub padded_small : (S : List (List ℕ)) (i : ℕ) → get_or (padded_table S) i 0 < 256
+padded_small S i = byte_at (padded_table S) (are-append (table S) (if length S % 2 == 0 then spelled (0 ∷ []) else []) (spelled_are ((length S - 1) ∷ sizes_of S)) (padding_are (length S % 2 == 0))) i

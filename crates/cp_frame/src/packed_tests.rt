@@ -1,0 +1,116 @@
+//! Packed words from outside, whole and in pieces.
+
+use super::*;
+use cp_words::Segments;
+use std::alloc::Global;
+use std::process::Abort;
+use std::test::Fail;
+
+/// Two words packed, and the words.
+const TWO: ([u8; 8], [u64; 2]) = (
+    [0x51, 0x08, 0x03, 0x02, 0x31, 0x19, 0xaa, 0x01],
+    [0x0002_0003_0000_0008, 0x0000_01aa_0000_0019],
+);
+
+/// `finish` of question 7: the table and four words.
+const FINISH: [u8; 11] = [0x10, 4, 0x50, 1, 1, 1, 4, 0x10, 1, 1, 7];
+
+/// `bootstrap` of question 0.
+const BOOTSTRAP: [u8; 12] = [0x10, 5, 0x50, 1, 1, 1, 8, 0x50, 1, 1, 0, 1];
+
+/// `release` of export 5, three times.
+const RELEASE: [u8; 12] = [0x10, 4, 0x50, 1, 1, 1, 6, 0x10, 1, 0x11, 5, 3];
+
+/// Words pack to bytes, and these unpack to them and to no fewer.
+fn expect_packed(rt: &impl Abort, alloc: Global, words: &[u64], bytes: &[u8]) -> Result<(), Fail> {
+    assert_eq!(rt; pack(alloc, words)?.as_slice(), bytes);
+    assert_eq!(rt; unpack(alloc, bytes, words.len())?.as_slice(), words);
+    if !words.is_empty() {
+        let refused = unpack(alloc, bytes, words.len() - 1);
+        assert_eq!(rt; refused.err(), Some(FrameFault::FrameTooLarge));
+    }
+    Ok(())
+}
+
+#[test]
+fn words_are_packed_and_unpacked(rt: HostRuntime) -> Result<(), Fail> {
+    expect_packed(&rt, rt.alloc(), &TWO.1, &TWO.0)?;
+    expect_packed(&rt, rt.alloc(), &[0; 4], &[0, 3])?;
+    let same = vec![in rt.alloc(); 0x8a8a_8a8a_8a8a_8a8au64; 4]?;
+    let mut raw = vec![in rt.alloc(); 0x8au8; 34]?;
+    raw[0] = 0xff;
+    raw[9] = 3;
+    expect_packed(&rt, rt.alloc(), &same, &raw)?;
+    let zeros = vec![in rt.alloc(); 0u64; 257]?;
+    expect_packed(&rt, rt.alloc(), &zeros[..256], &[0, 255])?;
+    expect_packed(&rt, rt.alloc(), &zeros, &[0, 255, 0, 0])?;
+    expect_packed(&rt, rt.alloc(), &[7], &[1, 7])?;
+    expect_packed(&rt, rt.alloc(), &[], &[])
+}
+
+#[test]
+fn a_byte_under_a_set_bit_may_be_zero(rt: HostRuntime) -> Result<(), Fail> {
+    assert_eq!(rt;
+        unpack(rt.alloc(), &[3, 7, 0], 1)?.as_slice(),
+        [7].as_slice()
+    );
+    Ok(())
+}
+
+#[test]
+fn too_many_words_are_told_before_an_open_group(rt: HostRuntime) -> Result<(), Fail> {
+    let rows: [(&[u8], usize, FrameFault); 8] = [
+        (&[0, 0], 0, FrameFault::FrameTooLarge),
+        (&[0], 0, FrameFault::FrameTooLarge),
+        (&[0], 1, FrameFault::Truncated),
+        (&[1], 0, FrameFault::Truncated),
+        (&[1], 1, FrameFault::Truncated),
+        (
+            &[0xff, 1, 2, 3, 4, 5, 6, 7, 8],
+            0,
+            FrameFault::FrameTooLarge,
+        ),
+        (&[0xff, 1, 2, 3, 4, 5, 6, 7, 8, 1], 1, FrameFault::Truncated),
+        (&[0xff, 1, 2, 3, 4, 5, 6, 7], 0, FrameFault::Truncated),
+    ];
+    for (bytes, limit, fault) in rows {
+        assert_eq!(rt; unpack(rt.alloc(), bytes, limit).err(), Some(fault));
+    }
+    assert_eq!(rt; unpack(rt.alloc(), &[], 0)?.len(), 0);
+    Ok(())
+}
+
+/// The one segment of a frame that these packed bytes are, and the same frame written.
+fn write_packed_back(rt: &impl Abort, alloc: Global, bytes: &[u8]) -> Result<(), Fail> {
+    let words = unpack(alloc, bytes, 32)?;
+    assert!(rt; !words.is_empty());
+    let mut lists = Vec::new(alloc);
+    lists.push(words[1..].to_vec(alloc)?)?;
+    let Ok(segments) = Segments::new(lists) else {
+        return Err(Fail::from("segments"));
+    };
+    let written = write_frame(alloc, &segments, Mode::Packed, Limits::standard())?;
+    assert_eq!(rt; written.as_slice(), bytes);
+    Ok(())
+}
+
+#[test]
+fn a_frame_is_written_packed(rt: HostRuntime) -> Result<(), Fail> {
+    write_packed_back(&rt, rt.alloc(), &FINISH)?;
+    write_packed_back(&rt, rt.alloc(), &BOOTSTRAP)?;
+    write_packed_back(&rt, rt.alloc(), &RELEASE)
+}
+
+#[test]
+fn the_table_and_each_segment_are_packed_by_themselves(rt: HostRuntime) -> Result<(), Fail> {
+    let mut lists = Vec::new(rt.alloc());
+    lists.push([0].to_vec(rt.alloc())?)?;
+    lists.push([0, 0].to_vec(rt.alloc())?)?;
+    let Ok(segments) = Segments::new(lists) else {
+        return Err(Fail::from("segments"));
+    };
+    let written = write_frame(rt.alloc(), &segments, Mode::Packed, Limits::standard())?;
+    let bytes = [0x11, 1, 1, 0x01, 2, 0, 0, 0, 1];
+    assert_eq!(rt; written.as_slice(), bytes.as_slice());
+    Ok(())
+}

@@ -1,0 +1,137 @@
+//! Packing words.
+
+ghost use Rattle.std.specs.Prelude.{◌≡◌, ◌≤◌, ◌<◌, ◌++◌, ◌∷◌, ◌⊎◌, IfOk, IfErr, OnOk, length, take, drop, replicate};
+ghost use Rattle.std.specs.List.{AllByRecursion};
+ghost use Rattle.std.specs.Int.{to_le_bytes, w64};
+ghost use Rattle.cp_frame.specs.Framed.{bytes_of};
+ghost use Rattle.cp_frame.specs.Packed.{Spelt, StartsWithout, zero_bytes, tag, written};
+ghost use Rattle.cp_frame.specs.Packing.{PutsGroup, PutsSpelt, bytes_that_count};
+ghost use Rattle.cp_frame.specs.declared.fault.FrameFault.TheVariants.{OutOfMemory};
+
+use crate::fault::FrameFault;
+use std::alloc::{AllocError, Global};
+
+/// How many words a run has at most behind its first.
+const MOST: usize = 255;
+
+/// How many of a word's bytes are zero.
+fn count_zeros(word: u64) -> usize
+    ensures { result ≡ zero_bytes word }
+{
+    word.to_le_bytes().iter().filter(|byte| **byte == 0).count()
+}
+
+/// How many of these words a run of zero words takes behind its first.
+fn zero_run(words: &[u64]) -> usize
+    ensures few { result ≤ 255 }
+    ensures within { result ≤ length words.now }
+    ensures zeros { take result words.now ≡ replicate result 0 }
+    ensures ends { (result ≡ 255) ⊎ StartsWithout (λ w. w ≡ 0) (drop result words.now) }
+{
+    for (place, word) in words.iter().enumerate() {
+        if place == MOST || *word != 0 {
+            return place;
+        }
+    }
+    words.len()
+}
+
+/// How many of these words a raw run takes behind its first.
+fn raw_run(words: &[u64]) -> usize
+    ensures few { result ≤ 255 }
+    ensures within { result ≤ length words.now }
+    ensures full { AllByRecursion (λ w. zero_bytes w ≤ 1) (take result words.now) }
+    ensures ends { (result ≡ 255) ⊎ StartsWithout (λ w. zero_bytes w ≤ 1) (drop result words.now) }
+{
+    for (place, word) in words.iter().enumerate() {
+        if place == MOST || 1 < count_zeros(*word) {
+            return place;
+        }
+    }
+    words.len()
+}
+
+/// A bit for each byte that isn't zero, the first byte's lowest.
+fn tag_of(bytes: &[u8; 8]) -> u8
+    ensures { result ≡ tag (bytes_that_count bytes.now) }
+{
+    let mut tag = 0;
+    for behind in 0..8 {
+        tag *= 2;
+        if bytes[7 - behind] != 0 {
+            tag += 1;
+        }
+    }
+    tag
+}
+
+/// Writes a group of one word that has bytes of both kinds.
+fn push_sparse(out: &mut Vec<u8>, tag: u8, bytes: &[u8; 8]) -> Result<(), AllocError>
+    ensures { OnOk result (out.new.items ≡ out.old.items ++ tag ∷ written (bytes_that_count bytes.now)) }
+{
+    out.push(tag)?;
+    for byte in bytes {
+        if *byte != 0 {
+            out.push(*byte)?;
+        }
+    }
+    Ok(())
+}
+
+/// Writes words as they are.
+fn push_raw(out: &mut Vec<u8>, words: &[u64]) -> Result<(), AllocError>
+    ensures { OnOk result (out.new.items ≡ out.old.items ++ bytes_of words.now) }
+{
+    for word in words {
+        out.extend_from_slice(&word.to_le_bytes())?;
+    }
+    Ok(())
+}
+
+/// Writes the group that words begin with, and gives back those behind it.
+fn push_group<'a>(out: &mut Vec<u8>, words: &'a [u64]) -> Result<&'a [u64], AllocError>
+    requires { 0 < length words.now }
+    ensures group { IfOk result (λ back. PutsGroup out.old.items out.new.items words.now back.now) }
+    ensures shorter { IfOk result (λ back. length back.now < length words.now) }
+{
+    let bytes = words[0].to_le_bytes();
+    let tag = tag_of(&bytes);
+    let (_, behind) = words.split_at(1);
+    if 0 < tag && tag < 255 {
+        push_sparse(out, tag, &bytes)?;
+        return Ok(behind);
+    }
+    out.push(tag)?;
+    if tag == 0 {
+        let (run, back) = behind.split_at(zero_run(behind));
+        out.push(run.len() as u8)?;
+        return Ok(back);
+    }
+    out.extend_from_slice(&bytes)?;
+    let (run, back) = behind.split_at(raw_run(behind));
+    out.push(run.len() as u8)?;
+    push_raw(out, run)?;
+    Ok(back)
+}
+
+/// Writes words, packed as one piece.
+pub fn push_packed(out: &mut Vec<u8>, words: &[u64]) -> Result<(), AllocError>
+    ensures { OnOk result (PutsSpelt out.old.items out.new.items words.now) }
+{
+    let mut left = words;
+    'packing: while !left.is_empty() {
+        left = push_group(out, left)?;
+    }
+    Ok(())
+}
+
+/// The words, packed as one piece (encoding specification, "Packing"): bytes only where they aren't
+/// zero, runs as long as possible, and as they are only words of which at most one byte is zero.
+pub fn pack(alloc: Global, words: &[u64]) -> Result<Vec<u8>, FrameFault>
+    ensures packed { IfOk result (λ out. Spelt words.now out.items) }
+    ensures refused { IfErr result (λ fault. fault ≡ OutOfMemory) }
+{
+    let mut out = Vec::new(alloc);
+    push_packed(&mut out, words)?;
+    Ok(out)
+}
