@@ -29,10 +29,18 @@ impl<const LAST: u16> Past<LAST> {
         ensures known { IfNone result (number ≤ LAST) }
     {
         if number > LAST {
-            Some(Past { number })
+            Some(Past::of(number))
         } else {
             None
         }
+    }
+
+    /// A number that is past the last.
+    pub(crate) fn of(number: u16) -> Past<LAST>
+        requires { LAST < number }
+        ensures { result ≡ number }
+    {
+        Past { number }
     }
 
     /// The number.

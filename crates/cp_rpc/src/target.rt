@@ -1,87 +1,19 @@
 //! What a call or a disembargo is sent to.
 
 ghost use Rattle.std.specs.Prelude.{◌≡◌, IfOk};
+ghost use Rattle.cp_rpc.specs.Fields.{IsStructField};
+ghost use Rattle.cp_rpc.specs.Answers.{Gives};
+ghost use Rattle.cp_rpc.specs.Said.{target_said};
+ghost use Rattle.cp_rpc.specs.Faulty.{target_faults};
+ghost use Rattle.cp_rpc.specs.Told.{told_target};
 
+use crate::data::{u16_at, u32_at};
+use crate::fault::{Field, SchemaFault};
+use crate::field::struct_field;
 use crate::past::Past;
+use crate::promised_answer::{PromisedAnswer, PromisedAnswerView};
+use crate::source::Source;
 use std::alloc::{AllocError, Global};
-use std::marker::Model;
-
-/// `struct PromisedAnswer.Op` of rpc.capnp: a step from an answer's content to a capability in it.
-#[derive(Clone, Copy, PartialEq, Eq, Debug)]
-pub enum Op {
-    /// `noop @0 :Void`.
-    Noop,
-    /// `getPointerField @1 :UInt16`.
-    GetPointerField(u16),
-    /// Any other number.
-    Unknown(Past<1>),
-}
-
-/// `transform @1 :List(Op)` of `struct PromisedAnswer`. Contracts see it as the list of its steps.
-#[derive(Drop)]
-pub struct Transform {
-    ops: Vec<Op>,
-}
-
-impl Model for Transform {
-    ghost use Rattle.std.specs.Prelude.{List};
-    ghost use Rattle.cp_rpc.specs.declared.target.Op.{Op};
-
-    ghost Value = { List Op };
-
-    ghost view = { λ t. t.ops.items };
-}
-
-impl Transform {
-    /// These steps, in order.
-    pub fn new(ops: Vec<Op>) -> Transform
-        ensures { result ≡ ops.items }
-    {
-        Transform { ops }
-    }
-
-    /// The steps, lent.
-    pub fn ops(&self) -> &[Op]
-        ensures { result.now ≡ self.now }
-    {
-        &self.ops
-    }
-
-    /// The steps themselves.
-    pub fn into_ops(self) -> Vec<Op>
-        ensures { result.items ≡ self }
-    {
-        self.ops
-    }
-
-    /// An equal transform.
-    pub fn copy(&self, alloc: Global) -> Result<Transform, AllocError>
-        ensures { IfOk result (λ t. t ≡ self.now) }
-    {
-        Ok(Transform::new(Vec::from_slice(alloc, self.ops())?))
-    }
-}
-
-/// `struct PromisedAnswer` of rpc.capnp.
-#[derive(Drop)]
-pub struct PromisedAnswer {
-    /// `questionId @0 :QuestionId`.
-    pub question_id: u32,
-    /// `transform @1 :List(Op)`.
-    pub transform: Transform,
-}
-
-impl PromisedAnswer {
-    /// An equal promised answer.
-    pub fn copy(&self, alloc: Global) -> Result<PromisedAnswer, AllocError>
-        ensures { IfOk result (λ p. p ≡ self.now) }
-    {
-        Ok(PromisedAnswer {
-            question_id: self.question_id,
-            transform: self.transform.copy(alloc)?,
-        })
-    }
-}
 
 /// `struct MessageTarget` of rpc.capnp.
 #[derive(Drop)]
@@ -94,7 +26,22 @@ pub enum Target {
     Unknown(Past<1>),
 }
 
+/// A target that is read in place.
+#[derive(Drop)]
+pub enum TargetView<S: Source> {
+    ImportedCap(u32),
+    PromisedAnswer(PromisedAnswerView<S>),
+    Unknown(Past<1>),
+}
+
 impl Target {
+    /// The union's number, u16.
+    const WHICH: usize = 2;
+    /// `importedCap @0 :ImportId`, u32.
+    const IMPORTED_CAP: usize = 0;
+    /// `promisedAnswer @1 :PromisedAnswer`, a pointer.
+    const PROMISED_ANSWER: u32 = 0;
+
     /// An equal target.
     pub fn copy(&self, alloc: Global) -> Result<Target, AllocError>
         ensures { IfOk result (λ t. t ≡ self.now) }
@@ -103,6 +50,41 @@ impl Target {
             Target::ImportedCap(id) => Target::ImportedCap(*id),
             Target::PromisedAnswer(answer) => Target::PromisedAnswer(answer.copy(alloc)?),
             Target::Unknown(number) => Target::Unknown(*number),
+        })
+    }
+}
+
+impl<S: Source> TargetView<S> {
+    /// The target that a struct says.
+    pub(crate) fn of(t: &S) -> Result<TargetView<S>, SchemaFault>
+        requires { IsStructField (S.seen t.now) }
+        ensures { Gives (told_target S.seen) (target_said (S.seen t.now)) (target_faults (S.seen t.now)) result }
+    {
+        let words = t.data();
+        match u16_at(words, Target::WHICH) {
+            0 => Ok(TargetView::ImportedCap(u32_at(words, Target::IMPORTED_CAP))),
+            1 => {
+                let answer = struct_field(
+                    t,
+                    Target::PROMISED_ANSWER,
+                    Field::MessageTargetPromisedAnswer,
+                )?;
+                Ok(TargetView::PromisedAnswer(PromisedAnswerView::of(&answer)?))
+            }
+            number => Ok(TargetView::Unknown(Past::of(number))),
+        }
+    }
+
+    /// The target, owned.
+    pub fn target(&self, alloc: Global) -> Result<Target, AllocError>
+        ensures { IfOk result (λ t. t ≡ told_target S.seen self.now) }
+    {
+        Ok(match self {
+            TargetView::ImportedCap(id) => Target::ImportedCap(*id),
+            TargetView::PromisedAnswer(answer) => Target::PromisedAnswer(answer.promised_answer(
+                alloc,
+            )?),
+            TargetView::Unknown(number) => Target::Unknown(*number),
         })
     }
 }

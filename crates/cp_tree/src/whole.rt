@@ -48,8 +48,15 @@ impl Model for Object {
 
 impl Whole {
     ghost use Rattle.std.specs.Prelude.{◌≡◌, IfOk, IfErr};
-    ghost use Rattle.cp_tree.specs.Node.{IsStruct};
+    ghost use Rattle.cp_tree.specs.Node.{IsStruct, null};
     ghost use Rattle.cp_tree.specs.NodeOf.{node_of};
+
+    /// A null pointer.
+    pub fn null() -> Whole
+        ensures { result ≡ null }
+    {
+        Whole { tree: Tree::Null }
+    }
 
     /// The tree, lent.
     pub fn tree(&self) -> &Tree
