@@ -2,7 +2,7 @@
 
 use crate::fault::Fault;
 use crate::frame::segments_of;
-use crate::notation::line_of;
+use crate::line::line_of;
 use cp_rpc::message_view;
 use cp_tree::{Limits, View};
 use std::alloc::Global;

@@ -22,10 +22,10 @@ pub enum Fault {
     Tree(&'static str, usize, usize),
     #[error("G10 OutOfMemory")]
     TreeOutOfMemory,
-    #[error("S0 NotYet")]
-    NotYetMessage,
     #[error("S1 Kind {0}")]
     Kind(Field),
+    #[error("S2 Text {0}")]
+    Text(Field),
     #[error("S3 OutOfMemory")]
     MessageOutOfMemory,
 }
@@ -64,8 +64,8 @@ impl From<TreeFault> for Fault {
 impl From<SchemaFault> for Fault {
     fn from(fault: SchemaFault) -> Fault {
         match fault {
-            SchemaFault::NotYet => Fault::NotYetMessage,
             SchemaFault::Kind(field) => Fault::Kind(field),
+            SchemaFault::Text(field) => Fault::Text(field),
             SchemaFault::OutOfMemory => Fault::MessageOutOfMemory,
         }
     }

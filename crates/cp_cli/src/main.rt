@@ -5,6 +5,7 @@ mod act;
 mod command;
 mod fault;
 mod frame;
+mod line;
 mod notation;
 
 pub use act::{Plan, act};

@@ -1,42 +1,17 @@
-//! The lines of `show`.
+//! Trees, as `show` writes them.
 
 ghost use Rattle.std.specs.Prelude.{◌≡◌};
 ghost use Rattle.cp_tree.specs.Node.{IsStruct, count, number_of};
 ghost use Rattle.cp_tree.specs.Rows.{row_of, bodies_in};
 
-use cp_rpc::MessageView;
 use cp_tree::{Shape, View};
 use cp_words::ElementSize;
 use std::alloc::{AllocError, Global};
 
-/// The line of a message, with its line feed.
-pub(crate) fn line_of(alloc: Global, message: &MessageView) -> Result<String, AllocError> {
-    let mut line = String::new(alloc);
-    match message {
-        MessageView::Unimplemented(view) => {
-            line.push_str("unimplemented ")?;
-            tree(alloc, &mut line, view)?;
-        }
-        MessageView::Finish(finish) => {
-            let (q, release) = (finish.question_id, finish.release_result_caps);
-            write!(line, "finish q={q} releaseResultCaps={release}")?;
-        }
-        MessageView::Release(release) => {
-            let (id, count) = (release.id, release.reference_count);
-            write!(line, "release id={id} count={count}")?;
-        }
-        MessageView::Bootstrap(bootstrap) => {
-            write!(line, "bootstrap q={}", bootstrap.question_id)?;
-        }
-    }
-    line.push('\n')?;
-    Ok(line)
-}
-
 /// A tree: `null`, `cap:N`, a struct `(WORDS;TREES)`, `void:N`, a list by the name of its elements,
 /// `ptrs[..]`, or `structs:D,P[..]`.
 #[cycle(tree)]
-fn tree(alloc: Global, line: &mut String, view: &View) -> Result<(), AllocError> {
+pub(crate) fn tree(alloc: Global, line: &mut String, view: &View) -> Result<(), AllocError> {
     match view.shape() {
         Shape::Null => line.push_str("null"),
         Shape::Cap(index) => write!(line, "cap:{index}"),
@@ -102,7 +77,7 @@ fn elements(alloc: Global, line: &mut String, view: &View, number: u32) -> Resul
 }
 
 /// A comma before each part but the first.
-fn separate(line: &mut String, index: usize) -> Result<(), AllocError> {
+pub(crate) fn separate(line: &mut String, index: usize) -> Result<(), AllocError> {
     if index > 0 { line.push(',') } else { Ok(()) }
 }
 

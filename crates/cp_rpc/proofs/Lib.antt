@@ -1,1 +1,4 @@
-pub mod Members
+pub mod Blocks
+pub mod Firsts
+pub mod Items
+pub mod Parts

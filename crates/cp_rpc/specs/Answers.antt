@@ -1,13 +1,24 @@
--- What a reading of a message answered.
-use Rattle.std.specs.Prelude.{◌≡◌, Result, Ok, Err}
+-- What a reading answered.
+use Rattle.std.specs.Prelude.{◌≡◌, ◌⊎◌, List, [], ◌∷◌, Option, None, Some, Result, Ok, Err}
+use Rattle.cp_tree.specs.Node.{Node}
 use Rattle.cp_rpc.specs.Told.{told}
 use Rattle.cp_rpc.specs.declared.fault.SchemaFault.{SchemaFault}
 use Rattle.cp_rpc.specs.declared.fault.SchemaFault.TheVariants as faults
 use Rattle.cp_rpc.specs.declared.message.Message.{Message}
-use Rattle.cp_rpc.specs.declared.message.MessageView.{MessageView}
+use Rattle.cp_rpc.specs.declared.message.MessageIn.{MessageIn}
+
+-- the first of a list
+abbrev pub first_of : List SchemaFault → Option SchemaFault
+first_of [] = None
+first_of (f ∷ fs) = Some f
+
+-- There are no faults, and what was answered tells what is said; or the first fault was answered.
+abbrev pub Gives : {V X : Type 0} → (V → X) → X → List SchemaFault → Result V SchemaFault → Type 0
+Gives told said faults (Ok v) = (faults ≡ []) × (told v ≡ said)
+Gives told said faults (Err f) = first_of faults ≡ Some f
 
 -- a view of this message was answered
-abbrev pub AnswersView : Result MessageView SchemaFault → Message → Type 0
+abbrev pub AnswersView : Result (MessageIn Node) SchemaFault → Message → Type 0
 AnswersView (Ok v) m = told v ≡ m
 AnswersView (Err fault) m = ⊥
 
@@ -15,3 +26,7 @@ AnswersView (Err fault) m = ⊥
 abbrev pub Answers : Result Message SchemaFault → Message → Type 0
 Answers (Ok x) m = x ≡ m
 Answers (Err fault) m = fault ≡ faults.OutOfMemory
+
+-- the fault is the first of these, or want of memory
+abbrev pub IsFirstFault : List SchemaFault → SchemaFault → Type 0
+IsFirstFault fs fault = (fault ≡ faults.OutOfMemory) ⊎ (first_of fs ≡ Some fault)

@@ -3,4 +3,9 @@ pub mod Answers
 pub mod Told
 pub mod Names
 pub mod Fields
+pub mod Said
+pub mod Faulty
+pub mod Blocks
+pub mod Others
 pub mod Says
+pub mod OwnedNode

@@ -5,7 +5,7 @@ ghost use Rattle.cp_tree.specs.Denotes.{element};
 
 /// The `index`-th number of so many bits, counted from the section's start. What lies past its end
 /// is zero.
-fn number_at(words: &[u64], width: usize, index: usize) -> u64
+pub(crate) fn number_at(words: &[u64], width: usize, index: usize) -> u64
     requires some { 0 < width }
     requires narrow { width < 64 }
     requires small { index < 2 ^ 32 }
@@ -33,6 +33,17 @@ pub(crate) fn u32_at(words: &[u64], index: usize) -> u32
     ensures { result ≡ element words.now 32 index }
 {
     number_at(words, 32, index) as u32
+}
+
+/// The `index`-th number of 64 bits.
+pub(crate) fn u64_at(words: &[u64], index: usize) -> u64
+    requires { index < 2 ^ 32 }
+    ensures { result ≡ element words.now 64 index }
+{
+    match words.get(index) {
+        Some(word) => *word,
+        None => 0,
+    }
 }
 
 /// The `index`-th bit.

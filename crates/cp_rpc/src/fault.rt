@@ -6,9 +6,27 @@ use std::fmt;
 /// A field of rpc.capnp, by its struct's name and its own.
 #[derive(Clone, Copy, PartialEq, Eq, Debug)]
 pub enum Field {
-    MessageBootstrap,
+    MessageAbort,
+    MessageCall,
+    MessageReturn,
     MessageFinish,
+    MessageResolve,
     MessageRelease,
+    MessageBootstrap,
+    MessageDisembargo,
+    CallTarget,
+    CallParams,
+    MessageTargetPromisedAnswer,
+    PromisedAnswerTransform,
+    PayloadCapTable,
+    CapDescriptorReceiverAnswer,
+    ReturnResults,
+    ReturnException,
+    ResolveCap,
+    ResolveException,
+    DisembargoTarget,
+    ExceptionReason,
+    ExceptionTrace,
 }
 
 impl Field {
@@ -20,9 +38,27 @@ impl Field {
         ensures { result.now ≡ name_of self }
     {
         match self {
-            Field::MessageBootstrap => "Message.bootstrap",
+            Field::MessageAbort => "Message.abort",
+            Field::MessageCall => "Message.call",
+            Field::MessageReturn => "Message.return",
             Field::MessageFinish => "Message.finish",
+            Field::MessageResolve => "Message.resolve",
             Field::MessageRelease => "Message.release",
+            Field::MessageBootstrap => "Message.bootstrap",
+            Field::MessageDisembargo => "Message.disembargo",
+            Field::CallTarget => "Call.target",
+            Field::CallParams => "Call.params",
+            Field::MessageTargetPromisedAnswer => "MessageTarget.promisedAnswer",
+            Field::PromisedAnswerTransform => "PromisedAnswer.transform",
+            Field::PayloadCapTable => "Payload.capTable",
+            Field::CapDescriptorReceiverAnswer => "CapDescriptor.receiverAnswer",
+            Field::ReturnResults => "Return.results",
+            Field::ReturnException => "Return.exception",
+            Field::ResolveCap => "Resolve.cap",
+            Field::ResolveException => "Resolve.exception",
+            Field::DisembargoTarget => "Disembargo.target",
+            Field::ExceptionReason => "Exception.reason",
+            Field::ExceptionTrace => "Exception.trace",
         }
     }
 }
@@ -41,10 +77,10 @@ impl fmt::Display for Field {
 /// What keeps a tree from being a message.
 #[derive(Clone, Copy, PartialEq, Eq, Debug)]
 pub enum SchemaFault {
-    /// S0: a message that isn't read yet.
-    NotYet,
     /// S1: a pointer field holds a tree of another kind.
     Kind(Field),
+    /// S2: a text field's list of bytes doesn't hold a text.
+    Text(Field),
     /// S3: memory ran out.
     OutOfMemory,
 }

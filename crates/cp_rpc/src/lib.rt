@@ -2,14 +2,43 @@
 //! message is.
 #![tactic(auto)]
 
+mod call;
 mod data;
+mod descriptor;
+mod disembargo;
+mod exception;
 mod fault;
+mod field;
 mod message;
+mod owned;
+mod past;
+mod payload;
+mod promised_answer;
 mod read;
+mod resolve;
+mod returned;
+mod small;
+mod source;
+mod target;
+mod text;
+mod utf8;
 
+pub use call::{Call, CallView, SendResultsTo, SendResultsToView};
+pub use descriptor::{Descriptor, DescriptorView};
+pub use disembargo::{Context, Disembargo, DisembargoView};
+pub use exception::{Exception, ExceptionKind, ExceptionView};
 pub use fault::{Field, SchemaFault};
-pub use message::{Bootstrap, Finish, Message, MessageView, Release};
+pub use message::{Message, MessageIn, MessageView, OtherWhich};
+pub use past::Past;
+pub use payload::{CapTable, CapTableView, Payload, PayloadView};
+pub use promised_answer::{Op, PromisedAnswer, PromisedAnswerView, Transform, TransformView};
 pub use read::{message_of, message_view};
+pub use resolve::{Resolution, ResolutionView, Resolve, ResolveView};
+pub use returned::{Return, ReturnView, Returned, ReturnedView};
+pub use small::{Bootstrap, Finish, Release};
+pub use source::{Look, Source};
+pub use target::{Target, TargetView};
+pub use text::{Text, TextView};
 
 #[cfg(test)]
 mod tests;

@@ -1,34 +1,76 @@
 //! Messages.
 
-ghost use Rattle.std.specs.Prelude.{◌≡◌, IfOk};
-ghost use Rattle.cp_rpc.specs.Told.{told};
+ghost use Rattle.std.specs.Prelude.{◌≡◌, Some, IfOk, IfErr, IfSome, IfNone, true, false};
+ghost use Rattle.cp_tree.specs.Node.{Node, IsStruct};
+ghost use Rattle.cp_rpc.specs.Fields.{IsStructField};
+ghost use Rattle.cp_rpc.specs.Answers.{Gives};
+ghost use Rattle.cp_rpc.specs.Others.{is_other};
+ghost use Rattle.cp_rpc.specs.Said.{message_said};
+ghost use Rattle.cp_rpc.specs.Faulty.{message_faults};
+ghost use Rattle.cp_rpc.specs.Told.{told_message};
 
+use crate::call::{Call, CallView};
+use crate::data::u16_at;
+use crate::disembargo::{Disembargo, DisembargoView};
+use crate::exception::{Exception, ExceptionView};
+use crate::fault::{Field, SchemaFault};
+use crate::field::struct_field;
+use crate::resolve::{Resolve, ResolveView};
+use crate::returned::{Return, ReturnView};
+use crate::small::{Bootstrap, Finish, Release};
+use crate::source::Source;
 use cp_tree::{View, Whole};
 use std::alloc::{AllocError, Global};
+use std::marker::Model;
 
-/// `struct Bootstrap` of rpc.capnp.
+/// The number of a member of `struct Message` that this crate doesn't look into: 7 and 9 to 12, which
+/// are obsolete or of three-party handoff, or past 13. Contracts see it as the number.
 #[derive(Clone, Copy, PartialEq, Eq, Debug)]
-pub struct Bootstrap {
-    /// `questionId @0 :QuestionId`.
-    pub question_id: u32,
+pub struct OtherWhich {
+    number: u16,
 }
 
-/// `struct Finish` of rpc.capnp.
-#[derive(Clone, Copy, PartialEq, Eq, Debug)]
-pub struct Finish {
-    /// `questionId @0 :QuestionId`.
-    pub question_id: u32,
-    /// `releaseResultCaps @1 :Bool = true`.
-    pub release_result_caps: bool,
+impl Model for OtherWhich {
+    ghost use Rattle.std.specs.Prelude.{◌≡◌, ℕ, true};
+    ghost use Rattle.cp_rpc.specs.Others.{is_other};
+
+    ghost Value = { ℕ };
+
+    ghost view = { λ w. w.number };
+
+    ghost inverse = { λ n. record { number = n } };
+
+    ghost invariant = { λ w. is_other w.number ≡ true };
 }
 
-/// `struct Release` of rpc.capnp.
-#[derive(Clone, Copy, PartialEq, Eq, Debug)]
-pub struct Release {
-    /// `id @0 :ImportId`.
-    pub id: u32,
-    /// `referenceCount @1 :UInt32`.
-    pub reference_count: u32,
+impl OtherWhich {
+    /// The number, if it is such a one.
+    pub fn new(number: u16) -> Option<OtherWhich>
+        ensures other { IfSome result (λ w. w ≡ number) }
+        ensures known { IfNone result (is_other number ≡ false) }
+    {
+        match number {
+            7 | 9..=12 => Some(OtherWhich { number }),
+            _ if number > 13 => Some(OtherWhich { number }),
+            _ => None,
+        }
+    }
+
+    /// Such a number.
+    fn of(number: u16) -> OtherWhich
+        requires { is_other number ≡ true }
+        ensures { result ≡ number }
+    {
+        OtherWhich { number }
+    }
+
+    /// The number.
+    pub fn number(self) -> u16
+        ensures value { result ≡ self }
+        ensures other { is_other self ≡ true }
+    {
+        self.number
+    }
 }
 
 /// `struct Message` of rpc.capnp: its member.
@@ -36,30 +78,137 @@ pub struct Release {
 pub enum Message {
     /// `unimplemented @0 :Message`: the tree of the message that a peer didn't know, not looked into.
     Unimplemented(Whole),
+    /// `abort @1 :Exception`.
+    Abort(Exception),
+    /// `call @2 :Call`.
+    Call(Call),
+    /// `return @3 :Return`.
+    Return(Return),
+    /// `finish @4 :Finish`.
     Finish(Finish),
+    /// `resolve @5 :Resolve`.
+    Resolve(Resolve),
+    /// `release @6 :Release`.
+    Release(Release),
+    /// `bootstrap @8 :Bootstrap`.
+    Bootstrap(Bootstrap),
+    /// `disembargo @13 :Disembargo`.
+    Disembargo(Disembargo),
+    /// Any other member, not looked into.
+    Other { which: OtherWhich, body: Whole },
+}
+
+/// A message whose trees are of some source.
+#[derive(Drop)]
+pub enum MessageIn<S: Source> {
+    Unimplemented(S),
+    Abort(ExceptionView<S>),
+    Call(CallView<S>),
+    Return(ReturnView<S>),
+    Finish(Finish),
+    Resolve(ResolveView<S>),
     Release(Release),
     Bootstrap(Bootstrap),
+    Disembargo(DisembargoView<S>),
+    Other { which: OtherWhich, body: S },
 }
 
 /// A message whose trees are read in place.
-#[derive(Drop)]
-pub enum MessageView<'a> {
-    Unimplemented(View<'a>),
-    Finish(Finish),
-    Release(Release),
-    Bootstrap(Bootstrap),
-}
+pub type MessageView<'a> = MessageIn<View<'a>>;
 
-impl<'a> MessageView<'a> {
-    /// The message, owned.
-    pub fn message(&self, alloc: Global) -> Result<Message, AllocError>
-        ensures { IfOk result (λ m. m ≡ told self.now) }
+impl Message {
+    /// The member's number, u16.
+    const WHICH: usize = 0;
+    /// The member, a pointer.
+    const MEMBER: u32 = 0;
+
+    /// An equal message.
+    pub fn copy(&self, alloc: Global) -> Result<Message, AllocError>
+        ensures { IfOk result (λ m. m ≡ self.now) }
     {
         Ok(match self {
-            MessageView::Unimplemented(view) => Message::Unimplemented(view.tree(alloc)?),
-            MessageView::Finish(finish) => Message::Finish(*finish),
-            MessageView::Release(release) => Message::Release(*release),
-            MessageView::Bootstrap(bootstrap) => Message::Bootstrap(*bootstrap),
+            Message::Unimplemented(tree) => Message::Unimplemented(tree.copy(alloc)?),
+            Message::Abort(exception) => Message::Abort(exception.copy(alloc)?),
+            Message::Call(call) => Message::Call(call.copy(alloc)?),
+            Message::Return(returned) => Message::Return(returned.copy(alloc)?),
+            Message::Finish(finish) => Message::Finish(*finish),
+            Message::Resolve(resolve) => Message::Resolve(resolve.copy(alloc)?),
+            Message::Release(release) => Message::Release(*release),
+            Message::Bootstrap(bootstrap) => Message::Bootstrap(*bootstrap),
+            Message::Disembargo(disembargo) => Message::Disembargo(disembargo.copy(alloc)?),
+            Message::Other { which, body } => Message::Other {
+                which: *which,
+                body: body.copy(alloc)?,
+            },
+        })
+    }
+}
+
+impl<S: Source> MessageIn<S> {
+    /// The message that a struct says.
+    pub(crate) fn of(t: &S) -> Result<MessageIn<S>, SchemaFault>
+        requires { IsStructField (S.seen t.now) }
+        ensures { Gives (told_message S.seen) (message_said (S.seen t.now)) (message_faults (S.seen t.now)) result }
+    {
+        Ok(match u16_at(t.data(), Message::WHICH) {
+            0 => MessageIn::Unimplemented(t.pointer(Message::MEMBER)),
+            1 => {
+                let member = struct_field(t, Message::MEMBER, Field::MessageAbort)?;
+                MessageIn::Abort(ExceptionView::of(&member)?)
+            }
+            2 => {
+                let member = struct_field(t, Message::MEMBER, Field::MessageCall)?;
+                MessageIn::Call(CallView::of(&member)?)
+            }
+            3 => {
+                let member = struct_field(t, Message::MEMBER, Field::MessageReturn)?;
+                MessageIn::Return(ReturnView::of(&member)?)
+            }
+            4 => {
+                let member = struct_field(t, Message::MEMBER, Field::MessageFinish)?;
+                MessageIn::Finish(Finish::of(member.data()))
+            }
+            5 => {
+                let member = struct_field(t, Message::MEMBER, Field::MessageResolve)?;
+                MessageIn::Resolve(ResolveView::of(&member)?)
+            }
+            6 => {
+                let member = struct_field(t, Message::MEMBER, Field::MessageRelease)?;
+                MessageIn::Release(Release::of(member.data()))
+            }
+            8 => {
+                let member = struct_field(t, Message::MEMBER, Field::MessageBootstrap)?;
+                MessageIn::Bootstrap(Bootstrap::of(member.data()))
+            }
+            13 => {
+                let member = struct_field(t, Message::MEMBER, Field::MessageDisembargo)?;
+                MessageIn::Disembargo(DisembargoView::of(&member)?)
+            }
+            which => MessageIn::Other {
+                which: OtherWhich::of(which),
+                body: t.pointer(Message::MEMBER),
+            },
+        })
+    }
+
+    /// The message, owned.
+    pub fn message(&self, alloc: Global) -> Result<Message, AllocError>
+        ensures { IfOk result (λ m. m ≡ told_message S.seen self.now) }
+    {
+        Ok(match self {
+            MessageIn::Unimplemented(tree) => Message::Unimplemented(tree.whole(alloc)?),
+            MessageIn::Abort(exception) => Message::Abort(exception.exception(alloc)?),
+            MessageIn::Call(call) => Message::Call(call.call(alloc)?),
+            MessageIn::Return(returned) => Message::Return(returned.owned(alloc)?),
+            MessageIn::Finish(finish) => Message::Finish(*finish),
+            MessageIn::Resolve(resolve) => Message::Resolve(resolve.resolve(alloc)?),
+            MessageIn::Release(release) => Message::Release(*release),
+            MessageIn::Bootstrap(bootstrap) => Message::Bootstrap(*bootstrap),
+            MessageIn::Disembargo(disembargo) => Message::Disembargo(disembargo.disembargo(alloc)?),
+            MessageIn::Other { which, body } => Message::Other {
+                which: *which,
+                body: body.whole(alloc)?,
+            },
         })
     }
 }

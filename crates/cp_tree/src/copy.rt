@@ -1,9 +1,11 @@
 //! Copies of trees.
 
 ghost use Rattle.std.specs.Prelude.{◌≡◌, map, IfOk};
+ghost use Rattle.cp_tree.specs.Node.{struct};
 ghost use Rattle.cp_tree.specs.NodeOf.{node_of, body_of};
 
 use crate::tree::{Body, Tree};
+use crate::whole::Whole;
 use std::alloc::{AllocError, Global};
 
 /// An equal tree.
@@ -63,4 +65,26 @@ fn bodies_copy(alloc: Global, bodies: &[Body]) -> Result<Vec<Body>, AllocError>
         found.push(body_copy(alloc, body)?)?;
     }
     Ok(found)
+}
+
+impl Tree {
+    /// An equal tree, owned.
+    pub fn copy(&self, alloc: Global) -> Result<Whole, AllocError>
+        ensures { IfOk result (λ w. w ≡ node_of self.now) }
+    {
+        Ok(Whole {
+            tree: tree_copy(alloc, self)?,
+        })
+    }
+}
+
+impl Body {
+    /// An equal struct, owned.
+    pub fn copy(&self, alloc: Global) -> Result<Whole, AllocError>
+        ensures { IfOk result (λ w. w ≡ struct (body_of self.now).0 (body_of self.now).1) }
+    {
+        Ok(Whole {
+            tree: Tree::Struct(body_copy(alloc, self)?),
+        })
+    }
 }

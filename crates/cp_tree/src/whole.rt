@@ -55,7 +55,7 @@ impl Model for Object {
 
 impl Whole {
     ghost use Rattle.std.specs.Prelude.{◌≡◌, IfOk, IfErr};
-    ghost use Rattle.cp_tree.specs.Node.{IsStruct};
+    ghost use Rattle.cp_tree.specs.Node.{IsStruct, null};
     ghost use Rattle.cp_tree.specs.NodeOf.{node_of};
     ghost use Rattle.cp_tree.specs.Shaped.{Shaped};
 
@@ -71,6 +71,13 @@ impl Whole {
         } else {
             Err(tree)
         }
+    }
+
+    /// A null pointer.
+    pub fn null() -> Whole
+        ensures { result ≡ null }
+    {
+        Whole { tree: Tree::Null }
     }
 
     /// The tree, lent.

@@ -1,0 +1,143 @@
+-- The structs of a composite list, one by one.
+use Rattle.std.proofs.lemmas.Str.{IsUtf8-from_is_utf8}
+use Rattle.std.proofs.lemmas.List.{length-take-le}
+use Rattle.std.proofs.Common.{◌≡◌, Bool, true, false, ◌&&◌, [], ◌∷◌, take, ℕ, zero, suc, ◌-◌, ◌<◌, List, length, get_or, IsUtf8, refl, ap, ◌∙◌, sym, subst, arith}
+use Rattle.cp_words.specs.declared.pointer.ElementSize.{ElementSize}
+use Rattle.cp_tree.specs.Denotes.{numbers}
+use Rattle.cp_rpc.proofs.Blocks.{but_last, text-numbers}
+use Rattle.cp_tree.specs.Node.{voids, bits, bytes, halves, quads, words, Node, null, cap, struct, list, ptrs, structs, Bodies, no_bodies, body, number_of}
+use Rattle.cp_tree.specs.Seen.{shape_of, part_of, body_at, AreWordsOf}
+use Rattle.cp_tree.specs.declared.view.Shape.{Shape}
+use Rattle.cp_tree.specs.declared.view.Shape.TheVariants as shapes
+use Rattle.cp_rpc.specs.Fields.{items_of, structs_in, bytes_of, text_of, is_text, look_of, IsTextField, IsStructField}
+use Rattle.cp_rpc.specs.declared.source.Look.{Look}
+use Rattle.cp_rpc.specs.declared.source.Look.TheVariants as looks
+
+pub body-item : (bs : Bodies) (i : ℕ) → body_at bs i ≡ get_or (structs_in bs) i null
+body-item no_bodies i = refl
+body-item (body ws ts bs) zero = refl
+body-item (body ws ts bs) (suc i) = body-item bs i
+
+pub length-items : (bs : Bodies) → length (structs_in bs) ≡ number_of bs
+length-items no_bodies = refl
+length-items (body ws ts bs) = ap suc (length-items bs)
+
+-- only a composite list has items
+pub item-shape : (t : Node) (i : ℕ) → i < length (items_of t) → (d : ℕ) × (n : ℕ) × (shape_of t ≡ shapes.Structs d n (length (items_of t)))
+item-shape (structs d n bs) i h = (d, n, rw (length-items bs) refl)
+item-shape null i h = absurd (omega arith)
+item-shape (cap k) i h = absurd (omega arith)
+item-shape (struct ws ts) i h = absurd (omega arith)
+item-shape (list es) i h = absurd (omega arith)
+item-shape (ptrs ts) i h = absurd (omega arith)
+
+pub part-item : (t : Node) (i : ℕ) → i < length (items_of t) → part_of t i ≡ get_or (items_of t) i null
+part-item (structs d n bs) i h = body-item bs i
+part-item null i h = absurd (omega arith)
+part-item (cap k) i h = absurd (omega arith)
+part-item (struct ws ts) i h = absurd (omega arith)
+part-item (list es) i h = absurd (omega arith)
+part-item (ptrs ts) i h = absurd (omega arith)
+
+-- the number of elements that a composite list's shape says
+abbrev pub count_in : Shape → ℕ
+count_in (shapes.Structs d n c) = c
+count_in other = 0
+
+abbrev pub count_of : Shape → ℕ
+count_of (shapes.List size n) = n
+count_of other = 0
+
+-- what holds a text isn't empty
+text-some : (bs : List ℕ) → is_text bs ≡ true → 0 < length bs
+text-some [] h = cc
+text-some (b ∷ bs) h = omega arith
+
+pub and-right : (a b : Bool) → (a && b) ≡ true → b ≡ true
+and-right true b h = h
+and-right false b h = cc
+
+-- the words of a text field hold its text
+pub words-text : (t : Node) (size : ElementSize) (n : ℕ) (lent : List ℕ) → shapes.List size n ≡ shape_of t → IsTextField t → AreWordsOf lent t → (0 < n) × IsUtf8 (numbers lent 8 (n - 1)) × (text_of t ≡ numbers lent 8 (n - 1))
+words-text (list (bytes bs)) size n lent e field held =
+    let is : bs ≡ numbers lent 8 (length bs) = ap (λ es. bytes_of (list es)) held.1 in
+    let counted : n ≡ length bs = ap count_of e in
+    let some = text-some bs field in
+    let tests = sym (text-numbers lent (length bs) some) ∙ ap is_text (sym is) ∙ field in (
+      rw counted some,
+      rw counted (IsUtf8-from_is_utf8 _ (and-right _ _ tests)),
+      rw counted (ap (λ xs. take (length bs - 1) xs) is ∙ but_last lent (length bs)),
+    )
+words-text null size n lent e field held = cc
+words-text (cap k) size n lent e field held = absurd field
+words-text (struct ws ts) size n lent e field held = absurd field
+words-text (list (voids k)) size n lent e field held = absurd field
+words-text (list (bits bs)) size n lent e field held = absurd field
+words-text (list (halves ns)) size n lent e field held = absurd field
+words-text (list (quads ns)) size n lent e field held = absurd field
+words-text (list (words ns)) size n lent e field held = absurd field
+words-text (ptrs ts) size n lent e field held = absurd field
+words-text (structs d k bs) size n lent e field held = absurd field
+
+pub item-struct : (t : Node) (i : ℕ) → i < length (items_of t) → IsStructField (get_or (items_of t) i null)
+item-struct (structs d n bs) i h = go bs i h
+  where
+    go : (bs : Bodies) (i : ℕ) → i < length (structs_in bs) → IsStructField (get_or (structs_in bs) i null)
+    go no_bodies i h = absurd (omega arith)
+    go (body ws ts bs) zero h = tt
+    go (body ws ts bs) (suc i) h = go bs i (omega arith)
+item-struct null i h = absurd (omega arith)
+item-struct (cap k) i h = absurd (omega arith)
+item-struct (struct ws ts) i h = absurd (omega arith)
+item-struct (list es) i h = absurd (omega arith)
+item-struct (ptrs ts) i h = absurd (omega arith)
+
+abbrev pub items_seen : Look → ℕ
+items_seen (looks.Items n) = n
+items_seen _ = 0
+
+pub look-items : (t : Node) (n : ℕ) → looks.Items n ≡ look_of t → n ≡ length (items_of t)
+look-items (structs d n bs) k e = ap items_seen e ∙ sym (length-items bs)
+look-items null k e = cc
+look-items (cap i) k e = cc
+look-items (struct ws ts) k e = cc
+look-items (list (voids n)) k e = cc
+look-items (list (bits bs)) k e = cc
+look-items (list (bytes bs)) k e = cc
+look-items (list (halves ns)) k e = cc
+look-items (list (quads ns)) k e = cc
+look-items (list (words ns)) k e = cc
+look-items (ptrs ts) k e = cc
+
+abbrev pub bytes_seen : Look → ℕ
+bytes_seen (looks.Bytes n) = n
+bytes_seen _ = 0
+
+-- the length of a text field's text
+pub look-text : (t : Node) (n : ℕ) → look_of t ≡ looks.Bytes n → IsTextField t → (0 < n) × (n - 1 ≡ length (text_of t))
+look-text (list (bytes bs)) n e field =
+    let counted : n ≡ length bs = sym (ap bytes_seen e) in
+    (rw counted (text-some bs field), rw counted (sym (length-take-le (length bs - 1) bs (omega arith))))
+look-text null n e field = cc
+look-text (cap k) n e field = absurd field
+look-text (struct ws ts) n e field = absurd field
+look-text (list (voids k)) n e field = absurd field
+look-text (list (bits bs)) n e field = absurd field
+look-text (list (halves ns)) n e field = absurd field
+look-text (list (quads ns)) n e field = absurd field
+look-text (list (words ns)) n e field = absurd field
+look-text (ptrs ts) n e field = absurd field
+look-text (structs d k bs) n e field = absurd field
+
+pub look-no_text : (t : Node) → ((n : ℕ) → look_of t ≡ looks.Bytes n → ⊥) → IsTextField t → 0 ≡ length (text_of t)
+look-no_text (list (bytes bs)) none field = absurd (none (length bs) refl)
+look-no_text null none field = refl
+look-no_text (cap k) none field = absurd field
+look-no_text (struct ws ts) none field = absurd field
+look-no_text (list (voids k)) none field = absurd field
+look-no_text (list (bits bs)) none field = absurd field
+look-no_text (list (halves ns)) none field = absurd field
+look-no_text (list (quads ns)) none field = absurd field
+look-no_text (list (words ns)) none field = absurd field
+look-no_text (ptrs ts) none field = absurd field
+look-no_text (structs d k bs) none field = absurd field

@@ -1,0 +1,16 @@
+use Rattle.std.proofs.Common.{◌≡◌, ◌+◌, ◌*◌, ◌≤◌, ◌∙◌, sym, subst, arith}
+use Rattle.simdutf8.specs.Tracks.{HasRead}
+use Rattle.cp_rpc.specs.Blocks.{byte_before}
+use Rattle.cp_rpc.proofs.Blocks.{range-append, padded, blocks-hold}
+use Rattle.cp_rpc.proofs.utf8.is_utf8.Goals as goal
+
+pub loop-i-preserved : goal.loop-i-preserved
+loop-i-preserved c =
+    let next : (c.loop-i.i + 1) * 64 ≡ c.loop-i.i * 64 + 64 = omega arith in
+    rw (next, range-append (byte_before c.args.words.now c.args.count) (c.loop-i.i * 64) 64, ← c.block_at-block.ensures) (c.step-checker.ensures _ c.loop-i.invariant)
+
+pub returns : goal.returns
+returns c =
+    let t = c.finish.ensures _ c.loop-i.invariant in
+    let p = padded c.args.words.now c.args.count (c.loop-i.i * 64) (blocks-hold c.args.count c.loop-i.i (rw c.div_ceil-i-end.ensures at c.loop-i-test.false)) in
+    (λ h. p.0 (t.0 h), λ u. t.1 (p.1 u))

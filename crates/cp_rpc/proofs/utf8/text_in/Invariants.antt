@@ -1,0 +1,6 @@
+use Rattle.std.proofs.Common.{◌≡◌}
+use Rattle.cp_tree.specs.Denotes.{numbers}
+use Rattle.cp_rpc.proofs.utf8.text_in.Given as goal
+
+abbrev pub invariant-loop-i : goal.invariant-loop-i
+invariant-loop-i l = l.bytes.items ≡ numbers l.words 8 l.i

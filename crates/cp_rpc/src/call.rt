@@ -1,0 +1,174 @@
+//! Calls.
+
+ghost use Rattle.std.specs.Prelude.{◌≡◌, IfOk};
+ghost use Rattle.cp_rpc.specs.Fields.{IsStructField};
+ghost use Rattle.cp_rpc.specs.Answers.{Gives};
+ghost use Rattle.cp_rpc.specs.Said.{send_results_to_said, call_said};
+ghost use Rattle.cp_rpc.specs.Faulty.{call_faults};
+ghost use Rattle.cp_rpc.specs.Told.{told_send_results_to, told_call};
+
+use crate::data::{u16_at, u32_at, u64_at};
+use crate::fault::{Field, SchemaFault};
+use crate::field::struct_field;
+use crate::past::Past;
+use crate::payload::{Payload, PayloadView};
+use crate::source::Source;
+use crate::target::{Target, TargetView};
+use cp_tree::Whole;
+use std::alloc::{AllocError, Global};
+
+/// `sendResultsTo` of `struct Call` of rpc.capnp.
+#[derive(Drop)]
+pub enum SendResultsTo {
+    /// `caller @5 :Void`.
+    Caller,
+    /// `yourself @6 :Void`.
+    Yourself,
+    /// `thirdParty @7 :RecipientId`, not looked into.
+    ThirdParty(Whole),
+    /// Any other number.
+    Unknown(Past<2>),
+}
+
+/// `struct Call` of rpc.capnp.
+#[derive(Drop)]
+pub struct Call {
+    /// `questionId @0 :QuestionId`.
+    pub question_id: u32,
+    /// `methodId @3 :UInt16`.
+    pub method_id: u16,
+    /// `sendResultsTo :union`.
+    pub send_results_to: SendResultsTo,
+    /// `interfaceId @2 :UInt64`.
+    pub interface_id: u64,
+    /// `target @1 :MessageTarget`.
+    pub target: Target,
+    /// `params @4 :Payload`.
+    pub params: Payload,
+}
+
+/// Where results are sent to, read in place.
+#[derive(Drop)]
+pub enum SendResultsToView<S: Source> {
+    Caller,
+    Yourself,
+    ThirdParty(S),
+    Unknown(Past<2>),
+}
+
+/// A call that is read in place.
+#[derive(Drop)]
+pub struct CallView<S: Source> {
+    pub question_id: u32,
+    pub method_id: u16,
+    pub send_results_to: SendResultsToView<S>,
+    pub interface_id: u64,
+    pub target: TargetView<S>,
+    pub params: PayloadView<S>,
+}
+
+impl Call {
+    /// `questionId @0 :QuestionId`, u32.
+    const QUESTION_ID: usize = 0;
+    /// `methodId @3 :UInt16`.
+    const METHOD_ID: usize = 2;
+    /// The number of `sendResultsTo :union`, u16.
+    const SEND_RESULTS_TO: usize = 3;
+    /// `interfaceId @2 :UInt64`.
+    const INTERFACE_ID: usize = 1;
+    /// `target @1 :MessageTarget`, a pointer.
+    const TARGET: u32 = 0;
+    /// `params @4 :Payload`, a pointer.
+    const PARAMS: u32 = 1;
+    /// `thirdParty @7 :RecipientId`, a pointer.
+    const THIRD_PARTY: u32 = 2;
+
+    /// An equal call.
+    pub fn copy(&self, alloc: Global) -> Result<Call, AllocError>
+        ensures { IfOk result (λ c. c ≡ self.now) }
+    {
+        Ok(Call {
+            question_id: self.question_id,
+            method_id: self.method_id,
+            send_results_to: self.send_results_to.copy(alloc)?,
+            interface_id: self.interface_id,
+            target: self.target.copy(alloc)?,
+            params: self.params.copy(alloc)?,
+        })
+    }
+}
+
+impl SendResultsTo {
+    /// An equal value.
+    pub fn copy(&self, alloc: Global) -> Result<SendResultsTo, AllocError>
+        ensures { IfOk result (λ s. s ≡ self.now) }
+    {
+        Ok(match self {
+            SendResultsTo::Caller => SendResultsTo::Caller,
+            SendResultsTo::Yourself => SendResultsTo::Yourself,
+            SendResultsTo::ThirdParty(tree) => SendResultsTo::ThirdParty(tree.copy(alloc)?),
+            SendResultsTo::Unknown(number) => SendResultsTo::Unknown(*number),
+        })
+    }
+}
+
+impl<S: Source> SendResultsToView<S> {
+    /// Where a call's struct says that results are sent to.
+    fn of(t: &S) -> SendResultsToView<S>
+        requires { IsStructField (S.seen t.now) }
+        ensures { told_send_results_to S.seen result ≡ send_results_to_said (S.seen t.now) }
+    {
+        match u16_at(t.data(), Call::SEND_RESULTS_TO) {
+            0 => SendResultsToView::Caller,
+            1 => SendResultsToView::Yourself,
+            2 => SendResultsToView::ThirdParty(t.pointer(Call::THIRD_PARTY)),
+            number => SendResultsToView::Unknown(Past::of(number)),
+        }
+    }
+
+    /// The same, owned.
+    pub fn send_results_to(&self, alloc: Global) -> Result<SendResultsTo, AllocError>
+        ensures { IfOk result (λ s. s ≡ told_send_results_to S.seen self.now) }
+    {
+        Ok(match self {
+            SendResultsToView::Caller => SendResultsTo::Caller,
+            SendResultsToView::Yourself => SendResultsTo::Yourself,
+            SendResultsToView::ThirdParty(tree) => SendResultsTo::ThirdParty(tree.whole(alloc)?),
+            SendResultsToView::Unknown(number) => SendResultsTo::Unknown(*number),
+        })
+    }
+}
+
+impl<S: Source> CallView<S> {
+    /// The call that a struct says.
+    pub(crate) fn of(t: &S) -> Result<CallView<S>, SchemaFault>
+        requires { IsStructField (S.seen t.now) }
+        ensures { Gives (told_call S.seen) (call_said (S.seen t.now)) (call_faults (S.seen t.now)) result }
+    {
+        let target = TargetView::of(&struct_field(t, Call::TARGET, Field::CallTarget)?)?;
+        let params = PayloadView::of(&struct_field(t, Call::PARAMS, Field::CallParams)?)?;
+        let words = t.data();
+        Ok(CallView {
+            question_id: u32_at(words, Call::QUESTION_ID),
+            method_id: u16_at(words, Call::METHOD_ID),
+            send_results_to: SendResultsToView::of(t),
+            interface_id: u64_at(words, Call::INTERFACE_ID),
+            target,
+            params,
+        })
+    }
+
+    /// The call, owned.
+    pub fn call(&self, alloc: Global) -> Result<Call, AllocError>
+        ensures { IfOk result (λ c. c ≡ told_call S.seen self.now) }
+    {
+        Ok(Call {
+            question_id: self.question_id,
+            method_id: self.method_id,
+            send_results_to: self.send_results_to.send_results_to(alloc)?,
+            interface_id: self.interface_id,
+            target: self.target.target(alloc)?,
+            params: self.params.payload(alloc)?,
+        })
+    }
+}

@@ -1,0 +1,119 @@
+//! What a capability in a payload is.
+
+ghost use Rattle.std.specs.Prelude.{◌≡◌, IfOk};
+ghost use Rattle.cp_rpc.specs.Fields.{IsStructField};
+ghost use Rattle.cp_rpc.specs.Answers.{Gives};
+ghost use Rattle.cp_rpc.specs.Said.{descriptor_said};
+ghost use Rattle.cp_rpc.specs.Faulty.{descriptor_faults};
+ghost use Rattle.cp_rpc.specs.Told.{told_descriptor};
+
+use crate::data::{u16_at, u32_at};
+use crate::fault::{Field, SchemaFault};
+use crate::field::struct_field;
+use crate::past::Past;
+use crate::promised_answer::{PromisedAnswer, PromisedAnswerView};
+use crate::source::Source;
+use cp_tree::Whole;
+use std::alloc::{AllocError, Global};
+
+/// `struct CapDescriptor` of rpc.capnp.
+#[derive(Drop)]
+pub enum Descriptor {
+    /// `none @0 :Void`.
+    None,
+    /// `senderHosted @1 :ExportId`.
+    SenderHosted(u32),
+    /// `senderPromise @2 :ExportId`.
+    SenderPromise(u32),
+    /// `receiverHosted @3 :ImportId`.
+    ReceiverHosted(u32),
+    /// `receiverAnswer @4 :PromisedAnswer`.
+    ReceiverAnswer(PromisedAnswer),
+    /// `thirdPartyHosted @5 :ThirdPartyCapDescriptor`, not looked into.
+    ThirdPartyHosted(Whole),
+    /// Any other number.
+    Unknown(Past<5>),
+}
+
+/// A descriptor that is read in place.
+#[derive(Drop)]
+pub enum DescriptorView<S: Source> {
+    None,
+    SenderHosted(u32),
+    SenderPromise(u32),
+    ReceiverHosted(u32),
+    ReceiverAnswer(PromisedAnswerView<S>),
+    ThirdPartyHosted(S),
+    Unknown(Past<5>),
+}
+
+impl Descriptor {
+    /// The union's number, u16.
+    const WHICH: usize = 0;
+    /// `senderHosted @1 :ExportId`, `senderPromise @2 :ExportId` and `receiverHosted @3 :ImportId`,
+    /// u32.
+    const ID: usize = 1;
+    /// `receiverAnswer @4 :PromisedAnswer` and `thirdPartyHosted @5`, a pointer.
+    const POINTER: u32 = 0;
+
+    /// An equal descriptor.
+    pub fn copy(&self, alloc: Global) -> Result<Descriptor, AllocError>
+        ensures { IfOk result (λ d. d ≡ self.now) }
+    {
+        Ok(match self {
+            Descriptor::None => Descriptor::None,
+            Descriptor::SenderHosted(id) => Descriptor::SenderHosted(*id),
+            Descriptor::SenderPromise(id) => Descriptor::SenderPromise(*id),
+            Descriptor::ReceiverHosted(id) => Descriptor::ReceiverHosted(*id),
+            Descriptor::ReceiverAnswer(answer) => Descriptor::ReceiverAnswer(answer.copy(alloc)?),
+            Descriptor::ThirdPartyHosted(tree) => Descriptor::ThirdPartyHosted(tree.copy(alloc)?),
+            Descriptor::Unknown(number) => Descriptor::Unknown(*number),
+        })
+    }
+}
+
+impl<S: Source> DescriptorView<S> {
+    /// The descriptor that a struct says.
+    pub(crate) fn of(t: &S) -> Result<DescriptorView<S>, SchemaFault>
+        requires { IsStructField (S.seen t.now) }
+        ensures { Gives (told_descriptor S.seen) (descriptor_said (S.seen t.now)) (descriptor_faults (S.seen t.now)) result }
+    {
+        let words = t.data();
+        let id = u32_at(words, Descriptor::ID);
+        match u16_at(words, Descriptor::WHICH) {
+            0 => Ok(DescriptorView::None),
+            1 => Ok(DescriptorView::SenderHosted(id)),
+            2 => Ok(DescriptorView::SenderPromise(id)),
+            3 => Ok(DescriptorView::ReceiverHosted(id)),
+            4 => {
+                let answer = struct_field(
+                    t,
+                    Descriptor::POINTER,
+                    Field::CapDescriptorReceiverAnswer,
+                )?;
+                Ok(DescriptorView::ReceiverAnswer(PromisedAnswerView::of(&answer)?))
+            }
+            5 => Ok(DescriptorView::ThirdPartyHosted(t.pointer(Descriptor::POINTER))),
+            number => Ok(DescriptorView::Unknown(Past::of(number))),
+        }
+    }
+
+    /// The descriptor, owned.
+    pub fn descriptor(&self, alloc: Global) -> Result<Descriptor, AllocError>
+        ensures { IfOk result (λ d. d ≡ told_descriptor S.seen self.now) }
+    {
+        Ok(match self {
+            DescriptorView::None => Descriptor::None,
+            DescriptorView::SenderHosted(id) => Descriptor::SenderHosted(*id),
+            DescriptorView::SenderPromise(id) => Descriptor::SenderPromise(*id),
+            DescriptorView::ReceiverHosted(id) => Descriptor::ReceiverHosted(*id),
+            DescriptorView::ReceiverAnswer(answer) => {
+                Descriptor::ReceiverAnswer(answer.promised_answer(alloc)?)
+            }
+            DescriptorView::ThirdPartyHosted(tree) => Descriptor::ThirdPartyHosted(tree.whole(
+                alloc,
+            )?),
+            DescriptorView::Unknown(number) => Descriptor::Unknown(*number),
+        })
+    }
+}

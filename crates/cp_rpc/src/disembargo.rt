@@ -1,0 +1,107 @@
+//! Disembargoes.
+
+ghost use Rattle.std.specs.Prelude.{◌≡◌, IfOk};
+ghost use Rattle.cp_rpc.specs.Fields.{IsStructField};
+ghost use Rattle.cp_rpc.specs.Answers.{Gives};
+ghost use Rattle.cp_rpc.specs.Said.{context_said, disembargo_said};
+ghost use Rattle.cp_rpc.specs.Faulty.{disembargo_faults};
+ghost use Rattle.cp_rpc.specs.Told.{told_disembargo};
+
+use crate::data::{u16_at, u32_at};
+use crate::fault::{Field, SchemaFault};
+use crate::field::struct_field;
+use crate::past::Past;
+use crate::source::Source;
+use crate::target::{Target, TargetView};
+use std::alloc::{AllocError, Global};
+
+/// `context` of `struct Disembargo` of rpc.capnp.
+#[derive(Clone, Copy, PartialEq, Eq, Debug)]
+pub enum Context {
+    /// `senderLoopback @1 :EmbargoId`.
+    SenderLoopback(u32),
+    /// `receiverLoopback @2 :EmbargoId`.
+    ReceiverLoopback(u32),
+    /// `accept @3 :Void`.
+    Accept,
+    /// `provide @4 :QuestionId`.
+    Provide(u32),
+    /// Any other number.
+    Unknown(Past<3>),
+}
+
+/// `struct Disembargo` of rpc.capnp.
+#[derive(Drop)]
+pub struct Disembargo {
+    /// `context :union`.
+    pub context: Context,
+    /// `target @0 :MessageTarget`.
+    pub target: Target,
+}
+
+/// A disembargo that is read in place.
+#[derive(Drop)]
+pub struct DisembargoView<S: Source> {
+    pub context: Context,
+    pub target: TargetView<S>,
+}
+
+impl Context {
+    /// The context that a struct's data words say.
+    fn of(words: &[u64]) -> Context
+        ensures { result ≡ context_said words.now }
+    {
+        let number = u32_at(words, Disembargo::NUMBER);
+        match u16_at(words, Disembargo::CONTEXT) {
+            0 => Context::SenderLoopback(number),
+            1 => Context::ReceiverLoopback(number),
+            2 => Context::Accept,
+            3 => Context::Provide(number),
+            which => Context::Unknown(Past::of(which)),
+        }
+    }
+}
+
+impl Disembargo {
+    /// `senderLoopback @1 :EmbargoId`, `receiverLoopback @2 :EmbargoId` and
+    /// `provide @4 :QuestionId`, u32.
+    const NUMBER: usize = 0;
+    /// The number of `context :union`, u16.
+    const CONTEXT: usize = 2;
+    /// `target @0 :MessageTarget`, a pointer.
+    const TARGET: u32 = 0;
+
+    /// An equal disembargo.
+    pub fn copy(&self, alloc: Global) -> Result<Disembargo, AllocError>
+        ensures { IfOk result (λ d. d ≡ self.now) }
+    {
+        Ok(Disembargo {
+            context: self.context,
+            target: self.target.copy(alloc)?,
+        })
+    }
+}
+
+impl<S: Source> DisembargoView<S> {
+    /// The disembargo that a struct says.
+    pub(crate) fn of(t: &S) -> Result<DisembargoView<S>, SchemaFault>
+        requires { IsStructField (S.seen t.now) }
+        ensures { Gives (told_disembargo S.seen) (disembargo_said (S.seen t.now)) (disembargo_faults (S.seen t.now)) result }
+    {
+        let target = struct_field(t, Disembargo::TARGET, Field::DisembargoTarget)?;
+        Ok(DisembargoView {
+            context: Context::of(t.data()),
+            target: TargetView::of(&target)?,
+        })
+    }
+
+    /// The disembargo, owned.
+    pub fn disembargo(&self, alloc: Global) -> Result<Disembargo, AllocError>
+        ensures { IfOk result (λ d. d ≡ told_disembargo S.seen self.now) }
+    {
+        Ok(Disembargo {
+            context: self.context,
+            target: self.target.target(alloc)?,
+        })
+    }
+}

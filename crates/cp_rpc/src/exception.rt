@@ -1,0 +1,110 @@
+//! Exceptions.
+
+ghost use Rattle.std.specs.Prelude.{◌≡◌, ◌≤◌, length, IfOk};
+ghost use Rattle.cp_rpc.specs.Fields.{IsStructField};
+ghost use Rattle.cp_rpc.specs.Answers.{Gives};
+ghost use Rattle.cp_rpc.specs.Said.{kind_said, exception_said};
+ghost use Rattle.cp_rpc.specs.Faulty.{exception_faults};
+ghost use Rattle.cp_rpc.specs.Told.{told_exception};
+
+use crate::data::u16_at;
+use crate::fault::{Field, SchemaFault};
+use crate::field::text_field;
+use crate::past::Past;
+use crate::source::Source;
+use crate::text::{Text, TextView};
+use std::alloc::{AllocError, Global};
+
+/// `enum Type` of `struct Exception` of rpc.capnp.
+#[derive(Clone, Copy, PartialEq, Eq, Debug)]
+pub enum ExceptionKind {
+    /// `failed @0`.
+    Failed,
+    /// `overloaded @1`.
+    Overloaded,
+    /// `disconnected @2`.
+    Disconnected,
+    /// `unimplemented @3`.
+    Unimplemented,
+    /// Any other number.
+    Unknown(Past<3>),
+}
+
+/// `struct Exception` of rpc.capnp.
+#[derive(Drop)]
+pub struct Exception {
+    /// `type @3 :Type`.
+    pub kind: ExceptionKind,
+    /// `reason @0 :Text`.
+    pub reason: Text,
+    /// `trace @4 :Text`.
+    pub trace: Text,
+}
+
+/// An exception whose texts are read in place.
+#[derive(Drop)]
+pub struct ExceptionView<S: Source> {
+    pub kind: ExceptionKind,
+    pub reason: TextView<S>,
+    pub trace: TextView<S>,
+}
+
+impl Exception {
+    /// `type @3 :Type`, u16.
+    const KIND: usize = 2;
+    /// `reason @0 :Text`, a pointer.
+    const REASON: u32 = 0;
+    /// `trace @4 :Text`, a pointer.
+    const TRACE: u32 = 1;
+
+    /// An equal exception.
+    pub fn copy(&self, alloc: Global) -> Result<Exception, AllocError>
+        ensures { IfOk result (λ e. e ≡ self.now) }
+    {
+        Ok(Exception {
+            kind: self.kind,
+            reason: self.reason.copy(alloc)?,
+            trace: self.trace.copy(alloc)?,
+        })
+    }
+}
+
+impl ExceptionKind {
+    /// The type of this number.
+    fn of(number: u16) -> ExceptionKind
+        ensures { result ≡ kind_said number }
+    {
+        match number {
+            0 => ExceptionKind::Failed,
+            1 => ExceptionKind::Overloaded,
+            2 => ExceptionKind::Disconnected,
+            3 => ExceptionKind::Unimplemented,
+            _ => ExceptionKind::Unknown(Past::of(number)),
+        }
+    }
+}
+
+impl<S: Source> ExceptionView<S> {
+    /// The exception that a struct says.
+    pub(crate) fn of(t: &S) -> Result<ExceptionView<S>, SchemaFault>
+        requires { IsStructField (S.seen t.now) }
+        ensures { Gives (told_exception S.seen) (exception_said (S.seen t.now)) (exception_faults (S.seen t.now)) result }
+    {
+        Ok(ExceptionView {
+            kind: ExceptionKind::of(u16_at(t.data(), Exception::KIND)),
+            reason: TextView::of(text_field(t, Exception::REASON, Field::ExceptionReason)?),
+            trace: TextView::of(text_field(t, Exception::TRACE, Field::ExceptionTrace)?),
+        })
+    }
+
+    /// The exception, owned.
+    pub fn exception(&self, alloc: Global) -> Result<Exception, AllocError>
+        ensures { IfOk result (λ e. e ≡ told_exception S.seen self.now) }
+    {
+        Ok(Exception {
+            kind: self.kind,
+            reason: self.reason.text(alloc)?,
+            trace: self.trace.text(alloc)?,
+        })
+    }
+}

@@ -1,0 +1,199 @@
+//! What a call or a return carries.
+
+ghost use Rattle.std.specs.Prelude.{◌≡◌, ◌<◌, length, flat_map, slice_index_or, IfOk};
+ghost use Rattle.cp_rpc.specs.Fields.{IsStructField, items_of};
+ghost use Rattle.cp_rpc.specs.Answers.{Gives};
+ghost use Rattle.cp_rpc.specs.Said.{descriptors_said, payload_said};
+ghost use Rattle.cp_rpc.specs.Faulty.{descriptor_faults, payload_faults};
+ghost use Rattle.cp_rpc.specs.Told.{told_descriptor, told_payload};
+ghost use Rattle.cp_rpc.specs.declared.descriptor.Descriptor.{Descriptor};
+
+use crate::descriptor::{Descriptor, DescriptorView};
+use crate::fault::{Field, SchemaFault};
+use crate::field::{item_count, list_field};
+use crate::source::Source;
+use cp_tree::Whole;
+use std::alloc::{AllocError, Global};
+use std::marker::Model;
+
+/// `capTable @1 :List(CapDescriptor)` of `struct Payload`. Contracts see it as the list of its
+/// descriptors.
+#[derive(Drop)]
+pub struct CapTable {
+    descriptors: Vec<Descriptor>,
+}
+
+impl Model for CapTable {
+    ghost use Rattle.std.specs.Prelude.{List};
+    ghost use Rattle.cp_rpc.specs.declared.descriptor.Descriptor.{Descriptor};
+
+    ghost Value = { List Descriptor };
+
+    ghost use Rattle.std.specs.Coded.{coded_list};
+    ghost use Rattle.cp_rpc.specs.contracts.descriptor.Descriptor.{the_row};
+
+    ghost coded = { coded_list the_row.coded };
+
+    ghost view = { λ t. t.descriptors.items };
+}
+
+impl CapTable {
+    /// These descriptors, in order.
+    pub fn new(descriptors: Vec<Descriptor>) -> CapTable
+        ensures { result ≡ descriptors.items }
+    {
+        CapTable { descriptors }
+    }
+
+    /// The descriptors, lent.
+    pub fn descriptors(&self) -> &[Descriptor]
+        ensures { result.now ≡ self.now }
+    {
+        &self.descriptors
+    }
+
+    /// The descriptors themselves.
+    pub fn into_descriptors(self) -> Vec<Descriptor>
+        ensures { result.items ≡ self }
+    {
+        self.descriptors
+    }
+
+    /// An equal table.
+    pub fn copy(&self, alloc: Global) -> Result<CapTable, AllocError>
+        ensures { IfOk result (λ t. t ≡ self.now) }
+    {
+        let descriptors = self.descriptors();
+        let mut copied = Vec::with_capacity(alloc, descriptors.len())?;
+        for descriptor in descriptors {
+            copied.push(descriptor.copy(alloc)?)?;
+        }
+        Ok(CapTable::new(copied))
+    }
+}
+
+/// A capability table that is read in place. Contracts see it as the list of its descriptors.
+#[derive(Drop)]
+pub struct CapTableView<S: Source> {
+    source: S,
+}
+
+impl<S: Source> Model for CapTableView<S> {
+    ghost use Rattle.std.specs.Prelude.{◌≡◌, List, []};
+    ghost use Rattle.cp_rpc.specs.declared.descriptor.Descriptor.{Descriptor};
+
+    ghost Value = { List Descriptor };
+
+    ghost use Rattle.std.specs.Coded.{coded_list};
+    ghost use Rattle.cp_rpc.specs.contracts.descriptor.Descriptor.{the_row};
+
+    ghost coded = { coded_list the_row.coded };
+
+    ghost use Rattle.cp_rpc.specs.Said.{descriptors_said};
+    ghost use Rattle.std.specs.Prelude.{flat_map};
+    ghost use Rattle.cp_rpc.specs.Fields.{items_of};
+    ghost use Rattle.cp_rpc.specs.Faulty.{descriptor_faults};
+
+    ghost view = { λ t. descriptors_said (S.seen t.source) };
+
+    ghost invariant = { λ t. flat_map descriptor_faults (items_of (S.seen t.source)) ≡ [] };
+}
+
+impl<S: Source> CapTableView<S> {
+    /// The table that a list says.
+    fn of(source: S) -> Result<CapTableView<S>, SchemaFault>
+        ensures { Gives (λ t. t) (descriptors_said (S.seen source)) (flat_map descriptor_faults (items_of (S.seen source))) result }
+    {
+        for i in 0..item_count(&source) {
+            DescriptorView::of(&source.item(i))?;
+        }
+        Ok(CapTableView { source })
+    }
+
+    /// The number of descriptors.
+    pub fn len(&self) -> usize
+        ensures { result ≡ length self.now }
+    {
+        item_count(&self.source)
+    }
+
+    /// Descriptor `i`.
+    pub fn descriptor(&self, i: usize) -> DescriptorView<S>
+        requires { i < length self.now }
+        ensures { (d : Descriptor) → told_descriptor S.seen result ≡ slice_index_or self.now i d }
+    {
+        match DescriptorView::of(&self.source.item(i)) {
+            Ok(descriptor) => descriptor,
+            Err(_) => unreachable!(),
+        }
+    }
+
+    /// The table, owned.
+    pub fn cap_table(&self, alloc: Global) -> Result<CapTable, AllocError>
+        ensures { IfOk result (λ t. t ≡ self.now) }
+    {
+        let count = self.len();
+        let mut descriptors = Vec::with_capacity(alloc, count)?;
+        for i in 0..count {
+            descriptors.push(self.descriptor(i).descriptor(alloc)?)?;
+        }
+        Ok(CapTable::new(descriptors))
+    }
+}
+
+/// `struct Payload` of rpc.capnp.
+#[derive(Drop)]
+pub struct Payload {
+    /// `content @0 :AnyPointer`.
+    pub content: Whole,
+    /// `capTable @1 :List(CapDescriptor)`.
+    pub cap_table: CapTable,
+}
+
+impl Payload {
+    /// `content @0 :AnyPointer`, a pointer.
+    const CONTENT: u32 = 0;
+    /// `capTable @1 :List(CapDescriptor)`, a pointer.
+    const CAP_TABLE: u32 = 1;
+
+    /// An equal payload.
+    pub fn copy(&self, alloc: Global) -> Result<Payload, AllocError>
+        ensures { IfOk result (λ p. p ≡ self.now) }
+    {
+        Ok(Payload {
+            content: self.content.copy(alloc)?,
+            cap_table: self.cap_table.copy(alloc)?,
+        })
+    }
+}
+
+/// A payload that is read in place.
+#[derive(Drop)]
+pub struct PayloadView<S: Source> {
+    pub content: S,
+    pub cap_table: CapTableView<S>,
+}
+
+impl<S: Source> PayloadView<S> {
+    /// The payload that a struct says.
+    pub(crate) fn of(t: &S) -> Result<PayloadView<S>, SchemaFault>
+        requires { IsStructField (S.seen t.now) }
+        ensures { Gives (told_payload S.seen) (payload_said (S.seen t.now)) (payload_faults (S.seen t.now)) result }
+    {
+        let table = list_field(t, Payload::CAP_TABLE, Field::PayloadCapTable)?;
+        Ok(PayloadView {
+            content: t.pointer(Payload::CONTENT),
+            cap_table: CapTableView::of(table)?,
+        })
+    }
+
+    /// The payload, owned.
+    pub fn payload(&self, alloc: Global) -> Result<Payload, AllocError>
+        ensures { IfOk result (λ p. p ≡ told_payload S.seen self.now) }
+    {
+        Ok(Payload {
+            content: self.content.whole(alloc)?,
+            cap_table: self.cap_table.cap_table(alloc)?,
+        })
+    }
+}

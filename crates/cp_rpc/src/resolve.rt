@@ -1,0 +1,140 @@
+//! What a promise was resolved to.
+
+ghost use Rattle.std.specs.Prelude.{◌≡◌, IfOk};
+ghost use Rattle.cp_rpc.specs.Fields.{IsStructField};
+ghost use Rattle.cp_rpc.specs.Answers.{Gives};
+ghost use Rattle.cp_rpc.specs.Said.{resolution_said, resolve_said};
+ghost use Rattle.cp_rpc.specs.Faulty.{resolve_faults};
+ghost use Rattle.cp_rpc.specs.Told.{told_resolution, told_resolve};
+
+use crate::data::{u16_at, u32_at};
+use crate::descriptor::{Descriptor, DescriptorView};
+use crate::exception::{Exception, ExceptionView};
+use crate::fault::{Field, SchemaFault};
+use crate::field::struct_field;
+use crate::past::Past;
+use crate::source::Source;
+use std::alloc::{AllocError, Global};
+
+/// The union of `struct Resolve` of rpc.capnp.
+#[derive(Drop)]
+pub enum Resolution {
+    /// `cap @1 :CapDescriptor`.
+    Cap(Descriptor),
+    /// `exception @2 :Exception`.
+    Exception(Exception),
+    /// Any other number.
+    Unknown(Past<1>),
+}
+
+/// `struct Resolve` of rpc.capnp.
+#[derive(Drop)]
+pub struct Resolve {
+    /// `promiseId @0 :ExportId`.
+    pub promise_id: u32,
+    /// Its union.
+    pub resolution: Resolution,
+}
+
+/// A resolution that is read in place.
+#[derive(Drop)]
+pub enum ResolutionView<S: Source> {
+    Cap(DescriptorView<S>),
+    Exception(ExceptionView<S>),
+    Unknown(Past<1>),
+}
+
+/// A resolve that is read in place.
+#[derive(Drop)]
+pub struct ResolveView<S: Source> {
+    pub promise_id: u32,
+    pub resolution: ResolutionView<S>,
+}
+
+impl Resolve {
+    /// `promiseId @0 :ExportId`, u32.
+    const PROMISE_ID: usize = 0;
+    /// The union's number, u16.
+    const WHICH: usize = 2;
+    /// `cap @1 :CapDescriptor` and `exception @2 :Exception`, a pointer.
+    const MEMBER: u32 = 0;
+
+    /// An equal resolve.
+    pub fn copy(&self, alloc: Global) -> Result<Resolve, AllocError>
+        ensures { IfOk result (λ r. r ≡ self.now) }
+    {
+        Ok(Resolve {
+            promise_id: self.promise_id,
+            resolution: self.resolution.copy(alloc)?,
+        })
+    }
+}
+
+impl Resolution {
+    /// An equal resolution.
+    pub fn copy(&self, alloc: Global) -> Result<Resolution, AllocError>
+        ensures { IfOk result (λ r. r ≡ self.now) }
+    {
+        Ok(match self {
+            Resolution::Cap(descriptor) => Resolution::Cap(descriptor.copy(alloc)?),
+            Resolution::Exception(exception) => Resolution::Exception(exception.copy(alloc)?),
+            Resolution::Unknown(number) => Resolution::Unknown(*number),
+        })
+    }
+}
+
+impl<S: Source> ResolutionView<S> {
+    /// The resolution that a resolve's struct says.
+    fn of(t: &S) -> Result<ResolutionView<S>, SchemaFault>
+        requires { IsStructField (S.seen t.now) }
+        ensures { Gives (told_resolution S.seen) (resolution_said (S.seen t.now)) (resolve_faults (S.seen t.now)) result }
+    {
+        match u16_at(t.data(), Resolve::WHICH) {
+            0 => {
+                let member = struct_field(t, Resolve::MEMBER, Field::ResolveCap)?;
+                Ok(ResolutionView::Cap(DescriptorView::of(&member)?))
+            }
+            1 => {
+                let member = struct_field(t, Resolve::MEMBER, Field::ResolveException)?;
+                Ok(ResolutionView::Exception(ExceptionView::of(&member)?))
+            }
+            number => Ok(ResolutionView::Unknown(Past::of(number))),
+        }
+    }
+
+    /// The resolution, owned.
+    pub fn resolution(&self, alloc: Global) -> Result<Resolution, AllocError>
+        ensures { IfOk result (λ r. r ≡ told_resolution S.seen self.now) }
+    {
+        Ok(match self {
+            ResolutionView::Cap(descriptor) => Resolution::Cap(descriptor.descriptor(alloc)?),
+            ResolutionView::Exception(exception) => {
+                Resolution::Exception(exception.exception(alloc)?)
+            }
+            ResolutionView::Unknown(number) => Resolution::Unknown(*number),
+        })
+    }
+}
+
+impl<S: Source> ResolveView<S> {
+    /// The resolve that a struct says.
+    pub(crate) fn of(t: &S) -> Result<ResolveView<S>, SchemaFault>
+        requires { IsStructField (S.seen t.now) }
+        ensures { Gives (told_resolve S.seen) (resolve_said (S.seen t.now)) (resolve_faults (S.seen t.now)) result }
+    {
+        Ok(ResolveView {
+            promise_id: u32_at(t.data(), Resolve::PROMISE_ID),
+            resolution: ResolutionView::of(t)?,
+        })
+    }
+
+    /// The resolve, owned.
+    pub fn resolve(&self, alloc: Global) -> Result<Resolve, AllocError>
+        ensures { IfOk result (λ r. r ≡ told_resolve S.seen self.now) }
+    {
+        Ok(Resolve {
+            promise_id: self.promise_id,
+            resolution: self.resolution.resolution(alloc)?,
+        })
+    }
+}

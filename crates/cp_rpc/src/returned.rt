@@ -1,0 +1,184 @@
+//! Returns.
+
+ghost use Rattle.std.specs.Prelude.{◌≡◌, IfOk};
+ghost use Rattle.cp_rpc.specs.Fields.{IsStructField};
+ghost use Rattle.cp_rpc.specs.Answers.{Gives};
+ghost use Rattle.cp_rpc.specs.Said.{returned_said, return_said};
+ghost use Rattle.cp_rpc.specs.Faulty.{return_faults};
+ghost use Rattle.cp_rpc.specs.Told.{told_returned, told_return};
+
+use crate::data::{bit_at, u16_at, u32_at};
+use crate::exception::{Exception, ExceptionView};
+use crate::fault::{Field, SchemaFault};
+use crate::field::struct_field;
+use crate::past::Past;
+use crate::payload::{Payload, PayloadView};
+use crate::source::Source;
+use cp_tree::Whole;
+use std::alloc::{AllocError, Global};
+
+/// The union of `struct Return` of rpc.capnp.
+#[derive(Drop)]
+pub enum Returned {
+    /// `results @2 :Payload`.
+    Results(Payload),
+    /// `exception @3 :Exception`.
+    Exception(Exception),
+    /// `canceled @4 :Void`.
+    Canceled,
+    /// `resultsSentElsewhere @5 :Void`.
+    ResultsSentElsewhere,
+    /// `takeFromOtherQuestion @6 :QuestionId`.
+    TakeFromOtherQuestion(u32),
+    /// `acceptFromThirdParty @7 :ThirdPartyCapId`, not looked into.
+    AcceptFromThirdParty(Whole),
+    /// Any other number.
+    Unknown(Past<5>),
+}
+
+/// `struct Return` of rpc.capnp.
+#[derive(Drop)]
+pub struct Return {
+    /// `answerId @0 :AnswerId`.
+    pub answer_id: u32,
+    /// `releaseParamCaps @1 :Bool = true`.
+    pub release_param_caps: bool,
+    /// Its union.
+    pub returned: Returned,
+}
+
+/// What was returned, read in place.
+#[derive(Drop)]
+pub enum ReturnedView<S: Source> {
+    Results(PayloadView<S>),
+    Exception(ExceptionView<S>),
+    Canceled,
+    ResultsSentElsewhere,
+    TakeFromOtherQuestion(u32),
+    AcceptFromThirdParty(S),
+    Unknown(Past<5>),
+}
+
+/// A return that is read in place.
+#[derive(Drop)]
+pub struct ReturnView<S: Source> {
+    pub answer_id: u32,
+    pub release_param_caps: bool,
+    pub returned: ReturnedView<S>,
+}
+
+impl Return {
+    /// `answerId @0 :AnswerId`, u32.
+    const ANSWER_ID: usize = 0;
+    /// `releaseParamCaps @1 :Bool = true`, a bit whose default is true.
+    const RELEASE_PARAM_CAPS: usize = 32;
+    /// The union's number, u16.
+    const WHICH: usize = 3;
+    /// `takeFromOtherQuestion @6 :QuestionId`, u32.
+    const TAKE_FROM_OTHER_QUESTION: usize = 2;
+    /// `results @2 :Payload`, `exception @3 :Exception` and `acceptFromThirdParty @7`, a pointer.
+    const MEMBER: u32 = 0;
+
+    /// An equal return.
+    pub fn copy(&self, alloc: Global) -> Result<Return, AllocError>
+        ensures { IfOk result (λ r. r ≡ self.now) }
+    {
+        Ok(Return {
+            answer_id: self.answer_id,
+            release_param_caps: self.release_param_caps,
+            returned: self.returned.copy(alloc)?,
+        })
+    }
+}
+
+impl Returned {
+    /// An equal value.
+    pub fn copy(&self, alloc: Global) -> Result<Returned, AllocError>
+        ensures { IfOk result (λ r. r ≡ self.now) }
+    {
+        Ok(match self {
+            Returned::Results(payload) => Returned::Results(payload.copy(alloc)?),
+            Returned::Exception(exception) => Returned::Exception(exception.copy(alloc)?),
+            Returned::Canceled => Returned::Canceled,
+            Returned::ResultsSentElsewhere => Returned::ResultsSentElsewhere,
+            Returned::TakeFromOtherQuestion(question) => Returned::TakeFromOtherQuestion(*question),
+            Returned::AcceptFromThirdParty(tree) => Returned::AcceptFromThirdParty(tree.copy(
+                alloc,
+            )?),
+            Returned::Unknown(number) => Returned::Unknown(*number),
+        })
+    }
+}
+
+impl<S: Source> ReturnedView<S> {
+    /// What a return's struct says was returned.
+    fn of(t: &S) -> Result<ReturnedView<S>, SchemaFault>
+        requires { IsStructField (S.seen t.now) }
+        ensures { Gives (told_returned S.seen) (returned_said (S.seen t.now)) (return_faults (S.seen t.now)) result }
+    {
+        let words = t.data();
+        match u16_at(words, Return::WHICH) {
+            0 => {
+                let member = struct_field(t, Return::MEMBER, Field::ReturnResults)?;
+                Ok(ReturnedView::Results(PayloadView::of(&member)?))
+            }
+            1 => {
+                let member = struct_field(t, Return::MEMBER, Field::ReturnException)?;
+                Ok(ReturnedView::Exception(ExceptionView::of(&member)?))
+            }
+            2 => Ok(ReturnedView::Canceled),
+            3 => Ok(ReturnedView::ResultsSentElsewhere),
+            4 => {
+                let question = u32_at(words, Return::TAKE_FROM_OTHER_QUESTION);
+                Ok(ReturnedView::TakeFromOtherQuestion(question))
+            }
+            5 => Ok(ReturnedView::AcceptFromThirdParty(t.pointer(Return::MEMBER))),
+            number => Ok(ReturnedView::Unknown(Past::of(number))),
+        }
+    }
+
+    /// What was returned, owned.
+    pub fn returned(&self, alloc: Global) -> Result<Returned, AllocError>
+        ensures { IfOk result (λ r. r ≡ told_returned S.seen self.now) }
+    {
+        Ok(match self {
+            ReturnedView::Results(payload) => Returned::Results(payload.payload(alloc)?),
+            ReturnedView::Exception(exception) => Returned::Exception(exception.exception(alloc)?),
+            ReturnedView::Canceled => Returned::Canceled,
+            ReturnedView::ResultsSentElsewhere => Returned::ResultsSentElsewhere,
+            ReturnedView::TakeFromOtherQuestion(question) => {
+                Returned::TakeFromOtherQuestion(*question)
+            }
+            ReturnedView::AcceptFromThirdParty(tree) => {
+                Returned::AcceptFromThirdParty(tree.whole(alloc)?)
+            }
+            ReturnedView::Unknown(number) => Returned::Unknown(*number),
+        })
+    }
+}
+
+impl<S: Source> ReturnView<S> {
+    /// The return that a struct says.
+    pub(crate) fn of(t: &S) -> Result<ReturnView<S>, SchemaFault>
+        requires { IsStructField (S.seen t.now) }
+        ensures { Gives (told_return S.seen) (return_said (S.seen t.now)) (return_faults (S.seen t.now)) result }
+    {
+        let words = t.data();
+        Ok(ReturnView {
+            answer_id: u32_at(words, Return::ANSWER_ID),
+            release_param_caps: !bit_at(words, Return::RELEASE_PARAM_CAPS),
+            returned: ReturnedView::of(t)?,
+        })
+    }
+
+    /// The return, owned.
+    pub fn owned(&self, alloc: Global) -> Result<Return, AllocError>
+        ensures { IfOk result (λ r. r ≡ told_return S.seen self.now) }
+    {
+        Ok(Return {
+            answer_id: self.answer_id,
+            release_param_caps: self.release_param_caps,
+            returned: self.returned.returned(alloc)?,
+        })
+    }
+}

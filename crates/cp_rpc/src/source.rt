@@ -1,0 +1,119 @@
+//! Trees that are looked at where they lie: a view, or an owned tree.
+
+ghost use Rattle.std.specs.Prelude.{◌≡◌, ◌<◌, length, slice_index_or, IfOk};
+ghost use Rattle.cp_tree.specs.Node.{Node, null, data_of};
+ghost use Rattle.cp_tree.specs.Seen.{pointee_of};
+ghost use Rattle.cp_rpc.specs.Fields.{IsStructField, IsTextField, items_of, look_of, bytes_of, text_of, is_text};
+
+use crate::text::Text;
+use crate::utf8;
+use cp_tree::{Shape, View, Whole};
+use cp_words::ElementSize;
+use std::alloc::{AllocError, Global};
+
+/// What a field may ask of a tree.
+#[derive(Clone, Copy, PartialEq, Eq, Debug)]
+pub enum Look {
+    Null,
+    Struct,
+    /// A composite list of so many elements.
+    Items(usize),
+    /// A list of so many bytes.
+    Bytes(usize),
+    /// A capability, or any other list.
+    Other,
+}
+
+/// A tree that is looked at where it lies.
+pub trait Source: Drop {
+    ghost seen: { Self → Node };
+
+    /// What the tree is.
+    fn look(&self) -> Look
+        ensures { result ≡ look_of (seen self.now) };
+
+    /// A struct's data words.
+    fn data(&self) -> &[u64]
+        ensures { result.now ≡ data_of (seen self.now) };
+
+    /// Pointer `i` of a struct; past the end, and of a null pointer, it is null.
+    fn pointer(&self, i: u32) -> Self
+        requires { IsStructField (seen self.now) }
+        ensures { seen result ≡ pointee_of (seen self.now) i };
+
+    /// Element `i` of a composite list.
+    fn item(&self, i: usize) -> Self
+        requires { i < length (items_of (seen self.now)) }
+        ensures item { seen result ≡ slice_index_or (items_of (seen self.now)) i null }
+        ensures is_struct { IsStructField (seen result) };
+
+    /// Whether a list of bytes ends in a zero byte, and is UTF-8 before that.
+    fn is_text(&self) -> bool
+        ensures { result ≡ is_text (bytes_of (seen self.now)) };
+
+    /// The text that a list of bytes holds, or the empty text of a null pointer.
+    fn text(&self, alloc: Global) -> Result<Text, AllocError>
+        requires { IsTextField (seen self.now) }
+        ensures { IfOk result (λ t. t ≡ text_of (seen self.now)) };
+
+    /// The tree, owned.
+    fn whole(&self, alloc: Global) -> Result<Whole, AllocError>
+        ensures { IfOk result (λ w. w ≡ seen self.now) };
+}
+
+impl<'a> Source for View<'a> {
+    ghost seen = { λ v. v };
+
+    fn look(&self) -> Look {
+        match self.shape() {
+            Shape::Null => Look::Null,
+            Shape::Struct { .. } => Look::Struct,
+            Shape::Structs { count, .. } => Look::Items(count as usize),
+            Shape::List { size, count } => match size {
+                ElementSize::Byte => Look::Bytes(count as usize),
+                _ => Look::Other,
+            },
+            Shape::Cap(_) => Look::Other,
+        }
+    }
+
+    fn data(&self) -> &[u64] {
+        match self.shape() {
+            Shape::Struct { .. } => self.words(),
+            _ => &[],
+        }
+    }
+
+    fn pointer(&self, i: u32) -> View<'a> {
+        self.child(i)
+    }
+
+    fn item(&self, i: usize) -> View<'a> {
+        let Shape::Structs { count, .. } = self.shape() else {
+            unreachable!();
+        };
+        prove!(i < count as usize);
+        self.child(i as u32)
+    }
+
+    fn is_text(&self) -> bool {
+        match self.shape() {
+            Shape::List { size, count } => match size {
+                ElementSize::Byte => utf8::is_text(self.words(), count as usize),
+                _ => false,
+            },
+            _ => false,
+        }
+    }
+
+    fn text(&self, alloc: Global) -> Result<Text, AllocError> {
+        let Shape::List { count, .. } = self.shape() else {
+            return Ok(Text::new(String::new(alloc)));
+        };
+        utf8::text_in(alloc, self.words(), count as usize - 1)
+    }
+
+    fn whole(&self, alloc: Global) -> Result<Whole, AllocError> {
+        self.tree(alloc)
+    }
+}

@@ -1,0 +1,105 @@
+//! Texts.
+
+ghost use Rattle.std.specs.Prelude.{◌≡◌, ◌==◌, length, IfOk, string_bytes};
+ghost use Rattle.cp_rpc.specs.Fields.{IsTextField, text_of};
+
+use crate::source::{Look, Source};
+use std::alloc::{AllocError, Global};
+use std::marker::Model;
+
+/// A text (encoding specification, "Lists"). Contracts see it as its bytes, without the zero byte
+/// that ends it in a message.
+#[derive(Drop)]
+pub struct Text {
+    string: String,
+}
+
+impl Model for Text {
+    ghost use Rattle.std.specs.Prelude.{ℕ, List, string_bytes};
+
+    ghost Value = { List ℕ };
+
+    ghost view = { λ t. string_bytes t.string };
+}
+
+impl Text {
+    /// The text.
+    pub fn new(string: String) -> Text
+        ensures { result ≡ string_bytes string }
+    {
+        Text { string }
+    }
+
+    /// The text, lent.
+    pub fn as_str(&self) -> &str
+        ensures { result.now ≡ self.now }
+    {
+        self.string.as_str()
+    }
+
+    /// The text itself.
+    pub fn into_string(self) -> String
+        ensures { string_bytes result ≡ self }
+    {
+        self.string
+    }
+
+    /// An equal text.
+    pub fn copy(&self, alloc: Global) -> Result<Text, AllocError>
+        ensures { IfOk result (λ t. t ≡ self.now) }
+    {
+        Ok(Text::new(String::from_str(alloc, self.as_str())?))
+    }
+}
+
+/// A text that is read in place. Contracts see it as its bytes, without the zero byte that ends it.
+#[derive(Drop)]
+pub struct TextView<S: Source> {
+    source: S,
+}
+
+impl<S: Source> Model for TextView<S> {
+    ghost use Rattle.std.specs.Prelude.{ℕ, List};
+
+    ghost Value = { List ℕ };
+
+    ghost use Rattle.cp_rpc.specs.Fields.{IsTextField, text_of};
+
+    ghost view = { λ t. text_of (S.seen t.source) };
+
+    ghost invariant = { λ t. IsTextField (S.seen t.source) };
+}
+
+impl<S: Source> TextView<S> {
+    /// The text that a tree holds.
+    pub(crate) fn of(source: S) -> TextView<S>
+        requires { IsTextField (S.seen source) }
+        ensures { result ≡ text_of (S.seen source) }
+    {
+        TextView { source }
+    }
+
+    /// The number of bytes.
+    pub fn len(&self) -> usize
+        ensures { result ≡ length self.now }
+    {
+        match self.source.look() {
+            Look::Bytes(count) => count - 1,
+            _ => 0,
+        }
+    }
+
+    /// Whether the text is empty.
+    pub fn is_empty(&self) -> bool
+        ensures { result ≡ (length self.now == 0) }
+    {
+        self.len() == 0
+    }
+
+    /// The text, owned.
+    pub fn text(&self, alloc: Global) -> Result<Text, AllocError>
+        ensures { IfOk result (λ t. t ≡ self.now) }
+    {
+        self.source.text(alloc)
+    }
+}
