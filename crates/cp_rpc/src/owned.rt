@@ -3,21 +3,69 @@
 ghost use Rattle.std.specs.Prelude.{◌≡◌, map};
 ghost use Rattle.cp_tree.specs.NodeOf.{node_of};
 ghost use Rattle.cp_rpc.specs.Fields.{items_of, look_of};
-ghost use Rattle.cp_rpc.specs.OwnedNode.{body_node, owned_node};
+ghost use Rattle.cp_rpc.specs.OwnedNode.{body_node};
 
 use crate::source::{Look, Source};
 use crate::text::Text;
 use crate::utf8;
 use cp_tree::{Body, Tree, Whole};
 use std::alloc::{AllocError, Global};
+use std::marker::Model;
 
-/// A part of an owned tree: a null pointer past a struct's end, a tree, or an element of a composite
+/// A part of a tree: a null pointer past a struct's end, a tree, or an element of a composite
 /// list.
-#[derive(Drop)]
-pub(crate) enum Owned<'a> {
+#[derive(Clone, Copy)]
+pub(crate) enum Part<'a> {
     Null,
     Tree(&'a Tree),
     Body(&'a Body),
+}
+
+/// A part of an owned tree that a message can hold, looked at where it stands. Contracts see it as
+/// its tree.
+#[derive(Drop)]
+pub(crate) struct Owned<'a> {
+    part: Part<'a>,
+}
+
+impl<'a> Model for Owned<'a> {
+    ghost use Rattle.cp_tree.specs.Node.{Node};
+    ghost use Rattle.cp_tree.specs.Code.{tree_code};
+
+    ghost Value = { Node };
+
+    ghost coded = { tree_code };
+
+    ghost use Rattle.cp_tree.specs.Shaped.{Shaped};
+    ghost use Rattle.cp_rpc.specs.OwnedNode.{part_node};
+
+    ghost view = { λ o. part_node o.part };
+
+    ghost invariant = { λ o. Shaped (part_node o.part) };
+}
+
+impl<'a> Owned<'a> {
+    ghost use Rattle.std.specs.Prelude.{◌≡◌};
+    ghost use Rattle.cp_tree.specs.Node.{null};
+    ghost use Rattle.cp_tree.specs.NodeOf.{node_of};
+    ghost use Rattle.cp_tree.specs.Shaped.{Shaped};
+
+    /// A null pointer.
+    fn null() -> Owned<'a>
+        ensures { result ≡ null }
+    {
+        Owned { part: Part::Null }
+    }
+
+    /// The tree.
+    pub(crate) fn of(tree: &'a Tree) -> Owned<'a>
+        requires { Shaped (node_of tree.now) }
+        ensures { result ≡ node_of tree.now }
+    {
+        Owned {
+            part: Part::Tree(tree),
+        }
+    }
 }
 
 /// What a tree is.
@@ -44,62 +92,66 @@ fn items_in(tree: &Tree) -> &[Body]
 }
 
 impl<'a> Source for Owned<'a> {
-    ghost seen = { owned_node };
+    ghost seen = { λ o. o };
 
     fn look(&self) -> Look {
-        match self {
-            Owned::Null => Look::Null,
-            Owned::Body(_) => Look::Struct,
-            Owned::Tree(tree) => look_at(tree),
+        match self.part {
+            Part::Null => Look::Null,
+            Part::Body(_) => Look::Struct,
+            Part::Tree(tree) => look_at(tree),
         }
     }
 
     fn data(&self) -> &[u64] {
-        match self {
-            Owned::Null => &[],
-            Owned::Tree(tree) => tree.data(),
-            Owned::Body(body) => &body.words,
+        match self.part {
+            Part::Null => &[],
+            Part::Tree(tree) => tree.data(),
+            Part::Body(body) => &body.words,
         }
     }
 
     fn pointer(&self, i: u32) -> Owned<'a> {
-        let pointer = match self {
-            Owned::Null => None,
-            Owned::Tree(tree) => tree.pointer(i),
-            Owned::Body(body) => body.pointer(i),
-        };
-        match pointer {
-            Some(tree) => Owned::Tree(tree),
-            None => Owned::Null,
+        match self.part {
+            Part::Null => Owned::null(),
+            Part::Tree(tree) => match tree.pointer(i) {
+                Some(tree) => Owned::of(tree),
+                None => Owned::null(),
+            },
+            Part::Body(body) => match body.pointer(i) {
+                Some(tree) => Owned::of(tree),
+                None => Owned::null(),
+            },
         }
     }
 
     fn item(&self, i: usize) -> Owned<'a> {
-        match self {
-            Owned::Tree(tree) => Owned::Body(&items_in(tree)[i]),
-            _ => unreachable!(),
+        let Part::Tree(tree) = self.part else {
+            unreachable!();
+        };
+        Owned {
+            part: Part::Body(&items_in(tree)[i]),
         }
     }
 
     fn is_text(&self) -> bool {
-        match self {
-            Owned::Tree(Tree::Bytes(bytes)) => utf8::are_text(bytes),
+        match self.part {
+            Part::Tree(Tree::Bytes(bytes)) => utf8::are_text(bytes),
             _ => false,
         }
     }
 
     fn text(&self, alloc: Global) -> Result<Text, AllocError> {
-        match self {
-            Owned::Tree(Tree::Bytes(bytes)) => utf8::text_of(alloc, bytes),
+        match self.part {
+            Part::Tree(Tree::Bytes(bytes)) => utf8::text_of(alloc, bytes),
             _ => Ok(Text::new(String::new(alloc))),
         }
     }
 
     fn whole(&self, alloc: Global) -> Result<Whole, AllocError> {
-        match self {
-            Owned::Null => Ok(Whole::null()),
-            Owned::Tree(tree) => tree.copy(alloc),
-            Owned::Body(body) => body.copy(alloc),
+        match self.part {
+            Part::Null => Ok(Whole::null()),
+            Part::Tree(tree) => tree.copy(alloc),
+            Part::Body(body) => body.copy(alloc),
         }
     }
 }

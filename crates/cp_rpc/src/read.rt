@@ -38,6 +38,6 @@ pub fn message_of(alloc: Global, root: &Object) -> Result<Message, SchemaFault>
     // A fault is the first that the tree has, or want of memory.
     ensures fault { IfErr result (IsFirstFault (message_faults root.now)) }
 {
-    let view = MessageIn::of(&Owned::Tree(root.tree()))?;
+    let view = MessageIn::of(&Owned::of(root.tree()))?;
     Ok(view.message(alloc)?)
 }

@@ -3,6 +3,7 @@
 ghost use Rattle.std.specs.Prelude.{◌≡◌, map, IfOk};
 ghost use Rattle.cp_tree.specs.Node.{struct};
 ghost use Rattle.cp_tree.specs.NodeOf.{node_of, body_of};
+ghost use Rattle.cp_tree.specs.Shaped.{Shaped};
 
 use crate::tree::{Body, Tree};
 use crate::whole::Whole;
@@ -68,8 +69,9 @@ fn bodies_copy(alloc: Global, bodies: &[Body]) -> Result<Vec<Body>, AllocError>
 }
 
 impl Tree {
-    /// An equal tree, owned.
+    /// An equal tree, owned, of one that a message can hold.
     pub fn copy(&self, alloc: Global) -> Result<Whole, AllocError>
+        requires { Shaped (node_of self.now) }
         ensures { IfOk result (λ w. w ≡ node_of self.now) }
     {
         Ok(Whole {
@@ -79,8 +81,9 @@ impl Tree {
 }
 
 impl Body {
-    /// An equal struct, owned.
+    /// An equal struct, owned, of one that a message can hold.
     pub fn copy(&self, alloc: Global) -> Result<Whole, AllocError>
+        requires { Shaped (struct (body_of self.now).0 (body_of self.now).1) }
         ensures { IfOk result (λ w. w ≡ struct (body_of self.now).0 (body_of self.now).1) }
     {
         Ok(Whole {
