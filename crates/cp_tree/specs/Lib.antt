@@ -2,6 +2,7 @@ pub use Rattle.cp_words.specs.Limits
 pub use Rattle.cp_words.specs.Word
 pub mod Node
 pub mod NodeOf
+pub mod DraftOf
 pub mod Code
 pub mod Aims
 pub mod Denotes

@@ -57,3 +57,38 @@ impl<T: Drop> From<AllocFailed<T>> for TreeFault {
         TreeFault::OutOfMemory
     }
 }
+
+/// Why a tree isn't written.
+#[derive(Clone, Copy, PartialEq, Eq, Debug)]
+pub enum WriteFault {
+    /// B1: it nests deeper than the limit.
+    TooDeep,
+    /// B2: it costs more than the limit.
+    TooCostly,
+    /// B3: memory ran out.
+    OutOfMemory,
+    /// B4: its segments have more words together than the limit.
+    TooManyWords,
+}
+
+impl From<AllocError> for WriteFault {
+    ghost use Rattle.std.specs.Prelude.{◌≡◌};
+    ghost use Rattle.cp_tree.specs.declared.fault.WriteFault.TheVariants.{OutOfMemory};
+
+    ghost from_gives = { λ _ e. e ≡ OutOfMemory };
+
+    fn from(_: AllocError) -> WriteFault {
+        WriteFault::OutOfMemory
+    }
+}
+
+impl<T: Drop> From<AllocFailed<T>> for WriteFault {
+    ghost use Rattle.std.specs.Prelude.{◌≡◌};
+    ghost use Rattle.cp_tree.specs.declared.fault.WriteFault.TheVariants.{OutOfMemory};
+
+    ghost from_gives = { λ _ e. e ≡ OutOfMemory };
+
+    fn from(_: AllocFailed<T>) -> WriteFault {
+        WriteFault::OutOfMemory
+    }
+}

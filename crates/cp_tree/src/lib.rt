@@ -7,6 +7,7 @@ mod area;
 mod check;
 mod copy;
 mod decide;
+mod draft;
 mod fault;
 mod measure;
 mod read;
@@ -17,7 +18,8 @@ mod visits;
 mod whole;
 
 pub use cp_words::Limits;
-pub use fault::{Place, TreeFault};
+pub use draft::{Draft, DraftBody};
+pub use fault::{Place, TreeFault, WriteFault};
 pub use measure::fits;
 pub use read::{read_counted, read_root};
 pub use tree::{Body, Tree};
