@@ -19,3 +19,4 @@ pub mod Sparing
 pub mod Pieces
 pub mod Rests
 pub mod Cuts
+pub mod Alike

@@ -80,6 +80,55 @@ fn too_many_words_are_told_before_an_open_group(rt: HostRuntime) -> Result<(), F
     Ok(())
 }
 
+/// Cut anywhere, the bytes end inside a group or give the words so far.
+fn expect_cuts(rt: &impl Abort, alloc: Global, words: &[u64], bytes: &[u8]) -> Result<(), Fail> {
+    for cut in 0..bytes.len() {
+        match unpack(alloc, &bytes[..cut], words.len()) {
+            Ok(front) => {
+                assert!(rt; front.len() <= words.len());
+                assert_eq!(rt; front.as_slice(), &words[..front.len()]);
+            }
+            Err(fault) => assert_eq!(rt; fault, FrameFault::Truncated),
+        }
+    }
+    Ok(())
+}
+
+#[test]
+fn bytes_that_are_cut_end_inside_a_group_or_behind_one(rt: HostRuntime) -> Result<(), Fail> {
+    expect_cuts(&rt, rt.alloc(), &TWO.1, &TWO.0)?;
+    expect_cuts(&rt, rt.alloc(), &[0; 4], &[0, 3])?;
+    for bytes in [&FINISH[..], &BOOTSTRAP[..], &RELEASE[..]] {
+        let words = unpack(rt.alloc(), bytes, 32)?;
+        expect_cuts(&rt, rt.alloc(), &words, bytes)?;
+    }
+    let same = [0x8a8a_8a8a_8a8a_8a8au64; 4];
+    let raw = pack(rt.alloc(), &same)?;
+    assert_eq!(rt; raw.len(), 34);
+    expect_cuts(&rt, rt.alloc(), &same, &raw)
+}
+
+/// Packs words, unpacks them, and writes them as a frame.
+fn go_round(alloc: Global, words: &[u64]) -> Result<usize, FrameFault> {
+    let bytes = pack(alloc, words)?;
+    let back = unpack(alloc, &bytes, words.len())?;
+    let mut lists = Vec::new(alloc);
+    lists.push(back)?;
+    let Ok(segments) = Segments::new(lists) else {
+        return Ok(0);
+    };
+    Ok(write_frame(alloc, &segments, Mode::Packed, Limits::standard())?.len())
+}
+
+// With memory enough no growth is refused. `rt try --test --fail-alloc N` refuses the Nth.
+#[test]
+fn want_of_memory_is_told_in_packing(rt: HostRuntime) {
+    match go_round(rt.alloc(), &TWO.1) {
+        Ok(length) => assert_eq!(rt; length, 10),
+        Err(fault) => assert_eq!(rt; fault, FrameFault::OutOfMemory),
+    }
+}
+
 /// The one segment of a frame that these packed bytes are, and the same frame written.
 fn write_packed_back(rt: &impl Abort, alloc: Global, bytes: &[u8]) -> Result<(), Fail> {
     let words = unpack(alloc, bytes, 32)?;
