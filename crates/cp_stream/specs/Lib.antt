@@ -1,0 +1,6 @@
+pub use Rattle.cp_words.specs.Limits
+pub mod Tap
+pub mod Stream
+pub mod Reader
+pub mod Kept
+pub mod Answers

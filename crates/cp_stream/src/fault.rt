@@ -1,0 +1,104 @@
+//! Why a stream isn't read on, or a message isn't written.
+
+ghost use Rattle.std.specs.Prelude.{◌≡◌};
+ghost use Rattle.cp_frame.specs.declared.fault.FrameFault.TheVariants as frames;
+ghost use Rattle.cp_stream.specs.declared.fault.Refusal.TheVariants.{Frame, Tree, Schema, Write};
+ghost use Rattle.cp_stream.specs.declared.fault.StreamFault.TheVariants.{Refused};
+
+use cp_frame::FrameFault;
+use cp_rpc::SchemaFault;
+use cp_tree::{TreeFault, WriteFault};
+use std::alloc::{AllocError, AllocFailed};
+
+/// What is wrong with bytes that were read, or with a message that was to be written.
+#[derive(Clone, Copy, PartialEq, Eq, Debug)]
+pub enum Refusal {
+    /// F1 to F6.
+    Frame(FrameFault),
+    /// G1 to G10.
+    Tree(TreeFault),
+    /// S1 to S3.
+    Schema(SchemaFault),
+    /// B1 to B4.
+    Write(WriteFault),
+}
+
+/// Why a call on a stream gave nothing.
+#[derive(Clone, Copy, PartialEq, Eq, Debug)]
+pub enum StreamFault {
+    /// The refusal, and how many bytes the accepted frames before it took: at most `u64::MAX`, where
+    /// the number stays.
+    Refused { at: u64, refusal: Refusal },
+    /// The reader or the writer failed.
+    Device,
+}
+
+/// A refusal behind so many bytes of accepted frames.
+pub(crate) fn refused(at: u64, refusal: Refusal) -> StreamFault
+    ensures { result ≡ Refused at refusal }
+{
+    StreamFault::Refused { at, refusal }
+}
+
+impl Refusal {
+    ghost use Rattle.std.specs.Prelude.{Decides};
+    ghost use Rattle.cp_stream.specs.Reader.{IsMemory};
+
+    /// Whether memory ran out while a stream was read.
+    pub(crate) fn is_memory(self) -> bool
+        ensures { Decides result (IsMemory self) }
+    {
+        matches!(
+            self,
+            Refusal::Frame(FrameFault::OutOfMemory) | Refusal::Schema(SchemaFault::OutOfMemory)
+        )
+    }
+}
+
+impl From<FrameFault> for Refusal {
+    ghost from_gives = { λ fault r. r ≡ Frame fault };
+
+    fn from(fault: FrameFault) -> Refusal {
+        Refusal::Frame(fault)
+    }
+}
+
+impl From<TreeFault> for Refusal {
+    ghost from_gives = { λ fault r. r ≡ Tree fault };
+
+    fn from(fault: TreeFault) -> Refusal {
+        Refusal::Tree(fault)
+    }
+}
+
+impl From<SchemaFault> for Refusal {
+    ghost from_gives = { λ fault r. r ≡ Schema fault };
+
+    fn from(fault: SchemaFault) -> Refusal {
+        Refusal::Schema(fault)
+    }
+}
+
+impl From<WriteFault> for Refusal {
+    ghost from_gives = { λ fault r. r ≡ Write fault };
+
+    fn from(fault: WriteFault) -> Refusal {
+        Refusal::Write(fault)
+    }
+}
+
+impl From<AllocError> for Refusal {
+    ghost from_gives = { λ _ r. r ≡ Frame frames.OutOfMemory };
+
+    fn from(_: AllocError) -> Refusal {
+        Refusal::Frame(FrameFault::OutOfMemory)
+    }
+}
+
+impl<T: Drop> From<AllocFailed<T>> for Refusal {
+    ghost from_gives = { λ _ r. r ≡ Frame frames.OutOfMemory };
+
+    fn from(_: AllocFailed<T>) -> Refusal {
+        Refusal::Frame(FrameFault::OutOfMemory)
+    }
+}

@@ -1,0 +1,16 @@
+//! Messages of streams: each frame of a stream is one message of rpc.capnp, and a message goes out
+//! as one frame.
+#![tactic(auto)]
+
+mod fault;
+mod reader;
+mod status;
+mod tap;
+mod view;
+
+pub use cp_frame::Mode;
+pub use cp_words::Limits;
+pub use fault::{Refusal, StreamFault};
+pub use reader::MessageReader;
+pub use tap::Tap;
+pub use view::view_of;

@@ -1,0 +1,182 @@
+//! Reading the messages of a stream.
+
+ghost use Rattle.std.specs.Prelude.{◌≡◌, ◌⊎◌, [], OnOk, IfErr, IfOk};
+ghost use Rattle.cp_stream.specs.Stream.{HasFault};
+ghost use Rattle.cp_stream.specs.Reader.{IsMemory, Gives, Tells};
+ghost use Rattle.cp_stream.specs.Kept.{seen, KeepsUp, ReadsOf, RefusesOf, ReadsPiece, RefusesPiece};
+
+use crate::fault::{Refusal, StreamFault, refused};
+use crate::status::Status;
+use crate::view::message_in;
+use cp_frame::{FrameFault, FrameReader};
+use cp_rpc::Message;
+use cp_words::{Limits, Segments};
+use std::alloc::Global;
+use std::marker::Model;
+
+/// Reads the messages of frames that follow what was counted. At an `Err` those before it were read.
+fn read_messages(
+    alloc: Global,
+    limits: Limits,
+    frames: &[(u64, Segments)],
+    at: &mut u64,
+    messages: &mut Vec<Message>,
+) -> Result<(), Refusal>
+    requires none { messages.old.items ≡ [] }
+    ensures given { OnOk result (ReadsOf limits frames.now messages.new.items at.old at.new) }
+    ensures refused { IfErr result (λ r. IsMemory r ⊎ RefusesOf limits frames.now messages.new.items at.old at.new r) }
+{
+    let mut reached = *at;
+    for frame in frames {
+        messages.push(message_in(alloc, &frame.1, limits)?)?;
+        reached = reached.saturating_add(frame.0);
+        *at = reached;
+    }
+    Ok(())
+}
+
+/// Reads the messages of a piece. At an `Err` those before the fault were read.
+fn read_frames(
+    alloc: Global,
+    limits: Limits,
+    frames: &mut FrameReader,
+    piece: &[u8],
+    at: &mut u64,
+    messages: &mut Vec<Message>,
+) -> Result<(), Refusal>
+    requires none { messages.old.items ≡ [] }
+    ensures given { OnOk result (ReadsPiece limits frames.old piece.now frames.new messages.new.items at.old at.new) }
+    ensures refused { IfErr result (RefusesPiece limits frames.old piece.now frames.new messages.new.items at.old at.new) }
+{
+    let given = frames.feed(piece)?;
+    messages.reserve_exact(given.len())?;
+    read_messages(alloc, limits, &given, at, messages)
+}
+
+/// Reads a piece.
+fn read_piece(
+    alloc: Global,
+    limits: Limits,
+    frames: &mut FrameReader,
+    status: &mut Status,
+    at: &mut u64,
+    piece: &[u8],
+) -> Result<Vec<Message>, StreamFault>
+    requires { KeepsUp limits status.old frames.old }
+    ensures keeps { KeepsUp limits status.new frames.new }
+    ensures given { IfOk result (λ ms. Gives (seen status.old frames.old at.old) piece.now (seen status.new frames.new at.new) ms.items) }
+    ensures told { IfErr result (Tells (seen status.old frames.old at.old) piece.now (seen status.new frames.new at.new)) }
+{
+    match *status {
+        Status::Failed => return Err(refused(*at, Refusal::Frame(FrameFault::Failed))),
+        Status::Refusing(refusal) => {
+            *status = Status::Failed;
+            return Err(refused(*at, refusal));
+        }
+        Status::Reading => {}
+    }
+    let mut messages = Vec::new(alloc);
+    let mut reached = *at;
+    match read_frames(alloc, limits, frames, piece, &mut reached, &mut messages) {
+        Ok(()) => {
+            *at = reached;
+            Ok(messages)
+        }
+        Err(refusal) => {
+            if refusal.is_memory() || messages.is_empty() {
+                *status = Status::Failed;
+                return Err(refused(*at, refusal));
+            }
+            *status = Status::Refusing(refusal);
+            *at = reached;
+            Ok(messages)
+        }
+    }
+}
+
+/// Reads the messages of a stream, in whatever pieces it comes. Each frame is one message of
+/// rpc.capnp.
+#[derive(Drop)]
+pub struct MessageReader {
+    alloc: Global,
+    limits: Limits,
+    frames: FrameReader,
+    status: Status,
+    at: u64,
+}
+
+impl Model for MessageReader {
+    ghost use Rattle.std.specs.Prelude.{◌≡◌};
+    ghost use Rattle.cp_stream.specs.Reader.{Reader};
+    ghost use Rattle.cp_stream.specs.Kept.{seen, KeepsUp};
+
+    ghost Value = { Reader };
+
+    ghost view = { λ r. seen r.status r.frames r.at };
+
+    ghost invariant = { λ r. KeepsUp r.limits r.status r.frames };
+}
+
+impl MessageReader {
+    ghost use Rattle.std.specs.Prelude.{◌≡◌, OnOk, IfOk, IfErr, []};
+    ghost use Rattle.cp_frame.specs.declared.mode.Mode.TheVariants.{Plain};
+    ghost use Rattle.cp_stream.specs.Reader.{StandsFor, Gives, Tells, EndsWell, TellsAtEnd, new_reader};
+
+    /// A reader of a stream in the plain form, of which nothing has come.
+    pub fn plain(alloc: Global, limits: Limits) -> MessageReader
+        ensures fresh { result ≡ new_reader Plain limits }
+        ensures stands { StandsFor result [] }
+    {
+        MessageReader {
+            alloc,
+            limits,
+            frames: FrameReader::plain(alloc, limits),
+            status: Status::Reading,
+            at: 0,
+        }
+    }
+
+    /// Reads the next piece of the stream. Gives each message whose frame's last byte it brings, in
+    /// order. After a fault each call answers `Failed` (F5).
+    ///
+    /// A fault of framing (F1, F2, F4), of a tree (G1 to G9) or of a message (S1, S2) that stands
+    /// behind messages of the same piece is kept, and told by the next call. Want of memory (F6, S3)
+    /// is told at once, and then the messages of the piece are dropped.
+    pub fn feed(&mut self, piece: &[u8]) -> Result<Vec<Message>, StreamFault>
+        ensures given { IfOk result (λ ms. Gives self.old piece.now self.new ms.items) }
+        ensures told { IfErr result (Tells self.old piece.now self.new) }
+    {
+        read_piece(
+            self.alloc,
+            self.limits,
+            &mut self.frames,
+            &mut self.status,
+            &mut self.at,
+            piece,
+        )
+    }
+
+    /// Ends the stream. `Ok` says that it ended behind a message, and then it may still go on.
+    ///
+    /// `Truncated` (F3) says that it ended inside a frame. A kept fault is told instead, and after a
+    /// told fault `Failed` (F5).
+    pub fn finish(&mut self) -> Result<(), StreamFault>
+        ensures ok { OnOk result (EndsWell self.old self.new) }
+        ensures told { IfErr result (TellsAtEnd self.old self.new) }
+    {
+        match self.status {
+            Status::Failed => Err(refused(self.at, Refusal::Frame(FrameFault::Failed))),
+            Status::Refusing(refusal) => {
+                self.status = Status::Failed;
+                Err(refused(self.at, refusal))
+            }
+            Status::Reading => match self.frames.finish() {
+                Ok(()) => Ok(()),
+                Err(fault) => {
+                    self.status = Status::Failed;
+                    Err(refused(self.at, Refusal::Frame(fault)))
+                }
+            },
+        }
+    }
+}

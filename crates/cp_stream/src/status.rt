@@ -1,0 +1,14 @@
+//! How a reader of messages stands.
+
+use crate::fault::Refusal;
+
+/// Whether a reader reads on.
+#[derive(Clone, Copy)]
+pub(crate) enum Status {
+    /// The stream is read on.
+    Reading,
+    /// A frame behind messages that were given holds none: this is told next.
+    Refusing(Refusal),
+    /// A fault was told.
+    Failed,
+}

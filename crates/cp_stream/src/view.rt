@@ -1,0 +1,52 @@
+//! The message of a frame.
+
+ghost use Rattle.std.specs.Prelude.{◌≡◌, ◌⊎◌, IfOk, IfErr};
+ghost use Rattle.cp_rpc.specs.Told.{told};
+ghost use Rattle.cp_rpc.specs.declared.message.Message.{Message};
+ghost use Rattle.cp_stream.specs.Stream.{Holds, HoldsNone};
+ghost use Rattle.cp_stream.specs.Reader.{IsAt, IsMemory};
+ghost use Rattle.cp_stream.specs.Answers.{AnswersView};
+
+use crate::fault::{Refusal, StreamFault};
+use cp_rpc::{Message, MessageView, SchemaFault, message_view};
+use cp_tree::View;
+use cp_words::{Limits, Segments};
+use std::alloc::Global;
+
+/// The message that the segments hold, read in place.
+pub(crate) fn view_in<'a>(segments: &'a Segments, limits: Limits) -> Result<MessageView<'a>, Refusal>
+    ensures found { IfOk result (λ v. Holds limits segments.now (told v)) }
+    ensures only { (m : Message) → Holds limits segments.now m → AnswersView result m }
+    ensures refused { IfErr result (HoldsNone limits segments.now) }
+{
+    Ok(message_view(View::root(segments, limits)?)?)
+}
+
+/// The message that the segments hold.
+pub(crate) fn message_in(alloc: Global, segments: &Segments, limits: Limits) -> Result<Message, Refusal>
+    ensures found { IfOk result (Holds limits segments.now) }
+    ensures refused { IfErr result (λ r. IsMemory r ⊎ HoldsNone limits segments.now r) }
+{
+    let view = view_in(segments, limits)?;
+    match view.message(alloc) {
+        Ok(message) => Ok(message),
+        Err(_) => Err(Refusal::Schema(SchemaFault::OutOfMemory)),
+    }
+}
+
+/// The message of rpc.capnp that a frame's segments hold, read in place: the first pointer's tree, as
+/// `struct Message` (encoding specification, "Messages"). No memory is taken. A fault of reading the
+/// tree (G1 to G9), or else the first field that is at fault (S1, S2), is told at 0.
+pub fn view_of<'a>(segments: &'a Segments, limits: Limits) -> Result<MessageView<'a>, StreamFault>
+    // What is viewed is the message that the segments hold.
+    ensures found { IfOk result (λ v. Holds limits segments.now (told v)) }
+    // The message that the segments hold is viewed.
+    ensures only { (m : Message) → Holds limits segments.now m → AnswersView result m }
+    // A fault says why they hold none.
+    ensures refused { IfErr result (IsAt 0 (HoldsNone limits segments.now)) }
+{
+    match view_in(segments, limits) {
+        Ok(view) => Ok(view),
+        Err(refusal) => Err(StreamFault::Refused { at: 0, refusal }),
+    }
+}
