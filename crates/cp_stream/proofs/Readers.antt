@@ -93,10 +93,10 @@ told_for r r' piece ms at reached refusal (inr (given, g, inl h)) k = told_memor
 told_for r r' piece ms at reached refusal (inr (given, g, inr h)) (inl k) = told_memory (seen statuses.Reading r at) piece r.state refusal g.was_reading k
 told_for r r' piece ms at reached refusal (inr (given, g, inr h)) (inr k) =
     told_fault r at piece r.state refusal refl g.was_reading (λ b stands.
-      let all = g.frames b stands in
-      let found = h r.mode (b ++ piece) all.0 all.1 in
-      let none = subst (λ (ns : List Message). Messages r.mode r.limits (b ++ piece) ns found.0) k found.1.messages in
-      subst (λ (x : List ℕ). HasFault r.mode r.limits x refusal) (sym none) found.2)
+    let all = g.frames b stands in
+    let found = h r.mode (b ++ piece) all.0 all.1 in
+    let none = subst (λ (ns : List Message). Messages r.mode r.limits (b ++ piece) ns found.0) k found.1.messages in
+    subst (λ (x : List ℕ). HasFault r.mode r.limits x refusal) (sym none) found.2)
 
 pub tells : (r r' : frames.Reader) (piece : List ℕ) (ms : List Message) (at reached : ℕ) (refusal : Refusal) → RefusesPiece r.limits r piece r' ms at reached refusal
     → IsMemory refusal ⊎ (ms ≡ []) → Tells (seen statuses.Reading r at) piece (seen statuses.Failed r' at) (faults.Refused at refusal)

@@ -36,12 +36,15 @@ reads_more limits given n ms old mid new frame m h lt d e holds counts = record 
   reads = λ mode b rest f.
       let before = h.reads mode b rest f in
       let next : Frames mode limits before.0 (frame ∷ drop (n + 1) given) rest =
-          subst (λ (gs : List (ℕ × List (List ℕ))). Frames mode limits before.0 gs rest) (drop_more given n d lt ∙ ap (λ (x : ℕ × List (List ℕ)). x ∷ drop (n + 1) given) (sym e)) before.2 in
-      let split = ap (λ (x : List ℕ). length x) next.2 ∙ length-append next.0 next.1 in
-      (next.1, record {
-        messages = messages_push mode limits b ms next.0 next.1 m (subst (λ (x : List ℕ). Messages mode limits b ms x) next.2 before.1.messages) (frame.1, next.4, holds);
-        taken = before.1.taken + frame.0;
-        splits = omega (arith, before.1.splits, split, next.3);
-        counts = counts_more old before.1.taken frame.0 mid new before.1.counts counts;
-      }, next.5);
+      subst (λ (gs : List (ℕ × List (List ℕ))). Frames mode limits before.0 gs rest) (drop_more given n d lt ∙ ap (λ (x : ℕ × List (List ℕ)). x ∷ drop (n + 1) given) (sym e)) before.2 in
+      let split = ap (λ (x : List ℕ). length x) next.2 ∙ length-append next.0 next.1 in (
+        next.1,
+        record {
+          messages = messages_push mode limits b ms next.0 next.1 m (subst (λ (x : List ℕ). Messages mode limits b ms x) next.2 before.1.messages) (frame.1, next.4, holds);
+          taken = before.1.taken + frame.0;
+          splits = omega (arith, before.1.splits, split, next.3);
+          counts = counts_more old before.1.taken frame.0 mid new before.1.counts counts;
+        },
+        next.5,
+      );
 }

@@ -14,3 +14,6 @@ pub use fault::{Refusal, StreamFault};
 pub use reader::MessageReader;
 pub use tap::Tap;
 pub use view::view_of;
+
+#[cfg(test)]
+mod tests;

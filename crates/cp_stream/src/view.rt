@@ -14,7 +14,10 @@ use cp_words::{Limits, Segments};
 use std::alloc::Global;
 
 /// The message that the segments hold, read in place.
-pub(crate) fn view_in<'a>(segments: &'a Segments, limits: Limits) -> Result<MessageView<'a>, Refusal>
+pub(crate) fn view_in<'a>(
+    segments: &'a Segments,
+    limits: Limits,
+) -> Result<MessageView<'a>, Refusal>
     ensures found { IfOk result (λ v. Holds limits segments.now (told v)) }
     ensures only { (m : Message) → Holds limits segments.now m → AnswersView result m }
     ensures refused { IfErr result (HoldsNone limits segments.now) }
@@ -23,7 +26,11 @@ pub(crate) fn view_in<'a>(segments: &'a Segments, limits: Limits) -> Result<Mess
 }
 
 /// The message that the segments hold.
-pub(crate) fn message_in(alloc: Global, segments: &Segments, limits: Limits) -> Result<Message, Refusal>
+pub(crate) fn message_in(
+    alloc: Global,
+    segments: &Segments,
+    limits: Limits,
+) -> Result<Message, Refusal>
     ensures found { IfOk result (Holds limits segments.now) }
     ensures refused { IfErr result (λ r. IsMemory r ⊎ HoldsNone limits segments.now r) }
 {
