@@ -1,17 +1,23 @@
 //! What the commands do, over a reader and two writers.
 
-use crate::fault::Fault;
-use crate::frame::segments_of;
-use crate::line::line_of;
-use cp_rpc::message_view;
-use cp_tree::{Limits, View};
+use crate::fault::Stop;
+use crate::line::push_line;
+use cp_frame::{FrameReader, Mode, write_frame};
+use cp_stream::view_of;
+use cp_tree::Limits;
+use cp_words::Segments;
 use std::alloc::Global;
-use std::io::{Read, Write};
+use std::io::{ErrorKind, Read, Write};
 
 /// A command, apart from the file that it reads.
-#[derive(Clone, Copy, PartialEq, Eq, Debug)]
+#[derive(Clone, Copy)]
 pub enum Plan {
-    Show,
+    /// Each message as a line.
+    Show { limits: Limits },
+    /// The number of messages.
+    Check { limits: Limits },
+    /// Plain frames in the packed form. Segments stay as they are, and no root is read.
+    Pack,
 }
 
 /// Accepted.
@@ -21,21 +27,91 @@ const REFUSED: u8 = 1;
 /// A usage fault, or a device that failed.
 const BROKEN: u8 = 2;
 
-/// The lines of a file's messages.
-fn lines_of(alloc: Global, bytes: &[u8]) -> Result<String, Fault> {
-    if bytes.is_empty() {
-        return Ok(String::new(alloc));
-    }
-    let limits = Limits::standard();
-    let segments = segments_of(alloc, bytes, limits)?;
-    let root = View::root(&segments, limits)?;
-    let message = message_view(root)?;
-    Ok(line_of(alloc, &message)?)
+/// How many bytes are asked for at once.
+const PIECE: usize = 65_536;
+
+/// How far a command has come: how many frames it accepted, and how many bytes they took.
+#[derive(Drop)]
+struct Progress {
+    frames: u64,
+    bytes: u64,
 }
 
-/// Does a command over its file's bytes. What it gives goes to `out`, and a line that says why it
-/// stopped to `err`. The status is 0 where all was accepted, 1 where something was refused, and 2
-/// where a device failed.
+impl Plan {
+    /// A reader of the frames that the command takes.
+    fn reader(&self, alloc: Global) -> FrameReader {
+        match self {
+            Plan::Show { limits } | Plan::Check { limits } => FrameReader::plain(alloc, *limits),
+            Plan::Pack => FrameReader::plain(alloc, Limits::standard()),
+        }
+    }
+
+    /// Does the command on a frame. `line` is the last line, which is written over.
+    fn take<W: Write>(
+        &self,
+        alloc: Global,
+        segments: &Segments,
+        line: &mut String,
+        out: &mut W,
+    ) -> Result<(), Stop> {
+        match self {
+            Plan::Show { limits } => {
+                let view = view_of(segments, *limits)?;
+                line.clear();
+                push_line(alloc, line, &view)?;
+                out.write_all(line.as_bytes())?;
+            }
+            Plan::Check { limits } => {
+                view_of(segments, *limits)?;
+            }
+            Plan::Pack => {
+                let limits = Limits::standard();
+                out.write_all(&write_frame(alloc, segments, Mode::Packed, limits)?)?;
+            }
+        }
+        Ok(())
+    }
+
+    /// Does the command on each frame, up to the end or to what stops it.
+    fn run<R: Read, W: Write>(
+        &self,
+        alloc: Global,
+        from: &mut R,
+        out: &mut W,
+        progress: &mut Progress,
+    ) -> Result<(), Stop> {
+        let mut reader = self.reader(alloc);
+        let mut piece = vec![in alloc; 0u8; PIECE]?;
+        let mut line = String::new(alloc);
+        // A reader could go on for ever; no device gives so many pieces.
+        for _ in 0..u64::MAX {
+            let length = match from.read(&mut piece) {
+                Ok(0) => return Ok(reader.finish()?),
+                Ok(length) => length,
+                Err(error) if error.kind() == ErrorKind::Interrupted => continue,
+                Err(_) => return Err(Stop::Device),
+            };
+            for frame in &reader.feed(&piece[..length])? {
+                self.take(alloc, &frame.1, &mut line, out)?;
+                progress.frames = progress.frames.saturating_add(1);
+                progress.bytes = progress.bytes.saturating_add(frame.0);
+            }
+        }
+        Err(Stop::Device)
+    }
+
+    /// Ends a command that accepted all frames.
+    fn end<W: Write>(&self, out: &mut W, progress: &Progress) -> Result<(), Stop> {
+        if let Plan::Check { .. } = self {
+            writeln!(out, "messages {}", progress.frames)?;
+        }
+        Ok(out.flush()?)
+    }
+}
+
+/// Does a command over its file's bytes. What it gives goes to `out`, also that of the frames before
+/// a refused one, and a line that says why it stopped to `err`. The status is 0 where all was
+/// accepted, 1 where something was refused, and 2 where a device failed.
 pub fn act<R: Read, W: Write, E: Write>(
     alloc: Global,
     plan: &Plan,
@@ -43,23 +119,25 @@ pub fn act<R: Read, W: Write, E: Write>(
     out: &mut W,
     err: &mut E,
 ) -> u8 {
-    let Plan::Show = plan;
-    let mut bytes = Vec::new(alloc);
-    if from.read_to_end(&mut bytes).is_err() {
-        let _ = writeln!(err, "device");
-        return BROKEN;
+    let mut progress = Progress {
+        frames: 0,
+        bytes: 0,
+    };
+    let mut done = plan.run(alloc, from, out, &mut progress);
+    if done.is_ok() {
+        done = plan.end(out, &progress);
+    } else if out.flush().is_err() {
+        done = Err(Stop::Device);
     }
-    match lines_of(alloc, &bytes) {
-        Ok(lines) => {
-            if out.write_all(lines.as_bytes()).is_err() || out.flush().is_err() {
-                let _ = writeln!(err, "device");
-                return BROKEN;
-            }
-            ACCEPTED
-        }
-        Err(fault) => {
-            let _ = writeln!(err, "refused at byte 0: {fault}");
+    match done {
+        Ok(()) => ACCEPTED,
+        Err(Stop::Refused(fault)) => {
+            let _ = writeln!(err, "refused at byte {}: {fault}", progress.bytes);
             REFUSED
+        }
+        Err(Stop::Device) => {
+            let _ = writeln!(err, "device");
+            BROKEN
         }
     }
 }

@@ -1,29 +1,97 @@
 //! The words of the command line.
 
 use crate::act::Plan;
-use clap::{Arg, ArgMatches, Command, Error};
+use clap::{Arg, ArgMatches, Command, Error, value_parser};
+use cp_tree::Limits;
 use std::alloc::Global;
+
+/// The greatest limit on nesting.
+const MOST_NESTING: i64 = 256;
+/// The greatest limit on traversal.
+const MOST_TRAVERSAL: i64 = 67_108_864;
+
+/// The file that a command reads.
+fn file<'a>(alloc: Global) -> Arg<'a> {
+    Arg::new(alloc, "FILE")
+        .help("A file of frames, one after another")
+        .required(true)
+}
+
+/// The limit on nesting.
+fn nesting<'a>(alloc: Global) -> Arg<'a> {
+    Arg::new(alloc, "nesting")
+        .long("nesting")
+        .value_name("N")
+        .value_parser(value_parser!(u32).range(1..=MOST_NESTING))
+        .help("Structs and lists may nest N levels deep, 64 by default")
+}
+
+/// The limit on traversal.
+fn traversal<'a>(alloc: Global) -> Arg<'a> {
+    Arg::new(alloc, "traversal")
+        .long("traversal")
+        .value_name("N")
+        .value_parser(value_parser!(u32).range(1..=MOST_TRAVERSAL))
+        .help("A message may cost N words to go over, 8388608 by default")
+}
 
 /// What `capnp_cli` understands.
 pub(crate) fn command<'a>(alloc: Global) -> Result<Command<'a>, Error> {
-    let file = Arg::new(alloc, "FILE")
-        .help("A file that holds one plain frame of one segment")
-        .required(true);
     let show = Command::new(alloc, "show")
         .about("Print each message of FILE as a line")
-        .arg(file)?;
+        .after_help("Example: capnp_cli show calls.bin")
+        .arg(nesting(alloc))?
+        .arg(traversal(alloc))?
+        .arg(file(alloc))?;
+    let check = Command::new(alloc, "check")
+        .about("Print how many messages FILE has, if all are accepted")
+        .after_help("Example: capnp_cli check --nesting 32 calls.bin")
+        .arg(nesting(alloc))?
+        .arg(traversal(alloc))?
+        .arg(file(alloc))?;
+    let pack = Command::new(alloc, "pack")
+        .about("Write the plain frames of FILE in the packed form")
+        .after_help("Example: capnp_cli pack calls.bin > calls.packed")
+        .arg(file(alloc))?;
     let command = Command::new(alloc, "capnp_cli")
         .about("Cap'n Proto messages and two-party RPC")
+        .after_help(
+            "Status: 0 where all was accepted; 1 where something was refused, with a line that says \
+             where and why on standard error; 2 for wrong words or a device that failed.",
+        )
         .subcommand_required(true)
-        .subcommand(show)?;
+        .subcommand(show)?
+        .subcommand(check)?
+        .subcommand(pack)?;
     Ok(command)
+}
+
+/// The limits that the words ask for. A frame may have 8,388,608 words, or as many as may be gone
+/// over.
+fn limits(matches: &ArgMatches) -> Option<Limits> {
+    let standard = Limits::standard();
+    let nesting = matches
+        .get_one::<u32>("nesting")
+        .unwrap_or(standard.nesting());
+    let traversal = matches
+        .get_one::<u32>("traversal")
+        .unwrap_or(standard.traversal());
+    let frame_words = standard.frame_words().max(traversal);
+    Limits::new(nesting, traversal, standard.segments(), frame_words)
 }
 
 /// What is to be done, and the file that it is done with.
 pub(crate) fn plan<'a>(matches: &ArgMatches<'a>) -> Option<(Plan, &'a str)> {
     let (name, inner) = matches.subcommand()?;
-    match name {
-        "show" => Some((Plan::Show, inner.get_str("FILE")?)),
-        _ => None,
-    }
+    let plan = match name {
+        "show" => Plan::Show {
+            limits: limits(inner)?,
+        },
+        "check" => Plan::Check {
+            limits: limits(inner)?,
+        },
+        "pack" => Plan::Pack,
+        _ => return None,
+    };
+    Some((plan, inner.get_str("FILE")?))
 }

@@ -1,21 +1,26 @@
-//! What a command says of input that it refuses.
+//! What stops a command.
 
+use cp_frame::FrameFault;
 use cp_rpc::{Field, SchemaFault};
-use cp_tree::{Place, TreeFault};
+use cp_stream::{Refusal, StreamFault};
+use cp_tree::{Place, TreeFault, WriteFault};
 use std::alloc::{AllocError, AllocFailed};
+use std::io;
 use thiserror::Error;
 
 /// A fault, as it is printed: its number, its name, and where it was met.
 #[derive(Debug, Drop, Error)]
 pub enum Fault {
-    #[error("F0 NotYet")]
-    NotYetFrame,
     #[error("F1 TooManySegments")]
     TooManySegments,
     #[error("F2 FrameTooLarge")]
     FrameTooLarge,
     #[error("F3 Truncated")]
     Truncated,
+    #[error("F4 RunPastFrame")]
+    RunPastFrame,
+    #[error("F5 Failed")]
+    Failed,
     #[error("F6 OutOfMemory")]
     OutOfMemory,
     #[error("{0} segment {1} word {2}")]
@@ -28,17 +33,90 @@ pub enum Fault {
     Text(Field),
     #[error("S3 OutOfMemory")]
     MessageOutOfMemory,
+    #[error("B1 TooDeep")]
+    TooDeep,
+    #[error("B2 TooCostly")]
+    TooCostly,
+    #[error("B3 OutOfMemory")]
+    WritingOutOfMemory,
+    #[error("B4 TooManyWords")]
+    TooManyWords,
 }
 
-impl From<AllocError> for Fault {
-    fn from(_: AllocError) -> Fault {
-        Fault::OutOfMemory
+/// Why a command stopped.
+#[derive(Debug, Drop)]
+pub enum Stop {
+    /// Input was refused.
+    Refused(Fault),
+    /// A reader or a writer failed.
+    Device,
+}
+
+impl From<io::Error> for Stop {
+    fn from(_: io::Error) -> Stop {
+        Stop::Device
     }
 }
 
-impl<T: Drop> From<AllocFailed<T>> for Fault {
-    fn from(_: AllocFailed<T>) -> Fault {
-        Fault::OutOfMemory
+impl From<AllocError> for Stop {
+    fn from(_: AllocError) -> Stop {
+        Stop::Refused(Fault::OutOfMemory)
+    }
+}
+
+impl<T: Drop> From<AllocFailed<T>> for Stop {
+    fn from(_: AllocFailed<T>) -> Stop {
+        Stop::Refused(Fault::OutOfMemory)
+    }
+}
+
+impl From<StreamFault> for Stop {
+    fn from(fault: StreamFault) -> Stop {
+        match fault {
+            StreamFault::Refused { refusal, .. } => Stop::Refused(Fault::from(refusal)),
+            StreamFault::Device => Stop::Device,
+        }
+    }
+}
+
+impl From<FrameFault> for Stop {
+    fn from(fault: FrameFault) -> Stop {
+        Stop::Refused(Fault::from(fault))
+    }
+}
+
+impl From<Refusal> for Fault {
+    fn from(refusal: Refusal) -> Fault {
+        match refusal {
+            Refusal::Frame(fault) => Fault::from(fault),
+            Refusal::Tree(fault) => Fault::from(fault),
+            Refusal::Schema(fault) => Fault::from(fault),
+            Refusal::Write(fault) => Fault::from(fault),
+        }
+    }
+}
+
+impl From<FrameFault> for Fault {
+    fn from(fault: FrameFault) -> Fault {
+        match fault {
+            FrameFault::TooManySegments => Fault::TooManySegments,
+            FrameFault::FrameTooLarge => Fault::FrameTooLarge,
+            FrameFault::Truncated => Fault::Truncated,
+            FrameFault::RunPastFrame => Fault::RunPastFrame,
+            FrameFault::Failed => Fault::Failed,
+            FrameFault::OutOfMemory => Fault::OutOfMemory,
+        }
+    }
+}
+
+impl From<WriteFault> for Fault {
+    fn from(fault: WriteFault) -> Fault {
+        match fault {
+            WriteFault::TooDeep => Fault::TooDeep,
+            WriteFault::TooCostly => Fault::TooCostly,
+            WriteFault::OutOfMemory => Fault::WritingOutOfMemory,
+            WriteFault::TooManyWords => Fault::TooManyWords,
+        }
     }
 }
 

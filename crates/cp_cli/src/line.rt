@@ -9,25 +9,28 @@ use cp_rpc::{
 use cp_tree::View;
 use std::alloc::{AllocError, Global};
 
-/// The line of a message, with its line feed.
-pub(crate) fn line_of(alloc: Global, message: &MessageView) -> Result<String, AllocError> {
-    let mut line = String::new(alloc);
+/// Adds the line of a message, with its line feed.
+pub(crate) fn push_line(
+    alloc: Global,
+    line: &mut String,
+    message: &MessageView,
+) -> Result<(), AllocError> {
     match message {
         MessageIn::Unimplemented(view) => {
             line.push_str("unimplemented ")?;
-            tree(alloc, &mut line, view)?;
+            tree(alloc, line, view)?;
         }
         MessageIn::Abort(view) => {
             line.push_str("abort ")?;
-            exception(alloc, &mut line, view)?;
+            exception(alloc, line, view)?;
         }
-        MessageIn::Call(view) => call(alloc, &mut line, view)?,
-        MessageIn::Return(view) => returned(alloc, &mut line, view)?,
+        MessageIn::Call(view) => call(alloc, line, view)?,
+        MessageIn::Return(view) => returned(alloc, line, view)?,
         MessageIn::Finish(finish) => {
             let (q, release) = (finish.question_id, finish.release_result_caps);
             write!(line, "finish q={q} releaseResultCaps={release}")?;
         }
-        MessageIn::Resolve(view) => resolve(alloc, &mut line, view)?,
+        MessageIn::Resolve(view) => resolve(alloc, line, view)?,
         MessageIn::Release(release) => {
             let (id, count) = (release.id, release.reference_count);
             write!(line, "release id={id} count={count}")?;
@@ -35,14 +38,13 @@ pub(crate) fn line_of(alloc: Global, message: &MessageView) -> Result<String, Al
         MessageIn::Bootstrap(bootstrap) => {
             write!(line, "bootstrap q={}", bootstrap.question_id)?;
         }
-        MessageIn::Disembargo(view) => disembargo(&mut line, view)?,
+        MessageIn::Disembargo(view) => disembargo(line, view)?,
         MessageIn::Other { which, body } => {
             write!(line, "other {} ", which.number())?;
-            tree(alloc, &mut line, body)?;
+            tree(alloc, line, body)?;
         }
     }
-    line.push('\n')?;
-    Ok(line)
+    line.push('\n')
 }
 
 /// A call: `call q=N to=TARGET i=H m=N results=R params=P`.

@@ -4,18 +4,20 @@
 mod act;
 mod command;
 mod fault;
-mod frame;
 mod line;
 mod notation;
 
 pub use act::{Plan, act};
 use std::env;
 use std::fs::File;
-use std::io::{self, BufReader, BufWriter, Write};
+use std::io::{self, BufWriter, Write};
 use std::process::ExitCode;
 
 /// A usage fault, or a device that failed.
 const BROKEN: u8 = 2;
+
+/// How many bytes are kept before they are written.
+const ROOM: usize = 65_536;
 
 fn main(rt: HostRuntime) -> anyhow::Result<ExitCode> {
     let alloc = rt.alloc();
@@ -34,8 +36,8 @@ fn main(rt: HostRuntime) -> anyhow::Result<ExitCode> {
         eprintln!(rt; "device")?;
         return Ok(ExitCode::from(BROKEN));
     };
-    let mut from = BufReader::new(alloc, file)?;
-    let mut out = BufWriter::new(alloc, io::writer(&rt))?;
+    let mut from = file;
+    let mut out = BufWriter::with_capacity(alloc, ROOM, io::writer(&rt))?;
     let mut err = rt.stderr();
     let status = act(alloc, &plan, &mut from, &mut out, &mut err);
     Ok(ExitCode::from(status))

@@ -1,20 +1,38 @@
 //! Frames from outside, by `show`.
 
 use crate::{Plan, act};
+use cp_tree::Limits;
 use std::alloc::Global;
 use std::io::{self, ErrorKind, Read};
 use std::test::Fail;
 
-/// What a command wrote, what it said, and its status.
+/// What `show` wrote, what it said, and its status.
 fn shown(alloc: Global, hexadecimal: &str) -> Result<(String, String, u8), Fail> {
-    let mut text = String::new(alloc);
-    for part in hexadecimal.split_whitespace() {
-        text.push_str(part)?;
+    let limits = Limits::standard();
+    done(alloc, &Plan::Show { limits }, hexadecimal)
+}
+
+/// A text without its spaces.
+fn without_spaces(alloc: Global, text: &str) -> Result<String, Fail> {
+    let mut joined = String::new(alloc);
+    for part in text.split_whitespace() {
+        joined.push_str(part)?;
     }
-    let bytes = hex::decode(alloc, text.as_str()).map_err(|_| "not hexadecimal")?;
+    Ok(joined)
+}
+
+/// The bytes of hexadecimal digits.
+fn decoded(alloc: Global, hexadecimal: &str) -> Result<Vec<u8>, Fail> {
+    let text = without_spaces(alloc, hexadecimal)?;
+    Ok(hex::decode(alloc, text.as_str()).map_err(|_| "not hexadecimal")?)
+}
+
+/// What a command wrote, what it said, and its status.
+fn done(alloc: Global, plan: &Plan, hexadecimal: &str) -> Result<(String, String, u8), Fail> {
+    let bytes = decoded(alloc, hexadecimal)?;
     let mut from = bytes.as_slice();
     let (mut out, mut err) = (Vec::new(alloc), Vec::new(alloc));
-    let status = act(alloc, &Plan::Show, &mut from, &mut out, &mut err);
+    let status = act(alloc, plan, &mut from, &mut out, &mut err);
     let out = String::from_utf8(out).map_err(|_| "not UTF-8")?;
     let err = String::from_utf8(err).map_err(|_| "not UTF-8")?;
     Ok((out, err, status))
@@ -281,7 +299,7 @@ fn refusals_say_where_and_why(rt: HostRuntime) -> Result<(), Fail> {
         ("00000000 01008000", "F2 FrameTooLarge"),
         ("000000", "F3 Truncated"),
         ("0000000004000000 0000000001000100", "F3 Truncated"),
-        ("0100000001000000", "F0 NotYet"),
+        ("0100000001000000", "F3 Truncated"),
         ("0000000000000000", "G1 NoRoot segment 0 word 0"),
         (
             "0000000001000000 0100000000000000",
@@ -341,6 +359,108 @@ fn refusals_say_where_and_why(rt: HostRuntime) -> Result<(), Fail> {
     Ok(())
 }
 
+/// `finish` of question 7.
+const FINISH: &str =
+    "0000000004000000 0000000001000100 0400000000000000 0000000001000000 0700000000000000";
+
+/// The same over two segments.
+const IN_TWO: &str = "0100000001000000 0400000000000000 0200000001000000 0000000001000100 \
+     0400000000000000 0000000001000000 0700000000000000";
+
+/// The same by a pad of two words.
+const IN_THREE: &str = "0200000001000000 0200000003000000 0600000001000000 0200000002000000 \
+     0000000001000100 0400000000000000 0000000001000000 0700000000000000";
+
+#[test]
+fn files_have_many_frames(rt: HostRuntime) -> Result<(), Fail> {
+    let alloc = rt.alloc();
+    let stream = format!(in alloc; "{FINISH} {IN_TWO} {IN_THREE}")?;
+    let limits = Limits::standard();
+    let (out, err, status) = shown(alloc, stream.as_str())?;
+    for line in out.as_str().lines() {
+        assert_eq!(rt; line, "finish q=7 releaseResultCaps=true");
+    }
+    assert_eq!(rt; out.as_str().lines().count(), 3);
+    assert_eq!(rt; (err.as_str(), status), ("", 0));
+    let (out, err, status) = done(alloc, &Plan::Check { limits }, stream.as_str())?;
+    assert_eq!(rt;
+        (out.as_str(), err.as_str(), status),
+        ("messages 3\n", "", 0)
+    );
+    let (out, err, status) = done(alloc, &Plan::Check { limits }, "")?;
+    assert_eq!(rt;
+        (out.as_str(), err.as_str(), status),
+        ("messages 0\n", "", 0)
+    );
+    Ok(())
+}
+
+#[test]
+fn lines_stand_before_a_refusal(rt: HostRuntime) -> Result<(), Fail> {
+    let rows = [
+        (&FINISH[..FINISH.len() - 2], "F3 Truncated"),
+        ("ffffffff", "F1 TooManySegments"),
+        ("0000000000000000", "G1 NoRoot segment 0 word 0"),
+        (
+            "0000000003000000 0000000001000100 0400000000000000 0100000002000000",
+            "S1 Kind Message.finish",
+        ),
+    ];
+    let alloc = rt.alloc();
+    let limits = Limits::standard();
+    for (frame, fault) in rows {
+        let stream = format!(in alloc; "{FINISH} {frame}")?;
+        let line = format!(in alloc; "refused at byte 40: {fault}\n")?;
+        let (out, err, status) = shown(alloc, stream.as_str())?;
+        assert_eq!(rt; out.as_str(), "finish q=7 releaseResultCaps=true\n");
+        assert_eq!(rt; (err.as_str(), status), (line.as_str(), 1));
+        let (out, err, status) = done(alloc, &Plan::Check { limits }, stream.as_str())?;
+        assert_eq!(rt;
+            (out.as_str(), err.as_str(), status),
+            ("", line.as_str(), 1)
+        );
+    }
+    Ok(())
+}
+
+/// What `pack` makes of a file, in hexadecimal.
+fn packed(alloc: Global, hexadecimal: &str) -> Result<String, Fail> {
+    let bytes = decoded(alloc, hexadecimal)?;
+    let (mut out, mut err) = (Vec::new(alloc), Vec::new(alloc));
+    let mut from = bytes.as_slice();
+    let status = act(alloc, &Plan::Pack, &mut from, &mut out, &mut err);
+    if status == 0 {
+        return Ok(hex::encode(alloc, &out)?);
+    }
+    Ok(String::from_utf8(err).map_err(|_| "not UTF-8")?)
+}
+
+#[test]
+fn frames_are_packed(rt: HostRuntime) -> Result<(), Fail> {
+    let alloc = rt.alloc();
+    let rows = [
+        (FINISH, "10045001010104100101 07"),
+        (
+            "0000000005000000 0000000001000100 0800000000000000 0000000001000100 \
+             0000000000000000 0000000000000000",
+            "100550010101085001010001",
+        ),
+        ("0000000000000000", "0000"),
+        ("", ""),
+    ];
+    for (frame, bytes) in rows {
+        assert_eq!(rt;
+            packed(alloc, frame)?.as_str(),
+            without_spaces(alloc, bytes)?.as_str()
+        );
+    }
+    assert_eq!(rt;
+        packed(alloc, "00")?.as_str(),
+        "refused at byte 0: F3 Truncated\n"
+    );
+    Ok(())
+}
+
 /// A frame of so many nested structs of one pointer.
 fn nested(alloc: Global, depth: u8) -> Result<String, Fail> {
     let mut frame = format!(in alloc; "00000000{:02x}000000", depth as u16 + 1)?;
@@ -349,6 +469,29 @@ fn nested(alloc: Global, depth: u8) -> Result<String, Fail> {
     }
     frame.push_str("0000000000000000")?;
     Ok(frame)
+}
+
+#[test]
+fn limits_may_be_chosen(rt: HostRuntime) -> Result<(), Fail> {
+    let alloc = rt.alloc();
+    let frame = nested(alloc, 65)?;
+    let rows = [
+        (65, 8_388_608, "messages 1\n", ""),
+        (65, 130, "messages 1\n", ""),
+        (
+            65,
+            129,
+            "",
+            "refused at byte 0: G9 TraversalLimit segment 0 word 64\n",
+        ),
+    ];
+    for (nesting, traversal, lines, fault) in rows {
+        let limits = Limits::new(nesting, traversal, 512, 8_388_608).ok_or("no limits")?;
+        let (out, err, status) = done(alloc, &Plan::Check { limits }, frame.as_str())?;
+        assert_eq!(rt; (out.as_str(), err.as_str()), (lines, fault));
+        assert_eq!(rt; status == 0, fault.is_empty());
+    }
+    Ok(())
 }
 
 #[test]
@@ -381,7 +524,14 @@ impl Read for Broken {
 fn a_device_may_fail(rt: HostRuntime) -> Result<(), Fail> {
     let alloc = rt.alloc();
     let (mut out, mut err) = (Vec::new(alloc), Vec::new(alloc));
-    let status = act(alloc, &Plan::Show, &mut Broken, &mut out, &mut err);
+    let limits = Limits::standard();
+    let status = act(
+        alloc,
+        &Plan::Show { limits },
+        &mut Broken,
+        &mut out,
+        &mut err,
+    );
     assert_eq!(rt; status, 2);
     assert_eq!(rt; err.as_slice(), b"device\n".as_slice());
     Ok(())
