@@ -15,3 +15,10 @@ pub mod Blank
 pub mod Faulted
 pub mod Misaimed
 pub mod RootFaults
+pub mod Sheets
+pub mod Packing
+pub mod Keeps
+pub mod Begins
+pub mod Steps
+pub mod PointerWords
+pub mod Alone

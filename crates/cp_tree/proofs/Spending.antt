@@ -38,3 +38,15 @@ next_body bs i b within is =
     at_drop_more (λ (xs : List Body). bodies_of (map body_of xs)) bs i b within
     ∙ ap (λ (x : Body). body (body_of x).0 (body_of x).1 (bodies_of (map body_of (drop (i + 1) bs)))) (sym is)
     ∙ ap (λ p. body p.0 p.1 (bodies_of (map body_of (drop (i + 1) bs)))) (body_of-is b)
+
+-- what is left is of the limit, and nothing is left where the cost passes it
+pub spent-some : (limit cost left : ℕ) (rest : Option ℕ) → rest ≡ spent (Some limit) cost → rest ≡ Some left → (cost ≤ limit) × (left ≤ limit)
+unfolding spent
+spent-some limit cost left rest e is = go (nat_le cost limit) (λ k. grind (arith, nat_tests), λ k. grind (arith, nat_tests)) (sym is ∙ e)
+  where
+    go : (b : Bool) → Decides b (cost ≤ limit) → ◌≡◌ {A = Option ℕ} (Some left) (if b then Some (limit - cost) else None) → (cost ≤ limit) × (left ≤ limit)
+    go true d k = let h : left ≡ limit - cost = cc in (d.0 refl, omega (arith, h))
+    go false d k = let never : true ≡ false = ap is_some k in absurd cc
+
+pub spent-none : (limit cost : ℕ) (rest : Option ℕ) → rest ≡ spent (Some limit) cost → rest ≡ None → limit < cost
+spent-none limit cost rest e is = let d = spent-fits limit cost rest e in omega (arith, λ (h : cost ≤ limit). (let never : true ≡ false = sym (d.1 h) ∙ ap is_some is in absurd {A = ⊥} cc))

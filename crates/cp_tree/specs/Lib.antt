@@ -18,3 +18,7 @@ pub mod Answers
 pub mod Layout
 pub mod Rows
 pub mod Seen
+pub mod Packed
+pub mod Sheets
+pub mod Writing
+pub mod Writes

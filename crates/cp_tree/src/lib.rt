@@ -8,14 +8,19 @@ mod check;
 mod copy;
 mod decide;
 mod draft;
+mod draft_copy;
 mod fault;
+mod lay;
 mod measure;
+mod pack;
 mod read;
 mod shape;
+mod sheet;
 mod tree;
 mod view;
 mod visits;
 mod whole;
+mod write;
 
 pub use cp_words::Limits;
 pub use draft::{Draft, DraftBody};
@@ -26,6 +31,7 @@ pub use tree::{Body, Tree};
 pub use view::{Shape, View};
 pub use visits::Visits;
 pub use whole::{Object, Whole};
+pub use write::{write_root, write_segments};
 
 #[cfg(test)]
 mod tests;

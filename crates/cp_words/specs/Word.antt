@@ -1,6 +1,6 @@
 -- What a word says, by its bits. Bit 0 is the lowest. (Encoding specification: "Structs", "Lists",
 -- "Inter-Segment Pointers", "Capabilities (Interfaces)".)
-use Rattle.std.specs.Prelude.{◌≡◌, ℕ, ◌+◌, ◌*◌, ◌/◌, ◌%◌, ◌^◌, ◌<◌, ℤ, pos, negsuc, ◌-ℤ◌, ◌≤ℤ◌, ◌<ℤ◌, ◌-◌, nat_lt, if◌then◌else◌, Option, Some, None, ◌==◌}
+use Rattle.std.specs.Prelude.{◌≡◌, ℕ, suc, ◌+◌, ◌*◌, ◌/◌, ◌%◌, ◌^◌, ◌<◌, ℤ, pos, negsuc, ◌-ℤ◌, ◌≤ℤ◌, ◌<ℤ◌, ◌-◌, nat_lt, if◌then◌else◌, Option, Some, None, ◌==◌}
 use Rattle.cp_words.specs.declared.pointer.ElementSize.{ElementSize}
 use Rattle.cp_words.specs.declared.pointer.ElementSize.TheVariants as sizes
 use Rattle.cp_words.specs.declared.pointer.Pointer.{Pointer}
@@ -55,6 +55,19 @@ IsWritable (pointers.Struct offset data_words ptrs) = IsOffset offset × ¬ ((of
 IsWritable (pointers.List offset size count) = IsOffset offset × (count < 2 ^ 29)
 IsWritable (pointers.Far double place segment) = place < 2 ^ 29
 IsWritable (pointers.Cap index) = Unit {0}
+
+-- a signed number as the 30 bits that stand for it
+abbrev pub offset_bits : ℤ → ℕ
+offset_bits (pos n) = n
+offset_bits (negsuc n) = 2 ^ 30 - suc n
+
+-- the word that says this, of parts that fit their bits
+abbrev pub word_of : Pointer → ℕ
+word_of pointers.Null = 0
+word_of (pointers.Struct offset data_words ptrs) = 4 * offset_bits offset + 2 ^ 32 * (data_words + 2 ^ 16 * ptrs)
+word_of (pointers.List offset size count) = 1 + 4 * offset_bits offset + 2 ^ 32 * (size_code size + 8 * count)
+word_of (pointers.Far double place segment) = 2 + 4 * (if double then 1 else 0) + 8 * place + 2 ^ 32 * segment
+word_of (pointers.Cap index) = 3 + 2 ^ 32 * index
 
 -- how many bits of a list's body an element takes; the elements of a composite list are counted by words
 abbrev pub bits_of : ElementSize → ℕ

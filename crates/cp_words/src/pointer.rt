@@ -1,7 +1,7 @@
 //! Pointer words.
 
 ghost use Rattle.std.specs.Prelude.{◌≡◌, ◌<◌, ◌^◌, ◌-ℤ◌, pos, nat_lt, if◌then◌else◌, Some, ok_or};
-ghost use Rattle.cp_words.specs.Word.{pointer_of, tag_of, size_of, IsOffset, IsWritable, offset_of, size_code, words_for};
+ghost use Rattle.cp_words.specs.Word.{pointer_of, tag_of, size_of, IsOffset, IsWritable, offset_of, size_code, words_for, offset_bits, word_of};
 
 /// How large each element of a list is (encoding specification, "Lists").
 #[derive(Clone, Copy, PartialEq, Eq, Debug)]
@@ -116,6 +116,7 @@ pub fn decode(word: u64) -> Result<Pointer, BadCapability>
 /// The 30 bits that stand for an offset.
 fn offset_field(offset: i32) -> u64
     requires { IsOffset offset }
+    ensures bits { result ≡ offset_bits offset }
     ensures field { result < 2 ^ 30 }
     ensures value { (if nat_lt result (2 ^ 29) then pos result else (pos result -ℤ pos (2 ^ 30))) ≡ offset }
 {
@@ -146,7 +147,8 @@ fn code_of(size: ElementSize) -> u64
 #[tactic(auto, unfolding(crate::specs::Word::pointer_of))]
 pub fn encode(pointer: Pointer) -> u64
     requires { IsWritable pointer }
-    ensures { pointer_of result ≡ Some pointer }
+    ensures says { pointer_of result ≡ Some pointer }
+    ensures word { result ≡ word_of pointer }
 {
     match pointer {
         Pointer::Null => 0,

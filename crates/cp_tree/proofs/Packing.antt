@@ -1,0 +1,54 @@
+-- Elements of a list without pointers, and the words that hold them.
+use Rattle.std.proofs.Common.{◌≡◌, ℕ, zero, suc, ◌+◌, ◌-◌, ◌*◌, ◌/◌, ◌^◌, ◌<◌, ◌≤◌, ◌++◌, min, Bool, true, false, List, [], ◌∷◌, length, map, drop, take, get_or, sym, ap, ◌∙◌, arith}
+use Rattle.std.proofs.Math.Nat.{pow-succ', one-le-pow, mul-le-mul_left, mul-suc}
+use Rattle.std.proofs.lemmas.List.{append_assoc, get_or-drop, length-drop, take_min, take-map, drop-map}
+use Rattle.std.specs.List.{range_with_len}
+use Rattle.std.proofs.lemmas.List.{length-map}
+use Rattle.std.proofs.lemmas.List.FromFn.{length-range_with_len, map-range_with_len_more}
+use Rattle.cp_tree.specs.Packed.{value, groups, bit_of}
+
+-- digits below a base are less than its power
+pub value_below : (base : ℕ) (ns : List ℕ) (m : ℕ) → 0 < base → ((k : ℕ) → get_or ns k 0 < base) → length ns ≤ m → value base ns < base ^ m
+value_below base [] m some all short = omega (arith, one-le-pow m base some)
+value_below base (n ∷ ns) zero some all short = absurd (omega (arith, short))
+value_below base (n ∷ ns) (suc m) some all short =
+    let rest = value_below base ns m some (λ k. all (suc k)) (omega (arith, short)) in
+    let next : suc (value base ns) ≤ base ^ m = omega (arith, rest) in
+    let more : base * suc (value base ns) ≤ base * base ^ m = mul-le-mul_left base next in
+    let first : n < base = all 0 in
+    let split : base * suc (value base ns) ≡ base * value base ns + base = mul-suc base (value base ns) in
+    let power : base ^ suc m ≡ base * base ^ m = pow-succ' base m in
+    omega (arith, more, first, split, power)
+
+pub value_below_drop : (base : ℕ) (ns : List ℕ) (i m : ℕ) → 0 < base → ((k : ℕ) → get_or ns k 0 < base) → length ns ≤ i + m → value base (drop i ns) < base ^ m
+value_below_drop base ns i m some all short = value_below base (drop i ns) m some (λ k. rw (get_or-drop i ns k 0) (all (i + k))) (omega (arith, length-drop i ns, short))
+
+pub bit_below : (bs : List Bool) (k : ℕ) → get_or (map bit_of bs) k 0 < 2
+bit_below [] k = omega arith
+bit_below (true ∷ bs) zero = omega arith
+bit_below (false ∷ bs) zero = omega arith
+bit_below (b ∷ bs) (suc k) = bit_below bs k
+
+-- a group ends where the digits end
+pub group_to_end : {X : Type 0} (xs : List X) (start per : ℕ) → take (min (length xs) (start + per) - start) (drop start xs) ≡ take per (drop start xs)
+group_to_end xs start per =
+    let e : min (length xs) (start + per) - start ≡ min per (length (drop start xs)) = omega (arith, length-drop start xs) in
+    rw e (take_min per (drop start xs))
+
+pub bits_group : (bs : List Bool) (start per : ℕ) → map bit_of (take per (drop start bs)) ≡ take per (drop start (map bit_of bs))
+bits_group bs start per = sym (take-map bit_of per (drop start bs)) ∙ ap (take per) (sym (drop-map bit_of start bs))
+
+-- as many words as groups
+pub length_groups : (base per : ℕ) (ns : List ℕ) → length (groups base per ns) ≡ (length ns + (per - 1)) / per
+length_groups base per ns = length-map (range_with_len 0 ((length ns + (per - 1)) / per)) (λ k. value base (take per (drop (per * k) ns))) ∙ length-range_with_len 0 ((length ns + (per - 1)) / per)
+
+-- one more group is appended
+pub one_more_group : (base per : ℕ) (ns old words next : List ℕ) (k word : ℕ) → words ≡ old ++ map (λ j. value base (take per (drop (per * j) ns))) (range_with_len 0 k) → word ≡ value base (take per (drop (per * k) ns)) → next ≡ words ++ word ∷ []
+    → next ≡ old ++ map (λ j. value base (take per (drop (per * j) ns))) (range_with_len 0 (k + 1))
+one_more_group base per ns old words next k word so_far is push =
+    let f : ℕ → ℕ = λ j. value base (take per (drop (per * j) ns)) in
+    let more = map-range_with_len_more f 0 k k (omega arith) in
+    rw (push, so_far, is, more) (append_assoc old (map f (range_with_len 0 k)) (f k ∷ []))
+
+pub length_bits : (bs : List Bool) → length (map bit_of bs) ≡ length bs
+length_bits bs = length-map bs bit_of

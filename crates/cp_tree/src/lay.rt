@@ -1,0 +1,295 @@
+//! How a tree is laid out in segments.
+
+ghost use Rattle.std.specs.Prelude.{◌≡◌, ◌<◌, ◌≤◌, ◌+◌, ◌*◌, ◌^◌, ◌∷◌, [], length, map, IfOk};
+ghost use Rattle.cp_words.specs.Word.{words_for};
+ghost use Rattle.cp_tree.specs.declared.aim.Kind.TheVariants as kinds;
+ghost use Rattle.cp_tree.specs.Node.{count, number_of, struct, structs};
+ghost use Rattle.cp_tree.specs.NodeOf.{node_of, body_of, nodes_of, bodies_of};
+ghost use Rattle.cp_tree.specs.Shaped.{Shaped, EachShaped, EachEven, HasSizes};
+ghost use Rattle.cp_tree.specs.Sheets.{written, append, place_by, KeepsTo, IsPlace, IsRun, Writes, Places};
+ghost use Rattle.cp_tree.specs.Writing.{body_blank, bodies_blank, tag_word, struct_begun, ptrs_begun, structs_begun, tree_by, row_by, bodies_by};
+
+use crate::aim::Kind;
+use crate::fault::{Place, WriteFault};
+use crate::sheet::{Room, Sheet};
+use crate::tree::{Body, Tree};
+use cp_words::{ElementSize, Pointer, encode};
+
+/// Lays out a list's body, and gives where its elements are to be written.
+fn place_list(
+    sheet: &mut Sheet,
+    room: Room,
+    at: Place,
+    size: ElementSize,
+    count: usize,
+    words: usize,
+) -> Result<Place, WriteFault>
+    requires keeps { KeepsTo room (written sheet.old) }
+    requires there { IsPlace (written sheet.old) at }
+    requires few { count < 2 ^ 29 }
+    requires sized { words < 2 ^ 60 }
+    ensures { Places room result (place_by room at.segment at.word (kinds.List size count) words (written sheet.old)) (written sheet.new) }
+{
+    let kind = Kind::List {
+        size,
+        count: count as u32,
+    };
+    sheet.place(room, at, kind, words)
+}
+
+/// A struct's data words, and blank words for its pointers.
+fn append_body(sheet: &mut Sheet, room: Room, words: &[u64], ptrs: usize) -> Result<(), WriteFault>
+    requires { KeepsTo room (written sheet.old) }
+    ensures { Writes room result (append (body_blank words.now ptrs) (written sheet.old)) (written sheet.new) }
+{
+    sheet.append(room, words)?;
+    sheet.append_blank(room, ptrs)
+}
+
+/// The elements of a composite list, each with blank words for its pointers.
+fn append_bodies(sheet: &mut Sheet, room: Room, bodies: &[Body]) -> Result<(), WriteFault>
+    requires { KeepsTo room (written sheet.old) }
+    ensures { Writes room result (append (bodies_blank (bodies_of (map body_of bodies.now))) (written sheet.old)) (written sheet.new) }
+{
+    for body in bodies {
+        append_body(sheet, room, &body.words, body.ptrs.len())?;
+    }
+    Ok(())
+}
+
+/// A composite list's tag.
+fn tag_word(count: usize, words: u16, ptrs: u16) -> u64
+    requires { count < 2 ^ 30 }
+    ensures { result ≡ tag_word count words ptrs }
+{
+    4 * count as u64 + 0x1_0000_0000 * words as u64 + 0x1_0000_0000_0000 * ptrs as u64
+}
+
+/// A composite list's tag, and its elements with blank words for their pointers.
+fn append_elements(
+    sheet: &mut Sheet,
+    room: Room,
+    words: u16,
+    ptrs: u16,
+    bodies: &[Body],
+) -> Result<(), WriteFault>
+    requires keeps { KeepsTo room (written sheet.old) }
+    requires few { length bodies.now < 2 ^ 30 }
+    ensures { Writes room result (append (tag_word (length bodies.now) words ptrs ∷ bodies_blank (bodies_of (map body_of bodies.now))) (written sheet.old)) (written sheet.new) }
+{
+    sheet.append(room, &[tag_word(bodies.len(), words, ptrs)])?;
+    append_bodies(sheet, room, bodies)
+}
+
+/// A struct's body, of one word or more, with blank words for its pointers. Gives where these begin.
+fn begin_struct(
+    sheet: &mut Sheet,
+    room: Room,
+    at: Place,
+    words: &[u64],
+    ptrs: usize,
+) -> Result<Place, WriteFault>
+    requires keeps { KeepsTo room (written sheet.old) }
+    requires there { IsPlace (written sheet.old) at }
+    requires sizes { HasSizes (length words.now) ptrs }
+    requires some { 0 < length words.now + ptrs }
+    ensures placed { Places room result (struct_begun room at.segment at.word words.now ptrs (written sheet.old)) (written sheet.new) }
+    ensures run { IfOk result (λ first. IsRun (written sheet.new) first ptrs) }
+{
+    let kind = Kind::Struct {
+        words: words.len() as u16,
+        ptrs: ptrs as u16,
+    };
+    let start = sheet.place(room, at, kind, words.len() + ptrs)?;
+    append_body(sheet, room, words, ptrs)?;
+    Ok(Place {
+        segment: start.segment,
+        word: start.word + words.len(),
+    })
+}
+
+/// The body of a list of pointers, of blank words. Gives where it begins.
+fn begin_ptrs(sheet: &mut Sheet, room: Room, at: Place, count: usize) -> Result<Place, WriteFault>
+    requires keeps { KeepsTo room (written sheet.old) }
+    requires there { IsPlace (written sheet.old) at }
+    requires few { count < 2 ^ 29 }
+    ensures placed { Places room result (ptrs_begun room at.segment at.word count (written sheet.old)) (written sheet.new) }
+    ensures run { IfOk result (λ first. IsRun (written sheet.new) first count) }
+{
+    let start = place_list(sheet, room, at, ElementSize::Pointer, count, count)?;
+    sheet.append_blank(room, count)?;
+    Ok(start)
+}
+
+/// The body of a composite list, with blank words for the pointers of its elements. Gives where
+/// these begin.
+fn begin_structs(
+    sheet: &mut Sheet,
+    room: Room,
+    at: Place,
+    words: u16,
+    ptrs: u16,
+    bodies: &[Body],
+) -> Result<Place, WriteFault>
+    requires keeps { KeepsTo room (written sheet.old) }
+    requires there { IsPlace (written sheet.old) at }
+    requires few { length bodies.now < 2 ^ 30 }
+    requires small { length bodies.now * (words + ptrs) < 2 ^ 29 }
+    requires even { EachEven words ptrs (bodies_of (map body_of bodies.now)) }
+    ensures placed { Places room result (structs_begun room at.segment at.word words ptrs (length bodies.now) (bodies_blank (bodies_of (map body_of bodies.now))) (written sheet.old)) (written sheet.new) }
+    ensures run { IfOk result (λ first. IsRun (written sheet.new) first (length bodies.now * (words + ptrs))) }
+{
+    let size = bodies.len() * (words as usize + ptrs as usize);
+    let tag = place_list(sheet, room, at, ElementSize::Composite, size, size + 1)?;
+    append_elements(sheet, room, words, ptrs, bodies)?;
+    Ok(Place {
+        segment: tag.segment,
+        word: tag.word + 1,
+    })
+}
+
+/// Lays out a tree whose pointer stands at a place.
+#[cycle(lay)]
+pub(crate) fn lay(sheet: &mut Sheet, room: Room, at: Place, tree: &Tree) -> Result<(), WriteFault>
+    requires keeps { KeepsTo room (written sheet.old) }
+    requires there { IsPlace (written sheet.old) at }
+    requires shaped { Shaped (node_of tree.now) }
+    ensures { Writes room result (tree_by room at.segment at.word (node_of tree.now) (written sheet.old)) (written sheet.new) }
+{
+    match tree {
+        Tree::Null => sheet.put(at, 0),
+        Tree::Cap(index) => sheet.put(at, encode(Pointer::Cap(*index))),
+        Tree::Struct(body) => return lay_struct(sheet, room, at, body),
+        Tree::Voids(count) => {
+            place_list(sheet, room, at, ElementSize::Void, *count as usize, 0)?;
+        }
+        Tree::Bits(items) => {
+            place_list(
+                sheet,
+                room,
+                at,
+                ElementSize::Bit,
+                items.len(),
+                (items.len() + 63) / 64,
+            )?;
+            sheet.append_bits(room, items)?;
+        }
+        Tree::Bytes(items) => {
+            place_list(
+                sheet,
+                room,
+                at,
+                ElementSize::Byte,
+                items.len(),
+                (items.len() + 7) / 8,
+            )?;
+            sheet.append_bytes(room, items)?;
+        }
+        Tree::Halves(items) => {
+            place_list(
+                sheet,
+                room,
+                at,
+                ElementSize::TwoBytes,
+                items.len(),
+                (items.len() + 3) / 4,
+            )?;
+            sheet.append_halves(room, items)?;
+        }
+        Tree::Quads(items) => {
+            place_list(
+                sheet,
+                room,
+                at,
+                ElementSize::FourBytes,
+                items.len(),
+                (items.len() + 1) / 2,
+            )?;
+            sheet.append_quads(room, items)?;
+        }
+        Tree::Words(items) => {
+            place_list(
+                sheet,
+                room,
+                at,
+                ElementSize::EightBytes,
+                items.len(),
+                items.len(),
+            )?;
+            sheet.append(room, items)?;
+        }
+        Tree::Ptrs(items) => {
+            let first = begin_ptrs(sheet, room, at, items.len())?;
+            return lay_row(sheet, room, first, items);
+        }
+        Tree::Structs { words, ptrs, items } => {
+            let first = begin_structs(sheet, room, at, *words, *ptrs, items)?;
+            return lay_bodies(sheet, room, first, *words, *ptrs, items);
+        }
+    }
+    Ok(())
+}
+
+/// Lays out a struct whose pointer stands at a place. One of size zero has no body.
+#[cycle(lay)]
+fn lay_struct(sheet: &mut Sheet, room: Room, at: Place, body: &Body) -> Result<(), WriteFault>
+    requires keeps { KeepsTo room (written sheet.old) }
+    requires there { IsPlace (written sheet.old) at }
+    requires shaped { Shaped (struct (body_of body.now).0 (body_of body.now).1) }
+    ensures { Writes room result (tree_by room at.segment at.word (struct (body_of body.now).0 (body_of body.now).1) (written sheet.old)) (written sheet.new) }
+{
+    if body.words.len() + body.ptrs.len() == 0 {
+        let empty = Pointer::Struct {
+            offset: -1,
+            words: 0,
+            ptrs: 0,
+        };
+        sheet.put(at, encode(empty));
+        return Ok(());
+    }
+    let first = begin_struct(sheet, room, at, &body.words, body.ptrs.len())?;
+    lay_row(sheet, room, first, &body.ptrs)
+}
+
+/// Lays out the trees whose pointers stand from a place on.
+#[cycle(lay)]
+fn lay_row(sheet: &mut Sheet, room: Room, first: Place, trees: &[Tree]) -> Result<(), WriteFault>
+    requires keeps { KeepsTo room (written sheet.old) }
+    requires run { IsRun (written sheet.old) first (count (nodes_of (map node_of trees.now))) }
+    requires shaped { EachShaped (nodes_of (map node_of trees.now)) }
+    ensures { Writes room result (row_by room first.segment first.word (nodes_of (map node_of trees.now)) (written sheet.old)) (written sheet.new) }
+{
+    let mut at = first;
+    for tree in trees {
+        lay(sheet, room, at, tree)?;
+        at.word += 1;
+    }
+    Ok(())
+}
+
+/// Lays out what hangs on the pointers of a composite list's elements, which stand from a place on.
+#[cycle(lay)]
+fn lay_bodies(
+    sheet: &mut Sheet,
+    room: Room,
+    first: Place,
+    words: u16,
+    ptrs: u16,
+    bodies: &[Body],
+) -> Result<(), WriteFault>
+    requires keeps { KeepsTo room (written sheet.old) }
+    requires run { IsRun (written sheet.old) first (number_of (bodies_of (map body_of bodies.now)) * (words + ptrs)) }
+    requires even { EachEven words ptrs (bodies_of (map body_of bodies.now)) }
+    ensures { Writes room result (bodies_by room first.segment first.word words ptrs (bodies_of (map body_of bodies.now)) (written sheet.old)) (written sheet.new) }
+{
+    let mut at = first;
+    for body in bodies {
+        let pointers = Place {
+            segment: at.segment,
+            word: at.word + words as usize,
+        };
+        lay_row(sheet, room, pointers, &body.ptrs)?;
+        at.word = pointers.word + ptrs as usize;
+    }
+    Ok(())
+}
