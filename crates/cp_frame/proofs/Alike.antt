@@ -1,18 +1,18 @@
 -- Packed rests that go on alike, and the words and the open group that a rest may be put for.
-use Rattle.std.proofs.Common.{◌≡◌, ◌⊎◌, inl, inr, ℕ, zero, suc, ◌+◌, ◌^◌, ◌<◌, ◌≤◌, List, [], ◌∷◌, ◌++◌, length, refl, sym, ◌∙◌, ap, subst, append_assoc, length-append, arith}
-use Rattle.std.specs.Int.{to_le_bytes, from_le_bytes, w64}
+use Rattle.std.proofs.Common.{◌≡◌, ◌⊎◌, inl, inr, ℕ, zero, suc, ◌+◌, ◌^◌, ◌<◌, List, [], ◌∷◌, ◌++◌, length, refl, sym, ◌∙◌, ap, subst, append_assoc, length-append, arith}
+use Rattle.std.specs.Int.{to_le_bytes, w64}
 use Rattle.std.proofs.lemmas.Nat.{from_le_bytes-to_le_bytes_8}
 use Rattle.std.proofs.lemmas.List.{append-nil, append_cancel_left}
 use Rattle.cp_words.specs.Limits.{Bounds}
 use Rattle.cp_frame.specs.declared.fault.FrameFault.{FrameFault}
 use Rattle.cp_frame.specs.declared.fault.FrameFault.TheVariants as faults
 use Rattle.cp_frame.specs.declared.mode.Mode.TheVariants as modes
-use Rattle.cp_frame.specs.Framed.{AreBytes, AreWords, bytes_of}
-use Rattle.cp_frame.specs.Frame.{Frame}
+use Rattle.cp_frame.specs.Framed.{AreBytes, AreWords}
 use Rattle.cp_frame.specs.Packed.{Packed}
 use Rattle.cp_frame.specs.Stream.{Laid, HasFault, NoFront, Open}
 use Rattle.cp_frame.specs.Reader.{GoesOnAs}
-use Rattle.cp_frame.specs.Unpacking.{Pending, nothing, after, given, IsPending, next, brought, laid_by, first_words}
+use Rattle.cp_frame.specs.Rest.{heads}
+use Rattle.cp_frame.specs.Unpacking.{Pending, nothing, after, given, IsPending, next, laid_by}
 use Rattle.cp_frame.proofs.Opens.{Brings, brings_both, after-append, given-append, feeds_part, raw_more, raw_none}
 use Rattle.cp_frame.proofs.Unpacks.{packed_brings, brings_tag, brings_header}
 use Rattle.cp_frame.proofs.Laying.{brings_these}
@@ -79,12 +79,6 @@ alike_open limits a b x h n k =
       no_fault = λ fault f. k.no_fault fault (alike_fault limits (b ++ x) (a ++ x) fault (alike_back (a ++ x) (b ++ x) more) k.no_front f);
     }
 
--- packed bytes for words, of which the last begins a raw run of so many more, and a part of a group
-abbrev pub heads : List ℕ → ℕ → List ℕ
-heads [] run = []
-heads (w ∷ []) run = 255 ∷ (to_le_bytes w64 w ++ run ∷ [])
-heads (w ∷ v ∷ ws) run = (255 ∷ (to_le_bytes w64 w ++ 0 ∷ [])) ++ heads (v ∷ ws) run
-
 brings_single : (w run : ℕ) → w < 2 ^ 64 → Brings nothing (255 ∷ (to_le_bytes w64 w ++ run ∷ [])) (w ∷ []) (record { run = run; part = [] })
 unfolding laid_by
 brings_single w run h =
@@ -98,7 +92,7 @@ brings_heads (w ∷ []) run h k = brings_single w run h.0
 brings_heads (w ∷ v ∷ ws) run h k =
     brings_both nothing nothing (record { run = run; part = [] }) (255 ∷ (to_le_bytes w64 w ++ 0 ∷ [])) (heads (v ∷ ws) run) (w ∷ []) (v ∷ ws) (brings_single w 0 h.0) (brings_heads (v ∷ ws) run h.1 (λ l. omega arith))
 
-feeds_run : (n : ℕ) (p q : List ℕ) → length p + length q < 8 → Brings (record { run = suc n; part = p }) q [] (record { run = suc n; part = p ++ q })
+pub feeds_run : (n : ℕ) (p q : List ℕ) → length p + length q < 8 → Brings (record { run = suc n; part = p }) q [] (record { run = suc n; part = p ++ q })
 feeds_run n p [] h = record { words = refl; open_then = ap (λ (r : List ℕ). let s : Pending = record { run = suc n; part = r } in s) (sym (append-nil p)) }
 feeds_run n p (x ∷ q) h =
     let short : length (p ++ x ∷ []) < 8 = omega (arith, h, length-append p (x ∷ [])) in

@@ -30,7 +30,7 @@ are_back [] b h = h
 are_back (x ∷ a) b h = are_back a b h.1
 
 -- a word's bytes are bytes
-le_are : (w : ℕ) → AreBytes (to_le_bytes w64 w)
+pub le_are : (w : ℕ) → AreBytes (to_le_bytes w64 w)
 le_are w = (omega arith, (omega arith, (omega arith, (omega arith, (omega arith, (omega arith, (omega arith, (omega arith, tt))))))))
 
 pub bytes_are : (ws : List ℕ) → AreBytes (bytes_of ws)
@@ -67,12 +67,12 @@ laid_prefix (x ∷ b) run part h k =
     )
 
 -- how many bytes are missing, where zeros follow
-abbrev missing : ℕ → List ℕ → ℕ
+abbrev pub missing : ℕ → List ℕ → ℕ
 missing zero [] = 0
 missing zero (t ∷ p) = header_of t - suc (length p)
 missing (suc n) part = 8 * suc n - length part
 
-missing_run : (n : ℕ) → missing n [] ≡ 8 * n
+pub missing_run : (n : ℕ) → missing n [] ≡ 8 * n
 missing_run zero = refl
 missing_run (suc n) = omega arith
 

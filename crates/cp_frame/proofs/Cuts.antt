@@ -1,13 +1,12 @@
 -- A stream that is cut anywhere is read alike.
-use Rattle.std.proofs.Common.{◌≡◌, ◌⊎◌, inl, inr, ℕ, List, [], ◌∷◌, ◌++◌, refl, sym, ◌∙◌, ap, subst}
+use Rattle.std.proofs.Common.{◌≡◌, inl, inr, ℕ, List, ◌++◌, sym, ◌∙◌, ap, subst}
 use Rattle.std.proofs.lemmas.List.{append-nil}
 use Rattle.cp_words.specs.Limits.{Bounds}
 use Rattle.cp_frame.specs.declared.fault.FrameFault.{FrameFault}
 use Rattle.cp_frame.specs.declared.mode.Mode.{Mode}
 use Rattle.cp_frame.specs.declared.mode.Mode.TheVariants as modes
 use Rattle.cp_frame.specs.Framed.{AreBytes, bytes_of}
-use Rattle.cp_frame.specs.Frame.{Frame}
-use Rattle.cp_frame.specs.Stream.{Frames, NamesFault, HasFault, NoFront, HasOneFault, numbers}
+use Rattle.cp_frame.specs.Stream.{Frames, HasFault, NoFront, HasOneFault}
 use Rattle.cp_frame.specs.Reader.{Reader, State, failed, refusing, reading, GoesOnAs, Stands, StandsFor}
 use Rattle.cp_frame.specs.Runs.{joined, Fed, AreAlike, ReadsAnyCut}
 use Rattle.cp_frame.specs.Unpacking.{Pending, nothing, after, given, laid, all_laid}
@@ -19,7 +18,7 @@ use Rattle.cp_frame.proofs.Rests.{IsPackedFault, packed_fault, frame_names_none,
 use Rattle.cp_frame.proofs.Whole.{fault_no_front, one_fault_plain, reads_all, same_form}
 
 -- a rest with a fault begins with no frame
-names_no_front : (limits : Bounds) (b : List ℕ) (fault : FrameFault) → IsPackedFault limits b fault → NoFront modes.Packed limits b
+pub names_no_front : (limits : Bounds) (b : List ℕ) (fault : FrameFault) → IsPackedFault limits b fault → NoFront modes.Packed limits b
 names_no_front limits b fault (inl p) = p.1.4
 names_no_front limits b fault (inr p) = λ S front back e k.
     (let ws = k.form.0 in
@@ -30,7 +29,7 @@ names_no_front limits b fault (inr p) = λ S front back e k.
     let text : all_laid b ≡ bytes_of ws ++ longer.0 = ap (λ (c : List ℕ). all_laid c) e ∙ longer.1 ∙ ap (λ (c : List ℕ). c ++ longer.0) whole in
     frame_names_none limits S (bytes_of ws) longer.0 (all_laid b) fault (record { within = k.within; form = k.form.1 }) text p.1)
 
-no_front_of : (mode : Mode) (limits : Bounds) (b : List ℕ) (fault : FrameFault) → HasFault mode limits b fault → NoFront mode limits b
+pub no_front_of : (mode : Mode) (limits : Bounds) (b : List ℕ) (fault : FrameFault) → HasFault mode limits b fault → NoFront mode limits b
 no_front_of modes.Plain limits b fault h = fault_no_front limits b fault h
 no_front_of modes.Packed limits b fault h = names_no_front limits b fault (packed_fault limits b fault h)
 

@@ -109,7 +109,7 @@ are-append : (a b : List ℕ) → AreBytes a → AreBytes b → AreBytes (a ++ b
 are-append a b h k = all-append (λ x. x < 256) a b h k
 
 -- a word's bytes, as far as they are known
-half_small : (n t : ℕ) → t < 2 ^ suc n → t / 2 < 2 ^ n
+pub half_small : (n t : ℕ) → t < 2 ^ suc n → t / 2 < 2 ^ n
 half_small n t h = let e : 2 ^ suc n ≡ 2 * 2 ^ n = omega arith in omega (arith, h, e)
 
 pub laid_more : (n t : ℕ) (p : List ℕ) (x : ℕ) (q : List ℕ) → t < 2 ^ n → length p < ones t → (others : List ℕ) × (laid_by n t (p ++ x ∷ q) ≡ laid_by n t p ++ x ∷ others)

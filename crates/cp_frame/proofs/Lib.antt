@@ -20,3 +20,9 @@ pub mod Pieces
 pub mod Rests
 pub mod Cuts
 pub mod Alike
+pub mod Pushes
+pub mod Texts
+pub mod Taken
+pub mod Feeds
+pub mod Needed
+pub mod Decoded

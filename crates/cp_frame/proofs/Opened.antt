@@ -1,5 +1,5 @@
 -- What has come of a frame, as the beginning of its bytes.
-use Rattle.std.proofs.Common.{◌==◌, if◌then◌else◌, Bool, true, false, ◌≡◌, ℕ, zero, suc, ◌+◌, ◌-◌, ◌*◌, ◌/◌, ◌%◌, ◌^◌, ◌<◌, ◌≤◌, List, [], ◌∷◌, ◌++◌, length, sum, take, get_or, sym, ◌∙◌, ap, subst, append_assoc, length-append, arith}
+use Rattle.std.proofs.Common.{inl, inr, ◌==◌, if◌then◌else◌, Bool, true, false, ◌≡◌, ℕ, zero, suc, ◌+◌, ◌-◌, ◌*◌, ◌/◌, ◌%◌, ◌^◌, ◌<◌, ◌≤◌, List, [], ◌∷◌, ◌++◌, length, sum, take, get_or, sym, ◌∙◌, ap, subst, append_assoc, length-append, arith}
 use Rattle.std.specs.List.{flat_map}
 use Rattle.std.specs.Int.{to_le_bytes, w64}
 use Rattle.std.proofs.lemmas.List.{append-nil}
@@ -10,7 +10,7 @@ use Rattle.cp_frame.specs.declared.frame.OpenFrame.{OpenFrame}
 use Rattle.cp_frame.specs.Framed.{bytes_of, spelled, sizes_of, table, Framed}
 use Rattle.cp_frame.specs.Frame.{padded_table}
 use Rattle.cp_frame.specs.Stream.{numbers, named_sizes, NamesFault}
-use Rattle.cp_frame.specs.Parts.{halves, count_of, lists, body, rest_of, InTable, InSegments, IsFaultOf, NamesLittle, IsWholeTable, kept_words}
+use Rattle.cp_frame.specs.Parts.{halves, count_of, lists, body, rest_of, InTable, InSegments, IsOpen, IsFaultOf, NamesLittle, IsWholeTable, kept_words}
 use Rattle.std.specs.Global.{Vec}
 use Rattle.std.proofs.lemmas.List.{take-append-le, take_more, take-map}
 use Rattle.std.proofs.lemmas.List.Sums.{sum_by_more_le, sum_by_push}
@@ -62,6 +62,21 @@ fault_in_word limits f left back word fault h small e k =
     ∙ sym (append_assoc ns (halves (word ∷ [])) (numbers back)) ∙ ap (λ (ms : List ℕ). ms ++ numbers back) (sym (halves-append f.table.items (word ∷ []))) in
     subst (λ (ms : List ℕ). IsFaultOf limits ms fault) (sym all) (fault_of_more limits (halves (f.table.items ++ word ∷ [])) (numbers back) fault k)
 
+-- one word more of the table
+pub fault_pushed : (limits : Bounds) (f : OpenFrame) (word : ℕ) (fault : FrameFault) → InTable limits f → f.part.items ≡ [] → word < 2 ^ 64
+    → IsFaultOf limits (halves (f.table.items ++ word ∷ [])) fault → IsFaultOf limits (numbers (rest_of f ++ to_le_bytes w64 word)) fault
+fault_pushed limits f word fault h e small k =
+    fault_in_word limits f (to_le_bytes w64 word) [] word fault h small (ap (λ (b : List ℕ). b ++ to_le_bytes w64 word) e ∙ sym (append-nil (to_le_bytes w64 word))) k
+
+-- whether its table is whole tells what has come
+pub table_goes_on : (limits : Bounds) (f : OpenFrame) → IsOpen limits f → (IsWholeTable f.table.items → ⊥) → InTable limits f
+table_goes_on limits f (inl h) k = h
+table_goes_on limits f (inr h) k = absurd (k h.whole)
+
+pub segments_go_on : (limits : Bounds) (f : OpenFrame) → IsOpen limits f → IsWholeTable f.table.items → InSegments limits f
+segments_go_on limits f (inl h) k = absurd (omega (arith, h.goes_on, k))
+segments_go_on limits f (inr h) k = h
+
 pub length_body : (S : List (List ℕ)) (ws : List ℕ) → length (body S ws) ≡ 8 * (sum (sizes_of S) + length ws)
 length_body S ws = omega (arith, length-append (flat_map bytes_of S) (bytes_of ws), length_bodies S, length_bytes_of ws)
 
@@ -95,6 +110,18 @@ named_whole (w ∷ ws) more h = take-append-le (w % 2 ^ 32 + 1) (w / 2 ^ 32 ∷ 
 pub little_whole : (limits : Bounds) (table more : List ℕ) → IsWholeTable table → NamesLittle limits (halves table) → NamesLittle limits (halves table ++ more)
 little_whole limits [] more h k = absurd (omega (arith, h))
 little_whole limits (w ∷ ws) more h k = (k.0, subst (λ (n : ℕ). n ≤ limits.frame_words) (ap (λ (ns : List ℕ). sum ns) (sym (named_whole (w ∷ ws) more h))) k.1)
+
+-- the table has no fault with bytes that follow what has come
+pub little_in_table : (limits : Bounds) (f : OpenFrame) (more : List ℕ) → InTable limits f → f.part.items ≡ [] → numbers (rest_of f ++ more) ≡ halves f.table.items ++ numbers more
+little_in_table limits f more h e = numbers_in_table limits f more h ∙ ap (λ (b : List ℕ). halves f.table.items ++ numbers (b ++ more)) e
+
+pub little_in_segments : (limits : Bounds) (f : OpenFrame) (more : List ℕ) → InSegments limits f → NamesLittle limits (numbers (rest_of f ++ more))
+little_in_segments limits f more h =
+    let behind = (body (lists f.segments.items) f.words.items ++ f.part.items) ++ more in
+    let rest : rest_of f ++ more ≡ bytes_of f.table.items ++ behind =
+    ap (λ (b : List ℕ). b ++ more) (append_assoc (bytes_of f.table.items) (body (lists f.segments.items) f.words.items) f.part.items)
+    ∙ append_assoc (bytes_of f.table.items) (body (lists f.segments.items) f.words.items ++ f.part.items) more in
+    subst (λ (ns : List ℕ). NamesLittle limits ns) (sym (ap numbers rest ∙ numbers_words f.table.items behind h.table.are_words)) (little_whole limits f.table.items (numbers behind) h.whole h.table.little)
 
 -- the numbers of a rest whose table is whole
 pub numbers_in_segments : (limits : Bounds) (f : OpenFrame) → InSegments limits f

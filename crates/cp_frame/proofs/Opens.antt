@@ -9,7 +9,7 @@ use Rattle.cp_frame.specs.Packed.{tag, written}
 use Rattle.cp_frame.specs.Unpacking.{Pending, header_of, run_of, first_words, next, brought, after, given}
 
 -- tests of numbers
-is_by : (m n : ℕ) → (m == n) ≡ true → m ≡ n
+pub is_by : (m n : ℕ) → (m == n) ≡ true → m ≡ n
 is_by m n h = grind (arith, nat_tests)
 
 isnt_by : (m n : ℕ) → (m == n) ≡ false → m ≡ n → ⊥

@@ -1,49 +1,76 @@
 -- What a reader did with a piece, and what it stands for.
-use Rattle.std.proofs.Common.{◌≡◌, ◌⊎◌, inl, inr, ℕ, ◌+◌, ◌<◌, ◌≤◌, List, [], ◌++◌, length, sum, refl, sym, ◌∙◌, ap, subst, arith}
+use Rattle.std.proofs.Common.{◌≡◌, ◌⊎◌, inl, inr, Result, Ok, Err, OnOk, ℕ, zero, suc, ◌+◌, ◌^◌, ◌<◌, ◌≤◌, List, [], ◌∷◌, ◌++◌, length, sum, take, get_or, refl, sym, ◌∙◌, ap, subst, length-append, arith}
 use Rattle.cp_words.specs.Limits.{Bounds}
 use Rattle.cp_frame.specs.declared.fault.FrameFault.{FrameFault}
 use Rattle.cp_frame.specs.declared.fault.FrameFault.TheVariants as faults
-use Rattle.cp_frame.specs.declared.mode.Mode.TheVariants.{Plain}
+use Rattle.cp_frame.specs.declared.mode.Mode.{Mode}
+use Rattle.cp_frame.specs.declared.mode.Mode.TheVariants as modes
 use Rattle.cp_frame.specs.declared.status.Status.{Status}
 use Rattle.cp_frame.specs.declared.status.Status.TheVariants as statuses
 use Rattle.cp_frame.specs.declared.frame.OpenFrame.{OpenFrame}
-use Rattle.cp_frame.specs.Stream.{Frames, HasFault, numbers, named_sizes}
+use Rattle.cp_frame.specs.declared.rest.Rest.{Rest}
+use Rattle.cp_frame.specs.Framed.{sizes_of}
+use Rattle.cp_frame.specs.Stream.{Frames, HasFault, Laid, Open, numbers, named_sizes}
 use Rattle.cp_frame.specs.Parts.{rest_of, IsOpen, IsEmpty, InTable, InSegments, kept_words, lists, halves}
 use Rattle.cp_frame.specs.Reader.{Gives, Tells, KeepsLittle}
+use Rattle.cp_frame.specs.Unpacking.{Pending, IsPending, laid, pending_of}
+use Rattle.cp_frame.specs.Rest.{InPacked, IsRest, IsBlank, KeptFor, Reads, Refuses, bytes_for, words_in_order}
 use Rattle.cp_frame.specs.Kept.{seen, KeepsUp}
-use Rattle.cp_frame.specs.Framed.{sizes_of}
+use Rattle.cp_frame.proofs.Numbers.{numbers_more}
+use Rattle.cp_frame.proofs.Streams.{sum_more}
 use Rattle.cp_frame.proofs.Opened.{length_rest, numbers_in_segments, named_whole}
 use Rattle.cp_frame.proofs.Filling.{length_lists}
-use Rattle.cp_frame.proofs.Ends.{open_rest, sum_inside}
-use Rattle.std.proofs.Common.{take, get_or, ◌^◌}
+use Rattle.cp_frame.proofs.Ends.{open_rest, sum_inside, empty_open, empty_rest}
+use Rattle.cp_frame.proofs.Certain.{laid_one}
+use Rattle.cp_frame.proofs.Alike.{alike_back, alike_laid}
+use Rattle.cp_frame.proofs.Texts.{bytes_words, text_are, brings_kept, laid_words}
+use Rattle.cp_frame.proofs.Taken.{short_header, keeps_blank}
 
-pub gives_open : (limits : Bounds) (status : Status) (f g : OpenFrame) (piece : List ℕ) (given : List (ℕ × List (List ℕ))) → status ≡ statuses.Reading → IsOpen limits g
-    → Frames Plain limits (rest_of f ++ piece) given (rest_of g) → Gives (seen Plain limits status f) piece (seen Plain limits status g) given
-gives_open limits status f g piece given e h k =
-    subst (λ (s : Status). Gives (seen Plain limits s f) piece (seen Plain limits s g) given) (sym e) (record {
-      was_reading = tt;
-      same_mode = refl;
-      same_limits = refl;
-      frames = λ b m. (rest_of g, subst (λ (x : List ℕ). Frames Plain limits (x ++ piece) given (rest_of g)) m.0 k, (refl, refl, open_rest limits g h));
-      kept = λ m. absurd m;
-    })
+-- a plain piece
+pub plain_reads : (limits : Bounds) (r s : Rest) (piece : List ℕ) (given : List (ℕ × List (List ℕ))) → IsOpen limits s.frame → Frames modes.Plain limits (rest_of r.frame ++ piece) given (rest_of s.frame)
+    → Reads modes.Plain limits r piece given s
+plain_reads limits r s piece given h k = λ b m. (rest_of s.frame, subst (λ (x : List ℕ). Frames modes.Plain limits (x ++ piece) given (rest_of s.frame)) m.0 k, (refl, refl, open_rest limits s.frame h))
 
-pub tells_memory : (limits : Bounds) (status : Status) (f g : OpenFrame) (piece : List ℕ) (fault : FrameFault) → status ≡ statuses.Reading → fault ≡ faults.OutOfMemory
-    → Tells (seen Plain limits status f) piece (seen Plain limits statuses.Failed g) fault
-tells_memory limits status f g piece fault e h =
-    subst (λ (s : Status). Tells (seen Plain limits s f) piece (seen Plain limits statuses.Failed g) fault) (sym e) (record { told = inl h; failed = refl })
+pub plain_refuses : (limits : Bounds) (r : Rest) (piece : List ℕ) (given : List (ℕ × List (List ℕ))) (fault : FrameFault)
+    → (fault ≡ faults.OutOfMemory) ⊎ ((rest : List ℕ) × Frames modes.Plain limits (rest_of r.frame ++ piece) given rest × HasFault modes.Plain limits rest fault)
+    → (fault ≡ faults.OutOfMemory) ⊎ Refuses modes.Plain limits r piece given fault
+plain_refuses limits r piece given fault (inl h) = inl h
+plain_refuses limits r piece given fault (inr h) = inr (λ b m. (h.0, subst (λ (x : List ℕ). Frames modes.Plain limits (x ++ piece) given h.0) m.0 h.1, h.2))
 
-pub tells_fault : (limits : Bounds) (status : Status) (f g : OpenFrame) (piece : List ℕ) (given : List (ℕ × List (List ℕ))) (fault : FrameFault) → status ≡ statuses.Reading → given ≡ []
-    → (fault ≡ faults.OutOfMemory) ⊎ ((rest : List ℕ) × Frames Plain limits (rest_of f ++ piece) given rest × HasFault Plain limits rest fault)
-    → Tells (seen Plain limits status f) piece (seen Plain limits statuses.Failed g) fault
-tells_fault limits status f g piece given fault e n (inl h) = tells_memory limits status f g piece fault e h
-tells_fault limits status f g piece given fault e n (inr h) =
-    let none : Frames Plain limits (rest_of f ++ piece) [] h.0 = subst (λ (gs : List (ℕ × List (List ℕ))). Frames Plain limits (rest_of f ++ piece) gs h.0) n h.1 in
-    let here = subst (λ (x : List ℕ). HasFault Plain limits x fault) (sym none) h.2 in
-    subst (λ (s : Status). Tells (seen Plain limits s f) piece (seen Plain limits statuses.Failed g) fault) (sym e) (record {
-      told = inr (λ b m. subst (λ (x : List ℕ). HasFault Plain limits (x ++ piece) fault) m.0 here);
-      failed = refl;
-    })
+pub plain_ok : {E : Type 0} (limits : Bounds) (r s : Rest) (piece : List ℕ) (given : List (ℕ × List (List ℕ))) (result : Result (Unit {0}) E) → OnOk result (IsOpen limits s.frame)
+    → OnOk result (Frames modes.Plain limits (rest_of r.frame ++ piece) given (rest_of s.frame)) → OnOk result (Reads modes.Plain limits r piece given s)
+plain_ok limits r s piece given (Ok u) h k = plain_reads limits r s piece given h k
+plain_ok limits r s piece given (Err e) h k = tt
+
+-- a piece of either form
+pub gives_open : (mode : Mode) (limits : Bounds) (status : Status) (r s : Rest) (piece : List ℕ) (given : List (ℕ × List (List ℕ))) → status ≡ statuses.Reading → Reads mode limits r piece given s
+    → Gives (seen mode limits status r) piece (seen mode limits status s) given
+gives_open mode limits status r s piece given e h =
+    subst (λ (s' : Status). Gives (seen mode limits s' r) piece (seen mode limits s' s) given) (sym e) (record { was_reading = tt; same_mode = refl; same_limits = refl; frames = h; kept = λ m. absurd m })
+
+pub gives_kept : (mode : Mode) (limits : Bounds) (status : Status) (r s : Rest) (piece : List ℕ) (given : List (ℕ × List (List ℕ))) (fault : FrameFault) → status ≡ statuses.Reading
+    → (given ≡ [] → ⊥) → (fault ≡ faults.OutOfMemory → ⊥) → (fault ≡ faults.OutOfMemory) ⊎ Refuses mode limits r piece given fault → Gives (seen mode limits status r) piece (seen mode limits (statuses.Refusing fault) s) given
+gives_kept mode limits status r s piece given fault e n m (inl h) = absurd (m h)
+gives_kept mode limits status r s piece given fault e n m (inr h) =
+    subst (λ (s' : Status). Gives (seen mode limits s' r) piece (seen mode limits (statuses.Refusing fault) s) given) (sym e)
+    (record { was_reading = tt; same_mode = refl; same_limits = refl; frames = h; kept = λ k. n })
+
+pub tells_memory : (mode : Mode) (limits : Bounds) (status : Status) (r s : Rest) (piece : List ℕ) (fault : FrameFault) → status ≡ statuses.Reading → fault ≡ faults.OutOfMemory
+    → Tells (seen mode limits status r) piece (seen mode limits statuses.Failed s) fault
+tells_memory mode limits status r s piece fault e h =
+    subst (λ (s' : Status). Tells (seen mode limits s' r) piece (seen mode limits statuses.Failed s) fault) (sym e) (record { told = inl h; failed = refl })
+
+pub tells_fault : (mode : Mode) (limits : Bounds) (status : Status) (r s : Rest) (piece : List ℕ) (given : List (ℕ × List (List ℕ))) (fault : FrameFault) → status ≡ statuses.Reading → given ≡ []
+    → (fault ≡ faults.OutOfMemory) ⊎ Refuses mode limits r piece given fault → Tells (seen mode limits status r) piece (seen mode limits statuses.Failed s) fault
+tells_fault mode limits status r s piece given fault e n (inl h) = tells_memory mode limits status r s piece fault e h
+tells_fault mode limits status r s piece given fault e n (inr h) =
+    subst (λ (s' : Status). Tells (seen mode limits s' r) piece (seen mode limits statuses.Failed s) fault) (sym e) (record { told = inr told; failed = refl })
+  where
+    told : (b : List ℕ) → KeptFor mode limits r b → HasFault mode limits (b ++ piece) fault
+    told b m =
+        let all = h b m in
+        let none : b ++ piece ≡ all.0 = subst (λ (gs : List (ℕ × List (List ℕ))). Frames mode limits (b ++ piece) gs all.0) n all.1 in
+        subst (λ (x : List ℕ). HasFault mode limits x fault) (sym none) all.2
 
 pub empty_words : (f : OpenFrame) → IsEmpty f → kept_words f ≡ 0
 empty_words f h = rw (h.table, h.segments, h.words) refl
@@ -66,31 +93,89 @@ words_kept limits f (inr h) =
     let same = ap (λ (ns : List ℕ). sum (named_sizes ns)) (numbers_in_segments limits f h) ∙ ap (λ (ns : List ℕ). sum ns) (named_whole f.table.items _ h.whole) in
     omega (arith, words_named limits f h, same)
 
-pub words_fit : (limits : Bounds) (status : Status) (f : OpenFrame) → KeepsUp limits status f → kept_words f < 2 ^ 64
-words_fit limits statuses.Reading f (inl h) = omega (arith, words_of_table limits f h)
-words_fit limits statuses.Reading f (inr h) = omega (arith, words_named limits f h, h.table.sums, h.table.fits)
-words_fit limits statuses.Failed f h = omega (arith, empty_words f h)
-words_fit limits (statuses.Refusing fault) f h = omega (arith, empty_words f h)
+pub open_kept : (mode : Mode) (limits : Bounds) (r : Rest) → IsRest mode limits r → IsOpen limits r.frame
+open_kept modes.Plain limits r h = h.0
+open_kept modes.Packed limits r h = h.frame
 
-pub part_short : (limits : Bounds) (status : Status) (f : OpenFrame) → KeepsUp limits status f → length f.part.items ≤ 9
-part_short limits statuses.Reading f (inl h) = omega (arith, h.short)
-part_short limits statuses.Reading f (inr h) = omega (arith, h.short)
-part_short limits statuses.Failed f h = rw h.part (omega arith)
-part_short limits (statuses.Refusing fault) f h = rw h.part (omega arith)
+-- a table without words is all that there is
+no_table : (limits : Bounds) (f : OpenFrame) → IsOpen limits f → length f.table.items ≡ 0 → kept_words f ≡ 0
+no_table limits f (inl h) e = rw (h.no_segments, h.no_words) (omega (arith, e))
+no_table limits f (inr h) e = absurd (omega (arith, h.whole, e))
 
-pub keeps_little : (limits : Bounds) (status : Status) (f : OpenFrame) → KeepsUp limits status f → KeepsLittle (seen Plain limits status f)
-keeps_little limits statuses.Reading f h = record {
-  bytes = part_short limits statuses.Reading f h;
-  laid = λ b l k m. omega (arith, length_rest f, ap (λ (x : List ℕ). length x) (m ∙ sym k.0));
-  named = λ b l k m. subst (λ (x : List ℕ). kept_words f ≤ 257 + sum (named_sizes (numbers x))) (k.0 ∙ sym m) (words_kept limits f h);
+pub blank_table : (mode : Mode) (limits : Bounds) (r : Rest) → IsRest mode limits r → length r.frame.table.items ≡ 0 → kept_words r.frame ≡ 0
+blank_table mode limits r h e = no_table limits r.frame (open_kept mode limits r h) e
+
+words_open : (limits : Bounds) (f : OpenFrame) → IsOpen limits f → kept_words f < 2 ^ 64
+words_open limits f (inl h) = omega (arith, words_of_table limits f h)
+words_open limits f (inr h) = omega (arith, words_named limits f h, h.table.sums, h.table.fits)
+
+pub words_fit : (mode : Mode) (limits : Bounds) (status : Status) (r : Rest) → KeepsUp mode limits status r → kept_words r.frame < 2 ^ 64
+words_fit mode limits statuses.Reading r h = words_open limits r.frame (open_kept mode limits r h)
+words_fit mode limits statuses.Failed r h = omega (arith, empty_words r.frame h.frame)
+words_fit mode limits (statuses.Refusing fault) r h = omega (arith, empty_words r.frame h.frame)
+
+part_few : (run : ℕ) (part : List ℕ) → IsPending (record { run = run; part = part }) → length part ≤ 9
+part_few zero [] h = omega arith
+part_few zero (t ∷ q) h = omega (arith, h.short, short_header t h.are_bytes.0)
+part_few (suc n) part h = omega (arith, h.short)
+
+part_open : (limits : Bounds) (f : OpenFrame) → IsOpen limits f → length f.part.items ≤ 9
+part_open limits f (inl h) = omega (arith, h.short)
+part_open limits f (inr h) = omega (arith, h.short)
+
+no_part : (r : Rest) → IsBlank r → length r.frame.part.items + length r.group.part.items ≤ 9
+no_part r h = omega (arith, ap (λ (b : List ℕ). length b) h.frame.part, ap (λ (p : Pending). length p.part) h.group)
+
+pub part_short : (mode : Mode) (limits : Bounds) (status : Status) (r : Rest) → KeepsUp mode limits status r → length r.frame.part.items + length r.group.part.items ≤ 9
+part_short modes.Plain limits statuses.Reading r h = omega (arith, part_open limits r.frame h.0, ap (λ (p : Pending). length p.part) h.1)
+part_short modes.Packed limits statuses.Reading r h = omega (arith, ap (λ (b : List ℕ). length b) h.no_part, part_few r.group.run r.group.part.items h.pending)
+part_short mode limits statuses.Failed r h = no_part r h
+part_short mode limits (statuses.Refusing fault) r h = no_part r h
+
+-- what a packed rest lays
+laid_kept : (limits : Bounds) (r : Rest) (b l : List ℕ) → InPacked limits r → KeptFor modes.Packed limits r b → Laid modes.Packed b l → l ≡ rest_of r.frame ++ laid (pending_of r.group)
+laid_kept limits r b l h k m =
+    let t = bytes_for modes.Packed r in
+    laid_one t l (text_are limits r h) (alike_laid b t l (alike_back t b k.0) m) ∙ laid_words t (words_in_order r.frame) (pending_of r.group) (brings_kept limits r h)
+    ∙ ap (λ (c : List ℕ). c ++ laid (pending_of r.group)) (bytes_words r.frame h.no_part)
+
+sum_named : (ns more : List ℕ) → sum (named_sizes ns) ≤ sum (named_sizes (ns ++ more))
+sum_named [] more = omega arith
+sum_named (n ∷ ns) more = sum_more (n + 1) ns more
+
+packed_named : (limits : Bounds) (r : Rest) → InPacked limits r → kept_words r.frame ≤ 257 + sum (named_sizes (numbers (rest_of r.frame ++ laid (pending_of r.group))))
+packed_named limits r h =
+    let ns = numbers_more (rest_of r.frame) (laid (pending_of r.group)) in
+    omega (arith, words_kept limits r.frame h.frame, sum_named (numbers (rest_of r.frame)) ns.0, ap (λ (ms : List ℕ). sum (named_sizes ms)) ns.1)
+
+pub keeps_little : (mode : Mode) (limits : Bounds) (status : Status) (r : Rest) → KeepsUp mode limits status r → KeepsLittle (seen mode limits status r)
+keeps_little modes.Plain limits statuses.Reading r h = record {
+  bytes = part_short modes.Plain limits statuses.Reading r h;
+  laid = λ b l k m. omega (arith, length_rest r.frame, ap (λ (x : List ℕ). length x) (m ∙ sym k.0));
+  named = λ b l k m. subst (λ (x : List ℕ). kept_words r.frame ≤ 257 + sum (named_sizes (numbers x))) (k.0 ∙ sym m) (words_kept limits r.frame h.0);
 }
-keeps_little limits statuses.Failed f h = record {
-  bytes = part_short limits statuses.Failed f h;
-  laid = λ b l k m. absurd k;
-  named = λ b l k m. absurd k;
+keeps_little modes.Packed limits statuses.Reading r h = record {
+  bytes = part_short modes.Packed limits statuses.Reading r h;
+  laid = λ b l k m. omega (arith, length_rest r.frame, ap (λ (x : List ℕ). length x) (laid_kept limits r b l h k m), length-append (rest_of r.frame) (laid (pending_of r.group)));
+  named = λ b l k m. subst (λ (x : List ℕ). kept_words r.frame ≤ 257 + sum (named_sizes (numbers x))) (sym (laid_kept limits r b l h k m)) (packed_named limits r h);
 }
-keeps_little limits (statuses.Refusing fault) f h = record {
-  bytes = part_short limits (statuses.Refusing fault) f h;
-  laid = λ b l k m. omega (arith, empty_words f h);
-  named = λ b l k m. omega (arith, empty_words f h);
+keeps_little mode limits statuses.Failed r h = record { bytes = part_short mode limits statuses.Failed r h; laid = λ b l k m. absurd k; named = λ b l k m. absurd k }
+keeps_little mode limits (statuses.Refusing fault) r h = record {
+  bytes = part_short mode limits (statuses.Refusing fault) r h;
+  laid = λ b l k m. omega (arith, empty_words r.frame h.frame);
+  named = λ b l k m. omega (arith, empty_words r.frame h.frame);
 }
+
+-- no bytes have come where neither a word of the table nor a part of one has
+pub plain_none : (r : Rest) → (length r.frame.table.items ≡ 0 → kept_words r.frame ≡ 0) → length r.frame.table.items + length r.frame.part.items ≡ 0 → length (rest_of r.frame) ≡ 0
+plain_none r h e = let none : length r.frame.table.items ≡ 0 = omega (arith, e) in omega (arith, length_rest r.frame, h none, e)
+
+pub none_plain : (r : Rest) → length (rest_of r.frame) ≡ 0 → length r.frame.table.items + length r.frame.part.items ≡ 0
+none_plain r e = omega (arith, length_rest r.frame, e)
+
+-- what a reader begins with stands for nothing
+pub blank_stands : (mode : Mode) (limits : Bounds) (r : Rest) → IsBlank r → KeptFor mode limits r []
+blank_stands modes.Plain limits r h =
+    let none = empty_rest r.frame h.frame in
+    (none, ap (λ (b : List ℕ). length b) none, subst (λ (b : List ℕ). Open modes.Plain limits b) none (open_rest limits r.frame (empty_open limits r.frame h.frame)))
+blank_stands modes.Packed limits r h = keeps_blank limits r h

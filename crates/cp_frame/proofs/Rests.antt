@@ -1,16 +1,16 @@
 -- What holds of packed rests of a stream.
-use Rattle.std.proofs.Common.{◌≡◌, ◌⊎◌, inl, inr, ℕ, zero, suc, ◌+◌, ◌-◌, ◌<◌, ◌≤◌, List, [], ◌∷◌, ◌++◌, length, refl, sym, ◌∙◌, ap, subst, append_assoc, length-append, arith}
-use Rattle.std.specs.List.{AllByRecursion, AllZip, flat_map}
+use Rattle.std.proofs.Common.{◌≡◌, ◌⊎◌, inl, inr, ℕ, zero, ◌-◌, ◌<◌, ◌≤◌, List, [], ◌∷◌, ◌++◌, length, refl, sym, ◌∙◌, ap, subst, append_assoc, length-append, arith}
+use Rattle.std.specs.List.{AllZip, flat_map}
 use Rattle.std.specs.Int.{to_le_bytes, w64}
 use Rattle.std.proofs.lemmas.List.{append-nil}
 use Rattle.std.proofs.lemmas.Bool.{cases_lt}
 use Rattle.std.proofs.lemmas.Grind.{flat_map-append}
-use Rattle.cp_words.specs.Limits.{Bounds, IsAllowed}
+use Rattle.cp_words.specs.Limits.{Bounds}
 use Rattle.cp_frame.specs.declared.fault.FrameFault.{FrameFault}
 use Rattle.cp_frame.specs.declared.fault.FrameFault.TheVariants as faults
 use Rattle.cp_frame.specs.declared.mode.Mode.TheVariants as modes
-use Rattle.cp_frame.specs.Framed.{AreWords, AreBytes, bytes_of, sizes_of, Framed}
-use Rattle.cp_frame.specs.Frame.{padded_table, Frame, Written}
+use Rattle.cp_frame.specs.Framed.{AreBytes, bytes_of, sizes_of, Framed}
+use Rattle.cp_frame.specs.Frame.{padded_table, Frame}
 use Rattle.cp_frame.specs.Packed.{Packed, Spelt, spelling, words_of, IsGroup}
 use Rattle.cp_frame.specs.Stream.{Lays, Laid, NamesFault, NamesTooMany, NamesTooMuch, HasFault, NoFront, RunsPast, numbers, HasOneFault, FaultStays}
 use Rattle.cp_frame.specs.Runs.{IsReadBack}
@@ -21,7 +21,6 @@ use Rattle.cp_frame.proofs.Streams.{names_more}
 use Rattle.cp_frame.proofs.Whole.{kinds, not_both, too_many_front, too_much_front, read_back_plain}
 use Rattle.cp_frame.proofs.Filling.{all-append}
 use Rattle.cp_frame.proofs.Opens.{after-append, given-append}
-use Rattle.cp_frame.proofs.Unpacks.{packed_brings}
 use Rattle.cp_frame.proofs.Laying.{pending_nothing, pending_after}
 use Rattle.cp_frame.proofs.Certain.{are-append, are_front, packed_are, laid_prefix, laid_is, laid_one}
 
@@ -43,7 +42,7 @@ pieces_packed [] (p ∷ pieces) h = absurd h
 pieces_packed (s ∷ S) [] h = absurd h
 pieces_packed (s ∷ S) (p ∷ pieces) h = packed-append s (flat_map (λ seg. seg) S) p (flat_map (λ piece. piece) pieces) (spelt_packed s p h.0) (pieces_packed S pieces h.1)
 
-bytes_joined : (S : List (List ℕ)) → bytes_of (flat_map (λ seg. seg) S) ≡ flat_map bytes_of S
+pub bytes_joined : (S : List (List ℕ)) → bytes_of (flat_map (λ seg. seg) S) ≡ flat_map bytes_of S
 bytes_joined [] = refl
 bytes_joined (s ∷ S) = flat_map-append (to_le_bytes w64) s (flat_map (λ seg. seg) S) ∙ ap (λ (b : List ℕ). bytes_of s ++ b) (bytes_joined S)
 

@@ -1,6 +1,6 @@
 -- The segment table by its words.
 use Rattle.std.proofs.Common.{false, nat_eq, ◌≡◌, ◌≢◌, ℕ, zero, suc, ◌+◌, ◌*◌, ◌/◌, ◌%◌, ◌^◌, ◌<◌, ◌≤◌, List, [], ◌∷◌, ◌++◌, length, sum, take, get_or, refl, sym, ◌∙◌, ap, subst, append_assoc, length-append, arith}
-use Rattle.std.specs.Int.{from_le_bytes, w32}
+use Rattle.std.specs.Int.{from_le_bytes, to_le_bytes, w32, w64}
 use Rattle.byteorder.specs.Endian.{little_number}
 use Rattle.std.proofs.lemmas.List.{append-nil, take_all, take_at, get_or-take, length-take}
 use Rattle.std.proofs.lemmas.List.Sums.{sum_by-cons, sum_by-append, sum_by_push}
@@ -9,7 +9,7 @@ use Rattle.cp_frame.specs.declared.fault.FrameFault.{FrameFault}
 use Rattle.cp_frame.specs.declared.fault.FrameFault.TheVariants as faults
 use Rattle.cp_frame.specs.Stream.{numbers, named_sizes, NamesFault}
 use Rattle.cp_frame.specs.Parts.{halves, count_of, IsWholeTable, NamesLittle}
-use Rattle.cp_frame.proofs.Numbers.{length_halves}
+use Rattle.cp_frame.proofs.Numbers.{length_halves, numbers_words}
 use Rattle.cp_frame.proofs.Streams.{sum_more}
 
 -- the numbers of a table, two in each word
@@ -163,3 +163,9 @@ part_little limits table part low h f e v k =
 
 pub part_none : (limits : Bounds) (table part : List ℕ) → length part < 4 → NamesLittle limits (halves table) → NamesLittle limits (halves table ++ numbers part)
 part_none limits table part h k = rw (no_numbers part h, append-nil) k
+
+-- a word that is there whole
+pub whole_word : (table : List ℕ) (word : ℕ) (b : List ℕ) → word < 2 ^ 64 → to_le_bytes w64 word ≡ b → halves (table ++ word ∷ []) ≡ halves table ++ numbers b
+whole_word table word b h e =
+    let named : numbers (to_le_bytes w64 word) ≡ halves (word ∷ []) = numbers_words (word ∷ []) [] (h, tt) in
+    halves-append table (word ∷ []) ∙ ap (λ (ns : List ℕ). halves table ++ ns) (sym named ∙ ap numbers e)

@@ -11,11 +11,11 @@ use Rattle.cp_frame.specs.declared.mode.Mode.{Mode}
 use Rattle.cp_frame.specs.declared.mode.Mode.TheVariants as modes
 use Rattle.cp_frame.specs.Framed.{bytes_of, spelled, sizes_of, table}
 use Rattle.cp_frame.specs.Stream.{Frames, NoFront, NamesFault, NamesTooMany, NamesTooMuch, HasFault, numbers, HasOneFault}
-use Rattle.cp_frame.specs.Reader.{Reader, State, failed, refusing, reading, Stands, StandsFor, IsReading, IsToldFor}
-use Rattle.cp_frame.specs.Runs.{joined, Fed, ReadsAll, TellsAll, ReadsAnyCut, IsReadBack}
+use Rattle.cp_frame.specs.Reader.{Reader, State, failed, refusing, reading, StandsFor, IsReading, IsToldFor}
+use Rattle.cp_frame.specs.Runs.{joined, Fed, ReadsAll, TellsAll, IsReadBack}
 use Rattle.cp_frame.proofs.Numbers.{length_spelled}
 use Rattle.cp_frame.proofs.Framing.{numbers_framed, length_sizes}
-use Rattle.cp_frame.proofs.Streams.{cut, one_reading, one_front_plain, plain_fault}
+use Rattle.cp_frame.proofs.Streams.{cut, plain_fault}
 
 -- which faults a plain rest may have
 pub kinds : (limits : Bounds) (ns : List ℕ) (fault : FrameFault) → NamesFault limits ns fault

@@ -1,24 +1,31 @@
 -- What a reader keeps, and what its callers see of it. No public clause names these.
-use Rattle.std.specs.Prelude.{ℕ, List, length}
+use Rattle.std.specs.Prelude.{ℕ, ◌+◌, List, length}
 use Rattle.cp_words.specs.Limits.{Bounds}
 use Rattle.cp_frame.specs.declared.mode.Mode.{Mode}
 use Rattle.cp_frame.specs.declared.status.Status.{Status}
 use Rattle.cp_frame.specs.declared.status.Status.TheVariants as statuses
-use Rattle.cp_frame.specs.declared.frame.OpenFrame.{OpenFrame}
-use Rattle.cp_frame.specs.Parts.{rest_of, kept_words, IsOpen, IsEmpty}
+use Rattle.cp_frame.specs.declared.rest.Rest.{Rest}
+use Rattle.cp_frame.specs.Parts.{kept_words}
+use Rattle.cp_frame.specs.Rest.{bytes_for, count_for, IsRest, IsBlank}
 use Rattle.cp_frame.specs.Reader.{Reader, State, failed, refusing, reading}
 
-abbrev pub state_of : Status → List ℕ → State
-state_of statuses.Failed rest = failed
-state_of (statuses.Refusing fault) rest = refusing fault
-state_of statuses.Reading rest = reading rest (length rest)
+abbrev pub state_of : Status → List ℕ → ℕ → State
+state_of statuses.Failed rest taken = failed
+state_of (statuses.Refusing fault) rest taken = refusing fault
+state_of statuses.Reading rest taken = reading rest taken
 
 -- a reader by its parts
-abbrev pub seen : Mode → Bounds → Status → OpenFrame → Reader
-seen mode limits status f = record { mode = mode; limits = limits; state = state_of status (rest_of f); bytes = length f.part.items; words = kept_words f }
+abbrev pub seen : Mode → Bounds → Status → Rest → Reader
+seen mode limits status r = record {
+  mode = mode;
+  limits = limits;
+  state = state_of status (bytes_for mode r) (count_for mode r);
+  bytes = length r.frame.part.items + length r.group.part.items;
+  words = kept_words r.frame;
+}
 
 -- what has come of a frame is kept while the stream is read, and nothing afterwards
-abbrev pub KeepsUp : Bounds → Status → OpenFrame → Type 0
-KeepsUp limits statuses.Reading f = IsOpen limits f
-KeepsUp limits statuses.Failed f = IsEmpty f
-KeepsUp limits (statuses.Refusing fault) f = IsEmpty f
+abbrev pub KeepsUp : Mode → Bounds → Status → Rest → Type 0
+KeepsUp mode limits statuses.Reading r = IsRest mode limits r
+KeepsUp mode limits statuses.Failed r = IsBlank r
+KeepsUp mode limits (statuses.Refusing fault) r = IsBlank r

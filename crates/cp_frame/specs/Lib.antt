@@ -2,10 +2,12 @@ pub use Rattle.cp_words.specs.Limits
 pub mod Framed
 pub mod Packed
 pub mod Unpacking
+pub mod Decoding
 pub mod Packing
 pub mod Frame
 pub mod Stream
 pub mod Reader
 pub mod Runs
 pub mod Parts
+pub mod Rest
 pub mod Kept

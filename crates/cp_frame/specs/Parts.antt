@@ -1,5 +1,5 @@
 -- What has come of a frame, in parts. No public clause names these.
-use Rattle.std.specs.Prelude.{◌≡◌, ◌⊎◌, ℕ, ◌+◌, ◌/◌, ◌%◌, ◌^◌, ◌<◌, ◌≤◌, List, [], ◌∷◌, ◌++◌, length, map, sum, take, slice_index, Option, Some, None}
+use Rattle.std.specs.Prelude.{if◌then◌else◌, ◌==◌, ◌≡◌, ◌⊎◌, ℕ, ◌+◌, ◌/◌, ◌%◌, ◌^◌, ◌<◌, ◌≤◌, List, [], ◌∷◌, ◌++◌, length, map, sum, take, slice_index, Option, Some, None}
 use Rattle.std.specs.List.{AllByRecursion, flat_map}
 use Rattle.cp_words.specs.Limits.{Bounds}
 use Rattle.cp_frame.specs.declared.fault.FrameFault.{FrameFault}
@@ -110,6 +110,10 @@ Takes old left new (Some w) back = (new ≡ []) × (w < 2 ^ 64) × (old ++ left 
 -- A part of the frame has come, or all of it.
 abbrev pub IsBegun : Bounds → OpenFrame → Type 0
 IsBegun limits f = IsOpen limits f ⊎ IsComplete limits f
+
+-- how many words a frame has at the least, by what has come of its table
+abbrev pub least_words : OpenFrame → ℕ
+least_words f = (if length f.table.items == 0 then 0 else count_of f.table.items / 2) + 1 + f.total
 
 -- how many words are kept
 abbrev pub kept_words : OpenFrame → ℕ

@@ -1,5 +1,5 @@
 -- A reader of a stream, as its callers see it.
-use Rattle.std.specs.Prelude.{◌≡◌, ◌≢◌, ◌⊎◌, ◌↔◌, ℕ, ◌+◌, ◌*◌, ◌≤◌, List, [], ◌++◌, length, sum}
+use Rattle.std.specs.Prelude.{◌≡◌, ◌≢◌, ◌⊎◌, ◌↔◌, ℕ, ◌+◌, ◌*◌, ◌/◌, ◌<◌, ◌≤◌, List, [], ◌++◌, length, sum}
 use Rattle.cp_words.specs.Limits.{Bounds}
 use Rattle.cp_frame.specs.declared.fault.FrameFault.{FrameFault}
 use Rattle.cp_frame.specs.declared.fault.FrameFault.TheVariants as faults
@@ -7,6 +7,7 @@ use Rattle.cp_frame.specs.declared.mode.Mode.{Mode}
 use Rattle.cp_frame.specs.declared.mode.Mode.TheVariants as modes
 use Rattle.cp_frame.specs.Stream.{Frames, HasFault, Open, Laid, numbers, named_sizes}
 use Rattle.cp_frame.specs.Packed.{Packed}
+use Rattle.cp_frame.specs.Frame.{Frame}
 
 -- A fault was told; or one was met behind frames and is told next; or the stream is read on, of which a rest of so many bytes goes on as these do.
 pub data State : Type 0 where
@@ -49,6 +50,12 @@ IsRefusing failed = ⊥
 IsRefusing (refusing fault) = Unit {0}
 IsRefusing (reading rest taken) = ⊥
 
+-- how many bytes of the open frame have come
+abbrev pub taken_of : State → ℕ
+taken_of failed = 0
+taken_of (refusing fault) = 0
+taken_of (reading rest taken) = taken
+
 -- The piece was read: what stood for b gave the frames of b and the piece, and stands for their rest. It keeps a fault of the rest only behind frames.
 pub record Gives (old : Reader) (piece : List ℕ) (new : Reader) (given : List (ℕ × List (List ℕ))) : Type 0 where
   pub was_reading : IsReading old.state
@@ -88,6 +95,23 @@ pub record TellsAtEnd (old new : Reader) (fault : FrameFault) : Type 0 where
 -- a reader of which nothing has come
 abbrev pub new_reader : Mode → Bounds → Reader
 new_reader mode limits = record { mode = mode; limits = limits; state = reading [] 0; bytes = 0; words = 0 }
+
+-- these are all bytes to come before the rest is a frame, in the plain form once the segment table has come
+abbrev pub AreAllToCome : Mode → Bounds → List ℕ → ℕ → Type 0
+AreAllToCome modes.Plain limits b n = (S : List (List ℕ)) (more : List ℕ) → Frame modes.Plain limits S (b ++ more) → 8 * (length S / 2 + 1) ≤ length b → n ≡ length more
+AreAllToCome modes.Packed limits b n = Unit {0}
+
+-- So many bytes, and at least one, are still to come before the rest is a frame.
+pub record IsNeeded (mode : Mode) (limits : Bounds) (b : List ℕ) (n : ℕ) : Type 0 where
+  pub some : 0 < n
+  pub to_come : (S : List (List ℕ)) (more : List ℕ) → Frame mode limits S (b ++ more) → n ≤ length more
+  pub all : AreAllToCome mode limits b n
+
+-- how many bytes a reader needs at the least: none where a fault was told or is told next
+abbrev pub Needs : Reader → State → ℕ → Type 0
+Needs r failed n = n ≡ 0
+Needs r (refusing fault) n = n ≡ 0
+Needs r (reading rest taken) n = (b : List ℕ) → StandsFor r b → IsNeeded r.mode r.limits b n
 
 -- The words kept are no more than the rest lays, whole, and no more than the segment table and the sizes that it names.
 pub record KeepsLittle (r : Reader) : Type 0 where

@@ -8,7 +8,7 @@ use Rattle.cp_frame.specs.declared.mode.Mode.{Mode}
 use Rattle.cp_frame.specs.Framed.{AreWords}
 use Rattle.cp_frame.specs.Frame.{Frame, Written}
 use Rattle.cp_frame.specs.Stream.{Frames, HasFault}
-use Rattle.cp_frame.specs.Reader.{Reader, State, failed, refusing, reading, GoesOnAs, StandsFor, IsReading, Gives, Tells}
+use Rattle.cp_frame.specs.Reader.{Reader, State, reading, GoesOnAs, StandsFor, IsReading, Gives, Tells}
 
 -- the pieces, one after another
 abbrev pub joined : List (List ℕ) → List ℕ

@@ -1,5 +1,5 @@
 -- The packed form byte by byte: what bytes have brought, and what is left open. No public clause names these.
-use Rattle.std.specs.Prelude.{ℕ, zero, suc, ◌/◌, ◌%◌, ◌==◌, ◌<◌, if◌then◌else◌, List, [], ◌∷◌, ◌++◌, length, replicate, drop, slice_index}
+use Rattle.std.specs.Prelude.{ℕ, zero, suc, ◌-◌, ◌*◌, ◌/◌, ◌%◌, ◌==◌, ◌<◌, if◌then◌else◌, List, [], ◌∷◌, ◌++◌, length, replicate, drop, slice_index}
 use Rattle.std.specs.Int.{from_le_bytes, w64}
 use Rattle.std.specs.Int.RustNames.{count_ones}
 use Rattle.cp_frame.specs.Framed.{AreBytes, bytes_of}
@@ -73,6 +73,12 @@ pub record IsPending (p : Pending) : Type 0 where
   pub are_bytes : AreBytes p.part
   pub few : p.run < 256
   pub short : IsShort p.run p.part
+
+-- how many bytes a group still needs at the least; where nothing of one has come, two
+abbrev pub still : ℕ → List ℕ → ℕ
+still zero [] = 2
+still zero (tag ∷ behind) = header_of tag - suc (length behind)
+still (suc n) part = 8 * suc n - length part
 
 -- the bytes that are certain to come next in the words
 abbrev pub laid_in : ℕ → List ℕ → List ℕ

@@ -1,14 +1,15 @@
 //! The frame of which a part has come.
 
-ghost use Rattle.std.specs.Prelude.{◌≡◌, ◌⊎◌, ◌^◌, ◌+◌, ◌*◌, ◌/◌, ◌%◌, ◌<◌, ◌≤◌, ◌++◌, ◌∷◌, [], ◌↔◌, IsTrue, IfOk, OnOk, IfErr, length, sum, slice_index, vec_capacity};
-ghost use Rattle.cp_frame.specs.Framed.{sizes_of};
+ghost use Rattle.std.specs.Prelude.{◌≡◌, ◌⊎◌, ◌^◌, ◌+◌, ◌*◌, ◌/◌, ◌%◌, ◌<◌, ◌≤◌, ◌++◌, ◌∷◌, [], ◌↔◌, IsTrue, IfOk, OnOk, IfErr, length, sum, replicate, slice_index, vec_capacity};
+ghost use Rattle.cp_frame.specs.Framed.{bytes_of, sizes_of};
 ghost use Rattle.std.specs.Int.{to_le_bytes, w64};
-ghost use Rattle.cp_frame.specs.Parts.{Takes, IsBegun, InTable, InSegments, halves, count_of, IsWholeTable, IsTable, IsFaultOf, Fills, body, lists, words_in, rest_of, IsOpen, IsComplete, IsEmpty, kept_words};
+ghost use Rattle.cp_frame.specs.Parts.{Takes, IsBegun, InTable, InSegments, halves, count_of, IsWholeTable, IsTable, IsFaultOf, Fills, body, lists, words_in, rest_of, IsOpen, IsComplete, IsEmpty, least_words, kept_words};
 ghost use Rattle.cp_frame.specs.Stream.{numbers, named_sizes};
+ghost use Rattle.cp_frame.specs.Rest.{IsFaultOfWords};
 
 use crate::fault::FrameFault;
+use crate::group::Run;
 use crate::table;
-use byteorder::{ByteOrder, LittleEndian};
 use cp_words::{Limits, Segments};
 use std::alloc::{AllocError, Global};
 use std::mem;
@@ -105,14 +106,6 @@ fn take_words<'a>(
     Ok(back)
 }
 
-/// The word that eight bytes are.
-fn word_of(bytes: &[u8]) -> u64
-    requires { length bytes.now ≡ 8 }
-    ensures { to_le_bytes w64 result ≡ bytes.now }
-{
-    LittleEndian::read_u64(bytes)
-}
-
 /// Takes the bytes of one word, or of what there is of it, and gives back what follows them.
 fn take_word<'a>(part: &mut Vec<u8>, left: &'a [u8]) -> Result<(Option<u64>, &'a [u8]), AllocError>
     requires short { length part.old.items < 8 }
@@ -122,14 +115,14 @@ fn take_word<'a>(part: &mut Vec<u8>, left: &'a [u8]) -> Result<(Option<u64>, &'a
 {
     if part.is_empty() && 8 <= left.len() {
         let (front, back) = left.split_at(8);
-        return Ok((Some(word_of(front)), back));
+        return Ok((Some(table::word_of(front)), back));
     }
     let (front, back) = left.split_at((8 - part.len()).min(left.len()));
     part.extend_from_slice(front)?;
     if part.len() < 8 {
         return Ok((None, back));
     }
-    let word = word_of(part);
+    let word = table::word_of(part);
     part.clear();
     Ok((Some(word), back))
 }
@@ -160,6 +153,7 @@ impl OpenFrame {
         requires begun { InTable limits self.old }
         requires no_part { self.old.part.items ≡ [] }
         ensures rest { OnOk result (rest_of self.new ≡ rest_of self.old ++ to_le_bytes w64 word) }
+        ensures no_part { OnOk result (self.new.part.items ≡ []) }
         ensures begun { OnOk result (IsBegun limits self.new) }
         ensures fault { IfErr result (IsFaultOf limits (halves (self.old.table.items ++ word ∷ []))) }
     {
@@ -192,6 +186,54 @@ impl OpenFrame {
             Some(word) => self.push_table(alloc, limits, word)?,
         }
         Ok(back)
+    }
+
+    /// Takes one word of the segments.
+    fn push_words(&mut self, alloc: Global, limits: Limits, word: u64) -> Result<(), AllocError>
+        requires begun { InSegments limits self.old }
+        requires no_part { self.old.part.items ≡ [] }
+        ensures rest { OnOk result (rest_of self.new ≡ rest_of self.old ++ to_le_bytes w64 word) }
+        ensures no_part { OnOk result (self.new.part.items ≡ []) }
+        ensures begun { OnOk result (IsBegun limits self.new) }
+    {
+        self.words.push(word)?;
+        close(alloc, &self.table, &mut self.segments, &mut self.words)
+    }
+
+    /// Takes one word.
+    fn push(&mut self, alloc: Global, limits: Limits, word: u64) -> Result<(), FrameFault>
+        requires begun { IsOpen limits self.old }
+        requires no_part { self.old.part.items ≡ [] }
+        ensures rest { OnOk result (rest_of self.new ≡ rest_of self.old ++ to_le_bytes w64 word) }
+        ensures no_part { OnOk result (self.new.part.items ≡ []) }
+        ensures begun { OnOk result (IsBegun limits self.new) }
+        ensures fault { IfErr result (IsFaultOf limits (numbers (rest_of self.old ++ to_le_bytes w64 word))) }
+    {
+        if table::is_whole(&self.table) {
+            Ok(self.push_words(alloc, limits, word)?)
+        } else {
+            self.push_table(alloc, limits, word)
+        }
+    }
+
+    /// Takes the words of a run.
+    pub fn push_run(&mut self, alloc: Global, limits: Limits, run: Run) -> Result<(), FrameFault>
+        requires begun { IsOpen limits self.old }
+        requires no_part { self.old.part.items ≡ [] }
+        ensures rest { OnOk result (rest_of self.new ≡ rest_of self.old ++ bytes_of (replicate run.count run.word)) }
+        ensures no_part { OnOk result (self.new.part.items ≡ []) }
+        ensures begun { OnOk result (IsBegun limits self.new) }
+        ensures fault { IfErr result (IsFaultOfWords limits (rest_of self.old ++ bytes_of (replicate run.count run.word))) }
+    {
+        let mut left = run.count;
+        'pushing: while 0 < left {
+            if self.is_complete() {
+                return Err(FrameFault::RunPastFrame);
+            }
+            self.push(alloc, limits, run.word)?;
+            left -= 1;
+        }
+        Ok(())
     }
 
     /// Takes bytes of the segments.
@@ -278,6 +320,22 @@ impl OpenFrame {
         ensures { IsTrue result ↔ (length self.now.table.items + length self.now.part.items ≡ 0) }
     {
         self.table.is_empty() && self.part.is_empty()
+    }
+
+    /// How many bytes it still needs at the least, by what has come of its table.
+    pub fn needs(&self) -> usize
+        requires kept { kept_words self.now < least_words self.now }
+        requires short { length self.now.part.items < 8 }
+        requires small { least_words self.now < 2 ^ 40 }
+        ensures { result + length (rest_of self.now) ≡ 8 * least_words self.now }
+    {
+        let table = if self.table.is_empty() {
+            0
+        } else {
+            table::count(&self.table) / 2
+        };
+        let words = table + 1 + self.total as usize;
+        8 * (words - self.kept_words()) - self.part.len()
     }
 
     /// How many words are kept.

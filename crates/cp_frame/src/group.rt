@@ -1,9 +1,9 @@
 //! The packed form, byte by byte: a group of which a part has come (encoding specification,
 //! "Packing").
 
-ghost use Rattle.std.specs.Prelude.{◌≡◌, ◌⊎◌, ◌≢◌, ◌++◌, ◌∷◌, [], ◌<◌, ◌≤◌, ◌↔◌, IfOk, OnOk, IsTrue, length, take, replicate};
+ghost use Rattle.std.specs.Prelude.{◌≡◌, ◌^◌, ◌⊎◌, ◌≢◌, ◌++◌, ◌∷◌, [], ◌<◌, ◌≤◌, ◌↔◌, IfOk, OnOk, IsTrue, length, take, replicate};
 ghost use Rattle.std.specs.Int.{from_le_bytes, w64};
-ghost use Rattle.cp_frame.specs.Unpacking.{Pending, IsPending, nothing, next, given_by, settled, brought, header_of, laid_by, laid, pending_of};
+ghost use Rattle.cp_frame.specs.Unpacking.{Pending, IsPending, nothing, next, given_by, settled, still, brought, header_of, laid_by, laid, pending_of};
 
 use std::alloc::{AllocError, Global};
 
@@ -28,7 +28,7 @@ pub struct OpenGroup {
 }
 
 /// How many bytes a group with this tag has, before the further words of a raw run.
-fn header(tag: u8) -> usize
+pub fn header(tag: u8) -> usize
     ensures { result ≡ header_of tag }
 {
     match tag {
@@ -40,7 +40,7 @@ fn header(tag: u8) -> usize
 
 /// The bytes of a word that are known from its tag and the first bytes written, up to the first that
 /// isn't, and how many these are.
-fn spread(tag: u8, written: &[u8]) -> ([u8; 8], usize)
+pub fn spread(tag: u8, written: &[u8]) -> ([u8; 8], usize)
     ensures known { take result.1 result.0 ≡ laid_by 8 tag written.now }
     ensures word { from_le_bytes w64 result.0 ≡ from_le_bytes w64 (laid_by 8 tag written.now) }
     ensures count { result.1 ≡ length (laid_by 8 tag written.now) }
@@ -79,11 +79,26 @@ impl OpenGroup {
         self.part.is_empty() && self.run == 0
     }
 
+    /// How many bytes it still needs at the least; two, where nothing of it has come.
+    pub fn needs(&self) -> usize
+        requires { IsPending (pending_of self.now) }
+        ensures { result ≡ still self.now.run self.now.part.items }
+    {
+        if 0 < self.run {
+            8 * self.run - self.part.len()
+        } else if self.part.is_empty() {
+            2
+        } else {
+            header(self.part[0]) - self.part.len()
+        }
+    }
+
     /// Takes one byte, and gives the words that it brings.
     pub fn take(&mut self, byte: u8) -> Result<Run, AllocError>
         requires { IsPending (pending_of self.old) }
         ensures state { OnOk result (pending_of self.new ≡ next (pending_of self.old) byte) }
         ensures words { IfOk result (λ run. replicate run.count run.word ≡ brought (pending_of self.old) byte) }
+        ensures range { IfOk result (λ run. run.word < 2 ^ 64) }
     {
         self.part.push(byte)?;
         if 0 < self.run {
@@ -98,6 +113,7 @@ impl OpenGroup {
         requires { 0 < self.old.run }
         ensures state { pending_of self.new ≡ settled self.old.run self.old.part.items }
         ensures words { replicate result.count result.word ≡ given_by self.old.run self.old.part.items }
+        ensures range { result.word < 2 ^ 64 }
     {
         if self.part.len() != WORD {
             return Run { word: 0, count: 0 };
@@ -117,6 +133,7 @@ impl OpenGroup {
         requires some { 0 < length self.old.part.items }
         ensures state { pending_of self.new ≡ settled 0 self.old.part.items }
         ensures words { replicate result.count result.word ≡ given_by 0 self.old.part.items }
+        ensures range { result.word < 2 ^ 64 }
     {
         let tag = self.part[0];
         if self.part.len() != header(tag) {

@@ -3,6 +3,7 @@
 //! that brings their last byte.
 #![tactic(auto)]
 
+mod decode;
 mod fault;
 mod frame;
 mod group;
@@ -10,6 +11,7 @@ mod laws;
 mod mode;
 mod packing;
 mod reader;
+mod rest;
 mod status;
 mod table;
 mod unpacking;
@@ -24,6 +26,10 @@ pub use reader::FrameReader;
 pub use unpacking::unpack;
 pub use write::write_frame;
 
+#[cfg(test)]
+mod decode_tests;
+#[cfg(test)]
+mod packed_stream_tests;
 #[cfg(test)]
 mod packed_tests;
 #[cfg(test)]

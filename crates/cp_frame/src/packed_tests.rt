@@ -7,19 +7,19 @@ use std::process::Abort;
 use std::test::Fail;
 
 /// Two words packed, and the words.
-const TWO: ([u8; 8], [u64; 2]) = (
+pub const TWO: ([u8; 8], [u64; 2]) = (
     [0x51, 0x08, 0x03, 0x02, 0x31, 0x19, 0xaa, 0x01],
     [0x0002_0003_0000_0008, 0x0000_01aa_0000_0019],
 );
 
 /// `finish` of question 7: the table and four words.
-const FINISH: [u8; 11] = [0x10, 4, 0x50, 1, 1, 1, 4, 0x10, 1, 1, 7];
+pub const FINISH: [u8; 11] = [0x10, 4, 0x50, 1, 1, 1, 4, 0x10, 1, 1, 7];
 
 /// `bootstrap` of question 0.
-const BOOTSTRAP: [u8; 12] = [0x10, 5, 0x50, 1, 1, 1, 8, 0x50, 1, 1, 0, 1];
+pub const BOOTSTRAP: [u8; 12] = [0x10, 5, 0x50, 1, 1, 1, 8, 0x50, 1, 1, 0, 1];
 
 /// `release` of export 5, three times.
-const RELEASE: [u8; 12] = [0x10, 4, 0x50, 1, 1, 1, 6, 0x10, 1, 0x11, 5, 3];
+pub const RELEASE: [u8; 12] = [0x10, 4, 0x50, 1, 1, 1, 6, 0x10, 1, 0x11, 5, 3];
 
 /// Words pack to bytes, and these unpack to them and to no fewer.
 fn expect_packed(rt: &impl Abort, alloc: Global, words: &[u64], bytes: &[u8]) -> Result<(), Fail> {

@@ -4,21 +4,23 @@ ghost use Rattle.std.specs.Prelude.{◌≡◌, ◌⊎◌, ◌++◌, ◌<◌, ◌
 ghost use Rattle.cp_frame.specs.Stream.{Frames, HasFault, numbers};
 ghost use Rattle.cp_frame.specs.Kept.{KeepsUp, seen};
 ghost use Rattle.cp_frame.specs.Parts.{IsOpen, IsFaultOf, rest_of, kept_words};
+ghost use Rattle.cp_frame.specs.Rest.{InPacked, IsRest, Reads, Refuses};
 ghost use Rattle.cp_frame.specs.Reader.{Gives, Tells};
 ghost use Rattle.cp_frame.specs.declared.fault.FrameFault.TheVariants.{OutOfMemory};
-ghost use Rattle.cp_frame.specs.declared.mode.Mode.TheVariants.{Plain};
+ghost use Rattle.cp_frame.specs.declared.mode.Mode.TheVariants.{Plain, Packed};
 
 use crate::fault::FrameFault;
 use crate::frame::OpenFrame;
 use crate::mode::Mode;
+use crate::rest::Rest;
 use crate::status::Status;
 use cp_words::{Limits, Segments};
 use std::alloc::Global;
 use std::marker::Model;
 
-/// Reads the frames of a piece that follows what has come. At an `Err` those before the fault were
-/// read.
-fn read_frames(
+/// Reads the frames of a plain piece that follows what has come. At an `Err` those before the fault
+/// were read.
+fn read_plain(
     alloc: Global,
     limits: Limits,
     frame: &mut OpenFrame,
@@ -42,18 +44,65 @@ fn read_frames(
     Ok(())
 }
 
+/// Reads the frames of a packed piece likewise.
+fn read_packed(
+    alloc: Global,
+    limits: Limits,
+    rest: &mut Rest,
+    frames: &mut Vec<(u64, Segments)>,
+    piece: &[u8],
+) -> Result<(), FrameFault>
+    requires begun { InPacked limits rest.old }
+    requires none { frames.old.items ≡ [] }
+    ensures reads { OnOk result (Reads Packed limits rest.old piece.now frames.new.items rest.new) }
+    ensures begun { OnOk result (InPacked limits rest.new) }
+    ensures fault { IfErr result (λ fault. (fault ≡ OutOfMemory) ⊎ Refuses Packed limits rest.old piece.now frames.new.items fault) }
+{
+    for byte in piece {
+        rest.take_byte(alloc, limits, *byte)?;
+        if !rest.frame.is_complete() {
+            continue;
+        }
+        frames.push(rest.finish(alloc))?;
+    }
+    Ok(())
+}
+
+/// Reads the frames of a piece that follows what has come. At an `Err` those before the fault were
+/// read.
+fn read_frames(
+    alloc: Global,
+    mode: Mode,
+    limits: Limits,
+    rest: &mut Rest,
+    frames: &mut Vec<(u64, Segments)>,
+    piece: &[u8],
+) -> Result<(), FrameFault>
+    requires begun { IsRest mode limits rest.old }
+    requires none { frames.old.items ≡ [] }
+    ensures reads { OnOk result (Reads mode limits rest.old piece.now frames.new.items rest.new) }
+    ensures begun { OnOk result (IsRest mode limits rest.new) }
+    ensures fault { IfErr result (λ fault. (fault ≡ OutOfMemory) ⊎ Refuses mode limits rest.old piece.now frames.new.items fault) }
+{
+    match mode {
+        Mode::Plain => read_plain(alloc, limits, &mut rest.frame, frames, piece),
+        Mode::Packed => read_packed(alloc, limits, rest, frames, piece),
+    }
+}
+
 /// Reads a piece.
 fn read_piece(
     alloc: Global,
+    mode: Mode,
     limits: Limits,
     status: &mut Status,
-    frame: &mut OpenFrame,
+    rest: &mut Rest,
     piece: &[u8],
 ) -> Result<Vec<(u64, Segments)>, FrameFault>
-    requires { KeepsUp limits status.old frame.old }
-    ensures keeps { KeepsUp limits status.new frame.new }
-    ensures given { IfOk result (λ frames. Gives (seen Plain limits status.old frame.old) piece.now (seen Plain limits status.new frame.new) frames.items) }
-    ensures told { IfErr result (Tells (seen Plain limits status.old frame.old) piece.now (seen Plain limits status.new frame.new)) }
+    requires { KeepsUp mode limits status.old rest.old }
+    ensures keeps { KeepsUp mode limits status.new rest.new }
+    ensures given { IfOk result (λ frames. Gives (seen mode limits status.old rest.old) piece.now (seen mode limits status.new rest.new) frames.items) }
+    ensures told { IfErr result (Tells (seen mode limits status.old rest.old) piece.now (seen mode limits status.new rest.new)) }
 {
     match *status {
         Status::Failed => return Err(FrameFault::Failed),
@@ -64,10 +113,10 @@ fn read_piece(
         Status::Reading => {}
     }
     let mut frames = Vec::new(alloc);
-    match read_frames(alloc, limits, frame, &mut frames, piece) {
+    match read_frames(alloc, mode, limits, rest, &mut frames, piece) {
         Ok(()) => Ok(frames),
         Err(fault) => {
-            frame.clear(alloc);
+            rest.clear(alloc);
             if fault == FrameFault::OutOfMemory || frames.is_empty() {
                 *status = Status::Failed;
                 return Err(fault);
@@ -82,54 +131,70 @@ fn read_piece(
 /// "Serialization Over a Stream"). Words are stored little-endian.
 ///
 /// The reader keeps what has come of the open frame, as words of the segments to be given, and
-/// no piece. A frame's header alone reserves at most 1 MiB.
+/// no piece: of a packed stream at most a part of one group, and a run as a number. A frame's header alone reserves at most 1 MiB.
 #[derive(Drop)]
 pub struct FrameReader {
     alloc: Global,
     mode: Mode,
     limits: Limits,
     status: Status,
-    frame: OpenFrame,
+    rest: Rest,
 }
 
 impl Model for FrameReader {
-    ghost use Rattle.std.specs.Prelude.{◌≡◌};
     ghost use Rattle.cp_frame.specs.Reader.{Reader};
-    ghost use Rattle.cp_frame.specs.declared.mode.Mode.TheVariants.{Plain};
 
     ghost Value = { Reader };
 
     ghost use Rattle.cp_frame.specs.Kept.{seen, KeepsUp};
 
-    ghost view = { λ r. seen r.mode r.limits r.status r.frame };
+    ghost view = { λ r. seen r.mode r.limits r.status r.rest };
 
-    ghost invariant = { λ r. (r.mode ≡ Plain) × KeepsUp r.limits r.status r.frame };
+    ghost invariant = { λ r. KeepsUp r.mode r.limits r.status r.rest };
 }
 
 impl FrameReader {
-    ghost use Rattle.std.specs.Prelude.{◌≡◌, [], IfOk, IfErr};
-    ghost use Rattle.cp_frame.specs.Reader.{StandsFor, Gives, Tells, EndsWell, TellsAtEnd, KeepsLittle, new_reader, failed};
+    ghost use Rattle.std.specs.Prelude.{◌≡◌, [], IfOk, IfErr, ◌<◌, ◌^◌};
+    ghost use Rattle.cp_frame.specs.Reader.{taken_of, StandsFor, Gives, Tells, EndsWell, TellsAtEnd, KeepsLittle, Needs, new_reader, failed};
+
+    /// A reader of a stream in this form, of which nothing has come.
+    fn new(alloc: Global, mode: Mode, limits: Limits) -> FrameReader
+        ensures fresh { result ≡ new_reader mode limits }
+        ensures stands { StandsFor result [] }
+    {
+        FrameReader {
+            alloc,
+            mode,
+            limits,
+            status: Status::Reading,
+            rest: Rest::new(alloc),
+        }
+    }
 
     /// A reader of a stream in the plain form, of which nothing has come.
     pub fn plain(alloc: Global, limits: Limits) -> FrameReader
         ensures fresh { result ≡ new_reader Plain limits }
         ensures stands { StandsFor result [] }
     {
-        FrameReader {
-            alloc,
-            mode: Mode::Plain,
-            limits,
-            status: Status::Reading,
-            frame: OpenFrame::new(alloc),
-        }
+        FrameReader::new(alloc, Mode::Plain, limits)
+    }
+
+    /// A reader of a stream in the packed form (encoding specification, "Packing"), of which nothing
+    /// has come.
+    pub fn packed(alloc: Global, limits: Limits) -> FrameReader
+        ensures fresh { result ≡ new_reader Packed limits }
+        ensures stands { StandsFor result [] }
+    {
+        FrameReader::new(alloc, Mode::Packed, limits)
     }
 
     /// Reads the next piece of the stream. Gives each frame whose last byte it brings, in order,
     /// with the number of the frame's bytes.
     ///
-    /// `TooManySegments` (F1) comes with the byte that makes the number of segments known, and
-    /// `FrameTooLarge` (F2) with the byte that completes a size. Behind frames of the same piece
-    /// either is kept, and told by the next call. `OutOfMemory` (F6) is told at once, and then the
+    /// `TooManySegments` (F1) comes with the byte that makes the number of segments known,
+    /// `FrameTooLarge` (F2) with the byte that completes a size, and `RunPastFrame` (F4) with the
+    /// count, or the last byte of the frame, behind which words of a packed run are left. Behind
+    /// frames of the same piece each is kept, and told by the next call. `OutOfMemory` (F6) is told at once, and then the
     /// frames of the piece are dropped. After a told fault each call answers `Failed` (F5).
     pub fn feed(&mut self, piece: &[u8]) -> Result<Vec<(u64, Segments)>, FrameFault>
         ensures given { IfOk result (λ frames. Gives self.old piece.now self.new frames.items) }
@@ -137,9 +202,10 @@ impl FrameReader {
     {
         read_piece(
             self.alloc,
+            self.mode,
             self.limits,
             &mut self.status,
-            &mut self.frame,
+            &mut self.rest,
             piece,
         )
     }
@@ -154,10 +220,10 @@ impl FrameReader {
     {
         match self.status {
             Status::Reading => {
-                if self.frame.is_empty() {
+                if self.rest.is_blank(self.mode) {
                     return Ok(());
                 }
-                self.frame.clear(self.alloc);
+                self.rest.clear(self.alloc);
                 self.status = Status::Failed;
                 Err(FrameFault::Truncated)
             }
@@ -169,6 +235,31 @@ impl FrameReader {
         }
     }
 
+    /// How many bytes the open frame, or else the next, still needs at the least, however the stream
+    /// goes on: in the plain form all that are left, once the segment table has come. A caller that
+    /// takes no more than this from its source never takes bytes behind the frame. It is 0 exactly
+    /// where a fault was told or is told next.
+    pub fn needs(&self) -> usize
+        ensures { Needs self.now self.now.state result }
+    {
+        match (self.status, self.mode) {
+            (Status::Reading, Mode::Plain) => self.rest.frame.needs(),
+            (Status::Reading, Mode::Packed) => self.rest.group.needs(),
+            _ => 0,
+        }
+    }
+
+    /// How many bytes of the open frame have come: fewer than 2^36, whatever the limits.
+    pub fn taken(&self) -> u64
+        ensures taken { result ≡ taken_of self.now.state }
+        ensures bound { result < 2 ^ 36 }
+    {
+        match self.status {
+            Status::Reading => self.rest.taken(self.mode, self.limits),
+            _ => 0,
+        }
+    }
+
     /// How many bytes that aren't whole words, and how many words of the open frame, its segment
     /// table included, the reader keeps: at most 9 bytes, and no more words than have come whole.
     pub fn held(&self) -> (usize, usize)
@@ -177,6 +268,9 @@ impl FrameReader {
         ensures little { KeepsLittle self.now }
         ensures told { self.now.state ≡ failed → (result.0 ≡ 0) × (result.1 ≡ 0) }
     {
-        (self.frame.part.len(), self.frame.kept_words())
+        (
+            self.rest.frame.part.len() + self.rest.group.part.len(),
+            self.rest.frame.kept_words(),
+        )
     }
 }

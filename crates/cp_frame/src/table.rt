@@ -2,6 +2,7 @@
 //! is the number of segments less one, then come their sizes in words.
 
 ghost use Rattle.std.specs.Prelude.{◌≡◌, ◌+◌, ◌/◌, ◌^◌, ◌<◌, ◌≤◌, ◌++◌, ◌∷◌, [], ◌↔◌, IsTrue, IfOk, OnOk, IfErr, length, sum, slice_index};
+ghost use Rattle.std.specs.Int.{to_le_bytes, w64};
 ghost use Rattle.cp_frame.specs.Parts.{halves, count_of, IsWholeTable, IsTable, IsFaultOf, NamesLittle};
 ghost use Rattle.cp_frame.specs.Stream.{numbers, named_sizes, NamesFault};
 
@@ -107,5 +108,28 @@ pub fn check_part(table: &[u64], total: u64, limits: Limits, part: &[u8]) -> Res
     if 4 <= part.len() {
         judge(table, total, limits, LittleEndian::read_u32(part) as u64)?;
     }
+    Ok(())
+}
+
+/// The word that eight bytes are.
+pub fn word_of(bytes: &[u8]) -> u64
+    requires { length bytes.now ≡ 8 }
+    ensures { to_le_bytes w64 result ≡ bytes.now }
+{
+    LittleEndian::read_u64(bytes)
+}
+
+/// Tells the fault that the table has with the bytes of its next word that are known.
+pub fn check_laid(table: &[u64], total: u64, limits: Limits, known: &[u8]) -> Result<(), FrameFault>
+    requires so_far { IsTable limits table.now total }
+    requires open { length table.now ≤ count_of table.now / 2 }
+    requires few { length known.now ≤ 8 }
+    ensures little { OnOk result (NamesLittle limits (halves table.now ++ numbers known.now)) }
+    ensures fault { IfErr result (NamesFault limits (halves table.now ++ numbers known.now)) }
+{
+    if known.len() < 8 {
+        return check_part(table, total, limits, known);
+    }
+    judge(table, total, limits, word_of(known))?;
     Ok(())
 }

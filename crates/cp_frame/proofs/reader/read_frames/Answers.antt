@@ -1,21 +1,22 @@
-use Rattle.std.proofs.Common.{◌++◌, List, ℕ, sym, subst}
-use Rattle.cp_frame.specs.Frame.{Frame}
-use Rattle.cp_frame.specs.Parts.{rest_of}
-use Rattle.cp_frame.specs.Stream.{Frames}
-use Rattle.cp_frame.specs.declared.mode.Mode.TheVariants.{Plain}
-use Rattle.cp_frame.proofs.Ends.{complete_frame, complete_of, empty_open, empty_rest, frames_push}
+use Rattle.std.proofs.Common.{◌≡◌, ◌⊎◌, OnOk, IfErr, sym, subst}
+use Rattle.cp_frame.specs.declared.fault.FrameFault.TheVariants.{OutOfMemory}
+use Rattle.cp_frame.specs.declared.mode.Mode.{Mode}
+use Rattle.cp_frame.specs.Rest.{Reads, Refuses}
+use Rattle.cp_frame.proofs.Readers.{plain_ok}
 use Rattle.cp_frame.proofs.reader.read_frames.Goals as goal
 
-pub reading-preserved : goal.reading-preserved
-reading-preserved c =
-    let limits = c.args.limits in
-    let b = rest_of c.args.frame.now ++ c.args.piece.now in
-    let whole = c.is_complete.ensures.0 c.if-not-is_complete.false in
-    let complete = complete_of limits c.take.new.self c.in_ok-left.ensures.begun whole.0 whole.1 in
-    let frame = subst (λ (S : List (List ℕ)). Frame Plain limits S (rest_of c.take.new.self)) (sym c.finish.ensures.segments) (complete_frame limits c.take.new.self complete) in
-    let before = subst (λ (x : List ℕ). Frames Plain limits b c.reading.frames.items x) (sym c.in_ok-left.ensures.rest) c.reading.invariant.frames in
-    let more = frames_push Plain limits b c.reading.frames.items c.finish.result.0 c.finish.result.1 (rest_of c.take.new.self) c.in_ok-left.left.now before c.finish.ensures.taken frame in
-    record {
-      begun = empty_open limits c.finish.new.self c.finish.ensures.empty;
-      frames = rw (c.in_ok-push.ensures.items, empty_rest c.finish.new.self c.finish.ensures.empty) more;
-    }
+pub returns-in-Plain-clause-reads : goal.returns-in-Plain-clause-reads
+returns-in-Plain-clause-reads c =
+    subst (λ (mode : Mode). OnOk c.read_plain.result (Reads mode c.args.limits c.args.rest.now c.args.piece.now c.read_plain.new.frames.items (record { frame = c.read_plain.new.frame; group = c.args.rest.now.group; taken = c.args.rest.now.taken })))
+    (sym c.in-Plain.is)
+    (plain_ok c.args.limits c.args.rest.now (record { frame = c.read_plain.new.frame; group = c.args.rest.now.group; taken = c.args.rest.now.taken }) c.args.piece.now c.read_plain.new.frames.items c.read_plain.result
+    c.read_plain.ensures.begun c.read_plain.ensures.frames)
+
+pub returns-in-Packed-clause-reads : goal.returns-in-Packed-clause-reads
+returns-in-Packed-clause-reads c =
+    subst (λ (mode : Mode). OnOk c.read_packed.result (Reads mode c.args.limits c.args.rest.now c.args.piece.now c.read_packed.new.frames.items c.read_packed.new.rest)) (sym c.in-Packed.is) c.read_packed.ensures.reads
+
+pub returns-in-Packed-clause-fault : goal.returns-in-Packed-clause-fault
+returns-in-Packed-clause-fault c =
+    subst (λ (mode : Mode). IfErr c.read_packed.result (λ fault. (fault ≡ OutOfMemory) ⊎ Refuses mode c.args.limits c.args.rest.now c.args.piece.now c.read_packed.new.frames.items fault)) (sym c.in-Packed.is)
+    c.read_packed.ensures.fault

@@ -1,4 +1,4 @@
-use Rattle.std.proofs.Common.{◌≡◌, ◌∙◌, ap, subst, List, ℕ, arith}
+use Rattle.std.proofs.Common.{subst, List, ℕ, arith}
 use Rattle.cp_frame.specs.Packing.{PutsSpelt}
 use Rattle.cp_frame.specs.Parts.{lists}
 use Rattle.cp_frame.proofs.Filling.{length_lists}

@@ -2,7 +2,7 @@ use Rattle.std.proofs.Common.{◌++◌, length}
 use Rattle.cp_frame.specs.Stream.{Frames}
 use Rattle.cp_frame.specs.Parts.{IsOpen, rest_of}
 use Rattle.cp_frame.specs.declared.mode.Mode.TheVariants.{Plain}
-use Rattle.cp_frame.proofs.reader.read_frames.Given as goal
+use Rattle.cp_frame.proofs.reader.read_plain.Given as goal
 
 abbrev pub invariant-reading : goal.invariant-reading
 invariant-reading l = record {

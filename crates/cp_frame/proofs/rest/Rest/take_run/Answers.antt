@@ -1,0 +1,8 @@
+use Rattle.std.proofs.Common.{◌+◌, refl}
+use Rattle.cp_frame.proofs.Taken.{takes_run}
+use Rattle.cp_frame.proofs.rest.Rest.take_run.Goals as goal
+
+pub returns-clause-takes : goal.returns-clause-takes
+returns-clause-takes c =
+    takes_run c.args.limits c.args.self.now (record { frame = c.push_run.new.self; group = c.take.new.self; taken = c.args.self.now.taken + 1 }) c.args.byte c.in_ok-run.run'.count c.in_ok-run.run'.word
+    c.push_run.result c.in_ok-run.ensures.range c.in_ok-run.ensures.words c.in_ok-run.ensures.state refl c.push_run.ensures.begun c.push_run.ensures.no_part c.push_run.ensures.rest
