@@ -1,5 +1,5 @@
 -- The first fault of a list's parts.
-use Rattle.std.proofs.Common.{◌≡◌, ℕ, zero, suc, ◌+◌, ◌<◌, List, [], ◌∷◌, ◌++◌, length, take, get_or, Some, refl, sym, ap, ◌∙◌, arith}
+use Rattle.std.proofs.Common.{◌≡◌, ℕ, zero, suc, ◌<◌, List, [], ◌∷◌, ◌++◌, length, take, get_or, Some, refl, arith}
 use Rattle.std.specs.Prelude.{flat_map}
 use Rattle.cp_rpc.specs.Answers.{first_of}
 use Rattle.cp_rpc.specs.declared.fault.SchemaFault.{SchemaFault}

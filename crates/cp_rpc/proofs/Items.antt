@@ -1,7 +1,7 @@
 -- The structs of a composite list, one by one.
 use Rattle.std.proofs.lemmas.Str.{IsUtf8-from_is_utf8}
 use Rattle.std.proofs.lemmas.List.{length-take-le}
-use Rattle.std.proofs.Common.{◌≡◌, Bool, true, false, ◌&&◌, [], ◌∷◌, take, ℕ, zero, suc, ◌-◌, ◌<◌, List, length, get_or, IsUtf8, refl, ap, ◌∙◌, sym, subst, arith}
+use Rattle.std.proofs.Common.{◌≡◌, Bool, true, false, ◌&&◌, [], ◌∷◌, take, ℕ, zero, suc, ◌-◌, ◌<◌, List, length, get_or, IsUtf8, refl, ap, ◌∙◌, sym, arith}
 use Rattle.cp_words.specs.declared.pointer.ElementSize.{ElementSize}
 use Rattle.cp_tree.specs.Denotes.{numbers}
 use Rattle.cp_rpc.proofs.Blocks.{but_last, text-numbers}

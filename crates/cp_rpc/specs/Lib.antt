@@ -7,5 +7,9 @@ pub mod Said
 pub mod Faulty
 pub mod Blocks
 pub mod Others
+pub mod Made
+pub mod Held
+pub mod Fitting
+pub mod Refused
 pub mod Says
 pub mod OwnedNode

@@ -1,5 +1,5 @@
 -- Which message a tree says. (rpc.capnp)
-use Rattle.std.specs.Prelude.{◌≡◌, List, []}
+use Rattle.std.specs.Prelude.{◌≡◌, []}
 use Rattle.cp_tree.specs.Node.{Node}
 use Rattle.cp_rpc.specs.Said.{message_said}
 use Rattle.cp_rpc.specs.Faulty.{message_faults}

@@ -6,15 +6,20 @@ ghost use Rattle.cp_rpc.specs.Answers.{Gives};
 ghost use Rattle.cp_rpc.specs.Said.{send_results_to_said, call_said};
 ghost use Rattle.cp_rpc.specs.Faulty.{call_faults};
 ghost use Rattle.cp_rpc.specs.Told.{told_send_results_to, told_call};
+ghost use Rattle.cp_rpc.specs.Fitting.{call_fits};
+ghost use Rattle.cp_rpc.specs.Held.{IsSendResultsTo, IsCall};
+ghost use Rattle.cp_rpc.specs.Made.{send_results_to_number, third_party_made, call_made};
+ghost use Rattle.cp_tree.specs.DraftOf.{draft_of};
 
-use crate::data::{u16_at, u32_at, u64_at};
+use crate::data::{u16_at, u16_part, u32_at, u32_part, u64_at, u64_part};
+use crate::draft::{null, struct_of};
 use crate::fault::{Field, SchemaFault};
 use crate::field::struct_field;
 use crate::past::Past;
 use crate::payload::{Payload, PayloadView};
 use crate::source::Source;
 use crate::target::{Target, TargetView};
-use cp_tree::Whole;
+use cp_tree::{Draft, Whole};
 use std::alloc::{AllocError, Global};
 
 /// `sendResultsTo` of `struct Call` of rpc.capnp.
@@ -96,6 +101,28 @@ impl Call {
             params: self.params.copy(alloc)?,
         })
     }
+
+    /// Whether each list of the struct that the call is written as is short enough.
+    pub(crate) fn fits(&self) -> bool
+        ensures { result ≡ call_fits self.now }
+    {
+        self.target.fits() && self.params.fits()
+    }
+
+    /// The struct that the call is written as.
+    pub(crate) fn draft(&self, alloc: Global) -> Result<Draft<'_>, AllocError>
+        ensures made { IfOk result (λ d. draft_of d ≡ call_made self.now) }
+        ensures held { IfOk result (λ d. IsCall self.now) }
+    {
+        let (number, third_party) = self.send_results_to.parts();
+        let first = u32_part(Call::QUESTION_ID, self.question_id)
+            + u16_part(Call::METHOD_ID, self.method_id)
+            + u16_part(Call::SEND_RESULTS_TO, number);
+        let target = self.target.draft(alloc)?;
+        let params = self.params.draft(alloc)?;
+        let words = Vec::from_slice(alloc, &[first, u64_part(self.interface_id), 0])?;
+        Ok(struct_of(words, vec![in alloc; target, params, third_party]?))
+    }
 }
 
 impl SendResultsTo {
@@ -109,6 +136,20 @@ impl SendResultsTo {
             SendResultsTo::ThirdParty(tree) => SendResultsTo::ThirdParty(tree.copy(alloc)?),
             SendResultsTo::Unknown(number) => SendResultsTo::Unknown(*number),
         })
+    }
+
+    /// Its member's number, and what its pointer stands for.
+    fn parts(&self) -> (u16, Draft<'_>)
+        ensures number { result.0 ≡ send_results_to_number self.now }
+        ensures pointer { draft_of result.1 ≡ third_party_made self.now }
+        ensures held { IsSendResultsTo self.now }
+    {
+        match self {
+            SendResultsTo::Caller => (0, null()),
+            SendResultsTo::Yourself => (1, null()),
+            SendResultsTo::ThirdParty(tree) => (2, Draft::Lent(tree.tree())),
+            SendResultsTo::Unknown(number) => (number.number(), null()),
+        }
     }
 }
 

@@ -6,14 +6,19 @@ ghost use Rattle.cp_rpc.specs.Answers.{Gives};
 ghost use Rattle.cp_rpc.specs.Said.{descriptor_said};
 ghost use Rattle.cp_rpc.specs.Faulty.{descriptor_faults};
 ghost use Rattle.cp_rpc.specs.Told.{told_descriptor};
+ghost use Rattle.cp_rpc.specs.Fitting.{descriptor_fits};
+ghost use Rattle.cp_rpc.specs.Held.{IsDescriptor};
+ghost use Rattle.cp_rpc.specs.Made.{body_made, descriptor_number, descriptor_id, descriptor_pointer, descriptor_made};
+ghost use Rattle.cp_tree.specs.DraftOf.{draft_of, draft_body_of};
 
-use crate::data::{u16_at, u32_at};
+use crate::data::{u16_at, u16_part, u32_at, u32_part};
+use crate::draft::{body_of, null};
 use crate::fault::{Field, SchemaFault};
 use crate::field::struct_field;
 use crate::past::Past;
 use crate::promised_answer::{PromisedAnswer, PromisedAnswerView};
 use crate::source::Source;
-use cp_tree::Whole;
+use cp_tree::{Draft, DraftBody, Whole};
 use std::alloc::{AllocError, Global};
 
 /// `struct CapDescriptor` of rpc.capnp.
@@ -69,6 +74,45 @@ impl Descriptor {
             Descriptor::ThirdPartyHosted(tree) => Descriptor::ThirdPartyHosted(tree.copy(alloc)?),
             Descriptor::Unknown(number) => Descriptor::Unknown(*number),
         })
+    }
+
+    /// Whether each list of the struct that the descriptor is written as is short enough.
+    pub(crate) fn fits(&self) -> bool
+        ensures { result ≡ descriptor_fits self.now }
+    {
+        match self {
+            Descriptor::ReceiverAnswer(answer) => answer.fits(),
+            _ => true,
+        }
+    }
+
+    /// Its member's number, the number that the member carries, and what its pointer stands for.
+    fn parts(&self, alloc: Global) -> Result<(u16, u32, Draft<'_>), AllocError>
+        ensures number { IfOk result (λ p. p.0 ≡ descriptor_number self.now) }
+        ensures id { IfOk result (λ p. p.1 ≡ descriptor_id self.now) }
+        ensures pointer { IfOk result (λ p. draft_of p.2 ≡ descriptor_pointer self.now) }
+        ensures held { IfOk result (λ p. IsDescriptor self.now) }
+    {
+        match self {
+            Descriptor::None => Ok((0, 0, null())),
+            Descriptor::SenderHosted(id) => Ok((1, *id, null())),
+            Descriptor::SenderPromise(id) => Ok((2, *id, null())),
+            Descriptor::ReceiverHosted(id) => Ok((3, *id, null())),
+            Descriptor::ReceiverAnswer(answer) => Ok((4, 0, answer.draft(alloc)?)),
+            Descriptor::ThirdPartyHosted(tree) => Ok((5, 0, Draft::Lent(tree.tree()))),
+            Descriptor::Unknown(number) => Ok((number.number(), 0, null())),
+        }
+    }
+
+    /// The struct that the descriptor is written as.
+    pub(crate) fn draft(&self, alloc: Global) -> Result<DraftBody<'_>, AllocError>
+        ensures made { IfOk result (λ b. draft_body_of b ≡ body_made (descriptor_made self.now)) }
+        ensures held { IfOk result (λ b. IsDescriptor self.now) }
+    {
+        let (number, id, pointer) = self.parts(alloc)?;
+        let word = u16_part(Descriptor::WHICH, number) + u32_part(Descriptor::ID, id);
+        let words = Vec::from_slice(alloc, &[word])?;
+        Ok(body_of(words, vec![in alloc; pointer]?))
     }
 }
 

@@ -6,13 +6,18 @@ ghost use Rattle.cp_rpc.specs.Answers.{Gives};
 ghost use Rattle.cp_rpc.specs.Said.{context_said, disembargo_said};
 ghost use Rattle.cp_rpc.specs.Faulty.{disembargo_faults};
 ghost use Rattle.cp_rpc.specs.Told.{told_disembargo};
+ghost use Rattle.cp_rpc.specs.Held.{IsContext, IsDisembargo};
+ghost use Rattle.cp_rpc.specs.Made.{context_number, context_id, disembargo_made};
+ghost use Rattle.cp_tree.specs.DraftOf.{draft_of};
 
-use crate::data::{u16_at, u32_at};
+use crate::data::{u16_at, u16_part, u32_at, u32_part};
+use crate::draft::struct_of;
 use crate::fault::{Field, SchemaFault};
 use crate::field::struct_field;
 use crate::past::Past;
 use crate::source::Source;
 use crate::target::{Target, TargetView};
+use cp_tree::Draft;
 use std::alloc::{AllocError, Global};
 
 /// `context` of `struct Disembargo` of rpc.capnp.
@@ -60,6 +65,21 @@ impl Context {
             which => Context::Unknown(Past::of(which)),
         }
     }
+
+    /// Its member's number, and the number that the member carries.
+    fn parts(&self) -> (u16, u32)
+        ensures number { result.0 ≡ context_number self.now }
+        ensures id { result.1 ≡ context_id self.now }
+        ensures held { IsContext self.now }
+    {
+        match self {
+            Context::SenderLoopback(number) => (0, *number),
+            Context::ReceiverLoopback(number) => (1, *number),
+            Context::Accept => (2, 0),
+            Context::Provide(number) => (3, *number),
+            Context::Unknown(which) => (which.number(), 0),
+        }
+    }
 }
 
 impl Disembargo {
@@ -79,6 +99,18 @@ impl Disembargo {
             context: self.context,
             target: self.target.copy(alloc)?,
         })
+    }
+
+    /// The struct that the disembargo is written as.
+    pub(crate) fn draft<'a>(&self, alloc: Global) -> Result<Draft<'a>, AllocError>
+        ensures made { IfOk result (λ d. draft_of d ≡ disembargo_made self.now) }
+        ensures held { IfOk result (λ d. IsDisembargo self.now) }
+    {
+        let (which, number) = self.context.parts();
+        let word = u32_part(Disembargo::NUMBER, number) + u16_part(Disembargo::CONTEXT, which);
+        let target = self.target.draft(alloc)?;
+        let words = Vec::from_slice(alloc, &[word])?;
+        Ok(struct_of(words, vec![in alloc; target]?))
     }
 }
 

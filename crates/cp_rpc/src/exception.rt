@@ -1,18 +1,24 @@
 //! Exceptions.
 
-ghost use Rattle.std.specs.Prelude.{◌≡◌, ◌≤◌, length, IfOk};
+ghost use Rattle.std.specs.Prelude.{◌≡◌, ◌≤◌, true, length, IfOk};
 ghost use Rattle.cp_rpc.specs.Fields.{IsStructField};
 ghost use Rattle.cp_rpc.specs.Answers.{Gives};
 ghost use Rattle.cp_rpc.specs.Said.{kind_said, exception_said};
 ghost use Rattle.cp_rpc.specs.Faulty.{exception_faults};
 ghost use Rattle.cp_rpc.specs.Told.{told_exception};
+ghost use Rattle.cp_rpc.specs.Fitting.{exception_fits};
+ghost use Rattle.cp_rpc.specs.Held.{IsKind, IsException};
+ghost use Rattle.cp_rpc.specs.Made.{kind_number, exception_made};
+ghost use Rattle.cp_tree.specs.DraftOf.{draft_of};
 
-use crate::data::u16_at;
+use crate::data::{u16_at, u16_part};
+use crate::draft::struct_of;
 use crate::fault::{Field, SchemaFault};
 use crate::field::text_field;
 use crate::past::Past;
 use crate::source::Source;
 use crate::text::{Text, TextView};
+use cp_tree::Draft;
 use std::alloc::{AllocError, Global};
 
 /// `enum Type` of `struct Exception` of rpc.capnp.
@@ -67,9 +73,43 @@ impl Exception {
             trace: self.trace.copy(alloc)?,
         })
     }
+
+    /// Whether each list of the struct that the exception is written as is short enough.
+    pub(crate) fn fits(&self) -> bool
+        ensures { result ≡ exception_fits self.now }
+    {
+        self.reason.fits() && self.trace.fits()
+    }
+
+    /// The struct that the exception is written as.
+    pub(crate) fn draft<'a>(&self, alloc: Global) -> Result<Draft<'a>, AllocError>
+        requires { exception_fits self.now ≡ true }
+        ensures made { IfOk result (λ d. draft_of d ≡ exception_made self.now) }
+        ensures held { IfOk result (λ d. IsException self.now) }
+    {
+        let word = u16_part(Exception::KIND, self.kind.number());
+        let reason = self.reason.draft(alloc)?;
+        let trace = self.trace.draft(alloc)?;
+        let words = Vec::from_slice(alloc, &[word])?;
+        Ok(struct_of(words, vec![in alloc; reason, trace]?))
+    }
 }
 
 impl ExceptionKind {
+    /// The type's number.
+    fn number(self) -> u16
+        ensures value { result ≡ kind_number self }
+        ensures held { IsKind self }
+    {
+        match self {
+            ExceptionKind::Failed => 0,
+            ExceptionKind::Overloaded => 1,
+            ExceptionKind::Disconnected => 2,
+            ExceptionKind::Unimplemented => 3,
+            ExceptionKind::Unknown(number) => number.number(),
+        }
+    }
+
     /// The type of this number.
     fn of(number: u16) -> ExceptionKind
         ensures { result ≡ kind_said number }

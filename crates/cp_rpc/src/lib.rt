@@ -1,14 +1,16 @@
 //! The messages of rpc.capnp, typed: reading them from the tree that the root of a Cap'n Proto
-//! message is.
+//! message is, and making that tree of them.
 #![tactic(auto)]
 
 mod call;
 mod data;
 mod descriptor;
 mod disembargo;
+mod draft;
 mod exception;
 mod fault;
 mod field;
+mod laws;
 mod message;
 mod owned;
 mod past;
@@ -22,12 +24,14 @@ mod source;
 mod target;
 mod text;
 mod utf8;
+mod write;
 
 pub use call::{Call, CallView, SendResultsTo, SendResultsToView};
 pub use descriptor::{Descriptor, DescriptorView};
 pub use disembargo::{Context, Disembargo, DisembargoView};
 pub use exception::{Exception, ExceptionKind, ExceptionView};
 pub use fault::{Field, SchemaFault};
+pub use laws::{read_back, writable};
 pub use message::{Message, MessageIn, MessageView, OtherWhich};
 pub use past::Past;
 pub use payload::{CapTable, CapTableView, Payload, PayloadView};
@@ -39,6 +43,7 @@ pub use small::{Bootstrap, Finish, Release};
 pub use source::{Look, Source};
 pub use target::{Target, TargetView};
 pub use text::{Text, TextView};
+pub use write::{draft_of, tree_of};
 
 #[cfg(test)]
 mod tests;

@@ -8,10 +8,15 @@ ghost use Rattle.cp_rpc.specs.Others.{is_other};
 ghost use Rattle.cp_rpc.specs.Said.{message_said};
 ghost use Rattle.cp_rpc.specs.Faulty.{message_faults};
 ghost use Rattle.cp_rpc.specs.Told.{told_message};
+ghost use Rattle.cp_rpc.specs.Fitting.{message_fits};
+ghost use Rattle.cp_rpc.specs.Held.{IsMessage};
+ghost use Rattle.cp_rpc.specs.Made.{message_number, member_made, message_made};
+ghost use Rattle.cp_tree.specs.DraftOf.{draft_of};
 
 use crate::call::{Call, CallView};
-use crate::data::u16_at;
+use crate::data::{u16_at, u16_part};
 use crate::disembargo::{Disembargo, DisembargoView};
+use crate::draft::struct_of;
 use crate::exception::{Exception, ExceptionView};
 use crate::fault::{Field, SchemaFault};
 use crate::field::struct_field;
@@ -19,7 +24,7 @@ use crate::resolve::{Resolve, ResolveView};
 use crate::returned::{Return, ReturnView};
 use crate::small::{Bootstrap, Finish, Release};
 use crate::source::Source;
-use cp_tree::{View, Whole};
+use cp_tree::{Draft, View, Whole};
 use std::alloc::{AllocError, Global};
 use std::marker::Model;
 
@@ -141,6 +146,53 @@ impl Message {
                 body: body.copy(alloc)?,
             },
         })
+    }
+
+    /// Whether each list of the struct that the message is written as is short enough.
+    pub(crate) fn fits(&self) -> bool
+        ensures { result ≡ message_fits self.now }
+    {
+        match self {
+            Message::Abort(exception) => exception.fits(),
+            Message::Call(call) => call.fits(),
+            Message::Return(returned) => returned.returned.fits(),
+            Message::Resolve(resolve) => resolve.resolution.fits(),
+            Message::Disembargo(disembargo) => disembargo.target.fits(),
+            _ => true,
+        }
+    }
+
+    /// Its member's number, and what its pointer stands for.
+    fn parts(&self, alloc: Global) -> Result<(u16, Draft<'_>), AllocError>
+        requires { message_fits self.now ≡ true }
+        ensures number { IfOk result (λ p. p.0 ≡ message_number self.now) }
+        ensures pointer { IfOk result (λ p. draft_of p.1 ≡ member_made self.now) }
+        ensures held { IfOk result (λ p. IsMessage self.now) }
+    {
+        match self {
+            Message::Unimplemented(tree) => Ok((0, Draft::Lent(tree.tree()))),
+            Message::Abort(exception) => Ok((1, exception.draft(alloc)?)),
+            Message::Call(call) => Ok((2, call.draft(alloc)?)),
+            Message::Return(returned) => Ok((3, returned.draft(alloc)?)),
+            Message::Finish(finish) => Ok((4, finish.draft(alloc)?)),
+            Message::Resolve(resolve) => Ok((5, resolve.draft(alloc)?)),
+            Message::Release(release) => Ok((6, release.draft(alloc)?)),
+            Message::Bootstrap(bootstrap) => Ok((8, bootstrap.draft(alloc)?)),
+            Message::Disembargo(disembargo) => Ok((13, disembargo.draft(alloc)?)),
+            Message::Other { which, body } => Ok((which.number(), Draft::Lent(body.tree()))),
+        }
+    }
+
+    /// The struct that the message is written as.
+    pub(crate) fn draft(&self, alloc: Global) -> Result<Draft<'_>, AllocError>
+        requires { message_fits self.now ≡ true }
+        ensures made { IfOk result (λ d. draft_of d ≡ message_made self.now) }
+        ensures held { IfOk result (λ d. IsMessage self.now) }
+    {
+        let (number, member) = self.parts(alloc)?;
+        let word = u16_part(Message::WHICH, number);
+        let words = Vec::from_slice(alloc, &[word])?;
+        Ok(struct_of(words, vec![in alloc; member]?))
     }
 }
 

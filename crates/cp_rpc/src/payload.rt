@@ -1,18 +1,24 @@
 //! What a call or a return carries.
 
-ghost use Rattle.std.specs.Prelude.{◌≡◌, ◌<◌, length, flat_map, slice_index_or, IfOk};
+ghost use Rattle.std.specs.Prelude.{◌≡◌, ◌<◌, length, flat_map, slice_index_or, All, IfOk};
+ghost use Rattle.std.specs.List.{list_all};
+ghost use Rattle.cp_tree.specs.DraftOf.{draft_of};
 ghost use Rattle.cp_rpc.specs.Fields.{IsStructField, items_of};
 ghost use Rattle.cp_rpc.specs.Answers.{Gives};
 ghost use Rattle.cp_rpc.specs.Said.{descriptors_said, payload_said};
 ghost use Rattle.cp_rpc.specs.Faulty.{descriptor_faults, payload_faults};
 ghost use Rattle.cp_rpc.specs.Told.{told_descriptor, told_payload};
+ghost use Rattle.cp_rpc.specs.Fitting.{descriptor_fits, payload_fits};
+ghost use Rattle.cp_rpc.specs.Held.{IsDescriptor, IsPayload};
+ghost use Rattle.cp_rpc.specs.Made.{cap_table_made, payload_made};
 ghost use Rattle.cp_rpc.specs.declared.descriptor.Descriptor.{Descriptor};
 
 use crate::descriptor::{Descriptor, DescriptorView};
+use crate::draft::{list_of, null, struct_of};
 use crate::fault::{Field, SchemaFault};
 use crate::field::{item_count, list_field};
 use crate::source::Source;
-use cp_tree::Whole;
+use cp_tree::{Draft, Whole};
 use std::alloc::{AllocError, Global};
 use std::marker::Model;
 
@@ -69,6 +75,34 @@ impl CapTable {
             copied.push(descriptor.copy(alloc)?)?;
         }
         Ok(CapTable::new(copied))
+    }
+
+    /// Whether each list of the descriptors is short enough.
+    fn descriptors_fit(&self) -> bool
+        ensures { result ≡ list_all descriptor_fits self.now }
+    {
+        for descriptor in self.descriptors() {
+            if !descriptor.fits() {
+                return false;
+            }
+        }
+        true
+    }
+
+    /// The list that the table is written as.
+    fn draft(&self, alloc: Global) -> Result<Draft<'_>, AllocError>
+        ensures made { IfOk result (λ d. draft_of d ≡ cap_table_made self.now) }
+        ensures held { IfOk result (λ d. All IsDescriptor self.now) }
+    {
+        let descriptors = self.descriptors();
+        if descriptors.is_empty() {
+            return Ok(null());
+        }
+        let mut items = Vec::with_capacity(alloc, descriptors.len())?;
+        for descriptor in descriptors {
+            items.push(descriptor.draft(alloc)?)?;
+        }
+        Ok(list_of(1, 1, items))
     }
 }
 
@@ -164,6 +198,24 @@ impl Payload {
             content: self.content.copy(alloc)?,
             cap_table: self.cap_table.copy(alloc)?,
         })
+    }
+
+    /// Whether each list of the struct that the payload is written as is short enough.
+    pub(crate) fn fits(&self) -> bool
+        ensures { result ≡ payload_fits self.now }
+    {
+        self.cap_table.descriptors().len() < 1 << 28 && self.cap_table.descriptors_fit()
+    }
+
+    /// The struct that the payload is written as.
+    pub(crate) fn draft(&self, alloc: Global) -> Result<Draft<'_>, AllocError>
+        ensures made { IfOk result (λ d. draft_of d ≡ payload_made self.now) }
+        ensures held { IfOk result (λ d. IsPayload self.now) }
+    {
+        let content = Draft::Lent(self.content.tree());
+        let cap_table = self.cap_table.draft(alloc)?;
+        let words = Vec::new(alloc);
+        Ok(struct_of(words, vec![in alloc; content, cap_table]?))
     }
 }
 

@@ -1,19 +1,25 @@
 //! What an answer will give.
 
-ghost use Rattle.std.specs.Prelude.{◌≡◌, ◌<◌, length, map, slice_index_or, IfOk};
+ghost use Rattle.std.specs.Prelude.{◌≡◌, ◌<◌, ◌^◌, true, length, map, slice_index_or, All, IfOk};
+ghost use Rattle.cp_tree.specs.DraftOf.{draft_of, draft_body_of};
 ghost use Rattle.cp_tree.specs.Node.{data_of};
 ghost use Rattle.cp_rpc.specs.Fields.{IsStructField, items_of};
 ghost use Rattle.cp_rpc.specs.Answers.{Gives};
 ghost use Rattle.cp_rpc.specs.Said.{op_said, promised_answer_said};
 ghost use Rattle.cp_rpc.specs.Faulty.{promised_answer_faults};
+ghost use Rattle.cp_rpc.specs.Fitting.{promised_answer_fits};
+ghost use Rattle.cp_rpc.specs.Held.{IsOp, IsPromisedAnswer};
+ghost use Rattle.cp_rpc.specs.Made.{body_made, op_number, op_field, op_made, transform_made, promised_answer_made};
 ghost use Rattle.cp_rpc.specs.Told.{told_promised_answer};
 ghost use Rattle.cp_rpc.specs.declared.promised_answer.Op.{Op};
 
-use crate::data::{u16_at, u32_at};
+use crate::data::{u16_at, u16_part, u32_at, u32_part};
+use crate::draft::{body_of, list_of, null, struct_of};
 use crate::fault::{Field, SchemaFault};
 use crate::field::{item_count, list_field};
 use crate::past::Past;
 use crate::source::Source;
+use cp_tree::{Draft, DraftBody};
 use std::alloc::{AllocError, Global};
 use std::marker::Model;
 
@@ -43,6 +49,30 @@ impl Op {
             1 => Op::GetPointerField(u16_at(words, Op::FIELD)),
             number => Op::Unknown(Past::of(number)),
         }
+    }
+
+    /// Its member's number, and the number that the member carries.
+    fn parts(&self) -> (u16, u16)
+        ensures number { result.0 ≡ op_number self.now }
+        ensures field { result.1 ≡ op_field self.now }
+        ensures held { IsOp self.now }
+    {
+        match self {
+            Op::Noop => (0, 0),
+            Op::GetPointerField(field) => (1, *field),
+            Op::Unknown(number) => (number.number(), 0),
+        }
+    }
+
+    /// The struct that the step is written as.
+    fn draft<'a>(&self, alloc: Global) -> Result<DraftBody<'a>, AllocError>
+        ensures made { IfOk result (λ b. draft_body_of b ≡ body_made (op_made self.now)) }
+        ensures held { IfOk result (λ b. IsOp self.now) }
+    {
+        let (number, field) = self.parts();
+        let word = u16_part(Op::WHICH, number) + u16_part(Op::FIELD, field);
+        let words = Vec::from_slice(alloc, &[word])?;
+        Ok(body_of(words, Vec::new(alloc)))
     }
 }
 
@@ -88,6 +118,22 @@ impl Transform {
         ensures { IfOk result (λ t. t ≡ self.now) }
     {
         Ok(Transform::new(Vec::from_slice(alloc, self.ops())?))
+    }
+
+    /// The list that the transform is written as.
+    fn draft<'a>(&self, alloc: Global) -> Result<Draft<'a>, AllocError>
+        ensures made { IfOk result (λ d. draft_of d ≡ transform_made self.now) }
+        ensures held { IfOk result (λ d. All IsOp self.now) }
+    {
+        let ops = self.ops();
+        if ops.is_empty() {
+            return Ok(null());
+        }
+        let mut items = Vec::with_capacity(alloc, ops.len())?;
+        for op in ops {
+            items.push(op.draft(alloc)?)?;
+        }
+        Ok(list_of(1, 0, items))
     }
 }
 
@@ -161,6 +207,24 @@ impl PromisedAnswer {
             question_id: self.question_id,
             transform: self.transform.copy(alloc)?,
         })
+    }
+
+    /// Whether each list of the struct that the promised answer is written as is short enough.
+    pub(crate) fn fits(&self) -> bool
+        ensures { result ≡ promised_answer_fits self.now }
+    {
+        self.transform.ops().len() < 1 << 29
+    }
+
+    /// The struct that the promised answer is written as.
+    pub(crate) fn draft<'a>(&self, alloc: Global) -> Result<Draft<'a>, AllocError>
+        ensures made { IfOk result (λ d. draft_of d ≡ promised_answer_made self.now) }
+        ensures held { IfOk result (λ d. IsPromisedAnswer self.now) }
+    {
+        let word = u32_part(PromisedAnswer::QUESTION_ID, self.question_id);
+        let transform = self.transform.draft(alloc)?;
+        let words = Vec::from_slice(alloc, &[word])?;
+        Ok(struct_of(words, vec![in alloc; transform]?))
     }
 }
 

@@ -1,19 +1,25 @@
 //! What a promise was resolved to.
 
-ghost use Rattle.std.specs.Prelude.{◌≡◌, IfOk};
+ghost use Rattle.std.specs.Prelude.{◌≡◌, true, IfOk};
 ghost use Rattle.cp_rpc.specs.Fields.{IsStructField};
 ghost use Rattle.cp_rpc.specs.Answers.{Gives};
 ghost use Rattle.cp_rpc.specs.Said.{resolution_said, resolve_said};
 ghost use Rattle.cp_rpc.specs.Faulty.{resolve_faults};
 ghost use Rattle.cp_rpc.specs.Told.{told_resolution, told_resolve};
+ghost use Rattle.cp_rpc.specs.Fitting.{resolution_fits};
+ghost use Rattle.cp_rpc.specs.Held.{IsResolution, IsResolve};
+ghost use Rattle.cp_rpc.specs.Made.{resolution_number, resolution_pointer, resolve_made};
+ghost use Rattle.cp_tree.specs.DraftOf.{draft_of};
 
-use crate::data::{u16_at, u32_at};
+use crate::data::{u16_at, u16_part, u32_at, u32_part};
 use crate::descriptor::{Descriptor, DescriptorView};
+use crate::draft::{null, struct_of};
 use crate::exception::{Exception, ExceptionView};
 use crate::fault::{Field, SchemaFault};
 use crate::field::struct_field;
 use crate::past::Past;
 use crate::source::Source;
+use cp_tree::Draft;
 use std::alloc::{AllocError, Global};
 
 /// The union of `struct Resolve` of rpc.capnp.
@@ -68,6 +74,19 @@ impl Resolve {
             resolution: self.resolution.copy(alloc)?,
         })
     }
+
+    /// The struct that the resolve is written as.
+    pub(crate) fn draft(&self, alloc: Global) -> Result<Draft<'_>, AllocError>
+        requires { resolution_fits self.now.resolution ≡ true }
+        ensures made { IfOk result (λ d. draft_of d ≡ resolve_made self.now) }
+        ensures held { IfOk result (λ d. IsResolve self.now) }
+    {
+        let (number, pointer) = self.resolution.parts(alloc)?;
+        let word = u32_part(Resolve::PROMISE_ID, self.promise_id)
+            + u16_part(Resolve::WHICH, number);
+        let words = Vec::from_slice(alloc, &[word])?;
+        Ok(struct_of(words, vec![in alloc; pointer]?))
+    }
 }
 
 impl Resolution {
@@ -80,6 +99,31 @@ impl Resolution {
             Resolution::Exception(exception) => Resolution::Exception(exception.copy(alloc)?),
             Resolution::Unknown(number) => Resolution::Unknown(*number),
         })
+    }
+
+    /// Whether each list of what its member is written as is short enough.
+    pub(crate) fn fits(&self) -> bool
+        ensures { result ≡ resolution_fits self.now }
+    {
+        match self {
+            Resolution::Cap(descriptor) => descriptor.fits(),
+            Resolution::Exception(exception) => exception.fits(),
+            Resolution::Unknown(_) => true,
+        }
+    }
+
+    /// Its member's number, and what its pointer stands for.
+    fn parts(&self, alloc: Global) -> Result<(u16, Draft<'_>), AllocError>
+        requires { resolution_fits self.now ≡ true }
+        ensures number { IfOk result (λ p. p.0 ≡ resolution_number self.now) }
+        ensures pointer { IfOk result (λ p. draft_of p.1 ≡ resolution_pointer self.now) }
+        ensures held { IfOk result (λ p. IsResolution self.now) }
+    {
+        match self {
+            Resolution::Cap(descriptor) => Ok((0, Draft::Struct(descriptor.draft(alloc)?))),
+            Resolution::Exception(exception) => Ok((1, exception.draft(alloc)?)),
+            Resolution::Unknown(number) => Ok((number.number(), null())),
+        }
     }
 }
 

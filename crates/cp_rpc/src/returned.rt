@@ -1,20 +1,25 @@
 //! Returns.
 
-ghost use Rattle.std.specs.Prelude.{◌≡◌, IfOk};
+ghost use Rattle.std.specs.Prelude.{◌≡◌, true, IfOk};
 ghost use Rattle.cp_rpc.specs.Fields.{IsStructField};
 ghost use Rattle.cp_rpc.specs.Answers.{Gives};
 ghost use Rattle.cp_rpc.specs.Said.{returned_said, return_said};
 ghost use Rattle.cp_rpc.specs.Faulty.{return_faults};
 ghost use Rattle.cp_rpc.specs.Told.{told_returned, told_return};
+ghost use Rattle.cp_rpc.specs.Fitting.{returned_fits};
+ghost use Rattle.cp_rpc.specs.Held.{IsReturned, IsReturn};
+ghost use Rattle.cp_rpc.specs.Made.{returned_number, returned_question, returned_pointer, return_made};
+ghost use Rattle.cp_tree.specs.DraftOf.{draft_of};
 
-use crate::data::{bit_at, u16_at, u32_at};
+use crate::data::{bit_at, bit_part, u16_at, u16_part, u32_at, u32_part};
+use crate::draft::{null, struct_of};
 use crate::exception::{Exception, ExceptionView};
 use crate::fault::{Field, SchemaFault};
 use crate::field::struct_field;
 use crate::past::Past;
 use crate::payload::{Payload, PayloadView};
 use crate::source::Source;
-use cp_tree::Whole;
+use cp_tree::{Draft, Whole};
 use std::alloc::{AllocError, Global};
 
 /// The union of `struct Return` of rpc.capnp.
@@ -89,6 +94,21 @@ impl Return {
             returned: self.returned.copy(alloc)?,
         })
     }
+
+    /// The struct that the return is written as.
+    pub(crate) fn draft(&self, alloc: Global) -> Result<Draft<'_>, AllocError>
+        requires { returned_fits self.now.returned ≡ true }
+        ensures made { IfOk result (λ d. draft_of d ≡ return_made self.now) }
+        ensures held { IfOk result (λ d. IsReturn self.now) }
+    {
+        let (number, question, pointer) = self.returned.parts(alloc)?;
+        let first = u32_part(Return::ANSWER_ID, self.answer_id)
+            + bit_part(Return::RELEASE_PARAM_CAPS, !self.release_param_caps)
+            + u16_part(Return::WHICH, number);
+        let second = u32_part(Return::TAKE_FROM_OTHER_QUESTION, question);
+        let words = Vec::from_slice(alloc, &[first, second])?;
+        Ok(struct_of(words, vec![in alloc; pointer]?))
+    }
 }
 
 impl Returned {
@@ -107,6 +127,36 @@ impl Returned {
             )?),
             Returned::Unknown(number) => Returned::Unknown(*number),
         })
+    }
+
+    /// Whether each list of what its member is written as is short enough.
+    pub(crate) fn fits(&self) -> bool
+        ensures { result ≡ returned_fits self.now }
+    {
+        match self {
+            Returned::Results(payload) => payload.fits(),
+            Returned::Exception(exception) => exception.fits(),
+            _ => true,
+        }
+    }
+
+    /// Its member's number, the number that the member carries, and what its pointer stands for.
+    fn parts(&self, alloc: Global) -> Result<(u16, u32, Draft<'_>), AllocError>
+        requires { returned_fits self.now ≡ true }
+        ensures number { IfOk result (λ p. p.0 ≡ returned_number self.now) }
+        ensures question { IfOk result (λ p. p.1 ≡ returned_question self.now) }
+        ensures pointer { IfOk result (λ p. draft_of p.2 ≡ returned_pointer self.now) }
+        ensures held { IfOk result (λ p. IsReturned self.now) }
+    {
+        match self {
+            Returned::Results(payload) => Ok((0, 0, payload.draft(alloc)?)),
+            Returned::Exception(exception) => Ok((1, 0, exception.draft(alloc)?)),
+            Returned::Canceled => Ok((2, 0, null())),
+            Returned::ResultsSentElsewhere => Ok((3, 0, null())),
+            Returned::TakeFromOtherQuestion(question) => Ok((4, *question, null())),
+            Returned::AcceptFromThirdParty(tree) => Ok((5, 0, Draft::Lent(tree.tree()))),
+            Returned::Unknown(number) => Ok((number.number(), 0, null())),
+        }
     }
 }
 

@@ -1,9 +1,15 @@
 //! Messages of numbers alone: bootstraps, finishes and releases.
 
-ghost use Rattle.std.specs.Prelude.{◌≡◌};
+ghost use Rattle.std.specs.Prelude.{◌≡◌, IfOk};
+ghost use Rattle.cp_tree.specs.DraftOf.{draft_of};
 ghost use Rattle.cp_rpc.specs.Said.{bootstrap_said, finish_said, release_said};
+ghost use Rattle.cp_rpc.specs.Held.{IsBootstrap, IsFinish, IsRelease};
+ghost use Rattle.cp_rpc.specs.Made.{bootstrap_made, finish_made, release_made};
 
-use crate::data::{bit_at, u32_at};
+use crate::data::{bit_at, bit_part, u32_at, u32_part};
+use crate::draft::{null, struct_of};
+use cp_tree::Draft;
+use std::alloc::{AllocError, Global};
 
 /// `struct Bootstrap` of rpc.capnp.
 #[derive(Clone, Copy, PartialEq, Eq, Debug)]
@@ -42,6 +48,16 @@ impl Bootstrap {
             question_id: u32_at(words, Bootstrap::QUESTION_ID),
         }
     }
+
+    /// The struct that it is written as.
+    pub(crate) fn draft<'a>(self, alloc: Global) -> Result<Draft<'a>, AllocError>
+        ensures made { IfOk result (λ d. draft_of d ≡ bootstrap_made self) }
+        ensures held { IfOk result (λ d. IsBootstrap self) }
+    {
+        let word = u32_part(Bootstrap::QUESTION_ID, self.question_id);
+        let words = Vec::from_slice(alloc, &[word])?;
+        Ok(struct_of(words, vec![in alloc; null()]?))
+    }
 }
 
 impl Finish {
@@ -59,6 +75,17 @@ impl Finish {
             release_result_caps: !bit_at(words, Finish::RELEASE_RESULT_CAPS),
         }
     }
+
+    /// The struct that it is written as.
+    pub(crate) fn draft<'a>(self, alloc: Global) -> Result<Draft<'a>, AllocError>
+        ensures made { IfOk result (λ d. draft_of d ≡ finish_made self) }
+        ensures held { IfOk result (λ d. IsFinish self) }
+    {
+        let word = u32_part(Finish::QUESTION_ID, self.question_id)
+            + bit_part(Finish::RELEASE_RESULT_CAPS, !self.release_result_caps);
+        let words = Vec::from_slice(alloc, &[word])?;
+        Ok(struct_of(words, Vec::new(alloc)))
+    }
 }
 
 impl Release {
@@ -75,5 +102,16 @@ impl Release {
             id: u32_at(words, Release::ID),
             reference_count: u32_at(words, Release::REFERENCE_COUNT),
         }
+    }
+
+    /// The struct that it is written as.
+    pub(crate) fn draft<'a>(self, alloc: Global) -> Result<Draft<'a>, AllocError>
+        ensures made { IfOk result (λ d. draft_of d ≡ release_made self) }
+        ensures held { IfOk result (λ d. IsRelease self) }
+    {
+        let word = u32_part(Release::ID, self.id)
+            + u32_part(Release::REFERENCE_COUNT, self.reference_count);
+        let words = Vec::from_slice(alloc, &[word])?;
+        Ok(struct_of(words, Vec::new(alloc)))
     }
 }

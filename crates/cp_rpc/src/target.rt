@@ -6,13 +6,19 @@ ghost use Rattle.cp_rpc.specs.Answers.{Gives};
 ghost use Rattle.cp_rpc.specs.Said.{target_said};
 ghost use Rattle.cp_rpc.specs.Faulty.{target_faults};
 ghost use Rattle.cp_rpc.specs.Told.{told_target};
+ghost use Rattle.cp_rpc.specs.Fitting.{target_fits};
+ghost use Rattle.cp_rpc.specs.Held.{IsTarget};
+ghost use Rattle.cp_rpc.specs.Made.{target_number, target_id, target_pointer, target_made};
+ghost use Rattle.cp_tree.specs.DraftOf.{draft_of};
 
-use crate::data::{u16_at, u32_at};
+use crate::data::{u16_at, u16_part, u32_at, u32_part};
+use crate::draft::{null, struct_of};
 use crate::fault::{Field, SchemaFault};
 use crate::field::struct_field;
 use crate::past::Past;
 use crate::promised_answer::{PromisedAnswer, PromisedAnswerView};
 use crate::source::Source;
+use cp_tree::Draft;
 use std::alloc::{AllocError, Global};
 
 /// `struct MessageTarget` of rpc.capnp.
@@ -51,6 +57,41 @@ impl Target {
             Target::PromisedAnswer(answer) => Target::PromisedAnswer(answer.copy(alloc)?),
             Target::Unknown(number) => Target::Unknown(*number),
         })
+    }
+
+    /// Whether each list of the struct that the target is written as is short enough.
+    pub(crate) fn fits(&self) -> bool
+        ensures { result ≡ target_fits self.now }
+    {
+        match self {
+            Target::PromisedAnswer(answer) => answer.fits(),
+            _ => true,
+        }
+    }
+
+    /// Its member's number, the number that the member carries, and what its pointer stands for.
+    fn parts<'a>(&self, alloc: Global) -> Result<(u16, u32, Draft<'a>), AllocError>
+        ensures number { IfOk result (λ p. p.0 ≡ target_number self.now) }
+        ensures id { IfOk result (λ p. p.1 ≡ target_id self.now) }
+        ensures pointer { IfOk result (λ p. draft_of p.2 ≡ target_pointer self.now) }
+        ensures held { IfOk result (λ p. IsTarget self.now) }
+    {
+        match self {
+            Target::ImportedCap(id) => Ok((0, *id, null())),
+            Target::PromisedAnswer(answer) => Ok((1, 0, answer.draft(alloc)?)),
+            Target::Unknown(number) => Ok((number.number(), 0, null())),
+        }
+    }
+
+    /// The struct that the target is written as.
+    pub(crate) fn draft<'a>(&self, alloc: Global) -> Result<Draft<'a>, AllocError>
+        ensures made { IfOk result (λ d. draft_of d ≡ target_made self.now) }
+        ensures held { IfOk result (λ d. IsTarget self.now) }
+    {
+        let (number, id, pointer) = self.parts(alloc)?;
+        let word = u32_part(Target::IMPORTED_CAP, id) + u16_part(Target::WHICH, number);
+        let words = Vec::from_slice(alloc, &[word])?;
+        Ok(struct_of(words, vec![in alloc; pointer]?))
     }
 }
 

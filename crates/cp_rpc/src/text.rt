@@ -1,9 +1,14 @@
 //! Texts.
 
-ghost use Rattle.std.specs.Prelude.{◌≡◌, ◌==◌, length, IfOk, string_bytes};
+ghost use Rattle.std.specs.Prelude.{◌≡◌, ◌==◌, true, length, IfOk, string_bytes};
+ghost use Rattle.cp_tree.specs.DraftOf.{draft_of};
 ghost use Rattle.cp_rpc.specs.Fields.{IsTextField, text_of};
+ghost use Rattle.cp_rpc.specs.Fitting.{text_fits};
+ghost use Rattle.cp_rpc.specs.Held.{IsText};
+ghost use Rattle.cp_rpc.specs.Made.{text_made};
 
 use crate::source::{Look, Source};
+use cp_tree::{Draft, Tree};
 use std::alloc::{AllocError, Global};
 use std::marker::Model;
 
@@ -49,6 +54,29 @@ impl Text {
         ensures { IfOk result (λ t. t ≡ self.now) }
     {
         Ok(Text::new(String::from_str(alloc, self.as_str())?))
+    }
+
+    /// Whether a list can have the text's bytes and the zero byte.
+    pub(crate) fn fits(&self) -> bool
+        ensures { result ≡ text_fits self.now }
+    {
+        self.as_str().len() + 1 < 1 << 29
+    }
+
+    /// The tree that the text is written as.
+    pub(crate) fn draft<'a>(&self, alloc: Global) -> Result<Draft<'a>, AllocError>
+        requires { text_fits self.now ≡ true }
+        ensures made { IfOk result (λ d. draft_of d ≡ text_made self.now) }
+        ensures held { IfOk result (λ d. IsText self.now) }
+    {
+        let bytes = self.as_str().as_bytes();
+        if bytes.is_empty() {
+            return Ok(Draft::Own(Tree::Null));
+        }
+        let mut ended = Vec::with_capacity(alloc, bytes.len() + 1)?;
+        ended.extend_from_slice(bytes)?;
+        ended.push(0)?;
+        Ok(Draft::Own(Tree::Bytes(ended)))
     }
 }
 

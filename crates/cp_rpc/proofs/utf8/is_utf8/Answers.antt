@@ -1,5 +1,4 @@
-use Rattle.std.proofs.Common.{◌≡◌, ◌+◌, ◌*◌, ◌≤◌, ◌∙◌, sym, subst, arith}
-use Rattle.simdutf8.specs.Tracks.{HasRead}
+use Rattle.std.proofs.Common.{◌≡◌, ◌+◌, ◌*◌, arith}
 use Rattle.cp_rpc.specs.Blocks.{byte_before}
 use Rattle.cp_rpc.proofs.Blocks.{range-append, padded, blocks-hold}
 use Rattle.cp_rpc.proofs.utf8.is_utf8.Goals as goal

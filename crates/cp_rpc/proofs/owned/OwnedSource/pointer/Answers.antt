@@ -1,4 +1,4 @@
-use Rattle.std.proofs.Common.{◌≡◌, sym, subst, ◌∙◌}
+use Rattle.std.proofs.Common.{sym, subst}
 use Rattle.cp_tree.specs.Shaped.{Shaped}
 use Rattle.cp_rpc.specs.OwnedNode.{part_node}
 use Rattle.cp_rpc.specs.declared.owned.Part.{Part}

@@ -1,4 +1,4 @@
-use Rattle.std.proofs.Common.{◌≡◌, refl}
+use Rattle.std.proofs.Common.{refl}
 use Rattle.std.proofs.lemmas.List.{take_more}
 use Rattle.cp_rpc.specs.declared.promised_answer.Op.TheVariants as ops
 use Rattle.cp_rpc.proofs.promised_answer.TransformView.transform.Goals as goal

@@ -1,4 +1,4 @@
-use Rattle.std.proofs.Common.{◌≡◌, ◌∙◌, sym, arith}
+use Rattle.std.proofs.Common.{◌∙◌, sym}
 use Rattle.cp_rpc.proofs.Items.{words-text}
 use Rattle.cp_rpc.proofs.source.ViewSource.text.Goals as goal
 

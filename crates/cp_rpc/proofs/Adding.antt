@@ -1,0 +1,17 @@
+-- Structs that are made one after another.
+use Rattle.std.proofs.Common.{◌≡◌, ℕ, ◌+◌, ◌<◌, List, [], ◌∷◌, ◌++◌, length, map, take, get_or, sym, ap, ◌∙◌}
+use Rattle.std.proofs.lemmas.List.{take_more, map-append}
+use Rattle.cp_tree.specs.Node.{Node}
+use Rattle.cp_tree.specs.DraftOf.{draft_body_of}
+use Rattle.cp_tree.specs.declared.draft.DraftBody.{DraftBody}
+use Rattle.cp_rpc.specs.Made.{body_made}
+
+-- one more struct is made behind those that were made
+pub made_more : {X : Type 0} (made : X → Node) (xs : List X) (i : ℕ) (d : X) (bs more : List DraftBody) (b : DraftBody) → i < length xs
+    → map draft_body_of bs ≡ map body_made (map made (take i xs)) → draft_body_of b ≡ body_made (made (get_or xs i d)) → more ≡ bs ++ b ∷ []
+    → map draft_body_of more ≡ map body_made (map made (take (i + 1) xs))
+made_more made xs i d bs more b within before one pushed =
+    ap (λ l. map draft_body_of l) pushed ∙ map-append draft_body_of bs (b ∷ []) ∙ ap (λ l. l ++ draft_body_of b ∷ []) before
+    ∙ ap (λ x. map body_made (map made (take i xs)) ++ x ∷ []) one
+    ∙ sym (ap (λ l. map body_made (map made l)) (take_more xs i d within) ∙ ap (λ l. map body_made l) (map-append made (take i xs) (get_or xs i d ∷ []))
+    ∙ map-append body_made (map made (take i xs)) (made (get_or xs i d) ∷ []))

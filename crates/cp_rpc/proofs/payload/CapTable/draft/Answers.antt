@@ -1,0 +1,19 @@
+use Rattle.std.proofs.Common.{◌≡◌, get_or}
+use Rattle.std.proofs.lemmas.List.Elements.{All-more}
+use Rattle.cp_tree.specs.DraftOf.{draft_body_of}
+use Rattle.cp_rpc.specs.Held.{IsDescriptor}
+use Rattle.cp_rpc.specs.Made.{body_made, descriptor_made}
+use Rattle.cp_rpc.proofs.Adding.{made_more}
+use Rattle.cp_rpc.proofs.payload.CapTable.draft.Goals as goal
+
+pub loop-descriptor-preserved : goal.loop-descriptor-preserved
+loop-descriptor-preserved c =
+    let xs = c.descriptors-descriptors.result.now in
+    let i = c.loop-descriptor.descriptor-index in
+    let x = c.descriptor-item.result in
+    let one : draft_body_of c.in_ok-draft.field-0 ≡ body_made (descriptor_made (get_or xs i x)) = rw (← c.descriptor-item.is) c.in_ok-draft.ensures.made in
+    let held : IsDescriptor (get_or xs i x) = rw (← c.descriptor-item.is) c.in_ok-draft.ensures.held in
+    record {
+      made = made_more descriptor_made xs i x c.loop-descriptor.items.items c.push.new.self.items c.in_ok-draft.field-0 c.loop-descriptor-test.true c.loop-descriptor.invariant.made one c.in_ok-push.ensures.items;
+      held = All-more IsDescriptor xs i x c.loop-descriptor-test.true c.loop-descriptor.invariant.held held;
+    }

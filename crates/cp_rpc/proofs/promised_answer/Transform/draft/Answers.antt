@@ -1,0 +1,19 @@
+use Rattle.std.proofs.Common.{◌≡◌, get_or}
+use Rattle.std.proofs.lemmas.List.Elements.{All-more}
+use Rattle.cp_tree.specs.DraftOf.{draft_body_of}
+use Rattle.cp_rpc.specs.Held.{IsOp}
+use Rattle.cp_rpc.specs.Made.{body_made, op_made}
+use Rattle.cp_rpc.proofs.Adding.{made_more}
+use Rattle.cp_rpc.proofs.promised_answer.Transform.draft.Goals as goal
+
+pub loop-op-preserved : goal.loop-op-preserved
+loop-op-preserved c =
+    let xs = c.ops-ops.result.now in
+    let i = c.loop-op.op-index in
+    let x = c.op-item.result in
+    let one : draft_body_of c.in_ok-draft.field-0 ≡ body_made (op_made (get_or xs i x)) = rw (← c.op-item.is) c.in_ok-draft.ensures.made in
+    let held : IsOp (get_or xs i x) = rw (← c.op-item.is) c.in_ok-draft.ensures.held in
+    record {
+      made = made_more op_made xs i x c.loop-op.items.items c.push.new.self.items c.in_ok-draft.field-0 c.loop-op-test.true c.loop-op.invariant.made one c.in_ok-push.ensures.items;
+      held = All-more IsOp xs i x c.loop-op-test.true c.loop-op.invariant.held held;
+    }
