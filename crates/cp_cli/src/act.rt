@@ -4,7 +4,7 @@ use crate::fault::Stop;
 use crate::line::push_line;
 use cp_frame::{FrameReader, Mode, write_frame};
 use cp_stream::view_of;
-use cp_tree::Limits;
+use cp_tree::{Limits, read_root, write_segments};
 use cp_words::Segments;
 use std::alloc::Global;
 use std::io::{ErrorKind, Read, Write};
@@ -13,11 +13,15 @@ use std::io::{ErrorKind, Read, Write};
 #[derive(Clone, Copy)]
 pub enum Plan {
     /// Each message as a line.
-    Show { limits: Limits },
+    Show { mode: Mode, limits: Limits },
     /// The number of messages.
-    Check { limits: Limits },
+    Check { mode: Mode, limits: Limits },
     /// Plain frames in the packed form. Segments stay as they are, and no root is read.
     Pack,
+    /// Packed frames in the plain form, likewise.
+    Unpack,
+    /// Each frame's tree in segments of at most so many words, in the same form.
+    Recut { mode: Mode, words: u32 },
 }
 
 /// Accepted.
@@ -37,12 +41,29 @@ struct Progress {
     bytes: u64,
 }
 
+/// Writes the frame of the segments.
+fn write<W: Write>(
+    alloc: Global,
+    segments: &Segments,
+    mode: Mode,
+    out: &mut W,
+) -> Result<(), Stop> {
+    let bytes = write_frame(alloc, segments, mode, Limits::standard())?;
+    Ok(out.write_all(&bytes)?)
+}
+
 impl Plan {
     /// A reader of the frames that the command takes.
     fn reader(&self, alloc: Global) -> FrameReader {
-        match self {
-            Plan::Show { limits } | Plan::Check { limits } => FrameReader::plain(alloc, *limits),
-            Plan::Pack => FrameReader::plain(alloc, Limits::standard()),
+        let (mode, limits) = match self {
+            Plan::Show { mode, limits } | Plan::Check { mode, limits } => (*mode, *limits),
+            Plan::Pack => (Mode::Plain, Limits::standard()),
+            Plan::Unpack => (Mode::Packed, Limits::standard()),
+            Plan::Recut { mode, .. } => (*mode, Limits::standard()),
+        };
+        match mode {
+            Mode::Plain => FrameReader::plain(alloc, limits),
+            Mode::Packed => FrameReader::packed(alloc, limits),
         }
     }
 
@@ -55,18 +76,26 @@ impl Plan {
         out: &mut W,
     ) -> Result<(), Stop> {
         match self {
-            Plan::Show { limits } => {
+            Plan::Show { limits, .. } => {
                 let view = view_of(segments, *limits)?;
                 line.clear();
                 push_line(alloc, line, &view)?;
                 out.write_all(line.as_bytes())?;
             }
-            Plan::Check { limits } => {
+            Plan::Check { limits, .. } => {
                 view_of(segments, *limits)?;
             }
-            Plan::Pack => {
+            Plan::Pack => write(alloc, segments, Mode::Packed, out)?,
+            Plan::Unpack => write(alloc, segments, Mode::Plain, out)?,
+            Plan::Recut { mode, words } => {
                 let limits = Limits::standard();
-                out.write_all(&write_frame(alloc, segments, Mode::Packed, limits)?)?;
+                let root = read_root(alloc, segments, limits)?;
+                write(
+                    alloc,
+                    &write_segments(alloc, &root, *words, limits)?,
+                    *mode,
+                    out,
+                )?;
             }
         }
         Ok(())

@@ -1,7 +1,8 @@
 //! The words of the command line.
 
 use crate::act::Plan;
-use clap::{Arg, ArgMatches, Command, Error, value_parser};
+use clap::{Arg, ArgAction, ArgMatches, Command, Error, value_parser};
+use cp_frame::Mode;
 use cp_tree::Limits;
 use std::alloc::Global;
 
@@ -9,12 +10,32 @@ use std::alloc::Global;
 const MOST_NESTING: i64 = 256;
 /// The greatest limit on traversal.
 const MOST_TRAVERSAL: i64 = 67_108_864;
+/// The greatest number of words in a segment.
+const MOST_WORDS: i64 = 8_388_608;
 
 /// The file that a command reads.
 fn file<'a>(alloc: Global) -> Arg<'a> {
     Arg::new(alloc, "FILE")
         .help("A file of frames, one after another")
         .required(true)
+}
+
+/// Packed frames instead of plain ones.
+fn packed<'a>(alloc: Global) -> Arg<'a> {
+    Arg::new(alloc, "packed")
+        .long("packed")
+        .action(ArgAction::SetTrue)
+        .help("The frames are packed")
+}
+
+/// The greatest number of words in a segment.
+fn words<'a>(alloc: Global) -> Arg<'a> {
+    Arg::new(alloc, "words")
+        .long("words")
+        .value_name("N")
+        .required(true)
+        .value_parser(value_parser!(u32).range(1..=MOST_WORDS))
+        .help("A segment has at most N words, or one body")
 }
 
 /// The limit on nesting.
@@ -39,19 +60,31 @@ fn traversal<'a>(alloc: Global) -> Arg<'a> {
 pub(crate) fn command<'a>(alloc: Global) -> Result<Command<'a>, Error> {
     let show = Command::new(alloc, "show")
         .about("Print each message of FILE as a line")
-        .after_help("Example: capnp_cli show calls.bin")
+        .after_help("Example: capnp_cli show --packed calls.packed")
+        .arg(packed(alloc))?
         .arg(nesting(alloc))?
         .arg(traversal(alloc))?
         .arg(file(alloc))?;
     let check = Command::new(alloc, "check")
         .about("Print how many messages FILE has, if all are accepted")
         .after_help("Example: capnp_cli check --nesting 32 calls.bin")
+        .arg(packed(alloc))?
         .arg(nesting(alloc))?
         .arg(traversal(alloc))?
         .arg(file(alloc))?;
     let pack = Command::new(alloc, "pack")
         .about("Write the plain frames of FILE in the packed form")
         .after_help("Example: capnp_cli pack calls.bin > calls.packed")
+        .arg(file(alloc))?;
+    let unpack = Command::new(alloc, "unpack")
+        .about("Write the packed frames of FILE in the plain form")
+        .after_help("Example: capnp_cli unpack calls.packed > calls.bin")
+        .arg(file(alloc))?;
+    let recut = Command::new(alloc, "recut")
+        .about("Write each tree of FILE again, in segments of limited size")
+        .after_help("Example: capnp_cli recut --words 64 calls.bin > short.bin")
+        .arg(packed(alloc))?
+        .arg(words(alloc))?
         .arg(file(alloc))?;
     let command = Command::new(alloc, "capnp_cli")
         .about("Cap'n Proto messages and two-party RPC")
@@ -62,7 +95,9 @@ pub(crate) fn command<'a>(alloc: Global) -> Result<Command<'a>, Error> {
         .subcommand_required(true)
         .subcommand(show)?
         .subcommand(check)?
-        .subcommand(pack)?;
+        .subcommand(pack)?
+        .subcommand(unpack)?
+        .subcommand(recut)?;
     Ok(command)
 }
 
@@ -80,17 +115,33 @@ fn limits(matches: &ArgMatches) -> Option<Limits> {
     Limits::new(nesting, traversal, standard.segments(), frame_words)
 }
 
+/// The form that the words ask for.
+fn mode(matches: &ArgMatches) -> Mode {
+    if matches.get_flag("packed") {
+        Mode::Packed
+    } else {
+        Mode::Plain
+    }
+}
+
 /// What is to be done, and the file that it is done with.
 pub(crate) fn plan<'a>(matches: &ArgMatches<'a>) -> Option<(Plan, &'a str)> {
     let (name, inner) = matches.subcommand()?;
     let plan = match name {
         "show" => Plan::Show {
+            mode: mode(inner),
             limits: limits(inner)?,
         },
         "check" => Plan::Check {
+            mode: mode(inner),
             limits: limits(inner)?,
         },
         "pack" => Plan::Pack,
+        "unpack" => Plan::Unpack,
+        "recut" => Plan::Recut {
+            mode: mode(inner),
+            words: inner.get_one::<u32>("words")?,
+        },
         _ => return None,
     };
     Some((plan, inner.get_str("FILE")?))

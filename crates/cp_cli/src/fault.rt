@@ -85,6 +85,18 @@ impl From<FrameFault> for Stop {
     }
 }
 
+impl From<TreeFault> for Stop {
+    fn from(fault: TreeFault) -> Stop {
+        Stop::Refused(Fault::from(fault))
+    }
+}
+
+impl From<WriteFault> for Stop {
+    fn from(fault: WriteFault) -> Stop {
+        Stop::Refused(Fault::from(fault))
+    }
+}
+
 impl From<Refusal> for Fault {
     fn from(refusal: Refusal) -> Fault {
         match refusal {

@@ -1,6 +1,7 @@
 //! Frames from outside, by `show`.
 
 use crate::{Plan, act};
+use cp_frame::Mode;
 use cp_tree::Limits;
 use std::alloc::Global;
 use std::io::{self, ErrorKind, Read};
@@ -9,7 +10,14 @@ use std::test::Fail;
 /// What `show` wrote, what it said, and its status.
 fn shown(alloc: Global, hexadecimal: &str) -> Result<(String, String, u8), Fail> {
     let limits = Limits::standard();
-    done(alloc, &Plan::Show { limits }, hexadecimal)
+    done(
+        alloc,
+        &Plan::Show {
+            mode: Mode::Plain,
+            limits,
+        },
+        hexadecimal,
+    )
 }
 
 /// A text without its spaces.
@@ -382,12 +390,26 @@ fn files_have_many_frames(rt: HostRuntime) -> Result<(), Fail> {
     }
     assert_eq!(rt; out.as_str().lines().count(), 3);
     assert_eq!(rt; (err.as_str(), status), ("", 0));
-    let (out, err, status) = done(alloc, &Plan::Check { limits }, stream.as_str())?;
+    let (out, err, status) = done(
+        alloc,
+        &Plan::Check {
+            mode: Mode::Plain,
+            limits,
+        },
+        stream.as_str(),
+    )?;
     assert_eq!(rt;
         (out.as_str(), err.as_str(), status),
         ("messages 3\n", "", 0)
     );
-    let (out, err, status) = done(alloc, &Plan::Check { limits }, "")?;
+    let (out, err, status) = done(
+        alloc,
+        &Plan::Check {
+            mode: Mode::Plain,
+            limits,
+        },
+        "",
+    )?;
     assert_eq!(rt;
         (out.as_str(), err.as_str(), status),
         ("messages 0\n", "", 0)
@@ -414,7 +436,14 @@ fn lines_stand_before_a_refusal(rt: HostRuntime) -> Result<(), Fail> {
         let (out, err, status) = shown(alloc, stream.as_str())?;
         assert_eq!(rt; out.as_str(), "finish q=7 releaseResultCaps=true\n");
         assert_eq!(rt; (err.as_str(), status), (line.as_str(), 1));
-        let (out, err, status) = done(alloc, &Plan::Check { limits }, stream.as_str())?;
+        let (out, err, status) = done(
+            alloc,
+            &Plan::Check {
+                mode: Mode::Plain,
+                limits,
+            },
+            stream.as_str(),
+        )?;
         assert_eq!(rt;
             (out.as_str(), err.as_str(), status),
             ("", line.as_str(), 1)
@@ -423,12 +452,12 @@ fn lines_stand_before_a_refusal(rt: HostRuntime) -> Result<(), Fail> {
     Ok(())
 }
 
-/// What `pack` makes of a file, in hexadecimal.
-fn packed(alloc: Global, hexadecimal: &str) -> Result<String, Fail> {
+/// What a command makes of a file, in hexadecimal, or what it says.
+fn made(alloc: Global, plan: Plan, hexadecimal: &str) -> Result<String, Fail> {
     let bytes = decoded(alloc, hexadecimal)?;
     let (mut out, mut err) = (Vec::new(alloc), Vec::new(alloc));
     let mut from = bytes.as_slice();
-    let status = act(alloc, &Plan::Pack, &mut from, &mut out, &mut err);
+    let status = act(alloc, &plan, &mut from, &mut out, &mut err);
     if status == 0 {
         return Ok(hex::encode(alloc, &out)?);
     }
@@ -436,10 +465,10 @@ fn packed(alloc: Global, hexadecimal: &str) -> Result<String, Fail> {
 }
 
 #[test]
-fn frames_are_packed(rt: HostRuntime) -> Result<(), Fail> {
+fn frames_are_packed_and_unpacked(rt: HostRuntime) -> Result<(), Fail> {
     let alloc = rt.alloc();
     let rows = [
-        (FINISH, "10045001010104100101 07"),
+        (FINISH, "1004500101010410010107"),
         (
             "0000000005000000 0000000001000100 0800000000000000 0000000001000100 \
              0000000000000000 0000000000000000",
@@ -449,15 +478,86 @@ fn frames_are_packed(rt: HostRuntime) -> Result<(), Fail> {
         ("", ""),
     ];
     for (frame, bytes) in rows {
-        assert_eq!(rt;
-            packed(alloc, frame)?.as_str(),
-            without_spaces(alloc, bytes)?.as_str()
-        );
+        assert_eq!(rt; made(alloc, Plan::Pack, frame)?.as_str(), bytes);
+        let plain = without_spaces(alloc, frame)?;
+        assert_eq!(rt; made(alloc, Plan::Unpack, bytes)?.as_str(), plain.as_str());
     }
+    let refused = [
+        (Plan::Pack, "00", "refused at byte 0: F3 Truncated\n"),
+        (Plan::Unpack, "00", "refused at byte 0: F3 Truncated\n"),
+        (Plan::Unpack, "0003", "refused at byte 0: F4 RunPastFrame\n"),
+    ];
+    for (plan, bytes, line) in refused {
+        assert_eq!(rt; made(alloc, plan, bytes)?.as_str(), line);
+    }
+    Ok(())
+}
+
+/// A bootstrap's results, plain and packed.
+const RESULTS: (&str, &str) = (
+    "000000000b000000 0000000001000100 0300000000000000 0000000002000100 0000000001000000 \
+     0000000000000000 0000000000000200 0300000000000000 0100000017000000 0400000001000100 \
+     0100000000000000 0000000000000000",
+    "100b50010101035002011001000040020103110117510401010101 0000",
+);
+
+#[test]
+fn packed_frames_are_shown(rt: HostRuntime) -> Result<(), Fail> {
+    let alloc = rt.alloc();
+    let limits = Limits::standard();
+    let mode = Mode::Packed;
+    let (plain, results) = RESULTS;
+    let (out, err, status) = shown(alloc, plain)?;
+    let line = "return a=0 releaseParamCaps=false results {cap:0 caps[senderHosted:0]}\n";
+    assert_eq!(rt; (out.as_str(), err.as_str(), status), (line, "", 0));
+    let (out, err, status) = done(alloc, &Plan::Show { mode, limits }, results)?;
+    assert_eq!(rt; (out.as_str(), err.as_str(), status), (line, "", 0));
+    let stream = "1004500101010410010107 100550010101085001010001";
+    let (out, err, status) = done(alloc, &Plan::Show { mode, limits }, stream)?;
     assert_eq!(rt;
-        packed(alloc, "00")?.as_str(),
-        "refused at byte 0: F3 Truncated\n"
+        out.as_str(),
+        "finish q=7 releaseResultCaps=true\nbootstrap q=0\n"
     );
+    assert_eq!(rt; (err.as_str(), status), ("", 0));
+    let (out, err, status) = done(alloc, &Plan::Check { mode, limits }, stream)?;
+    assert_eq!(rt;
+        (out.as_str(), err.as_str(), status),
+        ("messages 2\n", "", 0)
+    );
+    Ok(())
+}
+
+#[test]
+fn trees_are_recut(rt: HostRuntime) -> Result<(), Fail> {
+    let alloc = rt.alloc();
+    let mode = Mode::Plain;
+    let rows = [
+        (
+            3,
+            "0100000003000000 0200000000000000 0000000001000100 0400000000000000 \
+             0200000001000000 0000000001000000 0700000000000000",
+        ),
+        (4, FINISH),
+        (8_388_608, FINISH),
+    ];
+    let whole = without_spaces(alloc, FINISH)?;
+    for (words, frame) in rows {
+        let cut = made(alloc, Plan::Recut { mode, words }, FINISH)?;
+        assert_eq!(rt; cut.as_str(), without_spaces(alloc, frame)?.as_str());
+        let back = made(
+            alloc,
+            Plan::Recut {
+                mode,
+                words: 8_388_608,
+            },
+            cut.as_str(),
+        )?;
+        assert_eq!(rt; back.as_str(), whole.as_str());
+    }
+    let mode = Mode::Packed;
+    let packed = "1004500101010410010107";
+    let again = made(alloc, Plan::Recut { mode, words: 4 }, packed)?;
+    assert_eq!(rt; again.as_str(), packed);
     Ok(())
 }
 
@@ -487,7 +587,14 @@ fn limits_may_be_chosen(rt: HostRuntime) -> Result<(), Fail> {
     ];
     for (nesting, traversal, lines, fault) in rows {
         let limits = Limits::new(nesting, traversal, 512, 8_388_608).ok_or("no limits")?;
-        let (out, err, status) = done(alloc, &Plan::Check { limits }, frame.as_str())?;
+        let (out, err, status) = done(
+            alloc,
+            &Plan::Check {
+                mode: Mode::Plain,
+                limits,
+            },
+            frame.as_str(),
+        )?;
         assert_eq!(rt; (out.as_str(), err.as_str()), (lines, fault));
         assert_eq!(rt; status == 0, fault.is_empty());
     }
@@ -527,7 +634,10 @@ fn a_device_may_fail(rt: HostRuntime) -> Result<(), Fail> {
     let limits = Limits::standard();
     let status = act(
         alloc,
-        &Plan::Show { limits },
+        &Plan::Show {
+            mode: Mode::Plain,
+            limits,
+        },
         &mut Broken,
         &mut out,
         &mut err,

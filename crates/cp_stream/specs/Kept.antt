@@ -1,5 +1,6 @@
 -- What a reader of messages keeps, and what its callers see of it. No public clause names these.
-use Rattle.std.specs.Prelude.{◌≡◌, ◌⊎◌, ℕ, List, [], length, drop}
+use Rattle.std.specs.Prelude.{◌≡◌, ◌⊎◌, ℕ, List, [], length, drop, Option}
+use Rattle.std.specs.Io.KnownBytes.{Consumes}
 use Rattle.cp_words.specs.Limits.{Bounds}
 use Rattle.cp_frame.specs.declared.mode.Mode.{Mode}
 use Rattle.cp_frame.specs.declared.fault.FrameFault.{FrameFault}
@@ -59,3 +60,13 @@ abbrev pub RefusesPiece : Bounds → frames.Reader → List ℕ → frames.Reade
 RefusesPiece limits old piece new ms at reached refusal =
     ((fault : FrameFault) × (refusal ≡ refusals.Frame fault) × frames.Tells old piece new fault × (ms ≡ []))
     ⊎ ((given : List (ℕ × List (List ℕ))) × frames.Gives old piece new given × (IsMemory refusal ⊎ RefusesOf limits given ms at reached refusal))
+
+-- One frame is being read: what was read so far is what the reader of frames stands for.
+pub record ReadsOn (mode : Mode) (limits : Bounds) (old new : Option (List ℕ)) (failures failed : ℕ) (r : frames.Reader) : Type 0 where
+  pub same_mode : r.mode ≡ mode
+  pub same_limits : r.limits ≡ limits
+  pub reading : frames.IsReading r.state
+  pub counted : failed ≡ failures
+  pub bytes : List ℕ
+  pub consumed : Consumes old new bytes
+  pub stands : frames.StandsFor r bytes

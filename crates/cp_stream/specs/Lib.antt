@@ -4,3 +4,4 @@ pub mod Stream
 pub mod Reader
 pub mod Kept
 pub mod Answers
+pub mod Read

@@ -3,6 +3,7 @@
 #![tactic(auto)]
 
 mod fault;
+mod read;
 mod reader;
 mod status;
 mod tap;
@@ -11,6 +12,7 @@ mod view;
 pub use cp_frame::Mode;
 pub use cp_words::Limits;
 pub use fault::{Refusal, StreamFault};
+pub use read::{read_message, read_segments};
 pub use reader::MessageReader;
 pub use tap::Tap;
 pub use view::view_of;

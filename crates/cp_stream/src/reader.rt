@@ -119,21 +119,40 @@ impl Model for MessageReader {
 
 impl MessageReader {
     ghost use Rattle.std.specs.Prelude.{◌≡◌, OnOk, IfOk, IfErr, []};
-    ghost use Rattle.cp_frame.specs.declared.mode.Mode.TheVariants.{Plain};
+    ghost use Rattle.cp_frame.specs.declared.mode.Mode.TheVariants.{Plain, Packed};
+    ghost use Rattle.cp_stream.specs.declared.status.Status.TheVariants.{Reading};
+    ghost use Rattle.cp_stream.specs.Kept.{seen};
     ghost use Rattle.cp_stream.specs.Reader.{StandsFor, Gives, Tells, EndsWell, TellsAtEnd, new_reader};
+
+    /// A reader over one of frames.
+    fn over(alloc: Global, limits: Limits, frames: FrameReader) -> MessageReader
+        requires { frames.limits ≡ limits }
+        ensures { result ≡ seen Reading frames 0 }
+    {
+        MessageReader {
+            alloc,
+            limits,
+            frames,
+            status: Status::Reading,
+            at: 0,
+        }
+    }
 
     /// A reader of a stream in the plain form, of which nothing has come.
     pub fn plain(alloc: Global, limits: Limits) -> MessageReader
         ensures fresh { result ≡ new_reader Plain limits }
         ensures stands { StandsFor result [] }
     {
-        MessageReader {
-            alloc,
-            limits,
-            frames: FrameReader::plain(alloc, limits),
-            status: Status::Reading,
-            at: 0,
-        }
+        MessageReader::over(alloc, limits, FrameReader::plain(alloc, limits))
+    }
+
+    /// A reader of a stream in the packed form (encoding specification, "Packing"), of which nothing
+    /// has come.
+    pub fn packed(alloc: Global, limits: Limits) -> MessageReader
+        ensures fresh { result ≡ new_reader Packed limits }
+        ensures stands { StandsFor result [] }
+    {
+        MessageReader::over(alloc, limits, FrameReader::packed(alloc, limits))
     }
 
     /// Reads the next piece of the stream. Gives each message whose frame's last byte it brings, in

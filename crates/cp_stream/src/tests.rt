@@ -31,6 +31,11 @@ const TWO_SEGMENTS: [u8; 56] = [
     0x07, 0x00, 0x00, 0x00, 0x00, 0x00, 0x00, 0x00,
 ];
 
+/// `FINISH` packed.
+const PACKED: [u8; 11] = [
+    0x10, 0x04, 0x50, 0x01, 0x01, 0x01, 0x04, 0x10, 0x01, 0x01, 0x07,
+];
+
 /// A frame whose root reaches past its segment.
 const SHORT_ROOT: [u8; 16] = [
     0x00, 0x00, 0x00, 0x00, 0x01, 0x00, 0x00, 0x00, 0x00, 0x00, 0x00, 0x00, 0x01, 0x00, 0x01, 0x00,
@@ -262,4 +267,116 @@ fn a_tap_counts(rt: HostRuntime) {
     assert!(rt; tap.flush().is_ok());
     assert_eq!(rt; tap.failures(), 2);
     assert_eq!(rt; tap.into_inner().call, 5);
+}
+
+#[test]
+fn packed_messages_come_byte_by_byte(rt: HostRuntime) -> Result<(), Fail> {
+    let mut reader = MessageReader::packed(rt.alloc(), Limits::standard());
+    for i in 0..22 {
+        let found = feed(rt.alloc(), &mut reader, &[PACKED[i % 11]])?;
+        assert_eq!(rt; found.len(), (i % 11) / 10);
+    }
+    assert_eq!(rt; reader.finish(), Ok(()));
+    assert_eq!(rt;
+        told(&mut reader, &[0, 3]),
+        Some(at(22, Refusal::Frame(FrameFault::RunPastFrame)))
+    );
+    Ok(())
+}
+
+/// A device of known bytes that fails once, at one of its calls.
+#[derive(Drop)]
+struct Source<'a> {
+    bytes: &'a [u8],
+    call: u64,
+    fails_at: u64,
+}
+
+impl<'a> Read for Source<'a> {
+    fn read(&mut self, buf: &mut [u8]) -> std::io::Result<usize> {
+        self.call = self.call.wrapping_add(1);
+        if self.call == self.fails_at {
+            return Err(std::io::ErrorKind::Interrupted.into());
+        }
+        self.bytes.read(buf)
+    }
+}
+
+/// A tap of a device that fails at that call.
+fn tap_of(bytes: &[u8], fails_at: u64) -> Tap<Source<'_>> {
+    Tap::new(Source {
+        bytes,
+        call: 0,
+        fails_at,
+    })
+}
+
+/// Reads a message, and says whether there is one.
+fn read(alloc: Global, from: &mut Tap<Source>, mode: Mode) -> Result<bool, StreamFault> {
+    Ok(read_message(alloc, from, mode, Limits::standard())?.is_some())
+}
+
+#[test]
+fn exactly_one_frame_is_read(rt: HostRuntime) -> Result<(), Fail> {
+    let alloc = rt.alloc();
+    for (mode, frame) in [
+        (Mode::Plain, FINISH.as_slice()),
+        (Mode::Packed, PACKED.as_slice()),
+        (Mode::Plain, TWO_SEGMENTS.as_slice()),
+    ] {
+        let mut stream = frame.to_vec(alloc)?;
+        stream.extend_from_slice(frame)?;
+        let mut from = tap_of(&stream, 0);
+        assert_eq!(rt; read(alloc, &mut from, mode), Ok(true));
+        let rest = from.into_inner().bytes;
+        assert_eq!(rt; rest, frame);
+        let mut from = tap_of(rest, 0);
+        assert_eq!(rt; read(alloc, &mut from, mode), Ok(true));
+        assert_eq!(rt; read(alloc, &mut from, mode), Ok(false));
+        for length in 1..frame.len() {
+            let mut from = tap_of(&frame[..length], 0);
+            let truncated = at(0, Refusal::Frame(FrameFault::Truncated));
+            assert_eq!(rt; read(alloc, &mut from, mode), Err(truncated));
+        }
+    }
+    Ok(())
+}
+
+#[test]
+fn a_device_may_fail_at_each_call(rt: HostRuntime) -> Result<(), Fail> {
+    let alloc = rt.alloc();
+    for (mode, frame) in [
+        (Mode::Plain, FINISH.as_slice()),
+        (Mode::Packed, PACKED.as_slice()),
+    ] {
+        for call in 1..100 {
+            let mut from = tap_of(frame, call);
+            let found = read(alloc, &mut from, mode);
+            if from.failures() == 0 {
+                assert_eq!(rt; found, Ok(true));
+                continue;
+            }
+            assert_eq!(rt; found, Err(StreamFault::Device));
+            assert_eq!(rt; from.failures(), 1);
+        }
+    }
+    Ok(())
+}
+
+#[test]
+fn what_is_read_is_refused_at_0(rt: HostRuntime) -> Result<(), Fail> {
+    let rows = [
+        (&[0xff; 4][..], Refusal::Frame(FrameFault::TooManySegments)),
+        (&SHORT_ROOT[..], OUT_OF_BOUNDS),
+        (&FINISH_LIST[..], NO_STRUCT),
+    ];
+    for (bytes, refusal) in rows {
+        let mut stream = bytes.to_vec(rt.alloc())?;
+        stream.extend_from_slice(&[0; 8])?;
+        let mut from = tap_of(&stream, 0);
+        let found = read(rt.alloc(), &mut from, Mode::Plain);
+        assert_eq!(rt; found, Err(at(0, refusal)));
+        assert!(rt; from.into_inner().bytes.len() >= 4);
+    }
+    Ok(())
 }

@@ -1,0 +1,55 @@
+-- What is read of a reader whose bytes are known, frame by frame.
+use Rattle.std.specs.Prelude.{◌≡◌, ◌≢◌, ◌⊎◌, ℕ, ◌+◌, ◌%◌, ◌^◌, List, [], ◌++◌, Option, Some, None, Result, Ok, Err}
+use Rattle.std.specs.Io.KnownBytes.{Consumes, IsAtEnd}
+use Rattle.cp_words.specs.Limits.{Bounds}
+use Rattle.cp_frame.specs.declared.mode.Mode.{Mode}
+use Rattle.cp_frame.specs.declared.fault.FrameFault.{FrameFault}
+use Rattle.cp_frame.specs.declared.fault.FrameFault.TheVariants as frames
+use Rattle.cp_frame.specs.Frame.{Frame}
+use Rattle.cp_frame.specs.Stream as streams
+use Rattle.cp_rpc.specs.declared.message.Message.{Message}
+use Rattle.cp_stream.specs.declared.fault.Refusal.{Refusal}
+use Rattle.cp_stream.specs.declared.fault.Refusal.TheVariants as refusals
+use Rattle.cp_stream.specs.declared.fault.StreamFault.{StreamFault}
+use Rattle.cp_stream.specs.declared.fault.StreamFault.TheVariants as faults
+use Rattle.cp_stream.specs.Stream.{IsFrameOf, HoldsNone}
+use Rattle.cp_stream.specs.Reader.{IsMemory}
+
+-- exactly these bytes were read, and nothing is left
+abbrev pub ReadsAll : Option (List ℕ) → Option (List ℕ) → List ℕ → Type 0
+ReadsAll old new b = Consumes old new b × IsAtEnd new
+
+-- one frame's bytes were read; or none, at the end of the reader's bytes
+abbrev pub ReadsFrame : Mode → Bounds → Option (List ℕ) → Option (List ℕ) → Option (List (List ℕ)) → Type 0
+ReadsFrame mode limits old new (Some S) = (b : List ℕ) × Consumes old new b × Frame mode limits S b
+ReadsFrame mode limits old new None = ReadsAll old new []
+
+-- one frame's bytes were read, and it holds the message; or none, at the end of the reader's bytes
+abbrev pub ReadsMessage : Mode → Bounds → Option (List ℕ) → Option (List ℕ) → Option Message → Type 0
+ReadsMessage mode limits old new (Some m) = (b : List ℕ) × Consumes old new b × IsFrameOf mode limits b m
+ReadsMessage mode limits old new None = ReadsAll old new []
+
+-- why bytes that were read are no frame: they end inside one; or memory ran out; or they have the fault, whatever follows
+abbrev pub IsNoFrame : Mode → Bounds → Option (List ℕ) → List ℕ → FrameFault → Type 0
+IsNoFrame mode limits new b frames.Truncated = (b ≢ []) × streams.Open mode limits b × IsAtEnd new
+IsNoFrame mode limits new b frames.OutOfMemory = Unit {0}
+IsNoFrame mode limits new b fault = streams.HasFault mode limits b fault
+
+-- the refusal is one of framing
+abbrev pub RefusesFrame : Mode → Bounds → Option (List ℕ) → List ℕ → Refusal → Type 0
+RefusesFrame mode limits new b (refusals.Frame fault) = IsNoFrame mode limits new b fault
+RefusesFrame mode limits new b _ = ⊥
+
+-- the refusal is one of framing, or the bytes are a frame that holds no message; or memory ran out
+abbrev pub RefusesMessage : Mode → Bounds → Option (List ℕ) → List ℕ → Refusal → Type 0
+RefusesMessage mode limits new b refusal =
+    IsMemory refusal ⊎ (RefusesFrame mode limits new b refusal ⊎ ((S : List (List ℕ)) × Frame mode limits S b × HoldsNone limits S refusal))
+
+-- one call of the device failed, and no other
+abbrev pub FailedOnce : ℕ → ℕ → Type 0
+FailedOnce old new = new ≡ (old + 1) % 2 ^ 64
+
+-- A fault is told at 0, and what was read is refused for it; or the device failed in this call, as its tap counts.
+abbrev pub StopsAt : (List ℕ → Refusal → Type 0) → Option (List ℕ) → Option (List ℕ) → ℕ → ℕ → StreamFault → Type 0
+StopsAt why old new failures failed (faults.Refused at refusal) = (at ≡ 0) × (failed ≡ failures) × (b : List ℕ) × Consumes old new b × why b refusal
+StopsAt why old new failures failed faults.Device = FailedOnce failures failed × (b : List ℕ) × Consumes old new b
