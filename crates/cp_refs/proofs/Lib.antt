@@ -1,0 +1,4 @@
+pub mod Paths
+pub mod Walks
+pub mod TicketLemmas
+pub mod Queueing

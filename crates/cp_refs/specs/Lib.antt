@@ -1,0 +1,9 @@
+pub mod At
+pub mod Values
+pub mod Route
+pub mod Steps
+pub mod Ending
+pub mod Paces
+pub mod Tickets
+pub mod Queues
+pub mod Waiting

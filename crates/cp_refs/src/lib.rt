@@ -1,0 +1,23 @@
+//! Capabilities as an application names them, what promises, imports, answers and questions came
+//! to, where a call goes, and the calls that wait (rpc.capnp, level 1).
+#![tactic(auto)]
+
+mod call;
+mod cap;
+mod entries;
+mod outcome;
+mod route;
+mod tickets;
+mod values;
+mod waiting;
+mod walk;
+
+pub use call::{Held, Origin, Request};
+pub use cap::{Cap, Caps, Path, PromiseId};
+pub use outcome::{Outcome, at};
+pub use route::{Gate, Route};
+pub use values::{Question, QuestionKind, Values};
+pub use waiting::Waiting;
+
+#[cfg(test)]
+mod tests;

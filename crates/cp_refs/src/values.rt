@@ -1,0 +1,256 @@
+//! What promises, imports, answers and questions came to.
+
+ghost use Rattle.std.specs.Prelude.{◌≡◌, IfOk};
+ghost use Rattle.cp_refs.specs.At.{cap_at};
+ghost use Rattle.cp_refs.specs.Route.{open_way};
+ghost use Rattle.cp_refs.specs.Steps.{IsStepOf};
+
+use crate::cap::{Cap, Path, PromiseId};
+use crate::entries::Entries;
+use crate::outcome::{Outcome, cap_along, failed, null_capability};
+use crate::route::{Gate, Route};
+use crate::walk::{Pace, Walk};
+use std::alloc::{AllocError, Global};
+use std::marker::Model;
+
+/// How a question was asked.
+#[derive(Clone, Copy, PartialEq, Eq, Debug)]
+pub enum QuestionKind {
+    /// Its call didn't go out at once.
+    Local,
+    /// Its call was sent at once.
+    Wire,
+}
+
+/// A question, and what it came to.
+#[derive(Drop)]
+pub struct Question {
+    pub kind: QuestionKind,
+    /// `None` while it is open.
+    pub outcome: Option<Outcome>,
+}
+
+/// What each promise, import, answer and question came to. Contracts see it as four maps.
+#[derive(Drop)]
+pub struct Values {
+    alloc: Global,
+    promises: Entries<Option<Cap>>,
+    imports: Entries<Option<Cap>>,
+    answers: Entries<Option<Outcome>>,
+    questions: Entries<Question>,
+}
+
+impl Model for Values {
+    ghost use Rattle.cp_refs.specs.Values.{ValueMaps, values_code};
+
+    ghost Value = { ValueMaps };
+
+    ghost coded = { values_code };
+
+    ghost view = { λ v. record { promises = v.promises; imports = v.imports; answers = v.answers; questions = v.questions } };
+}
+
+impl Values {
+    ghost use Rattle.std.specs.Prelude.{◌≡◌, ◌≢◌, Option, IfOk, OnOk, OnErr, option_copied};
+    ghost use Rattle.std.specs.FinMap as map;
+    ghost use Rattle.cp_refs.specs.Route.{missing, way, promise_way, question_way, Routes, HasRoute};
+    ghost use Rattle.cp_refs.specs.Steps.{StepsFrom};
+
+    /// Nothing is told yet.
+    pub fn new(alloc: Global) -> Values
+        ensures { result ≡ record { promises = map.empty; imports = map.empty; answers = map.empty; questions = map.empty } }
+    {
+        Values {
+            alloc,
+            promises: Entries::new(alloc),
+            imports: Entries::new(alloc),
+            answers: Entries::new(alloc),
+            questions: Entries::new(alloc),
+        }
+    }
+
+    /// What a promise came to.
+    pub fn promise(&self, id: PromiseId) -> Option<&Option<Cap>>
+        ensures { option_copied result ≡ map.get self.now.promises id }
+    {
+        self.promises.get(id as u64)
+    }
+
+    /// What an import came to.
+    pub fn import(&self, id: u32) -> Option<&Option<Cap>>
+        ensures { option_copied result ≡ map.get self.now.imports id }
+    {
+        self.imports.get(id as u64)
+    }
+
+    /// What an answer came to.
+    pub fn answer(&self, id: u32) -> Option<&Option<Outcome>>
+        ensures { option_copied result ≡ map.get self.now.answers id }
+    {
+        self.answers.get(id as u64)
+    }
+
+    /// What a question came to.
+    pub fn question(&self, id: u32) -> Option<&Question>
+        ensures { option_copied result ≡ map.get self.now.questions id }
+    {
+        self.questions.get(id as u64)
+    }
+
+    /// Puts what a promise came to.
+    pub fn put_promise(&mut self, id: PromiseId, value: Option<Cap>) -> Result<(), AllocError>
+        ensures put { OnOk result (self.new ≡ record self.old { promises = map.insert self.old.promises id value }) }
+        ensures err { OnErr result (self.new ≡ self.old) }
+    {
+        self.promises.put(id as u64, value)
+    }
+
+    /// Puts what an import came to.
+    pub fn put_import(&mut self, id: u32, value: Option<Cap>) -> Result<(), AllocError>
+        ensures put { OnOk result (self.new ≡ record self.old { imports = map.insert self.old.imports id value }) }
+        ensures err { OnErr result (self.new ≡ self.old) }
+    {
+        self.imports.put(id as u64, value)
+    }
+
+    /// Puts what an answer came to.
+    pub fn put_answer(&mut self, id: u32, outcome: Option<Outcome>) -> Result<(), AllocError>
+        ensures put { OnOk result (self.new ≡ record self.old { answers = map.insert self.old.answers id outcome }) }
+        ensures err { OnErr result (self.new ≡ self.old) }
+    {
+        self.answers.put(id as u64, outcome)
+    }
+
+    /// Puts a question and what it came to.
+    pub fn put_question(&mut self, id: u32, question: Question) -> Result<(), AllocError>
+        ensures put { OnOk result (self.new ≡ record self.old { questions = map.insert self.old.questions id question }) }
+        ensures err { OnErr result (self.new ≡ self.old) }
+    {
+        self.questions.put(id as u64, question)
+    }
+
+    /// Takes a promise out.
+    pub fn remove_promise(&mut self, id: PromiseId) -> Option<Option<Cap>>
+        ensures value { result ≡ map.get self.old.promises id }
+        ensures removed { self.new ≡ record self.old { promises = map.remove self.old.promises id } }
+    {
+        self.promises.remove(id as u64)
+    }
+
+    /// Takes an import out.
+    pub fn remove_import(&mut self, id: u32) -> Option<Option<Cap>>
+        ensures value { result ≡ map.get self.old.imports id }
+        ensures removed { self.new ≡ record self.old { imports = map.remove self.old.imports id } }
+    {
+        self.imports.remove(id as u64)
+    }
+
+    /// Takes an answer out.
+    pub fn remove_answer(&mut self, id: u32) -> Option<Option<Outcome>>
+        ensures value { result ≡ map.get self.old.answers id }
+        ensures removed { self.new ≡ record self.old { answers = map.remove self.old.answers id } }
+    {
+        self.answers.remove(id as u64)
+    }
+
+    /// Takes a question out.
+    pub fn remove_question(&mut self, id: u32) -> Option<Question>
+        ensures value { result ≡ map.get self.old.questions id }
+        ensures removed { self.new ≡ record self.old { questions = map.remove self.old.questions id } }
+    {
+        self.questions.remove(id as u64)
+    }
+
+    /// Where a call on a capability goes. Promises and questions that came to something are
+    /// followed.
+    pub fn route(&self, cap: &Cap) -> Result<Route, AllocError>
+        // The way ends, and what it names is there.
+        requires { HasRoute self.now cap.now }
+        ensures { IfOk result (λ r. Routes self.now cap.now r) }
+    {
+        let mut walk = Walk::new(self, cap);
+        loop {
+            match walk.on()? {
+                Pace::Ends(route) => return Ok(route),
+                Pace::Leads(next) => walk = next,
+            }
+        }
+    }
+
+    /// One step on a capability's way.
+    pub(crate) fn step<'a>(&'a self, cap: &'a Cap) -> Result<Step<'a>, AllocError>
+        requires { way self.now cap.now ≢ missing }
+        ensures { IfOk result (StepsFrom self.now cap.now) }
+    {
+        Ok(match cap {
+            Cap::None => Step::Ends(Route::Fail(null_capability(self.alloc)?)),
+            Cap::Object(object) => Step::Ends(Route::Deliver(*object)),
+            Cap::Promise(id) => self.step_of_promise(*id),
+            Cap::Import(id) => Step::Ends(Route::Import(*id)),
+            Cap::Pipelined(id, path) => self.step_of_question(*id, path)?,
+            Cap::Broken(exception) => Step::Ends(Route::Fail(exception.copy(self.alloc)?)),
+        })
+    }
+
+    /// The step of a promise.
+    fn step_of_promise(&self, id: PromiseId) -> Step<'_>
+        requires { promise_way id (map.get self.now.promises id) ≢ missing }
+        ensures { StepsFrom self.now (Cap.Promise id) result }
+    {
+        match self.promise(id) {
+            Some(Some(value)) => Step::Leads(value),
+            Some(None) => Step::Ends(Route::Wait(Gate::Promise(id))),
+            None => unreachable!(),
+        }
+    }
+
+    /// The step of what a question gives at a path.
+    fn step_of_question(&self, id: u32, path: &Path) -> Result<Step<'_>, AllocError>
+        requires { question_way id path.now (map.get self.now.questions id) ≢ missing }
+        ensures { IfOk result (StepsFrom self.now (Cap.Pipelined id path.now)) }
+    {
+        let Some(question) = self.question(id) else {
+            unreachable!()
+        };
+        match &question.outcome {
+            None => Ok(Step::Ends(open_route(self.alloc, question.kind, id, path)?)),
+            Some(outcome) => step_of_outcome(self.alloc, outcome, path.fields()),
+        }
+    }
+}
+
+/// The step of what an outcome gives at a path.
+fn step_of_outcome<'a>(
+    alloc: Global,
+    outcome: &'a Outcome,
+    path: &[u16],
+) -> Result<Step<'a>, AllocError>
+    ensures { IfOk result (IsStepOf (cap_at outcome.now path.now)) }
+{
+    match outcome {
+        Outcome::Results { content, caps } => match cap_along(content, caps, path) {
+            Some(cap) => Ok(Step::Leads(cap)),
+            None => Ok(Step::Ends(Route::Fail(null_capability(alloc)?))),
+        },
+        Outcome::Failed(exception) => Ok(Step::Ends(Route::Fail(exception.copy(alloc)?))),
+        Outcome::Canceled => Ok(Step::Ends(Route::Fail(failed(alloc, "canceled")?))),
+    }
+}
+
+/// Where a call goes on what an open question will give.
+fn open_route(alloc: Global, kind: QuestionKind, id: u32, path: &Path) -> Result<Route, AllocError>
+    ensures { IfOk result (λ r. r ≡ open_way kind id path.now) }
+{
+    let path = path.copy(alloc)?;
+    Ok(match kind {
+        QuestionKind::Local => Route::Wait(Gate::Question(id, path)),
+        QuestionKind::Wire => Route::Pipe(id, path),
+    })
+}
+
+/// What is known of a capability by one look: its route, or that it stands for another one.
+#[derive(Drop)]
+pub(crate) enum Step<'a> {
+    Ends(Route),
+    Leads(&'a Cap),
+}

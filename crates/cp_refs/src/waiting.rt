@@ -1,0 +1,147 @@
+//! The calls that wait.
+
+ghost use Rattle.std.specs.Prelude.{◌≡◌, ◌||◌, ℕ, false, IsTrue, OnOk, OnErr};
+ghost use Rattle.std.specs.FinMap as map;
+ghost use Rattle.std.specs.FinSet as set;
+ghost use Rattle.cp_refs.specs.Queues.{key_of, queue_of, is_queued};
+
+use crate::call::Held;
+use crate::entries::Entries;
+use crate::route::Gate;
+use crate::tickets::Tickets;
+use std::alloc::{AllocError, Global};
+use std::marker::Model;
+
+/// The calls that wait, and which of them may leave. Contracts see them as one set of calls, and
+/// the tickets of those whose gate was ended.
+#[derive(Drop)]
+pub struct Waiting {
+    alloc: Global,
+    calls: Entries<Held>,
+    /// The tickets at each gate that wasn't ended, by the gate's key.
+    queues: Entries<Tickets>,
+    ended: Tickets,
+}
+
+impl Model for Waiting {
+    ghost use Rattle.cp_refs.specs.Waiting.{Waits, waits_code};
+    ghost use Rattle.cp_refs.specs.Queues.{AreQueued};
+
+    ghost Value = { Waits };
+
+    ghost coded = { waits_code };
+
+    ghost view = { λ w. record { calls = w.calls; ended = w.ended } };
+
+    ghost invariant = { λ w. AreQueued w.calls w.queues w.ended };
+}
+
+impl Waiting {
+    ghost use Rattle.std.specs.Prelude.{◌≡◌, None, IfSome, IfNone, OnOk, OnErr, option_copied};
+    ghost use Rattle.std.specs.FinMap as map;
+    ghost use Rattle.std.specs.FinSet as set;
+    ghost use Rattle.cp_refs.specs.Waiting.{Ends, Leaves};
+
+    /// No calls.
+    pub fn new(alloc: Global) -> Waiting
+        ensures { result ≡ record { calls = map.empty; ended = set.empty } }
+    {
+        Waiting {
+            alloc,
+            calls: Entries::new(alloc),
+            queues: Entries::new(alloc),
+            ended: Tickets::new(alloc),
+        }
+    }
+
+    /// The call with this ticket.
+    pub fn get(&self, ticket: u64) -> Option<&Held>
+        ensures { option_copied result ≡ map.get self.now.calls ticket }
+    {
+        self.calls.get(ticket)
+    }
+
+    /// Takes in a call, whose ticket no other one has.
+    pub fn hold(&mut self, held: Held) -> Result<(), AllocError>
+        requires { map.get self.old.calls held.ticket ≡ None }
+        ensures held { OnOk result (self.new ≡ record self.old { calls = map.insert self.old.calls held.ticket held }) }
+        ensures err { OnErr result (self.new ≡ self.old) }
+    {
+        let ticket = held.ticket;
+        let key = gate_key(&held.gate);
+        self.calls.put(ticket, held)?;
+        if let Err(error) = queue_up(self.alloc, &mut self.queues, key, ticket) {
+            drop(self.calls.remove(ticket));
+            return Err(error);
+        }
+        Ok(())
+    }
+
+    /// Ends a gate: the calls that wait at it may leave. An answer and a question end at every path.
+    pub fn end(&mut self, gate: &Gate) -> Result<(), AllocError>
+        ensures ended { OnOk result (Ends self.old gate.now self.new) }
+        ensures err { OnErr result (self.new ≡ self.old) }
+    {
+        end_queue(&mut self.queues, &mut self.ended, gate_key(gate))?;
+        Ok(())
+    }
+
+    /// Takes out, of the calls whose gate was ended, the one with the lowest ticket. `None` says
+    /// that there is none of them.
+    pub fn next(&mut self) -> Option<Held>
+        ensures left { IfSome result (λ call. Leaves self.old call self.new) }
+        ensures none { IfNone result ((self.old.ended ≡ set.empty) × (self.new ≡ self.old)) }
+    {
+        let ticket = self.ended.pop()?;
+        self.calls.remove(ticket)
+    }
+}
+
+/// The number of a gate, whatever its path.
+fn gate_key(gate: &Gate) -> u64
+    ensures { result ≡ key_of gate.now }
+{
+    match gate {
+        Gate::Answer(id, _) => 4 * (*id as u64),
+        Gate::Promise(id) => 4 * (*id as u64) + 1,
+        Gate::Question(id, _) => 4 * (*id as u64) + 2,
+        Gate::Embargo(id) => 4 * (*id as u64) + 3,
+    }
+}
+
+/// Puts a ticket into the queue of this number.
+fn queue_up(
+    alloc: Global,
+    queues: &mut Entries<Tickets>,
+    key: u64,
+    ticket: u64,
+) -> Result<(), AllocError>
+    requires { is_queued queues.old key ticket ≡ false }
+    ensures queued { OnOk result (queues.new ≡ map.insert queues.old key (set.insert (queue_of queues.old key) ticket)) }
+    ensures err { OnErr result (queues.new ≡ queues.old) }
+{
+    match queues.get_mut(key) {
+        Some(queue) => queue.insert(ticket),
+        None => {
+            let mut queue = Tickets::new(alloc);
+            queue.insert(ticket)?;
+            queues.put(key, queue)
+        }
+    }
+}
+
+/// Moves the tickets of the queue of this number to those whose gate was ended.
+fn end_queue(queues: &mut Entries<Tickets>, ended: &mut Tickets, key: u64) -> Result<(), AllocError>
+    requires { (t : ℕ) → IsTrue (set.contains ended.old t) → is_queued queues.old key t ≡ false }
+    ensures moved { OnOk result ((t : ℕ) → set.contains ended.new t ≡ (set.contains ended.old t || is_queued queues.old key t)) }
+    ensures gone { OnOk result (queues.new ≡ map.remove queues.old key) }
+    ensures err { OnErr result (queues.new ≡ queues.old) }
+    ensures ended_err { OnErr result (ended.new ≡ ended.old) }
+{
+    let Some(queue) = queues.get_mut(key) else {
+        return Ok(());
+    };
+    ended.append(queue)?;
+    drop(queues.remove(key));
+    Ok(())
+}
