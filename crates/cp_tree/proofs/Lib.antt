@@ -25,3 +25,4 @@ pub mod Alone
 pub mod PackedHolds
 pub mod Later
 pub mod Placing
+pub mod Laid
