@@ -26,3 +26,5 @@ pub mod PackedHolds
 pub mod Later
 pub mod Placing
 pub mod Laid
+pub mod FitWords
+pub mod BoundedTrees
