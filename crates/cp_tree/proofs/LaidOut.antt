@@ -2,19 +2,20 @@
 use Rattle.std.proofs.Common.{◌≡◌, ℕ, zero, suc, ◌^◌, ◌<◌, ◌≤◌, max, List, [], ◌∷◌, length, All, refl, sym, ap, subst, ◌∙◌, arith}
 use Rattle.std.proofs.lemmas.List.{length_push}
 use Rattle.std.proofs.lemmas.List.Elements.{All-from_get_or}
+use Rattle.cp_words.specs.Limits.{Bounds}
 use Rattle.cp_tree.specs.declared.sheet.Room.{Room}
 use Rattle.cp_tree.specs.Node.{Node}
 use Rattle.cp_tree.specs.Aims.{segment}
 use Rattle.cp_tree.specs.Layout.{Layout, Built}
 use Rattle.cp_tree.specs.Shaped.{AllFit, Shaped}
 use Rattle.cp_tree.specs.Sheets.{Written, lists}
-use Rattle.cp_tree.specs.Writes.{laid_out}
+use Rattle.cp_tree.specs.Writes.{room_for, laid_out}
 use Rattle.cp_tree.proofs.Sheets.{end-last, one_blank}
 use Rattle.cp_tree.proofs.Keeps.{at}
 use Rattle.cp_tree.proofs.Later.{Later, filled}
 use Rattle.cp_tree.proofs.Laid.{lays_tree}
 use Rattle.cp_tree.proofs.FitWords.{Bounded}
-use Rattle.cp_tree.proofs.OneSegment.{same_tree}
+use Rattle.cp_tree.proofs.AnyWidth.{same_tree}
 use Rattle.cp_tree.proofs.BoundedTrees.{bounded_tree}
 
 -- one blank word
@@ -54,10 +55,16 @@ laid_out_is_layout words segments whole t few shaped within =
       fit = all_fit room t few shaped within;
     }
 
--- what is written into one segment, whatever room it was given
-pub written_is_built : (words whole : ℕ) (t : Node) (ws : List ℕ) → Shaped t → ws ∷ [] ≡ lists (laid_out (record { words = words; segments = 1; whole = whole }) t) → (laid_out (record { words = words; segments = 1; whole = whole }) t).words ≤ 67108864 → Built t ws
-written_is_built words whole t ws shaped is within =
-    let room : Room = record { words = max 1 (length ws); segments = 1; whole = whole } in
-    let same : laid_out (record { words = words; segments = 1; whole = whole }) t ≡ laid_out room t = same_tree (record { words = words; segments = 1; whole = whole }) room (omega arith) (omega arith) t 0 0 first in
-    subst (λ S. Layout S (record { words = length ws; segments = 1 }) t) (sym (is ∙ ap lists same))
-    (laid_out_is_layout (length ws) 1 whole t (omega arith) shaped (omega (arith, within, ap (λ (W : Written). W.words) same)))
+-- what is written into segments of so many words, and into one
+pub written_is_layout : (max_words : ℕ) (limits : Bounds) (t : Node) (F : Written) → limits.segments ≤ 512 → Shaped t → F ≡ laid_out (room_for (max 1 max_words) limits.segments limits) t → F.words ≤ 67108864
+    → Layout (lists F) (record { words = max_words; segments = limits.segments }) t
+written_is_layout max_words limits t F few shaped is within =
+    subst (λ G. Layout (lists G) (record { words = max_words; segments = limits.segments }) t) (sym is)
+    (laid_out_is_layout max_words limits.segments limits.frame_words t few shaped (omega (arith, within, ap (λ (G : Written). G.words) is)))
+
+pub written_is_built : (limits : Bounds) (t : Node) (F : Written) (ws : List ℕ) → Shaped t → F ≡ laid_out (room_for limits.frame_words 1 limits) t → ws ∷ [] ≡ lists F → F.words ≤ 67108864 → Built t ws
+written_is_built limits t F ws shaped is one within =
+    let room : Room = record { words = max 1 (length ws); segments = 1; whole = limits.frame_words } in
+    let same : F ≡ laid_out room t = is ∙ same_tree (room_for limits.frame_words 1 limits) room (omega arith) (omega arith) t 0 0 first in
+    subst (λ S. Layout S (record { words = length ws; segments = 1 }) t) (sym (one ∙ ap lists same))
+    (laid_out_is_layout (length ws) 1 limits.frame_words t (omega arith) shaped (omega (arith, within, ap (λ (G : Written). G.words) same)))

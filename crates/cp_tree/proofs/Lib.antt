@@ -28,5 +28,5 @@ pub mod Placing
 pub mod Laid
 pub mod FitWords
 pub mod BoundedTrees
-pub mod OneSegment
+pub mod AnyWidth
 pub mod LaidOut

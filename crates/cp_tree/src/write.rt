@@ -1,6 +1,7 @@
 //! Trees, written into segments.
 
 ghost use Rattle.std.specs.Prelude.{◌≡◌, ◌≤◌, ◌<◌, ◌∷◌, [], max, IfOk, IfErr};
+ghost use Rattle.cp_tree.specs.Layout.{Layout, Built};
 ghost use Rattle.cp_tree.specs.Node.{depth, cost};
 ghost use Rattle.cp_tree.specs.NodeOf.{node_of};
 ghost use Rattle.cp_tree.specs.Shaped.{Shaped};
@@ -44,6 +45,7 @@ fn lay_out(
     requires few { segments ≤ 512 }
     ensures written { IfOk result (λ w. written w ≡ laid_out (room_for words segments limits) (node_of tree.now)) }
     ensures fits { IfOk result (λ w. FitsIn limits (room_for words segments limits) (node_of tree.now)) }
+    ensures small { IfOk result (λ w. (written w).words ≤ 67108864) }
     ensures refused { IfErr result (IsWriteFaultOf limits (room_for words segments limits) (node_of tree.now)) }
 {
     let cost = cost_of(tree, limits)?;
@@ -73,6 +75,7 @@ pub fn write_segments(
     limits: Limits,
 ) -> Result<Segments, WriteFault>
     ensures written { IfOk result (λ s. s ≡ segments_for max_words limits object.now) }
+    ensures layout { IfOk result (λ s. Layout s (record { words = max_words; segments = limits.segments }) object.now) }
     ensures fits { IfOk result (λ s. FitsIn limits (room_for (max 1 max_words) limits.segments limits) object.now) }
     ensures refused { IfErr result (IsWriteFaultOf limits (room_for (max 1 max_words) limits.segments limits) object.now) }
 {
@@ -89,6 +92,7 @@ pub fn write_segments(
 /// words are more than a frame may have; B3 if memory runs out.
 pub fn write_root(alloc: Global, object: &Object, limits: Limits) -> Result<Vec<u64>, WriteFault>
     ensures written { IfOk result (λ v. v.items ∷ [] ≡ lists (laid_out (room_for limits.frame_words 1 limits) object.now)) }
+    ensures built { IfOk result (λ v. Built object.now v.items) }
     ensures fits { IfOk result (λ v. FitsIn limits (room_for limits.frame_words 1 limits) object.now) }
     ensures refused { IfErr result (IsWriteFaultOf limits (room_for limits.frame_words 1 limits) object.now) }
 {
