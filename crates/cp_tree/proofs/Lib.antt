@@ -23,3 +23,4 @@ pub mod Steps
 pub mod PointerWords
 pub mod Alone
 pub mod PackedHolds
+pub mod LayoutDenotes
