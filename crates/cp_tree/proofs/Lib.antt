@@ -24,3 +24,4 @@ pub mod PointerWords
 pub mod Alone
 pub mod PackedHolds
 pub mod LayoutDenotes
+pub mod SheetWords
