@@ -25,3 +25,4 @@ pub mod Alone
 pub mod PackedHolds
 pub mod LayoutDenotes
 pub mod SheetWords
+pub mod ReadBack

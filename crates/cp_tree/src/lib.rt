@@ -26,7 +26,7 @@ mod write;
 pub use cp_words::Limits;
 pub use draft::{Draft, DraftBody};
 pub use fault::{Place, TreeFault, WriteFault};
-pub use laws::layout_denotes;
+pub use laws::{layout_denotes, written_is_read};
 pub use measure::fits;
 pub use read::{read_counted, read_root};
 pub use tree::{Body, Tree};
