@@ -17,7 +17,7 @@ module _ (S : List (List ℕ)) where
   Within f = f.used ≤ length (segment S f.last)
 
   -- a body lies inside its segment, and what was filled before it does too
-  pub record Lies (p : ℕ) (s : ℕ) (k : Kind) (size : ℕ) (before : Filled) (s' start : ℕ) : Type 0 where
+  pub record Lies (s p : ℕ) (k : Kind) (size : ℕ) (before : Filled) (s' start : ℕ) : Type 0 where
     pub located : HasBody S s p k size s' start
     pub earlier : Within before
 
@@ -26,7 +26,7 @@ module _ (S : List (List ℕ)) where
     at_end (inl h) fits = subst (λ x. start ≤ length (segment S x)) (sym h.0) (omega (arith, h.1, fits))
     at_end (inr h) fits = omega (arith, h.1)
 
-    followed : s ≡ before.last → Follows S s p k size before s' start after → Within after → Lies p s k size before s' start
+    followed : s ≡ before.last → Follows S s p k size before s' start after → Within after → Lies s p k size before s' start
     followed same f fits =
         let room_for : before.used + size ≤ length (segment S before.last) = subst Within f.fills fits in
         record {
@@ -34,7 +34,7 @@ module _ (S : List (List ℕ)) where
           earlier = omega (arith, room_for);
         }
 
-    followed_pad : FollowsPad S s p k size before s' start after → Within after → Lies p s k size before s' start
+    followed_pad : FollowsPad S s p k size before s' start after → Within after → Lies s p k size before s' start
     followed_pad f fits =
         let room_for : before.used + 1 + size ≤ length (segment S before.last) = subst Within f.fills fits in
         record {
@@ -42,7 +42,7 @@ module _ (S : List (List ℕ)) where
           earlier = omega (arith, room_for);
         }
 
-    began : Begins S s p k size before s' start after → Within after → Lies p s k size before s' start
+    began : Begins S s p k size before s' start after → Within after → Lies s p k size before s' start
     began b fits =
         let room_for : 1 + size ≤ length (segment S (before.last + 1)) = subst Within b.fills fits in
         record {
@@ -50,7 +50,7 @@ module _ (S : List (List ℕ)) where
           earlier = omega (arith, b.ends);
         }
 
-    pub lies : Places S room s p k size before s' start after → Within after → Lies p s k size before s' start
+    pub lies : Places S room s p k size before s' start after → Within after → Lies s p k size before s' start
     lies (without_words none aims same end fills) fits =
         let earlier : Within before = subst Within fills fits in
         record {
