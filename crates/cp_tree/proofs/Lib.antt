@@ -22,3 +22,7 @@ pub mod Begins
 pub mod Steps
 pub mod PointerWords
 pub mod Alone
+pub mod PackedHolds
+pub mod LayoutDenotes
+pub mod SheetWords
+pub mod ReadBack
