@@ -23,6 +23,9 @@ pub mod Steps
 pub mod PointerWords
 pub mod Alone
 pub mod PackedHolds
+pub mod LayoutDenotes
+pub mod SheetWords
+pub mod ReadBack
 pub mod Later
 pub mod Placing
 pub mod Laid
