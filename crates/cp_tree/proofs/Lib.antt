@@ -33,3 +33,4 @@ pub mod FitWords
 pub mod BoundedTrees
 pub mod AnyWidth
 pub mod LaidOut
+pub mod Drafts

@@ -2,7 +2,7 @@
 
 use super::*;
 use crate::read::read_root;
-use crate::tree::Body;
+use crate::tree::{Body, Tree};
 use std::alloc::AllocError;
 use std::test::Fail;
 
