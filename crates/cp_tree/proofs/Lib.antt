@@ -23,3 +23,4 @@ pub mod Steps
 pub mod PointerWords
 pub mod Alone
 pub mod Drafts
+pub mod SheetWords
