@@ -1,6 +1,6 @@
 //! Trees, written into segments.
 
-ghost use Rattle.std.specs.Prelude.{◌≡◌, ◌≤◌, ◌<◌, ◌∷◌, [], max, IfOk, IfErr};
+ghost use Rattle.std.specs.Prelude.{◌≡◌, ◌≤◌, ◌<◌, ◌∷◌, [], max, sum, length, map, IfOk, IfErr};
 ghost use Rattle.cp_tree.specs.Layout.{Layout, Built};
 ghost use Rattle.cp_tree.specs.Node.{depth, cost};
 ghost use Rattle.cp_tree.specs.DraftOf.{draft_of};
@@ -79,6 +79,7 @@ pub fn write_draft(
     ensures written { IfOk result (λ s. s ≡ segments_for max_words limits (draft_of draft.now)) }
     ensures layout { IfOk result (λ s. Layout s (record { words = max_words; segments = limits.segments }) (draft_of draft.now)) }
     ensures fits { IfOk result (λ s. FitsIn limits (room_for (max 1 max_words) limits.segments limits) (draft_of draft.now)) }
+    ensures small { IfOk result (λ s. (length s ≤ limits.segments) × (sum (map length s) ≤ limits.frame_words)) }
     ensures refused { IfErr result (IsWriteFaultOf limits (room_for (max 1 max_words) limits.segments limits) (draft_of draft.now)) }
 {
     let words = if max_words == 0 { 1 } else { max_words };
@@ -99,6 +100,7 @@ pub fn write_segments(
     ensures written { IfOk result (λ s. s ≡ segments_for max_words limits object.now) }
     ensures layout { IfOk result (λ s. Layout s (record { words = max_words; segments = limits.segments }) object.now) }
     ensures fits { IfOk result (λ s. FitsIn limits (room_for (max 1 max_words) limits.segments limits) object.now) }
+    ensures small { IfOk result (λ s. (length s ≤ limits.segments) × (sum (map length s) ≤ limits.frame_words)) }
     ensures refused { IfErr result (IsWriteFaultOf limits (room_for (max 1 max_words) limits.segments limits) object.now) }
 {
     let draft = Draft::Lent(object.tree());
