@@ -1,8 +1,9 @@
 -- Elements of a list without pointers, and the words that hold them.
-use Rattle.std.proofs.Common.{◌≡◌, ℕ, zero, suc, ◌+◌, ◌-◌, ◌*◌, ◌/◌, ◌^◌, ◌<◌, ◌≤◌, ◌++◌, min, Bool, true, false, List, [], ◌∷◌, length, map, drop, take, get_or, sym, ap, ◌∙◌, arith}
-use Rattle.std.proofs.Math.Nat.{pow-succ', one-le-pow, mul-le-mul_left, mul-suc}
-use Rattle.std.proofs.lemmas.List.{append_assoc, get_or-drop, length-drop, take_min, take-map, drop-map}
+use Rattle.std.proofs.Common.{◌≡◌, ℕ, zero, suc, ◌+◌, ◌-◌, ◌*◌, ◌/◌, ◌^◌, ◌<◌, ◌≤◌, ◌++◌, min, Bool, true, false, List, [], ◌∷◌, length, map, drop, take, get_or, refl, sym, ap, ◌∙◌, arith}
+use Rattle.std.proofs.Math.Nat.{pow-succ', one-le-pow, mul-le-mul_left, mul-suc, mul_comm}
+use Rattle.std.proofs.lemmas.List.{append_assoc, get_or-drop, length-drop, take_min, take_all, take-map, drop-drop, drop-map}
 use Rattle.std.specs.List.{range_with_len}
+use Rattle.std.specs.Simd.{first_chunks}
 use Rattle.std.proofs.lemmas.List.{length-map}
 use Rattle.std.proofs.lemmas.List.FromFn.{length-range_with_len, map-range_with_len_more}
 use Rattle.cp_tree.specs.Packed.{value, groups, bit_of}
@@ -52,3 +53,27 @@ one_more_group base per ns old words next k word so_far is push =
 
 pub length_bits : (bs : List Bool) → length (map bit_of bs) ≡ length bs
 length_bits bs = length-map bs bit_of
+
+-- whole groups, as chunks
+chunks_from : (base per : ℕ) (ns : List ℕ) (a n : ℕ) → map (value base) (first_chunks per n (drop (per * a) ns)) ≡ map (λ k. value base (take per (drop (per * k) ns))) (range_with_len a n)
+chunks_from base per ns a zero = refl
+chunks_from base per ns a (suc n) =
+    let after : suc a ≡ a + 1 = omega arith in
+    let next : drop per (drop (per * a) ns) ≡ drop (per * (a + 1)) ns = drop-drop per (per * a) ns ∙ ap (λ m. drop m ns) (sym (mul-suc per a) ∙ ap (λ m. per * m) after) in
+    ap (λ ws. value base (take per (drop (per * a) ns)) ∷ ws) (ap (λ xs. map (value base) (first_chunks per n xs)) next ∙ chunks_from base per ns (a + 1) n)
+
+module _ (base per : ℕ) (ns old words : List ℕ) (n : ℕ) (whole : words ≡ old ++ map (value base) (first_chunks per n ns)) where
+  so_far : words ≡ old ++ map (λ k. value base (take per (drop (per * k) ns))) (range_with_len 0 n)
+  so_far =
+      let none : 0 ≡ per * 0 = omega arith in
+      whole ∙ ap (λ xs. old ++ xs) (ap (λ m. map (value base) (first_chunks per n (drop m ns))) none ∙ chunks_from base per ns 0 n)
+
+  -- nothing is left behind them, or one group that is less than whole
+  pub all_whole : n ≡ (length ns + (per - 1)) / per → words ≡ old ++ groups base per ns
+  all_whole many = so_far ∙ ap (λ m. old ++ map (λ k. value base (take per (drop (per * k) ns))) (range_with_len 0 m)) many
+
+  pub one_rest : (rest next : List ℕ) (word : ℕ) → n + 1 ≡ (length ns + (per - 1)) / per → rest ≡ drop (n * per) ns → length rest ≤ per → word ≡ value base rest → next ≡ words ++ word ∷ [] → next ≡ old ++ groups base per ns
+  one_rest rest next word many is short worth push =
+      let there : rest ≡ drop (per * n) ns = is ∙ ap (λ m. drop m ns) (mul_comm n per) in
+      let last : word ≡ value base (take per (drop (per * n) ns)) = worth ∙ ap (value base) (sym (take_all per rest short) ∙ ap (take per) there) in
+      one_more_group base per ns old words next n word so_far last push ∙ ap (λ m. old ++ map (λ k. value base (take per (drop (per * k) ns))) (range_with_len 0 m)) many

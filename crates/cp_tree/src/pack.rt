@@ -69,6 +69,29 @@ fn quads_word(items: &[u32]) -> u64
     word
 }
 
+/// The word that 8 bytes are.
+fn eight_bytes(items: &[u8; 8]) -> u64
+    ensures { result ≡ value 256 items.now }
+{
+    u64::from_le_bytes(*items)
+}
+
+/// The word that 4 numbers of two bytes are.
+fn four_halves(items: &[u16; 4]) -> u64
+    ensures { result ≡ value 65536 items.now }
+{
+    let low = items[0] as u64 + 0x1_0000 * items[1] as u64;
+    let high = items[2] as u64 + 0x1_0000 * items[3] as u64;
+    low + 0x1_0000_0000 * high
+}
+
+/// The word that 2 numbers of four bytes are.
+fn two_quads(items: &[u32; 2]) -> u64
+    ensures { result ≡ value 4294967296 items.now }
+{
+    items[0] as u64 + 0x1_0000_0000 * items[1] as u64
+}
+
 /// Appends the words of a list of bits.
 pub(crate) fn push_bits(words: &mut Vec<u64>, items: &[bool]) -> Result<(), AllocError>
     ensures { OnOk result (words.new.items ≡ words.old.items ++ groups 2 64 (map bit_of items.now)) }
@@ -85,10 +108,10 @@ pub(crate) fn push_bits(words: &mut Vec<u64>, items: &[bool]) -> Result<(), Allo
 pub(crate) fn push_bytes(words: &mut Vec<u64>, items: &[u8]) -> Result<(), AllocError>
     ensures { OnOk result (words.new.items ≡ words.old.items ++ groups 256 8 items.now) }
 {
-    for k in 0..(items.len() + 7) / 8 {
-        let start = 8 * k;
-        let end = items.len().min(start + 8);
-        words.push(bytes_word(&items[start..end]))?;
+    let (chunks, rest) = items.as_chunks::<8>();
+    words.extend(chunks.iter().map(|chunk| eight_bytes(chunk)))?;
+    if !rest.is_empty() {
+        words.push(bytes_word(rest))?;
     }
     Ok(())
 }
@@ -97,10 +120,10 @@ pub(crate) fn push_bytes(words: &mut Vec<u64>, items: &[u8]) -> Result<(), Alloc
 pub(crate) fn push_halves(words: &mut Vec<u64>, items: &[u16]) -> Result<(), AllocError>
     ensures { OnOk result (words.new.items ≡ words.old.items ++ groups 65536 4 items.now) }
 {
-    for k in 0..(items.len() + 3) / 4 {
-        let start = 4 * k;
-        let end = items.len().min(start + 4);
-        words.push(halves_word(&items[start..end]))?;
+    let (chunks, rest) = items.as_chunks::<4>();
+    words.extend(chunks.iter().map(|chunk| four_halves(chunk)))?;
+    if !rest.is_empty() {
+        words.push(halves_word(rest))?;
     }
     Ok(())
 }
@@ -109,10 +132,10 @@ pub(crate) fn push_halves(words: &mut Vec<u64>, items: &[u16]) -> Result<(), All
 pub(crate) fn push_quads(words: &mut Vec<u64>, items: &[u32]) -> Result<(), AllocError>
     ensures { OnOk result (words.new.items ≡ words.old.items ++ groups 4294967296 2 items.now) }
 {
-    for k in 0..(items.len() + 1) / 2 {
-        let start = 2 * k;
-        let end = items.len().min(start + 2);
-        words.push(quads_word(&items[start..end]))?;
+    let (chunks, rest) = items.as_chunks::<2>();
+    words.extend(chunks.iter().map(|chunk| two_quads(chunk)))?;
+    if !rest.is_empty() {
+        words.push(quads_word(rest))?;
     }
     Ok(())
 }
