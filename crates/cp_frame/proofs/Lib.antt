@@ -23,6 +23,8 @@ pub mod Alike
 pub mod Pushes
 pub mod Texts
 pub mod Taken
-pub mod Feeds
 pub mod Needed
 pub mod Decoded
+pub mod Bulks
+pub mod Fronts
+pub mod Parted

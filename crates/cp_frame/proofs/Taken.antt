@@ -1,5 +1,5 @@
 -- What a packed byte does to a rest.
-use Rattle.std.proofs.Common.{◌≡◌, ◌⊎◌, inl, inr, Result, Ok, Err, OnOk, Bool, true, false, if◌then◌else◌, ◌==◌, ℕ, zero, suc, ◌+◌, ◌*◌, ◌/◌, ◌^◌, ◌<◌, ◌≤◌, List, [], ◌∷◌, ◌++◌, length, replicate, slice_index, refl, sym, ◌∙◌, ap, subst, length-append, arith}
+use Rattle.std.proofs.Common.{◌≡◌, ◌⊎◌, inl, inr, Result, Ok, Err, OnOk, Bool, true, false, if◌then◌else◌, ◌==◌, ℕ, zero, suc, ◌+◌, ◌*◌, ◌/◌, ◌^◌, ◌<◌, ◌≤◌, List, [], ◌∷◌, ◌++◌, length, replicate, slice_index, refl, sym, ◌∙◌, ap, subst, arith}
 use lib.Count.{ones}
 use Rattle.std.specs.Int.{to_le_bytes, from_le_bytes, w64}
 use Rattle.std.proofs.lemmas.List.{append-nil}
@@ -10,29 +10,25 @@ use Rattle.cp_frame.specs.declared.fault.FrameFault.TheVariants as faults
 use Rattle.cp_frame.specs.declared.mode.Mode.TheVariants as modes
 use Rattle.cp_frame.specs.declared.frame.OpenFrame.{OpenFrame}
 use Rattle.cp_frame.specs.declared.rest.Rest.{Rest}
-use Rattle.cp_frame.specs.Framed.{AreBytes, AreWords, bytes_of, Framed}
-use Rattle.cp_frame.specs.Frame.{Frame}
-use Rattle.cp_frame.specs.Packed.{Packed}
+use Rattle.cp_frame.specs.Framed.{AreBytes, AreWords, bytes_of}
 use Rattle.cp_frame.specs.Parts.{lists, rest_of, kept_words, IsOpen, IsBegun, IsComplete, IsFaultOf, NamesLittle}
 use Rattle.cp_frame.specs.Stream.{NoFront, NamesFault, HasFault, Open, numbers}
 use Rattle.cp_frame.specs.Reader.{GoesOnAs}
 use Rattle.cp_frame.specs.Rest.{words_in_order, heads, bytes_for, InPacked, IsBlank, TakesByte, IsFaultOfWords, EndsInside, KeptFor}
 use Rattle.cp_frame.specs.Unpacking.{Pending, nothing, next, brought, after, given, laid, all_laid, header_of, laid_by, run_of, first_words, settled, given_by, IsPending, pending_of}
-use Rattle.cp_frame.proofs.Numbers.{length_bytes_of, numbers_more}
-use Rattle.cp_frame.proofs.Filling.{all-append}
-use Rattle.cp_frame.proofs.Framing.{same_words}
+use Rattle.cp_frame.proofs.Numbers.{numbers_more}
 use Rattle.cp_frame.proofs.Streams.{names_more}
 use Rattle.cp_frame.proofs.Opened.{length_rest}
 use Rattle.cp_frame.proofs.Ends.{open_rest, complete_frame, empty_open, empty_rest}
 use Rattle.cp_frame.proofs.Opens.{is_by, Brings, brings_both}
 use Rattle.cp_frame.proofs.Unpacks.{lowest, ones_step, pending_step}
-use Rattle.cp_frame.proofs.Laying.{half_small, brings_packed, pending_nothing}
+use Rattle.cp_frame.proofs.Laying.{half_small, pending_nothing}
 use Rattle.cp_frame.proofs.Certain.{are-append}
 use Rattle.cp_frame.proofs.Rests.{fault_packed}
 use Rattle.cp_frame.proofs.Cuts.{no_front_of}
-use Rattle.cp_frame.proofs.Alike.{alike_both, alike_more, alike_state, alike_fault, alike_open, no_front_behind}
+use Rattle.cp_frame.proofs.Alike.{alike_more, alike_fault, no_front_behind}
 use Rattle.cp_frame.proofs.Pushes.{words_repeat}
-use Rattle.cp_frame.proofs.Texts.{bytes_words, words_are, text_are, brings_kept, laid_words, open_packed, past_next}
+use Rattle.cp_frame.proofs.Texts.{bytes_words, text_are, brings_kept, laid_words, open_packed, past_next}
 
 -- a group brings no more words than its bytes allow, and its count only with a word
 few_ones : (n t : ℕ) → t < 2 ^ n → ones t ≤ n
@@ -68,7 +64,7 @@ settles (suc n) part = go (length part == 8)
     go true = inr refl
     go false = inl refl
 
-run_words : (run : ℕ) (part : List ℕ) → 0 < (settled run part).run → 0 < run + length (given_by run part)
+pub run_words : (run : ℕ) (part : List ℕ) → 0 < (settled run part).run → 0 < run + length (given_by run part)
 run_words zero [] h = h
 run_words zero (t ∷ q) h = go (suc (length q) == header_of t) h
   where
@@ -77,7 +73,7 @@ run_words zero (t ∷ q) h = go (suc (length q) == header_of t) h
     go false k = k
 run_words (suc n) part h = omega arith
 
-bytes_count : (run : ℕ) (part : List ℕ) → AreBytes part → length part ≤ 10 * length (given_by run part) + length (settled run part).part
+pub bytes_count : (run : ℕ) (part : List ℕ) → AreBytes part → length part ≤ 10 * length (given_by run part) + length (settled run part).part
 bytes_count zero [] h = omega arith
 bytes_count zero (t ∷ q) h = go (suc (length q) == header_of t) refl
   where
@@ -92,15 +88,15 @@ bytes_count (suc n) part h = go (length part == 8) refl
     go true e = omega (arith, is_by (length part) 8 e)
     go false e = omega arith
 
-bytes_long : (f : OpenFrame) → f.part.items ≡ [] → length (rest_of f) ≡ 8 * kept_words f
+pub bytes_long : (f : OpenFrame) → f.part.items ≡ [] → length (rest_of f) ≡ 8 * kept_words f
 bytes_long f e = omega (arith, length_rest f, ap (λ (b : List ℕ). length b) e)
 
-first_kept : (run old new more : ℕ) → 0 < run + more → (0 < run → 0 < old) → new ≡ old + more → 0 < new
+pub first_kept : (run old new more : ℕ) → 0 < run + more → (0 < run → 0 < old) → new ≡ old + more → 0 < new
 first_kept zero old new more h k e = omega (arith, h, e)
 first_kept (suc n) old new more h k e = omega (arith, k (omega arith), e)
 
 -- what has come is an open rest
-no_front_kept : (limits : Bounds) (f : OpenFrame) → IsOpen limits f → f.part.items ≡ [] → NoFront modes.Plain limits (bytes_of (words_in_order f))
+pub no_front_kept : (limits : Bounds) (f : OpenFrame) → IsOpen limits f → f.part.items ≡ [] → NoFront modes.Plain limits (bytes_of (words_in_order f))
 no_front_kept limits f h e = subst (λ (b : List ℕ). NoFront modes.Plain limits b) (sym (bytes_words f e)) (open_rest limits f h).no_front
 
 pub open_text : (limits : Bounds) (r : Rest) → InPacked limits r → Open modes.Packed limits (bytes_for modes.Packed r)
@@ -196,31 +192,6 @@ fault_behind limits r s x fault h k m n = by n
         fault_packed limits (t ++ x ∷ []) fault (next_are limits r x h k)
         (subst (λ (b : List ℕ). NamesFault limits (numbers b) fault) (sym (all ∙ ap (λ (b : List ℕ). b ++ laid (pending_of s.group)) come)) named)
 
--- what is kept after it
-pub packed_taken : (limits : Bounds) (r s : Rest) (x : ℕ) → InPacked limits r → x < 256 → TakesByte limits r x s → IsOpen limits s.frame
-    → NamesLittle limits (numbers (rest_of s.frame ++ laid (pending_of s.group))) → InPacked limits s
-packed_taken limits r s x h k m o little =
-    let p = pending_of r.group in
-    let part = p.part ++ x ∷ [] in
-    let kept : kept_words s.frame ≡ kept_words r.frame + length (brought p x) =
-    omega (arith, ap (λ (b : List ℕ). length b) m.words, length-append (rest_of r.frame) (bytes_of (brought p x)), length_bytes_of (brought p x), bytes_long r.frame h.no_part, bytes_long s.frame m.no_part) in
-    record {
-      frame = o;
-      no_part = m.no_part;
-      pending = pending_taken limits r s x h k m;
-      first = λ n. (let some = run_words p.run part (omega (arith, n, ap (λ (q : Pending). q.run) m.group)) in first_kept p.run (kept_words r.frame) (kept_words s.frame) (length (brought p x)) some h.first kept);
-      little = little;
-      count = omega (
-        arith,
-        m.taken,
-        h.count,
-        kept,
-        bytes_count p.run part (are-append p.part (x ∷ []) h.pending.are_bytes (k, tt)),
-        length-append p.part (x ∷ []),
-        ap (λ (q : Pending). length q.part) m.group,
-      );
-    }
-
 -- a byte is taken with its run
 pub takes_run : {E : Type 0} (limits : Bounds) (r s : Rest) (x count word : ℕ) (result : Result (Unit {0}) E) → word < 2 ^ 64 → replicate count word ≡ brought (pending_of r.group) x
     → pending_of s.group ≡ next (pending_of r.group) x → s.taken ≡ r.taken + 1 → OnOk result (IsBegun limits s.frame) → OnOk result (s.frame.part.items ≡ [])
@@ -234,53 +205,6 @@ takes_run limits r s x count word (Ok u) h k m n a b c = record {
   group = m;
   taken = n;
 }
-
--- The rest that goes on as what is kept: one byte more of it.
-words_taken : (limits : Bounds) (r s : Rest) (x : ℕ) → InPacked limits r → TakesByte limits r x s → InPacked limits s → words_in_order s.frame ≡ words_in_order r.frame ++ brought (pending_of r.group) x
-words_taken limits r s x h m k =
-    let ws = words_in_order r.frame in
-    let more = brought (pending_of r.group) x in
-    let bytes : bytes_of (words_in_order s.frame) ≡ bytes_of (ws ++ more) =
-    bytes_words s.frame k.no_part ∙ m.words ∙ ap (λ (b : List ℕ). b ++ bytes_of more) (sym (bytes_words r.frame h.no_part)) ∙ sym (flat_map-append (to_le_bytes w64) ws more) in
-    same_words (words_in_order s.frame) (ws ++ more) (words_are limits s.frame k.frame) (all-append (λ w. w < 2 ^ 64) ws more (words_are limits r.frame h.frame) m.are_words)
-    (omega (arith, ap (λ (b : List ℕ). length b) bytes, length_bytes_of (words_in_order s.frame), length_bytes_of (ws ++ more))) bytes
-
-taken_alike : (limits : Bounds) (r s : Rest) (x : ℕ) → InPacked limits r → x < 256 → TakesByte limits r x s → InPacked limits s
-    → GoesOnAs modes.Packed (bytes_for modes.Packed s) (bytes_for modes.Packed r ++ x ∷ [])
-taken_alike limits r s x h l m k =
-    let old = next_brings limits r x h in
-    let new = brings_kept limits s k in
-    alike_state (bytes_for modes.Packed s) (bytes_for modes.Packed r ++ x ∷ []) (text_are limits s k) (next_are limits r x h l) (new.words ∙ words_taken limits r s x h m k ∙ sym old.words)
-    (new.open_then ∙ m.group ∙ sym old.open_then)
-
-taken_open : (limits : Bounds) (r s : Rest) (x : ℕ) → InPacked limits r → x < 256 → TakesByte limits r x s → InPacked limits s → Open modes.Packed limits (bytes_for modes.Packed r ++ x ∷ [])
-taken_open limits r s x h l m k =
-    let old = next_brings limits r x h in
-    open_packed limits (bytes_for modes.Packed r ++ x ∷ []) (words_in_order s.frame) (pending_of s.group) (next_are limits r x h l)
-    (record { words = old.words ∙ sym (words_taken limits r s x h m k); open_then = old.open_then ∙ sym m.group }) k.pending (no_front_kept limits s.frame k.frame k.no_part)
-    (subst (λ (b : List ℕ). NamesLittle limits (numbers (b ++ laid (pending_of s.group)))) (sym (bytes_words s.frame k.no_part)) k.little)
-
-pub keeps_byte : (limits : Bounds) (r s : Rest) (x : ℕ) (b : List ℕ) → InPacked limits r → x < 256 → TakesByte limits r x s → InPacked limits s → KeptFor modes.Packed limits r b
-    → KeptFor modes.Packed limits s (b ++ x ∷ [])
-keeps_byte limits r s x b h l m k f = (
-  alike_both (bytes_for modes.Packed s) (bytes_for modes.Packed r ++ x ∷ []) (b ++ x ∷ []) (taken_alike limits r s x h l m k) (alike_more (bytes_for modes.Packed r) b (x ∷ []) f.0),
-  omega (arith, m.taken, f.1, length-append b (x ∷ [])),
-  alike_open limits (bytes_for modes.Packed r) b (x ∷ []) f.0 f.2.no_front (taken_open limits r s x h l m k),
-)
-
--- a frame ends with it
-pub ends_frame : (limits : Bounds) (r s : Rest) (x : ℕ) (b : List ℕ) → InPacked limits r → x < 256 → TakesByte limits r x s → IsComplete limits s.frame → pending_of s.group ≡ nothing
-    → KeptFor modes.Packed limits r b → Frame modes.Packed limits (lists s.frame.segments.items) (b ++ x ∷ [])
-ends_frame limits r s x b h l m k e f =
-    let t = bytes_for modes.Packed r ++ x ∷ [] in
-    let ws = given nothing t in
-    let plain = complete_frame limits s.frame k in
-    let packed = brings_packed t (next_are limits r x h l) ((next_brings limits r x h).open_then ∙ sym m.group ∙ e) in
-    let there = (alike_more (bytes_for modes.Packed r) b (x ∷ []) f.0 ws []).0 (subst (λ (c : List ℕ). Packed ws c) (sym (append-nil t)) packed) in
-    record {
-      within = plain.within;
-      form = (ws, subst (λ (c : List ℕ). Framed (lists s.frame.segments.items) c) (m.words ∙ sym (next_bytes limits r x h)) plain.form, subst (λ (c : List ℕ). Packed ws c) (append-nil (b ++ x ∷ [])) there);
-    }
 
 -- a fault shows with it
 pub ends_fault : (limits : Bounds) (r : Rest) (x : ℕ) (b : List ℕ) (fault : FrameFault) → HasFault modes.Packed limits (bytes_for modes.Packed r ++ x ∷ []) fault → KeptFor modes.Packed limits r b

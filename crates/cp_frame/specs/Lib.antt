@@ -2,6 +2,7 @@ pub use Rattle.cp_words.specs.Limits
 pub mod Framed
 pub mod Packed
 pub mod Unpacking
+pub mod Bulk
 pub mod Decoding
 pub mod Packing
 pub mod Frame

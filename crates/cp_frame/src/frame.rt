@@ -6,7 +6,9 @@ ghost use Rattle.std.specs.Int.{to_le_bytes, w64};
 ghost use Rattle.cp_frame.specs.Parts.{Takes, IsBegun, InTable, InSegments, halves, count_of, IsWholeTable, IsTable, IsFaultOf, Fills, body, lists, words_in, rest_of, IsOpen, IsComplete, IsEmpty, least_words, kept_words};
 ghost use Rattle.cp_frame.specs.Stream.{numbers, named_sizes};
 ghost use Rattle.cp_frame.specs.Rest.{IsFaultOfWords};
+ghost use Rattle.cp_frame.specs.Bulk.{TakesPart};
 
+use crate::bulk::take_groups;
 use crate::fault::FrameFault;
 use crate::group::Run;
 use crate::table;
@@ -234,6 +236,28 @@ impl OpenFrame {
             left -= 1;
         }
         Ok(())
+    }
+
+    /// Takes words of a raw run, of which so many are to come, and groups of the packed form, up to the
+    /// end of the open segment.
+    pub fn take_groups<'a>(
+        &mut self,
+        alloc: Global,
+        limits: Limits,
+        run: &mut usize,
+        left: &'a [u8],
+    ) -> Result<&'a [u8], AllocError>
+        requires begun { InSegments limits self.old }
+        requires no_part { self.old.part.items ≡ [] }
+        requires few { run.old < 256 }
+        ensures { IfOk result (λ back. TakesPart limits self.old run.old left.now self.new run.new back.now) }
+    {
+        let most = table::size(&self.table, self.segments.len());
+        let back = take_groups(&mut self.words, run, most, left)?;
+        if self.words.len() == most {
+            close(alloc, &self.table, &mut self.segments, &mut self.words)?;
+        }
+        Ok(back)
     }
 
     /// Takes bytes of the segments.

@@ -3,6 +3,7 @@
 //! that brings their last byte.
 #![tactic(auto)]
 
+mod bulk;
 mod decode;
 mod fault;
 mod frame;

@@ -4,7 +4,8 @@ ghost use Rattle.std.specs.Prelude.{◌≡◌, ◌⊎◌, ◌++◌, ◌<◌, ◌
 ghost use Rattle.cp_frame.specs.Stream.{Frames, HasFault, numbers};
 ghost use Rattle.cp_frame.specs.Kept.{KeepsUp, seen};
 ghost use Rattle.cp_frame.specs.Parts.{IsOpen, IsFaultOf, rest_of, kept_words};
-ghost use Rattle.cp_frame.specs.Rest.{InPacked, IsRest, Reads, Refuses};
+ghost use Rattle.cp_frame.specs.Rest.{InPacked, IsRest, IsSound, Reads, Refuses};
+ghost use Rattle.cp_frame.specs.Bulk.{GivesWhole};
 ghost use Rattle.cp_frame.specs.Reader.{Gives, Tells};
 ghost use Rattle.cp_frame.specs.declared.fault.FrameFault.TheVariants.{OutOfMemory};
 ghost use Rattle.cp_frame.specs.declared.mode.Mode.TheVariants.{Plain, Packed};
@@ -15,7 +16,7 @@ use crate::mode::Mode;
 use crate::rest::Rest;
 use crate::status::Status;
 use cp_words::{Limits, Segments};
-use std::alloc::Global;
+use std::alloc::{AllocError, Global};
 use std::marker::Model;
 
 /// Reads the frames of a plain piece that follows what has come. At an `Err` those before the fault
@@ -44,7 +45,24 @@ fn read_plain(
     Ok(())
 }
 
-/// Reads the frames of a packed piece likewise.
+/// Gives the packed frame, if it is whole.
+fn give(
+    alloc: Global,
+    limits: Limits,
+    rest: &mut Rest,
+    frames: &mut Vec<(u64, Segments)>,
+) -> Result<(), AllocError>
+    requires { IsSound limits rest.old }
+    ensures { OnOk result (GivesWhole limits rest.old frames.old.items rest.new frames.new.items) }
+{
+    if rest.frame.is_complete() {
+        frames.push(rest.finish(alloc))?;
+    }
+    Ok(())
+}
+
+/// Reads the frames of a packed piece likewise: groups at once, and a byte where they end, or where the
+/// segment table or what goes past the frame may show.
 fn read_packed(
     alloc: Global,
     limits: Limits,
@@ -58,12 +76,16 @@ fn read_packed(
     ensures begun { OnOk result (InPacked limits rest.new) }
     ensures fault { IfErr result (λ fault. (fault ≡ OutOfMemory) ⊎ Refuses Packed limits rest.old piece.now frames.new.items fault) }
 {
-    for byte in piece {
-        rest.take_byte(alloc, limits, *byte)?;
-        if !rest.frame.is_complete() {
-            continue;
+    let mut left = piece;
+    'reading: while !left.is_empty() {
+        left = rest.take_groups(alloc, limits, left)?;
+        give(alloc, limits, rest, frames)?;
+        if left.is_empty() {
+            return Ok(());
         }
-        frames.push(rest.finish(alloc))?;
+        rest.take_byte(alloc, limits, left[0])?;
+        give(alloc, limits, rest, frames)?;
+        left = left.split_at(1).1;
     }
     Ok(())
 }

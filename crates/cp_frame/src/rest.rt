@@ -6,6 +6,7 @@ ghost use Rattle.cp_frame.specs.Stream.{numbers, NamesFault, HasFault};
 ghost use Rattle.cp_frame.specs.Parts.{IsOpen, IsBegun, IsComplete, lists, rest_of, kept_words};
 ghost use Rattle.cp_frame.specs.Unpacking.{IsPending, nothing, brought, laid, pending_of};
 ghost use Rattle.cp_frame.specs.Rest.{InPacked, IsBlank, IsRest, bytes_for, count_for, TakesByte, IsSound, IsFaultOfWords};
+ghost use Rattle.cp_frame.specs.Bulk.{TakesFront};
 ghost use Rattle.cp_frame.specs.declared.mode.Mode.TheVariants.{Packed};
 ghost use Rattle.cp_frame.specs.declared.fault.FrameFault.TheVariants.{OutOfMemory, RunPastFrame};
 
@@ -15,7 +16,7 @@ use crate::group::OpenGroup;
 use crate::mode::Mode;
 use crate::table;
 use cp_words::{Limits, Segments};
-use std::alloc::Global;
+use std::alloc::{AllocError, Global};
 
 /// What is kept of a rest.
 #[derive(Drop)]
@@ -80,6 +81,28 @@ impl Rest {
     {
         self.take_run(alloc, limits, byte)?;
         self.check(limits)
+    }
+
+    /// Takes what of these bytes are words of a raw run and whole groups, where the segment table has
+    /// come, up to the end of the open segment.
+    pub fn take_groups<'a>(
+        &mut self,
+        alloc: Global,
+        limits: Limits,
+        left: &'a [u8],
+    ) -> Result<&'a [u8], AllocError>
+        requires { InPacked limits self.old }
+        ensures takes { IfOk result (λ back. TakesFront limits self.old left.now self.new back.now) }
+        ensures sound { OnOk result (IsSound limits self.new) }
+    {
+        if !self.group.part.is_empty() || !table::is_whole(&self.frame.table) {
+            return Ok(left);
+        }
+        let back = self
+            .frame
+            .take_groups(alloc, limits, &mut self.group.run, left)?;
+        self.taken += (left.len() - back.len()) as u64;
+        Ok(back)
     }
 
     /// The packed frame, with the number of its bytes. Nothing is left of it.

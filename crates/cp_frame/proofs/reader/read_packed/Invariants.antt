@@ -1,10 +1,9 @@
-use Rattle.std.proofs.Common.{take}
-use Rattle.cp_frame.specs.Rest.{InPacked, Reads}
-use Rattle.cp_frame.specs.declared.mode.Mode.TheVariants.{Packed}
+use Rattle.std.proofs.Common.{length}
+use Rattle.cp_frame.specs.Bulk.{HasRead}
 use Rattle.cp_frame.proofs.reader.read_packed.Given as goal
 
-abbrev pub invariant-loop-byte : goal.invariant-loop-byte
-invariant-loop-byte l = record {
-  begun : InPacked l.limits l.rest;
-  reads : Reads Packed l.limits l.fn.rest (take l.byte-index l.piece) l.frames.items l.rest;
-}
+abbrev pub invariant-reading : goal.invariant-reading
+invariant-reading l = HasRead l.limits l.fn.rest l.piece l.frames.items l.rest l.left
+
+abbrev pub decreases-reading : goal.decreases-reading
+decreases-reading l = length l.left

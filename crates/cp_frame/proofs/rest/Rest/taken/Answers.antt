@@ -1,7 +1,4 @@
-use Rattle.std.proofs.Common.{◌+◌, ◌*◌, sym, ◌∙◌, ap, subst, arith}
-use Rattle.cp_frame.specs.declared.mode.Mode.{Mode}
-use Rattle.cp_frame.specs.declared.mode.Mode.TheVariants.{Plain}
-use Rattle.cp_frame.specs.Rest.{count_for}
+use Rattle.std.proofs.Common.{arith}
 use Rattle.cp_frame.proofs.Opened.{length_rest}
 use Rattle.cp_frame.proofs.rest.Rest.taken.Goals as goal
 

@@ -1,0 +1,4 @@
+pub mod Given
+pub mod Read
+pub mod Write
+pub mod Kept

@@ -1,0 +1,14 @@
+//! What the crates do, for programs in C that time it: `bench/` at the top of the repository has one.
+//!
+//! A slice crosses as a pointer and then a length, an allocator as nothing. An answer of 0 says that there
+//! was nothing, a fault, or no memory.
+#![tactic(auto)]
+
+mod fill;
+mod packed;
+mod read;
+mod write;
+
+pub use packed::{cpb_pack, cpb_unpack};
+pub use read::{cpb_packed_frames, cpb_read_frames};
+pub use write::cpb_write_frames;

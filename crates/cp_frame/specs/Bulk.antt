@@ -1,0 +1,61 @@
+-- Groups of the packed form taken at once. No public clause names these.
+use Rattle.std.specs.Prelude.{◌≡◌, ◌⊎◌, ℕ, ◌+◌, ◌<◌, ◌≤◌, List, [], ◌∷◌, ◌++◌, length}
+use Rattle.cp_words.specs.Limits.{Bounds}
+use Rattle.cp_frame.specs.declared.mode.Mode.TheVariants as modes
+use Rattle.cp_frame.specs.declared.frame.OpenFrame.{OpenFrame}
+use Rattle.cp_frame.specs.declared.rest.Rest.{Rest}
+use Rattle.cp_frame.specs.Framed.{AreWords, bytes_of}
+use Rattle.cp_frame.specs.Parts.{IsOpen, InSegments, IsComplete, NamesLittle, lists, rest_of}
+use Rattle.cp_frame.specs.Stream.{numbers}
+use Rattle.cp_frame.specs.Unpacking.{Pending, nothing, after, given, laid, pending_of}
+use Rattle.cp_frame.specs.Rest.{IsBlank, InPacked, Reads}
+
+-- nothing of a group, and so many words of a raw run still to come
+abbrev pub running : ℕ → Pending
+running run = record { run = run; part = [] }
+
+-- A front of the bytes was taken, with the words that it brings: no more than there is room for, and as many only where no run goes on.
+pub record TakesGroups (most : ℕ) (old : List ℕ) (run : ℕ) (left new : List ℕ) (next : ℕ) (back : List ℕ) : Type 0 where
+  pub front : List ℕ
+  pub whole : left ≡ front ++ back
+  pub are_words : AreWords (given (running run) front)
+  pub puts : new ≡ old ++ given (running run) front
+  pub open_then : after (running run) front ≡ running next
+  pub few : next < 256
+  pub within : length new ≤ most
+  pub ends : length new ≡ most → next ≡ 0
+
+-- The same, into the segments of a frame: it is still open, or it is whole and no run goes on.
+pub record TakesPart (limits : Bounds) (old : OpenFrame) (run : ℕ) (left : List ℕ) (new : OpenFrame) (next : ℕ) (back : List ℕ) : Type 0 where
+  pub front : List ℕ
+  pub whole : left ≡ front ++ back
+  pub are_words : AreWords (given (running run) front)
+  pub words : rest_of new ≡ rest_of old ++ bytes_of (given (running run) front)
+  pub open_then : after (running run) front ≡ running next
+  pub no_part : new.part.items ≡ []
+  pub goes_on : InSegments limits new ⊎ (IsComplete limits new × (next ≡ 0))
+
+-- Packed bytes were taken, with the words that they bring.
+pub record TakesBytes (limits : Bounds) (old : Rest) (xs : List ℕ) (new : Rest) : Type 0 where
+  pub no_part : new.frame.part.items ≡ []
+  pub are_words : AreWords (given (pending_of old.group) xs)
+  pub words : rest_of new.frame ≡ rest_of old.frame ++ bytes_of (given (pending_of old.group) xs)
+  pub group : pending_of new.group ≡ after (pending_of old.group) xs
+  pub taken : new.taken ≡ old.taken + length xs
+
+-- a front of the bytes was taken
+abbrev pub TakesFront : Bounds → Rest → List ℕ → Rest → List ℕ → Type 0
+TakesFront limits old left new back = (front : List ℕ) × (left ≡ front ++ back) × TakesBytes limits old front new
+
+-- A frame that is whole was given, with the number of its bytes; or it is open, and nothing was done.
+abbrev pub GivesWhole : Bounds → Rest → List (ℕ × List (List ℕ)) → Rest → List (ℕ × List (List ℕ)) → Type 0
+GivesWhole limits old given new frames =
+    (IsComplete limits old.frame × (pending_of old.group ≡ nothing) × IsBlank new × (frames ≡ given ++ (old.taken, lists old.frame.segments.items) ∷ []))
+    ⊎ (IsOpen limits old.frame × NamesLittle limits (numbers (rest_of old.frame ++ laid (pending_of old.group))) × (new ≡ old) × (frames ≡ given))
+
+-- Of the piece, all but what is left was read.
+pub record HasRead (limits : Bounds) (old : Rest) (piece : List ℕ) (frames : List (ℕ × List (List ℕ))) (new : Rest) (left : List ℕ) : Type 0 where
+  pub fed : List ℕ
+  pub whole : piece ≡ fed ++ left
+  pub begun : InPacked limits new
+  pub reads : Reads modes.Packed limits old fed frames new
