@@ -14,6 +14,9 @@ use byteorder::{ByteOrder, LittleEndian};
 use cp_words::{Limits, Segments};
 use std::alloc::{AllocError, Global};
 
+/// How many bytes are reserved for a packed frame at first. A large one is mostly shorter than it could be.
+const FIRST_ROOM: usize = 65_536;
+
 /// The words of all segments together, unless they are too many.
 fn words_in(segments: &[Vec<u64>], limit: u64) -> Option<u64>
     ensures words { IfSome result (λ words. words ≡ sum (sizes_of (lists segments.now))) }
@@ -111,7 +114,8 @@ fn write_packed(alloc: Global, segments: &[Vec<u64>], words: u64) -> Result<Vec<
     ensures { IfOk result (λ out. IsWritten Packed (lists segments.now) out.items) }
 {
     let table = table_words(alloc, segments)?;
-    let mut out = Vec::with_capacity(alloc, LONGEST * (table.len() + words as usize))?;
+    let most = LONGEST * (table.len() + words as usize);
+    let mut out = Vec::with_capacity(alloc, most.min(FIRST_ROOM))?;
     push_packed(&mut out, &table)?;
     for segment in segments {
         push_packed(&mut out, segment)?;
