@@ -16,6 +16,7 @@ pub mod Spreading
 pub mod Headers
 pub mod Limited
 pub mod Sparing
+pub mod Masks
 pub mod Pieces
 pub mod Rests
 pub mod Cuts

@@ -9,7 +9,12 @@ ghost use Rattle.cp_frame.specs.Packing.{PutsGroup, PutsSpelt, bytes_that_count}
 ghost use Rattle.cp_frame.specs.declared.fault.FrameFault.TheVariants.{OutOfMemory};
 
 use crate::fault::FrameFault;
+use byteorder::{ByteOrder, LittleEndian};
 use std::alloc::{AllocError, Global};
+use std::simd::prelude::*;
+
+/// How many bytes a word takes at most.
+pub const LONGEST: usize = 10;
 
 /// How many words a run has at most behind its first.
 const MOST: usize = 255;
@@ -18,7 +23,10 @@ const MOST: usize = 255;
 fn count_zeros(word: u64) -> usize
     ensures { result ≡ zero_bytes word }
 {
-    word.to_le_bytes().iter().filter(|byte| **byte == 0).count()
+    u8x8::from_array(word.to_le_bytes())
+        .simd_eq(u8x8::splat(0))
+        .to_bitmask()
+        .count_ones() as usize
 }
 
 /// How many of these words a run of zero words takes behind its first.
@@ -55,14 +63,10 @@ fn raw_run(words: &[u64]) -> usize
 fn tag_of(bytes: &[u8; 8]) -> u8
     ensures { result ≡ tag (bytes_that_count bytes.now) }
 {
-    let mut tag = 0;
-    for behind in 0..8 {
-        tag *= 2;
-        if bytes[7 - behind] != 0 {
-            tag += 1;
-        }
-    }
-    tag
+    let zeros = u8x8::from_array(*bytes)
+        .simd_eq(u8x8::splat(0))
+        .to_bitmask();
+    (255 - zeros) as u8
 }
 
 /// Writes a group of one word that has bytes of both kinds.
@@ -80,11 +84,12 @@ fn push_sparse(out: &mut Vec<u8>, tag: u8, bytes: &[u8; 8]) -> Result<(), AllocE
 
 /// Writes words as they are.
 fn push_raw(out: &mut Vec<u8>, words: &[u64]) -> Result<(), AllocError>
+    requires { length words.now ≤ 255 }
     ensures { OnOk result (out.new.items ≡ out.old.items ++ bytes_of words.now) }
 {
-    for word in words {
-        out.extend_from_slice(&word.to_le_bytes())?;
-    }
+    let start = out.len();
+    out.resize(start + 8 * words.len(), 0)?;
+    LittleEndian::write_u64_into(words, &mut out[start..]);
     Ok(())
 }
 
@@ -131,7 +136,7 @@ pub fn pack(alloc: Global, words: &[u64]) -> Result<Vec<u8>, FrameFault>
     ensures packed { IfOk result (λ out. Spelt words.now out.items) }
     ensures refused { IfErr result (λ fault. fault ≡ OutOfMemory) }
 {
-    let mut out = Vec::new(alloc);
+    let mut out = Vec::with_capacity(alloc, words.len().saturating_mul(LONGEST))?;
     push_packed(&mut out, words)?;
     Ok(out)
 }

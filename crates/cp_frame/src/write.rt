@@ -9,10 +9,13 @@ ghost use Rattle.cp_frame.specs.declared.mode.Mode.TheVariants.{Plain, Packed};
 use crate::fault::FrameFault;
 use crate::frame::take_in;
 use crate::mode::Mode;
-use crate::packing::push_packed;
+use crate::packing::{LONGEST, push_packed};
 use byteorder::{ByteOrder, LittleEndian};
 use cp_words::{Limits, Segments};
 use std::alloc::{AllocError, Global};
+
+/// How many bytes are reserved for a packed frame at first. A large one is mostly shorter than it could be.
+const FIRST_ROOM: usize = 65_536;
 
 /// The words of all segments together, unless they are too many.
 fn words_in(segments: &[Vec<u64>], limit: u64) -> Option<u64>
@@ -103,14 +106,16 @@ fn table_words(alloc: Global, segments: &[Vec<u64>]) -> Result<Vec<u64>, AllocEr
 }
 
 /// The frame of the segments, in the packed form: the table and each segment are a piece each.
-fn write_packed(alloc: Global, segments: &[Vec<u64>]) -> Result<Vec<u8>, AllocError>
+fn write_packed(alloc: Global, segments: &[Vec<u64>], words: u64) -> Result<Vec<u8>, AllocError>
     requires some { 0 < length segments.now }
     requires few { length segments.now ≤ 512 }
-    requires small { sum (sizes_of (lists segments.now)) < 2 ^ 32 }
+    requires words { words ≡ sum (sizes_of (lists segments.now)) }
+    requires small { words ≤ 67108864 }
     ensures { IfOk result (λ out. IsWritten Packed (lists segments.now) out.items) }
 {
     let table = table_words(alloc, segments)?;
-    let mut out = Vec::new(alloc);
+    let most = LONGEST * (table.len() + words as usize);
+    let mut out = Vec::with_capacity(alloc, most.min(FIRST_ROOM))?;
     push_packed(&mut out, &table)?;
     for segment in segments {
         push_packed(&mut out, segment)?;
@@ -136,7 +141,7 @@ pub fn write_frame(
     let words = count_words(segments, limits)?;
     let out = match mode {
         Mode::Plain => write_plain(alloc, segments, words)?,
-        Mode::Packed => write_packed(alloc, segments)?,
+        Mode::Packed => write_packed(alloc, segments, words)?,
     };
     Ok(out)
 }
