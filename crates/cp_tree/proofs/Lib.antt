@@ -22,3 +22,4 @@ pub mod Begins
 pub mod Steps
 pub mod PointerWords
 pub mod Alone
+pub mod OneSegment
