@@ -23,3 +23,7 @@ pub mod Steps
 pub mod PointerWords
 pub mod Alone
 pub mod OneSegment
+pub mod PackedHolds
+pub mod LayoutDenotes
+pub mod SheetWords
+pub mod ReadBack
