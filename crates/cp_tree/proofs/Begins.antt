@@ -1,19 +1,21 @@
 -- Bodies that are placed and whose words are appended.
-use Rattle.std.proofs.Common.{◌≡◌, ℕ, ◌+◌, ◌<◌, ◌≤◌, List, ◌++◌, length, map, drop, get_or, refl, sym, ap, ◌∙◌, arith}
-use Rattle.std.proofs.lemmas.List.{append_assoc, length-append, length-map}
+use Rattle.std.proofs.Common.{◌≡◌, ℕ, ◌+◌, ◌*◌, ◌<◌, ◌≤◌, List, [], ◌∷◌, ◌++◌, length, map, replicate, Result, Ok, Err, refl, sym, ap, subst, ◌∙◌, arith}
+use Rattle.std.proofs.lemmas.Bool.{ne_eqb, eq-eqb}
+use Rattle.std.proofs.lemmas.List.{append_assoc, length-append, length-map, length-replicate}
+use Rattle.cp_words.specs.declared.pointer.ElementSize.TheVariants as sizes
+use Rattle.cp_tree.specs.declared.aim.Kind.TheVariants as kinds
 use Rattle.cp_tree.specs.declared.fault.Place.{Place}
 use Rattle.cp_tree.specs.declared.fault.WriteFault.{WriteFault}
 use Rattle.cp_tree.specs.declared.fault.WriteFault.TheVariants as faults
 use Rattle.cp_tree.specs.declared.sheet.Room.{Room}
-use Rattle.cp_tree.specs.declared.tree.Body.{Body}
-use Rattle.cp_tree.specs.Node.{count, number_of}
-use Rattle.cp_tree.specs.NodeOf.{body_of, bodies_of, node_of, nodes_of}
-use Rattle.cp_tree.specs.Sheets.{Written, Placed, append, IsRun, Refuses}
-use Rattle.cp_tree.specs.Writing.{body_blank, bodies_blank}
-use Rattle.cp_tree.proofs.Decided.{number-bodies}
-use Rattle.cp_tree.proofs.Shapes.{count-row}
-use Rattle.cp_tree.proofs.Spending.{next_body}
-use Rattle.cp_tree.proofs.Keeps.{Spot, lies}
+use Rattle.cp_tree.specs.Node.{Node, struct, ptrs, structs, Nodes, no_nodes, node, Bodies, body, count, number_of}
+use Rattle.cp_tree.specs.NodeOf.{bodies_of, nodes_of}
+use Rattle.cp_tree.specs.Shaped.{Shaped}
+use Rattle.cp_tree.specs.Sheets.{Written, Placed, put, append, IsPlace, IsRun, KeepsTo, Writes, Refuses}
+use Rattle.cp_tree.specs.Writing.{body_blank, bodies_blank, tag_word, struct_placed, ptrs_placed, structs_placed, struct_begun, ptrs_begun, structs_begun, Begins, BeginsBodies, tree_by, row_by, bodies_by}
+use Rattle.cp_tree.proofs.Decided.{count-nodes, number-bodies}
+use Rattle.cp_tree.proofs.Sheets.{put-keeps, full-put, end-put}
+use Rattle.cp_tree.proofs.Keeps.{Spot, spot, Lies, lies, length-blank, length-bodies, keeps_row, keeps_bodies}
 
 pub append_twice : (F : Written) (a b : List ℕ) → append b (append a F) ≡ append (a ++ b) F
 append_twice F a b =
@@ -34,25 +36,137 @@ run_of F s p size xs x new start m n h long is at within =
     let l = lies F s p size xs x h long in
     rw (is, at) (l.there, omega (arith, l.inside, within))
 
--- the words of elements that a loop has still before it
-pub next_blank : (bs : List Body) (i n : ℕ) (b : Body) (cur old new : Written) → i < length bs → b ≡ get_or bs i b → n ≡ length b.ptrs.items
-    → append (bodies_blank (bodies_of (map body_of (drop i bs)))) cur ≡ append (bodies_blank (bodies_of (map body_of bs))) old → new ≡ append (body_blank b.words.items n) cur
-    → append (bodies_blank (bodies_of (map body_of (drop (i + 1) bs)))) new ≡ append (bodies_blank (bodies_of (map body_of bs))) old
-next_blank bs i n b cur old new within is many inv step =
-    let rest = bodies_blank (bodies_of (map body_of (drop (i + 1) bs))) in
-    let same : n ≡ count (nodes_of (map node_of b.ptrs.items)) = many ∙ sym (count-row b.ptrs) in
-    let all : bodies_blank (bodies_of (map body_of (drop i bs))) ≡ body_blank b.words.items n ++ rest = ap bodies_blank (next_body bs i b within is) ∙ ap (λ k. body_blank b.words.items k ++ rest) (sym same) in
-    ap (append rest) step ∙ append_twice cur (body_blank b.words.items n) rest ∙ ap (λ ws. append ws cur) (sym all) ∙ inv
+-- the words of elements that a loop has still before it, and that the first of them has no more words than all
+module _ (here rest : Bodies) (ws us : List ℕ) (ts : Nodes) (n : ℕ) (cur all : Written) (e : here ≡ body ws ts rest) (same : us ≡ ws) (many : n ≡ count ts) (kept : append (bodies_blank here) cur ≡ all) where
+  pub next_blank : (new : Written) → new ≡ append (body_blank us n) cur → append (bodies_blank rest) new ≡ all
+  next_blank new step =
+      let words : bodies_blank here ≡ body_blank us n ++ bodies_blank rest = ap bodies_blank e ∙ ap (λ vs. body_blank vs (count ts) ++ bodies_blank rest) (sym same) ∙ ap (λ k. body_blank us k ++ bodies_blank rest) (sym many) in
+      ap (append (bodies_blank rest)) step ∙ append_twice cur (body_blank us n) (bodies_blank rest) ∙ ap (λ vs. append vs cur) (sym words) ∙ kept
 
-pub number_in : (bs : List Body) → number_of (bodies_of (map body_of bs)) ≡ length bs
-number_in bs = number-bodies (map body_of bs) ∙ length-map bs body_of
+  pub first_blank : (append (body_blank us n) cur).words ≤ all.words
+  first_blank =
+      let words : (append (body_blank us n) cur).words + length (bodies_blank rest) ≡ all.words = ap (λ (W : Written). W.words) (next_blank (append (body_blank us n) cur) refl) in
+      omega (arith, words)
 
--- the first of them has no more words than all
-pub first_blank : (bs : List Body) (i n : ℕ) (b : Body) (cur old : Written) → i < length bs → b ≡ get_or bs i b → n ≡ length b.ptrs.items
-    → append (bodies_blank (bodies_of (map body_of (drop i bs)))) cur ≡ append (bodies_blank (bodies_of (map body_of bs))) old
-    → (append (body_blank b.words.items n) cur).words ≤ (append (bodies_blank (bodies_of (map body_of bs))) old).words
-first_blank bs i n b cur old within is many inv =
-    let rest = bodies_blank (bodies_of (map body_of (drop (i + 1) bs))) in
-    let all = next_blank bs i n b cur old (append (body_blank b.words.items n) cur) within is many inv refl in
-    let words : (append (body_blank b.words.items n) cur).words + length rest ≡ (append (bodies_blank (bodies_of (map body_of bs))) old).words = ap (λ (W : Written). W.words) all in
-    omega (arith, words)
+pub number_in : {X : Type 0} (f : X → List ℕ × Nodes) (xs : List X) → number_of (bodies_of (map f xs)) ≡ length xs
+number_in f xs = number-bodies (map f xs) ∙ length-map xs f
+
+pub count_in : {X : Type 0} (f : X → Node) (xs : List X) → count (nodes_of (map f xs)) ≡ length xs
+count_in f xs = count-nodes (map f xs) ∙ length-map xs f
+
+-- what hangs on a row of trees, or of elements, from a place on is written from there on
+pub row_at : (room : Room) (ts : Nodes) (first : Place) (A : Written) (x : Placed) → first ≡ x.at → A ≡ x.sheet → row_by room first.segment first.word ts A ≡ row_by room x.at.segment x.at.word ts x.sheet
+row_at room ts first A x at is = rw (at, is) refl
+
+pub bodies_at : (room : Room) (d n : ℕ) (bs : Bodies) (first : Place) (A : Written) (x : Placed) → first ≡ x.at → A ≡ x.sheet → bodies_by room first.segment first.word d n bs A ≡ bodies_by room x.at.segment x.at.word d n bs x.sheet
+bodies_at room d n bs first A x at is = rw (at, is) refl
+
+-- a struct of size zero, and any other
+empty_struct : (room : Room) (s p : ℕ) (ws : List ℕ) (ts : Nodes) (F : Written) → length ws + count ts ≡ 0 → tree_by room s p (struct ws ts) F ≡ put s p 4294967292 F
+empty_struct room s p ws ts F e = rw (eq-eqb (length ws + count ts) 0 e) refl
+
+some_struct : (room : Room) (s p : ℕ) (ws : List ℕ) (ts : Nodes) (F : Written) → 0 < length ws + count ts
+    → tree_by room s p (struct ws ts) F ≡ row_by room (struct_begun room s p ws (count ts) F).at.segment (struct_begun room s p ws (count ts) F).at.word ts (struct_begun room s p ws (count ts) F).sheet
+some_struct room s p ws ts F some = rw (ne_eqb (length ws + count ts) 0 (λ e. omega (arith, e, some))) refl
+
+nothing_hangs : (room : Room) (s p : ℕ) (ts : Nodes) (F : Written) → count ts ≡ 0 → row_by room s p ts F ≡ F
+nothing_hangs room s p no_nodes F e = refl
+nothing_hangs room s p (node t ts) F e = absurd (omega (arith, e))
+
+pub empty_begins : (room : Room) (at : Place) (ws : List ℕ) (n : ℕ) (F new : Written) → length ws + n ≡ 0 → IsPlace F at → KeepsTo room F → new ≡ put at.segment at.word 4294967292 F → Begins room at n (struct ws) (Ok at) F new
+empty_begins room at ws n F new none there keeps is =
+    let G = put at.segment at.word 4294967292 F in
+    let run : IsRun G at n = (omega (arith, there.0, full-put F at.segment at.word 4294967292), omega (arith, there.1, none, end-put F at.segment at.word 4294967292 at.segment there.0)) in
+    subst (λ W. Begins room at n (struct ws) (Ok at) F W) (sym is) (
+      put-keeps room F at.segment at.word 4294967292 there.0 keeps,
+      run,
+      λ ts e. empty_struct room at.segment at.word ws ts F (omega (arith, none, e)) ∙ sym (nothing_hangs room at.segment at.word ts G (omega (arith, none, e))),
+    )
+
+module _ (room : Room) (s p : ℕ) (ws : List ℕ) (n : ℕ) (F : Written) (some : 0 < length ws + n) where
+  abbrev begun_struct : ℕ → Placed
+  begun_struct k = struct_begun room s p ws k F
+
+  pub struct_hangs : (first : Place) (new : Written) → first ≡ (begun_struct n).at → new ≡ (begun_struct n).sheet → (ts : Nodes) → count ts ≡ n → tree_by room s p (struct ws ts) F ≡ row_by room first.segment first.word ts new
+  struct_hangs first new at is ts e =
+      some_struct room s p ws ts F (omega (arith, some, e))
+      ∙ ap (λ k. row_by room (begun_struct k).at.segment (begun_struct k).at.word ts (begun_struct k).sheet) e
+      ∙ sym (row_at room ts first new (begun_struct n) at is)
+
+  -- what hangs on a body has no fewer words than the body
+  pub struct_refuses : (e : WriteFault) (A : Written) → s ≤ length F.full → Refuses room e A → A.words ≤ (begun_struct n).sheet.words → (ts : Nodes) → count ts ≡ n → Shaped (struct ws ts) → Refuses room e (tree_by room s p (struct ws ts) F)
+  struct_refuses e A le h fewer ts many shaped =
+      let x = struct_placed room s p ws n F in
+      let l = lies F s p (length ws + n) (body_blank ws n) x (spot room s p (kinds.Struct (length ws) n) (length ws + n) F le) (length-blank ws n) in
+      let k = keeps_row room ts x.at.segment (x.at.word + length ws) (begun_struct n).sheet shaped.2 l.there (omega (arith, l.inside, length-blank ws n, many)) in
+      writes_err room e A _ (omega (arith, fewer, k.counts, ap (λ (W : Written). W.words) (struct_hangs (begun_struct n).at (begun_struct n).sheet refl refl ts many))) h
+
+module _ (room : Room) (s p n : ℕ) (F : Written) where
+  abbrev begun_ptrs : ℕ → Placed
+  begun_ptrs k = ptrs_begun room s p k F
+
+  pub ptrs_hang : (first : Place) (new : Written) → first ≡ (begun_ptrs n).at → new ≡ (begun_ptrs n).sheet → (ts : Nodes) → count ts ≡ n → tree_by room s p (ptrs ts) F ≡ row_by room first.segment first.word ts new
+  ptrs_hang first new at is ts e =
+      ap (λ k. row_by room (begun_ptrs k).at.segment (begun_ptrs k).at.word ts (begun_ptrs k).sheet) e ∙ sym (row_at room ts first new (begun_ptrs n) at is)
+
+  pub ptrs_refuse : (e : WriteFault) (A : Written) → s ≤ length F.full → Refuses room e A → A.words ≤ (begun_ptrs n).sheet.words → (ts : Nodes) → count ts ≡ n → Shaped (ptrs ts) → Refuses room e (tree_by room s p (ptrs ts) F)
+  ptrs_refuse e A le h fewer ts many shaped =
+      let x = ptrs_placed room s p n F in
+      let blank = replicate {A = ℕ} n 0 in
+      let long = length-replicate {A = ℕ} n 0 in
+      let l = lies F s p n blank x (spot room s p (kinds.List sizes.Pointer n) n F le) long in
+      let k = keeps_row room ts x.at.segment (x.at.word + 0) (begun_ptrs n).sheet shaped.1 l.there (omega (arith, l.inside, long, many)) in
+      writes_err room e A _ (omega (arith, fewer, k.counts, ap (λ (W : Written). W.words) (ptrs_hang (begun_ptrs n).at (begun_ptrs n).sheet refl refl ts many))) h
+
+module _ (room : Room) (at : Place) (d n : ℕ) (bs : Bodies) (F : Written) (k : ℕ) (many : k ≡ number_of bs) (shaped : Shaped (structs d n bs)) (le : at.segment ≤ length F.full) where
+  abbrev begun_structs : ℕ → List ℕ → Placed
+  begun_structs m ws = structs_begun room at.segment at.word d n m ws F
+
+  abbrev elements : List ℕ
+  elements = tag_word (number_of bs) d n ∷ bodies_blank bs
+
+  long : length elements ≡ number_of bs * (d + n) + 1
+  long = omega (arith, length-bodies d n bs shaped.3)
+
+  structs_lie : Lies F at.segment at.word elements (structs_placed room at.segment at.word d n (number_of bs) F)
+  structs_lie =
+      let size = number_of bs * (d + n) in
+      lies F at.segment at.word (size + 1) elements _ (spot room at.segment at.word (kinds.List sizes.Composite size) (size + 1) F le) long
+
+  counted : (begun_structs (number_of bs) (bodies_blank bs)).sheet.words ≤ (tree_by room at.segment at.word (structs d n bs) F).words
+  counted =
+      let x = structs_placed room at.segment at.word d n (number_of bs) F in
+      (keeps_bodies room bs x.at.segment (x.at.word + 1) d n (begun_structs (number_of bs) (bodies_blank bs)).sheet shaped.3 structs_lie.there (omega (arith, structs_lie.inside, long))).counts
+
+  all_begun : (mid : Written) → mid ≡ (begun_structs k []).sheet → append (bodies_blank bs) mid ≡ (begun_structs (number_of bs) (bodies_blank bs)).sheet
+  all_begun mid is =
+      ap (append (bodies_blank bs)) is
+      ∙ append_twice (structs_placed room at.segment at.word d n k F).sheet (tag_word k d n ∷ []) (bodies_blank bs)
+      ∙ ap (λ m. (begun_structs m (bodies_blank bs)).sheet) many
+
+  pub tag_refused : (e : WriteFault) → Refuses room e (begun_structs k []).sheet → Refuses room e (tree_by room at.segment at.word (structs d n bs) F)
+  tag_refused e h =
+      let all = ap (λ (W : Written). W.words) (all_begun (begun_structs k []).sheet refl) in
+      writes_err room e (begun_structs k []).sheet (tree_by room at.segment at.word (structs d n bs) F) (omega (arith, counted, all)) h
+
+  pub elements_refused : (e : WriteFault) (mid : Written) → mid ≡ (begun_structs k []).sheet → Refuses room e (append (bodies_blank bs) mid) → Refuses room e (tree_by room at.segment at.word (structs d n bs) F)
+  elements_refused e mid is h =
+      let all = ap (λ (W : Written). W.words) (all_begun mid is) in
+      writes_err room e (append (bodies_blank bs) mid) (tree_by room at.segment at.word (structs d n bs) F) (omega (arith, counted, all)) h
+
+  pub elements_begun : (first : Place) (mid new : Written) → mid ≡ (begun_structs k []).sheet → first ≡ (begun_structs k []).at → new ≡ append (bodies_blank bs) mid → KeepsTo room new → BeginsBodies room at d n bs (Ok first) F new
+  elements_begun first mid new is starts step keeps =
+      let x = begun_structs (number_of bs) (bodies_blank bs) in
+      let sheet : new ≡ x.sheet = step ∙ all_begun mid is in
+      let place : first ≡ x.at = starts ∙ ap (λ m. (begun_structs m []).at) many in
+      let l = structs_lie in
+      (keeps, rw (sheet, place) (l.there, omega (arith, l.inside, long)), sym (bodies_at room d n bs first new x place sheet))
+
+-- a tree whose body was begun is written once what hangs on it is, or there is no room for it
+pub hung : {X : Type 0} (room : Room) (at first : Place) (n : ℕ) (make : Nodes → Node) (t : Node) (ts : Nodes) (old new W : Written) (r : Result X WriteFault) → t ≡ make ts → count ts ≡ n → Begins room at n make (Ok first) old new
+    → Writes room r (row_by room first.segment first.word ts new) W → Writes room r (tree_by room at.segment at.word t old) W
+hung room at first n make t ts old new W r is many begun row = subst (λ u. Writes room r u W) (sym (begun.2 ts many) ∙ ap (λ u. tree_by room at.segment at.word u old) (sym is)) row
+
+pub not_begun : (room : Room) (at : Place) (n : ℕ) (make : Nodes → Node) (t : Node) (ts : Nodes) (old new : Written) (e : WriteFault) → t ≡ make ts → count ts ≡ n → Shaped t → Begins room at n make (Err e) old new
+    → Refuses room e (tree_by room at.segment at.word t old)
+not_begun room at n make t ts old new e is many shaped begun = subst (λ u. Refuses room e (tree_by room at.segment at.word u old)) (sym is) (begun ts many (subst Shaped is shaped))

@@ -27,3 +27,4 @@ pub mod PackedHolds
 pub mod LayoutDenotes
 pub mod SheetWords
 pub mod ReadBack
+pub mod Drafts

@@ -1,8 +1,9 @@
 -- What trees leave of a limit on cost.
-use Rattle.std.proofs.Common.{◌≡◌, ℕ, ◌+◌, ◌-◌, ◌<◌, ◌≤◌, List, length, map, drop, get_or, Bool, true, false, Option, Some, None, nat_le, is_some, Decides, if◌then◌else◌, refl, sym, ap, ◌∙◌, arith}
+use Rattle.std.proofs.Common.{◌≡◌, ℕ, ◌+◌, ◌*◌, ◌-◌, ◌<◌, ◌≤◌, List, length, map, drop, get_or, Bool, true, false, Option, Some, None, nat_le, is_some, Decides, if◌then◌else◌, refl, sym, ap, ◌∙◌, arith}
+use Rattle.std.specs.Bool.{OnTrue}
 use Rattle.std.proofs.lemmas.List.{at_drop_more}
 use Rattle.std.proofs.lemmas.Bool.Decides.{nat_tests}
-use Rattle.cp_tree.specs.Node.{node, body}
+use Rattle.cp_tree.specs.Node.{Node, Nodes, node, Bodies, body, depth, greatest_depth, deepest_body, cost, total_cost, body_cost, number_of}
 use Rattle.cp_tree.specs.NodeOf.{node_of, body_of, nodes_of, bodies_of}
 use Rattle.cp_tree.specs.Spent.{spent}
 use Rattle.cp_tree.specs.declared.tree.Tree.{Tree}
@@ -29,15 +30,22 @@ spent-fits limit cost left e = go (nat_le cost limit) (λ k. grind (arith, nat_t
     go false d k = rw k d
 
 -- the trees and the structs that a loop has still before it
+pub next_of : {X : Type 0} (f : X → Node) (xs : List X) (i : ℕ) (x : X) → i < length xs → x ≡ get_or xs i x → nodes_of (map f (drop i xs)) ≡ node (f x) (nodes_of (map f (drop (i + 1) xs)))
+next_of {X} f xs i x within is = at_drop_more (λ (ys : List X). nodes_of (map f ys)) xs i x within ∙ ap (λ (y : X). node (f y) (nodes_of (map f (drop (i + 1) xs)))) (sym is)
+
+pub next_body_of : {X : Type 0} (f : X → List ℕ × Nodes) (xs : List X) (i : ℕ) (x : X) (ws : List ℕ) (ts : Nodes) → i < length xs → x ≡ get_or xs i x → f x ≡ (ws, ts)
+    → bodies_of (map f (drop i xs)) ≡ body ws ts (bodies_of (map f (drop (i + 1) xs)))
+next_body_of {X} f xs i x ws ts within is seen =
+    at_drop_more (λ (ys : List X). bodies_of (map f ys)) xs i x within
+    ∙ ap (λ (y : X). body (f y).0 (f y).1 (bodies_of (map f (drop (i + 1) xs)))) (sym is)
+    ∙ ap (λ (p : List ℕ × Nodes). body p.0 p.1 (bodies_of (map f (drop (i + 1) xs)))) seen
+
 pub next_tree : (ts : List Tree) (i : ℕ) (t : Tree) → i < length ts → t ≡ get_or ts i t → nodes_of (map node_of (drop i ts)) ≡ node (node_of t) (nodes_of (map node_of (drop (i + 1) ts)))
-next_tree ts i t within is = at_drop_more (λ (xs : List Tree). nodes_of (map node_of xs)) ts i t within ∙ ap (λ (x : Tree). node (node_of x) (nodes_of (map node_of (drop (i + 1) ts)))) (sym is)
+next_tree = next_of node_of
 
 pub next_body : (bs : List Body) (i : ℕ) (b : Body) → i < length bs → b ≡ get_or bs i b
     → bodies_of (map body_of (drop i bs)) ≡ body b.words.items (nodes_of (map node_of b.ptrs.items)) (bodies_of (map body_of (drop (i + 1) bs)))
-next_body bs i b within is =
-    at_drop_more (λ (xs : List Body). bodies_of (map body_of xs)) bs i b within
-    ∙ ap (λ (x : Body). body (body_of x).0 (body_of x).1 (bodies_of (map body_of (drop (i + 1) bs)))) (sym is)
-    ∙ ap (λ p. body p.0 p.1 (bodies_of (map body_of (drop (i + 1) bs)))) (body_of-is b)
+next_body bs i b within is = next_body_of body_of bs i b _ _ within is (body_of-is b)
 
 -- what is left is of the limit, and nothing is left where the cost passes it
 pub spent-some : (limit cost left : ℕ) (rest : Option ℕ) → rest ≡ spent (Some limit) cost → rest ≡ Some left → (cost ≤ limit) × (left ≤ limit)
@@ -50,3 +58,46 @@ spent-some limit cost left rest e is = go (nat_le cost limit) (λ k. grind (arit
 
 pub spent-none : (limit cost : ℕ) (rest : Option ℕ) → rest ≡ spent (Some limit) cost → rest ≡ None → limit < cost
 spent-none limit cost rest e is = let d = spent-fits limit cost rest e in omega (arith, λ (h : cost ≤ limit). (let never : true ≡ false = sym (d.1 h) ∙ ap is_some is in absurd {A = ⊥} cc))
+
+-- what holds on true is carried along an equation
+pub along : {A : Type 0} (b : Bool) (x : A) {y z : A} → OnTrue b (x ≡ y) → y ≡ z → OnTrue b (x ≡ z)
+along true x h e = h ∙ e
+along false x h e = tt
+
+-- two parts were paid for, and nothing more is
+pub step_left : (left next whole : Option ℕ) (a b c : ℕ) → next ≡ spent left a → c ≡ a + b → spent left c ≡ whole → spent next b ≡ whole
+step_left left next whole a b c paid sum k = ap (λ l. spent l b) paid ∙ spent-more left a b ∙ ap (spent left) (sym sum) ∙ k
+
+pub no_more : (left whole : Option ℕ) (n : ℕ) → n ≡ 0 → spent left n ≡ whole → left ≡ whole
+no_more left whole n e k = sym (spent-0 left) ∙ ap (spent left) (sym e) ∙ k
+
+-- Of all these trees some are still to be gone over: those nest as deep as all may, and leave what all leave.
+abbrev pub RowNests : ℕ → Nodes → Option ℕ → Nodes → Option ℕ → Type 0
+RowNests levels all whole rest left =
+    (greatest_depth all ≤ levels → greatest_depth rest ≤ levels)
+    × (greatest_depth rest ≤ levels → greatest_depth all ≤ levels)
+    × (spent left (total_cost rest) ≡ spent whole (total_cost all))
+
+pub row_nests_on : (levels : ℕ) (all here rest : Nodes) (t : Node) (whole left next : Option ℕ) → here ≡ node t rest → depth t ≤ levels → next ≡ spent left (cost t) → RowNests levels all whole here left → RowNests levels all whole rest next
+row_nests_on levels all here rest t whole left next e within paid kept =
+    let deep = ap greatest_depth e in
+    (λ h. omega (arith, kept.0 h, deep), λ h. kept.1 (omega (arith, h, within, deep)), step_left left next _ (cost t) (total_cost rest) _ paid (ap total_cost e) kept.2)
+
+-- The same of elements of a composite list, each of which costs so much without its trees.
+abbrev pub BodiesNest : ℕ → ℕ → Bodies → Option ℕ → Bodies → Option ℕ → Type 0
+BodiesNest levels price all whole rest left =
+    (deepest_body all ≤ levels → deepest_body rest ≤ levels)
+    × (deepest_body rest ≤ levels → deepest_body all ≤ levels)
+    × (spent left (number_of rest * price + body_cost rest) ≡ spent whole (number_of all * price + body_cost all))
+
+pub bodies_nest_on : (levels price : ℕ) (all here rest : Bodies) (ws : List ℕ) (ts : Nodes) (whole left mid next : Option ℕ) → here ≡ body ws ts rest → greatest_depth ts ≤ levels → mid ≡ spent left price → next ≡ spent mid (total_cost ts)
+    → BodiesNest levels price all whole here left → BodiesNest levels price all whole rest next
+bodies_nest_on levels price all here rest ws ts whole left mid next e within own paid kept =
+    let deep = ap deepest_body e in
+    let others = number_of rest * price + body_cost rest in
+    let sum = ap (λ bs. number_of bs * price + body_cost bs) e in
+    let parts : number_of here * price + body_cost here ≡ price + (total_cost ts + others) = omega (arith, sum) in (
+      λ h. omega (arith, kept.0 h, deep),
+      λ h. kept.1 (omega (arith, h, within, deep)),
+      step_left mid next _ (total_cost ts) others (total_cost ts + others) paid refl (step_left left mid _ price (total_cost ts + others) _ own parts kept.2),
+    )

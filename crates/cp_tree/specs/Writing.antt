@@ -1,13 +1,16 @@
 -- Segments after a tree is written into them.
-use Rattle.std.specs.Prelude.{ℕ, ◌+◌, ◌*◌, ◌^◌, negsuc, List, [], ◌∷◌, ◌++◌, length, replicate, if◌then◌else◌, ◌==◌}
+use Rattle.std.specs.Prelude.{◌≡◌, ℕ, ◌+◌, ◌*◌, ◌^◌, negsuc, List, [], ◌∷◌, ◌++◌, length, replicate, if◌then◌else◌, ◌==◌, Result, Ok, Err}
 use Rattle.cp_words.specs.Word.{word_of, words_for}
 use Rattle.cp_words.specs.declared.pointer.ElementSize.TheVariants as sizes
 use Rattle.cp_words.specs.declared.pointer.Pointer.TheVariants as pointers
 use Rattle.cp_tree.specs.declared.aim.Kind.TheVariants as kinds
+use Rattle.cp_tree.specs.declared.fault.Place.{Place}
+use Rattle.cp_tree.specs.declared.fault.WriteFault.{WriteFault}
 use Rattle.cp_tree.specs.declared.sheet.Room.{Room}
 use Rattle.cp_tree.specs.Node.{element_size, element_count, Node, null, cap, struct, list, ptrs, structs, Nodes, no_nodes, node, Bodies, no_bodies, body, count, number_of}
 use Rattle.cp_tree.specs.Packed.{packed}
-use Rattle.cp_tree.specs.Sheets.{Written, put, append, Placed, place_by}
+use Rattle.cp_tree.specs.Shaped.{Shaped}
+use Rattle.cp_tree.specs.Sheets.{Written, put, append, Placed, place_by, KeepsTo, IsRun, Refuses}
 
 -- a struct's data words, and blank words for its pointers
 abbrev pub body_blank : List ℕ → ℕ → List ℕ
@@ -66,3 +69,20 @@ abbrev mutual
   pub bodies_by : Room → ℕ → ℕ → ℕ → ℕ → Bodies → Written → Written
   bodies_by room s q d n no_bodies F = F
   bodies_by room s q d n (body ws ts bs) F = bodies_by room s (q + d + n) d n bs (row_by room s (q + d) ts F)
+
+-- A body with n pointers was begun, and its pointers stand from a place on: whatever hangs on them, the tree is written
+-- once that is. Or there was no room for it, and so there is none for the tree.
+abbrev pub Begins : Room → Place → ℕ → (Nodes → Node) → Result Place WriteFault → Written → Written → Type 0
+Begins room at n tree (Ok first) old new =
+    KeepsTo room new
+    × IsRun new first n
+    × ((ts : Nodes) → count ts ≡ n → tree_by room at.segment at.word (tree ts) old ≡ row_by room first.segment first.word ts new)
+Begins room at n tree (Err e) old new = (ts : Nodes) → count ts ≡ n → Shaped (tree ts) → Refuses room e (tree_by room at.segment at.word (tree ts) old)
+
+-- The same of a composite list, whose elements stand from a place on.
+abbrev pub BeginsBodies : Room → Place → ℕ → ℕ → Bodies → Result Place WriteFault → Written → Written → Type 0
+BeginsBodies room at d n bs (Ok first) old new =
+    KeepsTo room new
+    × IsRun new first (number_of bs * (d + n))
+    × (tree_by room at.segment at.word (structs d n bs) old ≡ bodies_by room first.segment first.word d n bs new)
+BeginsBodies room at d n bs (Err e) old new = Refuses room e (tree_by room at.segment at.word (structs d n bs) old)

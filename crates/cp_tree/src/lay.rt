@@ -3,11 +3,11 @@
 ghost use Rattle.std.specs.Prelude.{◌≡◌, ◌<◌, ◌≤◌, ◌+◌, ◌*◌, ◌^◌, ◌∷◌, [], length, map, IfOk};
 ghost use Rattle.cp_words.specs.Word.{words_for};
 ghost use Rattle.cp_tree.specs.declared.aim.Kind.TheVariants as kinds;
-ghost use Rattle.cp_tree.specs.Node.{count, number_of, struct, structs};
+ghost use Rattle.cp_tree.specs.Node.{count, number_of, struct, structs, ptrs as pointers};
 ghost use Rattle.cp_tree.specs.NodeOf.{node_of, body_of, nodes_of, bodies_of};
 ghost use Rattle.cp_tree.specs.Shaped.{Shaped, EachShaped, EachEven, HasSizes};
 ghost use Rattle.cp_tree.specs.Sheets.{written, append, place_by, KeepsTo, IsPlace, IsRun, Writes, Places};
-ghost use Rattle.cp_tree.specs.Writing.{body_blank, bodies_blank, tag_word, struct_begun, ptrs_begun, structs_begun, tree_by, row_by, bodies_by};
+ghost use Rattle.cp_tree.specs.Writing.{body_blank, bodies_blank, tag_word, structs_begun, Begins, BeginsBodies, tree_by, row_by, bodies_by};
 
 use crate::aim::Kind;
 use crate::fault::{Place, WriteFault};
@@ -38,7 +38,12 @@ fn place_list(
 }
 
 /// A struct's data words, and blank words for its pointers.
-fn append_body(sheet: &mut Sheet, room: Room, words: &[u64], ptrs: usize) -> Result<(), WriteFault>
+pub(crate) fn append_body(
+    sheet: &mut Sheet,
+    room: Room,
+    words: &[u64],
+    ptrs: usize,
+) -> Result<(), WriteFault>
     requires { KeepsTo room (written sheet.old) }
     ensures { Writes room result (append (body_blank words.now ptrs) (written sheet.old)) (written sheet.new) }
 {
@@ -65,24 +70,9 @@ fn tag_word(count: usize, words: u16, ptrs: u16) -> u64
     4 * count as u64 + 0x1_0000_0000 * words as u64 + 0x1_0000_0000_0000 * ptrs as u64
 }
 
-/// A composite list's tag, and its elements with blank words for their pointers.
-fn append_elements(
-    sheet: &mut Sheet,
-    room: Room,
-    words: u16,
-    ptrs: u16,
-    bodies: &[Body],
-) -> Result<(), WriteFault>
-    requires keeps { KeepsTo room (written sheet.old) }
-    requires few { length bodies.now < 2 ^ 30 }
-    ensures { Writes room result (append (tag_word (length bodies.now) words ptrs ∷ bodies_blank (bodies_of (map body_of bodies.now))) (written sheet.old)) (written sheet.new) }
-{
-    sheet.append(room, &[tag_word(bodies.len(), words, ptrs)])?;
-    append_bodies(sheet, room, bodies)
-}
-
-/// A struct's body, of one word or more, with blank words for its pointers. Gives where these begin.
-fn begin_struct(
+/// Begins a struct: its data words, and blank words for its pointers. Gives where these begin. One of
+/// size zero has no body.
+pub(crate) fn begin_struct(
     sheet: &mut Sheet,
     room: Room,
     at: Place,
@@ -92,10 +82,17 @@ fn begin_struct(
     requires keeps { KeepsTo room (written sheet.old) }
     requires there { IsPlace (written sheet.old) at }
     requires sizes { HasSizes (length words.now) ptrs }
-    requires some { 0 < length words.now + ptrs }
-    ensures placed { Places room result (struct_begun room at.segment at.word words.now ptrs (written sheet.old)) (written sheet.new) }
-    ensures run { IfOk result (λ first. IsRun (written sheet.new) first ptrs) }
+    ensures { Begins room at ptrs (struct words.now) result (written sheet.old) (written sheet.new) }
 {
+    if words.len() + ptrs == 0 {
+        let empty = Pointer::Struct {
+            offset: -1,
+            words: 0,
+            ptrs: 0,
+        };
+        sheet.put(at, encode(empty));
+        return Ok(at);
+    }
     let kind = Kind::Struct {
         words: words.len() as u16,
         ptrs: ptrs as u16,
@@ -108,21 +105,49 @@ fn begin_struct(
     })
 }
 
-/// The body of a list of pointers, of blank words. Gives where it begins.
-fn begin_ptrs(sheet: &mut Sheet, room: Room, at: Place, count: usize) -> Result<Place, WriteFault>
+/// Begins a list of pointers: blank words. Gives where they begin.
+pub(crate) fn begin_ptrs(
+    sheet: &mut Sheet,
+    room: Room,
+    at: Place,
+    count: usize,
+) -> Result<Place, WriteFault>
     requires keeps { KeepsTo room (written sheet.old) }
     requires there { IsPlace (written sheet.old) at }
     requires few { count < 2 ^ 29 }
-    ensures placed { Places room result (ptrs_begun room at.segment at.word count (written sheet.old)) (written sheet.new) }
-    ensures run { IfOk result (λ first. IsRun (written sheet.new) first count) }
+    ensures { Begins room at count pointers result (written sheet.old) (written sheet.new) }
 {
     let start = place_list(sheet, room, at, ElementSize::Pointer, count, count)?;
     sheet.append_blank(room, count)?;
     Ok(start)
 }
 
-/// The body of a composite list, with blank words for the pointers of its elements. Gives where
-/// these begin.
+/// Begins a composite list: its tag. Gives where its elements begin.
+pub(crate) fn begin_elements(
+    sheet: &mut Sheet,
+    room: Room,
+    at: Place,
+    words: u16,
+    ptrs: u16,
+    count: usize,
+) -> Result<Place, WriteFault>
+    requires keeps { KeepsTo room (written sheet.old) }
+    requires there { IsPlace (written sheet.old) at }
+    requires few { count < 2 ^ 30 }
+    requires small { count * (words + ptrs) < 2 ^ 29 }
+    ensures { Places room result (structs_begun room at.segment at.word words ptrs count [] (written sheet.old)) (written sheet.new) }
+{
+    let size = count * (words as usize + ptrs as usize);
+    let tag = place_list(sheet, room, at, ElementSize::Composite, size, size + 1)?;
+    sheet.append(room, &[tag_word(count, words, ptrs)])?;
+    Ok(Place {
+        segment: tag.segment,
+        word: tag.word + 1,
+    })
+}
+
+/// Begins a composite list: its tag, and its elements with blank words for their pointers. Gives
+/// where the elements begin.
 fn begin_structs(
     sheet: &mut Sheet,
     room: Room,
@@ -133,19 +158,12 @@ fn begin_structs(
 ) -> Result<Place, WriteFault>
     requires keeps { KeepsTo room (written sheet.old) }
     requires there { IsPlace (written sheet.old) at }
-    requires few { length bodies.now < 2 ^ 30 }
-    requires small { length bodies.now * (words + ptrs) < 2 ^ 29 }
-    requires even { EachEven words ptrs (bodies_of (map body_of bodies.now)) }
-    ensures placed { Places room result (structs_begun room at.segment at.word words ptrs (length bodies.now) (bodies_blank (bodies_of (map body_of bodies.now))) (written sheet.old)) (written sheet.new) }
-    ensures run { IfOk result (λ first. IsRun (written sheet.new) first (length bodies.now * (words + ptrs))) }
+    requires shaped { Shaped (structs words ptrs (bodies_of (map body_of bodies.now))) }
+    ensures { BeginsBodies room at words ptrs (bodies_of (map body_of bodies.now)) result (written sheet.old) (written sheet.new) }
 {
-    let size = bodies.len() * (words as usize + ptrs as usize);
-    let tag = place_list(sheet, room, at, ElementSize::Composite, size, size + 1)?;
-    append_elements(sheet, room, words, ptrs, bodies)?;
-    Ok(Place {
-        segment: tag.segment,
-        word: tag.word + 1,
-    })
+    let first = begin_elements(sheet, room, at, words, ptrs, bodies.len())?;
+    append_bodies(sheet, room, bodies)?;
+    Ok(first)
 }
 
 /// Lays out a tree whose pointer stands at a place.
@@ -159,7 +177,10 @@ pub(crate) fn lay(sheet: &mut Sheet, room: Room, at: Place, tree: &Tree) -> Resu
     match tree {
         Tree::Null => sheet.put(at, 0),
         Tree::Cap(index) => sheet.put(at, encode(Pointer::Cap(*index))),
-        Tree::Struct(body) => return lay_struct(sheet, room, at, body),
+        Tree::Struct(body) => {
+            let first = begin_struct(sheet, room, at, &body.words, body.ptrs.len())?;
+            return lay_row(sheet, room, first, &body.ptrs);
+        }
         Tree::Voids(count) => {
             place_list(sheet, room, at, ElementSize::Void, *count as usize, 0)?;
         }
@@ -228,27 +249,6 @@ pub(crate) fn lay(sheet: &mut Sheet, room: Room, at: Place, tree: &Tree) -> Resu
         }
     }
     Ok(())
-}
-
-/// Lays out a struct whose pointer stands at a place. One of size zero has no body.
-#[cycle(lay)]
-fn lay_struct(sheet: &mut Sheet, room: Room, at: Place, body: &Body) -> Result<(), WriteFault>
-    requires keeps { KeepsTo room (written sheet.old) }
-    requires there { IsPlace (written sheet.old) at }
-    requires shaped { Shaped (struct (body_of body.now).0 (body_of body.now).1) }
-    ensures { Writes room result (tree_by room at.segment at.word (struct (body_of body.now).0 (body_of body.now).1) (written sheet.old)) (written sheet.new) }
-{
-    if body.words.len() + body.ptrs.len() == 0 {
-        let empty = Pointer::Struct {
-            offset: -1,
-            words: 0,
-            ptrs: 0,
-        };
-        sheet.put(at, encode(empty));
-        return Ok(());
-    }
-    let first = begin_struct(sheet, room, at, &body.words, body.ptrs.len())?;
-    lay_row(sheet, room, first, &body.ptrs)
 }
 
 /// Lays out the trees whose pointers stand from a place on.

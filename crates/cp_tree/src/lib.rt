@@ -9,6 +9,7 @@ mod copy;
 mod decide;
 mod draft;
 mod draft_copy;
+mod draft_lay;
 mod fault;
 mod laws;
 mod lay;
@@ -33,7 +34,7 @@ pub use tree::{Body, Tree};
 pub use view::{Shape, View};
 pub use visits::Visits;
 pub use whole::{Object, Whole};
-pub use write::{write_root, write_segments};
+pub use write::{write_draft, write_root, write_segments};
 
 #[cfg(test)]
 mod tests;

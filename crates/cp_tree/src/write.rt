@@ -1,29 +1,29 @@
 //! Trees, written into segments.
 
-ghost use Rattle.std.specs.Prelude.{◌≡◌, ◌≤◌, ◌<◌, ◌∷◌, [], max, IfOk, IfErr};
+ghost use Rattle.std.specs.Prelude.{◌≡◌, ◌≤◌, ◌<◌, ◌∷◌, [], max, sum, length, map, IfOk, IfErr};
 ghost use Rattle.cp_tree.specs.Node.{depth, cost};
-ghost use Rattle.cp_tree.specs.NodeOf.{node_of};
+ghost use Rattle.cp_tree.specs.DraftOf.{draft_of};
 ghost use Rattle.cp_tree.specs.Shaped.{Shaped};
 ghost use Rattle.cp_tree.specs.Sheets.{lists, written};
 ghost use Rattle.cp_tree.specs.Writes.{IsCostFaultOf, IsWriteFaultOf, FitsIn, room_for, segments_for, laid_out};
 
+use crate::draft::Draft;
+use crate::draft_lay::lay_draft;
 use crate::fault::{Place, WriteFault};
-use crate::lay::lay;
-use crate::measure::nests;
+use crate::measure::draft_nests;
 use crate::sheet::{Room, Sheet};
-use crate::tree::Tree;
 use crate::whole::Object;
 use cp_words::{Limits, Segments};
 use std::alloc::Global;
 
 /// What the tree costs, if it keeps to the limits.
-fn cost_of(tree: &Tree, limits: Limits) -> Result<u64, WriteFault>
-    ensures fits { IfOk result (λ n. (depth (node_of tree.now) ≤ limits.nesting) × (cost (node_of tree.now) ≤ limits.traversal) × (n ≤ limits.traversal)) }
-    ensures refused { IfErr result (IsCostFaultOf limits (node_of tree.now)) }
+fn cost_of(draft: &Draft, limits: Limits) -> Result<u64, WriteFault>
+    ensures fits { IfOk result (λ n. (depth (draft_of draft.now) ≤ limits.nesting) × (cost (draft_of draft.now) ≤ limits.traversal) × (n ≤ limits.traversal)) }
+    ensures refused { IfErr result (IsCostFaultOf limits (draft_of draft.now)) }
 {
     let traversal = limits.traversal() as u64;
     let mut left = Some(traversal);
-    if !nests(tree, limits.nesting(), &mut left) {
+    if !draft_nests(draft, limits.nesting(), &mut left) {
         return Err(WriteFault::TooDeep);
     }
     match left {
@@ -35,18 +35,18 @@ fn cost_of(tree: &Tree, limits: Limits) -> Result<u64, WriteFault>
 /// The tree written into segments of at most so many words each, at most so many.
 fn lay_out(
     alloc: Global,
-    tree: &Tree,
+    draft: &Draft,
     words: u32,
     segments: u32,
     limits: Limits,
 ) -> Result<Sheet, WriteFault>
-    requires shaped { Shaped (node_of tree.now) }
+    requires shaped { Shaped (draft_of draft.now) }
     requires few { segments ≤ 512 }
-    ensures written { IfOk result (λ w. written w ≡ laid_out (room_for words segments limits) (node_of tree.now)) }
-    ensures fits { IfOk result (λ w. FitsIn limits (room_for words segments limits) (node_of tree.now)) }
-    ensures refused { IfErr result (IsWriteFaultOf limits (room_for words segments limits) (node_of tree.now)) }
+    ensures written { IfOk result (λ w. written w ≡ laid_out (room_for words segments limits) (draft_of draft.now)) }
+    ensures fits { IfOk result (λ w. FitsIn limits (room_for words segments limits) (draft_of draft.now)) }
+    ensures refused { IfErr result (IsWriteFaultOf limits (room_for words segments limits) (draft_of draft.now)) }
 {
-    let cost = cost_of(tree, limits)?;
+    let cost = cost_of(draft, limits)?;
     let room = Room {
         words: words as usize,
         segments: segments as usize,
@@ -57,15 +57,37 @@ fn lay_out(
         segment: 0,
         word: 0,
     };
-    lay(&mut sheet, room, root, tree)?;
+    lay_draft(&mut sheet, room, root, draft)?;
     Ok(sheet)
 }
 
-/// Writes the tree into segments of at most so many words, in the order of its pointers (encoding
-/// specification, "Messages", "Inter-Segment Pointers"). 0 counts as 1. What doesn't fit where its
-/// pointer stands goes behind a pad of one word; a body that is larger than a segment has a segment
-/// of its own. B1 if the tree nests deeper than the limit, else B2 if it costs more, else B4 if its
-/// segments have more words together than a frame may have; B3 if memory runs out.
+/// Writes a tree with lent parts, of one that a message can hold, into segments of at most so many
+/// words, in the order of its pointers (encoding specification, "Messages", "Inter-Segment
+/// Pointers"). 0 counts as 1. What doesn't fit where its pointer stands goes behind a pad of one word;
+/// a body that is larger than a segment has a segment of its own. B1 if the tree nests deeper than the
+/// limit, else B2 if it costs more, else B4 if its segments have more words together than a frame may
+/// have; B3 if memory runs out.
+pub fn write_draft(
+    alloc: Global,
+    draft: &Draft,
+    max_words: u32,
+    limits: Limits,
+) -> Result<Segments, WriteFault>
+    requires shaped { Shaped (draft_of draft.now) }
+    ensures written { IfOk result (λ s. s ≡ segments_for max_words limits (draft_of draft.now)) }
+    ensures fits { IfOk result (λ s. FitsIn limits (room_for (max 1 max_words) limits.segments limits) (draft_of draft.now)) }
+    ensures small { IfOk result (λ s. (length s ≤ limits.segments) × (sum (map length s) ≤ limits.frame_words)) }
+    ensures refused { IfErr result (IsWriteFaultOf limits (room_for (max 1 max_words) limits.segments limits) (draft_of draft.now)) }
+{
+    let words = if max_words == 0 { 1 } else { max_words };
+    let sheet = lay_out(alloc, draft, words, limits.segments(), limits)?;
+    match Segments::new(sheet.into_lists()?) {
+        Ok(segments) => Ok(segments),
+        Err(_) => Err(WriteFault::OutOfMemory),
+    }
+}
+
+/// Writes the tree into segments of at most so many words, as `write_draft` writes it lent.
 pub fn write_segments(
     alloc: Global,
     object: &Object,
@@ -74,14 +96,11 @@ pub fn write_segments(
 ) -> Result<Segments, WriteFault>
     ensures written { IfOk result (λ s. s ≡ segments_for max_words limits object.now) }
     ensures fits { IfOk result (λ s. FitsIn limits (room_for (max 1 max_words) limits.segments limits) object.now) }
+    ensures small { IfOk result (λ s. (length s ≤ limits.segments) × (sum (map length s) ≤ limits.frame_words)) }
     ensures refused { IfErr result (IsWriteFaultOf limits (room_for (max 1 max_words) limits.segments limits) object.now) }
 {
-    let words = if max_words == 0 { 1 } else { max_words };
-    let sheet = lay_out(alloc, object.tree(), words, limits.segments(), limits)?;
-    match Segments::new(sheet.into_lists()?) {
-        Ok(segments) => Ok(segments),
-        Err(_) => Err(WriteFault::OutOfMemory),
-    }
+    let draft = Draft::Lent(object.tree());
+    write_draft(alloc, &draft, max_words, limits)
 }
 
 /// Writes the tree into one segment, in the order of its pointers (encoding specification,
@@ -92,7 +111,8 @@ pub fn write_root(alloc: Global, object: &Object, limits: Limits) -> Result<Vec<
     ensures fits { IfOk result (λ v. FitsIn limits (room_for limits.frame_words 1 limits) object.now) }
     ensures refused { IfErr result (IsWriteFaultOf limits (room_for limits.frame_words 1 limits) object.now) }
 {
-    let sheet = lay_out(alloc, object.tree(), limits.frame_words(), 1, limits)?;
+    let draft = Draft::Lent(object.tree());
+    let sheet = lay_out(alloc, &draft, limits.frame_words(), 1, limits)?;
     Ok(sheet.into_last())
 }
 

@@ -1,8 +1,15 @@
 //! Trees, written and read back.
 
+ghost use Rattle.std.specs.Prelude.{◌≡◌, ◌∷◌, [], map, IfOk};
+ghost use Rattle.cp_tree.specs.Node.{cap, struct, node, no_nodes, ptrs, structs, body, no_bodies};
+ghost use Rattle.cp_tree.specs.NodeOf.{node_of, nodes_of};
+ghost use Rattle.cp_tree.specs.DraftOf.{draft_of, draft_body_of};
+ghost use Rattle.cp_tree.specs.Shaped.{Shaped};
+
 use super::*;
+use crate::draft::DraftBody;
 use crate::read::read_root;
-use crate::tree::Body;
+use crate::tree::{Body, Tree};
 use std::alloc::AllocError;
 use std::test::Fail;
 
@@ -167,5 +174,161 @@ fn each_kind_is_written(rt: HostRuntime) -> Result<(), Fail> {
         "0000000001000b00 0400000000000000 0000000000000000 0300000003000000 fcffffff00000000 1d00000028000000 1900000019000000 190000004a000000 1d0000002b000000 210000001c000000 250000000d000000 2500000016000000 2d00000037000000 0500000000000000 6e696e6520627974 6500000000000000 0100020003000400 0500000000000000 0600000007000000 0800000000000000 0a00000000000000 0400000001000000 0000000000000000 0d00000000000000 0800000001000200 0100000000000000 0300000009000000 0c00000001000000 0200000000000000 0800000001000000 0000000000000000 0b00000000000000 0c00000000000000",
     ];
     assert!(rt; writes(alloc, all_kinds(alloc)?, 8_388_608, &words)?);
+    Ok(())
+}
+
+/// A list of two pointers: a lent tree, and a capability of its own.
+fn drafted_list<'a>(alloc: Global, lent: &'a Tree) -> Result<Draft<'a>, AllocError>
+    ensures { IfOk result (λ d. draft_of d ≡ ptrs (node (node_of lent.now) (node (cap 2) no_nodes))) }
+{
+    Ok(Draft::Ptrs(vec![in alloc; Draft::Lent(lent), Draft::Own(Tree::Cap(2))]?))
+}
+
+/// A struct of one data word and one pointer.
+fn drafted_body<'a>(alloc: Global, word: u64, part: Draft<'a>) -> Result<DraftBody<'a>, AllocError>
+    ensures { IfOk result (λ b. draft_body_of b ≡ (word ∷ [], node (draft_of part.entry) no_nodes)) }
+{
+    Ok(DraftBody {
+        words: Vec::from_slice(alloc, &[word])?,
+        ptrs: vec![in alloc; part]?,
+    })
+}
+
+/// A composite list of two such structs.
+fn drafted_structs<'a>(alloc: Global, lent: &'a Tree) -> Result<Draft<'a>, AllocError>
+    ensures { IfOk result (λ d. draft_of d ≡ structs 1 1 (body (5 ∷ []) (node (node_of lent.now) no_nodes) (body (6 ∷ []) (node (cap 1) no_nodes) no_bodies))) }
+{
+    let items = vec![in alloc;
+        drafted_body(alloc, 5, Draft::Lent(lent))?,
+        drafted_body(alloc, 6, Draft::Own(Tree::Cap(1)))?,
+    ]?;
+    Ok(Draft::Structs {
+        words: 1,
+        ptrs: 1,
+        items,
+    })
+}
+
+/// A struct of these data words and pointers.
+fn drafted_struct<'a>(words: Vec<u64>, ptrs: Vec<Draft<'a>>) -> Draft<'a>
+    ensures { draft_of result ≡ struct words.items (nodes_of (map draft_of ptrs.entry.items)) }
+{
+    Draft::Struct(DraftBody { words, ptrs })
+}
+
+/// A struct of one data word and of both lists.
+fn drafted<'a>(alloc: Global, lent: &'a Tree) -> Result<Draft<'a>, AllocError>
+    ensures { IfOk result (λ d. draft_of d ≡ struct (9 ∷ []) (node (ptrs (node (node_of lent.now) (node (cap 2) no_nodes))) (node (structs 1 1 (body (5 ∷ []) (node (node_of lent.now) no_nodes) (body (6 ∷ []) (node (cap 1) no_nodes) no_bodies))) no_nodes))) }
+{
+    let ptrs = vec![in alloc; drafted_list(alloc, lent)?, drafted_structs(alloc, lent)?]?;
+    Ok(drafted_struct(Vec::from_slice(alloc, &[9])?, ptrs))
+}
+
+/// Whether the draft is written as this copy of it is, and read as it.
+fn writes_as_its_copy(
+    alloc: Global,
+    draft: &Draft,
+    copy: &Object,
+    max_words: u32,
+) -> Result<bool, Fail>
+    requires { Shaped (draft_of draft.now) }
+{
+    let limits = Limits::standard();
+    let Ok(written) = write_draft(alloc, draft, max_words, limits) else {
+        return Err(Fail::from("not written"));
+    };
+    let Ok(wanted) = write_segments(alloc, copy, max_words, limits) else {
+        return Err(Fail::from("not written"));
+    };
+    let Ok(back) = read_root(alloc, &written, limits) else {
+        return Err(Fail::from("not read"));
+    };
+    Ok(written.lists() == wanted.lists() && *back.tree() == *copy.tree())
+}
+
+#[test]
+fn a_tree_with_lent_parts_is_written_as_its_copy(rt: HostRuntime) -> Result<(), Fail> {
+    let alloc = rt.alloc();
+    let lent = object(all_kinds(alloc)?)?;
+    let draft = drafted(alloc, lent.tree())?;
+    let Ok(copy) = draft.copy(alloc)?.into_object() else {
+        return Err(Fail::from("no struct"));
+    };
+    assert!(rt; writes_as_its_copy(alloc, &draft, &copy, 0)?);
+    assert!(rt; writes_as_its_copy(alloc, &draft, &copy, 7)?);
+    assert!(rt; writes_as_its_copy(alloc, &draft, &copy, 8_388_608)?);
+    Ok(())
+}
+
+#[test]
+fn depth_is_told_before_cost_and_cost_before_words(rt: HostRuntime) -> Result<(), Fail> {
+    let alloc = rt.alloc();
+    let object = object(finish(alloc)?)?;
+    // Two levels, a cost of 5, and 6 words in segments of one word.
+    for (nesting, traversal, frame_words, wanted) in [
+        (1, 4, 5, Some(WriteFault::TooDeep)),
+        (2, 4, 5, Some(WriteFault::TooCostly)),
+        (2, 5, 5, Some(WriteFault::TooManyWords)),
+        (2, 5, 6, None),
+    ] {
+        let limits = Limits::new(nesting, traversal, 512, frame_words).ok_or("limits")?;
+        let told = write_segments(alloc, &object, 1, limits).err();
+        assert!(rt; told == wanted);
+    }
+    Ok(())
+}
+
+#[test]
+fn cost_has_a_limit(rt: HostRuntime) -> Result<(), Fail> {
+    let alloc = rt.alloc();
+    let object = object(finish(alloc)?)?;
+    let within = Limits::new(64, 5, 512, 8_388_608).ok_or("limits")?;
+    let past = Limits::new(64, 4, 512, 8_388_608).ok_or("limits")?;
+    assert!(rt; write_root(alloc, &object, within).is_ok());
+    assert!(rt; write_root(alloc, &object, past).err() == Some(WriteFault::TooCostly));
+    Ok(())
+}
+
+/// An object with each kind of tree. A growth that is refused once is asked for again.
+fn object_of_all_kinds(alloc: Global) -> Result<Object, Fail> {
+    object(match all_kinds(alloc) {
+        Ok(tree) => tree,
+        Err(_) => all_kinds(alloc)?,
+    })
+}
+
+// With memory enough no growth is refused. `rt try --test --fail-alloc N` refuses the Nth of each
+// of the two tests below.
+#[test]
+fn want_of_memory_while_segments_are_written(rt: HostRuntime) -> Result<(), Fail> {
+    let alloc = rt.alloc();
+    let limits = Limits::standard();
+    let object = object_of_all_kinds(alloc)?;
+    for max_words in [0, 4, 8_388_608] {
+        let first = write_segments(alloc, &object, max_words, limits);
+        let second = write_segments(alloc, &object, max_words, limits);
+        let right = match (&first, &second) {
+            (Ok(first), Ok(second)) => first.lists() == second.lists(),
+            (Err(fault), Ok(_)) | (Ok(_), Err(fault)) => *fault == WriteFault::OutOfMemory,
+            (Err(_), Err(_)) => false,
+        };
+        assert!(rt; right, "{max_words}");
+    }
+    Ok(())
+}
+
+#[test]
+fn want_of_memory_while_one_segment_is_written(rt: HostRuntime) -> Result<(), Fail> {
+    let alloc = rt.alloc();
+    let limits = Limits::standard();
+    let object = object_of_all_kinds(alloc)?;
+    let first = write_root(alloc, &object, limits);
+    let second = write_root(alloc, &object, limits);
+    let right = match (&first, &second) {
+        (Ok(first), Ok(second)) => first == second,
+        (Err(fault), Ok(_)) | (Ok(_), Err(fault)) => *fault == WriteFault::OutOfMemory,
+        (Err(_), Err(_)) => false,
+    };
+    assert!(rt; right);
     Ok(())
 }

@@ -1,21 +1,23 @@
-use Rattle.std.proofs.Common.{◌≡◌, length, ap, ◌∙◌}
+use Rattle.std.proofs.Common.{sym, ◌∙◌}
 use Rattle.std.proofs.lemmas.Result.{err_from_is_err_and}
-use Rattle.cp_tree.specs.Sheets.{written, append}
-use Rattle.cp_tree.specs.Writing.{body_blank}
-use Rattle.cp_tree.proofs.Begins.{next_blank, writes_err, first_blank}
+use Rattle.cp_tree.specs.NodeOf.{node_of}
+use Rattle.cp_tree.specs.Sheets.{written}
+use Rattle.cp_tree.proofs.Begins.{next_blank, first_blank, count_in, writes_err}
+use Rattle.cp_tree.proofs.Spending.{next_body}
 use Rattle.cp_tree.proofs.lay.append_bodies.Goals as goal
 
 pub returns-in_err-append_body : goal.returns-in_err-append_body
 returns-in_err-append_body c =
     let p = err_from_is_err_and c.from_residual.result c.from_residual.ensures.1 in
     let b = c.body-item.result in
-    let many : c.len.result ≡ length b.ptrs.items = c.len.ensures ∙ b.ptrs.ok.0 in
-    let words = first_blank c.args.bodies.now c.loop-body.body-index c.len.result b (written c.loop-body.sheet) (written c.args.sheet.now) c.loop-body-test.true c.body-item.is many c.loop-body.invariant.1 in
-    rw (p.1, p.2) (writes_err c.args.room c.in_err-append_body.field-0.0 _ _ words (rw (c.deref.ensures.value) at c.in_err-append_body.ensures))
+    let e = next_body c.args.bodies.now c.loop-body.body-index b c.loop-body-test.true c.body-item.is in
+    let many = c.len.ensures ∙ b.ptrs.ok.0 ∙ sym (count_in node_of b.ptrs.items) in
+    rw (p.1, p.2) (writes_err c.args.room c.in_err-append_body.field-0.0 _ _ (first_blank _ _ _ c.deref.result.now _ c.len.result (written c.loop-body.sheet) _ e c.deref.ensures.value many c.loop-body.invariant.1) c.in_err-append_body.ensures)
 
 pub loop-body-preserved : goal.loop-body-preserved
 loop-body-preserved c =
     let b = c.body-item.result in
     let ok = c.in_ok-append_body.ensures in
-    let many : c.len.result ≡ length b.ptrs.items = c.len.ensures ∙ b.ptrs.ok.0 in
-    (ok.1, next_blank c.args.bodies.now c.loop-body.body-index c.len.result b (written c.loop-body.sheet) (written c.args.sheet.now) _ c.loop-body-test.true c.body-item.is many c.loop-body.invariant.1 (ok.0 ∙ ap (λ ws. append (body_blank ws c.len.result) (written c.loop-body.sheet)) c.deref.ensures.value))
+    let e = next_body c.args.bodies.now c.loop-body.body-index b c.loop-body-test.true c.body-item.is in
+    let many = c.len.ensures ∙ b.ptrs.ok.0 ∙ sym (count_in node_of b.ptrs.items) in
+    (ok.1, next_blank _ _ _ c.deref.result.now _ c.len.result (written c.loop-body.sheet) _ e c.deref.ensures.value many c.loop-body.invariant.1 _ ok.0)

@@ -1,25 +1,30 @@
-use Rattle.std.proofs.Common.{◌≡◌, ◌+◌, ◌*◌, ◌∷◌, length, map, ap, ◌∙◌, arith}
-use Rattle.cp_words.specs.declared.pointer.ElementSize.TheVariants as sizes
-use Rattle.cp_tree.specs.declared.aim.Kind.TheVariants as kinds
-use Rattle.cp_tree.specs.Node.{number_of}
+use Rattle.std.proofs.Common.{length, map, sym, arith}
+use Rattle.std.proofs.lemmas.Result.{err_from_is_err_and}
 use Rattle.cp_tree.specs.NodeOf.{body_of, bodies_of}
-use Rattle.cp_tree.specs.Sheets.{written, append}
-use Rattle.cp_tree.specs.Writing.{bodies_blank, structs_placed, tag_word}
-use Rattle.cp_tree.proofs.Begins.{run_of, number_in}
-use Rattle.cp_tree.proofs.Keeps.{spot, length-bodies}
+use Rattle.cp_tree.specs.Sheets.{written}
+use Rattle.cp_tree.proofs.Begins.{number_in, tag_refused, elements_refused, elements_begun}
 use Rattle.cp_tree.proofs.lay.begin_structs.Goals as goal
 
-pub returns-clause-run : goal.returns-clause-run
-returns-clause-run c =
-    let F = written c.args.sheet.now in
-    let at = c.args.at in
+pub begin_elements-requires-clause-few : goal.begin_elements-requires-clause-few
+begin_elements-requires-clause-few c = omega (arith, c.requires.shaped.1, number_in body_of c.args.bodies.now)
+
+pub begin_elements-requires-clause-small : goal.begin_elements-requires-clause-small
+begin_elements-requires-clause-small c = rw (← number_in body_of c.args.bodies.now) c.requires.shaped.2
+
+pub returns-in_err-first : goal.returns-in_err-first
+returns-in_err-first c =
     let bs = bodies_of (map body_of c.args.bodies.now) in
-    let k = length c.args.bodies.now in
-    let size = k * (c.args.words + c.args.ptrs) in
-    let xs = tag_word k c.args.words c.args.ptrs ∷ bodies_blank bs in
-    let many : number_of bs * (c.args.words + c.args.ptrs) ≡ size = ap (λ m. m * (c.args.words + c.args.ptrs)) (number_in c.args.bodies.now) in
-    let long : length xs ≡ size + 1 = omega (arith, length-bodies c.args.words c.args.ptrs bs c.requires.even, many) in
-    let x = structs_placed c.args.room at.segment at.word c.args.words c.args.ptrs k F in
-    let start = c.in_ok-tag.ensures in
-    let new = c.in_ok-append_elements.ensures.0 ∙ ap (append xs) start.0.0 in
-    run_of F at.segment at.word (size + 1) xs x _ _ 1 size (spot c.args.room at.segment at.word (kinds.List sizes.Composite size) (size + 1) F c.requires.there.0) long new start.1 (omega (arith, long))
+    let p = err_from_is_err_and c.from_residual.result c.from_residual.ensures.1 in
+    rw (p.1, p.2) (tag_refused c.args.room c.args.at c.args.words c.args.ptrs bs (written c.args.sheet.now) (length c.args.bodies.now) (sym (number_in body_of c.args.bodies.now)) c.requires.shaped c.requires.there.0 c.in_err-first.field-0.0 c.in_err-first.ensures.0)
+
+pub returns-in_err-append_bodies : goal.returns-in_err-append_bodies
+returns-in_err-append_bodies c =
+    let bs = bodies_of (map body_of c.args.bodies.now) in
+    let p = err_from_is_err_and c.from_residual-in_err-append_bodies.result c.from_residual-in_err-append_bodies.ensures.1 in
+    rw (p.1, p.2) (elements_refused c.args.room c.args.at c.args.words c.args.ptrs bs (written c.args.sheet.now) (length c.args.bodies.now) (sym (number_in body_of c.args.bodies.now)) c.requires.shaped c.requires.there.0 c.in_err-append_bodies.field-0.0 _ c.in_ok-first.ensures.0.0 c.in_err-append_bodies.ensures)
+
+pub returns : goal.returns
+returns c =
+    let bs = bodies_of (map body_of c.args.bodies.now) in
+    let all = c.in_ok-append_bodies.ensures in
+    elements_begun c.args.room c.args.at c.args.words c.args.ptrs bs (written c.args.sheet.now) (length c.args.bodies.now) (sym (number_in body_of c.args.bodies.now)) c.requires.shaped c.requires.there.0 _ _ _ c.in_ok-first.ensures.0.0 c.in_ok-first.ensures.1 all.0 all.1

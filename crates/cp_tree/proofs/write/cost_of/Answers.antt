@@ -1,18 +1,18 @@
 use Rattle.std.proofs.Common.{refl, arith}
 use Rattle.cp_tree.specs.Node.{cost}
-use Rattle.cp_tree.specs.NodeOf.{node_of}
+use Rattle.cp_tree.specs.DraftOf.{draft_of}
 use Rattle.cp_tree.proofs.Spending.{spent-some, spent-none}
 use Rattle.cp_tree.proofs.write.cost_of.Goals as goal
 
 pub overflow_sub-result : goal.overflow_sub-result
-overflow_sub-result c = (spent-some c.traversal-traversal.result (cost (node_of c.args.tree.now)) c.in-Some.left _ c.if-not-nests.ensures.left c.in-Some.is).1
+overflow_sub-result c = (spent-some c.traversal-traversal.result (cost (draft_of c.args.draft.now)) c.in-Some.left _ c.if-not-draft_nests.ensures.left c.in-Some.is).1
 
 pub returns-in-Some-clause-fits : goal.returns-in-Some-clause-fits
 returns-in-Some-clause-fits c =
-    let h = spent-some c.traversal-traversal.result (cost (node_of c.args.tree.now)) c.in-Some.left _ c.if-not-nests.ensures.left c.in-Some.is in
-    (omega (arith, c.if-not-nests.ensures.deep.0 refl, c.nesting.ensures.value), omega (arith, h.0, c.traversal-traversal.ensures.value), omega (arith, c.traversal-traversal.ensures.value))
+    let h = spent-some c.traversal-traversal.result (cost (draft_of c.args.draft.now)) c.in-Some.left _ c.if-not-draft_nests.ensures.left c.in-Some.is in
+    (omega (arith, c.if-not-draft_nests.ensures.deep.0 refl, c.nesting.ensures.value), omega (arith, h.0, c.traversal-traversal.ensures.value), omega (arith, c.traversal-traversal.ensures.value))
 
 pub returns-in-None-clause-refused : goal.returns-in-None-clause-refused
 returns-in-None-clause-refused c =
-    let h = spent-none c.traversal-traversal.result (cost (node_of c.args.tree.now)) _ c.if-not-nests.ensures.left c.in-None.is in
-    (omega (arith, c.if-not-nests.ensures.deep.0 refl, c.nesting.ensures.value), omega (arith, h, c.traversal-traversal.ensures.value))
+    let h = spent-none c.traversal-traversal.result (cost (draft_of c.args.draft.now)) _ c.if-not-draft_nests.ensures.left c.in-None.is in
+    (omega (arith, c.if-not-draft_nests.ensures.deep.0 refl, c.nesting.ensures.value), omega (arith, h, c.traversal-traversal.ensures.value))

@@ -1,8 +1,10 @@
 use Rattle.std.proofs.Common.{◌∷◌, [], ap, ◌∙◌, refl, arith}
-use Rattle.cp_tree.specs.NodeOf.{node_of}
+use Rattle.cp_tree.specs.DraftOf.{draft_of}
 use Rattle.cp_tree.specs.Sheets.{Written}
+use Rattle.cp_tree.specs.declared.draft.Draft.TheVariants.{Lent}
 use Rattle.cp_tree.specs.Writes.{room_for, laid_out}
 use Rattle.cp_tree.proofs.Alone.{alone_lists}
+use Rattle.cp_tree.proofs.Drafts.{draft-Lent}
 use Rattle.cp_tree.proofs.write.write_root.Goals as goal
 
 pub returns-clause-written : goal.returns-clause-written
@@ -12,6 +14,6 @@ returns-clause-written c =
     let last =
     c.into_last.ensures
     ∙ ap (λ (W : Written). W.last) c.in_ok-sheet.ensures.written
-    ∙ ap (λ n. (laid_out (room_for n 1 limits) (node_of c.tree.result.now)).last) c.frame_words.ensures.value
-    ∙ ap (λ u. (laid_out (room_for limits.frame_words 1 limits) u).last) c.tree.ensures.tree in
+    ∙ ap (λ n. (laid_out (room_for n 1 limits) (draft_of (Lent c.tree.result))).last) c.frame_words.ensures.value
+    ∙ ap (λ u. (laid_out (room_for limits.frame_words 1 limits) u).last) (draft-Lent c.tree.result ∙ c.tree.ensures.tree) in
     ap (λ v. v ∷ []) last ∙ alone_lists (room_for limits.frame_words 1 limits) (omega arith) t 0 0 (record { full = []; last = 0 ∷ []; words = 1 }) refl

@@ -1,0 +1,128 @@
+//! How a tree with lent parts is laid out in segments.
+
+ghost use Rattle.std.specs.Prelude.{◌+◌, ◌*◌, map};
+ghost use Rattle.cp_tree.specs.DraftOf.{draft_of, draft_body_of};
+ghost use Rattle.cp_tree.specs.Node.{count, number_of, structs};
+ghost use Rattle.cp_tree.specs.NodeOf.{nodes_of, bodies_of};
+ghost use Rattle.cp_tree.specs.Shaped.{Shaped, EachShaped, EachEven};
+ghost use Rattle.cp_tree.specs.Sheets.{written, append, KeepsTo, IsPlace, IsRun, Writes};
+ghost use Rattle.cp_tree.specs.Writing.{bodies_blank, BeginsBodies, tree_by, row_by, bodies_by};
+
+use crate::draft::{Draft, DraftBody};
+use crate::fault::{Place, WriteFault};
+use crate::lay::{append_body, begin_elements, begin_ptrs, begin_struct, lay};
+use crate::sheet::{Room, Sheet};
+
+/// The elements of a composite list, each with blank words for its pointers.
+fn append_draft_bodies(
+    sheet: &mut Sheet,
+    room: Room,
+    bodies: &[DraftBody],
+) -> Result<(), WriteFault>
+    requires { KeepsTo room (written sheet.old) }
+    ensures { Writes room result (append (bodies_blank (bodies_of (map draft_body_of bodies.now))) (written sheet.old)) (written sheet.new) }
+{
+    for body in bodies {
+        append_body(sheet, room, &body.words, body.ptrs.len())?;
+    }
+    Ok(())
+}
+
+/// Begins a composite list: its tag, and its elements with blank words for their pointers. Gives
+/// where the elements begin.
+fn begin_draft_structs(
+    sheet: &mut Sheet,
+    room: Room,
+    at: Place,
+    words: u16,
+    ptrs: u16,
+    bodies: &[DraftBody],
+) -> Result<Place, WriteFault>
+    requires keeps { KeepsTo room (written sheet.old) }
+    requires there { IsPlace (written sheet.old) at }
+    requires shaped { Shaped (structs words ptrs (bodies_of (map draft_body_of bodies.now))) }
+    ensures { BeginsBodies room at words ptrs (bodies_of (map draft_body_of bodies.now)) result (written sheet.old) (written sheet.new) }
+{
+    let first = begin_elements(sheet, room, at, words, ptrs, bodies.len())?;
+    append_draft_bodies(sheet, room, bodies)?;
+    Ok(first)
+}
+
+/// Lays out a tree whose pointer stands at a place.
+#[cycle(draft_lay)]
+pub(crate) fn lay_draft(
+    sheet: &mut Sheet,
+    room: Room,
+    at: Place,
+    draft: &Draft,
+) -> Result<(), WriteFault>
+    requires keeps { KeepsTo room (written sheet.old) }
+    requires there { IsPlace (written sheet.old) at }
+    requires shaped { Shaped (draft_of draft.now) }
+    ensures { Writes room result (tree_by room at.segment at.word (draft_of draft.now) (written sheet.old)) (written sheet.new) }
+{
+    match draft {
+        Draft::Own(tree) => lay(sheet, room, at, tree),
+        Draft::Lent(tree) => lay(sheet, room, at, tree),
+        Draft::Struct(body) => {
+            let first = begin_struct(sheet, room, at, &body.words, body.ptrs.len())?;
+            lay_drafts(sheet, room, first, &body.ptrs)
+        }
+        Draft::Ptrs(items) => {
+            let first = begin_ptrs(sheet, room, at, items.len())?;
+            lay_drafts(sheet, room, first, items)
+        }
+        Draft::Structs { words, ptrs, items } => {
+            let first = begin_draft_structs(sheet, room, at, *words, *ptrs, items)?;
+            lay_draft_bodies(sheet, room, first, *words, *ptrs, items)
+        }
+    }
+}
+
+/// Lays out the trees whose pointers stand from a place on.
+#[cycle(draft_lay)]
+fn lay_drafts(
+    sheet: &mut Sheet,
+    room: Room,
+    first: Place,
+    drafts: &[Draft],
+) -> Result<(), WriteFault>
+    requires keeps { KeepsTo room (written sheet.old) }
+    requires run { IsRun (written sheet.old) first (count (nodes_of (map draft_of drafts.now))) }
+    requires shaped { EachShaped (nodes_of (map draft_of drafts.now)) }
+    ensures { Writes room result (row_by room first.segment first.word (nodes_of (map draft_of drafts.now)) (written sheet.old)) (written sheet.new) }
+{
+    let mut at = first;
+    for draft in drafts {
+        lay_draft(sheet, room, at, draft)?;
+        at.word += 1;
+    }
+    Ok(())
+}
+
+/// Lays out what hangs on the pointers of a composite list's elements, which stand from a place on.
+#[cycle(draft_lay)]
+fn lay_draft_bodies(
+    sheet: &mut Sheet,
+    room: Room,
+    first: Place,
+    words: u16,
+    ptrs: u16,
+    bodies: &[DraftBody],
+) -> Result<(), WriteFault>
+    requires keeps { KeepsTo room (written sheet.old) }
+    requires run { IsRun (written sheet.old) first (number_of (bodies_of (map draft_body_of bodies.now)) * (words + ptrs)) }
+    requires even { EachEven words ptrs (bodies_of (map draft_body_of bodies.now)) }
+    ensures { Writes room result (bodies_by room first.segment first.word words ptrs (bodies_of (map draft_body_of bodies.now)) (written sheet.old)) (written sheet.new) }
+{
+    let mut at = first;
+    for body in bodies {
+        let pointers = Place {
+            segment: at.segment,
+            word: at.word + words as usize,
+        };
+        lay_drafts(sheet, room, pointers, &body.ptrs)?;
+        at.word = pointers.word + ptrs as usize;
+    }
+    Ok(())
+}
