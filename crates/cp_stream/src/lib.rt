@@ -8,6 +8,7 @@ mod reader;
 mod status;
 mod tap;
 mod view;
+mod write;
 
 pub use cp_frame::Mode;
 pub use cp_words::Limits;
@@ -16,6 +17,7 @@ pub use read::{read_message, read_segments};
 pub use reader::MessageReader;
 pub use tap::Tap;
 pub use view::view_of;
+pub use write::{write_message, write_message_in};
 
 #[cfg(test)]
 mod tests;
