@@ -1,8 +1,8 @@
 //! What the commands do, over a reader and two writers.
 
 use crate::fault::Stop;
-use crate::line::push_line;
 use cp_frame::{FrameReader, Mode, write_frame};
+use cp_lines::push_line;
 use cp_stream::view_of;
 use cp_tree::{Limits, read_root, write_segments};
 use cp_words::Segments;

@@ -4,8 +4,6 @@
 mod act;
 mod command;
 mod fault;
-mod line;
-mod notation;
 
 pub use act::{Plan, act};
 use std::env;

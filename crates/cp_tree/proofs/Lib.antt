@@ -27,4 +27,11 @@ pub mod PackedHolds
 pub mod LayoutDenotes
 pub mod SheetWords
 pub mod ReadBack
+pub mod Later
+pub mod Placing
+pub mod Laid
+pub mod FitWords
+pub mod BoundedTrees
+pub mod AnyWidth
+pub mod LaidOut
 pub mod Drafts

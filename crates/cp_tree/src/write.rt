@@ -1,6 +1,7 @@
 //! Trees, written into segments.
 
 ghost use Rattle.std.specs.Prelude.{◌≡◌, ◌≤◌, ◌<◌, ◌∷◌, [], max, sum, length, map, IfOk, IfErr};
+ghost use Rattle.cp_tree.specs.Layout.{Layout, Built};
 ghost use Rattle.cp_tree.specs.Node.{depth, cost};
 ghost use Rattle.cp_tree.specs.DraftOf.{draft_of};
 ghost use Rattle.cp_tree.specs.Shaped.{Shaped};
@@ -44,6 +45,7 @@ fn lay_out(
     requires few { segments ≤ 512 }
     ensures written { IfOk result (λ w. written w ≡ laid_out (room_for words segments limits) (draft_of draft.now)) }
     ensures fits { IfOk result (λ w. FitsIn limits (room_for words segments limits) (draft_of draft.now)) }
+    ensures small { IfOk result (λ w. (written w).words ≤ 67108864) }
     ensures refused { IfErr result (IsWriteFaultOf limits (room_for words segments limits) (draft_of draft.now)) }
 {
     let cost = cost_of(draft, limits)?;
@@ -75,6 +77,7 @@ pub fn write_draft(
 ) -> Result<Segments, WriteFault>
     requires shaped { Shaped (draft_of draft.now) }
     ensures written { IfOk result (λ s. s ≡ segments_for max_words limits (draft_of draft.now)) }
+    ensures layout { IfOk result (λ s. Layout s (record { words = max_words; segments = limits.segments }) (draft_of draft.now)) }
     ensures fits { IfOk result (λ s. FitsIn limits (room_for (max 1 max_words) limits.segments limits) (draft_of draft.now)) }
     ensures small { IfOk result (λ s. (length s ≤ limits.segments) × (sum (map length s) ≤ limits.frame_words)) }
     ensures refused { IfErr result (IsWriteFaultOf limits (room_for (max 1 max_words) limits.segments limits) (draft_of draft.now)) }
@@ -95,6 +98,7 @@ pub fn write_segments(
     limits: Limits,
 ) -> Result<Segments, WriteFault>
     ensures written { IfOk result (λ s. s ≡ segments_for max_words limits object.now) }
+    ensures layout { IfOk result (λ s. Layout s (record { words = max_words; segments = limits.segments }) object.now) }
     ensures fits { IfOk result (λ s. FitsIn limits (room_for (max 1 max_words) limits.segments limits) object.now) }
     ensures small { IfOk result (λ s. (length s ≤ limits.segments) × (sum (map length s) ≤ limits.frame_words)) }
     ensures refused { IfErr result (IsWriteFaultOf limits (room_for (max 1 max_words) limits.segments limits) object.now) }
@@ -108,6 +112,7 @@ pub fn write_segments(
 /// words are more than a frame may have; B3 if memory runs out.
 pub fn write_root(alloc: Global, object: &Object, limits: Limits) -> Result<Vec<u64>, WriteFault>
     ensures written { IfOk result (λ v. v.items ∷ [] ≡ lists (laid_out (room_for limits.frame_words 1 limits) object.now)) }
+    ensures built { IfOk result (λ v. Built object.now v.items) }
     ensures fits { IfOk result (λ v. FitsIn limits (room_for limits.frame_words 1 limits) object.now) }
     ensures refused { IfErr result (IsWriteFaultOf limits (room_for limits.frame_words 1 limits) object.now) }
 {

@@ -1,10 +1,29 @@
-use Rattle.std.proofs.Common.{◌≤◌, ℕ, List, length, map, sym, ap, subst, ◌∙◌, arith}
+use Rattle.std.proofs.Common.{◌≡◌, ◌≤◌, ℕ, List, length, map, max, sym, ap, subst, ◌∙◌, arith}
 use Rattle.std.specs.Prelude.{sum}
 use Rattle.cp_tree.specs.DraftOf.{draft_of}
-use Rattle.cp_tree.specs.Sheets.{lists}
-use Rattle.cp_tree.specs.Writes.{room_for}
+use Rattle.cp_tree.specs.Layout.{Layout}
+use Rattle.cp_tree.specs.Sheets.{written, lists}
+use Rattle.cp_tree.specs.Writes.{room_for, laid_out}
+use Rattle.cp_tree.proofs.LaidOut.{written_is_layout}
 use Rattle.cp_tree.proofs.SheetWords.{laid_words, laid_within}
+use Rattle.cp_tree.proofs.write.write_draft.Goals.{then-max_words-eq0, else-max_words-eq0}
 use Rattle.cp_tree.proofs.write.write_draft.Goals as goal
+
+pub returns-in-Ok-clause-layout : goal.returns-in-Ok-clause-layout
+returns-in-Ok-clause-layout c =
+    let limits = c.args.limits in
+    let t = draft_of c.args.draft.now in
+    let F = written c.in_ok-sheet.sheet in
+    let words : c.if-max_words-eq0.words ≡ max 1 c.args.max_words = elim c.if-max_words-eq0.branch [
+      | then-max_words-eq0 w ↦ omega (arith, w.words-is, w.if-max_words-eq0.true)
+      | else-max_words-eq0 w ↦ omega (arith, w.words-is, w.if-max_words-eq0.false)
+    ] in
+    let is : F ≡ laid_out (room_for (max 1 c.args.max_words) limits.segments limits) t =
+    c.in_ok-sheet.ensures.written
+    ∙ ap (λ n. laid_out (room_for n c.segments.result limits) t) words
+    ∙ ap (λ n. laid_out (room_for (max 1 c.args.max_words) n limits) t) c.segments.ensures.value in
+    subst (λ S. Layout S (record { words = c.args.max_words; segments = limits.segments }) t) (sym (c.in-Ok.ensures.held ∙ c.in_ok-into_lists.ensures))
+    (written_is_layout c.args.max_words limits t F (omega (arith, c.segments.ensures.value, c.segments.ensures.range)) c.requires.shaped is c.in_ok-sheet.ensures.small)
 
 pub returns-in-Ok-clause-small : goal.returns-in-Ok-clause-small
 returns-in-Ok-clause-small c =

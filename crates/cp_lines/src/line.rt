@@ -10,7 +10,7 @@ use cp_tree::View;
 use std::alloc::{AllocError, Global};
 
 /// Adds the line of a message, with its line feed.
-pub(crate) fn push_line(
+pub fn push_line(
     alloc: Global,
     line: &mut String,
     message: &MessageView,

@@ -1,6 +1,6 @@
 use Rattle.std.proofs.Common.{◌+◌, ◌*◌}
 use Rattle.cp_tree.specs.Node.{depth}
-use Rattle.cp_cli.proofs.notation.+tree.Given as goal
+use Rattle.cp_lines.proofs.notation.+tree.Given as goal
 
 abbrev pub decreases-tree : goal.decreases-tree
 decreases-tree l = 4 * depth l.view.now + 3

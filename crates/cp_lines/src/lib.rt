@@ -1,0 +1,7 @@
+//! Messages as lines of text, which `show` prints.
+#![tactic(auto)]
+
+mod line;
+mod notation;
+
+pub use line::push_line;

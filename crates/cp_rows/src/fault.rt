@@ -1,0 +1,68 @@
+//! How a frame can fail its trial.
+
+use cp_frame::FrameFault;
+use cp_rpc::SchemaFault;
+use cp_stream::StreamFault;
+use cp_tree::{TreeFault, WriteFault};
+use std::alloc::{AllocError, AllocFailed};
+use thiserror::Error;
+
+#[derive(Debug, Drop, Error)]
+pub enum Fault {
+    #[error("not a row")]
+    Row,
+    #[error("refused")]
+    Refused,
+    #[error("not refused as truncated at byte {0}")]
+    NotTruncated(usize),
+    #[error("read otherwise when cut at byte {0}")]
+    Cut(usize),
+    #[error("read as {0}")]
+    Line(String),
+    #[error("packed or unpacked otherwise")]
+    Bytes,
+    #[error("out of memory")]
+    OutOfMemory,
+}
+
+impl From<AllocError> for Fault {
+    fn from(_: AllocError) -> Fault {
+        Fault::OutOfMemory
+    }
+}
+
+impl<T: Drop> From<AllocFailed<T>> for Fault {
+    fn from(_: AllocFailed<T>) -> Fault {
+        Fault::OutOfMemory
+    }
+}
+
+impl From<FrameFault> for Fault {
+    fn from(_: FrameFault) -> Fault {
+        Fault::Refused
+    }
+}
+
+impl From<TreeFault> for Fault {
+    fn from(_: TreeFault) -> Fault {
+        Fault::Refused
+    }
+}
+
+impl From<SchemaFault> for Fault {
+    fn from(_: SchemaFault) -> Fault {
+        Fault::Refused
+    }
+}
+
+impl From<StreamFault> for Fault {
+    fn from(_: StreamFault) -> Fault {
+        Fault::Refused
+    }
+}
+
+impl From<WriteFault> for Fault {
+    fn from(_: WriteFault) -> Fault {
+        Fault::Refused
+    }
+}
