@@ -21,3 +21,5 @@ pub use write::{write_message, write_message_in};
 
 #[cfg(test)]
 mod tests;
+#[cfg(test)]
+mod write_tests;
