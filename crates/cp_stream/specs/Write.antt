@@ -1,7 +1,8 @@
 -- What is written of a message, and why it isn't.
-use Rattle.std.specs.Prelude.{◌≡◌, ◌≢◌, ◌⊎◌, ℕ, ◌+◌, ◌%◌, ◌^◌, List, [], ◌++◌, Option, length}
+use Rattle.std.specs.Prelude.{◌≡◌, ◌≢◌, ◌⊎◌, ℕ, ◌+◌, ◌%◌, ◌^◌, List, [], ◌++◌, Option, length, max}
 use Rattle.std.specs.Io.KnownBytes.{Appends}
 use Rattle.cp_words.specs.Limits.{Bounds}
+use Rattle.cp_tree.specs.Layout.{Layout}
 use Rattle.cp_tree.specs.Shaped.{Shaped}
 use Rattle.cp_tree.specs.Sheets.{lists}
 use Rattle.cp_tree.specs.Writes.{FitsIn, IsWriteFaultOf, room_for, laid_out}
@@ -20,12 +21,13 @@ use Rattle.cp_stream.specs.declared.tap.Tap.{Tap}
 use Rattle.cp_stream.specs.Tap.{inner_of, failures_of, bytes_of}
 use Rattle.cp_stream.specs.Read.{FailedOnce}
 
--- The bytes are the frame that a message is written as, in segments of at most so many words and at most so many. Its tree says it, a message can hold the tree, and laid out so it is within the limits.
+-- The bytes are the frame that a message is written as, in segments of at most so many words and at most so many; 0 words count as 1. Its tree says it, a message can hold the tree, and the layout of the tree is within the limits.
 pub record IsWrittenAs (mode : Mode) (limits : Bounds) (words segments : ℕ) (m : Message) (b : List ℕ) : Type 0 where
   pub says : Says (message_made m) m
   pub shaped : Shaped (message_made m)
-  pub fits : FitsIn limits (room_for words segments limits) (message_made m)
-  pub written : Written mode limits (lists (laid_out (room_for words segments limits) (message_made m))) b
+  pub fits : FitsIn limits (room_for (max 1 words) segments limits) (message_made m)
+  pub layout : Layout (lists (laid_out (room_for (max 1 words) segments limits) (message_made m))) (record { words = words; segments = segments }) (message_made m)
+  pub written : Written mode limits (lists (laid_out (room_for (max 1 words) segments limits) (message_made m))) b
 
 -- These bytes went out, and the tap counts them, which goes on at 0 behind the greatest u64.
 pub record Passes {T : Type 0} (contents : T → Option (List ℕ)) (old new : Tap T) (b : List ℕ) : Type 0 where
@@ -51,8 +53,8 @@ IsSent contents mode limits words segments m old new = (b : List ℕ) × IsWritt
 
 -- Why a message isn't written: it has a list that no message can hold; or its tree, which a message can hold, isn't laid out within the limits; or memory ran out, at last for the frame.
 abbrev pub IsUnwrittenFor : Bounds → ℕ → ℕ → Message → Refusal → Type 0
-IsUnwrittenFor limits words segments m (refusals.Write fault) = IsRefusalOf m fault ⊎ (Shaped (message_made m) × IsWriteFaultOf limits (room_for words segments limits) (message_made m) fault)
-IsUnwrittenFor limits words segments m (refusals.Frame fault) = (fault ≡ frames.OutOfMemory) × Shaped (message_made m) × FitsIn limits (room_for words segments limits) (message_made m)
+IsUnwrittenFor limits words segments m (refusals.Write fault) = IsRefusalOf m fault ⊎ (Shaped (message_made m) × IsWriteFaultOf limits (room_for (max 1 words) segments limits) (message_made m) fault)
+IsUnwrittenFor limits words segments m (refusals.Frame fault) = (fault ≡ frames.OutOfMemory) × Shaped (message_made m) × FitsIn limits (room_for (max 1 words) segments limits) (message_made m)
 IsUnwrittenFor limits words segments m other = ⊥
 
 -- A fault is told at 0, and nothing was written; or the writer failed while the frame went out.

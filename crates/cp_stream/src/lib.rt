@@ -3,6 +3,7 @@
 #![tactic(auto)]
 
 mod fault;
+mod laws;
 mod read;
 mod reader;
 mod status;
@@ -13,6 +14,7 @@ mod write;
 pub use cp_frame::Mode;
 pub use cp_words::Limits;
 pub use fault::{Refusal, StreamFault};
+pub use laws::read_back;
 pub use read::{read_message, read_segments};
 pub use reader::MessageReader;
 pub use tap::Tap;

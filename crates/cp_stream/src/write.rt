@@ -1,6 +1,6 @@
 //! Writing messages, each as one frame.
 
-ghost use Rattle.std.specs.Prelude.{◌≡◌, max, IfOk, IfErr, OnOk};
+ghost use Rattle.std.specs.Prelude.{◌≡◌, IfOk, IfErr, OnOk};
 ghost use Rattle.cp_stream.specs.declared.fault.StreamFault.TheVariants.{Device};
 ghost use Rattle.cp_stream.specs.Write.{IsWrittenAs, IsUnwrittenFor, IsSent, IsCutShort, Sends, Breaks};
 
@@ -38,8 +38,8 @@ fn frame_of(
     max_words: u32,
     limits: Limits,
 ) -> Result<Vec<u8>, Refusal>
-    ensures written { IfOk result (λ b. IsWrittenAs mode limits (max 1 max_words) limits.segments message.now b.items) }
-    ensures refused { IfErr result (IsUnwrittenFor limits (max 1 max_words) limits.segments message.now) }
+    ensures written { IfOk result (λ b. IsWrittenAs mode limits max_words limits.segments message.now b.items) }
+    ensures refused { IfErr result (IsUnwrittenFor limits max_words limits.segments message.now) }
 {
     let draft = draft_of(alloc, message)?;
     let segments = write_draft(alloc, &draft, max_words, limits)?;
@@ -62,8 +62,8 @@ pub fn write_message_in<W: Write>(
     max_words: u32,
     limits: Limits,
 ) -> Result<(), StreamFault>
-    ensures sent { OnOk result (IsSent W.contents mode limits (max 1 max_words) limits.segments message.now to.old to.new) }
-    ensures stopped { IfErr result (IsCutShort W.contents mode limits (max 1 max_words) limits.segments message.now to.old to.new) }
+    ensures sent { OnOk result (IsSent W.contents mode limits max_words limits.segments message.now to.old to.new) }
+    ensures stopped { IfErr result (IsCutShort W.contents mode limits max_words limits.segments message.now to.old to.new) }
 {
     match frame_of(alloc, message, mode, max_words, limits) {
         Ok(frame) => write_whole(to, &frame),

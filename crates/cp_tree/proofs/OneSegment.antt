@@ -163,13 +163,13 @@ module _ (u : ℕ) (Q R : Room) (wq : Wide u Q) (wr : Wide u R) where
 
 -- what fits the frame is laid out the same, whether more segments may be begun or not
 pub one_segment : (limits : Bounds) (t : Node) → Shaped t → (laid_out (room_for (max 1 limits.frame_words) limits.segments limits) t).words ≤ limits.frame_words
-    → laid_out (room_for limits.frame_words 1 limits) t ≡ laid_out (room_for (max 1 limits.frame_words) limits.segments limits) t
+    → laid_out (room_for (max 1 limits.frame_words) 1 limits) t ≡ laid_out (room_for (max 1 limits.frame_words) limits.segments limits) t
 one_segment limits t shaped fits =
-    (same_tree limits.frame_words (room_for (max 1 limits.frame_words) limits.segments limits) (room_for limits.frame_words 1 limits) (inl (omega arith)) (inr (omega arith)) t 0 0
+    (same_tree limits.frame_words (room_for (max 1 limits.frame_words) limits.segments limits) (room_for (max 1 limits.frame_words) 1 limits) (inl (omega arith)) (inr (omega arith)) t 0 0
     (record { full = []; last = 0 ∷ []; words = 1 }) refl shaped (refl, omega arith) fits).0
 
-pub one_segment_alone : (limits : Bounds) (t : Node) → Shaped t → (laid_out (room_for limits.frame_words 1 limits) t).words ≤ limits.frame_words
-    → laid_out (room_for (max 1 limits.frame_words) limits.segments limits) t ≡ laid_out (room_for limits.frame_words 1 limits) t
+pub one_segment_alone : (limits : Bounds) (t : Node) → Shaped t → (laid_out (room_for (max 1 limits.frame_words) 1 limits) t).words ≤ limits.frame_words
+    → laid_out (room_for (max 1 limits.frame_words) limits.segments limits) t ≡ laid_out (room_for (max 1 limits.frame_words) 1 limits) t
 one_segment_alone limits t shaped fits =
-    (same_tree limits.frame_words (room_for limits.frame_words 1 limits) (room_for (max 1 limits.frame_words) limits.segments limits) (inr (omega arith)) (inl (omega arith)) t 0 0
+    (same_tree limits.frame_words (room_for (max 1 limits.frame_words) 1 limits) (room_for (max 1 limits.frame_words) limits.segments limits) (inr (omega arith)) (inl (omega arith)) t 0 0
     (record { full = []; last = 0 ∷ []; words = 1 }) refl shaped (refl, omega arith) fits).0
