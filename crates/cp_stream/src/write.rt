@@ -13,8 +13,8 @@ use cp_words::Limits;
 use std::alloc::Global;
 use std::io::Write;
 
-/// Writes all of the bytes, which are offered at once, and then what is left. Whatever error a call
-/// gives, and a call that takes no byte, ends it.
+/// Writes all of the bytes. They are offered at once, and then what is left of them. An error of any
+/// kind, an interrupted call's too, and a call that takes no byte end it.
 fn write_whole<W: Write>(to: &mut Tap<W>, bytes: &[u8]) -> Result<(), StreamFault>
     ensures sent { OnOk result (Sends W.contents to.old to.new bytes.now) }
     ensures device { IfErr result (λ fault. fault ≡ Device) }
@@ -51,9 +51,9 @@ fn frame_of(
 /// `cp_tree::write_segments` (encoding specification, "Serialization Over a Stream", "Packing").
 ///
 /// B2 if a list of it has 2^29 elements or words or more; else B1 if it nests deeper than the limit;
-/// else B2 if it costs more; else B4 if its segments have more words together than a frame may have.
-/// B3 and F6 if memory runs out. All at 0, before a byte is written. `Device` says that a call of the
-/// device failed, and then only a beginning of the frame was written.
+/// else B2 if it costs more; else B4 if its segments have more words together than a frame may have;
+/// B3 and F6 if memory runs out. All are told at 0, before a byte is written. `Device` says that a
+/// call of the device failed, and then a beginning of the frame was written.
 pub fn write_message_in<W: Write>(
     alloc: Global,
     to: &mut Tap<W>,
@@ -71,7 +71,7 @@ pub fn write_message_in<W: Write>(
     }
 }
 
-/// Writes a message as one frame of one segment, as by `cp_tree::write_root`. Else it is
+/// Writes a message as one frame of one segment, as by `cp_tree::write_root`. Faults are those of
 /// `write_message_in`.
 pub fn write_message<W: Write>(
     alloc: Global,
