@@ -1,3 +1,5 @@
 pub mod Reading
 pub mod Readers
 pub mod Taking
+pub mod Writing
+pub mod Only

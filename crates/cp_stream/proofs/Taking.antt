@@ -1,5 +1,5 @@
 -- One frame, read without a byte more.
-use Rattle.std.proofs.Common.{◌≡◌, ◌≢◌, ◌⊎◌, inl, inr, ℕ, zero, suc, ◌+◌, ◌-◌, ◌<◌, ◌≤◌, List, [], ◌∷◌, ◌++◌, Option, Some, None, length, take, drop, slice_index_or, Result, Ok, Err, IfErr, refl, sym, ◌∙◌, ap, subst, length-append, arith}
+use Rattle.std.proofs.Common.{◌≡◌, ◌≢◌, ◌⊎◌, inl, inr, ℕ, ◌+◌, ◌<◌, ◌≤◌, List, [], ◌∷◌, ◌++◌, Option, Some, None, length, drop, slice_index_or, Result, Ok, Err, IfErr, OnOk, refl, sym, ◌∙◌, ap, subst, length-append, arith}
 use Rattle.std.proofs.lemmas.List.{append_assoc, append-nil, nil_from_length}
 use Rattle.std.specs.Io.KnownBytes.{Consumes, IsAtEnd}
 use Rattle.cp_words.specs.Limits.{Bounds}
@@ -7,7 +7,7 @@ use Rattle.cp_frame.specs.declared.mode.Mode.{Mode}
 use Rattle.cp_frame.specs.declared.fault.FrameFault.{FrameFault}
 use Rattle.cp_frame.specs.declared.fault.FrameFault.TheVariants as faults
 use Rattle.cp_frame.specs.Frame.{Frame}
-use Rattle.cp_frame.specs.Stream.{Frames, NoFront, HasFault, Open}
+use Rattle.cp_frame.specs.Stream.{NoFront, HasFault, Open}
 use Rattle.cp_frame.specs.Reader.{Reader, State, failed, refusing, reading, Stands, StandsFor, IsReading, IsRefusing, IsNeeded, Needs, Gives, Tells, IsToldFor, taken_of}
 use Rattle.cp_stream.specs.declared.fault.Refusal.TheVariants as refusals
 use Rattle.cp_stream.specs.declared.fault.StreamFault.{StreamFault}
@@ -154,6 +154,10 @@ told_frame r r' piece b new fault h k t = told_by r piece b new r.state fault re
 pub map_err : {X E : Type 0} (r : Result X E) (P Q : E → Type 0) → ((e : E) → P e → Q e) → IfErr r P → IfErr r Q
 map_err (Ok x) P Q h k = tt
 map_err (Err e) P Q h k = h e k
+
+pub map_ok : {X E : Type 0} (r : Result X E) (P Q : Type 0) → (P → Q) → OnOk r P → OnOk r Q
+map_ok (Ok x) P Q h k = h k
+map_ok (Err e) P Q h k = tt
 
 pub first_of_list : {X : Type 0} (xs : List X) (d : X) → 0 < length xs → xs ≡ slice_index_or xs 0 d ∷ drop 1 xs
 first_of_list [] d h = absurd (omega (arith, h))

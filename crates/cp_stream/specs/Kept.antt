@@ -1,5 +1,5 @@
 -- What a reader of messages keeps, and what its callers see of it. No public clause names these.
-use Rattle.std.specs.Prelude.{◌≡◌, ◌⊎◌, ℕ, List, [], length, drop, Option}
+use Rattle.std.specs.Prelude.{◌≡◌, ◌⊎◌, ℕ, List, [], ◌++◌, length, drop, Option}
 use Rattle.std.specs.Io.KnownBytes.{Consumes}
 use Rattle.cp_words.specs.Limits.{Bounds}
 use Rattle.cp_frame.specs.declared.mode.Mode.{Mode}
@@ -14,6 +14,8 @@ use Rattle.cp_stream.specs.declared.fault.Refusal.TheVariants as refusals
 use Rattle.cp_stream.specs.declared.status.Status.{Status}
 use Rattle.cp_stream.specs.declared.status.Status.TheVariants as statuses
 use Rattle.cp_stream.specs.Reader.{Reader, State, failed, refusing, reading}
+use Rattle.cp_stream.specs.declared.tap.Tap.{Tap}
+use Rattle.cp_stream.specs.Write.{Sends}
 
 -- a reader of frames refuses, or reads on, as that of messages does
 abbrev pub frames_state : frames.State → State
@@ -70,3 +72,9 @@ pub record ReadsOn (mode : Mode) (limits : Bounds) (old new : Option (List ℕ))
   pub bytes : List ℕ
   pub consumed : Consumes old new bytes
   pub stands : frames.StandsFor r bytes
+
+-- Bytes are being written: so many of them went out, which the tap counts, and the others are left.
+pub record WritesOn {T : Type 0} (contents : T → Option (List ℕ)) (old new : Tap T) (b left : List ℕ) : Type 0 where
+  pub sent : List ℕ
+  pub splits : b ≡ sent ++ left
+  pub sends : Sends contents old new sent

@@ -5,3 +5,4 @@ pub mod Reader
 pub mod Kept
 pub mod Answers
 pub mod Read
+pub mod Write

@@ -1,5 +1,5 @@
 -- What is read of a reader whose bytes are known, frame by frame.
-use Rattle.std.specs.Prelude.{◌≡◌, ◌≢◌, ◌⊎◌, ℕ, ◌+◌, ◌%◌, ◌^◌, List, [], ◌++◌, Option, Some, None, Result, Ok, Err}
+use Rattle.std.specs.Prelude.{◌≡◌, ◌≢◌, ◌⊎◌, ℕ, ◌+◌, ◌%◌, ◌^◌, List, [], ◌++◌, take, Option, Some, None, Result, Ok, Err}
 use Rattle.std.specs.Io.KnownBytes.{Consumes, IsAtEnd}
 use Rattle.cp_words.specs.Limits.{Bounds}
 use Rattle.cp_frame.specs.declared.mode.Mode.{Mode}
@@ -12,7 +12,7 @@ use Rattle.cp_stream.specs.declared.fault.Refusal.{Refusal}
 use Rattle.cp_stream.specs.declared.fault.Refusal.TheVariants as refusals
 use Rattle.cp_stream.specs.declared.fault.StreamFault.{StreamFault}
 use Rattle.cp_stream.specs.declared.fault.StreamFault.TheVariants as faults
-use Rattle.cp_stream.specs.Stream.{IsFrameOf, HoldsNone}
+use Rattle.cp_stream.specs.Stream.{IsFrameOf, HoldsNone, Front, HasFault}
 use Rattle.cp_stream.specs.Reader.{IsMemory}
 
 -- exactly these bytes were read, and nothing is left
@@ -53,3 +53,40 @@ FailedOnce old new = new ≡ (old + 1) % 2 ^ 64
 abbrev pub StopsAt : (List ℕ → Refusal → Type 0) → Option (List ℕ) → Option (List ℕ) → ℕ → ℕ → StreamFault → Type 0
 StopsAt why old new failures failed (faults.Refused at refusal) = (at ≡ 0) × (failed ≡ failures) × (b : List ℕ) × Consumes old new b × why b refusal
 StopsAt why old new failures failed faults.Device = FailedOnce failures failed × (b : List ℕ) × Consumes old new b
+
+-- the device failed, or memory ran out
+abbrev pub IsExcused : StreamFault → Type 0
+IsExcused (faults.Refused at refusal) = IsMemory refusal
+IsExcused faults.Device = Unit {0}
+
+-- this was given, and exactly these bytes were read; or the call is excused
+abbrev pub GivesOnly : {X : Type 0} → Option (List ℕ) → Option (List ℕ) → X → List ℕ → Result (Option X) StreamFault → Type 0
+GivesOnly old new x b (Ok (Some y)) = (y ≡ x) × Consumes old new b
+GivesOnly old new x b (Ok None) = ⊥
+GivesOnly old new x b (Err fault) = IsExcused fault
+
+-- none was given; or the call is excused
+abbrev pub GivesNone : {X : Type 0} → Result (Option X) StreamFault → Type 0
+GivesNone (Ok (Some y)) = ⊥
+GivesNone (Ok None) = Unit {0}
+GivesNone (Err fault) = IsExcused fault
+
+-- such a refusal was told; or the call is excused
+abbrev pub TellsOnly : {X : Type 0} → (Refusal → Type 0) → Result (Option X) StreamFault → Type 0
+TellsOnly why (Ok x) = ⊥
+TellsOnly why (Err (faults.Refused at refusal)) = IsMemory refusal ⊎ why refusal
+TellsOnly why (Err faults.Device) = Unit {0}
+
+-- What is read of a device is what its bytes say: a frame that they begin with; nothing where there are none; F3 where they end inside a frame; else their fault.
+pub record OnlyFrame (mode : Mode) (limits : Bounds) (bytes : List ℕ) (old new : Option (List ℕ)) (result : Result (Option (List (List ℕ))) StreamFault) : Type 0 where
+  pub frame : (S : List (List ℕ)) (front back : List ℕ) → bytes ≡ front ++ back → Frame mode limits S front → GivesOnly old new S front result
+  pub end : bytes ≡ [] → GivesNone result
+  pub inside : bytes ≢ [] → streams.Open mode limits bytes → TellsOnly (λ r. r ≡ refusals.Frame frames.Truncated) result
+  pub fault : (fault : FrameFault) → streams.HasFault mode limits bytes fault → TellsOnly (λ r. r ≡ refusals.Frame fault) result
+
+-- The same of messages: a fault is also that of a frame that holds none.
+pub record OnlyMessage (mode : Mode) (limits : Bounds) (bytes : List ℕ) (old new : Option (List ℕ)) (result : Result (Option Message) StreamFault) : Type 0 where
+  pub message : (n : ℕ) (m : Message) → Front mode limits bytes n m → GivesOnly old new m (take n bytes) result
+  pub end : bytes ≡ [] → GivesNone result
+  pub inside : bytes ≢ [] → streams.Open mode limits bytes → TellsOnly (λ r. r ≡ refusals.Frame frames.Truncated) result
+  pub fault : (refusal : Refusal) → HasFault mode limits bytes refusal → TellsOnly (HasFault mode limits bytes) result

@@ -3,19 +3,25 @@
 #![tactic(auto)]
 
 mod fault;
+mod laws;
 mod read;
 mod reader;
 mod status;
 mod tap;
 mod view;
+mod write;
 
 pub use cp_frame::Mode;
 pub use cp_words::Limits;
 pub use fault::{Refusal, StreamFault};
+pub use laws::read_back;
 pub use read::{read_message, read_segments};
 pub use reader::MessageReader;
 pub use tap::Tap;
 pub use view::view_of;
+pub use write::{write_message, write_message_in};
 
 #[cfg(test)]
 mod tests;
+#[cfg(test)]
+mod write_tests;

@@ -1,13 +1,14 @@
 //! Reading one message of a device, and no byte more.
 
-ghost use Rattle.std.specs.Prelude.{◌≡◌, ◌≢◌, ◌<◌, ◌≤◌, ℕ, List, [], IfOk, IfErr, OnOk, OnErr, None, length, take};
+ghost use Rattle.std.specs.Prelude.{◌≡◌, ◌≢◌, ◌<◌, ◌≤◌, ℕ, List, [], IfOk, IfErr, OnOk, OnErr, Some, None, length, take};
 ghost use Rattle.std.specs.Io.KnownBytes.{Consumes, IsAtEnd};
+ghost use Rattle.cp_frame.specs.Framed.{AreBytes};
 ghost use Rattle.cp_frame.specs.Reader.{StandsFor, IsReading, new_reader as fresh_reader};
 ghost use Rattle.cp_frame.specs.declared.fault.FrameFault.TheVariants.{Truncated};
 ghost use Rattle.cp_stream.specs.declared.fault.Refusal.TheVariants as refusals;
 ghost use Rattle.cp_stream.specs.declared.fault.StreamFault.TheVariants.{Device, Refused};
 ghost use Rattle.cp_stream.specs.Tap.{inner_of, failures_of};
-ghost use Rattle.cp_stream.specs.Read.{ReadsFrame, ReadsMessage, RefusesFrame, RefusesMessage, FailedOnce, StopsAt};
+ghost use Rattle.cp_stream.specs.Read.{ReadsFrame, ReadsMessage, RefusesFrame, RefusesMessage, FailedOnce, StopsAt, OnlyFrame, OnlyMessage};
 
 use crate::fault::{Refusal, StreamFault, refused};
 use crate::tap::Tap;
@@ -71,12 +72,8 @@ fn end_of(frames: &mut FrameReader) -> Result<Option<Segments>, StreamFault>
     }
 }
 
-/// Reads the next frame of a device: exactly its bytes. `None` says that the device ended before any
-/// byte (encoding specification, "Serialization Over a Stream").
-///
-/// `Truncated` (F3) says that it ended inside a frame; F1, F2, F4 and F6 are told as by `FrameReader`,
-/// all at 0. `Device` says that a call of the device failed. What was read is the front of its bytes.
-pub fn read_segments<R: Read>(
+/// Takes the next frame of a device.
+fn take_frame<R: Read>(
     alloc: Global,
     from: &mut Tap<R>,
     mode: Mode,
@@ -106,6 +103,46 @@ pub fn read_segments<R: Read>(
     unreachable!()
 }
 
+/// Reads the next frame of a device: exactly its bytes. `None` says that the device ended before any
+/// byte (encoding specification, "Serialization Over a Stream").
+///
+/// `Truncated` (F3) says that it ended inside a frame; F1, F2, F4 and F6 are told as by `FrameReader`,
+/// all at 0. `Device` says that a call of the device failed. What was read is the front of its bytes.
+pub fn read_segments<R: Read>(
+    alloc: Global,
+    from: &mut Tap<R>,
+    mode: Mode,
+    limits: Limits,
+) -> Result<Option<Segments>, StreamFault>
+    ensures read { IfOk result (ReadsFrame mode limits (R.remaining (inner_of from.old)) (R.remaining (inner_of from.new))) }
+    ensures counted { OnOk result (failures_of from.new ≡ failures_of from.old) }
+    ensures stopped { IfErr result (StopsAt (RefusesFrame mode limits (R.remaining (inner_of from.new))) (R.remaining (inner_of from.old)) (R.remaining (inner_of from.new)) (failures_of from.old) (failures_of from.new)) }
+    // Bytes that are known leave one answer.
+    ensures only { (b : List ℕ) → AreBytes b → R.remaining (inner_of from.old) ≡ Some b → OnlyFrame mode limits b (R.remaining (inner_of from.old)) (R.remaining (inner_of from.new)) result }
+{
+    take_frame(alloc, from, mode, limits)
+}
+
+/// Takes the next message of a device.
+fn take_message<R: Read>(
+    alloc: Global,
+    from: &mut Tap<R>,
+    mode: Mode,
+    limits: Limits,
+) -> Result<Option<Message>, StreamFault>
+    ensures read { IfOk result (ReadsMessage mode limits (R.remaining (inner_of from.old)) (R.remaining (inner_of from.new))) }
+    ensures counted { OnOk result (failures_of from.new ≡ failures_of from.old) }
+    ensures stopped { IfErr result (StopsAt (RefusesMessage mode limits (R.remaining (inner_of from.new))) (R.remaining (inner_of from.old)) (R.remaining (inner_of from.new)) (failures_of from.old) (failures_of from.new)) }
+{
+    let Some(segments) = take_frame(alloc, from, mode, limits)? else {
+        return Ok(None);
+    };
+    match message_in(alloc, &segments, limits) {
+        Ok(message) => Ok(Some(message)),
+        Err(refusal) => Err(refused(0, refusal)),
+    }
+}
+
 /// Reads the next message of a device: exactly the bytes of its frame. `None` says that the device
 /// ended before any byte. Faults are those of `read_segments` and of `view_of`, and S3, all at 0.
 pub fn read_message<R: Read>(
@@ -117,12 +154,8 @@ pub fn read_message<R: Read>(
     ensures read { IfOk result (ReadsMessage mode limits (R.remaining (inner_of from.old)) (R.remaining (inner_of from.new))) }
     ensures counted { OnOk result (failures_of from.new ≡ failures_of from.old) }
     ensures stopped { IfErr result (StopsAt (RefusesMessage mode limits (R.remaining (inner_of from.new))) (R.remaining (inner_of from.old)) (R.remaining (inner_of from.new)) (failures_of from.old) (failures_of from.new)) }
+    // Bytes that are known leave one answer.
+    ensures only { (b : List ℕ) → AreBytes b → R.remaining (inner_of from.old) ≡ Some b → OnlyMessage mode limits b (R.remaining (inner_of from.old)) (R.remaining (inner_of from.new)) result }
 {
-    let Some(segments) = read_segments(alloc, from, mode, limits)? else {
-        return Ok(None);
-    };
-    match message_in(alloc, &segments, limits) {
-        Ok(message) => Ok(Some(message)),
-        Err(refusal) => Err(refused(0, refusal)),
-    }
+    take_message(alloc, from, mode, limits)
 }

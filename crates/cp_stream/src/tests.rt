@@ -3,14 +3,14 @@
 use super::*;
 use cp_frame::FrameFault;
 use cp_rpc::{Field, Message, SchemaFault};
-use cp_tree::{Place, TreeFault};
+use cp_tree::{Place, TreeFault, WriteFault};
 use std::alloc::Global;
 use std::io::{Read, Write};
 use std::process::Abort;
 use std::test::Fail;
 
 /// `finish` of question 7, that releases.
-const FINISH: [u8; 40] = [
+pub(crate) const FINISH: [u8; 40] = [
     0x00, 0x00, 0x00, 0x00, 0x04, 0x00, 0x00, 0x00, 0x00, 0x00, 0x00, 0x00, 0x01, 0x00, 0x01, 0x00,
     0x04, 0x00, 0x00, 0x00, 0x00, 0x00, 0x00, 0x00, 0x00, 0x00, 0x00, 0x00, 0x01, 0x00, 0x00, 0x00,
     0x07, 0x00, 0x00, 0x00, 0x00, 0x00, 0x00, 0x00,
@@ -32,7 +32,7 @@ const TWO_SEGMENTS: [u8; 56] = [
 ];
 
 /// `FINISH` packed.
-const PACKED: [u8; 11] = [
+pub(crate) const PACKED: [u8; 11] = [
     0x10, 0x04, 0x50, 0x01, 0x01, 0x01, 0x04, 0x10, 0x01, 0x01, 0x07,
 ];
 
@@ -90,7 +90,7 @@ fn told(reader: &mut MessageReader, piece: &[u8]) -> Option<StreamFault> {
 }
 
 /// A refusal behind so many bytes.
-fn at(at: u64, refusal: Refusal) -> StreamFault {
+pub(crate) fn at(at: u64, refusal: Refusal) -> StreamFault {
     StreamFault::Refused { at, refusal }
 }
 
@@ -163,12 +163,13 @@ fn a_stream_ends_behind_a_message(rt: HostRuntime) -> Result<(), Fail> {
 }
 
 /// Whether memory ran out.
-fn is_memory(fault: StreamFault) -> bool {
+pub(crate) fn is_memory(fault: StreamFault) -> bool {
     matches!(
         fault,
         StreamFault::Refused {
             refusal: Refusal::Frame(FrameFault::OutOfMemory)
-                | Refusal::Schema(SchemaFault::OutOfMemory),
+                | Refusal::Schema(SchemaFault::OutOfMemory)
+                | Refusal::Write(WriteFault::OutOfMemory),
             ..
         }
     )
@@ -286,9 +287,9 @@ fn packed_messages_come_byte_by_byte(rt: HostRuntime) -> Result<(), Fail> {
 
 /// A device of known bytes that fails once, at one of its calls.
 #[derive(Drop)]
-struct Source<'a> {
+pub(crate) struct Source<'a> {
     bytes: &'a [u8],
-    call: u64,
+    pub(crate) call: u64,
     fails_at: u64,
 }
 
@@ -303,7 +304,7 @@ impl<'a> Read for Source<'a> {
 }
 
 /// A tap of a device that fails at that call.
-fn tap_of(bytes: &[u8], fails_at: u64) -> Tap<Source<'_>> {
+pub(crate) fn tap_of(bytes: &[u8], fails_at: u64) -> Tap<Source<'_>> {
     Tap::new(Source {
         bytes,
         call: 0,
@@ -312,7 +313,7 @@ fn tap_of(bytes: &[u8], fails_at: u64) -> Tap<Source<'_>> {
 }
 
 /// Reads a message, and says whether there is one.
-fn read(alloc: Global, from: &mut Tap<Source>, mode: Mode) -> Result<bool, StreamFault> {
+pub(crate) fn read(alloc: Global, from: &mut Tap<Source>, mode: Mode) -> Result<bool, StreamFault> {
     Ok(read_message(alloc, from, mode, Limits::standard())?.is_some())
 }
 

@@ -22,6 +22,7 @@ pub mod Begins
 pub mod Steps
 pub mod PointerWords
 pub mod Alone
+pub mod OneSegment
 pub mod PackedHolds
 pub mod LayoutDenotes
 pub mod SheetWords

@@ -1,13 +1,8 @@
-use Rattle.std.proofs.Common.{List, ℕ, Option, subst}
-use Rattle.cp_stream.specs.Read.{ReadsFrame}
 use Rattle.cp_stream.specs.Tap.{inner_of, failures_of}
-use Rattle.cp_stream.proofs.Taking.{refused_message}
+use Rattle.cp_stream.proofs.Only.{only_message}
 use Rattle.cp_stream.proofs.read.read_message.Goals as goal
 
-pub returns-clause-stopped : goal.returns-clause-stopped
-returns-clause-stopped g c =
-    let old = g.R.Read.remaining (inner_of c.args.from.now) in
-    let new = g.R.Read.remaining (inner_of c.read_segments.new.from) in
-    let frame = subst (λ (o : Option (List (List ℕ))). ReadsFrame c.args.mode c.args.limits old new o) c.in-Some.is c.in_ok-segments.ensures.read in
-    rw c.refused.ensures (refused_message c.args.mode c.args.limits old new (failures_of c.args.from.now) (failures_of c.read_segments.new.from) c.in-Some.segments c.in-Err.refusal frame
-    c.in_ok-segments.ensures.counted c.in-Err.ensures.refused)
+pub returns-clause-only : goal.returns-clause-only
+returns-clause-only g c =
+    let h = c.take_message.ensures in
+    only_message c.args.mode c.args.limits (g.R.Read.remaining (inner_of c.args.from.now)) (g.R.Read.remaining (inner_of c.take_message.new.from)) (failures_of c.args.from.now) (failures_of c.take_message.new.from) c.take_message.result h.read h.stopped

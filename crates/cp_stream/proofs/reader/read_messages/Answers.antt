@@ -1,5 +1,4 @@
-use Rattle.std.proofs.Common.{ℕ, ◌+◌, refl, sym, subst, rules}
-use Rattle.cp_stream.specs.Reader.{CountsOn}
+use Rattle.std.proofs.Common.{◌+◌, refl, sym, subst, rules}
 use Rattle.cp_stream.specs.Kept.{ReadsFirst}
 use Rattle.cp_stream.proofs.Reading.{reads_more}
 use Rattle.cp_stream.proofs.reader.read_messages.Goals as goal

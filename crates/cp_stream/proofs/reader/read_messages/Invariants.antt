@@ -1,4 +1,4 @@
-use Rattle.std.proofs.Common.{◌≡◌, ◌<◌, ◌^◌}
+use Rattle.std.proofs.Common.{◌≡◌}
 use Rattle.cp_stream.specs.Kept.{ReadsFirst}
 use Rattle.cp_stream.proofs.reader.read_messages.Given as goal
 

@@ -1,10 +1,10 @@
-use Rattle.std.proofs.Common.{◌≡◌, ◌⊎◌, inl, inr, [], refl, sym, subst, rules, arith}
+use Rattle.std.proofs.Common.{◌≡◌, ◌⊎◌, inl, inr, [], sym, subst, rules, arith}
 use Rattle.std.proofs.lemmas.List.{nil_from_length}
 use Rattle.std.proofs.lemmas.Bool.Decides.{nat_tests}
 use Rattle.std.specs.Vec.{vec_len}
 use Rattle.cp_stream.specs.declared.status.Status.TheVariants as statuses
 use Rattle.cp_stream.specs.declared.status.Status.{Status}
-use Rattle.cp_stream.specs.Reader.{IsMemory, Gives, Tells}
+use Rattle.cp_stream.specs.Reader.{IsMemory, Gives}
 use Rattle.cp_stream.specs.Kept.{seen, KeepsUp, ReadsPiece, RefusesPiece}
 use Rattle.cp_stream.proofs.Readers.{gives_all, gives_before, tells}
 use Rattle.cp_stream.proofs.reader.read_piece.Goals as goal

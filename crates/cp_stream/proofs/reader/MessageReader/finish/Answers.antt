@@ -1,4 +1,4 @@
-use Rattle.std.proofs.Common.{◌≡◌, refl, sym, subst, ap, ◌∙◌}
+use Rattle.std.proofs.Common.{◌≡◌, sym, subst, ap, ◌∙◌}
 use Rattle.cp_stream.specs.declared.status.Status.{Status}
 use Rattle.cp_stream.specs.declared.status.Status.TheVariants as statuses
 use Rattle.cp_stream.specs.declared.fault.Refusal.TheVariants as refusals

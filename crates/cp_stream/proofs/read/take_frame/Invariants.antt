@@ -1,7 +1,7 @@
-use Rattle.std.proofs.Common.{ℕ, ◌-◌, ◌^◌}
+use Rattle.std.proofs.Common.{◌-◌, ◌^◌}
 use Rattle.cp_frame.specs.Reader.{taken_of}
 use Rattle.cp_stream.specs.Kept.{ReadsOn}
-use Rattle.cp_stream.proofs.read.read_segments.Given as goal
+use Rattle.cp_stream.proofs.read.take_frame.Given as goal
 
 abbrev pub invariant-reading : goal.invariant-reading
 invariant-reading g l = ReadsOn l.fn.mode l.fn.limits (g.R.Read.remaining l.fn.from.inner) (g.R.Read.remaining l.from.inner) l.fn.from.failures l.from.failures l.frames

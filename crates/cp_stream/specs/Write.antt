@@ -1,0 +1,63 @@
+-- What is written of a message, and why it isn't.
+use Rattle.std.specs.Prelude.{◌≡◌, ◌≢◌, ◌⊎◌, ℕ, ◌+◌, ◌%◌, ◌^◌, List, [], ◌++◌, Option, length, max}
+use Rattle.std.specs.Io.KnownBytes.{Appends}
+use Rattle.cp_words.specs.Limits.{Bounds}
+use Rattle.cp_tree.specs.Layout.{Layout}
+use Rattle.cp_tree.specs.Shaped.{Shaped}
+use Rattle.cp_tree.specs.Sheets.{lists}
+use Rattle.cp_tree.specs.Writes.{FitsIn, IsWriteFaultOf, room_for, laid_out}
+use Rattle.cp_frame.specs.declared.mode.Mode.{Mode}
+use Rattle.cp_frame.specs.declared.fault.FrameFault.TheVariants as frames
+use Rattle.cp_frame.specs.Frame.{Written}
+use Rattle.cp_rpc.specs.Made.{message_made}
+use Rattle.cp_rpc.specs.Refused.{IsRefusalOf}
+use Rattle.cp_rpc.specs.Says.{Says}
+use Rattle.cp_rpc.specs.declared.message.Message.{Message}
+use Rattle.cp_stream.specs.declared.fault.Refusal.{Refusal}
+use Rattle.cp_stream.specs.declared.fault.Refusal.TheVariants as refusals
+use Rattle.cp_stream.specs.declared.fault.StreamFault.{StreamFault}
+use Rattle.cp_stream.specs.declared.fault.StreamFault.TheVariants as faults
+use Rattle.cp_stream.specs.declared.tap.Tap.{Tap}
+use Rattle.cp_stream.specs.Tap.{inner_of, failures_of, bytes_of}
+use Rattle.cp_stream.specs.Read.{FailedOnce}
+
+-- The bytes are the frame that a message is written as, in segments of at most so many words and at most so many; 0 words count as 1. Its tree says it, a message can hold the tree, and the layout of the tree is within the limits.
+pub record IsWrittenAs (mode : Mode) (limits : Bounds) (words segments : ℕ) (m : Message) (b : List ℕ) : Type 0 where
+  pub says : Says (message_made m) m
+  pub shaped : Shaped (message_made m)
+  pub fits : FitsIn limits (room_for (max 1 words) segments limits) (message_made m)
+  pub layout : Layout (lists (laid_out (room_for (max 1 words) segments limits) (message_made m))) (record { words = words; segments = segments }) (message_made m)
+  pub written : Written mode limits (lists (laid_out (room_for (max 1 words) segments limits) (message_made m))) b
+
+-- These bytes went out, and the tap counts them, which goes on at 0 behind the greatest u64.
+pub record Passes {T : Type 0} (contents : T → Option (List ℕ)) (old new : Tap T) (b : List ℕ) : Type 0 where
+  pub appends : Appends (contents (inner_of old)) (contents (inner_of new)) b
+  pub counts : bytes_of new % 2 ^ 64 ≡ (bytes_of old + length b) % 2 ^ 64
+
+-- these bytes went out, and no call failed
+abbrev pub Sends : {T : Type 0} → (T → Option (List ℕ)) → Tap T → Tap T → List ℕ → Type 0
+Sends contents old new b = Passes contents old new b × (failures_of new ≡ failures_of old)
+
+-- One call of the writer failed, as the tap counts, and what went out of these bytes is a beginning that lacks some.
+pub record Breaks {T : Type 0} (contents : T → Option (List ℕ)) (old new : Tap T) (b : List ℕ) : Type 0 where
+  pub sent : List ℕ
+  pub left : List ℕ
+  pub splits : b ≡ sent ++ left
+  pub some : left ≢ []
+  pub passes : Passes contents old new sent
+  pub failed : FailedOnce (failures_of old) (failures_of new)
+
+-- the message went out as a frame, in segments of at most so many words and at most so many
+abbrev pub IsSent : {T : Type 0} → (T → Option (List ℕ)) → Mode → Bounds → ℕ → ℕ → Message → Tap T → Tap T → Type 0
+IsSent contents mode limits words segments m old new = (b : List ℕ) × IsWrittenAs mode limits words segments m b × Sends contents old new b
+
+-- Why a message isn't written: it has a list that no message can hold; or its tree, which a message can hold, isn't laid out within the limits; or memory ran out, at last for the frame.
+abbrev pub IsUnwrittenFor : Bounds → ℕ → ℕ → Message → Refusal → Type 0
+IsUnwrittenFor limits words segments m (refusals.Write fault) = IsRefusalOf m fault ⊎ (Shaped (message_made m) × IsWriteFaultOf limits (room_for (max 1 words) segments limits) (message_made m) fault)
+IsUnwrittenFor limits words segments m (refusals.Frame fault) = (fault ≡ frames.OutOfMemory) × Shaped (message_made m) × FitsIn limits (room_for (max 1 words) segments limits) (message_made m)
+IsUnwrittenFor limits words segments m other = ⊥
+
+-- A fault is told at 0, and nothing was written; or the writer failed while the frame went out.
+abbrev pub IsCutShort : {T : Type 0} → (T → Option (List ℕ)) → Mode → Bounds → ℕ → ℕ → Message → Tap T → Tap T → StreamFault → Type 0
+IsCutShort contents mode limits words segments m old new (faults.Refused at refusal) = (at ≡ 0) × (new ≡ old) × IsUnwrittenFor limits words segments m refusal
+IsCutShort contents mode limits words segments m old new faults.Device = (b : List ℕ) × IsWrittenAs mode limits words segments m b × Breaks contents old new b

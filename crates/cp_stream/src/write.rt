@@ -1,0 +1,87 @@
+//! Writing messages, each as one frame.
+
+ghost use Rattle.std.specs.Prelude.{◌≡◌, IfOk, IfErr, OnOk};
+ghost use Rattle.cp_stream.specs.declared.fault.StreamFault.TheVariants.{Device};
+ghost use Rattle.cp_stream.specs.Write.{IsWrittenAs, IsUnwrittenFor, IsSent, IsCutShort, Sends, Breaks};
+
+use crate::fault::{Refusal, StreamFault, refused};
+use crate::tap::Tap;
+use cp_frame::{Mode, write_frame};
+use cp_rpc::{Message, draft_of};
+use cp_tree::write_draft;
+use cp_words::Limits;
+use std::alloc::Global;
+use std::io::Write;
+
+/// Writes all of the bytes. They are offered at once, and then what is left of them. An error of any
+/// kind, an interrupted call's too, and a call that takes no byte end it.
+fn write_whole<W: Write>(to: &mut Tap<W>, bytes: &[u8]) -> Result<(), StreamFault>
+    ensures sent { OnOk result (Sends W.contents to.old to.new bytes.now) }
+    ensures device { IfErr result (λ fault. fault ≡ Device) }
+    ensures broken { IfErr result (λ _. Breaks W.contents to.old to.new bytes.now) }
+{
+    let mut left = bytes;
+    'writing: while !left.is_empty() {
+        match to.write(left) {
+            Ok(count) if count > 0 => left = &left[count..],
+            _ => return Err(StreamFault::Device),
+        }
+    }
+    Ok(())
+}
+
+/// The frame that a message is written as.
+fn frame_of(
+    alloc: Global,
+    message: &Message,
+    mode: Mode,
+    max_words: u32,
+    limits: Limits,
+) -> Result<Vec<u8>, Refusal>
+    ensures written { IfOk result (λ b. IsWrittenAs mode limits max_words limits.segments message.now b.items) }
+    ensures refused { IfErr result (IsUnwrittenFor limits max_words limits.segments message.now) }
+{
+    let draft = draft_of(alloc, message)?;
+    let segments = write_draft(alloc, &draft, max_words, limits)?;
+    let frame = write_frame(alloc, &segments, mode, limits)?;
+    Ok(frame)
+}
+
+/// Writes a message as one frame, in segments of at most so many words as by
+/// `cp_tree::write_segments` (encoding specification, "Serialization Over a Stream", "Packing").
+///
+/// B2 if a list of it has 2^29 elements or words or more; else B1 if it nests deeper than the limit;
+/// else B2 if it costs more; else B4 if its segments have more words together than a frame may have;
+/// B3 and F6 if memory runs out. All are told at 0, before a byte is written. `Device` says that a
+/// call of the device failed, and then a beginning of the frame was written.
+pub fn write_message_in<W: Write>(
+    alloc: Global,
+    to: &mut Tap<W>,
+    message: &Message,
+    mode: Mode,
+    max_words: u32,
+    limits: Limits,
+) -> Result<(), StreamFault>
+    ensures sent { OnOk result (IsSent W.contents mode limits max_words limits.segments message.now to.old to.new) }
+    ensures stopped { IfErr result (IsCutShort W.contents mode limits max_words limits.segments message.now to.old to.new) }
+{
+    match frame_of(alloc, message, mode, max_words, limits) {
+        Ok(frame) => write_whole(to, &frame),
+        Err(refusal) => Err(refused(0, refusal)),
+    }
+}
+
+/// Writes a message as one frame of one segment, as by `cp_tree::write_root`. Faults are those of
+/// `write_message_in`.
+pub fn write_message<W: Write>(
+    alloc: Global,
+    to: &mut Tap<W>,
+    message: &Message,
+    mode: Mode,
+    limits: Limits,
+) -> Result<(), StreamFault>
+    ensures sent { OnOk result (IsSent W.contents mode limits limits.frame_words 1 message.now to.old to.new) }
+    ensures stopped { IfErr result (IsCutShort W.contents mode limits limits.frame_words 1 message.now to.old to.new) }
+{
+    write_message_in(alloc, to, message, mode, limits.frame_words(), limits)
+}
