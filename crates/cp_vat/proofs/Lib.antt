@@ -1,2 +1,13 @@
 pub mod RowLemmas
 pub mod Pipelined
+pub mod Known
+pub mod Found
+pub mod Finding
+pub mod Taking
+pub mod Giving
+pub mod Going
+pub mod Receiving
+pub mod Uses
+pub mod Owning
+pub mod Acting
+pub mod Playing

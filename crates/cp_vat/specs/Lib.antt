@@ -15,5 +15,7 @@ pub mod Calling
 pub mod Doing
 pub mod Step
 pub mod Run
+pub mod RowWords
 pub mod Rows
+pub mod EmbargoRows
 pub mod Ledger

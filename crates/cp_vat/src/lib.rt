@@ -4,6 +4,7 @@
 
 mod acted;
 mod effect;
+mod embargo_rows;
 mod entry;
 mod event;
 mod fault;
@@ -12,10 +13,11 @@ mod rows;
 pub use acted::{Acted, Idle, Ids, Ran};
 pub use cp_refs::{Cap, Caps, Origin, Outcome, Path, PromiseId, Request};
 pub use effect::{Effect, Effects, Reason};
+pub use embargo_rows::{import_embargo, pipelined_embargo};
 pub use entry::{AnswerEntry, ImportKind, Mentions, QuestionEntry, Tied, TiedPromises};
 pub use event::{Event, Value};
 pub use fault::{PeerFault, VatFault};
 pub use rows::{
-    bootstraps, broken_call, closed_vat, late_resolves, pipelined_leaves, pipelined_waits,
-    refusals, strangers, unsupported,
+    bootstrap_returns, bootstraps, broken_call, closed_vat, late_resolves, pipelined_leaves,
+    pipelined_waits, refusals, strangers, unsupported,
 };
