@@ -18,4 +18,6 @@ pub mod Run
 pub mod RowWords
 pub mod Rows
 pub mod EmbargoRows
+pub mod CountRows
+pub mod PromiseRows
 pub mod Ledger

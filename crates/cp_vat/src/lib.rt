@@ -3,20 +3,24 @@
 #![tactic(auto)]
 
 mod acted;
+mod count_rows;
 mod effect;
 mod embargo_rows;
 mod entry;
 mod event;
 mod fault;
+mod promise_rows;
 mod rows;
 
 pub use acted::{Acted, Idle, Ids, Ran};
+pub use count_rows::{finished_early, given_back, given_up, import_released, releases};
 pub use cp_refs::{Cap, Caps, Origin, Outcome, Path, PromiseId, Request};
 pub use effect::{Effect, Effects, Reason};
 pub use embargo_rows::{import_embargo, pipelined_embargo};
 pub use entry::{AnswerEntry, ImportKind, Mentions, QuestionEntry, Tied, TiedPromises};
 pub use event::{Event, Value};
 pub use fault::{PeerFault, VatFault};
+pub use promise_rows::{forwarded, import_resolved, promises_resolved, promises_tied};
 pub use rows::{
     bootstrap_returns, bootstraps, broken_call, closed_vat, late_resolves, pipelined_leaves,
     pipelined_waits, refusals, strangers, unsupported,
