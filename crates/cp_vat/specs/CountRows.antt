@@ -48,15 +48,15 @@ abbrev pub params_released : List Moment
 params_released =
     bootstrap_does
     ∷ comes
-      (return_message 0 (results (cap 0) (descriptors.SenderHosted 7 ∷ [])))
-      (effects.Settled 0 (outcomes.Results (cap 0) (caps.Import 7 ∷ [])) ∷ [])
+    (return_message 0 (results (cap 0) (descriptors.SenderHosted 7 ∷ [])))
+    (effects.Settled 0 (outcomes.Results (cap 0) (caps.Import 7 ∷ [])) ∷ [])
     ∷ does
-      (events.Call (caps.Import 7) (request one_object (caps.Object 3 ∷ caps.Object 3 ∷ [])))
-      (values.Question 1)
-      (sends (call_message 1 (on_import 7) one_object (descriptors.SenderHosted 0 ∷ descriptors.SenderHosted 0 ∷ [])) ∷ [])
+    (events.Call (caps.Import 7) (request one_object (caps.Object 3 ∷ caps.Object 3 ∷ [])))
+    (values.Question 1)
+    (sends (call_message 1 (on_import 7) one_object (descriptors.SenderHosted 0 ∷ descriptors.SenderHosted 0 ∷ [])) ∷ [])
     ∷ comes
-      (messages.Return (record { answer_id = 1; release_param_caps = true; returned = results no_content [] }))
-      (effects.Settled 1 (outcomes.Results no_content []) ∷ [])
+    (messages.Return (record { answer_id = 1; release_param_caps = true; returned = results no_content [] }))
+    (effects.Settled 1 (outcomes.Results no_content []) ∷ [])
     ∷ faults_by (release_message 0 1) faults.UnknownExport
     ∷ []
 
@@ -67,9 +67,9 @@ finished_early =
     ∷ call_comes
     ∷ comes (finish_message 1 true) []
     ∷ does
-      (events.Answer (origins.Answer 1) (outcomes.Results one_object (caps.Object 5 ∷ [])))
-      values.Nothing
-      (sends (return_message 1 returns.Canceled) ∷ [])
+    (events.Answer (origins.Answer 1) (outcomes.Results one_object (caps.Object 5 ∷ [])))
+    values.Nothing
+    (sends (return_message 1 returns.Canceled) ∷ [])
     ∷ comes (small_call 1 (on_import 0)) (effects.Deliver 0 (origins.Answer 1) 1 small_request ∷ [])
     ∷ []
 
@@ -81,9 +81,9 @@ waits_past_finish =
     ∷ pipelined_comes 2
     ∷ comes (finish_message 1 true) []
     ∷ does
-      (events.Answer (origins.Answer 1) (outcomes.Results one_object (caps.Object 5 ∷ [])))
-      values.Nothing
-      (sends (return_message 1 returns.Canceled) ∷ effects.Deliver 5 (origins.Answer 2) 1 small_request ∷ [])
+    (events.Answer (origins.Answer 1) (outcomes.Results one_object (caps.Object 5 ∷ [])))
+    values.Nothing
+    (sends (return_message 1 returns.Canceled) ∷ effects.Deliver 5 (origins.Answer 2) 1 small_request ∷ [])
     ∷ []
 
 -- the application finishes a question before its Return, which is then not looked at
@@ -111,8 +111,8 @@ abbrev pub import_released : List Moment
 import_released =
     bootstrap_does
     ∷ comes
-      (return_message 0 (results (cap 0) (descriptors.SenderHosted 7 ∷ descriptors.SenderHosted 7 ∷ [])))
-      (effects.Settled 0 (outcomes.Results (cap 0) (caps.Import 7 ∷ caps.Import 7 ∷ [])) ∷ [])
+    (return_message 0 (results (cap 0) (descriptors.SenderHosted 7 ∷ descriptors.SenderHosted 7 ∷ [])))
+    (effects.Settled 0 (outcomes.Results (cap 0) (caps.Import 7 ∷ caps.Import 7 ∷ [])) ∷ [])
     ∷ does events.Idle (values.Idle [] []) []
     ∷ refusal (events.Release 7) refusals.InUse
     ∷ does (events.Finish 0) values.Nothing (sends (finish_message 0 false) ∷ [])

@@ -20,4 +20,6 @@ pub mod Rows
 pub mod EmbargoRows
 pub mod CountRows
 pub mod PromiseRows
+pub mod FaultRows
+pub mod RefusalRows
 pub mod Ledger

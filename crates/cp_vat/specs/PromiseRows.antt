@@ -40,12 +40,12 @@ promise_exported =
     ∷ comes (small_call 2 (on_import 1)) []
     ∷ comes (small_call 3 (on_answer 1 0)) []
     ∷ does
-      (events.Resolve 0 (caps.Object 5))
-      values.Nothing
-      (sends (resolve_message 1 (resolutions.Cap (descriptors.SenderHosted 2)))
-      ∷ effects.Deliver 5 (origins.Answer 2) 1 small_request
-      ∷ effects.Deliver 5 (origins.Answer 3) 2 small_request
-      ∷ [])
+    (events.Resolve 0 (caps.Object 5))
+    values.Nothing
+    (sends (resolve_message 1 (resolutions.Cap (descriptors.SenderHosted 2)))
+    ∷ effects.Deliver 5 (origins.Answer 2) 1 small_request
+    ∷ effects.Deliver 5 (origins.Answer 3) 2 small_request
+    ∷ [])
     ∷ []
 
 -- one that is broken is told so, and calls that wait at it fail with its exception
@@ -57,9 +57,9 @@ promise_broken =
     ∷ answers (caps.Promise 0) (sends (return_message 1 (results one_object (descriptors.SenderPromise 1 ∷ []))) ∷ [])
     ∷ comes (small_call 2 (on_import 1)) []
     ∷ does
-      (events.Resolve 0 (caps.Broken x_failed))
-      values.Nothing
-      (sends (resolve_message 1 (resolutions.Exception x_failed)) ∷ sends (return_message 2 (returns.Exception x_failed)) ∷ [])
+    (events.Resolve 0 (caps.Broken x_failed))
+    values.Nothing
+    (sends (resolve_message 1 (resolutions.Exception x_failed)) ∷ sends (return_message 2 (returns.Exception x_failed)) ∷ [])
     ∷ []
 
 -- two promises don't lead to each other, each is resolved once, and a settled one that nothing names is dropped
@@ -85,13 +85,13 @@ promise_tied =
     bootstrap_comes
     ∷ call_comes
     ∷ comes
-      (call_message 2 (on_import 0) one_object (descriptors.ReceiverAnswer (promised_answer 1 0) ∷ []))
-      (effects.Deliver 0 (origins.Answer 2) 1 (request one_object (caps.Promise 0 ∷ [])) ∷ [])
+    (call_message 2 (on_import 0) one_object (descriptors.ReceiverAnswer (promised_answer 1 0) ∷ []))
+    (effects.Deliver 0 (origins.Answer 2) 1 (request one_object (caps.Promise 0 ∷ [])) ∷ [])
     ∷ refusal (events.Resolve 0 caps.None) refusals.UnknownPromise
     ∷ does (events.Call (caps.Promise 0) small_request) (values.Question 0) []
     ∷ answers
-      (caps.Object 5)
-      (sends (return_message 1 (results one_object (descriptors.SenderHosted 1 ∷ []))) ∷ effects.Deliver 5 (origins.Own 0) 2 small_request ∷ [])
+    (caps.Object 5)
+    (sends (return_message 1 (results one_object (descriptors.SenderHosted 1 ∷ []))) ∷ effects.Deliver 5 (origins.Own 0) 2 small_request ∷ [])
     ∷ []
 
 -- of two tied promises that would lead to each other, the later one is broken
@@ -103,15 +103,15 @@ tied_loop =
     bootstrap_comes
     ∷ call_comes
     ∷ comes
-      (call_message 2 (on_import 0) two_objects (descriptors.ReceiverAnswer (promised_answer 1 0) ∷ descriptors.ReceiverAnswer (promised_answer 1 1) ∷ []))
-      (effects.Deliver 0 (origins.Answer 2) 1 (request two_objects (caps.Promise 0 ∷ caps.Promise 1 ∷ [])) ∷ [])
+    (call_message 2 (on_import 0) two_objects (descriptors.ReceiverAnswer (promised_answer 1 0) ∷ descriptors.ReceiverAnswer (promised_answer 1 1) ∷ []))
+    (effects.Deliver 0 (origins.Answer 2) 1 (request two_objects (caps.Promise 0 ∷ caps.Promise 1 ∷ [])) ∷ [])
     ∷ does
-      (events.Answer (origins.Answer 1) (outcomes.Results two_objects (caps.Promise 1 ∷ caps.Promise 0 ∷ [])))
-      values.Nothing
-      (sends (return_message 1 (results two_objects (descriptors.SenderPromise 1 ∷ descriptors.SenderPromise 2 ∷ [])))
-      ∷ sends (resolve_message 2 (resolutions.Cap (descriptors.SenderPromise 1)))
-      ∷ sends (resolve_message 1 (resolutions.Exception promise_loop))
-      ∷ [])
+    (events.Answer (origins.Answer 1) (outcomes.Results two_objects (caps.Promise 1 ∷ caps.Promise 0 ∷ [])))
+    values.Nothing
+    (sends (return_message 1 (results two_objects (descriptors.SenderPromise 1 ∷ descriptors.SenderPromise 2 ∷ [])))
+    ∷ sends (resolve_message 2 (resolutions.Cap (descriptors.SenderPromise 1)))
+    ∷ sends (resolve_message 1 (resolutions.Exception promise_loop))
+    ∷ [])
     ∷ []
 
 -- The application holds the peer's object 7, and the peer calls what comes to it: the call is forwarded, and so is its outcome.
@@ -119,17 +119,17 @@ abbrev pub forwarding_begins : List Moment → List Moment
 forwarding_begins more =
     bootstrap_does
     ∷ comes
-      (return_message 0 (results (cap 0) (descriptors.SenderHosted 7 ∷ [])))
-      (effects.Settled 0 (outcomes.Results (cap 0) (caps.Import 7 ∷ [])) ∷ [])
+    (return_message 0 (results (cap 0) (descriptors.SenderHosted 7 ∷ [])))
+    (effects.Settled 0 (outcomes.Results (cap 0) (caps.Import 7 ∷ [])) ∷ [])
     ∷ bootstrap_comes
     ∷ call_comes
     ∷ pipelined_comes 2
     ∷ answers
-      (caps.Import 7)
-      (sends (return_message 1 (results one_object (descriptors.ReceiverHosted 7 ∷ []))) ∷ sends (small_call 1 (on_import 7)) ∷ [])
+    (caps.Import 7)
+    (sends (return_message 1 (results one_object (descriptors.ReceiverHosted 7 ∷ []))) ∷ sends (small_call 1 (on_import 7)) ∷ [])
     ∷ comes
-      (return_message 1 (results no_content []))
-      (sends (finish_message 1 false) ∷ sends (return_message 2 (results no_content [])) ∷ [])
+    (return_message 1 (results no_content []))
+    (sends (finish_message 1 false) ∷ sends (return_message 2 (results no_content [])) ∷ [])
     ∷ more
 
 abbrev pub forwarded : List Moment
@@ -142,11 +142,11 @@ forwarded_in_any_order =
     comes (small_call 3 (on_answer 1 0)) (sends (small_call 1 (on_import 7)) ∷ [])
     ∷ comes (small_call 4 (on_answer 1 0)) (sends (small_call 2 (on_import 7)) ∷ [])
     ∷ comes
-      (return_message 2 (returns.Exception x_failed))
-      (sends (finish_message 2 false) ∷ sends (return_message 4 (returns.Exception x_failed)) ∷ [])
+    (return_message 2 (returns.Exception x_failed))
+    (sends (finish_message 2 false) ∷ sends (return_message 4 (returns.Exception x_failed)) ∷ [])
     ∷ comes
-      (return_message 1 (results no_content []))
-      (sends (finish_message 1 false) ∷ sends (return_message 3 (results no_content [])) ∷ [])
+    (return_message 1 (results no_content []))
+    (sends (finish_message 1 false) ∷ sends (return_message 3 (results no_content [])) ∷ [])
     ∷ []
     )
 
@@ -171,8 +171,8 @@ abbrev pub import_resolved : List Moment
 import_resolved =
     bootstrap_does
     ∷ comes
-      (return_message 0 (results (cap 0) (descriptors.SenderPromise 7 ∷ [])))
-      (effects.Settled 0 (outcomes.Results (cap 0) (caps.Import 7 ∷ [])) ∷ [])
+    (return_message 0 (results (cap 0) (descriptors.SenderPromise 7 ∷ [])))
+    (effects.Settled 0 (outcomes.Results (cap 0) (caps.Import 7 ∷ [])) ∷ [])
     ∷ bootstrap_comes
     ∷ call_comes
     ∷ answers (caps.Import 7) (sends (return_message 1 (results one_object (descriptors.ReceiverHosted 7 ∷ []))) ∷ [])

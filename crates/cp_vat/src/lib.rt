@@ -9,7 +9,9 @@ mod embargo_rows;
 mod entry;
 mod event;
 mod fault;
+mod fault_rows;
 mod promise_rows;
+mod refusal_rows;
 mod rows;
 
 pub use acted::{Acted, Idle, Ids, Ran};
@@ -20,7 +22,11 @@ pub use embargo_rows::{import_embargo, pipelined_embargo};
 pub use entry::{AnswerEntry, ImportKind, Mentions, QuestionEntry, Tied, TiedPromises};
 pub use event::{Event, Value};
 pub use fault::{PeerFault, VatFault};
+pub use fault_rows::{
+    echoes, first_faults, numbers_in_use, sizes, strange_descriptors, strange_targets,
+};
 pub use promise_rows::{forwarded, import_resolved, promises_resolved, promises_tied};
+pub use refusal_rows::{answers_refused, local_refused, strangers_refused, too_large};
 pub use rows::{
     bootstrap_returns, bootstraps, broken_call, closed_vat, late_resolves, pipelined_leaves,
     pipelined_waits, refusals, strangers, unsupported,
