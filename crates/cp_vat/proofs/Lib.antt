@@ -11,3 +11,4 @@ pub mod Uses
 pub mod Owning
 pub mod Acting
 pub mod Playing
+pub mod Filling

@@ -1,5 +1,5 @@
 -- Exchanges in which the peer is at fault, and messages that aren't supported.
-use Rattle.std.specs.Prelude.{ℕ, zero, suc, true, false, List, [], ◌∷◌, replicate}
+use Rattle.std.specs.Prelude.{ℕ, zero, suc, true, false, List, [], ◌∷◌, ◌++◌, replicate}
 use Rattle.cp_tree.specs.Node.{Node, null, cap, struct, no_nodes, node}
 use Rattle.cp_rpc.specs.Made.{message_made}
 use Rattle.cp_rpc.specs.declared.call.SendResultsTo.TheVariants as results_to
@@ -19,6 +19,7 @@ use Rattle.cp_refs.specs.declared.call.Origin.TheVariants as origins
 use Rattle.cp_vat.specs.Run.{Moment}
 use Rattle.cp_vat.specs.Rows.{call_comes}
 use Rattle.cp_vat.specs.RowWords.{comes, faults_by, bootstrap_message, call_message, return_message, finish_message, resolve_message, disembargo_message, sends, on_import, on_answer, results, no_content, request, small_call, bootstrap_comes, bootstrap_does}
+use Rattle.cp_vat.specs.Texts.{no_bootstrap}
 use Rattle.cp_vat.specs.declared.effect.Effect.TheVariants as effects
 use Rattle.cp_vat.specs.declared.fault.PeerFault.{PeerFault}
 use Rattle.cp_vat.specs.declared.fault.PeerFault.TheVariants as faults
@@ -127,6 +128,18 @@ deep_content =
 
 abbrev pub deeper_content : List Moment
 deeper_content = after_bootstrap (call_message 1 (on_import 0) (nested 61) []) faults.PayloadTooLarge
+
+-- Bootstraps come under the first n numbers to a vat without a bootstrap object, and each fails.
+abbrev pub failed_bootstrap : ℕ → Moment
+failed_bootstrap n = comes (bootstrap_message n) (sends (return_message n (returns.Exception no_bootstrap)) ∷ [])
+
+unfoldable pub failed_bootstraps : ℕ → List Moment
+failed_bootstraps zero = []
+failed_bootstraps (suc n) = failed_bootstraps n ++ failed_bootstrap n ∷ []
+
+-- 65,536 answers are kept, and one more is too many
+abbrev pub answers_full : List Moment
+answers_full = failed_bootstraps 65536 ++ faults_by (bootstrap_message 65536) faults.TableFull ∷ []
 
 -- what isn't supported is sent back as its tree, as long as that can be written, and changes nothing
 abbrev echoed : Message → Moment

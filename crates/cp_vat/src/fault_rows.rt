@@ -46,6 +46,11 @@ pub fn sizes()
     ensures deeper_content { Run (Some 0) rows.deeper_content }
 {}
 
+/// A table holds 65,536 entries.
+pub fn table_full()
+    ensures { Run None rows.answers_full }
+{}
+
 /// A message with a member that isn't supported is sent back and changes nothing, and one that can't
 /// be sent back is a fault.
 pub fn echoes()

@@ -23,7 +23,7 @@ pub use entry::{AnswerEntry, ImportKind, Mentions, QuestionEntry, Tied, TiedProm
 pub use event::{Event, Value};
 pub use fault::{PeerFault, VatFault};
 pub use fault_rows::{
-    echoes, first_faults, numbers_in_use, sizes, strange_descriptors, strange_targets,
+    echoes, first_faults, numbers_in_use, sizes, strange_descriptors, strange_targets, table_full,
 };
 pub use promise_rows::{forwarded, import_resolved, promises_resolved, promises_tied};
 pub use refusal_rows::{answers_refused, local_refused, strangers_refused, too_large};
