@@ -1,26 +1,34 @@
--- A table of answers that fills up.
-use Rattle.std.specs.Prelude.{◌≡◌, refl, ℕ, zero, suc, ◌+◌, ◌<◌, ◌≤◌, ltb, not, true, false, List, [], ◌∷◌, ◌++◌, is_some, Some, None, Ok, Err}
+-- Tables of answers and of questions that fill up.
+use Rattle.std.specs.Prelude.{◌≡◌, refl, ℕ, zero, suc, ◌<◌, ◌≤◌, ltb, not, ◌&&◌, true, false, List, [], ◌∷◌, ◌++◌, is_some, None, Ok, Err}
 use Rattle.std.proofs.Common.{arith, sym, ap, subst, ◌∙◌, lt-ltb}
 use Rattle.std.specs.Ordering.{nat_cmp}
 use Rattle.std.specs.Cmp.{nat_cmp_total}
-use Rattle.std.specs.FinMap.{get, len, insert, empty, get-empty, len-empty, len-insert}
+use Rattle.std.specs.FinMap.{get, len, empty, get-empty, len-empty, len-insert}
 use Rattle.cp_tables.specs.Exchange.{new_exchange}
-use Rattle.cp_tables.specs.Table.{Table}
 use Rattle.cp_tables.specs.declared.exchange.Exchange.{Exchange}
 use Rattle.cp_tables.proofs.TableLemmas.{get-insert_same, get-insert_other}
 use Rattle.cp_rpc.specs.declared.returned.Returned.TheVariants as returns
 use Rattle.cp_refs.specs.declared.outcome.Outcome.{Outcome}
 use Rattle.cp_refs.specs.declared.outcome.Outcome.TheVariants as outcomes
 use Rattle.cp_vat.specs.State.{State, new_state, with_over, none_over}
-use Rattle.cp_vat.specs.Then.{Unless, fault_if}
+use Rattle.cp_vat.specs.Then.{Unless, OrFull, fault_if}
 use Rattle.cp_vat.specs.Texts.{no_bootstrap}
 use Rattle.cp_vat.specs.Give.{given, GiveAnswer, return_of}
 use Rattle.cp_vat.specs.Go.{stays}
 use Rattle.cp_vat.specs.Answering.{with_answer, bootstrap_outcome, OnBootstrap}
-use Rattle.cp_vat.specs.Step.{Step, received, faulted, all_left}
+use Rattle.cp_vat.specs.Step.{Step, refused, did, received, faulted, all_left}
 use Rattle.cp_vat.specs.Run.{Moment, Steps, Run}
-use Rattle.cp_vat.specs.RowWords.{bootstrap_message}
+use Rattle.cp_vat.specs.RowWords.{bootstrap_message, small_request}
 use Rattle.cp_vat.specs.FaultRows.{failed_bootstrap, failed_bootstraps, answers_full}
+use Rattle.cp_vat.specs.RefusalRows.{asked_bootstrap, asked_bootstraps, questions_full}
+use Rattle.cp_refs.specs.declared.cap.Cap.TheVariants as caps
+use Rattle.cp_refs.specs.declared.values.QuestionKind.TheVariants as kinds
+use Rattle.cp_vat.specs.Room.{has_room, has_ticket, free, full}
+use Rattle.cp_vat.specs.InUse.{has_import}
+use Rattle.cp_vat.specs.Calling.{asked, not_all, Opens}
+use Rattle.cp_vat.specs.declared.effect.Effect.TheVariants as effects
+use Rattle.cp_vat.specs.declared.entry.QuestionEntry.{QuestionEntry}
+use Rattle.cp_vat.specs.declared.fault.VatFault.TheVariants as refusals
 use Rattle.cp_vat.specs.Resolving.{closed}
 use Rattle.cp_vat.specs.declared.effect.Effect.{Effect}
 use Rattle.cp_vat.specs.declared.entry.AnswerEntry.{AnswerEntry}
@@ -103,9 +111,9 @@ module _ (s : State) (n : ℕ) (filled : Filled n s) where
             filled.size,
           ) (omega arith)
 
-steps_push : (history : List Moment) (moment : Moment) (s t u : State) → Steps s history t → Step t moment.event moment.result moment.effects u → Steps s (history ++ moment ∷ []) u
-steps_push [] moment s t u steps step = (u, subst (λ x. Step x moment.event moment.result moment.effects u) steps step, refl)
-steps_push (first ∷ more) moment s t u (mid, step, rest) last = (mid, step, steps_push more moment mid t u rest last)
+steps_append : (history more : List Moment) (s t u : State) → Steps s history t → Steps t more u → Steps s (history ++ more) u
+steps_append [] more s t u steps rest = subst (λ x. Steps x more u) steps rest
+steps_append (first ∷ history) more s t u (mid, step, steps) rest = (mid, step, steps_append history more mid t u steps rest)
 
 fills : (n : ℕ) → n ≤ 65536 → (s : State) × Steps (new_state None) (failed_bootstraps n) s × Filled n s
 unfolding failed_bootstraps
@@ -123,28 +131,112 @@ fills zero below = (
 fills (suc n) below =
     let before = fills n (omega (arith, below)) in (
       next_state before.0 n,
-      steps_push (failed_bootstraps n) (failed_bootstrap n) (new_state None) before.0 (next_state before.0 n) before.1 (one_more before.0 n before.2 (omega (arith, below))),
+      steps_append (failed_bootstraps n) (failed_bootstrap n ∷ []) (new_state None) before.0 (next_state before.0 n) before.1 (next_state before.0 n, one_more before.0 n before.2 (omega (arith, below)), refl),
       filled_more before.0 n before.2,
     )
 
 -- with 65,536 answers the next one is too many
 overflows : (n : ℕ) (s : State) → Filled n s → ltb n 65536 ≡ false → OnBootstrap s n (Err faults.TableFull)
-overflows n s filled full =
+overflows n s filled past =
     subst
     (λ found. Unless found (GiveAnswer (with_answer s n None) n (bootstrap_outcome s.bootstrap)) (Err faults.TableFull))
-    (sym (λ i. fault_if (is_some (filled.free_behind n (omega arith) i)) faults.QuestionInUse ++ fault_if (not ((ap (λ m. ltb m 65536) filled.size ∙ full) i)) faults.TableFull))
+    (sym (λ i. fault_if (is_some (filled.free_behind n (omega arith) i)) faults.QuestionInUse ++ fault_if (not ((ap (λ m. ltb m 65536) filled.size ∙ past) i)) faults.TableFull))
     refl
 
 pub answers_full_is : Run None answers_full
 answers_full_is =
     let before = fills 65536 (omega arith) in (
       closed before.0,
-      steps_push
-      (failed_bootstraps 65536)
-      _
-      (new_state None)
-      before.0
-      (closed before.0)
-      before.1
-      (faulted (bootstrap_message 65536) before.2.is_open (overflows 65536 before.0 before.2 refl) refl),
+      steps_append
+          (failed_bootstraps 65536)
+          _
+          (new_state None)
+          before.0
+          (closed before.0)
+          before.1
+          (closed before.0, faulted (bootstrap_message 65536) before.2.is_open (overflows 65536 before.0 before.2 refl) refl, refl),
+    )
+
+-- a vat that asked the first n questions, and in which nothing waits
+record Asked (n : ℕ) (s : State) : Type 0 where
+  is_open : s.is_closed ≡ false
+  has_no_calls : s.waiting.calls ≡ empty
+  free_behind : (q : ℕ) → n ≤ q → get s.entries.questions q ≡ None
+  size : len s.entries.questions ≡ n
+
+abbrev asked_state : State → ℕ → State
+asked_state s n = asked s n kinds.Wire None true
+
+module _ (s : State) (n : ℕ) (before : Asked n s) where
+  asks : n < 65536 → Step s events.Bootstrap (Ok (values.Question n)) (effects.Send (bootstrap_message n) ∷ []) (with_over (asked_state s n) none_over)
+  asks below =
+      did
+      events.Bootstrap
+      (effects.Send (bootstrap_message n) ∷ [])
+      []
+      (asked_state s n)
+      before.is_open (
+        Ok (values.Question n, effects.Send (bootstrap_message n) ∷ [], asked_state s n),
+        (Ok n, free n (before.free_behind n (omega arith)) (omega (arith, below)) (ap (λ m. ltb m 65536) before.size ∙ lt-ltb n 65536 below), refl),
+        refl,
+      )
+      (all_left (stays (none_waiting (asked_state s n) before.has_no_calls)))
+      refl
+
+  asked_more : Asked (suc n) (with_over (asked_state s n) none_over)
+  asked_more =
+      record {
+        is_open = before.is_open;
+        has_no_calls = before.has_no_calls;
+        free_behind = λ q past. get-insert_other s.entries.questions n q _ (λ e. absurd (omega (arith, e))) ∙ before.free_behind q (omega (arith, past));
+        size = rw (len-insert nat_cmp_total s.entries.questions n _, before.free_behind n (omega arith), before.size) (omega arith);
+      }
+
+asks_all : (n : ℕ) → n ≤ 65536 → (s : State) × Steps (new_state None) (asked_bootstraps n) s × Asked n s
+unfolding asked_bootstraps
+asks_all zero below = (
+  new_state None,
+  refl,
+  record { is_open = refl; has_no_calls = refl; free_behind = λ q _. get-empty nat_cmp q; size = len-empty nat_cmp (Exchange QuestionEntry) },
+)
+asks_all (suc n) below =
+    let before = asks_all n (omega (arith, below)) in
+    let after : State = with_over (asked_state before.0 n) none_over in (
+      after,
+      steps_append (asked_bootstraps n) (asked_bootstrap n ∷ []) (new_state None) before.0 after before.1 (after, asks before.0 n before.2 (omega (arith, below)), refl),
+      asked_more before.0 n before.2,
+    )
+
+-- with 65,536 questions none is asked any more, and that is told before anything about an import
+no_room : (s : State) → Asked 65536 s → has_room s.entries.questions ≡ false
+no_room s before = ap (λ m. ltb m 65536) before.size
+
+none_asked : (s : State) → Asked 65536 s → Step s events.Bootstrap (Err refusals.Full) [] s
+none_asked s before = refused events.Bootstrap before.is_open (Err faults.TableFull, (Err faults.TableFull, full (no_room s before), refl), refl)
+
+none_called : (s : State) → Asked 65536 s → Step s (events.Call (caps.Import 9) small_request) (Err refusals.Full) [] s
+none_called s before =
+    refused
+    (events.Call (caps.Import 9) small_request)
+    before.is_open
+    (subst
+    (λ b. Unless
+    (fault_if (not (b && has_ticket s)) refusals.Full ++ fault_if (not_all (has_import s) (caps.Import 9 ∷ [])) refusals.UnknownImport)
+    (OrFull (Opens s (caps.Import 9) small_request))
+    (Err refusals.Full))
+    (sym (no_room s before))
+    refl)
+
+pub questions_full_is : Run None questions_full
+questions_full_is =
+    let before = asks_all 65536 (omega arith) in (
+      before.0,
+      steps_append
+          (asked_bootstraps 65536)
+          _
+          (new_state None)
+          before.0
+          before.0
+          before.1
+          (before.0, none_asked before.0 before.2, (before.0, none_called before.0 before.2, refl)),
     )

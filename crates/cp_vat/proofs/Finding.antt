@@ -14,7 +14,7 @@ use Rattle.cp_vat.specs.Room.{Fresh, free, full, has_room}
 use Rattle.cp_vat.specs.Say.{end_by, end_within, ComesTo, HasNoExport, Raise, counted, opened, has_no_room, SayEnd, Say, SayAll}
 use Rattle.cp_vat.specs.Say.{promised as promised_answer}
 use Rattle.cp_vat.specs.declared.fault.PeerFault.TheVariants as faults
-use Rattle.cp_vat.proofs.Known.{Rows, tabled, Known, state, at, get_is, size, len_is}
+use Rattle.cp_vat.proofs.Known.{Listed, tabled, Known, state, at, get_is, size, len_is}
 use Rattle.cp_vat.proofs.Found.{Finds, lacks, found, beside, plain, follow, find_each}
 
 -- the way of a capability
@@ -86,7 +86,7 @@ module _ (k : Known) where
         by (Some route) e = on route (9, route_is 9 c ∙ e) (find route)
 
 -- the lowest free number of a table
-module _ {X : Type 0} (es : Rows X) where
+module _ {X : Type 0} (es : Listed X) where
   abbrev pub lowest : ℕ → ℕ → ℕ
   lowest zero n = n
   lowest (suc more) n = cond (is_some (at es n)) (lowest more (n + 1)) n
@@ -105,11 +105,11 @@ module _ {X : Type 0} (es : Rows X) where
 
 -- whether a table exports this capability
 module _ (cap : Cap) (is_it : Cap → Bool) (yes : (c : Cap) → is_it c ≡ true → c ≡ cap) (no : (c : Cap) → c ≡ cap → is_it c ≡ true) where
-  abbrev pub number_of : Rows (Counted Cap) → Option ℕ
+  abbrev pub number_of : Listed (Counted Cap) → Option ℕ
   number_of [] = None
   number_of (e ∷ es) = cond (is_it e.1.kept) (Some e.0) (number_of es)
 
-  pub none_at : (es : Rows (Counted Cap)) → number_of es ≡ None → (e : ℕ) → IfSome (at es e) (λ entry. entry.kept ≢ cap)
+  pub none_at : (es : Listed (Counted Cap)) → number_of es ≡ None → (e : ℕ) → IfSome (at es e) (λ entry. entry.kept ≢ cap)
   none_at [] none e = tt
   none_at (x ∷ es) none e = by (is_it x.1.kept) refl (eq_by_cmp nat_cmp e x.0) none (λ none. none_at es none e)
     where

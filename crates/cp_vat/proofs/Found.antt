@@ -5,7 +5,7 @@ use Rattle.std.proofs.Common.{sym, subst}
 use Rattle.cp_vat.specs.State.{State}
 use Rattle.cp_vat.specs.Then.{Then, Unless, Each}
 use Rattle.cp_vat.specs.declared.fault.PeerFault.{PeerFault}
-use Rattle.cp_vat.proofs.Known.{Rows, tabled, at, get_is, Known, state}
+use Rattle.cp_vat.proofs.Known.{Listed, tabled, at, get_is, Known, state}
 
 -- a result, with its value seen in another way
 abbrev pub seen : {A B F : Type 0} → (A → B) → Result A F → Result B F
@@ -45,7 +45,7 @@ module _ {A B F : Type 0} {view : A → B} where
   so gives (found out holds) = found out (gives (seen view out) holds)
 
   -- with what a table holds under a number
-  module _ {X : Type 0} (es : Rows X) (n : ℕ) (Rule : X → Result B F → Type 0) where
+  module _ {X : Type 0} (es : Listed X) (n : ℕ) (Rule : X → Result B F → Type 0) where
     abbrev pub holding_by : (o : Option X) → get (tabled es) n ≡ o → ((x : X) → Finds view (Rule x)) → Finds view (λ out. (x : X) × (get (tabled es) n ≡ Some x) × Rule x out)
     holding_by None e find = lacks
     holding_by (Some x) e find = so (λ out holds. (x, e, holds)) (find x)

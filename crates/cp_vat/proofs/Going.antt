@@ -29,7 +29,7 @@ use Rattle.cp_vat.specs.declared.effect.Effect.{Effect}
 use Rattle.cp_vat.specs.declared.effect.Effect.TheVariants as effects
 use Rattle.cp_vat.specs.declared.entry.QuestionEntry.{QuestionEntry}
 use Rattle.cp_vat.specs.declared.fault.PeerFault.{PeerFault}
-use Rattle.cp_vat.proofs.Known.{Rows, at, get_is, Known, state, rested, without, remove_is}
+use Rattle.cp_vat.proofs.Known.{Listed, at, get_is, Known, state, rested, without, remove_is}
 use Rattle.cp_vat.proofs.Found.{Finds, lacks, found, seen, beside, moved, follow, holding}
 use Rattle.cp_vat.proofs.Finding.{find_fresh, find_all_said, routing}
 use Rattle.cp_vat.proofs.Taking.{changed, changed_is}
@@ -116,7 +116,7 @@ module _ {X : Type 0} (test : ℕ → X → Bool) where
   passes q n x holds true same rest more = subst (λ m. test m x ≡ true) (same_key q n same) holds
   passes q n x holds false same rest more = more
 
-  pub each_passes : (es : Rows X) → list_all (λ e. test e.0 e.1) es ≡ true → (q : ℕ) → IfSome (at es q) (λ x. test q x ≡ true)
+  pub each_passes : (es : Listed X) → list_all (λ e. test e.0 e.1) es ≡ true → (q : ℕ) → IfSome (at es q) (λ x. test q x ≡ true)
   each_passes [] all q = tt
   each_passes (e ∷ es) all q =
       passes q e.0 e.1 (left_of (test e.0 e.1) _ all) (eq_by_cmp nat_cmp q e.0) refl (at es q) (each_passes es (right_of (test e.0 e.1) _ all) q)
@@ -140,7 +140,7 @@ module _ (k : Known) where
   lower_one n None = Some n
   lower_one n (Some m) = Some (cond (leb n m) n m)
 
-  abbrev pub lowest_over : Rows Held → Option ℕ
+  abbrev pub lowest_over : Listed Held → Option ℕ
   lowest_over [] = None
   lowest_over (e ∷ es) = cond (is_over e.1.gate) (lower_one e.0 (lowest_over es)) (lowest_over es)
 

@@ -19,31 +19,31 @@ use Rattle.cp_vat.specs.declared.entry.ImportKind.{ImportKind}
 use Rattle.cp_vat.specs.declared.entry.QuestionEntry.{QuestionEntry}
 
 -- entries by their numbers, the last put first
-abbrev pub Rows : Type 0 → Type 0
-Rows X = List (ℕ × X)
+abbrev pub Listed : Type 0 → Type 0
+Listed X = List (ℕ × X)
 
-abbrev pub tabled : {X : Type 0} → Rows X → FinMap nat_cmp X
+abbrev pub tabled : {X : Type 0} → Listed X → FinMap nat_cmp X
 tabled es = from_entries es
 
 -- a state by its entries
 pub record Known : Type 0 where
-  pub promises : Rows (Option Cap)
-  pub import_values : Rows (Option Cap)
-  pub answers : Rows (Option Outcome)
-  pub questions : Rows Question
-  pub asked : Rows (Exchange QuestionEntry)
-  pub answering : Rows (Exchange AnswerEntry)
+  pub promises : Listed (Option Cap)
+  pub import_values : Listed (Option Cap)
+  pub answers : Listed (Option Outcome)
+  pub questions : Listed Question
+  pub asked : Listed (Exchange QuestionEntry)
+  pub answering : Listed (Exchange AnswerEntry)
   pub own : List ℕ
-  pub exports : Rows (Counted Cap)
-  pub imports : Rows (Counted ImportKind)
-  pub calls : Rows Held
-  pub over_answers : Rows Outcome
-  pub over_promises : Rows Cap
-  pub over_questions : Rows Outcome
-  pub over_embargoes : Rows Cap
-  pub marked_imports : Rows (Option ℕ)
+  pub exports : Listed (Counted Cap)
+  pub imports : Listed (Counted ImportKind)
+  pub calls : Listed Held
+  pub over_answers : Listed Outcome
+  pub over_promises : Listed Cap
+  pub over_questions : Listed Outcome
+  pub over_embargoes : Listed Cap
+  pub marked_imports : Listed (Option ℕ)
   pub marked_paths : List (List ℕ × Option ℕ)
-  pub embargoes : Rows Cap
+  pub embargoes : Listed Cap
   pub bootstrap : Option ℕ
   pub next_ticket : ℕ
   pub is_closed : Bool
@@ -101,18 +101,18 @@ abbrev pub rested : Known → Known
 rested k = record k { over_answers = []; over_promises = []; over_questions = []; over_embargoes = [] }
 
 -- what a table holds under a number
-abbrev pub at : {X : Type 0} → Rows X → ℕ → Option X
+abbrev pub at : {X : Type 0} → Listed X → ℕ → Option X
 at es q = find nat_cmp q es
 
-pub get_is : {X : Type 0} (es : Rows X) (q : ℕ) → get (tabled es) q ≡ at es q
+pub get_is : {X : Type 0} (es : Listed X) (q : ℕ) → get (tabled es) q ≡ at es q
 get_is es q = get-from_entries nat_cmp_total es q
 
 -- how many different numbers stand in a table
-abbrev pub size : {X : Type 0} → Rows X → ℕ
+abbrev pub size : {X : Type 0} → Listed X → ℕ
 size [] = 0
 size (e ∷ es) = cond (is_some (at es e.0)) (size es) (size es + 1)
 
-pub len_is : {X : Type 0} (es : Rows X) → len (tabled es) ≡ size es
+pub len_is : {X : Type 0} (es : Listed X) → len (tabled es) ≡ size es
 len_is {X} [] = len-empty nat_cmp X
 len_is (e ∷ es) = len-insert nat_cmp_total (tabled es) e.0 e.1 ∙ ap (λ o. cond (is_some o) (len (tabled es)) (len (tabled es) + 1)) (get_is es e.0) ∙ ap (λ n. cond (is_some (at es e.0)) n (n + 1)) (len_is es)
 
@@ -147,21 +147,21 @@ module _ {K X : Type 0} {R : K → K → _} (o : IsTotalOrder R) (same : IsAntis
       ∙ sym (find-where_key R p q (λ x t. ap p (sym (same q x t))) es)
       ∙ sym (get-from_entries o (where_key R p es) q))
 
-pub retain_is : {X : Type 0} (es : Rows X) (p : ℕ → Bool) → retain_keys (tabled es) p ≡ tabled (where_key nat_cmp p es)
+pub retain_is : {X : Type 0} (es : Listed X) (p : ℕ → Bool) → retain_keys (tabled es) p ≡ tabled (where_key nat_cmp p es)
 retain_is es p = kept_is nat_cmp_total nat_cmp-IsAntisymmetric es p
 
 pub retain_path_is : {X : Type 0} (es : List (List ℕ × X)) (p : List ℕ → Bool) → retain_keys (pathed es) p ≡ pathed (where_key (slice_cmp nat_cmp) p es)
 retain_path_is es p = kept_is nat_list_cmp_total (slice_cmp-IsAntisymmetric nat_cmp-IsAntisymmetric) es p
 
 -- a table without the entry under a number
-abbrev pub without : {X : Type 0} → Rows X → ℕ → Rows X
+abbrev pub without : {X : Type 0} → Listed X → ℕ → Listed X
 without es n = where_key nat_cmp (λ x. not (eq_by_cmp nat_cmp x n)) es
 
 turned : {X : Type 0} (b : Bool) (o : Option X) → cond b None o ≡ cond (not b) o None
 turned true o = refl
 turned false o = refl
 
-pub remove_is : {X : Type 0} (es : Rows X) (n : ℕ) → remove (tabled es) n ≡ tabled (without es n)
+pub remove_is : {X : Type 0} (es : Listed X) (n : ℕ) → remove (tabled es) n ≡ tabled (without es n)
 remove_is es n =
     same_map nat_cmp_total nat_cmp-IsAntisymmetric _ _ (λ q.
     get-remove nat_cmp_total (tabled es) n q
@@ -171,14 +171,14 @@ remove_is es n =
     ∙ sym (get_is (without es n) q))
 
 -- the entries, rising
-abbrev pub rising : {X : Type 0} → Rows X → Rows X
+abbrev pub rising : {X : Type 0} → Listed X → Listed X
 rising [] = []
 rising (e ∷ es) = put nat_cmp e.0 e.1 (rising es)
 
-none_listed : {X : Type 0} (es : Rows X) → length es ≡ 0 → es ≡ []
+none_listed : {X : Type 0} (es : Listed X) → length es ≡ 0 → es ≡ []
 none_listed [] e = refl
 none_listed (x ∷ es) e = absurd (omega arith)
 
-pub entries_is : {X : Type 0} (es : Rows X) → entries (tabled es) ≡ rising es
+pub entries_is : {X : Type 0} (es : Listed X) → entries (tabled es) ≡ rising es
 entries_is {X} [] = none_listed _ (sym (len-entries (tabled {X = X} [])) ∙ len-empty nat_cmp X)
 entries_is (e ∷ es) = entries-insert nat_cmp_total (tabled es) e.0 e.1 ∙ ap (put nat_cmp e.0 e.1) (entries_is es)

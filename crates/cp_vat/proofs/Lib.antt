@@ -12,3 +12,4 @@ pub mod Owning
 pub mod Acting
 pub mod Playing
 pub mod Filling
+pub mod Wordy

@@ -19,23 +19,23 @@ use Rattle.cp_vat.specs.declared.entry.ImportKind.{ImportKind}
 use Rattle.cp_vat.specs.declared.entry.ImportKind.TheVariants as kinds
 use Rattle.cp_vat.specs.declared.fault.PeerFault.{PeerFault}
 use Rattle.cp_vat.specs.declared.fault.PeerFault.TheVariants as faults
-use Rattle.cp_vat.proofs.Known.{Rows, tabled, Known, state, at, get_is, size, without, remove_is}
+use Rattle.cp_vat.proofs.Known.{Listed, tabled, Known, state, at, get_is, size, without, remove_is}
 use Rattle.cp_vat.proofs.Found.{Finds, lacks, found, beside, moved, decide, follow, find_each}
 use Rattle.cp_vat.proofs.Finding.{find_fresh, room_is}
 
 -- a table with the entry under a number, if there is one, changed
-abbrev pub changed_at : {X : Type 0} → Rows X → ℕ → (X → X) → Option X → Rows X
+abbrev pub changed_at : {X : Type 0} → Listed X → ℕ → (X → X) → Option X → Listed X
 changed_at es n change None = es
 changed_at es n change (Some x) = (n, change x) ∷ es
 
-abbrev pub changed : {X : Type 0} → Rows X → ℕ → (X → X) → Rows X
+abbrev pub changed : {X : Type 0} → Listed X → ℕ → (X → X) → Listed X
 changed es n change = changed_at es n change (at es n)
 
-pub changed_by : {X : Type 0} (es : Rows X) (n : ℕ) (change : X → X) (o : Option X) → option_map_or (λ entry. insert (tabled es) n (change entry)) o (tabled es) ≡ tabled (changed_at es n change o)
+pub changed_by : {X : Type 0} (es : Listed X) (n : ℕ) (change : X → X) (o : Option X) → option_map_or (λ entry. insert (tabled es) n (change entry)) o (tabled es) ≡ tabled (changed_at es n change o)
 changed_by es n change None = refl
 changed_by es n change (Some x) = refl
 
-pub changed_is : {X : Type 0} (es : Rows X) (n : ℕ) (change : X → X) → with_change (tabled es) n change ≡ tabled (changed es n change)
+pub changed_is : {X : Type 0} (es : Listed X) (n : ℕ) (change : X → X) → with_change (tabled es) n change ≡ tabled (changed es n change)
 changed_is es n change = ap (λ o. option_map_or (λ entry. insert (tabled es) n (change entry)) o (tabled es)) (get_is es n) ∙ changed_by es n change (at es n)
 
 -- an import is held once more
@@ -103,63 +103,63 @@ abbrev pub find_all_taken : (k : Known) (table : List Descriptor) → Finds besi
 find_all_taken k table = find_each Take find_taken k table
 
 -- exports lowered
-abbrev pub less : Rows (Counted Cap) → ℕ → ℕ → Option (Counted Cap) → Rows (Counted Cap)
+abbrev pub less : Listed (Counted Cap) → ℕ → ℕ → Option (Counted Cap) → Listed (Counted Cap)
 less es e n None = es
 less es e n (Some entry) = cond (entry.count == n) (without es e) ((e, record entry { count = entry.count - n }) ∷ es)
 
-pub less_if : (es : Rows (Counted Cap)) (e : ℕ) (rest : Rows (Counted Cap)) (b : Bool) → (if b then tabled (without es e) else tabled rest) ≡ tabled (cond b (without es e) rest)
+pub less_if : (es : Listed (Counted Cap)) (e : ℕ) (rest : Listed (Counted Cap)) (b : Bool) → (if b then tabled (without es e) else tabled rest) ≡ tabled (cond b (without es e) rest)
 less_if es e rest true = refl
 less_if es e rest false = refl
 
-pub less_is : (es : Rows (Counted Cap)) (e n : ℕ) (o : Option (Counted Cap)) → less_by (tabled es) e n o ≡ tabled (less es e n o)
+pub less_is : (es : Listed (Counted Cap)) (e n : ℕ) (o : Option (Counted Cap)) → less_by (tabled es) e n o ≡ tabled (less es e n o)
 less_is es e n None = refl
 less_is es e n (Some entry) =
     ap (λ gone. if entry.count == n then gone else insert (tabled es) e (record entry { count = entry.count - n })) (remove_is es e)
     ∙ less_if es e ((e, record entry { count = entry.count - n }) ∷ es) (entry.count == n)
 
-abbrev pub lowered_at : Rows (Counted Cap) → ℕ → ℕ → Rows (Counted Cap)
+abbrev pub lowered_at : Listed (Counted Cap) → ℕ → ℕ → Listed (Counted Cap)
 lowered_at es e n = less es e n (at es e)
 
-pub lowered_at_is : (es : Rows (Counted Cap)) (e n : ℕ) → lowered_by (tabled es) e n ≡ tabled (lowered_at es e n)
+pub lowered_at_is : (es : Listed (Counted Cap)) (e n : ℕ) → lowered_by (tabled es) e n ≡ tabled (lowered_at es e n)
 lowered_at_is es e n = ap (less_by (tabled es) e n) (get_is es e) ∙ less_is es e n (at es e)
 
-abbrev pub lowered_all : Rows (Counted Cap) → List ℕ → Rows (Counted Cap)
+abbrev pub lowered_all : Listed (Counted Cap) → List ℕ → Listed (Counted Cap)
 lowered_all es [] = es
 lowered_all es (e ∷ ids) = lowered_all (lowered_at es e 1) ids
 
-pub lowered_all_is : (es : Rows (Counted Cap)) (ids : List ℕ) → lowered (tabled es) ids ≡ tabled (lowered_all es ids)
+pub lowered_all_is : (es : Listed (Counted Cap)) (ids : List ℕ) → lowered (tabled es) ids ≡ tabled (lowered_all es ids)
 lowered_all_is es [] = refl
 lowered_all_is es (e ∷ ids) = ap (λ exports. lowered exports ids) (lowered_at_is es e 1) ∙ lowered_all_is (lowered_at es e 1) ids
 
-abbrev pub known_count : Rows (Counted Cap) → ℕ → ℕ
+abbrev pub known_count : Listed (Counted Cap) → ℕ → ℕ
 known_count es e = option_map_or (λ entry. entry.count) (at es e) 0
 
 -- lowered, unless there is nothing to lower, or too little
 abbrev pub checked : Bool → Bool → Table (Counted Cap) → Result (Table (Counted Cap)) PeerFault
 checked is_gone is_past exports = if is_gone then Err faults.UnknownExport else (if is_past then Err faults.ReleaseTooLarge else Ok exports)
 
-abbrev pub find_checked : (is_gone is_past : Bool) (es : Rows (Counted Cap)) → Finds tabled (λ out. out ≡ checked is_gone is_past (tabled es))
+abbrev pub find_checked : (is_gone is_past : Bool) (es : Listed (Counted Cap)) → Finds tabled (λ out. out ≡ checked is_gone is_past (tabled es))
 find_checked true is_past es = found (Err faults.UnknownExport) refl
 find_checked false true es = found (Err faults.ReleaseTooLarge) refl
 find_checked false false es = found (Ok es) refl
 
-pub lower_is : (es : Rows (Counted Cap)) (ids : List ℕ) → lower (tabled es) ids ≡ checked (list_any (λ e. is_none (at es e)) ids) (list_any (λ e. ltb (known_count es e) (times e ids)) ids) (tabled (lowered_all es ids))
+pub lower_is : (es : Listed (Counted Cap)) (ids : List ℕ) → lower (tabled es) ids ≡ checked (list_any (λ e. is_none (at es e)) ids) (list_any (λ e. ltb (known_count es e) (times e ids)) ids) (tabled (lowered_all es ids))
 lower_is es ids = λ i.
     checked
     (list_any (λ e. is_none (get_is es e i)) ids)
     (list_any (λ e. ltb (option_map_or (λ entry. entry.count) (get_is es e i) 0) (times e ids)) ids)
     (lowered_all_is es ids i)
 
-abbrev pub find_lowered : (es : Rows (Counted Cap)) (ids : List ℕ) → Finds tabled (λ exports. exports ≡ lower (tabled es) ids)
+abbrev pub find_lowered : (es : Listed (Counted Cap)) (ids : List ℕ) → Finds tabled (λ exports. exports ≡ lower (tabled es) ids)
 find_lowered es ids = moved (λ right exports. exports ≡ right) (lower_is es ids) (find_checked _ _ _)
 
-pub released_is : (es : Rows (Counted Cap)) (e n : ℕ) → released (tabled es) e n ≡ checked (is_none (at es e)) (ltb (known_count es e) n) (tabled (lowered_at es e n))
+pub released_is : (es : Listed (Counted Cap)) (e n : ℕ) → released (tabled es) e n ≡ checked (is_none (at es e)) (ltb (known_count es e) n) (tabled (lowered_at es e n))
 released_is es e n = λ i.
     checked (is_none (get_is es e i)) (ltb (option_map_or (λ entry. entry.count) (get_is es e i) 0) n) (lowered_at_is es e n i)
 
-abbrev pub find_released : (es : Rows (Counted Cap)) (e n : ℕ) → Finds tabled (λ exports. exports ≡ released (tabled es) e n)
+abbrev pub find_released : (es : Listed (Counted Cap)) (e n : ℕ) → Finds tabled (λ exports. exports ≡ released (tabled es) e n)
 find_released es e n = moved (λ right exports. exports ≡ right) (released_is es e n) (find_checked _ _ _)
 
-abbrev pub find_lowered_if : (b : Bool) (es : Rows (Counted Cap)) (ids : List ℕ) → Finds tabled (λ exports. exports ≡ (if b then lower (tabled es) ids else Ok (tabled es)))
+abbrev pub find_lowered_if : (b : Bool) (es : Listed (Counted Cap)) (ids : List ℕ) → Finds tabled (λ exports. exports ≡ (if b then lower (tabled es) ids else Ok (tabled es)))
 find_lowered_if true es ids = find_lowered es ids
 find_lowered_if false es ids = found (Ok es) refl

@@ -10,7 +10,7 @@ use Rattle.std.specs.FinSet as set
 use Rattle.cp_refs.specs.declared.cap.Cap.{Cap}
 use Rattle.cp_refs.specs.declared.cap.Cap.TheVariants as caps
 use Rattle.cp_vat.specs.InUse.{is_promise, is_import, is_pipelined_of, caps_given, kept_caps, value_unless, is_import_used, is_at_promise, is_at_question, is_unsettled, is_promise_used, is_question_used, idle_imports, idle_promises, is_own, has_question, has_promise, has_import, is_question_here, is_local_path}
-use Rattle.cp_vat.proofs.Known.{Rows, tabled, Known, state, at, get_is, rising, entries_is}
+use Rattle.cp_vat.proofs.Known.{Listed, tabled, Known, state, at, get_is, rising, entries_is}
 
 -- the capability's question is the application's, its promise is there, its import is held, its path is of this end
 abbrev pub known_question : Known → Cap → Bool
@@ -78,13 +78,13 @@ local_there k (caps.Import i) = refl
 local_there k (caps.Broken x) = refl
 
 -- what a table holds, its numbers rising
-abbrev pub held_in : {X : Type 0} → Rows X → List X
+abbrev pub held_in : {X : Type 0} → Listed X → List X
 held_in es = map (λ e. e.1) (rising es)
 
-abbrev pub numbers_in : {X : Type 0} → Rows X → List ℕ
+abbrev pub numbers_in : {X : Type 0} → Listed X → List ℕ
 numbers_in es = map (λ e. e.0) (rising es)
 
-pub values_are : {X : Type 0} (es : Rows X) → values (tabled es) ≡ held_in es
+pub values_are : {X : Type 0} (es : Listed X) → values (tabled es) ≡ held_in es
 values_are es = ap (map (λ e. e.1)) (entries_is es)
 
 module _ (k : Known) where

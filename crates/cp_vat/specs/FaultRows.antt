@@ -14,13 +14,19 @@ use Rattle.cp_rpc.specs.declared.resolve.Resolution.TheVariants as resolutions
 use Rattle.cp_rpc.specs.declared.returned.Returned.TheVariants as returns
 use Rattle.cp_rpc.specs.declared.target.Target.{Target}
 use Rattle.cp_rpc.specs.declared.target.Target.TheVariants as targets
+use Rattle.cp_rpc.specs.declared.exception.Exception.{Exception}
+use Rattle.cp_refs.specs.At.{failed}
+use Rattle.cp_vat.specs.declared.effect.Reason.TheVariants as reasons
 use Rattle.cp_refs.specs.declared.cap.Cap.TheVariants as caps
 use Rattle.cp_refs.specs.declared.call.Origin.TheVariants as origins
 use Rattle.cp_vat.specs.Run.{Moment}
 use Rattle.cp_vat.specs.Rows.{call_comes}
-use Rattle.cp_vat.specs.RowWords.{comes, faults_by, bootstrap_message, call_message, return_message, finish_message, resolve_message, disembargo_message, sends, on_import, on_answer, results, no_content, request, small_call, bootstrap_comes, bootstrap_does}
+use Rattle.cp_vat.specs.RowWords.{comes, faults_by, does, release_message, bootstrap_message, call_message, return_message, finish_message, resolve_message, disembargo_message, sends, on_import, on_answer, results, no_content, request, small_call, bootstrap_comes, bootstrap_does}
 use Rattle.cp_vat.specs.Texts.{no_bootstrap}
 use Rattle.cp_vat.specs.declared.effect.Effect.TheVariants as effects
+use Rattle.cp_refs.specs.declared.outcome.Outcome.TheVariants as outcomes
+use Rattle.cp_vat.specs.declared.event.Event.TheVariants as events
+use Rattle.cp_vat.specs.declared.event.Value.TheVariants as values
 use Rattle.cp_vat.specs.declared.fault.PeerFault.{PeerFault}
 use Rattle.cp_vat.specs.declared.fault.PeerFault.TheVariants as faults
 
@@ -86,9 +92,42 @@ first_descriptor_first =
 abbrev pub lowered_first : List Moment
 lowered_first =
     bootstrap_does
+    ∷ comes
+    (return_message 0 (results (cap 0) (descriptors.SenderHosted 7 ∷ [])))
+    (effects.Settled 0 (outcomes.Results (cap 0) (caps.Import 7 ∷ [])) ∷ [])
+    ∷ does
+    (events.Call (caps.Import 7) (request no_content (caps.Object 3 ∷ [])))
+    (values.Question 1)
+    (sends (call_message 1 (on_import 7) no_content (descriptors.SenderHosted 0 ∷ [])) ∷ [])
+    ∷ comes (release_message 0 1) []
     ∷ faults_by
-    (messages.Return (record { answer_id = 0; release_param_caps = true; returned = results (cap 0) (descriptors.ReceiverHosted 9 ∷ []) }))
+    (messages.Return (
+    record {
+      answer_id = 1;
+      release_param_caps = true;
+      returned = results (cap 0) (descriptors.ReceiverAnswer (promised_answer 9) ∷ []);
+    }
+    ))
     faults.UnknownExport
+    ∷ []
+
+-- a Bootstrap has no params, and its Return lowers nothing
+abbrev pub nothing_lowered : List Moment
+nothing_lowered =
+    bootstrap_does
+    ∷ comes
+    (messages.Return (record { answer_id = 0; release_param_caps = true; returned = returns.Canceled }))
+    (effects.Settled 0 outcomes.Canceled ∷ [])
+    ∷ []
+
+-- a Release by 0 of what isn't there, and a Resolve of an import that isn't held, whose descriptor isn't looked at
+abbrev pub none_released : List Moment
+none_released = after_bootstrap (release_message 9 0) faults.UnknownExport
+
+abbrev pub late_resolve_of_strangers : List Moment
+late_resolve_of_strangers =
+    comes (resolve_message 9 (resolutions.Cap (descriptors.ReceiverHosted 9))) []
+    ∷ comes (resolve_message 9 (resolutions.Cap (descriptors.ReceiverAnswer (promised_answer 9)))) []
     ∷ []
 
 -- a Disembargo of an answer that isn't given, and of what isn't there
@@ -128,6 +167,16 @@ deep_content =
 
 abbrev pub deeper_content : List Moment
 deeper_content = after_bootstrap (call_message 1 (on_import 0) (nested 61) []) faults.PayloadTooLarge
+
+-- an exception whose reason has so many bytes
+abbrev pub wordy : ℕ → Exception
+wordy n = failed (replicate n 120)
+
+abbrev pub long_reason : List Moment
+long_reason = comes (messages.Abort (wordy 65536)) (effects.Closed (reasons.Peer (wordy 65536)) ∷ []) ∷ []
+
+abbrev pub longer_reason : List Moment
+longer_reason = faults_by (messages.Abort (wordy 65537)) faults.PayloadTooLarge ∷ []
 
 -- Bootstraps come under the first n numbers to a vat without a bootstrap object, and each fails.
 abbrev pub failed_bootstrap : ℕ → Moment

@@ -20,6 +20,7 @@ pub mod Rows
 pub mod EmbargoRows
 pub mod CountRows
 pub mod PromiseRows
+pub mod ReferenceRows
 pub mod FaultRows
 pub mod RefusalRows
 pub mod Ledger

@@ -1,5 +1,5 @@
 -- Exchanges in which calls of the application are refused.
-use Rattle.std.specs.Prelude.{List, [], ◌∷◌, replicate}
+use Rattle.std.specs.Prelude.{ℕ, zero, suc, List, [], ◌∷◌, ◌++◌, replicate}
 use Rattle.cp_refs.specs.declared.cap.Cap.{Cap}
 use Rattle.cp_refs.specs.declared.cap.Cap.TheVariants as caps
 use Rattle.cp_refs.specs.declared.call.Origin.TheVariants as origins
@@ -7,7 +7,7 @@ use Rattle.cp_refs.specs.declared.outcome.Outcome.TheVariants as outcomes
 use Rattle.cp_vat.specs.Run.{Moment}
 use Rattle.cp_vat.specs.Rows.{call_comes}
 use Rattle.cp_vat.specs.FaultRows.{nested}
-use Rattle.cp_vat.specs.RowWords.{does, refusal, return_message, sends, results, no_content, one_object, request, small_request, bootstrap_comes, bootstrap_does}
+use Rattle.cp_vat.specs.RowWords.{does, refusal, bootstrap_message, return_message, sends, results, no_content, one_object, request, small_request, bootstrap_comes, bootstrap_does}
 use Rattle.cp_vat.specs.declared.effect.Effect.TheVariants as effects
 use Rattle.cp_vat.specs.declared.event.Event.{Event}
 use Rattle.cp_vat.specs.declared.event.Event.TheVariants as events
@@ -78,4 +78,20 @@ too_large =
     (events.Call (caps.Object 3) (request (nested 60) []))
     (values.Question 1)
     (effects.Deliver 3 (origins.Own 1) 0 (request (nested 60) []) ∷ [])
+    ∷ []
+
+-- the application asks for the peer's bootstrap object under the first n numbers
+abbrev pub asked_bootstrap : ℕ → Moment
+asked_bootstrap n = does events.Bootstrap (values.Question n) (sends (bootstrap_message n) ∷ [])
+
+unfoldable pub asked_bootstraps : ℕ → List Moment
+asked_bootstraps zero = []
+asked_bootstraps (suc n) = asked_bootstraps n ++ asked_bootstrap n ∷ []
+
+-- 65,536 questions are open, and one more is refused, before anything is told about an import
+abbrev pub questions_full : List Moment
+questions_full =
+    asked_bootstraps 65536
+    ++ refusal events.Bootstrap refusals.Full
+    ∷ refusal (events.Call (caps.Import 9) small_request) refusals.Full
     ∷ []

@@ -160,3 +160,7 @@ aborted =
     ∷ refusal events.Idle refusals.Closed
     ∷ refusal (events.Receive (bootstrap_message 0)) refusals.Closed
     ∷ []
+
+-- memory runs out, and the vat is closed
+abbrev pub ran_out_of_memory : List Moment
+ran_out_of_memory = refusal events.Promise refusals.OutOfMemory ∷ refusal events.Idle refusals.Closed ∷ []

@@ -36,6 +36,13 @@ pub fn first_faults()
     ensures lowered { Run None rows.lowered_first }
 {}
 
+/// What isn't named isn't lowered, and a Release by 0 needs its export too.
+pub fn lowered()
+    ensures nothing { Run None rows.nothing_lowered }
+    ensures none { Run (Some 0) rows.none_released }
+    ensures late { Run None rows.late_resolve_of_strangers }
+{}
+
 /// A message within the limits is taken in, and one past them is a fault.
 pub fn sizes()
     ensures long_table { Run (Some 0) rows.long_table }
@@ -44,6 +51,12 @@ pub fn sizes()
     ensures longer_transform { Run (Some 0) rows.longer_transform }
     ensures deep_content { Run (Some 0) rows.deep_content }
     ensures deeper_content { Run (Some 0) rows.deeper_content }
+{}
+
+/// So is a reason.
+pub fn reasons()
+    ensures long { Run None rows.long_reason }
+    ensures longer { Run None rows.longer_reason }
 {}
 
 /// A table holds 65,536 entries.

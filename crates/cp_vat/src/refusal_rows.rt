@@ -23,3 +23,8 @@ pub fn local_refused()
 pub fn too_large()
     ensures { Run None rows.too_large }
 {}
+
+/// A table holds 65,536 entries.
+pub fn questions_full()
+    ensures { Run None rows.questions_full }
+{}

@@ -69,3 +69,8 @@ pub fn refusals()
 pub fn closed_vat()
     ensures { Run None rows.aborted }
 {}
+
+/// Want of memory closes the vat.
+pub fn out_of_memory()
+    ensures { Run None rows.ran_out_of_memory }
+{}
