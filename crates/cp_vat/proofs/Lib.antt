@@ -7,6 +7,7 @@ pub mod Taking
 pub mod Giving
 pub mod Going
 pub mod Receiving
+pub mod Hearing
 pub mod Uses
 pub mod Owning
 pub mod Acting

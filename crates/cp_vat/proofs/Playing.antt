@@ -15,7 +15,7 @@ use Rattle.cp_vat.specs.declared.fault.VatFault.TheVariants as refusals
 use Rattle.cp_vat.proofs.Known.{Known, state, new_known}
 use Rattle.cp_vat.proofs.Found.{Finds, lacks, found, beside}
 use Rattle.cp_vat.proofs.Going.{Left, left, stuck, find_left}
-use Rattle.cp_vat.proofs.Receiving.{find_received}
+use Rattle.cp_vat.proofs.Hearing.{find_received}
 use Rattle.cp_vat.proofs.Owning.{owned, find_own_call}
 use Rattle.cp_vat.proofs.Acting.{find_own_bootstrap, find_answer, find_promise_made, find_resolved, find_own_finish, find_own_release, find_forgotten, find_idle}
 

@@ -18,9 +18,10 @@ use Rattle.cp_refs.specs.At.{failed}
 use Rattle.cp_refs.specs.declared.cap.Cap.{Cap}
 use Rattle.cp_refs.specs.declared.call.Request.{Request}
 use Rattle.cp_vat.specs.Run.{Moment}
-use Rattle.cp_vat.specs.Step.{aborts}
+use Rattle.cp_vat.specs.Texts.{text_of}
 use Rattle.cp_vat.specs.declared.effect.Effect.{Effect}
 use Rattle.cp_vat.specs.declared.effect.Effect.TheVariants as effects
+use Rattle.cp_vat.specs.declared.effect.Reason.TheVariants as reasons
 use Rattle.cp_vat.specs.declared.event.Event.{Event}
 use Rattle.cp_vat.specs.declared.event.Event.TheVariants as events
 use Rattle.cp_vat.specs.declared.event.Value.{Value}
@@ -32,9 +33,9 @@ use Rattle.cp_vat.specs.declared.fault.VatFault.{VatFault}
 abbrev pub comes : Message → List Effect → Moment
 comes m effects = record { event = events.Receive m; result = Ok values.Nothing; effects = effects }
 
--- a message at fault comes
+-- a message at fault comes, and an Abort tells so
 abbrev pub faults_by : Message → PeerFault → Moment
-faults_by m fault = comes m (aborts fault)
+faults_by m fault = comes m (effects.Send (messages.Abort (failed (text_of fault))) ∷ effects.Closed (reasons.Fault fault) ∷ [])
 
 -- a call of the application gives this value, and these effects follow
 abbrev pub does : Event → Value → List Effect → Moment
