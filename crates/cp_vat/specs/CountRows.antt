@@ -9,7 +9,7 @@ use Rattle.cp_refs.specs.declared.call.Origin.TheVariants as origins
 use Rattle.cp_refs.specs.declared.outcome.Outcome.TheVariants as outcomes
 use Rattle.cp_vat.specs.Run.{Moment}
 use Rattle.cp_vat.specs.Rows.{call_comes, pipelined_comes}
-use Rattle.cp_vat.specs.RowWords.{comes, faults_by, does, refusal, bootstrap_message, call_message, return_message, finish_message, release_message, sends, on_import, results, no_content, one_object, request, small_request, small_call, bootstrap_comes, bootstrap_does}
+use Rattle.cp_vat.specs.RowWords.{comes, faults_by, does, refusal, bootstrap_message, call_message, return_message, finish_message, release_message, sends, on_import, on_whole_answer, results, no_content, one_object, request, small_request, small_call, bootstrap_comes, bootstrap_does}
 use Rattle.cp_vat.specs.declared.effect.Effect.TheVariants as effects
 use Rattle.cp_vat.specs.declared.event.Event.TheVariants as events
 use Rattle.cp_vat.specs.declared.event.Value.TheVariants as values
@@ -41,6 +41,19 @@ results_kept =
     ∷ comes (finish_message 0 false) []
     ∷ comes (release_message 0 1) []
     ∷ faults_by (release_message 0 1) faults.UnknownExport
+    ∷ []
+
+-- an export's number is free once it was released, also while the answer that named it is called
+abbrev pub number_used_again : List Moment
+number_used_again =
+    bootstrap_comes
+    ∷ comes (release_message 0 1) []
+    ∷ comes (small_call 1 (on_whole_answer 0)) (effects.Deliver 0 (origins.Answer 1) 0 small_request ∷ [])
+    ∷ does
+    (events.Answer (origins.Answer 1) (outcomes.Results one_object (caps.Object 5 ∷ [])))
+    values.Nothing
+    (sends (return_message 1 (results one_object (descriptors.SenderHosted 0 ∷ []))) ∷ [])
+    ∷ comes (small_call 2 (on_import 0)) (effects.Deliver 5 (origins.Answer 2) 1 small_request ∷ [])
     ∷ []
 
 -- a Return gives back what the params named

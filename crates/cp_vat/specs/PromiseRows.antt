@@ -1,7 +1,9 @@
 -- Exchanges with promises, and with calls that are forwarded.
 use Rattle.std.specs.Prelude.{ℕ, false, List, [], ◌∷◌}
 use Rattle.cp_tree.specs.Node.{Node, cap, struct, no_nodes, node}
+use Rattle.cp_rpc.specs.Made.{message_made}
 use Rattle.cp_rpc.specs.declared.descriptor.Descriptor.TheVariants as descriptors
+use Rattle.cp_rpc.specs.declared.message.Message.TheVariants as messages
 use Rattle.cp_rpc.specs.declared.disembargo.Context.TheVariants as contexts
 use Rattle.cp_rpc.specs.declared.promised_answer.Op.TheVariants as ops
 use Rattle.cp_rpc.specs.declared.promised_answer.PromisedAnswer.{PromisedAnswer}
@@ -13,7 +15,7 @@ use Rattle.cp_refs.specs.declared.call.Origin.TheVariants as origins
 use Rattle.cp_refs.specs.declared.outcome.Outcome.TheVariants as outcomes
 use Rattle.cp_vat.specs.Run.{Moment}
 use Rattle.cp_vat.specs.Rows.{call_comes, pipelined_comes}
-use Rattle.cp_vat.specs.RowWords.{comes, faults_by, does, refusal, call_message, return_message, finish_message, resolve_message, disembargo_message, sends, on_import, on_answer, results, no_content, one_object, request, small_request, small_call, x_failed, bootstrap_comes, bootstrap_does}
+use Rattle.cp_vat.specs.RowWords.{comes, faults_by, does, refusal, call_message, return_message, finish_message, resolve_message, release_message, disembargo_message, sends, on_import, on_answer, results, no_content, one_object, request, small_request, small_call, x_failed, bootstrap_comes, bootstrap_does}
 use Rattle.cp_vat.specs.Texts.{promise_loop}
 use Rattle.cp_vat.specs.declared.effect.Effect.{Effect}
 use Rattle.cp_vat.specs.declared.effect.Effect.TheVariants as effects
@@ -31,8 +33,8 @@ abbrev answers : Cap → List Effect → Moment
 answers c effects = does (events.Answer (origins.Answer 1) (outcomes.Results one_object (c ∷ []))) values.Nothing effects
 
 -- an open promise is exported, calls wait at it, and they go when it is resolved, behind the Resolve
-abbrev pub promise_exported : List Moment
-promise_exported =
+abbrev promise_resolves : List Moment → List Moment
+promise_resolves more =
     promise_made 0
     ∷ bootstrap_comes
     ∷ call_comes
@@ -46,7 +48,31 @@ promise_exported =
     ∷ effects.Deliver 5 (origins.Answer 2) 1 small_request
     ∷ effects.Deliver 5 (origins.Answer 3) 2 small_request
     ∷ [])
+    ∷ more
+
+abbrev pub promise_exported : List Moment
+promise_exported = promise_resolves []
+
+-- it is in use while a kept answer names it and while it is exported
+abbrev pub promise_kept : List Moment
+promise_kept =
+    promise_resolves (
+    refusal (events.Forget 0) refusals.InUse
+    ∷ comes (finish_message 1 false) []
+    ∷ refusal (events.Forget 0) refusals.InUse
+    ∷ comes (release_message 1 1) []
+    ∷ does (events.Forget 0) values.Nothing []
     ∷ []
+    )
+
+-- a peer that doesn't know the message Resolve gives back what this one named
+abbrev pub resolve_unknown : List Moment
+resolve_unknown =
+    promise_resolves (
+    comes (messages.Unimplemented (message_made (resolve_message 1 (resolutions.Cap (descriptors.SenderHosted 2))))) []
+    ∷ faults_by (release_message 2 1) faults.UnknownExport
+    ∷ []
+    )
 
 -- one that is broken is told so, and calls that wait at it fail with its exception
 abbrev pub promise_broken : List Moment

@@ -8,6 +8,7 @@ ghost use Rattle.cp_vat.specs.CountRows as rows;
 pub fn releases()
     ensures too_often { Run (Some 0) rows.released_too_often }
     ensures extremes { Run (Some 0) rows.released_by_extremes }
+    ensures number { Run (Some 0) rows.number_used_again }
 {}
 
 /// A Finish and a Return give back the exports that results and params named, where they ask for it.

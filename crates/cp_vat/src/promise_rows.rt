@@ -7,6 +7,8 @@ ghost use Rattle.cp_vat.specs.PromiseRows as rows;
 /// A promise that is exported is resolved later, and the calls that waited at it go in their order.
 pub fn promises_resolved()
     ensures exported { Run (Some 0) rows.promise_exported }
+    ensures kept { Run (Some 0) rows.promise_kept }
+    ensures unknown { Run (Some 0) rows.resolve_unknown }
     ensures broken { Run (Some 0) rows.promise_broken }
     ensures chained { Run None rows.promises_chained }
 {}
