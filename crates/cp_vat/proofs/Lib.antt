@@ -1,5 +1,3 @@
-pub mod RowLemmas
-pub mod Pipelined
 pub mod Known
 pub mod Found
 pub mod Finding
