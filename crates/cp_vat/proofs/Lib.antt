@@ -1,2 +1,14 @@
-pub mod RowLemmas
-pub mod Pipelined
+pub mod Known
+pub mod Found
+pub mod Finding
+pub mod Taking
+pub mod Giving
+pub mod Going
+pub mod Receiving
+pub mod Hearing
+pub mod Uses
+pub mod Owning
+pub mod Acting
+pub mod Playing
+pub mod Filling
+pub mod Wordy

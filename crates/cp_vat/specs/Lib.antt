@@ -15,5 +15,12 @@ pub mod Calling
 pub mod Doing
 pub mod Step
 pub mod Run
+pub mod RowWords
 pub mod Rows
+pub mod EmbargoRows
+pub mod CountRows
+pub mod PromiseRows
+pub mod ReferenceRows
+pub mod FaultRows
+pub mod RefusalRows
 pub mod Ledger
