@@ -17,3 +17,8 @@ pub mod Step
 pub mod Run
 pub mod Rows
 pub mod Ledger
+pub mod Trace
+pub mod Ports
+pub mod Exits
+pub mod Telling
+pub mod InOrder
