@@ -22,3 +22,4 @@ pub mod Ports
 pub mod Exits
 pub mod Telling
 pub mod InOrder
+pub mod OrderRows

@@ -7,6 +7,7 @@ mod effect;
 mod entry;
 mod event;
 mod fault;
+mod never;
 mod order;
 mod rows;
 
@@ -15,6 +16,7 @@ pub use cp_refs::{Cap, Caps, Origin, Outcome, Path, PromiseId, Request};
 pub use effect::{Effect, Effects, Reason};
 pub use entry::{AnswerEntry, ImportKind, Mentions, QuestionEntry, Tied, TiedPromises};
 pub use event::{Event, Value};
+pub use never::never_given_to_another;
 pub use order::{bootstrap_in_order, pipelined_leaves_in_order, pipelined_waits_in_order};
 pub use fault::{PeerFault, VatFault};
 pub use rows::{
