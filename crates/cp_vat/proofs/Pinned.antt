@@ -1,10 +1,11 @@
 -- Which states the steps of a row lead to: what a step shows leaves no other choice.
-use Rattle.std.specs.Prelude.{◌≡◌, ◌≢◌, refl, false, not, ◌⊎◌, ℕ, zero, suc, ◌+◌, List, [], ◌∷◌, ◌++◌, Option, Some, None, IfSome, Result, Ok, Err, ⊤}
-use Rattle.std.proofs.Common.{sym, ap, ◌∙◌, inl, inr}
+use Rattle.std.specs.Prelude.{◌≡◌, ◌≢◌, refl, false, not, ◌⊎◌, ℕ, zero, suc, ◌+◌, ◌≤◌, List, [], ◌∷◌, ◌++◌, Option, Some, None, IfSome, Result, Ok, Err, ⊤}
+use Rattle.std.proofs.Common.{arith, sym, ap, ◌∙◌, inl, inr}
+use Rattle.std.specs.List.{list_any}
 use Rattle.std.specs.Ordering.{nat_cmp}
 use Rattle.std.specs.Cmp.{nat_cmp_total}
 use Rattle.std.specs.FinMap.{get, insert, empty, get-empty, get-insert}
-use Rattle.cp_tree.specs.Node.{Node, cap}
+use Rattle.cp_tree.specs.Node.{Node, cap, struct, no_nodes}
 use Rattle.cp_tables.specs.Table.{Table}
 use Rattle.cp_tables.specs.Counted.{new_counted}
 use Rattle.cp_tables.specs.Exchange.{new_exchange}
@@ -23,14 +24,26 @@ use Rattle.cp_refs.specs.declared.outcome.Outcome.{Outcome}
 use Rattle.cp_refs.specs.declared.outcome.Outcome.TheVariants as outcomes
 use Rattle.cp_refs.specs.declared.route.Route.{Route}
 use Rattle.cp_refs.specs.declared.route.Route.TheVariants as routes
-use Rattle.cp_vat.specs.State.{State, with_exports, with_over, none_over}
-use Rattle.cp_vat.specs.Then.{Done, behind, fault_if}
+use Rattle.cp_vat.specs.State.{State, gave, with_exports, with_over, none_over}
+use Rattle.cp_vat.specs.Then.{Done, Then, OrFull, behind, fault_if}
 use Rattle.cp_vat.specs.Room.{Fresh, has_room}
 use Rattle.cp_vat.specs.Say.{Raise, counted, counted_out, opened, has_no_room, HasNoExport, ComesTo, Say, SayEnd, SayAll}
-use Rattle.cp_vat.specs.Give.{SettleTied, given, GiveAnswer, GiveBy, Returns, return_of, returned_mentions}
-use Rattle.cp_vat.specs.Go.{Leave, NoneOver}
-use Rattle.cp_vat.specs.Answering.{with_answer}
+use Rattle.cp_vat.specs.Doing.{DoAnswer, Quietly, answer_refusals}
+use Rattle.cp_vat.specs.OrderRows.{delivered_to}
+use Rattle.cp_vat.specs.Give.{Give, SettleTied, given, GiveAnswer, GiveBy, Returns, return_of, returned_mentions}
+use Rattle.cp_vat.specs.Go.{Underway, underway, without_call, Leave, NoneOver, Go, GoTo, held_at, delivered}
+use Rattle.cp_vat.specs.Answering.{with_answer, GoToAnswer, GoToTarget, peer_call, entered, call_faults, OnCall}
+use Rattle.cp_rpc.specs.declared.call.Call.{Call}
+use Rattle.cp_rpc.specs.declared.call.SendResultsTo.TheVariants as results_to
+use Rattle.cp_rpc.specs.declared.target.Target.{Target}
+use Rattle.cp_rpc.specs.declared.target.Target.TheVariants as targets
+use Rattle.cp_rpc.specs.declared.message.Message.{Message}
 use Rattle.cp_rpc.specs.declared.message.Message.TheVariants as messages
+use Rattle.cp_refs.specs.declared.call.Held.{Held}
+use Rattle.cp_refs.specs.declared.call.Origin.TheVariants as origins
+use Rattle.cp_refs.specs.declared.route.Gate.TheVariants as gates
+use Rattle.cp_vat.specs.Take.{TakeAll, released}
+use Rattle.cp_vat.specs.Rows.{small_call, on_answer, small_request}
 use Rattle.cp_vat.specs.declared.effect.Effect.{Effect}
 use Rattle.cp_vat.specs.declared.effect.Effect.TheVariants as effects
 use Rattle.cp_vat.specs.declared.entry.AnswerEntry.{AnswerEntry}
@@ -39,12 +52,12 @@ use Rattle.cp_vat.specs.declared.fault.PeerFault.{PeerFault}
 use Rattle.cp_vat.specs.State.{new_state}
 use Rattle.cp_vat.specs.Answering.{bootstrap_outcome, is_answering, OnBootstrap}
 use Rattle.cp_vat.specs.declared.fault.PeerFault.TheVariants as faults
-use Rattle.cp_vat.specs.Step.{Step}
+use Rattle.cp_vat.specs.Step.{Receives, Step}
 use Rattle.cp_vat.specs.declared.event.Event.TheVariants as events
 use Rattle.cp_vat.specs.declared.event.Value.TheVariants as values
 use Rattle.cp_vat.proofs.RowLemmas.{given_0, returned_0, none_waits}
-use Rattle.cp_vat.proofs.Pipelined.{s_1}
-use Rattle.cp_vat.proofs.Inverts.{shows, unless_ok, then_ok, quiet, ok_inj, some_inj, none_not_some}
+use Rattle.cp_vat.proofs.Pipelined.{s_1, s_2, s_2', s_3, s_3', entry_1, held_2, export_0, kept_1_behind, ungiven_1_behind, none_ended}
+use Rattle.cp_vat.proofs.Inverts.{is_closing, shows, quietly_ok, leave_ok, NextGoes, unless_ok, then_ok, quiet, ok_inj, some_inj, none_not_some}
 
 -- an object comes to itself, and a call on it goes there
 object_comes : (values : ValueMaps) (k : ℕ) (last : Cap) → ComesTo values (caps.Object k) last → last ≡ caps.Object k
@@ -215,3 +228,164 @@ only_s_1 new step =
     let gives = boot_gives old 0 (first, mid) (get-insert nat_cmp_total empty 0 (new_exchange boot_kept) 0) (boot_given old 0 (first, mid) receives) in
     let (exports, how, new_is) = booted_by old new mid 0 first rest refl gives leaving is in
     new_is ∙ ap (booted old 0) (first_export exports how)
+
+-- A step whose message can only do this leads to what that leaves, where it ends no gate.
+pub pinned : (old new : State) (m : Message) (all : List Effect) (done : Done) → list_any is_closing all ≡ false → ((other : Done) → Receives old m (Ok other) → other ≡ done)
+    → done.1.waiting.over ≡ none_over
+    → Step old (events.Receive m) (Ok values.Nothing) all new
+    → new ≡ with_over done.1 none_over
+pinned old new m all done quiet_all only ends_none step =
+    let (first, rest, mid, receives, leaving, is) = shows step quiet_all in
+    let done_is = only (first, mid) receives in
+    let (rest_is, new_is) = quiet (none_ended mid (ap {A = Done} (λ d. d.1.waiting.over) done_is ∙ ends_none)) leaving in
+    new_is ∙ ap {A = Done} (λ d. with_over d.1 none_over) done_is
+
+-- a call without capabilities goes by its target
+abbrev pub small : ℕ → Target → Call
+small q target =
+    record {
+      question_id = q;
+      method_id = 4;
+      send_results_to = results_to.Caller;
+      interface_id = 9;
+      target = target;
+      params = record { content = struct [] no_nodes; cap_table = [] };
+    }
+
+abbrev Goes : State → ℕ → Target → Done → List Cap × State → Type 0
+Goes old q target done taken = GoToTarget (entered taken.1 q) (peer_call taken.1 (small q target) taken.0) target (Ok done)
+
+goes_by : (old : State) (q : ℕ) (target : Target) (done : Done) (taken : List Cap × State) → taken ≡ ([], old) → Goes old q target done taken → Goes old q target done ([], old)
+goes_by old q target done taken is goes = rw (is) at goes
+
+call_goes : (old : State) (q : ℕ) (target : Target) (done : Done) → OnCall old (small q target) (Ok done) → Goes old q target done ([], old)
+call_goes old q target done does =
+    let (taken, none, goes) = then_ok (TakeAll old []) (λ taken. GoToTarget (entered taken.1 q) (peer_call taken.1 (small q target) taken.0) target) done (unless_ok
+    (call_faults old (small q target))
+    (Then (TakeAll old []) (λ taken. GoToTarget (entered taken.1 q) (peer_call taken.1 (small q target) taken.0) target))
+    done
+    does) in
+    goes_by old q target done taken (ok_inj none) goes
+
+-- a call on an object is delivered to it
+pub delivers : (old : State) (call : Underway) (k : ℕ) (done : Done) → GoTo old call (caps.Object k) (Ok done)
+    → done ≡ (effects.Deliver k call.origin call.ticket call.request ∷ [], delivered old call.origin)
+delivers old call k done (route, is_route, goes) = ok_inj (by_route route (object_route old.values k route is_route) goes)
+  where
+    by_route : (route : Route) → route ≡ routes.Deliver k → Go old call route (Ok done)
+        → ◌≡◌ {A = Result Done PeerFault} (Ok done) (Ok (effects.Deliver k call.origin call.ticket call.request ∷ [], delivered old call.origin))
+    by_route route is goes = rw (is) at goes
+
+only_call_1 : (done : Done) → OnCall s_1 (small 1 (targets.ImportedCap 0)) (Ok done) → done ≡ (effects.Deliver 0 (origins.Answer 1) 0 small_request ∷ [], s_2)
+only_call_1 done does =
+    let goes = call_goes s_1 1 (targets.ImportedCap 0) done does in delivers (entered s_1 1) (peer_call s_1 (small 1 (targets.ImportedCap 0)) []) 0 done (rw (export_0) at goes)
+
+pub only_s_2 : (new : State) → Step s_1 (events.Receive (small_call 1 (targets.ImportedCap 0))) (Ok values.Nothing) (effects.Deliver 0 (origins.Answer 1) 0 small_request ∷ []) new → new ≡ s_2'
+only_s_2 new step = pinned s_1 new (small_call 1 (targets.ImportedCap 0)) _ (_, s_2) refl only_call_1 refl step
+
+-- a call on an answer that isn't given waits
+waits_at : (old : State) (q : ℕ) (entry : Exchange AnswerEntry) (done : Done) → get (entered old q).entries.answers 1 ≡ Some entry → entry.stage ≡ stages.Open
+    → get (entered old q).values.answers 1 ≡ Some None
+    → OnCall old (small q (on_answer 1 0)) (Ok done)
+    → done ≡ ([], held_at (entered old q) (peer_call old (small q (on_answer 1 0)) []) (gates.Answer 1 (0 ∷ [])))
+waits_at old q entry done is_kept is_open is_ungiven does =
+    let goes = call_goes old q (on_answer 1 0) done does in ok_inj (by_answer (rw (is_kept, is_open, is_ungiven) refl) goes)
+  where
+    by_answer : {answer : Option (Option Outcome)} → answer ≡ Some None → GoToAnswer (entered old q) (peer_call old (small q (on_answer 1 0)) []) 1 (0 ∷ []) answer (Ok done)
+        → ◌≡◌ {A = Result Done PeerFault} (Ok done) (Ok ([], held_at (entered old q) (peer_call old (small q (on_answer 1 0)) []) (gates.Answer 1 (0 ∷ []))))
+    by_answer is goes = rw (is) at goes
+
+pub only_s_3 : (new : State) → Step s_2' (events.Receive (small_call 2 (on_answer 1 0))) (Ok values.Nothing) [] new → new ≡ s_3'
+only_s_3 new step = pinned s_2' new (small_call 2 (on_answer 1 0)) [] ([], s_3) refl (λ done does. waits_at s_2' 2 entry_1 done kept_1_behind refl ungiven_1_behind does) refl step
+
+-- a second call that waits
+abbrev pub s_4 : State
+s_4 = held_at (entered s_3' 3) (peer_call s_3' (small 3 (on_answer 1 0)) []) (gates.Answer 1 (0 ∷ []))
+
+abbrev pub s_4' : State
+s_4' = with_over s_4 none_over
+
+kept_1_again : get (entered s_3' 3).entries.answers 1 ≡ Some entry_1
+kept_1_again = simp (get-insert {X = Exchange AnswerEntry} nat_cmp_total) refl
+
+ungiven_1_again : get (entered s_3' 3).values.answers 1 ≡ Some None
+ungiven_1_again = simp (get-insert {X = Option Outcome} nat_cmp_total) refl
+
+pub only_s_4 : (new : State) → Step s_3' (events.Receive (small_call 3 (on_answer 1 0))) (Ok values.Nothing) [] new → new ≡ s_4'
+only_s_4 new step = pinned s_3' new (small_call 3 (on_answer 1 0)) [] ([], s_4) refl (λ done does. waits_at s_3' 3 entry_1 done kept_1_again refl ungiven_1_again does) refl step
+
+-- The first call is answered with an object: its Return goes out, and its gate has ended.
+pub answers_object : (old : State) (content : Node) (k : ℕ) (first : List Effect) (mid : State) → get old.entries.answers 1 ≡ Some entry_1
+    → DoAnswer old (origins.Answer 1) (outcomes.Results content (caps.Object k ∷ [])) (Ok (values.Nothing, first, mid))
+    → GivesObject old 1 k content entry_1.kept (first, mid)
+answers_object old content k first mid is_kept does =
+    let origin = origins.Answer 1 in
+    let outcome = outcomes.Results content (caps.Object k ∷ []) in
+    let fits = unless_ok (answer_refusals old origin outcome) (OrFull (Quietly (Give old origin outcome))) (values.Nothing, first, mid) does in
+    by_entry (quietly_ok (Give old origin outcome) values.Nothing first mid fits)
+  where
+    by_entry : GiveAnswer old 1 (outcomes.Results content (caps.Object k ∷ [])) (Ok (first, mid)) → GivesObject old 1 k content entry_1.kept (first, mid)
+    by_entry (entry, was_kept, gives) = gives_object old 1 k content entry_1.kept (first, mid) refl (rw (some_inj (sym was_kept ∙ is_kept)) at gives)
+
+-- Of the calls that wait for the first one's answer the one with ticket 1 goes first, to the object that the answer gave.
+ticket_1 : (s : State) (call : Held) (ticket : ℕ) → get s.waiting.calls 0 ≡ None → get s.waiting.calls 1 ≡ Some held_2 → ticket ≤ 1 → get s.waiting.calls ticket ≡ Some call → call ≡ held_2
+ticket_1 s call zero none one below waits = absurd (none_not_some (sym none ∙ waits))
+ticket_1 s call (suc zero) none one below waits = some_inj (sym waits ∙ one)
+ticket_1 s call (suc (suc n)) none one below waits = absurd (omega (arith, below))
+
+delivers_5 : (s : State) (call : Held) (given : Cap) (first : List Effect) (mid : State) → call ≡ held_2 → given ≡ caps.Object 5
+    → GoTo (without_call s call) (underway call) given (Ok (first, mid))
+    → first ≡ delivered_to 2 1 ∷ []
+delivers_5 s call given first mid call_is given_is goes =
+    ap {A = Done} (λ d. d.0) (delivers (without_call s held_2) (underway held_2) 5 (first, mid) (moved call given call_is given_is goes))
+  where
+    moved : (call : Held) (given : Cap) → call ≡ held_2 → given ≡ caps.Object 5 → GoTo (without_call s call) (underway call) given (Ok (first, mid))
+        → GoTo (without_call s held_2) (underway held_2) (caps.Object 5) (Ok (first, mid))
+    moved call given call_is given_is goes = rw (call_is, given_is) at goes
+
+pub goes_first : (s new : State) (all : List Effect) → get s.waiting.calls 0 ≡ None → get s.waiting.calls 1 ≡ Some held_2 → gave s.waiting.over held_2.gate ≡ Some (caps.Object 5)
+    → Leave s all (Ok new)
+    → (rest : List Effect) × (all ≡ delivered_to 2 1 ∷ rest)
+goes_first s new all none one ended leaving = by_shown (leave_ok leaving)
+  where
+    at_call : (o : Option Held) → o ≡ Some held_2 → IfSome o (λ other. gave s.waiting.over other.gate ≡ None) → ⊥
+    at_call (Some other) is still = absurd (none_not_some (sym still ∙ ap (λ call. gave s.waiting.over call.gate) (some_inj is) ∙ ended))
+    at_call None is still = absurd (none_not_some is)
+    by_shown : (NoneOver s × (all ≡ []) × (new ≡ with_over s none_over)) ⊎ NextGoes s all new → (rest : List Effect) × (all ≡ delivered_to 2 1 ∷ rest)
+    by_shown (inl (still, is, new_is)) = absurd (at_call (get s.waiting.calls 1) one (still 1))
+    by_shown (inr (call, given, first, rest, mid, next, went, later, is)) =
+        let call_is = ticket_1 s call call.ticket none one (next.lowest 1 held_2 (caps.Object 5) one ended) next.waits in
+        let given_is = some_inj (sym next.ended ∙ ap (λ c. gave s.waiting.over c.gate) call_is ∙ ended) in
+        (rest, is ∙ ap (λ f. f ++ rest) (delivers_5 s call given first mid call_is given_is went))
+
+-- the two Releases
+pub released_by : (old new : State) (e n : ℕ) → old.waiting.calls ≡ empty → Step old (events.Receive (messages.Release (record { id = e; reference_count = n }))) (Ok values.Nothing) [] new
+    → (exports : Table (Counted Cap)) × (released old.counts.exports e n ≡ Ok exports) × (new ≡ with_over (with_exports old exports) none_over)
+released_by old new e n none step =
+    let (first, rest, mid, receives, leaving, is) = shows step refl in
+    let (exports, is_released, done_is) = then_ok (λ exports. exports ≡ released old.counts.exports e n) (λ exports out. out ≡ Ok ([], with_exports old exports)) (first, mid) receives in
+    let mid_is = ap {A = Done} (λ d. d.1) (ok_inj done_is) in
+    let (rest_is, new_is) = quiet (none_waits mid (ap (λ s. s.waiting.calls) mid_is ∙ none)) leaving in
+    (exports, sym is_released, new_is ∙ ap (λ s. with_over s none_over) mid_is)
+
+-- the second Bootstrap counts the export twice
+again_gives : (first : List Effect) (mid : State) → OnBootstrap s_1 1 (Ok (first, mid)) → GivesObject (with_answer s_1 1 None) 1 0 (cap 0) boot_kept (first, mid)
+again_gives first mid does = boot_gives s_1 1 (first, mid) (get-insert nat_cmp_total s_1.entries.answers 1 (new_exchange boot_kept) 1) (boot_given s_1 1 (first, mid) does)
+
+count_of_0 : (o : Option (Counted Cap)) → o ≡ Some (new_counted (caps.Object 0)) → IfSome o (λ entry. entry.kept ≢ caps.Object 0) → ⊥
+count_of_0 (Some entry) is none = none (ap (λ e. e.kept) (some_inj is))
+count_of_0 None is none = none_not_some is
+
+counted_again : (exports : Table (Counted Cap)) → Raised s_1.counts.exports (caps.Object 0) 0 exports → get exports 0 ≡ Some (record { count = 2; kept = caps.Object 0 })
+counted_again exports (inl (count, is, new_is)) =
+    ap (λ table. get table 0) new_is
+    ∙ get-insert nat_cmp_total s_1.counts.exports 0 (record { count = count + 1; kept = caps.Object 0 }) 0
+    ∙ ap (λ entry. Some (record { count = entry.count + 1; kept = caps.Object 0 })) (some_inj (sym is ∙ export_0))
+counted_again exports (inr (none, new_is)) = absurd (count_of_0 (get s_1.counts.exports 0) export_0 (none 0))
+
+pub second_boot : (new : State) → Step s_1 (events.Receive (messages.Bootstrap (record { question_id = 1 }))) (Ok values.Nothing) (return_of 1 (object_returned (cap 0) 0) ∷ []) new
+    → (new.waiting.calls ≡ empty) × (get new.counts.exports 0 ≡ Some (record { count = 2; kept = caps.Object 0 }))
+second_boot new step =
+    let (first, rest, mid, receives, leaving, is) = shows step refl in
+    let (exports, how, new_is) = booted_by s_1 new mid 1 first rest refl (again_gives first mid receives) leaving is in
+    (ap (λ s. s.waiting.calls) new_is, ap (λ s. get s.counts.exports 0) new_is ∙ counted_again exports how)

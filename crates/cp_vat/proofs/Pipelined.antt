@@ -116,10 +116,10 @@ two_answers = simp (get-insert {X = Exchange AnswerEntry} nat_cmp_total, len-ins
 abbrev e_2 : State
 e_2 = entered s_2' 2
 
-kept_1_behind : get e_2.entries.answers 1 ≡ Some entry_1
+pub kept_1_behind : get e_2.entries.answers 1 ≡ Some entry_1
 kept_1_behind = simp (get-insert {X = Exchange AnswerEntry} nat_cmp_total) refl
 
-ungiven_1_behind : get e_2.values.answers 1 ≡ Some None
+pub ungiven_1_behind : get e_2.values.answers 1 ≡ Some None
 ungiven_1_behind = simp (get-insert {X = Option Outcome} nat_cmp_total) refl
 
 abbrev pub s_3 : State

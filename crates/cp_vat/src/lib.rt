@@ -16,7 +16,9 @@ pub use cp_refs::{Cap, Caps, Origin, Outcome, Path, PromiseId, Request};
 pub use effect::{Effect, Effects, Reason};
 pub use entry::{AnswerEntry, ImportKind, Mentions, QuestionEntry, Tied, TiedPromises};
 pub use event::{Event, Value};
-pub use never::never_given_to_another;
+pub use never::{
+    never_dropped, never_given_to_another, never_lowered_by_one, never_other_way_round,
+};
 pub use order::{bootstrap_in_order, pipelined_leaves_in_order, pipelined_waits_in_order};
 pub use fault::{PeerFault, VatFault};
 pub use rows::{
