@@ -1,6 +1,9 @@
 pub mod RowLemmas
 pub mod Pipelined
+pub mod OneWaits
 pub mod Ordered
 pub mod Inverts
 pub mod NoRuns
 pub mod Pinned
+pub mod TwoLeave
+pub mod TwoOrdered

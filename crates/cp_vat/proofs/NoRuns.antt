@@ -34,8 +34,8 @@ use Rattle.cp_vat.specs.declared.event.Event.TheVariants as events
 use Rattle.cp_vat.specs.declared.event.Value.{Value}
 use Rattle.cp_vat.specs.declared.event.Value.TheVariants as values
 use Rattle.cp_vat.specs.declared.fault.PeerFault.TheVariants as faults
-use Rattle.cp_vat.proofs.RowLemmas.{returned_0}
-use Rattle.cp_vat.proofs.Pipelined.{s_1, s_2', s_3', entry_1, held_2, outcome_1, kept_1_now}
+use Rattle.cp_vat.proofs.OneWaits.{returned_0}
+use Rattle.cp_vat.proofs.OneWaits.{s_1, s_2', s_3', entry_1, held_2, outcome_1, kept_1_now}
 use Rattle.cp_vat.proofs.Inverts.{is_closing, shows, then_ok, unless_ok, quietly_ok, ok_inj, some_inj, none_not_some, err_not_ok}
 use Rattle.cp_vat.proofs.Pinned.{object_returned, only_s_1, only_s_2, only_s_3, only_s_4, s_4', answers_object, goes_first, released_by, second_boot}
 

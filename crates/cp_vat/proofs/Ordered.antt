@@ -29,8 +29,8 @@ use Rattle.cp_vat.specs.Exits.{exits_in, exits_of}
 use Rattle.cp_vat.specs.Telling.{TellsItsGift}
 use Rattle.cp_vat.specs.InOrder.{EachPair, EachTurn, ExitsByPorts, AtRest, InOrder, RunsInOrder}
 use Rattle.cp_vat.specs.Rows.{bootstrap_answered, pipelined_waits, pipelined, small_call, on_answer, small_request}
-use Rattle.cp_vat.proofs.RowLemmas.{given_0, returned_0, bootstrap_is, bootstrap_step}
-use Rattle.cp_vat.proofs.Pipelined.{s_1, s_2, s_2', s_3, s_3', s_5, g_3, held_2, outcome_1, returned_1, export_0, kept_1_now, step_1, step_2, step_3, delivers_2, waits_is, pipelined_is}
+use Rattle.cp_vat.proofs.OneWaits.{given_0, returned_0, bootstrap_is, bootstrap_step}
+use Rattle.cp_vat.proofs.OneWaits.{s_1, s_2, s_2', s_3, s_3', s_5, g_3, held_2, outcome_1, returned_1, export_0, kept_1_now, step_1, step_2, step_3, delivers_2, waits_is, pipelined_is}
 
 -- nothing is given where the vat rests
 pub rest_told : (s : State) → TellsItsGift (record { cause = rests; before = s; effects = []; after = with_over s none_over })
@@ -61,13 +61,13 @@ bootstrap_in_order = (
 )
 
 -- the turns of the row that waits
-abbrev rest_turn : State → Turn
+abbrev pub rest_turn : State → Turn
 rest_turn s = record { cause = rests; before = s; effects = []; after = with_over s none_over }
 
-abbrev past_0 : List Turn
+abbrev pub past_0 : List Turn
 past_0 = rest_turn given_0 ∷ bootstrap_turn ∷ []
 
-abbrev call_turn : Turn
+abbrev pub call_turn : Turn
 call_turn =
     record {
       cause = own_part (events.Receive (small_call 1 (targets.ImportedCap 0))) values.Nothing;
@@ -76,35 +76,35 @@ call_turn =
       after = s_2;
     }
 
-abbrev past_1 : List Turn
+abbrev pub past_1 : List Turn
 past_1 = rest_turn s_2 ∷ call_turn ∷ past_0
 
-abbrev wait_turn : Turn
+abbrev pub wait_turn : Turn
 wait_turn = record { cause = own_part (events.Receive (small_call 2 (on_answer 1 0))) values.Nothing; before = s_2'; effects = []; after = s_3 }
 
-abbrev past_2 : List Turn
+abbrev pub past_2 : List Turn
 past_2 = rest_turn s_3 ∷ wait_turn ∷ past_1
 
 -- the first call names an object, the second what its answer gives
-abbrev port_1 : Port
+abbrev pub port_1 : Port
 port_1 = record { name = capability (caps.Object 0); life = 0 }
 
-abbrev port_2 : Port
+abbrev pub port_2 : Port
 port_2 = record { name = answer_path 1 (0 ∷ []); life = 2 }
 
-life_2 : absences (answer_path 1 (0 ∷ [])) past_1 ≡ 2
+pub life_2 : absences (answer_path 1 (0 ∷ [])) past_1 ≡ 2
 life_2 = simp (get-insert {X = Option Outcome} nat_cmp_total, get-empty {X = Option Outcome} nat_cmp) refl
 
 calls_1 : calls_of past_1 ≡ record { ticket = 0; port = port_1 } ∷ []
 calls_1 = rw (export_0) refl
 
-calls_2 : calls_of past_2 ≡ record { ticket = 1; port = port_2 } ∷ record { ticket = 0; port = port_1 } ∷ []
+pub calls_2 : calls_of past_2 ≡ record { ticket = 1; port = port_2 } ∷ record { ticket = 0; port = port_1 } ∷ []
 calls_2 = rw (export_0, life_2) refl
 
 none_fails : exits_in wait_turn ≡ []
 none_fails = rw (get-empty {X = Outcome} nat_cmp 2) refl
 
-exits_2 : exits_of past_2 ≡ record { ticket = 0; route = routes.Deliver 0 } ∷ []
+pub exits_2 : exits_of past_2 ≡ record { ticket = 0; route = routes.Deliver 0 } ∷ []
 exits_2 = rw (get-empty {X = Outcome} nat_cmp 2) refl
 
 waits_2 : PortRoute past_2 port_2 (routes.Wait (gates.Answer 1 (0 ∷ [])))
@@ -117,14 +117,14 @@ call_by_port = rw (export_0) ((port_1, refl, (1, refl)), tt)
 by_ports_1 : EachTurn ExitsByPorts past_1
 by_ports_1 = (tt, (call_by_port, (tt, (tt, tt))))
 
-by_ports_2 : EachTurn ExitsByPorts past_2
+pub by_ports_2 : EachTurn ExitsByPorts past_2
 by_ports_2 = (tt, (rw (get-empty {X = Outcome} nat_cmp 2) tt, by_ports_1))
 
 -- each of a list, and the pairs of a list, that is another one
-all_of : {X : Type 0} (P : X → Type 0) (xs ys : List X) → xs ≡ ys → AllByRecursion P ys → AllByRecursion P xs
+pub all_of : {X : Type 0} (P : X → Type 0) (xs ys : List X) → xs ≡ ys → AllByRecursion P ys → AllByRecursion P xs
 all_of P xs ys is all = rw (is) all
 
-pairs_of : {X : Type 0} (R : X → X → Type 0) (xs ys : List X) → xs ≡ ys → EachPair R ys → EachPair R xs
+pub pairs_of : {X : Type 0} (R : X → X → Type 0) (xs ys : List X) → xs ≡ ys → EachPair R ys → EachPair R xs
 pairs_of R xs ys is pairs = rw (is) pairs
 
 -- none is kept
@@ -137,7 +137,7 @@ rests_2 = all_of _ _ _ calls_2 (inr (inr (gates.Answer 1 (0 ∷ []), waits_2)), 
 none_kept_1 : EachTurn (λ past turn. AtRest past turn turn.cause) past_1
 none_kept_1 = (rests_1, (tt, (tt, (tt, tt))))
 
-none_kept_2 : EachTurn (λ past turn. AtRest past turn turn.cause) past_2
+pub none_kept_2 : EachTurn (λ past turn. AtRest past turn turn.cause) past_2
 none_kept_2 = (rests_2, (tt, none_kept_1))
 
 -- and nothing is given
@@ -150,7 +150,7 @@ wait_told = (None, rw (get-empty {X = Outcome} nat_cmp 2) refl, refl)
 told_1 : AllByRecursion TellsItsGift past_1
 told_1 = (rest_told s_2, (call_told, (rest_told given_0, (bootstrap_told, tt))))
 
-told_2 : AllByRecursion TellsItsGift past_2
+pub told_2 : AllByRecursion TellsItsGift past_2
 told_2 = (rest_told s_3, (wait_told, told_1))
 
 order_2 : InOrder past_2

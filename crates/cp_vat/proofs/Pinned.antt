@@ -55,8 +55,8 @@ use Rattle.cp_vat.specs.declared.fault.PeerFault.TheVariants as faults
 use Rattle.cp_vat.specs.Step.{Receives, Step}
 use Rattle.cp_vat.specs.declared.event.Event.TheVariants as events
 use Rattle.cp_vat.specs.declared.event.Value.TheVariants as values
-use Rattle.cp_vat.proofs.RowLemmas.{given_0, returned_0, none_waits}
-use Rattle.cp_vat.proofs.Pipelined.{s_1, s_2, s_2', s_3, s_3', entry_1, held_2, export_0, kept_1_behind, ungiven_1_behind, none_ended}
+use Rattle.cp_vat.proofs.OneWaits.{given_0, returned_0, none_waits}
+use Rattle.cp_vat.proofs.OneWaits.{s_1, s_2, s_2', s_3, s_3', entry_1, held_2, export_0, kept_1_behind, ungiven_1_behind, none_ended}
 use Rattle.cp_vat.proofs.Inverts.{is_closing, shows, quietly_ok, leave_ok, NextGoes, unless_ok, then_ok, quiet, ok_inj, some_inj, none_not_some}
 
 -- an object comes to itself, and a call on it goes there
@@ -305,10 +305,10 @@ s_4 = held_at (entered s_3' 3) (peer_call s_3' (small 3 (on_answer 1 0)) []) (ga
 abbrev pub s_4' : State
 s_4' = with_over s_4 none_over
 
-kept_1_again : get (entered s_3' 3).entries.answers 1 ≡ Some entry_1
+pub kept_1_again : get (entered s_3' 3).entries.answers 1 ≡ Some entry_1
 kept_1_again = simp (get-insert {X = Exchange AnswerEntry} nat_cmp_total) refl
 
-ungiven_1_again : get (entered s_3' 3).values.answers 1 ≡ Some None
+pub ungiven_1_again : get (entered s_3' 3).values.answers 1 ≡ Some None
 ungiven_1_again = simp (get-insert {X = Option Outcome} nat_cmp_total) refl
 
 pub only_s_4 : (new : State) → Step s_3' (events.Receive (small_call 3 (on_answer 1 0))) (Ok values.Nothing) [] new → new ≡ s_4'

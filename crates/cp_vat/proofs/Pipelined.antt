@@ -52,11 +52,11 @@ of_each : {X : Type 0} (P : X → Type 0) (o : Option X) → ((x : X) → P x) �
 of_each P None all = tt
 of_each P (Some x) all = all x
 
-pub none_ended : (s : State) → s.waiting.over ≡ none_over → NoneOver s
+none_ended : (s : State) → s.waiting.over ≡ none_over → NoneOver s
 none_ended s e ticket = of_each _ (get s.waiting.calls ticket) (λ call. rw (e) (gave_none call.gate))
 
 -- behind the bootstrap
-abbrev pub s_1 : State
+abbrev s_1 : State
 s_1 = with_over given_0 none_over
 
 abbrev call_1 : Call
@@ -73,32 +73,32 @@ call_1 =
 free_1 : get s_1.entries.answers 1 ≡ None
 free_1 = simp (get-insert {X = Exchange AnswerEntry} nat_cmp_total, get-empty {X = Exchange AnswerEntry} nat_cmp) refl
 
-pub export_0 : get s_1.counts.exports 0 ≡ Some (record { count = 1; kept = caps.Object 0 })
+export_0 : get s_1.counts.exports 0 ≡ Some (record { count = 1; kept = caps.Object 0 })
 export_0 = get-insert nat_cmp_total empty 0 _ 0
 
 one_answer : len s_1.entries.answers ≡ 1
 one_answer = simp (len-insert {X = Exchange AnswerEntry} nat_cmp_total, get-insert {X = Exchange AnswerEntry} nat_cmp_total, get-empty {X = Exchange AnswerEntry} nat_cmp, len-empty nat_cmp (Exchange AnswerEntry)) refl
 
-abbrev pub s_2 : State
+abbrev s_2 : State
 s_2 = delivered (entered s_1 1) (origins.Answer 1)
 
 goes_1 : GoToTarget (entered s_1 1) (peer_call s_1 call_1 []) (targets.ImportedCap 0) (Ok (effects.Deliver 0 (origins.Answer 1) 0 small_request ∷ [], s_2))
 goes_1 = rw (export_0) (routes.Deliver 0, (1, refl), refl)
 
-pub on_call_1 : OnCall s_1 call_1 (Ok (effects.Deliver 0 (origins.Answer 1) 0 small_request ∷ [], s_2))
+on_call_1 : OnCall s_1 call_1 (Ok (effects.Deliver 0 (origins.Answer 1) 0 small_request ∷ [], s_2))
 on_call_1 = rw (free_1, one_answer, export_0) (Ok ([], s_1), refl, goes_1)
 
-abbrev pub s_2' : State
+abbrev s_2' : State
 s_2' = with_over s_2 none_over
 
-unfoldable pub step_1 : Step s_1 (events.Receive (small_call 1 (targets.ImportedCap 0))) (Ok values.Nothing) (effects.Deliver 0 (origins.Answer 1) 0 small_request ∷ []) s_2'
+step_1 : Step s_1 (events.Receive (small_call 1 (targets.ImportedCap 0))) (Ok values.Nothing) (effects.Deliver 0 (origins.Answer 1) 0 small_request ∷ []) s_2'
 step_1 = received _ (effects.Deliver 0 (origins.Answer 1) 0 small_request ∷ []) [] s_2 refl on_call_1 (all_left (stays (none_ended s_2 refl))) refl
 
 -- the call that waits
 abbrev call_2 : Call
 call_2 = record call_1 { question_id = 2; target = on_answer 1 0 }
 
-abbrev pub entry_1 : Exchange AnswerEntry
+abbrev entry_1 : Exchange AnswerEntry
 entry_1 = record { stage = stages.Open; kept = record { ticket = Some 0; is_delivered = true; mentions = []; tied = [] } }
 
 free_2 : get s_2'.entries.answers 2 ≡ None
@@ -116,35 +116,35 @@ two_answers = simp (get-insert {X = Exchange AnswerEntry} nat_cmp_total, len-ins
 abbrev e_2 : State
 e_2 = entered s_2' 2
 
-pub kept_1_behind : get e_2.entries.answers 1 ≡ Some entry_1
+kept_1_behind : get e_2.entries.answers 1 ≡ Some entry_1
 kept_1_behind = simp (get-insert {X = Exchange AnswerEntry} nat_cmp_total) refl
 
-pub ungiven_1_behind : get e_2.values.answers 1 ≡ Some None
+ungiven_1_behind : get e_2.values.answers 1 ≡ Some None
 ungiven_1_behind = simp (get-insert {X = Option Outcome} nat_cmp_total) refl
 
-abbrev pub s_3 : State
+abbrev s_3 : State
 s_3 = held_at e_2 (peer_call s_2' call_2 []) (gates.Answer 1 (0 ∷ []))
 
 goes_2 : GoToTarget e_2 (peer_call s_2' call_2 []) (on_answer 1 0) (Ok ([], s_3))
 goes_2 = rw (kept_1_behind, ungiven_1_behind) refl
 
-pub on_call_2 : OnCall s_2' call_2 (Ok ([], s_3))
+on_call_2 : OnCall s_2' call_2 (Ok ([], s_3))
 on_call_2 = rw (free_2, two_answers, kept_1, ungiven_1) (Ok ([], s_2'), refl, goes_2)
 
-abbrev pub s_3' : State
+abbrev s_3' : State
 s_3' = with_over s_3 none_over
 
-unfoldable pub step_2 : Step s_2' (events.Receive (small_call 2 (on_answer 1 0))) (Ok values.Nothing) [] s_3'
+step_2 : Step s_2' (events.Receive (small_call 2 (on_answer 1 0))) (Ok values.Nothing) [] s_3'
 step_2 = received _ [] [] s_3 refl on_call_2 (all_left (stays (none_ended s_3 refl))) refl
 
-unfoldable pub waits_is : Run (Some 0) pipelined_waits
+pub waits_is : Run (Some 0) pipelined_waits
 waits_is = (s_3', (s_1, bootstrap_step, (s_2', step_1, (s_3', step_2, refl))))
 
 -- The application answers: the results name a new export, and the call that waits is delivered.
-abbrev pub outcome_1 : Outcome
+abbrev outcome_1 : Outcome
 outcome_1 = outcomes.Results one_object (caps.Object 5 ∷ [])
 
-pub kept_1_now : get s_3'.entries.answers 1 ≡ Some entry_1
+kept_1_now : get s_3'.entries.answers 1 ≡ Some entry_1
 kept_1_now = simp (get-insert {X = Exchange AnswerEntry} nat_cmp_total) refl
 
 abbrev object_number : Cap → ℕ
@@ -176,10 +176,10 @@ raises_5 = opened 1 no_export_5 fresh_1
 says_5 : SayAll s_3' (caps.Object 5 ∷ []) (Ok (descriptors.SenderHosted 1 ∷ [], r_3))
 says_5 = (Ok (descriptors.SenderHosted 1, r_3), (caps.Object 5, (1, refl), (Ok (1, r_3), raises_5, refl)), (Ok ([], r_3), refl, refl))
 
-abbrev pub returned_1 : Returned
+abbrev returned_1 : Returned
 returned_1 = returns.Results (record { content = one_object; cap_table = descriptors.SenderHosted 1 ∷ [] })
 
-abbrev pub g_3 : State
+abbrev g_3 : State
 g_3 = given r_3 1 entry_1.kept outcome_1 returned_1
 
 gives_1 : GiveAnswer s_3' 1 outcome_1 (Ok (return_of 1 returned_1 ∷ [], g_3))
@@ -188,17 +188,17 @@ gives_1 = (entry_1, kept_1_now, (Ok (returned_1, r_3), (Ok (descriptors.SenderHo
 not_refused : answer_refusals s_3' (origins.Answer 1) outcome_1 ≡ []
 not_refused = rw (kept_1_now) refl
 
-pub answers_1 : DoAnswer s_3' (origins.Answer 1) outcome_1 (Ok (values.Nothing, return_of 1 returned_1 ∷ [], g_3))
+answers_1 : DoAnswer s_3' (origins.Answer 1) outcome_1 (Ok (values.Nothing, return_of 1 returned_1 ∷ [], g_3))
 answers_1 = rw (not_refused) (Ok (values.Nothing, return_of 1 returned_1 ∷ [], g_3), (Ok (return_of 1 returned_1 ∷ [], g_3), gives_1, refl), refl)
 
-abbrev pub held_2 : Held
+abbrev held_2 : Held
 held_2 = record { ticket = 1; origin = origins.Answer 2; request = small_request; gate = gates.Answer 1 (0 ∷ []) }
 
 at_one : (ticket : ℕ) (other : Held) (b : Bool) → eq_by_cmp nat_cmp ticket 1 ≡ b → cond b (Some held_2) None ≡ Some other → 1 ≤ ticket
 at_one ticket other true is e = grind (arith, nat_tests)
 at_one ticket other false is e = absurd (true≢false (sym (ap is_some e)))
 
-pub next_2 : IsNext g_3 held_2 (caps.Object 5)
+next_2 : IsNext g_3 held_2 (caps.Object 5)
 next_2 =
     record {
       waits = get-insert nat_cmp_total empty 1 held_2 1;
@@ -212,14 +212,14 @@ next_2 =
           );
     }
 
-abbrev pub s_5 : State
+abbrev s_5 : State
 s_5 = delivered (without_call g_3 held_2) (origins.Answer 2)
 
 none_either_way : (b : Bool) → cond b None (cond b (Some held_2) None) ≡ None
 none_either_way true = refl
 none_either_way false = refl
 
-pub none_stays : NoneOver s_5
+none_stays : NoneOver s_5
 none_stays ticket =
     rw (
       get-remove nat_cmp_total (insert empty 1 held_2) 1 ticket,
@@ -228,11 +228,11 @@ none_stays ticket =
       none_either_way (eq_by_cmp nat_cmp ticket 1),
     ) tt
 
-unfoldable pub delivers_2 : Leave g_3 (effects.Deliver 5 (origins.Answer 2) 1 small_request ∷ []) (Ok (with_over s_5 none_over))
+delivers_2 : Leave g_3 (effects.Deliver 5 (origins.Answer 2) 1 small_request ∷ []) (Ok (with_over s_5 none_over))
 delivers_2 = leaves held_2 (caps.Object 5) next_2 (routes.Deliver 5, (1, refl), refl) (stays none_stays) refl
 
-unfoldable pub step_3 : Step s_3' (events.Answer (origins.Answer 1) outcome_1) (Ok values.Nothing) (return_of 1 returned_1 ∷ effects.Deliver 5 (origins.Answer 2) 1 small_request ∷ []) (with_over s_5 none_over)
+step_3 : Step s_3' (events.Answer (origins.Answer 1) outcome_1) (Ok values.Nothing) (return_of 1 returned_1 ∷ effects.Deliver 5 (origins.Answer 2) 1 small_request ∷ []) (with_over s_5 none_over)
 step_3 = did _ (return_of 1 returned_1 ∷ []) (effects.Deliver 5 (origins.Answer 2) 1 small_request ∷ []) g_3 refl answers_1 (all_left delivers_2) refl
 
-unfoldable pub pipelined_is : Run (Some 0) pipelined
+pub pipelined_is : Run (Some 0) pipelined
 pipelined_is = (with_over s_5 none_over, (s_1, bootstrap_step, (s_2', step_1, (s_3', step_2, (with_over s_5 none_over, step_3, refl)))))

@@ -50,7 +50,7 @@ use Rattle.cp_vat.specs.Calling.{asked, called, own_call, Opens, DoCall}
 use Rattle.cp_vat.specs.Rows.{comes, strange, bootstrap_answered, bootstrap_refused, bootstrap_asked, strange_return, strange_finish, strange_release, strange_echo, strange_unimplemented, late_resolve, unknown_resolve, other_tree, other_echoed, refusal, unknown_finish, unknown_origin, unknown_forget, unknown_import, aborted, x_failed, small_request, broken_called}
 
 -- nothing waits, so nothing leaves
-pub none_waits : (s : State) → s.waiting.calls ≡ empty → NoneOver s
+none_waits : (s : State) → s.waiting.calls ≡ empty → NoneOver s
 none_waits s e ticket = rw (e, get-empty nat_cmp ticket) tt
 
 -- the table is empty: its number 0 is free, and nothing is exported
@@ -79,7 +79,7 @@ says_0 = (caps.Object 0, (1, refl), (Ok (0, raised_0), raises_0, refl))
 says_all_0 : SayAll asked_0 (caps.Object 0 ∷ []) (Ok (descriptors.SenderHosted 0 ∷ [], raised_0))
 says_all_0 = (Ok (descriptors.SenderHosted 0, raised_0), says_0, (Ok ([], raised_0), refl, refl))
 
-abbrev pub returned_0 : Returned
+abbrev returned_0 : Returned
 returned_0 = returns.Results (record { content = cap 0; cap_table = descriptors.SenderHosted 0 ∷ [] })
 
 gives_0 : GiveAnswer asked_0 0 (bootstrap_outcome (Some 0)) (Ok (return_of 0 returned_0 ∷ [], given_0))
@@ -89,13 +89,13 @@ gives_0 = (
   (Ok (returned_0, raised_0), (Ok (descriptors.SenderHosted 0 ∷ [], raised_0), says_all_0, refl), (Ok ([], given_0), refl, refl)),
 )
 
-pub does_0 : OnBootstrap (new_state (Some 0)) 0 (Ok (return_of 0 returned_0 ∷ [], given_0))
+does_0 : OnBootstrap (new_state (Some 0)) 0 (Ok (return_of 0 returned_0 ∷ [], given_0))
 does_0 = rw (get-empty {X = Exchange AnswerEntry} nat_cmp 0, len-empty nat_cmp (Exchange AnswerEntry)) gives_0
 
-unfoldable pub bootstrap_step : Step (new_state (Some 0)) (events.Receive (messages.Bootstrap (record { question_id = 0 }))) (Ok values.Nothing) (return_of 0 returned_0 ∷ []) (with_over given_0 none_over)
+pub bootstrap_step : Step (new_state (Some 0)) (events.Receive (messages.Bootstrap (record { question_id = 0 }))) (Ok values.Nothing) (return_of 0 returned_0 ∷ []) (with_over given_0 none_over)
 bootstrap_step = received _ (return_of 0 returned_0 ∷ []) [] given_0 refl does_0 (all_left (stays (none_waits given_0 refl))) refl
 
-unfoldable pub bootstrap_is : Run (Some 0) bootstrap_answered
+pub bootstrap_is : Run (Some 0) bootstrap_answered
 bootstrap_is = (with_over given_0 none_over, (with_over given_0 none_over, bootstrap_step, refl))
 
 -- without a bootstrap object

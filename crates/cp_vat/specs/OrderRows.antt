@@ -1,5 +1,5 @@
 -- Exchanges that a vat is never to make, and some that it is, for the order of calls.
-use Rattle.std.specs.Prelude.{ℕ, false, List, [], ◌∷◌, Some, Ok}
+use Rattle.std.specs.Prelude.{ℕ, false, List, [], ◌∷◌, ◌++◌, Option, Some, Ok, swap}
 use Rattle.cp_tree.specs.Node.{cap}
 use Rattle.cp_rpc.specs.declared.message.Message.TheVariants as messages
 use Rattle.cp_rpc.specs.declared.returned.Returned.TheVariants as returns
@@ -9,7 +9,9 @@ use Rattle.cp_refs.specs.declared.call.Origin.TheVariants as origins
 use Rattle.cp_refs.specs.declared.outcome.Outcome.TheVariants as outcomes
 use Rattle.cp_vat.specs.Give.{return_of}
 use Rattle.cp_vat.specs.Run.{Moment, Run}
-use Rattle.cp_vat.specs.Rows.{comes, bootstrap_comes, call_comes, pipelined_comes, small_call, on_answer, small_request, one_object}
+use Rattle.cp_vat.specs.Trace.{trace_of}
+use Rattle.cp_vat.specs.InOrder.{InOrder}
+use Rattle.cp_vat.specs.Rows.{comes, bootstrap_answered, call_comes, pipelined_waits, small_call, on_answer, small_request, one_object}
 use Rattle.cp_vat.specs.declared.effect.Effect.{Effect}
 use Rattle.cp_vat.specs.declared.effect.Effect.TheVariants as effects
 use Rattle.cp_vat.specs.declared.event.Event.TheVariants as events
@@ -19,11 +21,15 @@ use Rattle.cp_vat.specs.declared.event.Value.TheVariants as values
 abbrev pub IsNoRun : List Moment → Type 0
 IsNoRun history = Run (Some 0) history → ⊥
 
+-- these moments are a run, and its turns with those at two places exchanged aren't in order
+abbrev pub IsInOrderAlone : List Moment → ℕ → ℕ → Type 0
+IsInOrderAlone history i j = (run : Run (Some 0) history) × (InOrder (swap (trace_of (Some 0) history run) i j) → ⊥)
+
 -- the bootstrap object's export is counted twice, and one Release lowers it by both; another one isn't taken as if it had lowered it by one
 abbrev pub released_twice : List Moment
 released_twice =
-    bootstrap_comes
-    ∷ comes (messages.Bootstrap (record { question_id = 1 })) (return_of 1 (returns.Results (record { content = cap 0; cap_table = descriptors.SenderHosted 0 ∷ [] })) ∷ [])
+    bootstrap_answered
+    ++ comes (messages.Bootstrap (record { question_id = 1 })) (return_of 1 (returns.Results (record { content = cap 0; cap_table = descriptors.SenderHosted 0 ∷ [] })) ∷ [])
     ∷ comes (messages.Release (record { id = 0; reference_count = 2 })) []
     ∷ comes (messages.Release (record { id = 0; reference_count = 1 })) []
     ∷ []
@@ -31,10 +37,8 @@ released_twice =
 -- the first call is answered, and the one that waits for it isn't delivered
 abbrev pub waiting_dropped : List Moment
 waiting_dropped =
-    bootstrap_comes
-    ∷ call_comes
-    ∷ pipelined_comes
-    ∷ record {
+    pipelined_waits
+    ++ record {
       event = events.Answer (origins.Answer 1) (outcomes.Results one_object (caps.Object 5 ∷ []));
       result = Ok values.Nothing;
       effects = return_of 1 (returns.Results (record { content = one_object; cap_table = descriptors.SenderHosted 1 ∷ [] })) ∷ [];
@@ -50,10 +54,8 @@ delivered_to a ticket = effects.Deliver 5 (origins.Answer a) ticket small_reques
 
 abbrev pub two_leave : List Effect → List Moment
 two_leave deliveries =
-    bootstrap_comes
-    ∷ call_comes
-    ∷ pipelined_comes
-    ∷ second_pipelined
+    pipelined_waits
+    ++ second_pipelined
     ∷ record {
       event = events.Answer (origins.Answer 1) (outcomes.Results one_object (caps.Object 5 ∷ []));
       result = Ok values.Nothing;
@@ -70,8 +72,8 @@ other_way_round = two_leave (delivered_to 3 2 ∷ delivered_to 2 1 ∷ [])
 -- the first call's results are given to the second
 abbrev pub given_to_another : List Moment
 given_to_another =
-    bootstrap_comes
-    ∷ call_comes
+    bootstrap_answered
+    ++ call_comes
     ∷ record {
       event = events.Answer (origins.Answer 1) (outcomes.Results one_object (caps.Object 5 ∷ []));
       result = Ok values.Nothing;

@@ -19,7 +19,9 @@ pub use event::{Event, Value};
 pub use never::{
     never_dropped, never_given_to_another, never_lowered_by_one, never_other_way_round,
 };
-pub use order::{bootstrap_in_order, pipelined_leaves_in_order, pipelined_waits_in_order};
+pub use order::{
+    bootstrap_in_order, pipelined_leaves_in_order, pipelined_waits_in_order, two_leave_in_order,
+};
 pub use fault::{PeerFault, VatFault};
 pub use rows::{
     bootstraps, broken_call, closed_vat, late_resolves, pipelined_leaves, pipelined_waits,

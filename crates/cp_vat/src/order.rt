@@ -3,6 +3,8 @@
 ghost use Rattle.std.specs.Prelude.{Some};
 ghost use Rattle.cp_vat.specs.InOrder.{RunsInOrder};
 ghost use Rattle.cp_vat.specs.Rows as rows;
+ghost use Rattle.cp_vat.specs.OrderRows as order_rows;
+ghost use Rattle.cp_vat.specs.OrderRows.{IsInOrderAlone};
 
 /// A Bootstrap's answer is told once.
 pub fn bootstrap_in_order()
@@ -17,4 +19,11 @@ pub fn pipelined_waits_in_order()
 /// A call that waited leaves by the route of what the answer gave.
 pub fn pipelined_leaves_in_order()
     ensures { RunsInOrder (Some 0) rows.pipelined }
+{}
+
+/// Two calls that waited at one gate leave in the order of their tickets, and the other way round they
+/// aren't in order.
+pub fn two_leave_in_order()
+    ensures in_order { RunsInOrder (Some 0) order_rows.two_in_order }
+    ensures alone { IsInOrderAlone order_rows.two_in_order 1 2 }
 {}
