@@ -7,3 +7,4 @@ pub mod NoRuns
 pub mod Pinned
 pub mod TwoLeave
 pub mod TwoOrdered
+pub mod Embargoed

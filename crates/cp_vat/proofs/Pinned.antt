@@ -142,14 +142,14 @@ gave_by old a k content kept done said named rest (e, exports, how, is_named, ne
   exports,
   how,
   ok_inj done_is
-  ∙ ap (λ r. behind (return_of a said.0 ∷ []) r) (ok_inj rest_is)
-  ∙ ap
-  {A = Returned × State}
-  {B = Done}
-  (λ p. (return_of a p.0 ∷ [], given p.1 a kept (outcomes.Results content (caps.Object k ∷ [])) p.0))
-  (ok_inj said_is
-  ∙ ap {A = List Descriptor} {B = Returned × State} (λ names. (returns.Results (record { content = content; cap_table = names }), named.1)) is_named
-  ∙ ap {A = State} {B = Returned × State} (λ s. (object_returned content e, s)) new_is),
+      ∙ ap (λ r. behind (return_of a said.0 ∷ []) r) (ok_inj rest_is)
+      ∙ ap
+      {A = Returned × State}
+      {B = Done}
+      (λ p. (return_of a p.0 ∷ [], given p.1 a kept (outcomes.Results content (caps.Object k ∷ [])) p.0))
+      (ok_inj said_is
+      ∙ ap {A = List Descriptor} {B = Returned × State} (λ names. (returns.Results (record { content = content; cap_table = names }), named.1)) is_named
+      ∙ ap {A = State} {B = Returned × State} (λ s. (object_returned content e, s)) new_is),
 )
 
 none_tied : (s : State) (outcome : Outcome) (tied : List Tied) (out : Result Done PeerFault) → tied ≡ [] → SettleTied s outcome tied out → out ≡ Ok ([], s)
@@ -197,10 +197,10 @@ booted_by old new mid a first rest none (e, exports, how, done_is) leaving is =
       exports,
       raised_at old.counts.exports (caps.Object 0) e 0 exports (sym e_is) how,
       new_is
-      ∙ ap (λ s. with_over s none_over) (ap (λ d. d.1) done_is)
-      ∙ ap
-      (λ n. with_over (given (with_exports (with_answer old a None) exports) a boot_kept (outcomes.Results (cap 0) (caps.Object 0 ∷ [])) (object_returned (cap 0) n)) none_over)
-      (sym e_is),
+          ∙ ap (λ s. with_over s none_over) (ap (λ d. d.1) done_is)
+          ∙ ap
+          (λ n. with_over (given (with_exports (with_answer old a None) exports) a boot_kept (outcomes.Results (cap 0) (caps.Object 0 ∷ [])) (object_returned (cap 0) n)) none_over)
+          (sym e_is),
     )
 
 boot_given : (old : State) (a : ℕ) (done : Done) → OnBootstrap old a (Ok done) → GiveAnswer (with_answer old a None) a (bootstrap_outcome old.bootstrap) (Ok done)
@@ -351,6 +351,7 @@ goes_first s new all none one ended leaving = by_shown (leave_ok leaving)
     at_call : (o : Option Held) → o ≡ Some held_2 → IfSome o (λ other. gave s.waiting.over other.gate ≡ None) → ⊥
     at_call (Some other) is still = absurd (none_not_some (sym still ∙ ap (λ call. gave s.waiting.over call.gate) (some_inj is) ∙ ended))
     at_call None is still = absurd (none_not_some is)
+
     by_shown : (NoneOver s × (all ≡ []) × (new ≡ with_over s none_over)) ⊎ NextGoes s all new → (rest : List Effect) × (all ≡ delivered_to 2 1 ∷ rest)
     by_shown (inl (still, is, new_is)) = absurd (at_call (get s.waiting.calls 1) one (still 1))
     by_shown (inr (call, given, first, rest, mid, next, went, later, is)) =

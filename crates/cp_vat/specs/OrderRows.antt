@@ -4,14 +4,21 @@ use Rattle.cp_tree.specs.Node.{cap}
 use Rattle.cp_rpc.specs.declared.message.Message.TheVariants as messages
 use Rattle.cp_rpc.specs.declared.returned.Returned.TheVariants as returns
 use Rattle.cp_rpc.specs.declared.descriptor.Descriptor.TheVariants as descriptors
+use Rattle.cp_rpc.specs.declared.target.Target.TheVariants as targets
+use Rattle.cp_rpc.specs.declared.message.Message.{Message}
+use Rattle.cp_refs.specs.declared.cap.Cap.{Cap}
 use Rattle.cp_refs.specs.declared.cap.Cap.TheVariants as caps
+use Rattle.cp_refs.specs.declared.call.Request.{Request}
+use Rattle.cp_refs.specs.declared.outcome.Outcome.{Outcome}
 use Rattle.cp_refs.specs.declared.call.Origin.TheVariants as origins
 use Rattle.cp_refs.specs.declared.outcome.Outcome.TheVariants as outcomes
+use Rattle.cp_vat.specs.Say.{promised}
 use Rattle.cp_vat.specs.Give.{return_of}
+use Rattle.cp_vat.specs.Go.{call_of}
 use Rattle.cp_vat.specs.Run.{Moment, Run}
 use Rattle.cp_vat.specs.Trace.{trace_of}
 use Rattle.cp_vat.specs.InOrder.{InOrder}
-use Rattle.cp_vat.specs.Rows.{comes, bootstrap_answered, call_comes, pipelined_waits, small_call, on_answer, small_request, one_object}
+use Rattle.cp_vat.specs.Rows.{comes, bootstrap_asked, bootstrap_answered, call_comes, pipelined_waits, small_call, on_answer, small_request, one_object}
 use Rattle.cp_vat.specs.declared.effect.Effect.{Effect}
 use Rattle.cp_vat.specs.declared.effect.Effect.TheVariants as effects
 use Rattle.cp_vat.specs.declared.event.Event.TheVariants as events
@@ -68,6 +75,39 @@ two_in_order = two_leave (delivered_to 2 1 ∷ delivered_to 3 2 ∷ [])
 
 abbrev pub other_way_round : List Moment
 other_way_round = two_leave (delivered_to 3 2 ∷ delivered_to 2 1 ∷ [])
+
+-- What the application's Bootstrap will give comes to its own object 3, while a call that was sent on it is on its way back: the next call isn't
+-- delivered at once.
+abbrev pub bootstrap_cap : Cap
+bootstrap_cap = caps.Pipelined 0 []
+
+abbrev pub with_object : Request
+with_object = record small_request { content = one_object; caps = caps.Object 3 ∷ [] }
+
+abbrev pub object_3 : Outcome
+object_3 = outcomes.Results (cap 0) (caps.Object 3 ∷ [])
+
+abbrev pub object_returned : Message
+object_returned =
+    messages.Return (
+    record {
+      answer_id = 0;
+      release_param_caps = false;
+      returned = returns.Results (record { content = cap 0; cap_table = descriptors.ReceiverHosted 0 ∷ [] });
+    }
+    )
+
+abbrev pub embargo_skipped : List Moment
+embargo_skipped =
+    bootstrap_asked
+    ++ record {
+      event = events.Call bootstrap_cap with_object;
+      result = Ok (values.Question 1);
+      effects = call_of 1 (targets.PromisedAnswer (promised 0 [])) with_object (descriptors.SenderHosted 0 ∷ []) ∷ [];
+    }
+    ∷ comes object_returned (effects.Settled 0 object_3 ∷ [])
+    ∷ record { event = events.Call bootstrap_cap small_request; result = Ok (values.Question 2); effects = effects.Deliver 3 (origins.Own 2) 1 small_request ∷ [] }
+    ∷ []
 
 -- the first call's results are given to the second
 abbrev pub given_to_another : List Moment

@@ -55,7 +55,7 @@ abbrev pub IsNewPromise : Turn → ℕ → List ℕ → ℕ → Type 0
 IsNewPromise turn a path p =
     (get turn.before.values.promises p ≡ None)
     × (get turn.after.values.promises p ≡ Some None
-        → (entry : Exchange AnswerEntry) × (get turn.after.entries.answers a ≡ Some entry) × Contains entry.kept.tied (record { promise = p; path = path }))
+    → (entry : Exchange AnswerEntry) × (get turn.after.entries.answers a ≡ Some entry) × Contains entry.kept.tied (record { promise = p; path = path }))
 
 abbrev pub TakenAnswer : Turn → ℕ → List ℕ → Option (Option Outcome) → Cap → Type 0
 TakenAnswer turn a path None cap = ⊥

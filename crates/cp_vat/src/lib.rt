@@ -16,13 +16,14 @@ pub use cp_refs::{Cap, Caps, Origin, Outcome, Path, PromiseId, Request};
 pub use effect::{Effect, Effects, Reason};
 pub use entry::{AnswerEntry, ImportKind, Mentions, QuestionEntry, Tied, TiedPromises};
 pub use event::{Event, Value};
+pub use fault::{PeerFault, VatFault};
 pub use never::{
     never_dropped, never_given_to_another, never_lowered_by_one, never_other_way_round,
+    never_without_embargo,
 };
 pub use order::{
     bootstrap_in_order, pipelined_leaves_in_order, pipelined_waits_in_order, two_leave_in_order,
 };
-pub use fault::{PeerFault, VatFault};
 pub use rows::{
     bootstraps, broken_call, closed_vat, late_resolves, pipelined_leaves, pipelined_waits,
     refusals, strangers, unsupported,

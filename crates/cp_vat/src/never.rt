@@ -22,3 +22,8 @@ pub fn never_dropped()
 pub fn never_other_way_round()
     ensures { IsNoRun rows.other_way_round }
 {}
+
+/// A call doesn't overtake those that were sent on the same reference.
+pub fn never_without_embargo()
+    ensures { IsNoRun rows.embargo_skipped }
+{}
