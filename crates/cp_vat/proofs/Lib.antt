@@ -8,3 +8,4 @@ pub mod Pinned
 pub mod TwoLeave
 pub mod TwoOrdered
 pub mod Embargoed
+pub mod Unordered

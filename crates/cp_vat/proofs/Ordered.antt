@@ -28,7 +28,8 @@ use Rattle.cp_vat.specs.Ports.{Port, answer_path, capability, absences, calls_of
 use Rattle.cp_vat.specs.Exits.{exits_in, exits_of}
 use Rattle.cp_vat.specs.Telling.{TellsItsGift}
 use Rattle.cp_vat.specs.InOrder.{EachPair, EachTurn, ExitsByPorts, AtRest, InOrder, RunsInOrder}
-use Rattle.cp_vat.specs.Rows.{bootstrap_answered, pipelined_waits, pipelined, small_call, on_answer, small_request}
+use Rattle.cp_vat.specs.Rows.{bootstrap_answered, pipelined_waits, small_call, on_answer, small_request}
+use Rattle.cp_vat.specs.OrderRows.{one_in_order}
 use Rattle.cp_vat.proofs.OneWaits.{given_0, returned_0, bootstrap_is, bootstrap_step}
 use Rattle.cp_vat.proofs.OneWaits.{s_1, s_2, s_2', s_3, s_3', s_5, g_3, held_2, outcome_1, returned_1, export_0, kept_1_now, step_1, step_2, step_3, delivers_2, waits_is, pipelined_is}
 
@@ -127,6 +128,12 @@ all_of P xs ys is all = rw (is) all
 pub pairs_of : {X : Type 0} (R : X → X → Type 0) (xs ys : List X) → xs ≡ ys → EachPair R ys → EachPair R xs
 pairs_of R xs ys is pairs = rw (is) pairs
 
+pub pairs_from : {X : Type 0} (R : X → X → Type 0) (xs ys : List X) → xs ≡ ys → EachPair R xs → EachPair R ys
+pairs_from R xs ys is pairs = rw (is) at pairs
+
+pub all_from : {X : Type 0} (P : X → Type 0) (xs ys : List X) → xs ≡ ys → AllByRecursion P xs → AllByRecursion P ys
+all_from P xs ys is all = rw (is) at all
+
 -- none is kept
 rests_1 : AtRest (call_turn ∷ past_0) (rest_turn s_2) rests
 rests_1 = rw (export_0) (inl refl, tt)
@@ -161,7 +168,7 @@ unfolding bootstrap_step step_1 step_2 waits_is
 waits_in_order = (waits_is, order_2)
 
 -- the turns of the row in which the call leaves
-abbrev answer_turn : Turn
+abbrev pub answer_turn : Turn
 answer_turn =
     record {
       cause = own_part (events.Answer (origins.Answer 1) outcome_1) values.Nothing;
@@ -170,7 +177,7 @@ answer_turn =
       after = g_3;
     }
 
-abbrev leave_turn : Turn
+abbrev pub leave_turn : Turn
 leave_turn = record { cause = goes held_2; before = g_3; effects = effects.Deliver 5 (origins.Answer 2) 1 small_request ∷ []; after = s_5 }
 
 abbrev past_3 : List Turn
@@ -212,6 +219,6 @@ order_3 =
       told = (rest_told s_5, (leave_told, (answer_told, told_2)));
     }
 
-pub leaves_in_order : RunsInOrder (Some 0) pipelined
+pub leaves_in_order : RunsInOrder (Some 0) one_in_order
 unfolding bootstrap_step step_1 step_2 step_3 delivers_2 pipelined_is
 leaves_in_order = (pipelined_is, order_3)

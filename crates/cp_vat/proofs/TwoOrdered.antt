@@ -24,12 +24,12 @@ use Rattle.cp_vat.specs.Exits.{Exit, exits_in, exits_of}
 use Rattle.cp_vat.specs.Telling.{TellsItsGift}
 use Rattle.cp_vat.specs.InOrder.{EachPair, Rises, has_left, EachTurn, ExitsByPorts, AtRest, InOrder, RunsInOrder}
 use Rattle.cp_vat.specs.Rows.{small_call, on_answer, small_request}
-use Rattle.cp_vat.specs.OrderRows.{IsInOrderAlone, delivered_to, two_in_order}
+use Rattle.cp_vat.specs.OrderRows.{IsOrderedUnless, other_way, delivered_to, two_in_order}
 use Rattle.cp_vat.proofs.OneWaits.{bootstrap_step}
 use Rattle.cp_vat.proofs.OneWaits.{s_3', held_2, outcome_1, returned_1, export_0, step_1, step_2}
 use Rattle.cp_vat.proofs.Pinned.{s_4, s_4'}
 use Rattle.cp_vat.proofs.TwoLeave.{held_3, kept_1_last, g_4, h_4, j_4, both_leave, step_3_waits, step_4, two_is}
-use Rattle.cp_vat.proofs.Ordered.{rest_turn, past_0, past_1, past_2, call_turn, wait_turn, port_1, port_2, life_2, exits_2, calls_2, by_ports_2, none_kept_2, told_2, rest_told, all_of, pairs_of}
+use Rattle.cp_vat.proofs.Ordered.{rest_turn, past_0, past_1, past_2, call_turn, wait_turn, port_1, port_2, life_2, exits_2, calls_2, by_ports_2, none_kept_2, told_2, rest_told, all_of, pairs_of, pairs_from}
 
 -- the turns
 abbrev also_turn : Turn
@@ -134,14 +134,11 @@ swapped = rest_turn j_4 ∷ first_turn ∷ second_turn ∷ answer_turn ∷ past_
 exits_swapped : exits_of swapped ≡ record { ticket = 0; route = routes.Deliver 0 } ∷ record { ticket = 2; route = routes.Deliver 5 } ∷ record { ticket = 1; route = routes.Deliver 5 } ∷ []
 exits_swapped = rw (get-empty {X = Outcome} nat_cmp 2, get-empty {X = Outcome} nat_cmp 3) refl
 
-pairs_from : {X : Type 0} (R : X → X → Type 0) (xs ys : List X) → xs ≡ ys → EachPair R xs → EachPair R ys
-pairs_from R xs ys is pairs = rw (is) at pairs
-
 not_swapped : InOrder swapped → ⊥
 not_swapped ordered =
     let (first, ((second, third), last)) = pairs_from (Rises (calls_of past_3)) _ _ exits_swapped ordered.rising in
     absurd (omega (arith, second port_2 port_of_2 port_of_1))
 
-pub two_leave_alone : IsInOrderAlone two_in_order 1 2
+pub two_rise : IsOrderedUnless two_in_order other_way
 unfolding bootstrap_step step_1 step_2 step_3_waits step_4 both_leave two_is
-two_leave_alone = (two_is, not_swapped)
+two_rise = (two_is, not_swapped)

@@ -1,5 +1,5 @@
 -- Exchanges that a vat is never to make, and some that it is, for the order of calls.
-use Rattle.std.specs.Prelude.{ℕ, false, List, [], ◌∷◌, ◌++◌, Option, Some, Ok, swap}
+use Rattle.std.specs.Prelude.{ℕ, zero, suc, false, List, [], ◌∷◌, ◌++◌, Option, Some, Ok, swap}
 use Rattle.cp_tree.specs.Node.{cap}
 use Rattle.cp_rpc.specs.declared.message.Message.TheVariants as messages
 use Rattle.cp_rpc.specs.declared.returned.Returned.TheVariants as returns
@@ -16,7 +16,7 @@ use Rattle.cp_vat.specs.Say.{promised}
 use Rattle.cp_vat.specs.Give.{return_of}
 use Rattle.cp_vat.specs.Go.{call_of}
 use Rattle.cp_vat.specs.Run.{Moment, Run}
-use Rattle.cp_vat.specs.Trace.{trace_of}
+use Rattle.cp_vat.specs.Trace.{Turn, trace_of}
 use Rattle.cp_vat.specs.InOrder.{InOrder}
 use Rattle.cp_vat.specs.Rows.{comes, bootstrap_asked, bootstrap_answered, call_comes, pipelined_waits, small_call, on_answer, small_request, one_object}
 use Rattle.cp_vat.specs.declared.effect.Effect.{Effect}
@@ -28,9 +28,31 @@ use Rattle.cp_vat.specs.declared.event.Value.TheVariants as values
 abbrev pub IsNoRun : List Moment → Type 0
 IsNoRun history = Run (Some 0) history → ⊥
 
--- these moments are a run, and its turns with those at two places exchanged aren't in order
-abbrev pub IsInOrderAlone : List Moment → ℕ → ℕ → Type 0
-IsInOrderAlone history i j = (run : Run (Some 0) history) × (InOrder (swap (trace_of (Some 0) history run) i j) → ⊥)
+-- these moments are a run, and its turns, changed so, aren't in order
+abbrev pub IsOrderedUnless : List Moment → (List Turn → List Turn) → Type 0
+IsOrderedUnless history change = (run : Run (Some 0) history) × (InOrder (change (trace_of (Some 0) history run)) → ⊥)
+
+-- other turns for the one at this place, where the latest is the first
+abbrev pub change_at : ℕ → (Turn → List Turn) → List Turn → List Turn
+change_at i change [] = []
+change_at zero change (turn ∷ past) = change turn ++ past
+change_at (suc i) change (turn ∷ past) = turn ∷ change_at i change past
+
+-- the turn of the latest call before the one before it; a call that goes twice, goes elsewhere or doesn't go; and an outcome that isn't told
+abbrev pub other_way : List Turn → List Turn
+other_way turns = swap turns 1 2
+
+abbrev pub going_twice : List Turn → List Turn
+going_twice turns = change_at 1 (λ turn. turn ∷ turn ∷ []) turns
+
+abbrev pub going_elsewhere : List Turn → List Turn
+going_elsewhere turns = change_at 1 (λ turn. record turn { effects = effects.Deliver 6 (origins.Answer 2) 1 small_request ∷ [] } ∷ []) turns
+
+abbrev pub never_going : List Turn → List Turn
+never_going turns = change_at 1 (λ turn. []) turns
+
+abbrev pub telling_nothing : List Turn → List Turn
+telling_nothing turns = change_at 2 (λ turn. record turn { effects = [] } ∷ []) turns
 
 -- the bootstrap object's export is counted twice, and one Release lowers it by both; another one isn't taken as if it had lowered it by one
 abbrev pub released_twice : List Moment
@@ -41,40 +63,41 @@ released_twice =
     ∷ comes (messages.Release (record { id = 0; reference_count = 1 })) []
     ∷ []
 
--- the first call is answered, and the one that waits for it isn't delivered
-abbrev pub waiting_dropped : List Moment
-waiting_dropped =
-    pipelined_waits
-    ++ record {
+-- The first call is answered with object 5: a Return of this number, and these deliveries.
+abbrev pub answered : ℕ → List Effect → Moment
+answered a deliveries =
+    record {
       event = events.Answer (origins.Answer 1) (outcomes.Results one_object (caps.Object 5 ∷ []));
       result = Ok values.Nothing;
-      effects = return_of 1 (returns.Results (record { content = one_object; cap_table = descriptors.SenderHosted 1 ∷ [] })) ∷ [];
+      effects = return_of a (returns.Results (record { content = one_object; cap_table = descriptors.SenderHosted 1 ∷ [] })) ∷ deliveries;
     }
-    ∷ []
-
--- two calls wait for the first one's answer, and the later one is delivered before the earlier one
-abbrev pub second_pipelined : Moment
-second_pipelined = comes (small_call 3 (on_answer 1 0)) []
 
 abbrev pub delivered_to : ℕ → ℕ → Effect
 delivered_to a ticket = effects.Deliver 5 (origins.Answer a) ticket small_request
 
+-- one call waits for that answer, and is delivered; it isn't dropped
+abbrev pub one_leaves : List Effect → List Moment
+one_leaves deliveries = pipelined_waits ++ answered 1 deliveries ∷ []
+
+abbrev pub one_in_order : List Moment
+one_in_order = one_leaves (delivered_to 2 1 ∷ [])
+
+abbrev pub waiting_dropped : List Moment
+waiting_dropped = one_leaves []
+
+-- two calls wait for it, and the earlier one is delivered first
 abbrev pub two_leave : List Effect → List Moment
-two_leave deliveries =
-    pipelined_waits
-    ++ second_pipelined
-    ∷ record {
-      event = events.Answer (origins.Answer 1) (outcomes.Results one_object (caps.Object 5 ∷ []));
-      result = Ok values.Nothing;
-      effects = return_of 1 (returns.Results (record { content = one_object; cap_table = descriptors.SenderHosted 1 ∷ [] })) ∷ deliveries;
-    }
-    ∷ []
+two_leave deliveries = pipelined_waits ++ comes (small_call 3 (on_answer 1 0)) [] ∷ answered 1 deliveries ∷ []
 
 abbrev pub two_in_order : List Moment
 two_in_order = two_leave (delivered_to 2 1 ∷ delivered_to 3 2 ∷ [])
 
 abbrev pub other_way_round : List Moment
 other_way_round = two_leave (delivered_to 3 2 ∷ delivered_to 2 1 ∷ [])
+
+-- the first call's results aren't given to the second
+abbrev pub given_to_another : List Moment
+given_to_another = bootstrap_answered ++ call_comes ∷ answered 2 [] ∷ []
 
 -- What the application's Bootstrap will give comes to its own object 3, while a call that was sent on it is on its way back: the next call isn't
 -- delivered at once.
@@ -107,16 +130,4 @@ embargo_skipped =
     }
     ∷ comes object_returned (effects.Settled 0 object_3 ∷ [])
     ∷ record { event = events.Call bootstrap_cap small_request; result = Ok (values.Question 2); effects = effects.Deliver 3 (origins.Own 2) 1 small_request ∷ [] }
-    ∷ []
-
--- the first call's results are given to the second
-abbrev pub given_to_another : List Moment
-given_to_another =
-    bootstrap_answered
-    ++ call_comes
-    ∷ record {
-      event = events.Answer (origins.Answer 1) (outcomes.Results one_object (caps.Object 5 ∷ []));
-      result = Ok values.Nothing;
-      effects = return_of 2 (returns.Results (record { content = one_object; cap_table = descriptors.SenderHosted 1 ∷ [] })) ∷ [];
-    }
     ∷ []
