@@ -1,10 +1,10 @@
 -- No run delivers a call at once behind those that were sent on the same reference.
-use Rattle.std.specs.Prelude.{◌≡◌, refl, ℕ, zero, suc, Bool, true, false, List, [], ◌∷◌, ◌++◌, Option, Some, None, Result, Ok, Err}
+use Rattle.std.specs.Prelude.{◌≡◌, refl, ℕ, zero, suc, Bool, true, false, List, [], ◌∷◌, ◌++◌, Option, Some, None, Result, Ok}
 use Rattle.std.proofs.Common.{sym, ap, ◌∙◌, true≢false}
 use Rattle.std.specs.Ordering.{nat_cmp}
 use Rattle.std.specs.Cmp.{nat_cmp_total}
 use Rattle.std.specs.Cmp.Lexicographic.{slice_cmp, nat_list_cmp_total}
-use Rattle.std.specs.FinMap.{get, insert, empty, get-empty, len-empty, get-insert}
+use Rattle.std.specs.FinMap.{get, empty, get-empty, len-empty, get-insert}
 use Rattle.cp_tree.specs.Node.{cap}
 use Rattle.cp_tables.specs.Table.{Table}
 use Rattle.cp_tables.specs.Exchange.{new_exchange}
@@ -17,7 +17,7 @@ use Rattle.cp_rpc.specs.declared.message.Message.TheVariants as messages
 use Rattle.cp_rpc.specs.declared.returned.Return.{Return}
 use Rattle.cp_rpc.specs.declared.returned.Returned.TheVariants as returns
 use Rattle.cp_rpc.specs.declared.target.Target.TheVariants as targets
-use Rattle.cp_refs.specs.Route.{Way, ends, leads, way, route_within, route_by, Routes}
+use Rattle.cp_refs.specs.Route.{ends, way, route_within, route_by, Routes}
 use Rattle.cp_refs.specs.Values.{ValueMaps}
 use Rattle.cp_refs.specs.declared.cap.Cap.{Cap}
 use Rattle.cp_refs.specs.declared.cap.Cap.TheVariants as caps
@@ -35,10 +35,9 @@ use Rattle.cp_vat.specs.Room.{Fresh}
 use Rattle.cp_vat.specs.Say.{SayAll, promised}
 use Rattle.cp_vat.specs.Take.{Take, TakeAll, taken_export}
 use Rattle.cp_vat.specs.Give.{GiveOwn, GiveOwnBy, question_settled}
-use Rattle.cp_vat.specs.Go.{Underway, Go, GoTo, GoOut, call_of, finish_behind, sent}
+use Rattle.cp_vat.specs.Go.{Underway, Go, GoTo, GoOut, call_of, sent}
 use Rattle.cp_vat.specs.Asking.{TakeReturned, Settles, ReturnBy, ReturnOf, OnReturn}
 use Rattle.cp_vat.specs.Calling.{OwnDone, Reference, on_wire, came_to, reference_of, asked, called, own_call, mark_of, with_mark, marked, disembargo_of, FirstEmbargoed, GoBack, GoFrom, Opens, call_refusals, DoCall}
-use Rattle.cp_vat.specs.Doing.{DoBootstrap}
 use Rattle.cp_vat.specs.Step.{Step}
 use Rattle.cp_vat.specs.Rows.{small_request}
 use Rattle.cp_vat.specs.OrderRows.{IsNoRun, bootstrap_cap, with_object, object_3, object_returned, embargo_skipped}

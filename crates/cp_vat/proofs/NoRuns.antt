@@ -1,9 +1,9 @@
 -- Exchanges that no run makes.
-use Rattle.std.specs.Prelude.{◌≡◌, refl, ℕ, false, List, [], ◌∷◌, ◌++◌, Option, Some, None, Result, Ok, Err}
+use Rattle.std.specs.Prelude.{◌≡◌, refl, ℕ, false, List, [], ◌∷◌, ◌++◌, Option, Some, None, Ok, Err}
 use Rattle.std.specs.List.{list_any}
 use Rattle.std.specs.Ordering.{nat_cmp}
 use Rattle.std.specs.Cmp.{nat_cmp_total}
-use Rattle.std.specs.FinMap.{get, insert, remove, empty, get-empty, get-insert, get-remove}
+use Rattle.std.specs.FinMap.{get, remove, empty, get-empty, get-insert, get-remove}
 use Rattle.std.proofs.Common.{arith, sym, ap, ◌∙◌}
 use Rattle.cp_tables.specs.Table.{Table}
 use Rattle.cp_tables.specs.declared.counted.Counted.{Counted}
@@ -35,7 +35,7 @@ use Rattle.cp_vat.specs.declared.event.Value.{Value}
 use Rattle.cp_vat.specs.declared.event.Value.TheVariants as values
 use Rattle.cp_vat.specs.declared.fault.PeerFault.TheVariants as faults
 use Rattle.cp_vat.proofs.OneWaits.{returned_0}
-use Rattle.cp_vat.proofs.OneWaits.{s_1, s_2', s_3', entry_1, held_2, outcome_1, kept_1_now}
+use Rattle.cp_vat.proofs.OneWaits.{s_3', entry_1, held_2, outcome_1, kept_1_now}
 use Rattle.cp_vat.proofs.Inverts.{is_closing, shows, then_ok, unless_ok, quietly_ok, ok_inj, some_inj, none_not_some, err_not_ok}
 use Rattle.cp_vat.proofs.Pinned.{object_returned, only_s_1, only_s_2, only_s_3, only_s_4, s_4', answers_object, goes_first, released_by, second_boot}
 

@@ -4,7 +4,6 @@ use Rattle.cp_refs.specs.declared.cap.Cap.{Cap}
 use Rattle.cp_refs.specs.declared.outcome.Outcome.{Outcome}
 use Rattle.cp_refs.specs.declared.route.Gate.{Gate}
 use Rattle.cp_rpc.specs.declared.call.Call.{Call}
-use Rattle.cp_rpc.specs.declared.message.Message.{Message}
 use Rattle.cp_rpc.specs.declared.returned.Returned.{Returned}
 use Rattle.cp_tables.specs.Counted.{new_counted}
 use Rattle.cp_tables.specs.Exchange.{new_exchange}
@@ -12,50 +11,36 @@ use Rattle.cp_tables.specs.declared.counted.Counted.{Counted}
 use Rattle.cp_tables.specs.declared.exchange.Exchange.{Exchange}
 use Rattle.cp_tree.specs.Node.{cap, no_nodes, struct}
 use Rattle.cp_vat.specs.Answering.{GoToTarget, OnBootstrap, OnCall, bootstrap_outcome, entered, peer_call, with_answer}
-use Rattle.cp_vat.specs.Calling.{DoCall, Opens, asked, called, own_call}
 use Rattle.cp_vat.specs.Doing.{DoAnswer, answer_refusals}
-use Rattle.cp_vat.specs.Give.{GiveAnswer, given, question_settled, return_of}
-use Rattle.cp_vat.specs.Go.{GoTo, IsNext, Leave, NoneOver, delivered, held_at, leaves, stays, without_call}
-use Rattle.cp_vat.specs.Resolving.{closed, release_of}
+use Rattle.cp_vat.specs.Give.{GiveAnswer, given, return_of}
+use Rattle.cp_vat.specs.Go.{IsNext, Leave, NoneOver, delivered, held_at, leaves, stays, without_call}
 use Rattle.cp_vat.specs.Room.{Fresh, free}
-use Rattle.cp_vat.specs.Rows.{aborted, bootstrap_answered, bootstrap_asked, bootstrap_refused, broken_called, comes, late_resolve, on_answer, one_object, other_echoed, other_tree, pipelined, pipelined_waits, refusal, small_call, small_request, strange, strange_echo, strange_finish, strange_release, strange_return, strange_unimplemented, unknown_finish, unknown_forget, unknown_import, unknown_origin, unknown_resolve, x_failed}
+use Rattle.cp_vat.specs.Rows.{bootstrap_answered, on_answer, one_object, pipelined, pipelined_waits, small_call, small_request}
 use Rattle.cp_vat.specs.Run.{Run}
 use Rattle.cp_vat.specs.Say.{HasNoExport, Raise, Say, SayAll, opened}
 use Rattle.cp_vat.specs.State.{State, gave, new_state, none_over, with_exports, with_over}
-use Rattle.cp_vat.specs.Step.{Does, Receives, Step, all_left, did, faulted, received, refused, was_closed}
-use Rattle.cp_vat.specs.Texts.{no_bootstrap}
-use Rattle.cp_vat.specs.declared.effect.Effect.{Effect}
+use Rattle.cp_vat.specs.Step.{Step, all_left, did, received}
 use Rattle.cp_vat.specs.declared.entry.AnswerEntry.{AnswerEntry}
-use Rattle.cp_vat.specs.declared.entry.ImportKind.{ImportKind}
-use Rattle.cp_vat.specs.declared.entry.QuestionEntry.{QuestionEntry}
-use Rattle.cp_vat.specs.declared.event.Event.{Event}
-use Rattle.cp_vat.specs.declared.fault.PeerFault.{PeerFault}
-use Rattle.cp_vat.specs.declared.fault.VatFault.{VatFault}
 use Rattle.std.proofs.Common.{Option, ap, arith, is_some, sym, true≢false, ◌∙◌}
 use Rattle.std.proofs.lemmas.Bool.Decides.{nat_tests}
 use Rattle.std.specs.Cmp.{nat_cmp_total}
 use Rattle.std.specs.FinMap.{empty, get, get-empty, get-insert, get-remove, insert, len, len-empty, len-insert}
 use Rattle.std.specs.Ordering.{eq_by_cmp, nat_cmp}
-use Rattle.std.specs.Prelude.{Bool, Err, IfSome, List, None, Ok, Option, Some, [], cond, false, refl, true, ℕ, ◌++◌, ◌∷◌, ◌≡◌, ◌≢◌, ◌≤◌}
+use Rattle.std.specs.Prelude.{Bool, IfSome, None, Ok, Option, Some, [], cond, false, refl, true, ℕ, ◌∷◌, ◌≡◌, ◌≢◌, ◌≤◌}
 use Rattle.cp_refs.specs.declared.call.Origin.TheVariants as origins
 use Rattle.cp_refs.specs.declared.cap.Cap.TheVariants as caps
 use Rattle.cp_refs.specs.declared.outcome.Outcome.TheVariants as outcomes
 use Rattle.cp_refs.specs.declared.route.Gate.TheVariants as gates
 use Rattle.cp_refs.specs.declared.route.Route.TheVariants as routes
-use Rattle.cp_refs.specs.declared.values.QuestionKind.TheVariants as kinds
 use Rattle.cp_rpc.specs.declared.call.SendResultsTo.TheVariants as results_to
 use Rattle.cp_rpc.specs.declared.descriptor.Descriptor.TheVariants as descriptors
-use Rattle.cp_rpc.specs.declared.disembargo.Context.TheVariants as contexts
 use Rattle.cp_rpc.specs.declared.message.Message.TheVariants as messages
 use Rattle.cp_rpc.specs.declared.returned.Returned.TheVariants as returns
 use Rattle.cp_rpc.specs.declared.target.Target.TheVariants as targets
 use Rattle.cp_tables.specs.declared.exchange.Stage.TheVariants as stages
 use Rattle.cp_vat.specs.declared.effect.Effect.TheVariants as effects
-use Rattle.cp_vat.specs.declared.effect.Reason.TheVariants as reasons
 use Rattle.cp_vat.specs.declared.event.Event.TheVariants as events
 use Rattle.cp_vat.specs.declared.event.Value.TheVariants as values
-use Rattle.cp_vat.specs.declared.fault.PeerFault.TheVariants as faults
-use Rattle.cp_vat.specs.declared.fault.VatFault.TheVariants as refusals
 
 -- nothing waits, so nothing leaves
 pub none_waits : (s : State) → s.waiting.calls ≡ empty → NoneOver s

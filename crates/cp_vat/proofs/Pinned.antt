@@ -26,11 +26,11 @@ use Rattle.cp_refs.specs.declared.route.Route.{Route}
 use Rattle.cp_refs.specs.declared.route.Route.TheVariants as routes
 use Rattle.cp_vat.specs.State.{State, gave, with_exports, with_over, none_over}
 use Rattle.cp_vat.specs.Then.{Done, Then, OrFull, behind, fault_if}
-use Rattle.cp_vat.specs.Room.{Fresh, has_room}
-use Rattle.cp_vat.specs.Say.{Raise, counted, counted_out, opened, has_no_room, HasNoExport, ComesTo, Say, SayEnd, SayAll}
+use Rattle.cp_vat.specs.Room.{has_room}
+use Rattle.cp_vat.specs.Say.{Raise, counted, counted_out, opened, has_no_room, ComesTo, SayEnd, SayAll}
 use Rattle.cp_vat.specs.Doing.{DoAnswer, Quietly, answer_refusals}
 use Rattle.cp_vat.specs.OrderRows.{delivered_to}
-use Rattle.cp_vat.specs.Give.{Give, SettleTied, given, GiveAnswer, GiveBy, Returns, return_of, returned_mentions}
+use Rattle.cp_vat.specs.Give.{Give, SettleTied, given, GiveAnswer, GiveBy, return_of, returned_mentions}
 use Rattle.cp_vat.specs.Go.{Underway, underway, without_call, Leave, NoneOver, Go, GoTo, held_at, delivered}
 use Rattle.cp_vat.specs.Answering.{with_answer, GoToAnswer, GoToTarget, peer_call, entered, call_faults, OnCall}
 use Rattle.cp_rpc.specs.declared.call.Call.{Call}
@@ -55,7 +55,7 @@ use Rattle.cp_vat.specs.declared.fault.PeerFault.TheVariants as faults
 use Rattle.cp_vat.specs.Step.{Receives, Step}
 use Rattle.cp_vat.specs.declared.event.Event.TheVariants as events
 use Rattle.cp_vat.specs.declared.event.Value.TheVariants as values
-use Rattle.cp_vat.proofs.OneWaits.{given_0, returned_0, none_waits}
+use Rattle.cp_vat.proofs.OneWaits.{returned_0, none_waits}
 use Rattle.cp_vat.proofs.OneWaits.{s_1, s_2, s_2', s_3, s_3', entry_1, held_2, export_0, kept_1_behind, ungiven_1_behind, none_ended}
 use Rattle.cp_vat.proofs.Inverts.{is_closing, shows, quietly_ok, leave_ok, NextGoes, unless_ok, then_ok, quiet, ok_inj, some_inj, none_not_some}
 

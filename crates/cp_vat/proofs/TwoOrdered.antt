@@ -1,7 +1,6 @@
 -- The row in which two calls wait for one answer is in order.
-use Rattle.std.specs.Prelude.{◌≡◌, refl, ℕ, List, [], ◌∷◌, Option, Some, None}
+use Rattle.std.specs.Prelude.{◌≡◌, refl, List, [], ◌∷◌, Option, Some, None}
 use Rattle.std.proofs.Common.{arith, ap, inl, inr}
-use Rattle.std.specs.List.{AllByRecursion}
 use Rattle.std.specs.Ordering.{nat_cmp}
 use Rattle.std.specs.Cmp.{nat_cmp_total}
 use Rattle.std.specs.FinMap.{get, get-empty, get-insert}
@@ -13,23 +12,21 @@ use Rattle.cp_refs.specs.declared.call.Origin.TheVariants as origins
 use Rattle.cp_refs.specs.declared.outcome.Outcome.{Outcome}
 use Rattle.cp_refs.specs.declared.route.Gate.TheVariants as gates
 use Rattle.cp_refs.specs.declared.route.Route.TheVariants as routes
-use Rattle.cp_vat.specs.declared.effect.Effect.TheVariants as effects
 use Rattle.cp_vat.specs.declared.event.Event.TheVariants as events
 use Rattle.cp_vat.specs.declared.event.Value.TheVariants as values
-use Rattle.cp_vat.specs.State.{State}
 use Rattle.cp_vat.specs.Give.{return_of}
 use Rattle.cp_vat.specs.Trace.{Turn, own_part, goes, rests}
-use Rattle.cp_vat.specs.Ports.{Port, answer_path, absences, calls_of, port_of, PortRoute}
-use Rattle.cp_vat.specs.Exits.{Exit, exits_in, exits_of}
+use Rattle.cp_vat.specs.Ports.{answer_path, absences, calls_of, port_of, PortRoute}
+use Rattle.cp_vat.specs.Exits.{exits_of}
 use Rattle.cp_vat.specs.Telling.{TellsItsGift}
-use Rattle.cp_vat.specs.InOrder.{EachPair, Rises, has_left, EachTurn, ExitsByPorts, AtRest, InOrder, RunsInOrder}
-use Rattle.cp_vat.specs.Rows.{small_call, on_answer, small_request}
+use Rattle.cp_vat.specs.InOrder.{Rises, has_left, ExitsByPorts, AtRest, InOrder, RunsInOrder}
+use Rattle.cp_vat.specs.Rows.{small_call, on_answer}
 use Rattle.cp_vat.specs.OrderRows.{IsOrderedUnless, other_way, delivered_to, two_in_order}
 use Rattle.cp_vat.proofs.OneWaits.{bootstrap_step}
-use Rattle.cp_vat.proofs.OneWaits.{s_3', held_2, outcome_1, returned_1, export_0, step_1, step_2}
+use Rattle.cp_vat.proofs.OneWaits.{s_3', held_2, outcome_1, returned_1, step_1, step_2}
 use Rattle.cp_vat.proofs.Pinned.{s_4, s_4'}
 use Rattle.cp_vat.proofs.TwoLeave.{held_3, kept_1_last, g_4, h_4, j_4, both_leave, step_3_waits, step_4, two_is}
-use Rattle.cp_vat.proofs.Ordered.{rest_turn, past_0, past_1, past_2, call_turn, wait_turn, port_1, port_2, life_2, exits_2, calls_2, by_ports_2, none_kept_2, told_2, rest_told, all_of, pairs_of, pairs_from}
+use Rattle.cp_vat.proofs.Ordered.{rest_turn, past_2, port_1, port_2, calls_2, by_ports_2, none_kept_2, told_2, rest_told, all_of, pairs_of, pairs_from}
 
 -- the turns
 abbrev also_turn : Turn

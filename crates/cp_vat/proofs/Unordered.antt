@@ -1,30 +1,26 @@
 -- Turns that aren't in order.
-use Rattle.std.specs.Prelude.{◌≡◌, refl, ◌⊎◌, ℕ, Bool, true, false, List, [], ◌∷◌, ◌++◌, length, Option, Some, None}
+use Rattle.std.specs.Prelude.{◌≡◌, refl, ℕ, Bool, true, false, List, [], ◌∷◌, ◌++◌, length, Option, Some, None}
 use Rattle.std.proofs.Common.{arith, sym, ap, ◌∙◌, true≢false, inl, inr}
-use Rattle.std.specs.List.{AllByRecursion}
 use Rattle.std.specs.Ordering.{nat_cmp}
 use Rattle.std.specs.Cmp.{nat_cmp_total}
 use Rattle.std.specs.FinMap.{get, insert, empty, get-empty, get-insert, get-remove}
-use Rattle.cp_rpc.specs.declared.returned.Returned.{Returned}
-use Rattle.cp_refs.specs.declared.call.Held.{Held}
 use Rattle.cp_refs.specs.declared.call.Origin.TheVariants as origins
 use Rattle.cp_refs.specs.declared.outcome.Outcome.{Outcome}
-use Rattle.cp_refs.specs.declared.route.Gate.{Gate}
 use Rattle.cp_refs.specs.declared.route.Route.{Route}
 use Rattle.cp_refs.specs.declared.route.Route.TheVariants as routes
 use Rattle.cp_vat.specs.declared.effect.Effect.{Effect}
 use Rattle.cp_vat.specs.declared.effect.Effect.TheVariants as effects
 use Rattle.cp_vat.specs.Trace.{Turn}
-use Rattle.cp_vat.specs.Ports.{Port, Called, calls_of, port_of, PortRoute}
-use Rattle.cp_vat.specs.Exits.{Exit, exits_of}
+use Rattle.cp_vat.specs.Ports.{Port, calls_of, port_of, PortRoute}
+use Rattle.cp_vat.specs.Exits.{exits_of}
 use Rattle.cp_vat.specs.Telling.{Gift, TellsItsGift, GiftTold, AnswerTold, was_finished}
-use Rattle.cp_vat.specs.InOrder.{has_left, EachPair, OtherTicket, GoesByItsPort, IsEmbargoed, LeftOrWaits, InOrder}
+use Rattle.cp_vat.specs.InOrder.{has_left, OtherTicket, GoesByItsPort, LeftOrWaits, InOrder}
 use Rattle.cp_vat.specs.Rows.{small_request}
 use Rattle.cp_vat.specs.OrderRows.{IsOrderedUnless, one_in_order, going_twice, going_elsewhere, never_going, telling_nothing}
-use Rattle.cp_vat.proofs.OneWaits.{s_5, g_3, held_2, outcome_1, kept_1_now, bootstrap_step, step_1, step_2, step_3, delivers_2, pipelined_is}
+use Rattle.cp_vat.proofs.OneWaits.{s_5, held_2, outcome_1, bootstrap_step, step_1, step_2, step_3, delivers_2, pipelined_is}
 use Rattle.cp_vat.proofs.Inverts.{some_inj, none_not_some}
 use Rattle.cp_vat.proofs.Pinned.{object_route}
-use Rattle.cp_vat.proofs.Ordered.{rest_turn, past_2, answer_turn, leave_turn, port_1, port_2, calls_2, exits_2, pairs_from, all_from}
+use Rattle.cp_vat.proofs.Ordered.{rest_turn, past_2, answer_turn, leave_turn, port_2, calls_2, exits_2, pairs_from, all_from}
 
 -- the call goes twice
 exits_twice : exits_of (rest_turn s_5 ∷ leave_turn ∷ leave_turn ∷ answer_turn ∷ past_2)

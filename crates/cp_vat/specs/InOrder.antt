@@ -9,7 +9,7 @@ use Rattle.cp_refs.specs.declared.route.Gate.TheVariants as gates
 use Rattle.cp_refs.specs.declared.route.Route.TheVariants as routes
 use Rattle.cp_vat.specs.State.{State}
 use Rattle.cp_vat.specs.Run.{Moment, Run}
-use Rattle.cp_vat.specs.Trace.{Cause, own_part, goes, rests, Turn, trace_of}
+use Rattle.cp_vat.specs.Trace.{Cause, rests, Turn, trace_of}
 use Rattle.cp_vat.specs.Ports.{Port, Called, calls_of, port_of, PortRoute}
 use Rattle.cp_vat.specs.Exits.{Exit, exits_in, exits_of}
 use Rattle.cp_vat.specs.Telling.{TellsItsGift}

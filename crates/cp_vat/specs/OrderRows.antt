@@ -1,5 +1,5 @@
 -- Exchanges that a vat is never to make, and some that it is, for the order of calls.
-use Rattle.std.specs.Prelude.{ℕ, zero, suc, false, List, [], ◌∷◌, ◌++◌, Option, Some, Ok, swap}
+use Rattle.std.specs.Prelude.{ℕ, zero, suc, false, List, [], ◌∷◌, ◌++◌, Some, Ok, swap}
 use Rattle.cp_tree.specs.Node.{cap}
 use Rattle.cp_rpc.specs.declared.message.Message.TheVariants as messages
 use Rattle.cp_rpc.specs.declared.returned.Returned.TheVariants as returns

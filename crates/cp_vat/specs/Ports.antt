@@ -22,7 +22,7 @@ use Rattle.cp_vat.specs.State.{State, gave}
 use Rattle.cp_vat.specs.Take.{path_of}
 use Rattle.cp_vat.specs.Supported.{is_supported}
 use Rattle.cp_vat.specs.Calling.{Reference, plain, on_wire, came_to, reference_of}
-use Rattle.cp_vat.specs.Trace.{Cause, own_part, goes, rests, Turn}
+use Rattle.cp_vat.specs.Trace.{Cause, own_part, Turn}
 use Rattle.cp_vat.specs.declared.event.Event.{Event}
 use Rattle.cp_vat.specs.declared.event.Event.TheVariants as events
 use Rattle.cp_vat.specs.declared.event.Value.{Value}

@@ -24,20 +24,18 @@ use Rattle.cp_refs.specs.declared.outcome.Outcome.{Outcome}
 use Rattle.cp_refs.specs.declared.outcome.Outcome.TheVariants as outcomes
 use Rattle.cp_refs.specs.declared.route.Route.{Route}
 use Rattle.cp_refs.specs.declared.route.Route.TheVariants as routes
-use Rattle.cp_vat.specs.State.{State}
 use Rattle.cp_vat.specs.Say.{IsExport, promised}
 use Rattle.cp_vat.specs.Take.{path_of, answer_of}
 use Rattle.cp_vat.specs.Give.{return_of}
 use Rattle.cp_vat.specs.Supported.{is_supported}
 use Rattle.cp_vat.specs.Answering.{bootstrap_outcome}
 use Rattle.cp_vat.specs.Doing.{is_settled}
-use Rattle.cp_vat.specs.Trace.{Cause, own_part, goes, rests, Turn}
+use Rattle.cp_vat.specs.Trace.{Cause, own_part, Turn}
 use Rattle.cp_vat.specs.Exits.{Exit, exits_in, subject_of}
 use Rattle.cp_vat.specs.declared.effect.Effect.{Effect}
 use Rattle.cp_vat.specs.declared.effect.Effect.TheVariants as effects
 use Rattle.cp_vat.specs.declared.entry.AnswerEntry.{AnswerEntry}
 use Rattle.cp_vat.specs.declared.entry.QuestionEntry.{QuestionEntry}
-use Rattle.cp_vat.specs.declared.event.Event.{Event}
 use Rattle.cp_vat.specs.declared.event.Event.TheVariants as events
 
 -- finished, and without its outcome

@@ -3,7 +3,7 @@ use Rattle.std.specs.Prelude.{ℕ, List, [], ◌∷◌, Result}
 use Rattle.cp_refs.specs.declared.call.Held.{Held}
 use Rattle.cp_vat.specs.State.{State, new_state, none_over, with_over}
 use Rattle.cp_vat.specs.Go.{Leave, stays, leaves, finds_no_room}
-use Rattle.cp_vat.specs.Step.{Follows, all_left, found_full, Step, was_closed, ran_out, refused, did, received, faulted}
+use Rattle.cp_vat.specs.Step.{Follows, all_left, found_full, Step, did, received}
 use Rattle.cp_vat.specs.Run.{Moment, Steps, Run}
 use Rattle.cp_vat.specs.declared.effect.Effect.{Effect}
 use Rattle.cp_vat.specs.declared.event.Event.{Event}
