@@ -12,3 +12,12 @@ pub mod Acting
 pub mod Playing
 pub mod Filling
 pub mod Wordy
+pub mod OneWaits
+pub mod Ordered
+pub mod Inverts
+pub mod NoRuns
+pub mod Pinned
+pub mod TwoLeave
+pub mod TwoOrdered
+pub mod Embargoed
+pub mod Unordered

@@ -24,3 +24,9 @@ pub mod ReferenceRows
 pub mod FaultRows
 pub mod RefusalRows
 pub mod Ledger
+pub mod Trace
+pub mod Ports
+pub mod Exits
+pub mod Telling
+pub mod InOrder
+pub mod OrderRows

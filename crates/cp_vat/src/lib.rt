@@ -10,6 +10,8 @@ mod entry;
 mod event;
 mod fault;
 pub mod fault_rows;
+pub mod never;
+pub mod order;
 pub mod promise_rows;
 pub mod reference_rows;
 pub mod refusal_rows;
