@@ -3,11 +3,19 @@
 #![tactic(auto)]
 
 mod acted;
+pub mod count_rows;
 mod effect;
+pub mod embargo_rows;
 mod entry;
 mod event;
 mod fault;
-mod rows;
+pub mod fault_rows;
+pub mod never;
+pub mod order;
+pub mod promise_rows;
+pub mod reference_rows;
+pub mod refusal_rows;
+pub mod rows;
 
 pub use acted::{Acted, Idle, Ids, Ran};
 pub use cp_refs::{Cap, Caps, Origin, Outcome, Path, PromiseId, Request};
@@ -15,7 +23,3 @@ pub use effect::{Effect, Effects, Reason};
 pub use entry::{AnswerEntry, ImportKind, Mentions, QuestionEntry, Tied, TiedPromises};
 pub use event::{Event, Value};
 pub use fault::{PeerFault, VatFault};
-pub use rows::{
-    bootstraps, broken_call, closed_vat, late_resolves, pipelined_leaves, pipelined_waits,
-    refusals, strangers, unsupported,
-};

@@ -11,6 +11,12 @@ pub fn bootstraps()
     ensures asked { Run None rows.bootstrap_asked }
 {}
 
+/// What a Bootstrap of the application's gives is told to it, and an exception stays what it is.
+pub fn bootstrap_returns()
+    ensures given { Run None rows.bootstrap_returned }
+    ensures failed { Run None rows.bootstrap_failed }
+{}
+
 /// A message about what isn't there is a fault, and closes the vat.
 pub fn strangers()
     ensures question { Run (Some 0) rows.strange_return }
@@ -18,6 +24,9 @@ pub fn strangers()
     ensures export_ { Run (Some 0) rows.strange_release }
     ensures embargo { Run (Some 0) rows.strange_echo }
     ensures level { Run (Some 0) rows.strange_unimplemented }
+    ensures late_question { Run (Some 0) rows.late_return }
+    ensures late_answer { Run (Some 0) rows.late_finish }
+    ensures late_export { Run (Some 0) rows.late_release }
 {}
 
 /// What a Resolve names whose import isn't held any more is given back, and one that the peer
@@ -44,7 +53,8 @@ pub fn pipelined_waits()
 
 /// A call that waits leaves when the answer is given, behind its Return.
 pub fn pipelined_leaves()
-    ensures { Run (Some 0) rows.pipelined }
+    ensures one { Run (Some 0) rows.pipelined }
+    ensures in_order { Run (Some 0) rows.pipelined_in_order }
 {}
 
 /// A call of the application about what isn't there is refused.
@@ -58,4 +68,9 @@ pub fn refusals()
 /// A closed vat refuses everything.
 pub fn closed_vat()
     ensures { Run None rows.aborted }
+{}
+
+/// Want of memory closes the vat.
+pub fn out_of_memory()
+    ensures { Run None rows.ran_out_of_memory }
 {}

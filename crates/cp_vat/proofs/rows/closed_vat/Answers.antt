@@ -1,5 +1,7 @@
-use Rattle.cp_vat.proofs.RowLemmas.{aborted_is}
+use Rattle.std.specs.Prelude.{refl, None}
+use Rattle.cp_vat.specs.Rows.{aborted}
+use Rattle.cp_vat.proofs.Playing.{is_run}
 use Rattle.cp_vat.proofs.rows.closed_vat.Goals as goal
 
 pub returns : goal.returns
-returns c = aborted_is
+returns c = is_run None aborted refl

@@ -1,8 +1,10 @@
-use Rattle.cp_vat.proofs.RowLemmas.{late_resolve_is, unknown_resolve_is}
+use Rattle.std.specs.Prelude.{refl, None}
+use Rattle.cp_vat.specs.Rows.{late_resolve, unknown_resolve}
+use Rattle.cp_vat.proofs.Playing.{is_run}
 use Rattle.cp_vat.proofs.rows.late_resolves.Goals as goal
 
 pub returns-clause-given_back : goal.returns-clause-given_back
-returns-clause-given_back c = late_resolve_is
+returns-clause-given_back c = is_run None late_resolve refl
 
 pub returns-clause-unknown : goal.returns-clause-unknown
-returns-clause-unknown c = unknown_resolve_is
+returns-clause-unknown c = is_run None unknown_resolve refl

@@ -1,5 +1,7 @@
-use Rattle.cp_vat.proofs.Pipelined.{waits_is}
+use Rattle.std.specs.Prelude.{refl, Some}
+use Rattle.cp_vat.specs.Rows.{pipelined_waits}
+use Rattle.cp_vat.proofs.Playing.{is_run}
 use Rattle.cp_vat.proofs.rows.pipelined_waits.Goals as goal
 
 pub returns : goal.returns
-returns c = waits_is
+returns c = is_run (Some 0) pipelined_waits refl
