@@ -1,2 +1,3 @@
 pub mod RowLemmas
 pub mod Pipelined
+pub mod NewWorlds

@@ -17,3 +17,9 @@ pub mod Step
 pub mod Run
 pub mod Rows
 pub mod Ledger
+pub mod World
+pub mod Accounts
+pub mod Owed
+pub mod Lane
+pub mod Laws
+pub mod Lives

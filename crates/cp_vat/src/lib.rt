@@ -8,6 +8,7 @@ mod entry;
 mod event;
 mod fault;
 mod rows;
+mod worlds;
 
 pub use acted::{Acted, Idle, Ids, Ran};
 pub use cp_refs::{Cap, Caps, Origin, Outcome, Path, PromiseId, Request};
@@ -19,3 +20,4 @@ pub use rows::{
     bootstraps, broken_call, closed_vat, late_resolves, pipelined_leaves, pipelined_waits,
     refusals, strangers, unsupported,
 };
+pub use worlds::new_worlds;
