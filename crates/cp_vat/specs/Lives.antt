@@ -1,5 +1,5 @@
 -- What holds of the messages between two vats, and of each number's question and answer. (rpc.capnp: "Return", "Finish", "Four Tables".)
-use Rattle.std.specs.Prelude.{◌≡◌, ℕ, if◌then◌else◌, Bool, true, false, List, [], ◌∷◌, flat_map, Option, Some, None, IsTrue}
+use Rattle.std.specs.Prelude.{◌≡◌, ℕ, if◌then◌else◌, Bool, true, false, List, [], ◌∷◌, ◌++◌, flat_map, Option, Some, None, IsTrue}
 use Rattle.std.specs.List.{list_all, AllByRecursion}
 use Rattle.cp_tables.specs.declared.exchange.Stage.{Stage}
 use Rattle.cp_tables.specs.declared.exchange.Stage.TheVariants as stages
@@ -13,7 +13,7 @@ use Rattle.cp_rpc.specs.declared.message.Message.{Message}
 use Rattle.cp_rpc.specs.declared.message.Message.TheVariants as messages
 use Rattle.cp_vat.specs.Supported.{is_supported}
 use Rattle.cp_vat.specs.Ledger.{named_by, opens, returns_to, finishes}
-use Rattle.cp_vat.specs.Accounts.{Account, Accounts, accounts_of, is_releasing}
+use Rattle.cp_vat.specs.Accounts.{Account, Accounts, accounts_of, is_releasing, Sent, Came}
 use Rattle.cp_vat.specs.Owed.{owed_between}
 use Rattle.cp_vat.specs.World.{World}
 
@@ -138,3 +138,10 @@ pub record Agree (one : Accounts) (to_one : List Message) (other : Accounts) (to
 
 abbrev pub AreAgreed : World → Type 0
 AreAgreed w = Agree (accounts_of w.first.vat) w.first.inbox (accounts_of w.second.vat) w.second.inbox
+
+-- They agree on, whatever usual message the one sends, and when it takes in the front of those to it.
+pub record Keeps : Type 0 where
+  pub sent : {one new other : Accounts} {to_one to_other : List Message} {m : Message} → Agree one to_one other to_other → IsUsual m → Sent one m new
+      → Agree new to_one other (to_other ++ m ∷ [])
+  pub came : {one new other : Accounts} {to_one to_other : List Message} {m : Message} → Agree one (m ∷ to_one) other to_other → Came one m new
+      → Agree new to_one other to_other
