@@ -5,3 +5,4 @@ pub mod Standings
 pub mod LivesKept
 pub mod OnWay
 pub mod Agreeing
+pub mod NewVats

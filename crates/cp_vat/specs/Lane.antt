@@ -24,18 +24,18 @@ use Rattle.cp_vat.specs.declared.fault.VatFault.{VatFault}
 -- A reference of a vat: an import, or a question with a path. Where nothing is finished or released, each number is one for good.
 pub data Reference : Type 0 where
   import_ : ℕ → Reference
-  path_of : ℕ → List ℕ → Reference
+  path_to : ℕ → List ℕ → Reference
 
 abbrev pub cap_of : Reference → Cap
 cap_of (import_ i) = caps.Import i
-cap_of (path_of q path) = caps.Pipelined q path
+cap_of (path_to q path) = caps.Pipelined q path
 
 abbrev pub is_same_path : List ℕ → List ℕ → Bool
 is_same_path path other = eq_by_cmp (slice_cmp nat_cmp) path other
 
 abbrev pub names : Reference → Cap → Bool
 names (import_ i) (caps.Import j) = j == i
-names (path_of q path) (caps.Pipelined p other) = (p == q) && is_same_path other path
+names (path_to q path) (caps.Pipelined p other) = (p == q) && is_same_path other path
 names ref other = false
 
 -- the reference came to this
@@ -81,29 +81,26 @@ answer_forwarded None = []
 answer_forwarded (Some entry) = option_to_list entry.kept.forwards
 
 -- The own call that a call of the peer's stands for: the peer sent it for the call which that own call's Call opened there.
-abbrev pub stands_for : World → Side → ℕ → List ℕ
-stands_for w side a =
-    flat_map
-    (λ question. own_ticket (get (end_of w side).vat.entries.questions question))
-    (answer_forwarded (get (end_of w (across side)).vat.entries.questions a))
+abbrev pub stands_for : State → State → ℕ → List ℕ
+stands_for here there a = flat_map (λ question. own_ticket (get here.entries.questions question)) (answer_forwarded (get there.entries.questions a))
 
 -- the own ticket that a delivered call bears, or stands for
-abbrev pub ticket_borne : World → Side → Origin → ℕ → List ℕ
-ticket_borne w side (origins.Own q) ticket = ticket ∷ []
-ticket_borne w side (origins.Answer a) ticket = stands_for w side a
+abbrev pub ticket_borne : State → State → Origin → ℕ → List ℕ
+ticket_borne here there (origins.Own q) ticket = ticket ∷ []
+ticket_borne here there (origins.Answer a) ticket = stands_for here there a
 
 -- a call that was delivered, by its own ticket, and the object that it went to
 pub record Delivery : Type 0 where
   pub ticket : ℕ
   pub object : ℕ
 
-abbrev pub delivery_of : World → Side → Effect → List Delivery
-delivery_of w side (effects.Deliver object origin ticket call) =
-    map (λ own. record { ticket = own; object = object }) (ticket_borne w side origin ticket)
-delivery_of w side other = []
+abbrev pub delivery_of : State → State → Effect → List Delivery
+delivery_of here there (effects.Deliver object origin ticket call) =
+    map (λ own. record { ticket = own; object = object }) (ticket_borne here there origin ticket)
+delivery_of here there other = []
 
 abbrev pub deliveries_of : World → Side → Move → List Delivery
-deliveries_of w side move = if is_side move.side side then flat_map (delivery_of w side) move.moment.effects else []
+deliveries_of w side move = if is_side move.side side then flat_map (delivery_of (end_of w side).vat (end_of w (across side)).vat) move.moment.effects else []
 
 abbrev pub deliveries : World → Side → List Move → List Delivery
 deliveries w side [] = []

@@ -23,3 +23,7 @@ pub mod Owed
 pub mod Lane
 pub mod Laws
 pub mod Lives
+pub mod Ports
+pub mod Local
+pub mod Naming
+pub mod Phases
