@@ -6,3 +6,9 @@ pub mod LivesKept
 pub mod OnWay
 pub mod Agreeing
 pub mod NewVats
+pub mod Countings
+pub mod Rules
+pub mod Posted
+pub mod Saying
+pub mod Telling
+pub mod Outgoing

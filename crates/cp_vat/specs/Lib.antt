@@ -27,3 +27,4 @@ pub mod Ports
 pub mod Local
 pub mod Naming
 pub mod Phases
+pub mod Posting

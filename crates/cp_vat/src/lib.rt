@@ -20,4 +20,6 @@ pub use rows::{
     bootstraps, broken_call, closed_vat, late_resolves, pipelined_leaves, pipelined_waits,
     refusals, strangers, unsupported,
 };
-pub use worlds::{agreement_is_kept, new_vats_hold, new_worlds_agree};
+pub use worlds::{
+    agreement_follows, agreement_is_kept, new_vats_hold, new_worlds_agree, rules_post,
+};

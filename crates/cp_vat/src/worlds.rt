@@ -6,6 +6,7 @@ ghost use Rattle.cp_vat.specs.State.{new_state};
 ghost use Rattle.cp_vat.specs.World.{new_end, new_world};
 ghost use Rattle.cp_vat.specs.Lane.{Reference};
 ghost use Rattle.cp_vat.specs.Lives.{AreAgreed, Keeps};
+ghost use Rattle.cp_vat.specs.Posting.{KeepsBy, RulesPost};
 ghost use Rattle.cp_vat.specs.Local.{Local};
 ghost use Rattle.cp_vat.specs.Ports.{WaitRightly};
 ghost use Rattle.cp_vat.specs.Naming.{NamesHold, ValuesHold};
@@ -19,6 +20,16 @@ pub fn new_worlds_agree()
 /// They go on agreeing with each message that one of them sends or takes in.
 pub fn agreement_is_kept()
     ensures { Keeps }
+{}
+
+/// So they do behind all that one of them sends at once.
+pub fn agreement_follows()
+    ensures { KeepsBy }
+{}
+
+/// What these rules of a vat send, and what comes to them, is as its accounts see it.
+pub fn rules_post()
+    ensures { RulesPost }
 {}
 
 /// What holds of each vat and of the way between two holds of new ones.
