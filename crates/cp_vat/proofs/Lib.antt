@@ -12,3 +12,5 @@ pub mod Posted
 pub mod Saying
 pub mod Telling
 pub mod Outgoing
+pub mod FinishFirst
+pub mod Turning

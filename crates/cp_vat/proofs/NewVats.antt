@@ -26,7 +26,7 @@ use Rattle.cp_vat.specs.declared.entry.ImportKind.{ImportKind}
 use Rattle.cp_vat.specs.declared.entry.QuestionEntry.{QuestionEntry}
 use Rattle.cp_vat.proofs.LivesKept.{none_out}
 
-no_entries : {K X : Type 0} (R : K → K → Ordering) → entries (empty {X = X} {R = R}) ≡ []
+pub no_entries : {K X : Type 0} (R : K → K → Ordering) → entries (empty {X = X} {R = R}) ≡ []
 no_entries {X = X} R = nil_from_length (entries empty) (sym (len-entries empty) ∙ len-empty R X)
 
 no_caps : (one : Option ℕ) → all_caps (new_state one) ≡ []

@@ -28,3 +28,5 @@ pub mod Local
 pub mod Naming
 pub mod Phases
 pub mod Posting
+pub mod WorldRows
+pub mod Turns

@@ -21,5 +21,6 @@ pub use rows::{
     refusals, strangers, unsupported,
 };
 pub use worlds::{
-    agreement_follows, agreement_is_kept, new_vats_hold, new_worlds_agree, rules_post,
+    agreement_follows, agreement_is_kept, finish_before_return, new_vats_hold, new_worlds_agree,
+    rules_post, turns_keep,
 };

@@ -7,6 +7,8 @@ ghost use Rattle.cp_vat.specs.World.{new_end, new_world};
 ghost use Rattle.cp_vat.specs.Lane.{Reference};
 ghost use Rattle.cp_vat.specs.Lives.{AreAgreed, Keeps};
 ghost use Rattle.cp_vat.specs.Posting.{KeepsBy, RulesPost};
+ghost use Rattle.cp_vat.specs.WorldRows.{EndsWithoutExport};
+ghost use Rattle.cp_vat.specs.Turns.{TurnKeeps};
 ghost use Rattle.cp_vat.specs.Local.{Local};
 ghost use Rattle.cp_vat.specs.Ports.{WaitRightly};
 ghost use Rattle.cp_vat.specs.Naming.{NamesHold, ValuesHold};
@@ -40,4 +42,15 @@ pub fn new_vats_hold()
     ensures values { (one other : Option ℕ) → ValuesHold (new_end one) (new_end other) }
     ensures lanes { (one other : Option ℕ) (ref : Reference) → LaneHolds (new_end one) (new_end other) ref [] [] }
     ensures quiet { (one : Option ℕ) → IsQuiet (new_end one) }
+{}
+
+/// A question is finished before its Return comes: the Finish lowers what the Return names, and nothing
+/// is given back twice.
+pub fn finish_before_return()
+    ensures { EndsWithoutExport }
+{}
+
+/// One turn of waiting calls leaves the others waiting for what their ports lead to.
+pub fn turns_keep()
+    ensures { TurnKeeps }
 {}
