@@ -14,3 +14,4 @@ pub mod Telling
 pub mod Outgoing
 pub mod FinishFirst
 pub mod Turning
+pub mod Bootstrapped

@@ -15,7 +15,7 @@ use Rattle.cp_vat.specs.State.{State}
 use Rattle.cp_vat.specs.Then.{Done}
 use Rattle.cp_vat.specs.Go.{Underway, GoOut}
 use Rattle.cp_vat.specs.Supported.{is_supported_target}
-use Rattle.cp_vat.specs.Answering.{OnFinish}
+use Rattle.cp_vat.specs.Answering.{OnBootstrap, OnFinish}
 use Rattle.cp_vat.specs.Asking.{OnReturn}
 use Rattle.cp_vat.specs.Resolving.{OnRelease}
 use Rattle.cp_vat.specs.Calling.{OwnDone}
@@ -71,6 +71,8 @@ pub record RulesPost : Type 0 where
       → GoOut old call target (origins.Answer a) (Ok done) → Sends old done.0 done.1
   -- a Finish is sent, in both forms
   pub finish : (old : State) (q : ℕ) (done : OwnDone) → DoFinish old q (Ok done) → Sends old done.1 done.2
+  -- a Bootstrap comes, and its Return goes out
+  pub bootstrapped : (old : State) (a : ℕ) (done : Done) → OnBootstrap old a (Ok done) → Hears old (messages.Bootstrap (record { question_id = a })) done.0 done.1
   -- the Return of an own question comes
   pub returned : (old : State) (r : Return) (done : Done) → IsUsual (messages.Return r)
       → ((entry : Exchange QuestionEntry) → get old.entries.questions r.answer_id ≡ Some entry → entry.kept.forwards ≡ None) → OnReturn old r (Ok done)
