@@ -41,7 +41,7 @@ module _ {X : Type 0} where
   put_count table e f count kept true t = rw (← is_equal e f t) (count_of-insert_same table e _)
   put_count table e f count kept false t = count_of-insert_other table e f _ (λ is. not_equal e f t (sym is))
 
-  gone_count : (table : Table (Counted X)) (e f : ℕ) (b : Bool) → (e == f) ≡ b → count_of (remove table e) f ≡ (if b then 0 else count_of table f)
+  pub gone_count : (table : Table (Counted X)) (e f : ℕ) (b : Bool) → (e == f) ≡ b → count_of (remove table e) f ≡ (if b then 0 else count_of table f)
   gone_count table e f true t = rw (← is_equal e f t) (count_of-remove_same table e)
   gone_count table e f false t = count_of-remove_other table e f (λ is. not_equal e f t (sym is))
 

@@ -15,3 +15,4 @@ pub mod Outgoing
 pub mod FinishFirst
 pub mod Turning
 pub mod Bootstrapped
+pub mod Releasing

@@ -45,6 +45,7 @@ use Rattle.cp_vat.proofs.Countings.{ok_out, ok_in}
 use Rattle.cp_vat.proofs.Rules.{then_out, put_at, gone_at}
 use Rattle.cp_vat.proofs.Posted.{free_out, bootstraps, finishes_sent, finish_heard, release_heard}
 use Rattle.cp_vat.proofs.Bootstrapped.{bootstrap_heard}
+use Rattle.cp_vat.proofs.Releasing.{releases_sent}
 use Rattle.cp_vat.proofs.Saying.{both_true, said_all, taken_all}
 
 -- the Call of an own question that wasn't sent yet
@@ -327,6 +328,7 @@ rules_post =
       own_call = own_call_sent;
       peer_call = peer_call_sent;
       finish = finishes_sent;
+      release = releases_sent;
       bootstrapped = bootstrap_heard;
       returned = return_heard;
       finished = finish_heard;

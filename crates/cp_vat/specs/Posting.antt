@@ -19,7 +19,7 @@ use Rattle.cp_vat.specs.Answering.{OnBootstrap, OnFinish}
 use Rattle.cp_vat.specs.Asking.{OnReturn}
 use Rattle.cp_vat.specs.Resolving.{OnRelease}
 use Rattle.cp_vat.specs.Calling.{OwnDone}
-use Rattle.cp_vat.specs.Doing.{DoBootstrap, DoFinish}
+use Rattle.cp_vat.specs.Doing.{DoBootstrap, DoFinish, DoRelease}
 use Rattle.cp_vat.specs.Accounts.{Accounts, accounts_of, Sent, Came}
 use Rattle.cp_vat.specs.World.{messages_sent}
 use Rattle.cp_vat.specs.Lives.{IsUsual, AreUsual, Agree}
@@ -71,6 +71,8 @@ pub record RulesPost : Type 0 where
       → GoOut old call target (origins.Answer a) (Ok done) → Sends old done.0 done.1
   -- a Finish is sent, in both forms
   pub finish : (old : State) (q : ℕ) (done : OwnDone) → DoFinish old q (Ok done) → Sends old done.1 done.2
+  -- a Release is sent
+  pub release : (old : State) (i : ℕ) (done : OwnDone) → DoRelease old i (Ok done) → Sends old done.1 done.2
   -- a Bootstrap comes, and its Return goes out
   pub bootstrapped : (old : State) (a : ℕ) (done : Done) → OnBootstrap old a (Ok done) → Hears old (messages.Bootstrap (record { question_id = a })) done.0 done.1
   -- the Return of an own question comes
