@@ -1,3 +1,4 @@
+pub mod RowLemmas
 pub mod Known
 pub mod Found
 pub mod Finding
@@ -21,3 +22,19 @@ pub mod TwoLeave
 pub mod TwoOrdered
 pub mod Embargoed
 pub mod Unordered
+pub mod NewWorlds
+pub mod Standings
+pub mod LivesKept
+pub mod OnWay
+pub mod Agreeing
+pub mod NewVats
+pub mod Countings
+pub mod Rules
+pub mod Posted
+pub mod Saying
+pub mod Telling
+pub mod Outgoing
+pub mod FinishFirst
+pub mod Turning
+pub mod Bootstrapped
+pub mod Releasing

@@ -30,3 +30,16 @@ pub mod Exits
 pub mod Telling
 pub mod InOrder
 pub mod OrderRows
+pub mod World
+pub mod Accounts
+pub mod Owed
+pub mod Lane
+pub mod Laws
+pub mod Lives
+pub mod Waits
+pub mod Local
+pub mod Naming
+pub mod Phases
+pub mod Posting
+pub mod WorldRows
+pub mod Turns

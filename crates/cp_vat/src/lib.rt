@@ -16,6 +16,7 @@ pub mod promise_rows;
 pub mod reference_rows;
 pub mod refusal_rows;
 pub mod rows;
+pub mod worlds;
 
 pub use acted::{Acted, Idle, Ids, Ran};
 pub use cp_refs::{Cap, Caps, Origin, Outcome, Path, PromiseId, Request};
