@@ -26,7 +26,7 @@ use Rattle.cp_vat.specs.declared.effect.Effect.TheVariants as effects
 use Rattle.cp_vat.specs.declared.entry.QuestionEntry.{QuestionEntry}
 use Rattle.cp_vat.specs.declared.event.Event.TheVariants as events
 use Rattle.cp_vat.specs.declared.event.Value.TheVariants as values
-use Rattle.cp_vat.proofs.RowLemmas.{given_0, bootstrap_step}
+use Rattle.cp_vat.proofs.Bootstrapping.{given_0, bootstrap_step}
 use Rattle.cp_vat.proofs.NewVats.{no_entries}
 
 none_waits : (s : State) → s.waiting.calls ≡ empty → NoneOver s

@@ -1,4 +1,4 @@
-pub mod RowLemmas
+pub mod Bootstrapping
 pub mod Known
 pub mod Found
 pub mod Finding
