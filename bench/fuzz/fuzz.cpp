@@ -3,6 +3,7 @@
 // An input is one byte that says of what form the rest is, and the rest: plain frames, packed ones, or words. Besides cutting and joining, as
 // libFuzzer does, inputs are changed by words: a pointer's offset, size or kind, a table's number, a bit. Packed inputs
 // are unpacked for that and packed again, so that the change arrives at the reader.
+#include <chrono>
 #include <cstddef>
 #include <cstdint>
 #include <cstdio>
@@ -46,6 +47,13 @@ void note(int form, uint64_t accepted, uint64_t answer) {
 void fail(const char* what) {
   std::fprintf(stderr, "fuzz: %s\n", what);
   std::abort();
+}
+
+// A message that refers to its parts many times over takes as long as the limits allow, and longer to build and write. Of
+// those that took long to look at, few are built.
+bool is_long(std::chrono::steady_clock::time_point before) {
+  static unsigned turn = 0;
+  return std::chrono::steady_clock::now() - before > std::chrono::microseconds(100) && ++turn % 64 != 0;
 }
 
 // Where each root is a message's, an owned tree of each is given as often.
@@ -111,13 +119,19 @@ extern "C" int LLVMFuzzerTestOneInput(const uint8_t* data, size_t size) {
   int form = data[0] % Forms;
   if (form == Plain) {
     cpb_read_frames(bytes, length, 0);
-    uint64_t trees = compare(cpb_read_frames(bytes, length, 1), cpb_read_frames(bytes, length, 2));
+    auto before = std::chrono::steady_clock::now();
+    uint64_t views = cpb_read_frames(bytes, length, 1);
+    if (is_long(before)) return note(form, views, 0), 0;
+    uint64_t trees = compare(views, cpb_read_frames(bytes, length, 2));
     uint64_t words = write(bytes, length) / 8;
     note(form, trees, words < 256 ? words : 0);
   } else if (form == Packed) {
-    cpb_packed_frames(bytes, length, 0);
-    uint64_t trees = compare(cpb_packed_frames(bytes, length, 1), cpb_packed_frames(bytes, length, 2));
     unpack(bytes, length);
+    cpb_packed_frames(bytes, length, 0);
+    auto before = std::chrono::steady_clock::now();
+    uint64_t views = cpb_packed_frames(bytes, length, 1);
+    if (is_long(before)) return note(form, views, 0), 0;
+    uint64_t trees = compare(views, cpb_packed_frames(bytes, length, 2));
     note(form, trees, trees);
   } else {
     note(form, pack(bytes, length), 0);

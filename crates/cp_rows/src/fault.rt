@@ -1,9 +1,7 @@
 //! How a frame can fail its trial.
 
 use cp_frame::FrameFault;
-use cp_rpc::SchemaFault;
 use cp_stream::StreamFault;
-use cp_tree::{TreeFault, WriteFault};
 use std::alloc::{AllocError, AllocFailed};
 use thiserror::Error;
 
@@ -43,26 +41,8 @@ impl From<FrameFault> for Fault {
     }
 }
 
-impl From<TreeFault> for Fault {
-    fn from(_: TreeFault) -> Fault {
-        Fault::Refused
-    }
-}
-
-impl From<SchemaFault> for Fault {
-    fn from(_: SchemaFault) -> Fault {
-        Fault::Refused
-    }
-}
-
 impl From<StreamFault> for Fault {
     fn from(_: StreamFault) -> Fault {
-        Fault::Refused
-    }
-}
-
-impl From<WriteFault> for Fault {
-    fn from(_: WriteFault) -> Fault {
         Fault::Refused
     }
 }

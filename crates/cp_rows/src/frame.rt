@@ -3,9 +3,8 @@
 use crate::fault::Fault;
 use cp_frame::{FrameFault, FrameReader, Mode, write_frame};
 use cp_lines::push_line;
-use cp_rpc::{Message, tree_of};
-use cp_stream::{Limits, MessageReader, view_of};
-use cp_tree::write_segments;
+use cp_rpc::Message;
+use cp_stream::{Limits, MessageReader, Tap, view_of, write_message_in};
 use std::alloc::Global;
 
 /// A new reader of frames.
@@ -76,7 +75,7 @@ pub fn frame_of(
     max_words: u32,
     mode: Mode,
 ) -> Result<Vec<u8>, Fault> {
-    let limits = Limits::standard();
-    let segments = write_segments(alloc, &tree_of(alloc, message)?, max_words, limits)?;
-    Ok(write_frame(alloc, &segments, mode, limits)?)
+    let mut to = Tap::new(Vec::new(alloc));
+    write_message_in(alloc, &mut to, message, mode, max_words, Limits::standard())?;
+    Ok(to.into_inner())
 }
