@@ -38,3 +38,5 @@ pub mod Turning
 pub mod Bootstrapped
 pub mod Releasing
 pub mod KnownWorlds
+pub mod Delivering
+pub mod Lanes
