@@ -1,4 +1,3 @@
-pub mod Bootstrapping
 pub mod Known
 pub mod Found
 pub mod Finding
@@ -38,3 +37,6 @@ pub mod FinishFirst
 pub mod Turning
 pub mod Bootstrapped
 pub mod Releasing
+pub mod KnownWorlds
+pub mod Delivering
+pub mod Lanes

@@ -43,3 +43,4 @@ pub mod Phases
 pub mod Posting
 pub mod WorldRows
 pub mod Turns
+pub mod LaneRows

@@ -8,6 +8,7 @@ ghost use Rattle.cp_vat.specs.Lane.{Reference};
 ghost use Rattle.cp_vat.specs.Lives.{AreAgreed, Keeps};
 ghost use Rattle.cp_vat.specs.Posting.{KeepsBy, RulesPost};
 ghost use Rattle.cp_vat.specs.WorldRows.{EndsWithoutExport};
+ghost use Rattle.cp_vat.specs.LaneRows.{LaneOfThreeCalls, LaneWithoutEmbargo, LaneAgain};
 ghost use Rattle.cp_vat.specs.Turns.{TurnKeeps};
 ghost use Rattle.cp_vat.specs.Local.{Local};
 ghost use Rattle.cp_vat.specs.Waits.{WaitRightly};
@@ -48,6 +49,15 @@ pub fn new_vats_hold()
 /// is given back twice.
 pub fn finish_before_return()
     ensures { EndsWithoutExport }
+{}
+
+/// Three calls on what another call will give are delivered in order, where that gives an object of
+/// their own vat: two come back through the peer, and the third waits at an embargo or comes behind
+/// them. So they are again when the same numbers stand for another object.
+pub fn lane_of_three_calls()
+    ensures in_order { LaneOfThreeCalls }
+    ensures without_embargo { LaneWithoutEmbargo }
+    ensures again { LaneAgain }
 {}
 
 /// One turn of waiting calls leaves the others waiting for what their ports lead to.
