@@ -38,3 +38,6 @@ pub mod FinishFirst
 pub mod Turning
 pub mod Bootstrapped
 pub mod Releasing
+pub mod Moving
+pub mod Settling
+pub mod Failing

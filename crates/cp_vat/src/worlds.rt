@@ -8,7 +8,7 @@ ghost use Rattle.cp_vat.specs.Lane.{Reference};
 ghost use Rattle.cp_vat.specs.Lives.{AreAgreed, Keeps};
 ghost use Rattle.cp_vat.specs.Posting.{KeepsBy, RulesPost};
 ghost use Rattle.cp_vat.specs.WorldRows.{EndsWithoutExport};
-ghost use Rattle.cp_vat.specs.Turns.{TurnKeeps};
+ghost use Rattle.cp_vat.specs.Turns.{SettlingKeeps, TurnKeeps};
 ghost use Rattle.cp_vat.specs.Local.{Local};
 ghost use Rattle.cp_vat.specs.Waits.{WaitRightly};
 ghost use Rattle.cp_vat.specs.Naming.{NamesHold, ValuesHold};
@@ -50,7 +50,9 @@ pub fn finish_before_return()
     ensures { EndsWithoutExport }
 {}
 
-/// One turn of waiting calls leaves the others waiting for what their ports lead to.
+/// A promise that is settled, and each turn of waiting calls, leave the others waiting for what their
+/// ports lead to, also where the call fails and its exception goes on to the promises tied to its answer.
 pub fn turns_keep()
-    ensures { TurnKeeps }
+    ensures settling { SettlingKeeps }
+    ensures turns { TurnKeeps }
 {}

@@ -1,5 +1,9 @@
+use Rattle.cp_vat.proofs.Settling.{settling_keeps}
 use Rattle.cp_vat.proofs.Turning.{turn_keeps}
 use Rattle.cp_vat.proofs.worlds.turns_keep.Goals as goal
 
-pub returns : goal.returns
-returns c = turn_keeps
+pub returns-clause-settling : goal.returns-clause-settling
+returns-clause-settling c = settling_keeps
+
+pub returns-clause-turns : goal.returns-clause-turns
+returns-clause-turns c = turn_keeps
