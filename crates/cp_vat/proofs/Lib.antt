@@ -41,3 +41,4 @@ pub mod Releasing
 pub mod Moving
 pub mod Settling
 pub mod Failing
+pub mod Leaving

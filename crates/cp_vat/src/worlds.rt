@@ -8,7 +8,7 @@ ghost use Rattle.cp_vat.specs.Lane.{Reference};
 ghost use Rattle.cp_vat.specs.Lives.{AreAgreed, Keeps};
 ghost use Rattle.cp_vat.specs.Posting.{KeepsBy, RulesPost};
 ghost use Rattle.cp_vat.specs.WorldRows.{EndsWithoutExport};
-ghost use Rattle.cp_vat.specs.Turns.{SettlingKeeps, TurnKeeps};
+ghost use Rattle.cp_vat.specs.Turns.{LeaveKeeps, SettlingKeeps, TurnKeeps};
 ghost use Rattle.cp_vat.specs.Local.{Local};
 ghost use Rattle.cp_vat.specs.Waits.{WaitRightly};
 ghost use Rattle.cp_vat.specs.Naming.{NamesHold, ValuesHold};
@@ -55,4 +55,10 @@ pub fn finish_before_return()
 pub fn turns_keep()
     ensures settling { SettlingKeeps }
     ensures turns { TurnKeeps }
+{}
+
+/// So do waiting calls that leave: where they rest no gate is over, and each call that is left waits for
+/// what its port leads to.
+pub fn leave_keeps()
+    ensures { LeaveKeeps }
 {}
