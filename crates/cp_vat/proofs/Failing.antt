@@ -1,5 +1,5 @@
 -- Calls wait on rightly behind an exception that is given to whom a call's outcome is for.
-use Rattle.std.specs.Prelude.{◌≡◌, refl, ℕ, ◌==◌, if◌then◌else◌, Bool, true, false, List, Option, Some, None, IfSome, Ok}
+use Rattle.std.specs.Prelude.{◌≡◌, refl, ℕ, ◌==◌, Bool, true, false, List, Option, Some, None, IfSome, Ok}
 use Rattle.std.specs.Option.{option_map}
 use Rattle.std.specs.FinMap.{get, insert, remove}
 use Rattle.std.proofs.Common.{ap, subst, sym, ◌∙◌}
@@ -39,21 +39,8 @@ use Rattle.cp_vat.proofs.LivesKept.{some_out, none_out}
 use Rattle.cp_vat.proofs.OnWay.{is_equal, other_number}
 use Rattle.cp_vat.proofs.Countings.{ok_in}
 use Rattle.cp_vat.proofs.Rules.{then_out, put_at, gone_at}
-use Rattle.cp_vat.proofs.Moving.{Moves, moved_rightly, WayMoves, all_move, NoOpenOver}
-use Rattle.cp_vat.proofs.Settling.{same_back, Any, MovesOn, both_on, tied_keeps}
-
--- the routes that this holds of move to a failure
-abbrev fail_where : (Route → Bool) → Exception → Route → Route
-fail_where test x r = if test r then routes.Fail x else r
-
-abbrev EndsOff : (Route → Bool) → Way → Type 0
-EndsOff test (ends x) = test x ≡ false
-EndsOff test other = Unit {0}
-
-way_off : (new : ValueMaps) (test : Route → Bool) (x : Exception) (w : Way) → EndsOff test w → WayMoves new Any Any (fail_where test x) w w
-way_off new test x (ends r) h = λ any. (0, rw (h) refl)
-way_off new test x (leads c) h = (refl, tt)
-way_off new test x missing h = tt
+use Rattle.cp_vat.proofs.Moving.{Moves, moved_rightly, Any, WayMoves, all_move, each_way, move_where, way_off, off_promise, off_question, NoOpenOver}
+use Rattle.cp_vat.proofs.Settling.{same_back, MovesOn, both_on, tied_keeps}
 
 -- an answer gets its exception
 abbrev at_answer : ℕ → Route → Bool
@@ -63,44 +50,25 @@ at_answer a other = false
 abbrev answer_ended : State → ℕ → Exception → Table (Option Outcome) → Entries → State
 answer_ended s a x answers entries = record (answer_over s a (outcomes.Failed x)) { values = record s.values { answers = answers }; entries = entries }
 
-off_promise : (a p : ℕ) (o : Option (Option Cap)) → EndsOff (at_answer a) (promise_way p o)
-off_promise a p None = tt
-off_promise a p (Some None) = refl
-off_promise a p (Some (Some v)) = tt
-
-off_open : (a q : ℕ) (path : List ℕ) (kind : QuestionKind) → at_answer a (open_way kind q path) ≡ false
-off_open a q path kinds.Wire = refl
-off_open a q path kinds.Local = refl
-
-off_outcome : (a q : ℕ) (path : List ℕ) (kind : QuestionKind) (o : Option Outcome) → EndsOff (at_answer a) (outcome_way kind q path o)
-off_outcome a q path kind None = off_open a q path kind
-off_outcome a q path kind (Some outcome) = tt
-
-off_question : (a q : ℕ) (path : List ℕ) (o : Option Question) → EndsOff (at_answer a) (question_way q path o)
-off_question a q path None = tt
-off_question a q path (Some question) = off_outcome a q path question.kind question.outcome
-
 module _ (s : State) (a : ℕ) (x : Exception) (answers : Table (Option Outcome)) (entries : Entries) (ungiven : get s.waiting.over.answers a ≡ None) where
   abbrev answered : ValueMaps
   answered = record s.values { answers = answers }
 
-  answer_way : (c : Cap) → Any c → WayMoves answered Any Any (fail_where (at_answer a) x) (way s.values c) (way answered c)
-  answer_way caps.None any = way_off answered (at_answer a) x (way s.values caps.None) refl
-  answer_way (caps.Object k) any = way_off answered (at_answer a) x (way s.values (caps.Object k)) refl
-  answer_way (caps.Promise p) any = way_off answered (at_answer a) x (way s.values (caps.Promise p)) (off_promise a p (get s.values.promises p))
-  answer_way (caps.Import i) any = way_off answered (at_answer a) x (way s.values (caps.Import i)) refl
-  answer_way (caps.Pipelined q path) any = way_off answered (at_answer a) x (way s.values (caps.Pipelined q path)) (off_question a q path (get s.values.questions q))
-  answer_way (caps.Broken y) any = way_off answered (at_answer a) x (way s.values (caps.Broken y)) refl
+  answer_way : (c : Cap) → Any c → WayMoves answered Any Any (move_where (at_answer a) (routes.Fail x)) (way s.values c) (way answered c)
+  answer_way =
+      each_way s.values answered Any Any (move_where (at_answer a) (routes.Fail x)) (λ y. refl) (λ k. refl) (λ i. refl)
+      (λ p. way_off answered (at_answer a) (routes.Fail x) _ (off_promise (at_answer a) p (get s.values.promises p) refl))
+      (λ q path any. way_off answered (at_answer a) (routes.Fail x) _ (off_question (at_answer a) q path refl refl (get s.values.questions q)))
 
   answer_waited : (b : ℕ) (path : List ℕ) (c : Bool) → (a == b) ≡ c → option_map (λ outcome. cap_at outcome path) (get s.waiting.over.answers b) ≡ None
       → LeadsBy (answer_ended s a x answers entries) (gates.Answer b path)
       (option_map (λ outcome. cap_at outcome path) (get (insert s.waiting.over.answers a (outcomes.Failed x)) b))
-      (fail_where (at_answer a) x (routes.Wait (gates.Answer b path)))
+      (move_where (at_answer a) (routes.Fail x) (routes.Wait (gates.Answer b path)))
   answer_waited b path true t e = rw (put_at s.waiting.over.answers a b (outcomes.Failed x) true t, same_back a b t) (1, refl)
   answer_waited b path false t e = rw (put_at s.waiting.over.answers a b (outcomes.Failed x) false t, e, other_number a b t) refl
 
   gate_waited : (g : Gate) → gave s.waiting.over g ≡ None
-      → LeadsBy (answer_ended s a x answers entries) g (gave (answer_ended s a x answers entries).waiting.over g) (fail_where (at_answer a) x (routes.Wait g))
+      → LeadsBy (answer_ended s a x answers entries) g (gave (answer_ended s a x answers entries).waiting.over g) (move_where (at_answer a) (routes.Fail x) (routes.Wait g))
   gate_waited (gates.Answer b path) e = answer_waited b path (a == b) refl e
   gate_waited (gates.Promise q) e = rw (e) refl
   gate_waited (gates.Question q path) e = rw (e) refl
@@ -120,10 +88,10 @@ module _ (s : State) (a : ℕ) (x : Exception) (answers : Table (Option Outcome)
   gate_stays (gates.Question q path) c e = e
   gate_stays (gates.Embargo n) c e = e
 
-  answer_moves : Moves s (answer_ended s a x answers entries) (fail_where (at_answer a) x)
+  answer_moves : Moves s (answer_ended s a x answers entries) (move_where (at_answer a) (routes.Fail x))
   answer_moves =
       record {
-        moved = λ c r h. all_move s.values answered Any Any (fail_where (at_answer a) x) answer_way c r tt tt h;
+        moved = λ c r h. all_move s.values answered Any Any (move_where (at_answer a) (routes.Fail x)) answer_way c r tt tt h;
         waited = gate_waited;
         ended = gate_stays;
         embargoes = refl;
@@ -140,7 +108,7 @@ module _ (s : State) (a : ℕ) (x : Exception) (answers : Table (Option Outcome)
 answer_on : (s : State) (a : ℕ) (x : Exception) (answers : Table (Option Outcome)) (entries : Entries) → get s.waiting.over.answers a ≡ None → NoOpenOver s
     → MovesOn s (answer_ended s a x answers entries)
 answer_on s a x answers entries ungiven over =
-    (fail_where (at_answer a) x, answer_moves s a x answers entries ungiven, answer_none_over s a x answers entries ungiven over)
+    (move_where (at_answer a) (routes.Fail x), answer_moves s a x answers entries ungiven, answer_none_over s a x answers entries ungiven over)
 
 answer_open : (s from : State) (a : ℕ) (x : Exception) (kept : AnswerEntry) (returned : Returned) (rest : Done) → from ≡ s
     → SettleTied (given from a kept (outcomes.Failed x) returned) (outcomes.Failed x) kept.tied (Ok rest)
@@ -181,25 +149,8 @@ at_question q other = false
 abbrev question_ended : State → ℕ → Exception → Table Question → Entries → State
 question_ended s q x questions entries = record (question_over s q (outcomes.Failed x)) { values = record s.values { questions = questions }; entries = entries }
 
-away_promise : (q p : ℕ) (o : Option (Option Cap)) → EndsOff (at_question q) (promise_way p o)
-away_promise q p None = tt
-away_promise q p (Some None) = refl
-away_promise q p (Some (Some v)) = tt
-
-away_open : (q r : ℕ) (path : List ℕ) (kind : QuestionKind) → (r == q) ≡ false → at_question q (open_way kind r path) ≡ false
-away_open q r path kinds.Wire t = t
-away_open q r path kinds.Local t = t
-
-away_outcome : (q r : ℕ) (path : List ℕ) (kind : QuestionKind) (o : Option Outcome) → (r == q) ≡ false → EndsOff (at_question q) (outcome_way kind r path o)
-away_outcome q r path kind None t = away_open q r path kind t
-away_outcome q r path kind (Some outcome) t = tt
-
-away_question : (q r : ℕ) (path : List ℕ) (o : Option Question) → (r == q) ≡ false → EndsOff (at_question q) (question_way r path o)
-away_question q r path None t = tt
-away_question q r path (Some question) t = away_outcome q r path question.kind question.outcome t
-
 open_fails : (new : ValueMaps) (q r : ℕ) (path : List ℕ) (kind : QuestionKind) (x : Exception) → (r == q) ≡ true
-    → Routes new (caps.Broken x) (fail_where (at_question q) x (open_way kind r path))
+    → Routes new (caps.Broken x) (move_where (at_question q) (routes.Fail x) (open_way kind r path))
 open_fails new q r path kinds.Wire x t = rw (t) (1, refl)
 open_fails new q r path kinds.Local x t = rw (t) (1, refl)
 
@@ -208,7 +159,7 @@ abbrev failed_question : Question → Exception → Question
 failed_question question x = record question { outcome = Some (outcomes.Failed x) }
 
 fails_by : (new : ValueMaps) (q r : ℕ) (path : List ℕ) (kind : QuestionKind) (o : Option Outcome) (x : Exception) → (r == q) ≡ true → o ≡ None
-    → WayMoves new Any Any (fail_where (at_question q) x) (outcome_way kind r path o) (leads (caps.Broken x))
+    → WayMoves new Any Any (move_where (at_question q) (routes.Fail x)) (outcome_way kind r path o) (leads (caps.Broken x))
 fails_by new q r path kind None x t e = λ any. open_fails new q r path kind x t
 fails_by new q r path kind (Some outcome) x t e = none_out (sym e)
 
@@ -224,7 +175,7 @@ module _ (s : State) (q : ℕ) (x : Exception) (question : Question) (entries : 
   ended = question_ended s q x new_questions entries
 
   path_way : (r : ℕ) (path : List ℕ) (b : Bool) → (q == r) ≡ b
-      → WayMoves later Any Any (fail_where (at_question q) x) (question_way r path (get s.values.questions r)) (question_way r path (get new_questions r))
+      → WayMoves later Any Any (move_where (at_question q) (routes.Fail x)) (question_way r path (get s.values.questions r)) (question_way r path (get new_questions r))
   path_way r path true t =
       let there : get s.values.questions r ≡ Some question = rw (← is_equal q r t) is in
       rw
@@ -233,23 +184,21 @@ module _ (s : State) (q : ℕ) (x : Exception) (question : Question) (entries : 
   path_way r path false t =
       rw
       (put_at s.values.questions q r (failed_question question x) false t)
-      (way_off later (at_question q) x (question_way r path (get s.values.questions r)) (away_question q r path (get s.values.questions r) (other_number q r t)))
+      (way_off later (at_question q) (routes.Fail x) _ (off_question (at_question q) r path (other_number q r t) (other_number q r t) (get s.values.questions r)))
 
-  question_moved : (c : Cap) → Any c → WayMoves later Any Any (fail_where (at_question q) x) (way s.values c) (way later c)
-  question_moved caps.None any = way_off later (at_question q) x (way s.values caps.None) refl
-  question_moved (caps.Object k) any = way_off later (at_question q) x (way s.values (caps.Object k)) refl
-  question_moved (caps.Promise p) any = way_off later (at_question q) x (way s.values (caps.Promise p)) (away_promise q p (get s.values.promises p))
-  question_moved (caps.Import i) any = way_off later (at_question q) x (way s.values (caps.Import i)) refl
-  question_moved (caps.Pipelined r path) any = path_way r path (q == r) refl
-  question_moved (caps.Broken y) any = way_off later (at_question q) x (way s.values (caps.Broken y)) refl
+  question_moved : (c : Cap) → Any c → WayMoves later Any Any (move_where (at_question q) (routes.Fail x)) (way s.values c) (way later c)
+  question_moved =
+      each_way s.values later Any Any (move_where (at_question q) (routes.Fail x)) (λ y. refl) (λ k. refl) (λ i. refl)
+      (λ p. way_off later (at_question q) (routes.Fail x) _ (off_promise (at_question q) p (get s.values.promises p) refl))
+      (λ r path any. path_way r path (q == r) refl)
 
   path_waited : (r : ℕ) (path : List ℕ) (b : Bool) → (q == r) ≡ b → option_map (λ outcome. cap_at outcome path) (get s.waiting.over.questions r) ≡ None
       → LeadsBy ended (gates.Question r path) (option_map (λ outcome. cap_at outcome path) (get (insert s.waiting.over.questions q (outcomes.Failed x)) r))
-      (fail_where (at_question q) x (routes.Wait (gates.Question r path)))
+      (move_where (at_question q) (routes.Fail x) (routes.Wait (gates.Question r path)))
   path_waited r path true t e = rw (put_at s.waiting.over.questions q r (outcomes.Failed x) true t, same_back q r t) (1, refl)
   path_waited r path false t e = rw (put_at s.waiting.over.questions q r (outcomes.Failed x) false t, e, other_number q r t) refl
 
-  question_waited : (g : Gate) → gave s.waiting.over g ≡ None → LeadsBy ended g (gave ended.waiting.over g) (fail_where (at_question q) x (routes.Wait g))
+  question_waited : (g : Gate) → gave s.waiting.over g ≡ None → LeadsBy ended g (gave ended.waiting.over g) (move_where (at_question q) (routes.Fail x) (routes.Wait g))
   question_waited (gates.Answer b path) e = rw (e) refl
   question_waited (gates.Promise p) e = rw (e) refl
   question_waited (gates.Question r path) e = path_waited r path (q == r) refl e
@@ -269,10 +218,10 @@ module _ (s : State) (q : ℕ) (x : Exception) (question : Question) (entries : 
   question_stays (gates.Question r path) c e = path_stays r path (q == r) c refl e
   question_stays (gates.Embargo n) c e = e
 
-  question_moves : Moves s ended (fail_where (at_question q) x)
+  question_moves : Moves s ended (move_where (at_question q) (routes.Fail x))
   question_moves =
       record {
-        moved = λ c r h. all_move s.values later Any Any (fail_where (at_question q) x) question_moved c r tt tt h;
+        moved = λ c r h. all_move s.values later Any Any (move_where (at_question q) (routes.Fail x)) question_moved c r tt tt h;
         waited = question_waited;
         ended = question_stays;
         embargoes = refl;
@@ -296,7 +245,7 @@ module _ (s : State) (q : ℕ) (x : Exception) (question : Question) (entries : 
   question_none_over h (gates.Embargo n) e = absurd e
 
   question_on : NoOpenOver s → MovesOn s ended
-  question_on over = (fail_where (at_question q) x, question_moves, question_none_over over)
+  question_on over = (move_where (at_question q) (routes.Fail x), question_moves, question_none_over over)
 
 changed_question : (s : State) (q : ℕ) (x : Exception) (question : Question) → get s.values.questions q ≡ Some question
     → with_change s.values.questions q (λ one. record one { outcome = Some (outcomes.Failed x) }) ≡ insert s.values.questions q (failed_question question x)
@@ -333,17 +282,18 @@ module _ (s : State) (ports : Table Port) (q : ℕ) (x : Exception) (alone : Nob
   question_next r path None c e h = none_out h
   question_next r path (Some question) c e h = outcome_next r path question question.outcome c e refl h
 
-  each_same : (c : Cap) → NotOf c → WayMoves without.values Any NotOf (λ r. r) (way s.values c) (way without.values c)
-  each_same caps.None not_of = λ any. (0, refl)
-  each_same (caps.Object k) not_of = λ any. (0, refl)
-  each_same (caps.Promise p) not_of =
-      way_same (way s.values (caps.Promise p)) (λ c e. promise_next p (get s.values.promises p) c refl (ap next_of e))
-  each_same (caps.Import i) not_of = λ any. (0, refl)
-  each_same (caps.Pipelined r path) not_of =
+  path_same : (r : ℕ) (path : List ℕ) → NotOf (caps.Pipelined r path)
+      → WayMoves without.values Any NotOf (λ r. r) (question_way r path (get s.values.questions r)) (question_way r path (get without.values.questions r))
+  path_same r path not_of =
       rw
       (gone_at s.values.questions q r false (other_number r q not_of))
       (way_same (question_way r path (get s.values.questions r)) (λ c e. question_next r path (get s.values.questions r) c refl (ap next_of e)))
-  each_same (caps.Broken y) not_of = λ any. (0, refl)
+
+  each_same : (c : Cap) → NotOf c → WayMoves without.values Any NotOf (λ r. r) (way s.values c) (way without.values c)
+  each_same =
+      each_way s.values without.values Any NotOf (λ r. r) (λ y. refl) (λ k. refl) (λ i. refl)
+      (λ p. way_same (promise_way p (get s.values.promises p)) (λ c e. promise_next p (get s.values.promises p) c refl (ap next_of e)))
+      path_same
 
   stay : (c : Cap) (r : Route) → NotOf c → Routes s.values c r → Routes without.values c r
   stay c r not_of h = all_move s.values without.values Any NotOf (λ r. r) each_same c r not_of tt h

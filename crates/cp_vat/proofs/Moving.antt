@@ -1,8 +1,10 @@
 -- What waiting calls wait for, behind an outcome or a value that moves routes.
-use Rattle.std.specs.Prelude.{◌≡◌, refl, ℕ, zero, suc, List, Option, Some, None, IfSome}
+use Rattle.std.specs.Prelude.{◌≡◌, refl, ℕ, zero, suc, if◌then◌else◌, Bool, false, List, Option, Some, None, IfSome}
 use Rattle.std.specs.FinMap.{get}
 use Rattle.std.proofs.Common.{ap, sym, ◌∙◌}
 use Rattle.cp_tables.specs.Table.{Table}
+use Rattle.cp_rpc.specs.declared.exception.Exception.{Exception}
+use Rattle.cp_refs.specs.At.{null_capability}
 use Rattle.cp_refs.specs.Route.{Way, ends, leads, missing, promise_way, open_way, outcome_way, question_way, way, route_by, route_within, Routes}
 use Rattle.cp_refs.specs.Values.{ValueMaps}
 use Rattle.cp_refs.specs.declared.cap.Cap.{Cap}
@@ -109,6 +111,53 @@ module _ (old new : ValueMaps) (P : Route → Type 0) (Q : Cap → Type 0) (move
 
   pub all_move : (c : Cap) (r : Route) → Q c → P r → Routes old c r → Routes new c (move r)
   all_move c r q p h = move_within h.0 c r q p h.1
+
+-- each capability's way, from those of promises and of questions
+abbrev pub Any : {A : Type 0} → A → Type 0
+Any x = Unit {0}
+
+pub each_way : (values new : ValueMaps) (P : Route → Type 0) (Q : Cap → Type 0) (move : Route → Route)
+    → ((x : Exception) → move (routes.Fail x) ≡ routes.Fail x) → ((k : ℕ) → move (routes.Deliver k) ≡ routes.Deliver k) → ((i : ℕ) → move (routes.Import i) ≡ routes.Import i)
+    → ((p : ℕ) → WayMoves new P Q move (promise_way p (get values.promises p)) (promise_way p (get new.promises p)))
+    → ((q : ℕ) (path : List ℕ) → Q (caps.Pipelined q path) → WayMoves new P Q move (question_way q path (get values.questions q)) (question_way q path (get new.questions q)))
+    → (c : Cap) → Q c → WayMoves new P Q move (way values c) (way new c)
+each_way values new P Q move fails delivers imports promises questions caps.None q = λ p. (0, ap (λ r. Some r) (sym (fails null_capability)))
+each_way values new P Q move fails delivers imports promises questions (caps.Object k) q = λ p. (0, ap (λ r. Some r) (sym (delivers k)))
+each_way values new P Q move fails delivers imports promises questions (caps.Promise p) q = promises p
+each_way values new P Q move fails delivers imports promises questions (caps.Import i) q = λ p. (0, ap (λ r. Some r) (sym (imports i)))
+each_way values new P Q move fails delivers imports promises questions (caps.Pipelined r path) q = questions r path q
+each_way values new P Q move fails delivers imports promises questions (caps.Broken x) q = λ p. (0, ap (λ r. Some r) (sym (fails x)))
+
+-- Routes that pass a test move to one, and a way that ends at another stays as it is.
+abbrev pub move_where : (Route → Bool) → Route → Route → Route
+move_where test to r = if test r then to else r
+
+abbrev pub EndsOff : (Route → Bool) → Way → Type 0
+EndsOff test (ends r) = test r ≡ false
+EndsOff test other = Unit {0}
+
+pub way_off : (new : ValueMaps) (test : Route → Bool) (to : Route) (w : Way) → EndsOff test w → WayMoves new Any Any (move_where test to) w w
+way_off new test to (ends r) h = λ any. (0, rw (h) refl)
+way_off new test to (leads c) h = (refl, tt)
+way_off new test to missing h = tt
+
+pub off_promise : (test : Route → Bool) (p : ℕ) (o : Option (Option Cap)) → test (routes.Wait (gates.Promise p)) ≡ false → EndsOff test (promise_way p o)
+off_promise test p None h = tt
+off_promise test p (Some None) h = h
+off_promise test p (Some (Some value)) h = tt
+
+module _ (test : Route → Bool) (q : ℕ) (path : List ℕ) (piped : test (routes.Pipe q path) ≡ false) (waits : test (routes.Wait (gates.Question q path)) ≡ false) where
+  off_open : (kind : QuestionKind) → test (open_way kind q path) ≡ false
+  off_open kinds.Wire = piped
+  off_open kinds.Local = waits
+
+  off_outcome : (kind : QuestionKind) (o : Option Outcome) → EndsOff test (outcome_way kind q path o)
+  off_outcome kind None = off_open kind
+  off_outcome kind (Some outcome) = tt
+
+  pub off_question : (o : Option Question) → EndsOff test (question_way q path o)
+  off_question None = tt
+  off_question (Some question) = off_outcome question.kind question.outcome
 
 -- the gates that capabilities lead to: open promises, and open questions of this end
 abbrev pub IsOpenGate : ValueMaps → Gate → Type 0

@@ -1,5 +1,5 @@
 -- Calls wait on rightly behind a promise that is settled.
-use Rattle.std.specs.Prelude.{◌≡◌, refl, ℕ, zero, suc, ◌+◌, ◌==◌, cond, if◌then◌else◌, Bool, true, false, List, [], ◌∷◌, Option, Some, None, Ok}
+use Rattle.std.specs.Prelude.{◌≡◌, refl, ℕ, zero, suc, ◌+◌, ◌==◌, cond, Bool, true, false, List, [], ◌∷◌, Some, None, Ok}
 use Rattle.std.specs.FinMap.{get, insert}
 use Rattle.std.proofs.Common.{arith, inl, inr, ap, subst, sym, ◌∙◌, true≢false}
 use Rattle.std.proofs.lemmas.Bool.Decides.{nat_tests}
@@ -7,7 +7,7 @@ use Rattle.std.proofs.lemmas.List.Sums.{sum_by-cons}
 use Rattle.cp_rpc.specs.declared.descriptor.Descriptor.{Descriptor}
 use Rattle.cp_rpc.specs.declared.resolve.Resolution.{Resolution}
 use Rattle.cp_refs.specs.At.{cap_at}
-use Rattle.cp_refs.specs.Route.{Way, ends, leads, missing, promise_way, open_way, outcome_way, question_way, way, Routes}
+use Rattle.cp_refs.specs.Route.{Way, ends, leads, missing, promise_way, question_way, way, Routes}
 use Rattle.cp_refs.specs.Values.{ValueMaps}
 use Rattle.cp_refs.specs.declared.cap.Cap.{Cap}
 use Rattle.cp_refs.specs.declared.cap.Cap.TheVariants as caps
@@ -16,9 +16,6 @@ use Rattle.cp_refs.specs.declared.route.Gate.{Gate}
 use Rattle.cp_refs.specs.declared.route.Gate.TheVariants as gates
 use Rattle.cp_refs.specs.declared.route.Route.{Route}
 use Rattle.cp_refs.specs.declared.route.Route.TheVariants as routes
-use Rattle.cp_refs.specs.declared.values.Question.{Question}
-use Rattle.cp_refs.specs.declared.values.QuestionKind.{QuestionKind}
-use Rattle.cp_refs.specs.declared.values.QuestionKind.TheVariants as kinds
 use Rattle.cp_vat.specs.State.{State, gave, with_exports}
 use Rattle.cp_vat.specs.Then.{Done}
 use Rattle.cp_vat.specs.Say.{ComesTo, SayEnd, end_by, end_within}
@@ -32,7 +29,7 @@ use Rattle.cp_vat.proofs.OnWay.{is_equal, other_number}
 use Rattle.cp_vat.proofs.Countings.{ok_in}
 use Rattle.cp_vat.proofs.Rules.{then_out, put_at}
 use Rattle.cp_vat.proofs.Saying.{said_end}
-use Rattle.cp_vat.proofs.Moving.{Moves, moved_rightly, moves_both, same_moves, WayMoves, all_move, NoOpenOver, no_open, none_leads}
+use Rattle.cp_vat.proofs.Moving.{Moves, moved_rightly, moves_both, same_moves, Any, WayMoves, all_move, each_way, move_where, EndsOff, way_off, off_promise, off_question, NoOpenOver, no_open, none_leads}
 
 pub same_back : (a b : ℕ) → (a == b) ≡ true → (b == a) ≡ true
 same_back a b e = grind (arith, nat_tests)
@@ -42,44 +39,11 @@ abbrev at_promise : ℕ → Route → Bool
 at_promise p (routes.Wait (gates.Promise q)) = q == p
 at_promise p other = false
 
-abbrev pub to_value : ℕ → Route → Route → Route
-to_value p to r = if at_promise p r then to else r
-
 abbrev with_value : ValueMaps → ℕ → Cap → ValueMaps
 with_value values p v = record values { promises = insert values.promises p (Some v) }
 
--- ways that end elsewhere stay as they are
 abbrev Elsewhere : Route → ℕ → Type 0
 Elsewhere r p = at_promise p r ≡ false
-
-abbrev EndsElsewhere : ℕ → Way → Type 0
-EndsElsewhere p (ends x) = Elsewhere x p
-EndsElsewhere p other = Unit {0}
-
-elsewhere_promise : (p q : ℕ) (o : Option (Option Cap)) → (q == p) ≡ false → EndsElsewhere p (promise_way q o)
-elsewhere_promise p q None e = tt
-elsewhere_promise p q (Some None) e = e
-elsewhere_promise p q (Some (Some v)) e = tt
-
-elsewhere_open : (p q : ℕ) (path : List ℕ) (kind : QuestionKind) → Elsewhere (open_way kind q path) p
-elsewhere_open p q path kinds.Wire = refl
-elsewhere_open p q path kinds.Local = refl
-
-elsewhere_outcome : (p q : ℕ) (path : List ℕ) (kind : QuestionKind) (o : Option Outcome) → EndsElsewhere p (outcome_way kind q path o)
-elsewhere_outcome p q path kind None = elsewhere_open p q path kind
-elsewhere_outcome p q path kind (Some outcome) = tt
-
-elsewhere_question : (p q : ℕ) (path : List ℕ) (o : Option Question) → EndsElsewhere p (question_way q path o)
-elsewhere_question p q path None = tt
-elsewhere_question p q path (Some question) = elsewhere_outcome p q path question.kind question.outcome
-
-abbrev pub Any : {A : Type 0} → A → Type 0
-Any x = Unit {0}
-
-way_to : (new : ValueMaps) (p : ℕ) (to : Route) (w : Way) → EndsElsewhere p w → WayMoves new Any Any (to_value p to) w w
-way_to new p to (ends x) h = λ any. (0, rw (h) refl)
-way_to new p to (leads c) h = (refl, tt)
-way_to new p to missing h = tt
 
 way_stays : (new : ValueMaps) (p : ℕ) (w : Way) → WayMoves new (λ r. Elsewhere r p) Any (λ r. r) w w
 way_stays new p (ends x) = λ h. (0, refl)
@@ -94,50 +58,43 @@ module _ (values : ValueMaps) (p : ℕ) (v : Cap) (open_ : get values.promises p
       rw (put_at values.promises p q (Some v) true t, is) (λ f. absurd (true≢false (sym (same_back p q t) ∙ f)))
   it_stays q false t = rw (put_at values.promises p q (Some v) false t) (way_stays (with_value values p v) p (promise_way q (get values.promises q)))
 
-  each_stays : (c : Cap) → Any c → WayMoves (with_value values p v) (λ r. Elsewhere r p) Any (λ r. r) (way values c) (way (with_value values p v) c)
-  each_stays caps.None any = way_stays (with_value values p v) p (way values caps.None)
-  each_stays (caps.Object k) any = way_stays (with_value values p v) p (way values (caps.Object k))
-  each_stays (caps.Promise q) any = it_stays q (p == q) refl
-  each_stays (caps.Import i) any = way_stays (with_value values p v) p (way values (caps.Import i))
-  each_stays (caps.Pipelined q path) any = way_stays (with_value values p v) p (way values (caps.Pipelined q path))
-  each_stays (caps.Broken x) any = way_stays (with_value values p v) p (way values (caps.Broken x))
-
   stay : (c : Cap) (r : Route) → Elsewhere r p → Routes values c r → Routes (with_value values p v) c r
   stay c r other h = all_move values (with_value values p v) (λ r. Elsewhere r p) Any (λ r. r) each_stays c r tt other h
+    where
+      each_stays : (c : Cap) → Any c → WayMoves (with_value values p v) (λ r. Elsewhere r p) Any (λ r. r) (way values c) (way (with_value values p v) c)
+      each_stays =
+          each_way values (with_value values p v) (λ r. Elsewhere r p) Any (λ r. r) (λ x. refl) (λ k. refl) (λ i. refl) (λ q. it_stays q (p == q) refl)
+          (λ q path any. way_stays (with_value values p v) p (question_way q path (get values.questions q)))
 
   module _ (to : Route) (there : Routes values v to) (other : Elsewhere to p) where
     it_goes : (q : ℕ) (b : Bool) → (p == q) ≡ b
-        → WayMoves (with_value values p v) Any Any (to_value p to) (promise_way q (get values.promises q)) (promise_way q (get (insert values.promises p (Some v)) q))
+        → WayMoves (with_value values p v) Any Any (move_where (at_promise p) to) (promise_way q (get values.promises q)) (promise_way q (get (insert values.promises p (Some v)) q))
     it_goes q true t =
         let is : get values.promises q ≡ Some None = rw (← is_equal p q t) open_ in
         rw (put_at values.promises p q (Some v) true t, is) (λ any. rw (same_back p q t) (stay v to other there))
     it_goes q false t =
         rw
         (put_at values.promises p q (Some v) false t)
-        (way_to (with_value values p v) p to (promise_way q (get values.promises q)) (elsewhere_promise p q (get values.promises q) (other_number p q t)))
+        (way_off (with_value values p v) (at_promise p) to _ (off_promise (at_promise p) q (get values.promises q) (other_number p q t)))
 
-    each_goes : (c : Cap) → Any c → WayMoves (with_value values p v) Any Any (to_value p to) (way values c) (way (with_value values p v) c)
-    each_goes caps.None any = way_to (with_value values p v) p to (way values caps.None) refl
-    each_goes (caps.Object k) any = way_to (with_value values p v) p to (way values (caps.Object k)) refl
-    each_goes (caps.Promise q) any = it_goes q (p == q) refl
-    each_goes (caps.Import i) any = way_to (with_value values p v) p to (way values (caps.Import i)) refl
-    each_goes (caps.Pipelined q path) any =
-        way_to (with_value values p v) p to (way values (caps.Pipelined q path)) (elsewhere_question p q path (get values.questions q))
-    each_goes (caps.Broken x) any = way_to (with_value values p v) p to (way values (caps.Broken x)) refl
+    each_goes : (c : Cap) → Any c → WayMoves (with_value values p v) Any Any (move_where (at_promise p) to) (way values c) (way (with_value values p v) c)
+    each_goes =
+        each_way values (with_value values p v) Any Any (move_where (at_promise p) to) (λ x. refl) (λ k. refl) (λ i. refl) (λ q. it_goes q (p == q) refl)
+        (λ q path any. way_off (with_value values p v) (at_promise p) to _ (off_question (at_promise p) q path refl refl (get values.questions q)))
 
-    go : (c : Cap) (r : Route) → Routes values c r → Routes (with_value values p v) c (to_value p to r)
-    go c r h = all_move values (with_value values p v) Any Any (to_value p to) each_goes c r tt tt h
+    go : (c : Cap) (r : Route) → Routes values c r → Routes (with_value values p v) c (move_where (at_promise p) to r)
+    go c r h = all_move values (with_value values p v) Any Any (move_where (at_promise p) to) each_goes c r tt tt h
 
 -- the promise of a state, which isn't over
 module _ (s : State) (p : ℕ) (v : Cap) (open_ : get s.values.promises p ≡ Some None) (ungiven : get s.waiting.over.promises p ≡ None) where
   module _ (to : Route) (there : Routes s.values v to) (other : Elsewhere to p) where
     promise_waited : (q : ℕ) (b : Bool) → (p == q) ≡ b → get s.waiting.over.promises q ≡ None
-        → LeadsBy (settled s p v) (gates.Promise q) (get (insert s.waiting.over.promises p v) q) (to_value p to (routes.Wait (gates.Promise q)))
+        → LeadsBy (settled s p v) (gates.Promise q) (get (insert s.waiting.over.promises p v) q) (move_where (at_promise p) to (routes.Wait (gates.Promise q)))
     promise_waited q true t e = rw (put_at s.waiting.over.promises p q v true t, same_back p q t) (stay s.values p v open_ v to other there)
     promise_waited q false t e = rw (put_at s.waiting.over.promises p q v false t, e, other_number p q t) refl
 
     gate_waited : (g : Gate) → gave s.waiting.over g ≡ None
-        → LeadsBy (settled s p v) g (gave (settled s p v).waiting.over g) (to_value p to (routes.Wait g))
+        → LeadsBy (settled s p v) g (gave (settled s p v).waiting.over g) (move_where (at_promise p) to (routes.Wait g))
     gate_waited (gates.Answer a path) e = rw (e) refl
     gate_waited (gates.Promise q) e = promise_waited q (p == q) refl e
     gate_waited (gates.Question q path) e = rw (e) refl
@@ -155,7 +112,7 @@ module _ (s : State) (p : ℕ) (v : Cap) (open_ : get s.values.promises p ≡ So
     gate_ended (gates.Question q path) c e = e
     gate_ended (gates.Embargo n) c e = e
 
-    settled_moves : Moves s (settled s p v) (to_value p to)
+    settled_moves : Moves s (settled s p v) (move_where (at_promise p) to)
     settled_moves =
         record { moved = go s.values p v open_ to there other; waited = gate_waited; ended = gate_ended; embargoes = refl; over = refl; calls = refl }
 
@@ -189,9 +146,9 @@ route_end values (suc n) c last e = end_found values n c last (way values c) (λ
 abbrev Valued : ValueMaps → ℕ → Cap → Type 0
 Valued values p v = (to : Route) × Routes values v to × Elsewhere to p
 
-valued_by : (values : ValueMaps) (p : ℕ) (value last : Cap) → EndsElsewhere p (way values last) → ComesTo values value last → Valued values p value
+valued_by : (values : ValueMaps) (p : ℕ) (value last : Cap) → EndsOff (at_promise p) (way values last) → ComesTo values value last → Valued values p value
 valued_by values p value last other comes =
-    let found = route_end values comes.0 value last comes.1 in (found.0, found.2, subst (λ w. EndsElsewhere p w) found.1 other)
+    let found = route_end values comes.0 value last comes.1 in (found.0, found.2, subst (λ w. EndsOff (at_promise p) w) found.1 other)
 
 valued : (values : ValueMaps) (p : ℕ) (value last : Cap) → ComesTo values value last → Valued values p (value_for p last value)
 valued values p value caps.None comes = valued_by values p value caps.None refl comes
@@ -200,9 +157,9 @@ valued values p value (caps.Promise r) comes = by (r == p) refl
   where
     by : (b : Bool) → (r == p) ≡ b → Valued values p (value_for p (caps.Promise r) value)
     by true t = rw (t) (routes.Fail _, (1, refl), refl)
-    by false t = rw (t) (valued_by values p value (caps.Promise r) (elsewhere_promise p r (get values.promises r) t) comes)
+    by false t = rw (t) (valued_by values p value (caps.Promise r) (off_promise (at_promise p) r (get values.promises r) t) comes)
 valued values p value (caps.Import i) comes = valued_by values p value (caps.Import i) refl comes
-valued values p value (caps.Pipelined q path) comes = valued_by values p value (caps.Pipelined q path) (elsewhere_question p q path (get values.questions q)) comes
+valued values p value (caps.Pipelined q path) comes = valued_by values p value (caps.Pipelined q path) (off_question (at_promise p) q path refl refl (get values.questions q)) comes
 valued values p value (caps.Broken x) comes = valued_by values p value (caps.Broken x) refl comes
 
 -- telling it changes nothing but exports
@@ -243,7 +200,7 @@ settle_keeps s p value done (last, comes, tells) open_ over =
     let waiting = ap (λ x. x.waiting) only in
     let one = settled_moves s p v open_ (over (gates.Promise p) open_) fine.0 fine.1 fine.2 in (
       (
-        to_value p fine.0,
+        move_where (at_promise p) fine.0,
         moves_both one (same_moves (settled s p v) done.1 values waiting (ap (λ x. x.marks) only)),
         over_same (settled s p v) done.1 values waiting (settled_over s p v open_ (over (gates.Promise p) open_) over),
       ),
