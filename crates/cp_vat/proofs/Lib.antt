@@ -42,3 +42,4 @@ pub mod Moving
 pub mod Settling
 pub mod Failing
 pub mod Leaving
+pub mod Tying

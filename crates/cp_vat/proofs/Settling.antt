@@ -208,7 +208,7 @@ settle_keeps s p value done (last, comes, tells) open_ over =
     )
 
 -- the promises tied to an answer, one after another
-one_more : (p : ℕ) (tied : Tied) (more : List Tied) → tied_to p (tied ∷ more) ≡ cond (tied.promise == p) 1 0 + tied_to p more
+pub one_more : (p : ℕ) (tied : Tied) (more : List Tied) → tied_to p (tied ∷ more) ≡ cond (tied.promise == p) 1 0 + tied_to p more
 one_more p tied more = sum_by-cons (λ t. cond (t.promise == p) 1 0) tied more
 
 not_tied : (p : ℕ) (tied : Tied) (more : List Tied) (b : Bool) → (tied.promise == p) ≡ b → tied_to p (tied ∷ more) ≡ 0 → ((tied.promise == p) ≡ false) × (tied_to p more ≡ 0)

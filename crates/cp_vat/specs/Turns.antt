@@ -3,6 +3,7 @@ use Rattle.std.specs.Prelude.{◌≡◌, ℕ, false, List, [], ◌∷◌, Option
 use Rattle.std.specs.Option.{option_map}
 use Rattle.std.specs.FinMap.{get}
 use Rattle.cp_tables.specs.Table.{Table}
+use Rattle.cp_tables.specs.declared.exchange.Exchange.{Exchange}
 use Rattle.cp_tables.specs.declared.exchange.Stage.{Stage}
 use Rattle.cp_tables.specs.declared.exchange.Stage.TheVariants as stages
 use Rattle.cp_refs.specs.At.{cap_at}
@@ -23,9 +24,10 @@ use Rattle.cp_vat.specs.Then.{Done}
 use Rattle.cp_vat.specs.Give.{Settle}
 use Rattle.cp_vat.specs.Go.{IsNext, Go, GoTo, NoneOver, Leave, without_call, underway}
 use Rattle.cp_vat.specs.Waits.{Port, on, on_answer, WaitRightly}
-use Rattle.cp_vat.specs.Local.{tied_to}
+use Rattle.cp_vat.specs.Local.{tied_to, IsTiedRightly}
 use Rattle.cp_vat.specs.InUse.{is_pipelined_of, is_at_question}
 use Rattle.cp_vat.specs.declared.effect.Effect.{Effect}
+use Rattle.cp_vat.specs.declared.entry.AnswerEntry.{AnswerEntry}
 use Rattle.cp_vat.specs.declared.entry.Tied.{Tied}
 
 -- No capability leads to a gate that is over.
@@ -43,6 +45,11 @@ pub record SettlingKeeps : Type 0 where
 abbrev pub AreOpen : ValueMaps → List Tied → Type 0
 AreOpen values [] = Unit {0}
 AreOpen values (tied ∷ more) = (get values.promises tied.promise ≡ Some None) × (tied_to tied.promise more ≡ 0) × AreOpen values more
+
+-- That is so of every answer where open promises are the application's, or tied to exactly one answer.
+abbrev pub TiedAreOpen : Type 0
+TiedAreOpen =
+    (s : State) (a : ℕ) (entry : Exchange AnswerEntry) → ((p : ℕ) → IsTiedRightly s p) → get s.entries.answers a ≡ Some entry → AreOpen s.values entry.kept.tied
 
 -- A finished question isn't waited for: no value and no gate that is over gives a path of it, and no call waits at one, nor came at one.
 abbrev pub IsNoPortOf : ℕ → Option Port → Type 0

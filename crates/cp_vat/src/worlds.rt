@@ -8,7 +8,7 @@ ghost use Rattle.cp_vat.specs.Lane.{Reference};
 ghost use Rattle.cp_vat.specs.Lives.{AreAgreed, Keeps};
 ghost use Rattle.cp_vat.specs.Posting.{KeepsBy, RulesPost};
 ghost use Rattle.cp_vat.specs.WorldRows.{EndsWithoutExport};
-ghost use Rattle.cp_vat.specs.Turns.{LeaveKeeps, SettlingKeeps, TurnKeeps};
+ghost use Rattle.cp_vat.specs.Turns.{LeaveKeeps, SettlingKeeps, TiedAreOpen, TurnKeeps};
 ghost use Rattle.cp_vat.specs.Local.{Local};
 ghost use Rattle.cp_vat.specs.Waits.{WaitRightly};
 ghost use Rattle.cp_vat.specs.Naming.{NamesHold, ValuesHold};
@@ -54,6 +54,7 @@ pub fn finish_before_return()
 /// ports lead to, also where the call fails and its exception goes on to the promises tied to its answer.
 pub fn turns_keep()
     ensures settling { SettlingKeeps }
+    ensures tied { TiedAreOpen }
     ensures turns { TurnKeeps }
 {}
 
