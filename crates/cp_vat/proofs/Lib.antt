@@ -40,3 +40,8 @@ pub mod Releasing
 pub mod KnownWorlds
 pub mod Delivering
 pub mod Lanes
+pub mod Moving
+pub mod Settling
+pub mod Failing
+pub mod Leaving
+pub mod Tying

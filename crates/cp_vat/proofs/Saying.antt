@@ -45,7 +45,7 @@ said_raised : (old : State) (e : ℕ) (new : State) (d : Descriptor) → mention
     → ((f : ℕ) → count_of new.counts.exports f ≡ count_of old.counts.exports f + times f (e ∷ [])) → Said old (d ∷ []) new
 said_raised old e new d named supported only counts = record { only = only; counted = λ f. rw (named) (counts f); supported = rw (supported) refl }
 
-said_end : (old : State) (last : Cap) (said : Descriptor × State) → SayEnd old last (Ok said) → Said old (said.0 ∷ []) said.1
+pub said_end : (old : State) (last : Cap) (said : Descriptor × State) → SayEnd old last (Ok said) → Said old (said.0 ∷ []) said.1
 said_end old caps.None said is = rw (ok_in _ _ is) (said_as_it_is old descriptors.None refl refl)
 said_end old (caps.Object k) said is =
     let parts = then_out _ _ _ is in

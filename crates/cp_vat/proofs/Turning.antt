@@ -1,39 +1,36 @@
 -- Calls wait on rightly behind one turn.
 use Rattle.std.specs.Prelude.{◌≡◌, refl, ℕ, zero, suc, ◌==◌, Bool, true, false, List, Option, Some, None, IfSome, Ok}
 use Rattle.std.specs.FinMap.{get, remove}
-use Rattle.std.proofs.Common.{ap, sym, ◌∙◌, true≢false}
+use Rattle.std.proofs.Common.{ap, sym, ◌∙◌}
 use Rattle.cp_tables.specs.Table.{Table}
 use Rattle.cp_rpc.specs.declared.descriptor.Descriptor.{Descriptor}
 use Rattle.cp_rpc.specs.declared.target.Target.{Target}
 use Rattle.cp_rpc.specs.declared.target.Target.TheVariants as targets
-use Rattle.cp_refs.specs.Route.{Way, ends, leads, missing, promise_way, open_way, outcome_way, question_way, way, route_by, route_within, Routes}
+use Rattle.cp_refs.specs.Route.{Way, ends, leads, missing, way, route_by, route_within, Routes}
 use Rattle.cp_refs.specs.Values.{ValueMaps}
 use Rattle.cp_refs.specs.declared.cap.Cap.{Cap}
-use Rattle.cp_refs.specs.declared.cap.Cap.TheVariants as caps
 use Rattle.cp_refs.specs.declared.call.Held.{Held}
 use Rattle.cp_refs.specs.declared.call.Origin.{Origin}
 use Rattle.cp_refs.specs.declared.call.Origin.TheVariants as origins
-use Rattle.cp_refs.specs.declared.outcome.Outcome.{Outcome}
 use Rattle.cp_refs.specs.declared.route.Gate.{Gate}
 use Rattle.cp_refs.specs.declared.route.Gate.TheVariants as gates
 use Rattle.cp_refs.specs.declared.route.Route.{Route}
 use Rattle.cp_refs.specs.declared.route.Route.TheVariants as routes
-use Rattle.cp_refs.specs.declared.values.Question.{Question}
-use Rattle.cp_refs.specs.declared.values.QuestionKind.{QuestionKind}
-use Rattle.cp_refs.specs.declared.values.QuestionKind.TheVariants as kinds
 use Rattle.cp_vat.specs.State.{State, gave}
 use Rattle.cp_vat.specs.Then.{Done}
 use Rattle.cp_vat.specs.Room.{Fresh}
 use Rattle.cp_vat.specs.Say.{SayAll, promised}
 use Rattle.cp_vat.specs.Go.{Underway, held_at, delivered, GoOut, Go, IsNext, without_call, underway}
 use Rattle.cp_vat.specs.Waits.{Port, on, on_answer, LeadsBy, PortRoutes, WaitsBy, WaitsAt, WaitRightly}
-use Rattle.cp_vat.specs.Turns.{NoneLeadsToOver, IsNoFailure, TurnKeeps}
+use Rattle.cp_vat.specs.Turns.{NoneLeadsToOver, MayGo, TurnKeeps}
 use Rattle.cp_vat.specs.declared.effect.Effect.{Effect}
 use Rattle.cp_vat.proofs.LivesKept.{some_out, none_out}
 use Rattle.cp_vat.proofs.OnWay.{is_equal}
 use Rattle.cp_vat.proofs.Countings.{ok_in}
 use Rattle.cp_vat.proofs.Rules.{then_out, put_at, gone_at}
 use Rattle.cp_vat.proofs.Saying.{said_all}
+use Rattle.cp_vat.proofs.Moving.{open_gate, no_open, none_leads}
+use Rattle.cp_vat.proofs.Failing.{given_keeps, left_ungiven}
 
 -- a capability has one route
 one_by : (f g : Cap → Option Route) (w : Way) (r s : Route) → ((c : Cap) (r s : Route) → f c ≡ Some r → g c ≡ Some s → r ≡ s) → route_by f w ≡ Some r → route_by g w ≡ Some s → r ≡ s
@@ -80,55 +77,6 @@ waits_at old mid None gate same h = h
 waits_at old mid (Some port) gate same h =
     rw (same_gave old mid gate same) (waits_of old mid port gate (gave old.waiting.over gate) same h)
 
--- no route waits at an embargo
-abbrev is_waiting : Route → Bool
-is_waiting (routes.Wait gate) = true
-is_waiting other = false
-
-abbrev is_at_embargo : Route → Bool
-is_at_embargo (routes.Wait (gates.Embargo n)) = true
-is_at_embargo other = false
-
-open_never : (kind : QuestionKind) (q n : ℕ) (path : List ℕ) → open_way kind q path ≡ routes.Wait (gates.Embargo n) → ⊥
-open_never kinds.Wire q n path e = absurd (true≢false (ap is_waiting (sym e)))
-open_never kinds.Local q n path e = absurd (true≢false (ap is_at_embargo (sym e)))
-
-abbrev EndsRightly : Way → ℕ → Type 0
-EndsRightly (ends route) n = route ≡ routes.Wait (gates.Embargo n) → ⊥
-EndsRightly (leads c) n = Unit {0}
-EndsRightly missing n = Unit {0}
-
-ends_promise : (p n : ℕ) (o : Option (Option Cap)) → EndsRightly (promise_way p o) n
-ends_promise p n None = tt
-ends_promise p n (Some None) = λ e. absurd (true≢false (ap is_at_embargo (sym e)))
-ends_promise p n (Some (Some value)) = tt
-
-ends_outcome : (kind : QuestionKind) (q n : ℕ) (path : List ℕ) (o : Option Outcome) → EndsRightly (outcome_way kind q path o) n
-ends_outcome kind q n path None = open_never kind q n path
-ends_outcome kind q n path (Some outcome) = tt
-
-ends_question : (q n : ℕ) (path : List ℕ) (o : Option Question) → EndsRightly (question_way q path o) n
-ends_question q n path None = tt
-ends_question q n path (Some question) = ends_outcome question.kind q n path question.outcome
-
-ends_rightly : (values : ValueMaps) (c : Cap) (n : ℕ) → EndsRightly (way values c) n
-ends_rightly values caps.None n = λ e. absurd (true≢false (ap is_waiting (sym e)))
-ends_rightly values (caps.Object k) n = λ e. absurd (true≢false (ap is_waiting (sym e)))
-ends_rightly values (caps.Promise p) n = ends_promise p n (get values.promises p)
-ends_rightly values (caps.Import i) n = λ e. absurd (true≢false (ap is_waiting (sym e)))
-ends_rightly values (caps.Pipelined q path) n = ends_question q n path (get values.questions q)
-ends_rightly values (caps.Broken x) n = λ e. absurd (true≢false (ap is_waiting (sym e)))
-
-never_by : (f : Cap → Option Route) (w : Way) (n : ℕ) → EndsRightly w n → ((c : Cap) → f c ≡ Some (routes.Wait (gates.Embargo n)) → ⊥)
-    → route_by f w ≡ Some (routes.Wait (gates.Embargo n)) → ⊥
-never_by f (ends route) n here there e = here (some_out e)
-never_by f (leads c) n here there e = there c e
-never_by f missing n here there e = none_out e
-
-never_within : (m : ℕ) (values : ValueMaps) (c : Cap) (n : ℕ) → route_within m values c ≡ Some (routes.Wait (gates.Embargo n)) → ⊥
-never_within zero values c n e = none_out e
-never_within (suc m) values c n e = never_by (λ next. route_within m values next) (way values c) n (ends_rightly values c n) (λ next. never_within m values next n) e
-
 -- the turn of a call that stays at another gate
 ended_routes : (s : State) (port : Port) (gate : Gate) (cap : Cap) → WaitsBy s port gate (Some cap) → (route : Route) × Routes s.values cap route × PortRoutes s port route
 ended_routes s port (gates.Answer a path) cap h = h
@@ -151,7 +99,7 @@ stays_at old mid (Some port) from to c same h given way none =
     let here : PortRoutes old port (routes.Wait to) = rw (← is) routes_now.2 in
     rw
     (same_gave old mid to same, none)
-    (stays_by mid port to (λ n e. never_within way.0 old.values c n (way.1 ∙ ap (λ g. Some (routes.Wait g)) e)) (port_by old mid port (routes.Wait to) same here))
+    (stays_by mid port to (λ n e. open_gate old.values c (gates.Embargo n) (way.0, way.1 ∙ ap (λ g. Some (routes.Wait g)) e)) (port_by old mid port (routes.Wait to) same here))
 
 -- what a turn leaves of the calls
 gone_calls : (old mid : State) (ports : Table Port) (ticket u : ℕ) (b : Bool) → (ticket == u) ≡ b → SameBut old mid → mid.waiting.calls ≡ remove old.waiting.calls ticket
@@ -222,16 +170,16 @@ held_again old ports call to u false t here h =
         waits_at old (held_at (without_call old call) (underway call) to) (get ports u) c.gate (record { values = refl; over = refl; embargoes = refl }) k
 
 turn_rightly : (old mid : State) (ports : Table Port) (call : Held) (c : Cap) (route : Route) (first : List Effect) → WaitRightly old ports → NoneLeadsToOver old
-    → IsNext old call c → Routes old.values c route → IsNoFailure route → Go (without_call old call) (underway call) route (Ok (first, mid))
+    → IsNext old call c → Routes old.values c route → MayGo old ports call.origin route → Go (without_call old call) (underway call) route (Ok (first, mid))
     → WaitRightly mid ports
-turn_rightly old mid ports call c (routes.Deliver k) first h over next way fine goes =
+turn_rightly old mid ports call c (routes.Deliver k) first h over next way may goes =
     let is : mid ≡ delivered (without_call old call) call.origin = ap (λ d. d.1) (ok_in _ _ goes) in
     rw (is) (leaving old (delivered (without_call old call) call.origin) ports call (left_by old _ call (delivered_same (without_call old call) call.origin)) h)
-turn_rightly old mid ports call c (routes.Import i) first h over next way fine goes =
+turn_rightly old mid ports call c (routes.Import i) first h over next way may goes =
     leaving old mid ports call (left_by old mid call (out_same (without_call old call) (underway call) (targets.ImportedCap i) call.origin (first, mid) goes)) h
-turn_rightly old mid ports call c (routes.Pipe q path) first h over next way fine goes =
+turn_rightly old mid ports call c (routes.Pipe q path) first h over next way may goes =
     leaving old mid ports call (left_by old mid call (out_same (without_call old call) (underway call) (targets.PromisedAnswer (promised q path)) call.origin (first, mid) goes)) h
-turn_rightly old mid ports call c (routes.Wait to) first h over next way fine goes =
+turn_rightly old mid ports call c (routes.Wait to) first h over next way may goes =
     let is : mid ≡ held_at (without_call old call) (underway call) to = ap (λ d. d.1) (ok_in _ _ goes) in
     rw
     (is)
@@ -240,24 +188,27 @@ turn_rightly old mid ports call c (routes.Wait to) first h over next way fine go
     (stays_at old (held_at (without_call old call) (underway call) to) (get ports call.ticket) call.gate to c (record { values = refl; over = refl; embargoes = refl })
     (at_ticket old ports call next.waits h) next.ended way (over c to way))
     h)
-turn_rightly old mid ports call c (routes.Fail x) first h over next way fine goes = absurd fine
+turn_rightly old mid ports call c (routes.Fail x) first h over next way may goes =
+    let left : WaitRightly (without_call old call) ports = leaving old (without_call old call) ports call (record { values = refl; over = refl; embargoes = refl }, refl) h in
+    (given_keeps (without_call old call) ports call.origin x (first, mid) goes (left_ungiven old ports call call.origin may) (no_open old over)).0 left
 
 over_by : (old mid : State) → SameBut old mid → NoneLeadsToOver old → NoneLeadsToOver mid
 over_by old mid same over c gate way = same_gave old mid gate same ∙ over c gate (rw (← same.values) way)
 
-turn_over : (old mid : State) (call : Held) (c : Cap) (route : Route) (first : List Effect) → NoneLeadsToOver old → IsNoFailure route
+turn_over : (old mid : State) (ports : Table Port) (call : Held) (c : Cap) (route : Route) (first : List Effect) → NoneLeadsToOver old → MayGo old ports call.origin route
     → Go (without_call old call) (underway call) route (Ok (first, mid)) → NoneLeadsToOver mid
-turn_over old mid call c (routes.Deliver k) first over fine goes =
+turn_over old mid ports call c (routes.Deliver k) first over may goes =
     let is : mid ≡ delivered (without_call old call) call.origin = ap (λ d. d.1) (ok_in _ _ goes) in
     rw (is) (over_by old _ (left_by old _ call (delivered_same (without_call old call) call.origin)).0 over)
-turn_over old mid call c (routes.Import i) first over fine goes =
+turn_over old mid ports call c (routes.Import i) first over may goes =
     over_by old mid (left_by old mid call (out_same (without_call old call) (underway call) (targets.ImportedCap i) call.origin (first, mid) goes)).0 over
-turn_over old mid call c (routes.Pipe q path) first over fine goes =
+turn_over old mid ports call c (routes.Pipe q path) first over may goes =
     over_by old mid (left_by old mid call (out_same (without_call old call) (underway call) (targets.PromisedAnswer (promised q path)) call.origin (first, mid) goes)).0 over
-turn_over old mid call c (routes.Wait to) first over fine goes =
+turn_over old mid ports call c (routes.Wait to) first over may goes =
     let is : mid ≡ held_at (without_call old call) (underway call) to = ap (λ d. d.1) (ok_in _ _ goes) in
     rw (is) (over_by old (held_at (without_call old call) (underway call) to) (record { values = refl; over = refl; embargoes = refl }) over)
-turn_over old mid call c (routes.Fail x) first over fine goes = absurd fine
+turn_over old mid ports call c (routes.Fail x) first over may goes =
+    none_leads mid (given_keeps (without_call old call) ports call.origin x (first, mid) goes (left_ungiven old ports call call.origin may) (no_open old over)).1
 
 pub turn_keeps : TurnKeeps
 turn_keeps = record { rightly = turn_rightly; over = turn_over }

@@ -9,7 +9,7 @@ ghost use Rattle.cp_vat.specs.Lives.{AreAgreed, Keeps};
 ghost use Rattle.cp_vat.specs.Posting.{KeepsBy, RulesPost};
 ghost use Rattle.cp_vat.specs.WorldRows.{EndsWithoutExport};
 ghost use Rattle.cp_vat.specs.LaneRows.{LaneOfThreeCalls, LaneWithoutEmbargo, LaneAgain};
-ghost use Rattle.cp_vat.specs.Turns.{TurnKeeps};
+ghost use Rattle.cp_vat.specs.Turns.{LeaveKeeps, SettlingKeeps, TiedAreOpen, TurnKeeps};
 ghost use Rattle.cp_vat.specs.Local.{Local};
 ghost use Rattle.cp_vat.specs.Waits.{WaitRightly};
 ghost use Rattle.cp_vat.specs.Naming.{NamesHold, ValuesHold};
@@ -60,7 +60,16 @@ pub fn lane_of_three_calls()
     ensures again { LaneAgain }
 {}
 
-/// One turn of waiting calls leaves the others waiting for what their ports lead to.
+/// A promise that is settled, and each turn of waiting calls, leave the others waiting for what their
+/// ports lead to, also where the call fails and its exception goes on to the promises tied to its answer.
 pub fn turns_keep()
-    ensures { TurnKeeps }
+    ensures settling { SettlingKeeps }
+    ensures tied { TiedAreOpen }
+    ensures turns { TurnKeeps }
+{}
+
+/// So do waiting calls that leave: where they rest no gate is over, and each call that is left waits for
+/// what its port leads to.
+pub fn leave_keeps()
+    ensures { LeaveKeeps }
 {}
