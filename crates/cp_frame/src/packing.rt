@@ -73,12 +73,18 @@ fn tag_of(bytes: &[u8; 8]) -> u8
 fn push_sparse(out: &mut Vec<u8>, tag: u8, bytes: &[u8; 8]) -> Result<(), AllocError>
     ensures { OnOk result (out.new.items ≡ out.old.items ++ tag ∷ written (bytes_that_count bytes.now)) }
 {
-    out.push(tag)?;
+    let mut group = [tag; 9];
+    let mut length = 1;
     for byte in bytes {
+        group[length] = *byte;
         if *byte != 0 {
-            out.push(*byte)?;
+            length += 1;
         }
     }
+    // All nine are copied and the last dropped again: a copy whose length is known is the faster one.
+    let start = out.len();
+    out.extend_from_slice(&group)?;
+    out.truncate(start + length);
     Ok(())
 }
 
