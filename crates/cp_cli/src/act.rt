@@ -1,7 +1,7 @@
 //! What the commands do, over a reader and two writers.
 
 use crate::fault::Stop;
-use cp_frame::{FrameReader, Mode, write_frame};
+use cp_frame::{FrameReader, Mode, write_over};
 use cp_lines::push_line;
 use cp_stream::view_of;
 use cp_tree::{Limits, read_root, write_segments};
@@ -41,15 +41,23 @@ struct Progress {
     bytes: u64,
 }
 
-/// Writes the frame of the segments.
+/// What the last message gave: it is written over by the next.
+#[derive(Drop)]
+struct Last {
+    line: String,
+    frame: Vec<u8>,
+}
+
+/// Writes the frame of the segments. `frame` is the last one.
 fn write<W: Write>(
     alloc: Global,
     segments: &Segments,
     mode: Mode,
+    frame: &mut Vec<u8>,
     out: &mut W,
 ) -> Result<(), Stop> {
-    let bytes = write_frame(alloc, segments, mode, Limits::standard())?;
-    Ok(out.write_all(&bytes)?)
+    write_over(alloc, frame, segments, mode, Limits::standard())?;
+    Ok(out.write_all(frame)?)
 }
 
 impl Plan {
@@ -67,26 +75,26 @@ impl Plan {
         }
     }
 
-    /// Does the command on a frame. `line` is the last line, which is written over.
+    /// Does the command on a frame.
     fn take<W: Write>(
         &self,
         alloc: Global,
         segments: &Segments,
-        line: &mut String,
+        last: &mut Last,
         out: &mut W,
     ) -> Result<(), Stop> {
         match self {
             Plan::Show { limits, .. } => {
                 let view = view_of(segments, *limits)?;
-                line.clear();
-                push_line(alloc, line, &view)?;
-                out.write_all(line.as_bytes())?;
+                last.line.clear();
+                push_line(alloc, &mut last.line, &view)?;
+                out.write_all(last.line.as_bytes())?;
             }
             Plan::Check { limits, .. } => {
                 view_of(segments, *limits)?;
             }
-            Plan::Pack => write(alloc, segments, Mode::Packed, out)?,
-            Plan::Unpack => write(alloc, segments, Mode::Plain, out)?,
+            Plan::Pack => write(alloc, segments, Mode::Packed, &mut last.frame, out)?,
+            Plan::Unpack => write(alloc, segments, Mode::Plain, &mut last.frame, out)?,
             Plan::Recut { mode, words } => {
                 let limits = Limits::standard();
                 let root = read_root(alloc, segments, limits)?;
@@ -94,6 +102,7 @@ impl Plan {
                     alloc,
                     &write_segments(alloc, &root, *words, limits)?,
                     *mode,
+                    &mut last.frame,
                     out,
                 )?;
             }
@@ -111,7 +120,10 @@ impl Plan {
     ) -> Result<(), Stop> {
         let mut reader = self.reader(alloc);
         let mut piece = vec![in alloc; 0u8; PIECE]?;
-        let mut line = String::new(alloc);
+        let mut last = Last {
+            line: String::new(alloc),
+            frame: Vec::new(alloc),
+        };
         // A reader could go on for ever; no device gives so many pieces.
         for _ in 0..u64::MAX {
             let length = match from.read(&mut piece) {
@@ -121,7 +133,7 @@ impl Plan {
                 Err(_) => return Err(Stop::Device),
             };
             for frame in &reader.feed(&piece[..length])? {
-                self.take(alloc, &frame.1, &mut line, out)?;
+                self.take(alloc, &frame.1, &mut last, out)?;
                 progress.frames = progress.frames.saturating_add(1);
                 progress.bytes = progress.bytes.saturating_add(frame.0);
             }

@@ -142,6 +142,20 @@ laid_long (suc n) t p h k = go (cases_eq (t % 2) 0) p k (λ r l. laid_long n (t 
         let odd : t % 2 ≡ 1 = omega (arith, e) in
         ap (λ (b : List ℕ). length b) (laid_odd n t (y ∷ p) odd) ∙ ap (λ (m : ℕ). suc m) (more p (omega (arith, k, ones_step t, odd)))
 
+-- bytes behind those that the tag names change nothing
+pub laid_front : (n t : ℕ) (p q : List ℕ) → t < 2 ^ n → ones t ≤ length p → laid_by n t (p ++ q) ≡ laid_by n t p
+unfolding laid_by
+laid_front zero t p q h k = refl
+laid_front (suc n) t p q h k = go (cases_eq (t % 2) 0) p k (λ r l. laid_front n (t / 2) r q (half_small n t h) l)
+  where
+    go : (t % 2 ≡ 0) ⊎ (t % 2 ≡ 0 → ⊥) → (p : List ℕ) → ones t ≤ length p → ((r : List ℕ) → ones (t / 2) ≤ length r → laid_by n (t / 2) (r ++ q) ≡ laid_by n (t / 2) r)
+        → laid_by (suc n) t (p ++ q) ≡ laid_by (suc n) t p
+    go (inl e) p k more = laid_even n t (p ++ q) e ∙ ap (λ (b : List ℕ). 0 ∷ b) (more p (omega (arith, k, ones_step t, e))) ∙ sym (laid_even n t p e)
+    go (inr e) [] k more = absurd (omega (arith, k, ones_step t, e))
+    go (inr e) (y ∷ p) k more =
+        let odd : t % 2 ≡ 1 = omega (arith, e) in
+        laid_odd n t (y ∷ (p ++ q)) odd ∙ ap (λ (b : List ℕ). y ∷ b) (more p (omega (arith, k, ones_step t, odd))) ∙ sym (laid_odd n t (y ∷ p) odd)
+
 pub laid_bytes : (n t : ℕ) (p : List ℕ) → AreBytes p → AreBytes (laid_by n t p)
 unfolding laid_by
 laid_bytes zero t p h = tt
@@ -191,6 +205,13 @@ header_parts t h = go (cases_eq t 0) (cases_eq t 255)
     go (inl e) k = inr (subst (λ (u : ℕ). header_of u ≡ suc (suc (ones u))) (sym e) (omega (arith, lowest 0 (omega arith))), inl e)
     go (inr z) (inl e) = inr (subst (λ (u : ℕ). header_of u ≡ suc (suc (ones u))) (sym e) (omega (arith, ones_full)), inr e)
     go (inr z) (inr f) = let some : 0 < t = omega (arith, z) in let few : t < 255 = omega (arith, f, h) in inl (header_some t some few, some, few)
+
+pub laid_group_front : (t : ℕ) (p q : List ℕ) → t < 256 → suc (length p) ≡ header_of t → laid_by 8 t (p ++ q) ≡ laid_by 8 t p
+laid_group_front t p q h k = go (header_parts t h)
+  where
+    go : ((header_of t ≡ suc (ones t)) × (0 < t) × (t < 255)) ⊎ ((header_of t ≡ suc (suc (ones t))) × ((t ≡ 0) ⊎ (t ≡ 255))) → laid_by 8 t (p ++ q) ≡ laid_by 8 t p
+    go (inl e) = laid_front 8 t p q (omega (arith, h)) (omega (arith, k, e.0))
+    go (inr e) = laid_front 8 t p q (omega (arith, h)) (omega (arith, k, e.0))
 
 -- a byte in a word
 step_in_word : (t x : ℕ) (p : List ℕ) → t < 256 → AreBytes (p ++ x ∷ []) → suc (length (p ++ x ∷ [])) ≤ header_of t → length p < ones t → (others : List ℕ) × LaidStep 0 (t ∷ p) x (x ∷ others)

@@ -1,43 +1,81 @@
 -- Packed bytes that are unpacked within a limit.
-use Rattle.std.proofs.Common.{◌≡◌, ◌⊎◌, inl, inr, ℕ, zero, suc, ◌+◌, ◌-◌, ◌*◌, ◌/◌, ◌<◌, ◌≤◌, List, [], ◌∷◌, ◌++◌, length, replicate, take, drop, get_or, sym, ◌∙◌, ap, length-append, arith}
-use Rattle.std.proofs.lemmas.List.{append-nil, take_all, take_more, take-append-drop}
+use Rattle.std.proofs.Common.{◌≡◌, ◌⊎◌, inl, inr, ℕ, zero, suc, ◌+◌, ◌-◌, ◌*◌, ◌/◌, ◌<◌, ◌≤◌, List, [], ◌∷◌, ◌++◌, length, replicate, take, get_or, sym, ◌∙◌, ap, subst, append_assoc, length-append, arith}
+use Rattle.std.proofs.lemmas.List.{append-nil, take_all, nil_from_length}
 use Rattle.std.proofs.lemmas.Bool.{cases_eq}
+use Rattle.cp_frame.specs.declared.fault.FrameFault.{FrameFault}
 use Rattle.cp_frame.specs.declared.fault.FrameFault.TheVariants as faults
 use Rattle.cp_frame.specs.Framed.{AreBytes, bytes_of}
-use Rattle.cp_frame.specs.Packed.{Packed}
 use Rattle.cp_frame.specs.Stream.{IsNotUnpackedFor}
-use Rattle.cp_frame.specs.Unpacking.{nothing, next, brought, after, given, laid, all_laid}
+use Rattle.cp_frame.specs.Unpacking.{Pending, IsPending, nothing, next, brought, after, given, laid, all_laid}
+use Rattle.cp_frame.specs.Bulk.{TakesWithin}
 use Rattle.cp_frame.proofs.Numbers.{length_bytes_of}
-use Rattle.cp_frame.proofs.Opens.{after-append, given-append}
+use Rattle.cp_frame.proofs.Opens.{Brings, after-append, given-append}
 use Rattle.cp_frame.proofs.Unpacks.{packed_brings}
-use Rattle.cp_frame.proofs.Laying.{pending_nothing, pending_after, brings_packed, laid_at_most}
-use Rattle.cp_frame.proofs.Certain.{laid_is}
+use Rattle.cp_frame.proofs.Laying.{pending_nothing, pending_after, laid_at_most}
+use Rattle.cp_frame.proofs.Certain.{are_front, laid_is}
 
 -- bytes by their places
 pub bytes_by : (b : List ℕ) → ((i : ℕ) → get_or b i 0 < 256) → AreBytes b
 bytes_by [] h = tt
 bytes_by (x ∷ b) h = (h 0, bytes_by b (λ i. h (suc i)))
 
--- one byte more
-pub after_more : (b : List ℕ) (i : ℕ) → i < length b → after nothing (take (i + 1) b) ≡ next (after nothing (take i b)) (get_or b i 0)
-after_more b i h = ap (λ (c : List ℕ). after nothing c) (take_more b i 0 h) ∙ after-append nothing (take i b) (get_or b i 0 ∷ [])
+-- a front, and one behind it
+pub within_both : (limit : ℕ) (old mid new left middle back : List ℕ) (p q r : Pending) → TakesWithin limit old p left mid q middle → TakesWithin limit mid q middle new r back → TakesWithin limit old p left new r back
+within_both limit old mid new left middle back p q r h k = record {
+  front = h.front ++ k.front;
+  whole = h.whole ∙ ap (λ (b : List ℕ). h.front ++ b) k.whole ∙ sym (append_assoc h.front k.front back);
+  puts =
+      k.puts ∙ ap (λ (ws : List ℕ). ws ++ given q k.front) h.puts ∙ append_assoc old (given p h.front) (given q k.front)
+      ∙ ap (λ (s : Pending). old ++ (given p h.front ++ given s k.front)) (sym h.open_then) ∙ ap (λ (ws : List ℕ). old ++ ws) (sym (given-append p h.front k.front));
+  open_then = after-append p h.front k.front ∙ ap (λ (s : Pending). after s k.front) h.open_then ∙ k.open_then;
+  within = k.within;
+}
 
-pub given_more : (b : List ℕ) (i : ℕ) → i < length b → given nothing (take (i + 1) b) ≡ given nothing (take i b) ++ brought (after nothing (take i b)) (get_or b i 0)
-given_more b i h =
-    let p = after nothing (take i b) in
-    ap (λ (c : List ℕ). given nothing c) (take_more b i 0 h) ∙ given-append nothing (take i b) (get_or b i 0 ∷ []) ∙ ap (λ (ws : List ℕ). given nothing (take i b) ++ ws) (append-nil (brought p (get_or b i 0)))
+-- a front, and a byte behind it
+pub within_byte : (limit : ℕ) (old mid new left middle back : List ℕ) (x : ℕ) (p q r : Pending) → TakesWithin limit old p left mid q middle → middle ≡ x ∷ back → TakesWithin limit mid q (x ∷ []) new r []
+    → TakesWithin limit old p left new r back
+within_byte limit old mid new left middle back x p q r h m k =
+    let one : x ∷ [] ≡ k.front = k.whole ∙ append-nil k.front in
+    within_both limit old mid new left middle back p q r h (record {
+      front = k.front;
+      whole = m ∙ ap (λ (b : List ℕ). b ++ back) one;
+      puts = k.puts;
+      open_then = k.open_then;
+      within = k.within;
+    })
+
+-- what is open then
+pub within_pending : (limit : ℕ) (bytes words left : List ℕ) (p : Pending) → AreBytes bytes → TakesWithin limit [] nothing bytes words p left → IsPending p
+within_pending limit bytes words left p h t =
+    subst (λ (q : Pending). IsPending q) t.open_then (pending_after t.front zero [] pending_nothing (are_front t.front left (subst (λ (b : List ℕ). AreBytes b) t.whole h)))
+
+-- the front is all of the bytes, where none are left
+pub within_whole : (limit : ℕ) (bytes words left : List ℕ) (p : Pending) → TakesWithin limit [] nothing bytes words p left → length left ≡ 0 → Brings nothing bytes words p
+within_whole limit bytes words left p t e =
+    let none = nil_from_length left e in
+    let all : bytes ≡ t.front = t.whole ∙ ap (λ (b : List ℕ). t.front ++ b) none ∙ append-nil t.front in
+    record {
+      words = ap (λ (b : List ℕ). given nothing b) all ∙ sym t.puts;
+      open_then = ap (λ (b : List ℕ). after nothing b) all ∙ t.open_then;
+    }
 
 pub length_laid : (b : List ℕ) → length (all_laid b) ≡ 8 * length (given nothing b) + length (laid (after nothing b))
 length_laid b = omega (arith, length-append (bytes_of (given nothing b)) (laid (after nothing b)), length_bytes_of (given nothing b))
 
--- the words of the first bytes are too many
-pub past_limit : (b : List ℕ) (i limit : ℕ) → AreBytes b → limit < length (given nothing (take i b)) → IsNotUnpackedFor b limit faults.FrameTooLarge
-past_limit b i limit h k =
-    let front = take i b in
-    let back = drop i b in
-    let whole : length (given nothing b) ≡ length (given nothing front) + length (given (after nothing front) back) =
-    ap (λ (c : List ℕ). length (given nothing c)) (sym (take-append-drop i b)) ∙ ap (λ (ws : List ℕ). length ws) (given-append nothing front back) ∙ length-append (given nothing front) (given (after nothing front) back) in
-    (all_laid b, laid_is b h, omega (arith, length_laid b, whole, k))
+-- the words of the first bytes and of one more are too many
+pub past_limit : (limit : ℕ) (bytes words left : List ℕ) (x : ℕ) (p : Pending) → AreBytes bytes → TakesWithin limit [] nothing bytes words p (x ∷ left) → limit < length words + length (brought p x)
+    → IsNotUnpackedFor bytes limit faults.FrameTooLarge
+past_limit limit bytes words left x p h t k =
+    let front = t.front in
+    let all : given nothing bytes ≡ words ++ (brought p x ++ given (next p x) left) =
+    ap (λ (b : List ℕ). given nothing b) t.whole ∙ given-append nothing front (x ∷ left) ∙ ap (λ (ws : List ℕ). ws ++ given (after nothing front) (x ∷ left)) (sym t.puts) ∙ ap (λ (q : Pending). words ++ given q (x ∷ left)) t.open_then in
+    let count = ap (λ (ws : List ℕ). length ws) all ∙ length-append words (brought p x ++ given (next p x) left) in
+    (all_laid bytes, laid_is bytes h, omega (arith, length_laid bytes, count, length-append (brought p x) (given (next p x) left), k))
+
+pub stops : (limit : ℕ) (bytes words left : List ℕ) (x : ℕ) (p : Pending) (fault : FrameFault) → AreBytes bytes → TakesWithin limit [] nothing bytes words p (x ∷ left)
+    → (fault ≡ faults.OutOfMemory) ⊎ ((fault ≡ faults.FrameTooLarge) × (limit < length words + length (brought p x))) → IsNotUnpackedFor bytes limit fault
+stops limit bytes words left x p fault h t (inl e) = subst (λ (f : FrameFault). IsNotUnpackedFor bytes limit f) (sym e) tt
+stops limit bytes words left x p fault h t (inr k) = subst (λ (f : FrameFault). IsNotUnpackedFor bytes limit f) (sym k.0) (past_limit limit bytes words left x p h t k.1)
 
 -- a word that is laid is too many
 pub past_at_end : (b : List ℕ) (limit : ℕ) → AreBytes b → length (given nothing b) ≡ limit → length (laid (after nothing b)) ≡ 8 → IsNotUnpackedFor b limit faults.FrameTooLarge
@@ -55,9 +93,6 @@ cut_short b limit h open_then k few =
     within s (inl e) (inl f) = absurd (few e f)
     within s (inl e) (inr f) = omega (arith, length_laid b, e, f, s)
     within s (inr e) f = omega (arith, length_laid b, e, k, s)
-
-pub unpacked : (b : List ℕ) → AreBytes b → after nothing b ≡ nothing → Packed (given nothing b) b
-unpacked b h e = brings_packed b h e
 
 -- a vector that is filled up
 pub filled_up : (xs : List ℕ) (n count w : ℕ) → n ≡ length xs + count → take n xs ++ replicate (n - length xs) w ≡ xs ++ replicate count w

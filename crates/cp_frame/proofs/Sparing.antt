@@ -4,7 +4,8 @@ use Rattle.std.specs.Prelude.{count_by, eqb}
 use Rattle.std.specs.List.{AllByRecursion}
 use Rattle.std.specs.Int.{to_le_bytes, from_le_bytes, w64}
 use Rattle.std.proofs.lemmas.Nat.{from_le_bytes-to_le_bytes_8, pow_below}
-use Rattle.std.proofs.lemmas.List.{append-nil, take-append-drop, replicate_more, take_more, drop_more, drop_all, length-take-le, length-drop, map-append}
+use Rattle.std.proofs.Math.Seq.{take-take, take-append_seam, take-append-add}
+use Rattle.std.proofs.lemmas.List.{append-nil, take-append-drop, take-append-le, replicate_more, take_more, drop_more, drop_all, length-take-le, length-drop, map-append}
 use Rattle.std.proofs.lemmas.Bool.{cases_eq}
 use Rattle.cp_frame.specs.Framed.{AreWords, bytes_of}
 use Rattle.cp_frame.specs.Packed.{Group, sparse, zeros, raw, tag, written, IsGroup, IsSparing, IsLongest, StartsWithout, zero_bytes, spelling, words_of, Spelt}
@@ -286,3 +287,14 @@ raw_bytes out a b d e word run t n h k l m =
     let first : b ≡ out ++ t ∷ word = k ∙ ap (λ (x : List ℕ). x ++ word) h ∙ append_assoc out (t ∷ []) word in
     let second : d ≡ out ++ t ∷ (word ++ n ∷ []) = l ∙ ap (λ (x : List ℕ). x ++ n ∷ []) first ∙ append_assoc out (t ∷ word) (n ∷ []) in
     m ∙ ap (λ (x : List ℕ). x ++ run) second ∙ append_assoc out (t ∷ (word ++ n ∷ [])) run ∙ ap (λ (x : List ℕ). out ++ t ∷ x) (append_assoc word (n ∷ []) run)
+
+-- what is kept of room behind other bytes
+pub kept_room : (s n k : ℕ) (x base more room others rest w : List ℕ) → x ≡ base ++ more → s ≡ length base → s + n ≤ k → n ≤ length room → take n room ≡ w
+    → take (s + n) (take k ((take s x ++ (room ++ others)) ++ rest)) ≡ base ++ w
+kept_room s n k x base more room others rest w e z h l g =
+    let front : take s x ≡ base = ap (λ (b : List ℕ). take s b) e ∙ ap (λ (m : ℕ). take m (base ++ more)) z ∙ take-append_seam base more in
+    let all : (take s x ++ (room ++ others)) ++ rest ≡ base ++ (room ++ (others ++ rest)) =
+    ap (λ (b : List ℕ). (b ++ (room ++ others)) ++ rest) front ∙ append_assoc base (room ++ others) rest ∙ ap (λ (b : List ℕ). base ++ b) (append_assoc room others rest) in
+    take-take (s + n) k ((take s x ++ (room ++ others)) ++ rest) h
+    ∙ ap (λ (b : List ℕ). take (s + n) b) all ∙ ap (λ (m : ℕ). take (m + n) (base ++ (room ++ (others ++ rest)))) z ∙ take-append-add base (room ++ (others ++ rest)) n
+    ∙ ap (λ (b : List ℕ). base ++ b) (take-append-le n room (others ++ rest) l ∙ g)

@@ -49,6 +49,17 @@ pub spread_odd : (tag : ℕ) (written bytes : List ℕ) (bits x : ℕ) (left : L
     → Spreads tag written (set bytes place x) (bits / 2) left (place + 1)
 spread_odd tag written bytes bits x left place h = odd_by tag written bytes bits left place x h.behind h.front h.long h.all h.stand h.are
 
+zero_by : (tag : ℕ) (written bytes : List ℕ) (bits : ℕ) (left : List ℕ) (place n : ℕ) (front : List ℕ) → length front ≡ place → place + n ≡ 8 → bytes ≡ front ++ replicate n 0
+    → laid_by 8 tag written ≡ front ++ laid_by n bits left → place < 8 → bits % 2 ≡ 0 → Spreads tag written (set bytes place 0) (bits / 2) left (place + 1)
+zero_by tag written bytes bits left place zero front l a s e h k = absurd (omega (arith, a, h))
+zero_by tag written bytes bits left place (suc n) front l a s e h k =
+    spread_by tag written (set bytes place 0) (bits / 2) left place 0 n front [] l a (ap (λ (b : List ℕ). set b place 0) s ∙ set_at front 0 (replicate n 0) 0 place l)
+    (e ∙ ap (λ (b : List ℕ). front ++ b) (laid_even n bits left k))
+
+pub spread_zero : (tag : ℕ) (written bytes : List ℕ) (bits : ℕ) (left : List ℕ) (place : ℕ) → Spreads tag written bytes bits left place → place < 8 → bits % 2 ≡ 0
+    → Spreads tag written (set bytes place 0) (bits / 2) left (place + 1)
+spread_zero tag written bytes bits left place h = zero_by tag written bytes bits left place h.behind h.front h.long h.all h.stand h.are
+
 -- zeros behind a word's bytes change nothing
 padded_at : (front : List ℕ) (n i : ℕ) → get_or (front ++ replicate n 0) i 0 ≡ get_or front i 0
 padded_at [] zero i = refl
@@ -90,3 +101,11 @@ whole_by tag written bytes bits left front (suc n) l z s e = absurd (omega (arit
 
 pub spread_whole : (tag : ℕ) (written bytes : List ℕ) (bits : ℕ) (left : List ℕ) (place : ℕ) → Spreads tag written bytes bits left place → place ≡ 8 → Spread tag written bytes 8
 spread_whole tag written bytes bits left place h e = whole_by tag written bytes bits left h.front h.behind (h.long ∙ e) (omega (arith, h.all, e)) h.stand h.are
+
+eight_by : (tag : ℕ) (written bytes : List ℕ) (bits : ℕ) (left front : List ℕ) (n : ℕ) → n ≡ 0 → bytes ≡ front ++ replicate n 0 → laid_by 8 tag written ≡ front ++ laid_by n bits left → bytes ≡ laid_by 8 tag written
+unfolding laid_by
+eight_by tag written bytes bits left front zero z s e = s ∙ sym e
+eight_by tag written bytes bits left front (suc n) z s e = absurd (omega (arith, z))
+
+pub spread_eight : (tag : ℕ) (written bytes : List ℕ) (bits : ℕ) (left : List ℕ) (place : ℕ) → Spreads tag written bytes bits left place → place ≡ 8 → bytes ≡ laid_by 8 tag written
+spread_eight tag written bytes bits left place h e = eight_by tag written bytes bits left h.front h.behind (omega (arith, h.all, e)) h.stand h.are

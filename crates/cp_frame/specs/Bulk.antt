@@ -25,6 +25,14 @@ pub record TakesGroups (most : ℕ) (old : List ℕ) (run : ℕ) (left new : Lis
   pub within : length new ≤ most
   pub ends : length new ≡ most → next ≡ 0
 
+-- Likewise, whatever is open of a group: a front of the bytes was taken, with the words that it brings, and there are no more than there may be.
+pub record TakesWithin (limit : ℕ) (old : List ℕ) (p : Pending) (left new : List ℕ) (q : Pending) (back : List ℕ) : Type 0 where
+  pub front : List ℕ
+  pub whole : left ≡ front ++ back
+  pub puts : new ≡ old ++ given p front
+  pub open_then : after p front ≡ q
+  pub within : length new ≤ limit
+
 -- The same, into the segments of a frame: it is still open, or it is whole and no run goes on.
 pub record TakesPart (limits : Bounds) (old : OpenFrame) (run : ℕ) (left : List ℕ) (new : OpenFrame) (next : ℕ) (back : List ℕ) : Type 0 where
   pub front : List ℕ

@@ -4,7 +4,7 @@ ghost use Rattle.std.specs.Prelude.{◌≡◌, ◌<◌, IfOk, length};
 ghost use Rattle.cp_frame.specs.Bulk.{TakesGroups};
 
 use crate::frame::take_in;
-use crate::group::{header, spread};
+use crate::group::{header, spread_whole};
 use std::alloc::AllocError;
 
 /// How many bytes a group has at most, before the further words of a raw run.
@@ -61,8 +61,7 @@ fn take_header<'a>(
     if room == 1 && 0 < count {
         return Ok(left);
     }
-    let (word, _) = spread(tag, bytes);
-    words.push(u64::from_le_bytes(word))?;
+    words.push(u64::from_le_bytes(spread_whole(tag, behind)))?;
     *run = count;
     Ok(back)
 }

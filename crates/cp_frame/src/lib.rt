@@ -25,7 +25,7 @@ pub use mode::Mode;
 pub use packing::pack;
 pub use reader::FrameReader;
 pub use unpacking::unpack;
-pub use write::write_frame;
+pub use write::{write_frame, write_over};
 
 #[cfg(test)]
 mod decode_tests;

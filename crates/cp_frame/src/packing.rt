@@ -69,16 +69,31 @@ fn tag_of(bytes: &[u8; 8]) -> u8
     (255 - zeros) as u8
 }
 
+/// Puts the bytes that aren't zero at the front of the room. Gives how many these are.
+fn gather(bytes: &[u8; 8], room: &mut [u8]) -> usize
+    requires { 8 ≤ length room.old }
+    ensures few { result ≤ 8 }
+    ensures front { take result room.new ≡ written (bytes_that_count bytes.now) }
+{
+    let mut count = 0;
+    for byte in bytes {
+        room[count] = *byte;
+        if *byte != 0 {
+            count += 1;
+        }
+    }
+    count
+}
+
 /// Writes a group of one word that has bytes of both kinds.
 fn push_sparse(out: &mut Vec<u8>, tag: u8, bytes: &[u8; 8]) -> Result<(), AllocError>
     ensures { OnOk result (out.new.items ≡ out.old.items ++ tag ∷ written (bytes_that_count bytes.now)) }
 {
     out.push(tag)?;
-    for byte in bytes {
-        if *byte != 0 {
-            out.push(*byte)?;
-        }
-    }
+    let start = out.len();
+    out.extend_from_slice(&[0; 8])?;
+    let count = gather(bytes, &mut out[start..]);
+    out.truncate(start + count);
     Ok(())
 }
 

@@ -258,6 +258,31 @@ fn limits_are_kept_in_writing(rt: HostRuntime) -> Result<(), Fail> {
     Ok(())
 }
 
+#[test]
+fn a_frame_is_written_over_another(rt: HostRuntime) -> Result<(), Fail> {
+    let alloc = rt.alloc();
+    let Some(limits) = Limits::new(64, 1, 2, 8) else {
+        return Err(Fail::from("limits"));
+    };
+    let mut out = Vec::new(alloc);
+    for bytes in [&THREE_SEGMENTS[..], &FINISH[..], &TWO_SEGMENTS[..]] {
+        let frames = new_reader(alloc).feed(bytes)?;
+        write_over(
+            alloc,
+            &mut out,
+            &frames[0].1,
+            Mode::Plain,
+            Limits::standard(),
+        )?;
+        assert_eq!(rt; out.as_slice(), bytes);
+    }
+    let frames = new_reader(alloc).feed(&THREE_SEGMENTS)?;
+    let written = write_over(alloc, &mut out, &frames[0].1, Mode::Packed, limits);
+    assert_eq!(rt; written, Err(FrameFault::TooManySegments));
+    assert!(rt; out.is_empty());
+    Ok(())
+}
+
 /// A reader that met want of memory has failed, and keeps nothing.
 fn expect_refused(rt: &impl Abort, reader: &mut FrameReader, fault: FrameFault) {
     assert_eq!(rt; fault, FrameFault::OutOfMemory);

@@ -1,12 +1,53 @@
 //! Unpacking words.
 
-ghost use Rattle.std.specs.Prelude.{◌≡◌, ◌≤◌, IfOk, IfErr, length};
+ghost use Rattle.std.specs.Prelude.{◌≡◌, ◌≤◌, ◌<◌, ◌+◌, ◌⊎◌, ◌∷◌, [], IfOk, IfErr, OnOk, length};
 ghost use Rattle.cp_frame.specs.Packed.{Packed};
 ghost use Rattle.cp_frame.specs.Stream.{IsNotUnpackedFor};
+ghost use Rattle.cp_frame.specs.Unpacking.{IsPending, brought, pending_of};
+ghost use Rattle.cp_frame.specs.Bulk.{TakesWithin};
+ghost use Rattle.cp_frame.specs.declared.fault.FrameFault.TheVariants.{OutOfMemory, FrameTooLarge};
 
+use crate::bulk::take_groups;
 use crate::fault::FrameFault;
 use crate::group::OpenGroup;
-use std::alloc::Global;
+use std::alloc::{AllocError, Global};
+
+/// Takes groups at once, where none has come in part and there is room for a word.
+fn take_front<'a>(
+    words: &mut Vec<u64>,
+    group: &mut OpenGroup,
+    limit: usize,
+    left: &'a [u8],
+) -> Result<&'a [u8], AllocError>
+    requires within { length words.old.items ≤ limit }
+    requires few { group.old.run < 256 }
+    ensures { IfOk result (λ back. TakesWithin limit words.old.items (pending_of group.old) left.now words.new.items (pending_of group.new) back.now) }
+{
+    if !group.part.is_empty() || words.len() == limit {
+        return Ok(left);
+    }
+    take_groups(words, &mut group.run, limit, left)
+}
+
+/// Takes one byte, with the words that it brings.
+fn take_byte(
+    words: &mut Vec<u64>,
+    group: &mut OpenGroup,
+    limit: usize,
+    byte: u8,
+) -> Result<(), FrameFault>
+    requires within { length words.old.items ≤ limit }
+    requires pending { IsPending (pending_of group.old) }
+    ensures takes { OnOk result (TakesWithin limit words.old.items (pending_of group.old) (byte ∷ []) words.new.items (pending_of group.new) []) }
+    ensures fault { IfErr result (λ fault. (fault ≡ OutOfMemory) ⊎ ((fault ≡ FrameTooLarge) × (limit < length words.old.items + length (brought (pending_of group.old) byte)))) }
+{
+    let run = group.take(byte)?;
+    if limit - words.len() < run.count {
+        return Err(FrameFault::FrameTooLarge);
+    }
+    words.resize(words.len() + run.count, run.word)?;
+    Ok(())
+}
 
 /// The words that packed bytes give, `limit` of them at most (encoding specification, "Packing").
 ///
@@ -19,12 +60,10 @@ pub fn unpack(alloc: Global, bytes: &[u8], limit: usize) -> Result<Vec<u64>, Fra
 {
     let mut words = Vec::with_capacity(alloc, limit.min(bytes.len() / 4))?;
     let mut group = OpenGroup::new(alloc);
-    for byte in bytes {
-        let run = group.take(*byte)?;
-        if limit - words.len() < run.count {
-            return Err(FrameFault::FrameTooLarge);
-        }
-        words.resize(words.len() + run.count, run.word)?;
+    let mut left = take_front(&mut words, &mut group, limit, bytes)?;
+    'unpacking: while !left.is_empty() {
+        take_byte(&mut words, &mut group, limit, left[0])?;
+        left = take_front(&mut words, &mut group, limit, left.split_at(1).1)?;
     }
     if group.is_empty() {
         return Ok(words);

@@ -1,6 +1,6 @@
 //! Writing frames.
 
-ghost use Rattle.std.specs.Prelude.{◌≡◌, ◌+◌, ◌^◌, ◌<◌, ◌≤◌, ◌++◌, IfOk, OnOk, IfErr, IfSome, IfNone, length, sum};
+ghost use Rattle.std.specs.Prelude.{◌≡◌, [], ◌+◌, ◌^◌, ◌<◌, ◌≤◌, ◌++◌, IfOk, OnOk, IfErr, IfSome, IfNone, length, sum};
 ghost use Rattle.cp_frame.specs.Framed.{bytes_of, sizes_of};
 ghost use Rattle.cp_frame.specs.Frame.{IsWithin, Written, IsWritten, IsRefusedFor, padded_table};
 ghost use Rattle.cp_frame.specs.Parts.{lists};
@@ -74,21 +74,22 @@ fn count_words(segments: &[Vec<u64>], limits: Limits) -> Result<u64, FrameFault>
     words_in(segments, limits.frame_words() as u64).ok_or(FrameFault::FrameTooLarge)
 }
 
-/// The frame of the segments, in the plain form.
-fn write_plain(alloc: Global, segments: &[Vec<u64>], words: u64) -> Result<Vec<u8>, AllocError>
+/// Writes the frame of the segments, in the plain form.
+fn write_plain(out: &mut Vec<u8>, segments: &[Vec<u64>], words: u64) -> Result<(), AllocError>
+    requires none { out.old.items ≡ [] }
     requires some { 0 < length segments.now }
     requires few { length segments.now ≤ 512 }
     requires words { words ≡ sum (sizes_of (lists segments.now)) }
     requires small { words ≤ 67108864 }
-    ensures { IfOk result (λ out. IsWritten Plain (lists segments.now) out.items) }
+    ensures { OnOk result (IsWritten Plain (lists segments.now) out.new.items) }
 {
     let table = segments.len() / 2 + 1;
-    let mut out = Vec::with_capacity(alloc, 8 * (table + words as usize))?;
-    push_table(&mut out, segments)?;
+    out.reserve(8 * (table + words as usize))?;
+    push_table(out, segments)?;
     for segment in segments {
-        push_words(&mut out, segment)?;
+        push_words(out, segment)?;
     }
-    Ok(out)
+    Ok(())
 }
 
 /// The segment table, as words.
@@ -105,22 +106,58 @@ fn table_words(alloc: Global, segments: &[Vec<u64>]) -> Result<Vec<u64>, AllocEr
     Ok(words)
 }
 
-/// The frame of the segments, in the packed form: the table and each segment are a piece each.
-fn write_packed(alloc: Global, segments: &[Vec<u64>], words: u64) -> Result<Vec<u8>, AllocError>
+/// Writes the frame of the segments, in the packed form: the table and each segment are a piece each.
+fn write_packed(
+    alloc: Global,
+    out: &mut Vec<u8>,
+    segments: &[Vec<u64>],
+    words: u64,
+) -> Result<(), AllocError>
+    requires none { out.old.items ≡ [] }
     requires some { 0 < length segments.now }
     requires few { length segments.now ≤ 512 }
     requires words { words ≡ sum (sizes_of (lists segments.now)) }
     requires small { words ≤ 67108864 }
-    ensures { IfOk result (λ out. IsWritten Packed (lists segments.now) out.items) }
+    ensures { OnOk result (IsWritten Packed (lists segments.now) out.new.items) }
 {
     let table = table_words(alloc, segments)?;
     let most = LONGEST * (table.len() + words as usize);
-    let mut out = Vec::with_capacity(alloc, most.min(FIRST_ROOM))?;
-    push_packed(&mut out, &table)?;
+    out.reserve(most.min(FIRST_ROOM))?;
+    push_packed(out, &table)?;
     for segment in segments {
-        push_packed(&mut out, segment)?;
+        push_packed(out, segment)?;
     }
-    Ok(out)
+    Ok(())
+}
+
+/// Writes the bytes of the segments' frame as `write_frame` gives them, over what stands in `out`,
+/// whose room is used again.
+///
+/// Where the limits are passed, `TooManySegments` (F1) is told, or else `FrameTooLarge` (F2). At an
+/// `Err` nothing stands in `out`.
+pub fn write_over(
+    alloc: Global,
+    out: &mut Vec<u8>,
+    segments: &Segments,
+    mode: Mode,
+    limits: Limits,
+) -> Result<(), FrameFault>
+    ensures written { OnOk result (Written mode limits segments.now out.new.items) }
+    ensures refused { IfErr result (IsRefusedFor limits segments.now) }
+    ensures nothing { IfErr result (λ fault. out.new.items ≡ []) }
+{
+    out.clear();
+    let segments = segments.lists();
+    let words = count_words(segments, limits)?;
+    let done = match mode {
+        Mode::Plain => write_plain(out, segments, words),
+        Mode::Packed => write_packed(alloc, out, segments, words),
+    };
+    if done.is_err() {
+        out.clear();
+        return Err(FrameFault::OutOfMemory);
+    }
+    Ok(())
 }
 
 /// The bytes of the segments' frame (encoding specification, "Serialization Over a Stream" and
@@ -137,11 +174,7 @@ pub fn write_frame(
     ensures written { IfOk result (λ out. Written mode limits segments.now out.items) }
     ensures refused { IfErr result (IsRefusedFor limits segments.now) }
 {
-    let segments = segments.lists();
-    let words = count_words(segments, limits)?;
-    let out = match mode {
-        Mode::Plain => write_plain(alloc, segments, words)?,
-        Mode::Packed => write_packed(alloc, segments, words)?,
-    };
+    let mut out = Vec::new(alloc);
+    write_over(alloc, &mut out, segments, mode, limits)?;
     Ok(out)
 }

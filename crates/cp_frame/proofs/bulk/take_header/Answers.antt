@@ -1,8 +1,10 @@
-use Rattle.std.proofs.Common.{◌≡◌, ◌<◌, ◌+◌, ◌-◌, ◌++◌, ◌∷◌, [], ℕ, List, length, take, get_or, replicate, refl, sym, ◌∙◌, ap, subst, arith}
+use Rattle.std.proofs.Common.{◌≡◌, ◌<◌, ◌+◌, ◌-◌, ◌++◌, ◌∷◌, [], ℕ, suc, List, length, take, get_or, replicate, refl, sym, ◌∙◌, ap, subst, arith}
 use Rattle.std.specs.Vec.{vec_len}
 use Rattle.std.proofs.lemmas.List.{take-append-drop, length-replicate, get_or-drop}
-use Rattle.cp_frame.specs.Unpacking.{run_of}
+use Rattle.cp_frame.specs.Unpacking.{header_of, run_of, laid_by}
 use Rattle.cp_frame.proofs.Unpacks.{header_long, run_sparse}
+use Rattle.std.specs.Int.{from_le_bytes, w64}
+use Rattle.cp_frame.proofs.Laying.{laid_group_front}
 use Rattle.cp_frame.proofs.Filling.{take_small}
 use Rattle.cp_frame.proofs.Limited.{filled_up}
 use Rattle.cp_frame.proofs.Pushes.{words_repeat}
@@ -59,6 +61,8 @@ returns c =
       | else-room-eq1-via-then-room-eq1+else-count-gt0 w ↦ omega (arith, w.if-count-gt0.false)
       | else-room-eq1-via-else-room-eq1 w ↦ absurd (omega (arith, w.if-room-eq1.false, e, c.len.ensures))
     ] in
+    let long : suc (length bytes) ≡ header_of tag = omega (arith, c.split_at-2.ensures.front_len, c.header.ensures, header_long tag) in
+    let spread : c.spread_whole.result ≡ laid_by 8 tag bytes = c.spread_whole.ensures ∙ ap (λ (b : List ℕ). laid_by 8 tag b) split ∙ laid_group_front tag bytes back (omega (arith, c.type_inv.left 0)) long in
     let there = header_there old left c.push.new.self.items behind bytes back tag c.if-tag.count some refl c.split_at.ensures.back split
-    (omega (arith, c.split_at-2.ensures.front_len, c.header.ensures, header_long tag)) (word_new old c.push.new.self.items bytes tag word sparse (c.from_le_bytes.ensures ∙ c.spread.ensures.word) c.in_ok-push.ensures.items) run in
+    long (word_new old c.push.new.self.items bytes tag word sparse (c.from_le_bytes.ensures ∙ ap (λ (b : List ℕ). from_le_bytes w64 b) spread) c.in_ok-push.ensures.items) run in
     takes_header c.args.most old c.push.new.self.items (word ∷ []) left back c.args.run.now c.if-tag.count c.requires.none there c.in_ok-push.ensures.items (omega (arith, c.from_le_bytes.type_inv), tt) few (omega (arith, c.requires.room)) last

@@ -1,83 +1,92 @@
-use Rattle.std.proofs.Common.{◌≡◌, ◌<◌, ◌≤◌, ◌+◌, ◌-◌, ◌++◌, ℕ, List, length, take, get_or, replicate, sym, ap, subst, ◌∙◌, length-append, arith}
-use Rattle.std.proofs.lemmas.List.{take_all, length-replicate}
-use Rattle.std.specs.Vec.{vec_len}
-use Rattle.cp_frame.specs.Packed.{Packed}
-use Rattle.cp_frame.specs.Unpacking.{Pending, IsPending, nothing, next, brought, after, given, laid, pending_of}
-use Rattle.cp_frame.proofs.Limited.{bytes_by, after_more, given_more, past_limit, past_at_end, cut_short, unpacked, filled_up}
-use Rattle.cp_frame.proofs.Unpacks.{pending_step}
+use Rattle.std.proofs.Common.{◌≡◌, ◌∷◌, ◌<◌, ◌≤◌, [], ℕ, List, length, drop, get_or, sym, subst, ◌∙◌, ap, arith}
+use Rattle.std.proofs.lemmas.Result.{err_from_is_err_and}
+use Rattle.std.proofs.lemmas.Bool.Decides.{nat_tests}
+use Rattle.cp_frame.specs.Unpacking.{Pending, nothing, given, after, laid, pending_of}
+use Rattle.cp_frame.specs.Bulk.{TakesWithin}
+use Rattle.cp_frame.proofs.Laying.{brings_these}
+use Rattle.cp_frame.proofs.Limited.{bytes_by, within_byte, within_both, within_pending, within_whole, stops, past_at_end, cut_short}
+use Rattle.cp_frame.proofs.Fronts.{first_left}
 use Rattle.cp_frame.proofs.unpacking.unpack.Goals as goal
 use Rattle.cp_frame.proofs.unpacking.unpack.Goals.{else-len-limit-via-then-len-limit+else-known-eq8, else-len-limit-via-else-len-limit}
 
-pub returns-then-limit-len-clause-refused : goal.returns-then-limit-len-clause-refused
-returns-then-limit-len-clause-refused c =
-    let b = c.args.bytes.now in
-    let i = c.loop-byte.byte-index in
-    let all = bytes_by b (λ j. omega (arith, c.type_inv.bytes j)) in
-    let inside : i < length b = omega (arith, c.loop-byte-test.true) in
-    let brings = c.in_ok-run.ensures.words ∙ ap (λ (p : Pending). brought p (get_or b i 0)) c.loop-byte.invariant.open_then in
-    let more = given_more b i inside in
-    let before : length c.loop-byte.words.items ≡ length (given nothing (take i b)) = ap (λ (ws : List ℕ). length ws) c.loop-byte.invariant.words in
-    let count : c.in_ok-run.run'.count ≡ length (brought (after nothing (take i b)) (get_or b i 0)) =
-    sym (length-replicate c.in_ok-run.run'.count c.in_ok-run.run'.word) ∙ ap (λ (ws : List ℕ). length ws) brings in
-    let sum = ap (λ (ws : List ℕ). length ws) more ∙ length-append (given nothing (take i b)) (brought (after nothing (take i b)) (get_or b i 0)) in
-    past_limit b (i + 1) c.args.limit all (omega (arith, before, count, sum, c.if-limit-len.true, c.len.ensures, c.loop-byte.invariant.within))
+pub take_byte-requires-clause-pending : goal.take_byte-requires-clause-pending
+take_byte-requires-clause-pending c =
+    let l = c.unpacking in
+    within_pending c.args.limit c.args.bytes.now l.words.items l.left.now (pending_of l.group) (bytes_by c.args.bytes.now (λ j. omega (arith, c.type_inv.bytes j))) l.invariant
 
-pub loop-byte-preserved : goal.loop-byte-preserved
-loop-byte-preserved c =
-    let b = c.args.bytes.now in
-    let i = c.loop-byte.byte-index in
-    let x = get_or b i 0 in
-    let inside : i < length b = omega (arith, c.loop-byte-test.true) in
-    let run = c.in_ok-run.run' in
-    let state = c.in_ok-run.ensures.state in
-    let brings = c.in_ok-run.ensures.words ∙ ap (λ (p : Pending). brought p x) c.loop-byte.invariant.open_then in
-    let long : c.len-in-loop-byte.result + run.count ≡ length c.loop-byte.words.items + run.count = omega (arith, c.len-in-loop-byte.ensures) in
-    let n = c.len-in-loop-byte.result + run.count in
-    let old = c.loop-byte.words.items in
-    let resized : c.resize.new.self.items ≡ take n old ++ replicate (n - vec_len c.loop-byte.words) run.word = c.in_ok-resize.ensures.items in
-    let same : vec_len c.loop-byte.words ≡ length old = omega arith in
-    let filled = ap (λ (m : ℕ). take n old ++ replicate (n - m) run.word) same ∙ filled_up old n run.count run.word long in
-    record {
-      is = subst (λ (p : Pending). IsPending p) (sym state) (pending_step c.loop-byte.group.run c.loop-byte.group.part.items x c.loop-byte.invariant.is (omega (arith, c.type_inv.bytes i)));
-      open_then = state ∙ ap (λ (p : Pending). next p x) c.loop-byte.invariant.open_then ∙ sym (after_more b i inside);
-      words = resized ∙ filled ∙ ap (λ (ws : List ℕ). ws ++ replicate run.count run.word) c.loop-byte.invariant.words
-          ∙ ap (λ (ws : List ℕ). given nothing (take i b) ++ ws) brings ∙ sym (given_more b i inside);
-      within = omega (arith, c.in_ok-resize.ensures.len, c.if-limit-len.false, c.len.ensures, c.len-in-loop-byte.ensures, c.loop-byte.invariant.within);
-    }
+pub returns-in_err-take_byte-clause-refused : goal.returns-in_err-take_byte-clause-refused
+returns-in_err-take_byte-clause-refused c =
+    let l = c.unpacking in
+    let p = pending_of l.group in
+    let bytes = c.args.bytes.now in
+    let left = l.left.now in
+    let some : 0 < length left = grind (arith, nat_tests) in
+    let front = subst (λ (b : List ℕ). TakesWithin c.args.limit [] nothing bytes l.words.items p b) (first_left left some) l.invariant in
+    let e = err_from_is_err_and c.from_residual-in_err-take_byte.result c.from_residual-in_err-take_byte.ensures.1 in
+    rw (e.1, e.2) (stops c.args.limit bytes l.words.items (drop 1 left) (get_or left 0 0) p c.in_err-take_byte.field-0.0 (bytes_by bytes (λ j. omega (arith, c.type_inv.bytes j))) front c.in_err-take_byte.ensures.fault)
+
+pub take_front-requires-in-unpacking-clause-few : goal.take_front-requires-in-unpacking-clause-few
+take_front-requires-in-unpacking-clause-few c =
+    let l = c.unpacking in
+    let bytes = c.args.bytes.now in
+    let left = l.left.now in
+    let p = pending_of l.group in
+    let q = pending_of c.take_byte.new.group in
+    let some : 0 < length left = grind (arith, nat_tests) in
+    let front = within_byte c.args.limit [] l.words.items c.take_byte.new.words.items bytes left (drop 1 left) (get_or left 0 0) nothing p q l.invariant (first_left left some) c.in_ok-take_byte.ensures.takes in
+    (within_pending c.args.limit bytes c.take_byte.new.words.items (drop 1 left) q (bytes_by bytes (λ j. omega (arith, c.type_inv.bytes j))) front).few
+
+pub unpacking-preserved : goal.unpacking-preserved
+unpacking-preserved c =
+    let l = c.unpacking in
+    let bytes = c.args.bytes.now in
+    let left = l.left.now in
+    let x = get_or left 0 0 in
+    let p = pending_of l.group in
+    let q = pending_of c.take_byte.new.group in
+    let mid = c.take_byte.new.words.items in
+    let behind = c.split_at.result.1.now in
+    let some : 0 < length left = grind (arith, nat_tests) in
+    let splits : left ≡ x ∷ behind = first_left left some ∙ ap (λ (b : List ℕ). x ∷ b) (sym c.split_at.ensures.back) in
+    let front = within_byte c.args.limit [] l.words.items mid bytes left behind x nothing p q l.invariant splits c.in_ok-take_byte.ensures.takes in
+    within_both c.args.limit [] mid c.take_front-in-unpacking.new.words.items bytes behind c.in_ok-left-2.left.now nothing q (pending_of c.take_front-in-unpacking.new.group) front c.in_ok-left-2.ensures
 
 pub returns-then-is_empty-clause-words : goal.returns-then-is_empty-clause-words
 returns-then-is_empty-clause-words c =
-    let b = c.args.bytes.now in
-    let i = c.loop-byte.byte-index in
-    let whole = take_all i b (omega (arith, c.loop-byte-test.false)) in
-    let empty : pending_of c.loop-byte.group ≡ nothing = c.is_empty.ensures.0 c.if-is_empty.true in
-    let words = c.loop-byte.invariant.words ∙ ap (λ (d : List ℕ). given nothing d) whole in
-    subst (λ (ws : List ℕ). Packed ws b) (sym words)
-    (unpacked b (bytes_by b (λ j. omega (arith, c.type_inv.bytes j))) (ap (λ (d : List ℕ). after nothing d) (sym whole) ∙ sym c.loop-byte.invariant.open_then ∙ empty))
+    let l = c.unpacking in
+    let bytes = c.args.bytes.now in
+    let none : length l.left.now ≡ 0 = grind (arith, nat_tests) in
+    let empty : pending_of l.group ≡ nothing = c.is_empty-2.ensures.0 c.if-is_empty.true in
+    let all = within_whole c.args.limit bytes l.words.items l.left.now (pending_of l.group) l.invariant none in
+    brings_these l.words.items bytes (bytes_by bytes (λ j. omega (arith, c.type_inv.bytes j))) (record { words = all.words; open_then = all.open_then ∙ empty })
+
+pub laid-known-requires : goal.laid-known-requires
+laid-known-requires c =
+    let l = c.unpacking in
+    within_pending c.args.limit c.args.bytes.now l.words.items l.left.now (pending_of l.group) (bytes_by c.args.bytes.now (λ j. omega (arith, c.type_inv.bytes j))) l.invariant
 
 pub returns-then-known-eq8-clause-refused : goal.returns-then-known-eq8-clause-refused
 returns-then-known-eq8-clause-refused c =
-    let b = c.args.bytes.now in
-    let i = c.loop-byte.byte-index in
-    let whole = take_all i b (omega (arith, c.loop-byte-test.false)) in
-    let words = c.loop-byte.invariant.words ∙ ap (λ (d : List ℕ). given nothing d) whole in
-    let open_then = c.loop-byte.invariant.open_then ∙ ap (λ (d : List ℕ). after nothing d) whole in
-    let count : length (given nothing b) ≡ c.args.limit = omega (arith, ap (λ (ws : List ℕ). length ws) words, c.len-2.ensures, c.if-len-limit.true) in
-    let eight : length (laid (after nothing b)) ≡ 8 = ap (λ (p : Pending). length (laid p)) (sym open_then) ∙ sym c.laid-known.ensures.count ∙ c.if-known-eq8.true in
-    past_at_end b c.args.limit (bytes_by b (λ j. omega (arith, c.type_inv.bytes j))) count eight
+    let l = c.unpacking in
+    let bytes = c.args.bytes.now in
+    let none : length l.left.now ≡ 0 = grind (arith, nat_tests) in
+    let all = within_whole c.args.limit bytes l.words.items l.left.now (pending_of l.group) l.invariant none in
+    let count : length (given nothing bytes) ≡ c.args.limit = omega (arith, ap (λ (ws : List ℕ). length ws) all.words, c.len.ensures, c.if-len-limit.true) in
+    let eight : length (laid (after nothing bytes)) ≡ 8 = ap (λ (p : Pending). length (laid p)) all.open_then ∙ sym c.laid-known.ensures.count ∙ c.if-known-eq8.true in
+    past_at_end bytes c.args.limit (bytes_by bytes (λ j. omega (arith, c.type_inv.bytes j))) count eight
 
 pub returns-clause-refused : goal.returns-clause-refused
 returns-clause-refused c =
-    let b = c.args.bytes.now in
-    let i = c.loop-byte.byte-index in
-    let whole = take_all i b (omega (arith, c.loop-byte-test.false)) in
-    let words = c.loop-byte.invariant.words ∙ ap (λ (d : List ℕ). given nothing d) whole in
-    let open_then = c.loop-byte.invariant.open_then ∙ ap (λ (d : List ℕ). after nothing d) whole in
-    let not_empty : pending_of c.loop-byte.group ≡ nothing → ⊥ = λ e. (let t = c.is_empty.ensures.1 e in let f = c.if-is_empty.false in cc (t, f)) in
-    let within : length (given nothing b) ≤ c.args.limit = omega (arith, ap (λ (ws : List ℕ). length ws) words, c.loop-byte.invariant.within) in
-    let known : c.laid-known.result.1 ≡ length (laid (after nothing b)) = c.laid-known.ensures.count ∙ ap (λ (p : Pending). length (laid p)) open_then in
-    let sized : c.len-2.result ≡ length (given nothing b) = omega (arith, c.len-2.ensures, ap (λ (ws : List ℕ). length ws) words) in
-    cut_short b c.args.limit (bytes_by b (λ j. omega (arith, c.type_inv.bytes j))) (λ e. not_empty (open_then ∙ e)) within
+    let l = c.unpacking in
+    let bytes = c.args.bytes.now in
+    let none : length l.left.now ≡ 0 = grind (arith, nat_tests) in
+    let all = within_whole c.args.limit bytes l.words.items l.left.now (pending_of l.group) l.invariant none in
+    let not_empty : pending_of l.group ≡ nothing → ⊥ = λ e. (let t = c.is_empty-2.ensures.1 e in let f = c.if-is_empty.false in cc (t, f)) in
+    let same = ap (λ (ws : List ℕ). length ws) all.words in
+    let within : length (given nothing bytes) ≤ c.args.limit = omega (arith, same, l.invariant.within) in
+    let known : c.laid-known.result.1 ≡ length (laid (after nothing bytes)) = c.laid-known.ensures.count ∙ ap (λ (p : Pending). length (laid p)) (sym all.open_then) in
+    let sized : c.len.result ≡ length (given nothing bytes) = omega (arith, c.len.ensures, same) in
+    cut_short bytes c.args.limit (bytes_by bytes (λ j. omega (arith, c.type_inv.bytes j))) (λ e. not_empty (sym all.open_then ∙ e)) within
     (λ e f. elim c.else-len-limit.branch [
       | else-len-limit-via-then-len-limit+else-known-eq8 w ↦ omega (arith, known, f, w.if-known-eq8.false)
       | else-len-limit-via-else-len-limit w ↦ omega (arith, sized, e, w.if-len-limit.false)
