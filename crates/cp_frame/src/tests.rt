@@ -267,6 +267,7 @@ fn a_frame_is_written_over_another(rt: HostRuntime) -> Result<(), Fail> {
     let mut out = Vec::new(alloc);
     for bytes in [&THREE_SEGMENTS[..], &FINISH[..], &TWO_SEGMENTS[..]] {
         let frames = new_reader(alloc).feed(bytes)?;
+        assert_eq!(rt; frames.len(), 1);
         write_over(
             alloc,
             &mut out,
@@ -277,6 +278,7 @@ fn a_frame_is_written_over_another(rt: HostRuntime) -> Result<(), Fail> {
         assert_eq!(rt; out.as_slice(), bytes);
     }
     let frames = new_reader(alloc).feed(&THREE_SEGMENTS)?;
+    assert_eq!(rt; frames.len(), 1);
     let written = write_over(alloc, &mut out, &frames[0].1, Mode::Packed, limits);
     assert_eq!(rt; written, Err(FrameFault::TooManySegments));
     assert!(rt; out.is_empty());
