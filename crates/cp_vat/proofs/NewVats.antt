@@ -15,7 +15,7 @@ use Rattle.cp_refs.specs.declared.values.Question.{Question}
 use Rattle.cp_vat.specs.State.{new_state}
 use Rattle.cp_vat.specs.Calling.{plain, on_wire, came_to, reference_of}
 use Rattle.cp_vat.specs.Calling as calling
-use Rattle.cp_vat.specs.Local.{Local, all_caps, tied_in, marks_under}
+use Rattle.cp_vat.specs.Local.{Local, all_caps, values_kept, tied_in, marks_under}
 use Rattle.cp_vat.specs.Waits.{WaitRightly}
 use Rattle.cp_vat.specs.World.{new_end}
 use Rattle.cp_vat.specs.Lane.{Reference, import_, path_to, cap_of}
@@ -40,6 +40,9 @@ no_caps one =
       no_entries {X = Counted Cap} nat_cmp,
     ) refl
 
+no_values : (one : Option ℕ) → values_kept (new_state one) ≡ []
+no_values one = rw (no_entries {X = Option Cap} nat_cmp, no_entries {X = Option Outcome} nat_cmp, no_entries {X = Question} nat_cmp) refl
+
 no_tied : (one : Option ℕ) (p : ℕ) → tied_in (new_state one) p ≡ 0
 no_tied one p = rw (no_entries {X = Exchange AnswerEntry} nat_cmp) refl
 
@@ -62,6 +65,8 @@ new_local one =
       one_export = λ e f one other is at. none_out (sym (get-empty {X = Counted Cap} nat_cmp e) ∙ is);
       there = rw (no_caps one) tt;
       ends = rw (no_caps one) tt;
+      no_paths = rw (no_values one) tt;
+      finished = λ q. rw (get-empty {X = Exchange QuestionEntry} nat_cmp q) tt;
       answers_valued = λ a. rw (get-empty {X = Exchange AnswerEntry} nat_cmp a, get-empty {X = Option Outcome} nat_cmp a) tt;
       questions_valued = λ q. rw (get-empty {X = Exchange QuestionEntry} nat_cmp q, get-empty {X = Question} nat_cmp q) tt;
       imports_valued = λ i. rw (get-empty {X = Counted ImportKind} nat_cmp i, get-empty {X = Option Cap} nat_cmp i) refl;

@@ -19,7 +19,7 @@ use Rattle.cp_refs.specs.declared.outcome.Outcome.{Outcome}
 use Rattle.cp_refs.specs.declared.route.Gate.TheVariants as gates
 use Rattle.cp_refs.specs.declared.values.Question.{Question}
 use Rattle.cp_vat.specs.State.{State, none_over}
-use Rattle.cp_vat.specs.InUse.{waiting_calls, kept_caps, is_unsettled}
+use Rattle.cp_vat.specs.InUse.{waiting_calls, kept_caps, caps_given, is_unsettled, is_pipelined, is_question_used}
 use Rattle.cp_vat.specs.declared.entry.AnswerEntry.{AnswerEntry}
 use Rattle.cp_vat.specs.declared.entry.QuestionEntry.{QuestionEntry}
 use Rattle.cp_vat.specs.declared.entry.Tied.{Tied}
@@ -118,6 +118,19 @@ all_caps s =
     ++ values s.marks.embargoes
     ++ map (λ entry. entry.kept) (values s.counts.exports)
 
+-- what promises, imports, answers and questions came to
+abbrev pub values_kept : State → List Cap
+values_kept s =
+    flat_map option_to_list (values s.values.promises)
+    ++ flat_map option_to_list (values s.values.imports)
+    ++ flat_map caps_given (values s.values.answers)
+    ++ flat_map (λ question. caps_given question.outcome) (values s.values.questions)
+
+-- no call waits for a question that was finished
+abbrev pub IsLeft : State → ℕ → Stage → Type 0
+IsLeft s q stages.Finished = is_question_used s q ≡ false
+IsLeft s q other = Unit {0}
+
 -- An answer's and a question's outcome came exactly at the stage that says so; a forwarding question has no value here, nor has it any mark.
 abbrev pub IsValued : Stage → Bool → Type 0
 IsValued stage has_outcome = has_outcome ≡ not (is_open_stage stage)
@@ -188,6 +201,9 @@ pub record Local (s : State) : Type 0 where
   -- what is kept is there, and its way ends
   pub there : AllByRecursion (IsThere s) (all_caps s)
   pub ends : AllByRecursion (HasRoute s.values) (all_caps s)
+  -- nothing came to a question's path, and no call waits for a finished question
+  pub no_paths : AllByRecursion (λ cap. is_pipelined cap ≡ false) (values_kept s)
+  pub finished : (q : ℕ) → IfSome (get s.entries.questions q) (λ entry. IsLeft s q entry.stage)
   -- entries and values are of the same numbers
   pub answers_valued : (a : ℕ) → AnswerIs (get s.entries.answers a) (get s.values.answers a)
   pub questions_valued : (q : ℕ) → QuestionIs (get s.entries.questions q) (get s.values.questions q)
