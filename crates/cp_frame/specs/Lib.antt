@@ -12,3 +12,4 @@ pub mod Runs
 pub mod Parts
 pub mod Rest
 pub mod Kept
+pub mod Single

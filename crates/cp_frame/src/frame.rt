@@ -7,6 +7,7 @@ ghost use Rattle.cp_frame.specs.Parts.{Takes, IsBegun, InTable, InSegments, halv
 ghost use Rattle.cp_frame.specs.Stream.{numbers, named_sizes};
 ghost use Rattle.cp_frame.specs.Rest.{IsFaultOfWords};
 ghost use Rattle.cp_frame.specs.Bulk.{TakesPart};
+ghost use Rattle.cp_frame.specs.Single.{TakesTable};
 
 use crate::bulk::take_groups;
 use crate::fault::FrameFault;
@@ -129,6 +130,21 @@ fn take_word<'a>(part: &mut Vec<u8>, left: &'a [u8]) -> Result<(Option<u64>, &'a
     Ok((Some(word), back))
 }
 
+/// The segments. One alone leaves the vector its room, for the next frame's.
+fn take_lists(alloc: Global, segments: &mut Vec<Vec<u64>>) -> Segments
+    requires { 0 < length segments.old.items }
+    ensures all { result ≡ lists segments.old.items }
+    ensures none { segments.new.items ≡ [] }
+{
+    if segments.len() == 1 {
+        return Segments::one(segments.swap_remove(0));
+    }
+    let Ok(held) = Segments::new(mem::replace(segments, Vec::new(alloc))) else {
+        unreachable!()
+    };
+    held
+}
+
 impl OpenFrame {
     /// Nothing of a frame.
     pub fn new(alloc: Global) -> OpenFrame
@@ -238,6 +254,28 @@ impl OpenFrame {
         Ok(())
     }
 
+    /// Takes the group of a table that names one segment, and no fault, if it is there.
+    pub fn take_table_group<'a>(
+        &mut self,
+        alloc: Global,
+        limits: Limits,
+        left: &'a [u8],
+    ) -> Result<&'a [u8], AllocError>
+        requires { IsEmpty self.old }
+        ensures { IfOk result (λ back. TakesTable limits left.now self.new back.now) }
+    {
+        let mut run = 0;
+        let back = take_groups(&mut self.table, &mut run, 1, left)?;
+        let size = table::size_of_one(&self.table, limits);
+        if size == 0 {
+            self.table.clear();
+            return Ok(left);
+        }
+        self.total = size as u64;
+        self.words = Vec::with_capacity(alloc, size.min(FIRST_ROOM))?;
+        Ok(back)
+    }
+
     /// Takes words of a raw run, of which so many are to come, and groups of the packed form, up to the
     /// end of the open segment.
     pub fn take_groups<'a>(
@@ -323,13 +361,9 @@ impl OpenFrame {
         ensures empty { IsEmpty self.new }
     {
         let taken = 8 * (self.table.len() as u64 + self.total);
-        let lists = mem::replace(&mut self.segments, Vec::new(alloc));
         self.table.clear();
         self.total = 0;
-        let Ok(segments) = Segments::new(lists) else {
-            unreachable!()
-        };
-        (taken, segments)
+        (taken, take_lists(alloc, &mut self.segments))
     }
 
     /// Forgets what has come.

@@ -13,6 +13,7 @@ mod mode;
 mod packing;
 mod reader;
 mod rest;
+mod single;
 mod status;
 mod table;
 mod unpacking;

@@ -14,6 +14,7 @@ use crate::fault::FrameFault;
 use crate::frame::OpenFrame;
 use crate::mode::Mode;
 use crate::rest::Rest;
+use crate::single::take_whole;
 use crate::status::Status;
 use cp_words::{Limits, Segments};
 use std::alloc::{AllocError, Global};
@@ -36,6 +37,13 @@ fn read_plain(
 {
     let mut left = piece;
     'reading: while !left.is_empty() {
+        if frame.is_empty() {
+            if let Some((taken, segments, back)) = take_whole(alloc, limits, left)? {
+                frames.push((taken, segments))?;
+                left = back;
+                continue;
+            }
+        }
         left = frame.take(alloc, limits, left)?;
         if !frame.is_complete() {
             continue;
@@ -78,14 +86,16 @@ fn read_packed(
 {
     let mut left = piece;
     'reading: while !left.is_empty() {
-        left = rest.take_groups(alloc, limits, left)?;
+        let begun = rest.take_table(alloc, limits, left)?;
+        let back = rest.take_groups(alloc, limits, begun)?;
         give(alloc, limits, rest, frames)?;
-        if left.is_empty() {
-            return Ok(());
+        if back.len() < left.len() {
+            left = back;
+            continue;
         }
-        rest.take_byte(alloc, limits, left[0])?;
+        rest.take_byte(alloc, limits, back[0])?;
         give(alloc, limits, rest, frames)?;
-        left = left.split_at(1).1;
+        left = back.split_at(1).1;
     }
     Ok(())
 }

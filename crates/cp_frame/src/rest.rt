@@ -7,6 +7,7 @@ ghost use Rattle.cp_frame.specs.Parts.{IsOpen, IsBegun, IsComplete, lists, rest_
 ghost use Rattle.cp_frame.specs.Unpacking.{IsPending, nothing, brought, laid, pending_of};
 ghost use Rattle.cp_frame.specs.Rest.{InPacked, IsBlank, IsRest, bytes_for, count_for, TakesByte, IsSound, IsFaultOfWords};
 ghost use Rattle.cp_frame.specs.Bulk.{TakesFront};
+ghost use Rattle.cp_frame.specs.Single.{IsStillOpen};
 ghost use Rattle.cp_frame.specs.declared.mode.Mode.TheVariants.{Packed};
 ghost use Rattle.cp_frame.specs.declared.fault.FrameFault.TheVariants.{OutOfMemory, RunPastFrame};
 
@@ -81,6 +82,26 @@ impl Rest {
     {
         self.take_run(alloc, limits, byte)?;
         self.check(limits)
+    }
+
+    /// Takes the group of a segment table that names one segment, and no fault, if it is there and
+    /// nothing has come of the frame.
+    pub fn take_table<'a>(
+        &mut self,
+        alloc: Global,
+        limits: Limits,
+        left: &'a [u8],
+    ) -> Result<&'a [u8], AllocError>
+        requires { InPacked limits self.old }
+        ensures takes { IfOk result (λ back. TakesFront limits self.old left.now self.new back.now) }
+        ensures begun { OnOk result (IsStillOpen limits self.new) }
+    {
+        if !self.frame.is_empty() || !self.group.is_empty() {
+            return Ok(left);
+        }
+        let behind = self.frame.take_table_group(alloc, limits, left)?;
+        self.taken += (left.len() - behind.len()) as u64;
+        Ok(behind)
     }
 
     /// Takes what of these bytes are words of a raw run and whole groups, where the segment table has

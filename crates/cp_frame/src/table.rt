@@ -5,6 +5,7 @@ ghost use Rattle.std.specs.Prelude.{◌≡◌, ◌+◌, ◌/◌, ◌^◌, ◌<�
 ghost use Rattle.std.specs.Int.{to_le_bytes, w64};
 ghost use Rattle.cp_frame.specs.Parts.{halves, count_of, IsWholeTable, IsTable, IsFaultOf, NamesLittle};
 ghost use Rattle.cp_frame.specs.Stream.{numbers, named_sizes, NamesFault};
+ghost use Rattle.cp_frame.specs.Single.{IsOne};
 
 use crate::fault::FrameFault;
 use byteorder::{ByteOrder, LittleEndian};
@@ -38,6 +39,21 @@ pub fn size(table: &[u64], segment: usize) -> usize
         (word / 0x1_0000_0000) as usize
     } else {
         (word % 0x1_0000_0000) as usize
+    }
+}
+
+/// How many words the only segment has of a table that is one word and names no fault; else 0.
+pub fn size_of_one(table: &[u64], limits: Limits) -> usize
+    ensures { 0 < result → IsOne limits table.now result }
+{
+    if table.len() != 1 || table[0] % 0x1_0000_0000 != 0 {
+        return 0;
+    }
+    let size = (table[0] / 0x1_0000_0000) as usize;
+    if size <= limits.frame_words() as usize {
+        size
+    } else {
+        0
     }
 }
 

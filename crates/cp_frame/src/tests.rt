@@ -204,6 +204,21 @@ fn what_is_held_follows_the_bytes(rt: HostRuntime) -> Result<(), Fail> {
 }
 
 #[test]
+fn frames_of_each_kind_come_in_one_piece(rt: HostRuntime) -> Result<(), Fail> {
+    let mut stream = FINISH.to_vec(rt.alloc())?;
+    stream.extend_from_slice(&TWO_SEGMENTS)?;
+    stream.extend_from_slice(&[0; 8])?;
+    stream.extend_from_slice(&KEEPING)?;
+    let frames = new_reader(rt.alloc()).feed(&stream)?;
+    assert_eq!(rt; frames.len(), 4);
+    expect_frame(&rt, &frames[0], 40, &[&FINISH_WORDS]);
+    assert_eq!(rt; frames[1].1.lists().len(), 2);
+    expect_frame(&rt, &frames[2], 8, &[&[]]);
+    expect_frame(&rt, &frames[3], 40, &[&KEEPING_WORDS]);
+    Ok(())
+}
+
+#[test]
 fn a_large_segment_grows_with_its_bytes(rt: HostRuntime) -> Result<(), Fail> {
     let mut reader = new_reader(rt.alloc());
     assert!(rt; reader.feed(&[0, 0, 0, 0, 0x40, 0x0d, 0x03, 0])?.is_empty());

@@ -1,21 +1,30 @@
 //! The segments of a message.
 
-ghost use Rattle.std.specs.Prelude.{◌≡◌, ◌<◌, List, ℕ, [], map, IfOk, IfErr, length};
+ghost use Rattle.std.specs.Prelude.{◌≡◌, ◌<◌, ◌∷◌, List, ℕ, [], map, IfOk, IfErr, length};
+ghost use Rattle.cp_words.specs.Segments.{words_of};
 
 use std::marker::Model;
+use std::slice;
 
 /// One or more lists of words, numbered from 0. Contracts see them as the list of these lists.
 #[derive(Drop)]
 pub struct Segments {
-    lists: Vec<Vec<u64>>,
+    lists: Lists,
+}
+
+/// The lists. Most messages have one, which needs no vector around it.
+#[derive(Drop)]
+enum Lists {
+    One(Vec<u64>),
+    Many(Vec<Vec<u64>>),
 }
 
 impl Model for Segments {
     ghost Value = { List (List ℕ) };
 
-    ghost view = { λ s. map (λ v. v.items) s.lists.items };
+    ghost view = { λ s. words_of s.lists };
 
-    ghost invariant = { λ s. 0 < length s.lists.items };
+    ghost invariant = { λ s. 0 < length (words_of s.lists) };
 }
 
 impl Segments {
@@ -28,7 +37,18 @@ impl Segments {
         if lists.is_empty() {
             return Err(lists);
         }
-        Ok(Segments { lists })
+        Ok(Segments {
+            lists: Lists::Many(lists),
+        })
+    }
+
+    /// Holds one list.
+    pub fn one(list: Vec<u64>) -> Segments
+        ensures { result ≡ list.items ∷ [] }
+    {
+        Segments {
+            lists: Lists::One(list),
+        }
     }
 
     /// The lists, lent.
@@ -36,6 +56,9 @@ impl Segments {
         ensures all { map (λ v. v.items) result.now ≡ self.now }
         ensures some { 0 < length result.now }
     {
-        &self.lists
+        match &self.lists {
+            Lists::One(list) => slice::from_ref(list),
+            Lists::Many(lists) => lists,
+        }
     }
 }

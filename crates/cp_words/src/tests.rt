@@ -140,6 +140,8 @@ fn segments_are_held(rt: HostRuntime) -> Result<(), Fail> {
         return Err(Fail::from("refused"));
     };
     assert_eq!(rt; segments.lists().len(), 1);
+    let one = Segments::one(vec![in alloc; 1u64, 2]?);
+    assert!(rt; one.lists() == segments.lists());
     Ok(())
 }
 

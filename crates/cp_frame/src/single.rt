@@ -1,0 +1,51 @@
+//! Frames of one segment that come whole.
+
+ghost use Rattle.std.specs.Prelude.{IfOk, IfSome};
+ghost use Rattle.cp_frame.specs.Single.{BeginsWithOne, TakesWhole};
+
+use crate::frame::take_in;
+use crate::table;
+use cp_words::{Limits, Segments};
+use std::alloc::{AllocError, Global};
+
+/// How many bytes a word has.
+const WORD: usize = 8;
+
+/// How many words the one segment has whose frame these bytes begin with. `None` where there are
+/// several, where its size passes the limit, or where bytes of it are missing.
+fn size_of_one(limits: Limits, bytes: &[u8]) -> Option<usize>
+    ensures { IfSome result (λ size. BeginsWithOne limits bytes.now size) }
+{
+    if bytes.len() < WORD {
+        return None;
+    }
+    let (first, body) = bytes.split_at(WORD);
+    let table = table::word_of(first);
+    let size = (table / 0x1_0000_0000) as usize;
+    let is_one = table % 0x1_0000_0000 == 0;
+    if is_one && size <= limits.frame_words() as usize && size <= body.len() / WORD {
+        Some(size)
+    } else {
+        None
+    }
+}
+
+/// Takes the frame that the bytes begin with, if it has one segment and is there whole: the number of
+/// its bytes, the segment, and what follows it.
+pub fn take_whole<'a>(
+    alloc: Global,
+    limits: Limits,
+    bytes: &'a [u8],
+) -> Result<Option<(u64, Segments, &'a [u8])>, AllocError>
+    ensures { IfOk result (λ taken. IfSome taken (λ t. TakesWhole limits bytes.now t.0 t.1 t.2.now)) }
+{
+    let Some(size) = size_of_one(limits, bytes) else {
+        return Ok(None);
+    };
+    let (_, body) = bytes.split_at(WORD);
+    let (front, back) = body.split_at(WORD * size);
+    let mut words = Vec::with_capacity(alloc, size)?;
+    take_in(&mut words, front)?;
+    let taken = (WORD + WORD * size) as u64;
+    Ok(Some((taken, Segments::one(words), back)))
+}
