@@ -1,3 +1,4 @@
+pub mod Nears
 pub mod Checks
 pub mod Entries
 pub mod Fills

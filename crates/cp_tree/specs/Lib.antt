@@ -7,6 +7,7 @@ pub mod Code
 pub mod Aims
 pub mod Denotes
 pub mod Reading
+pub mod Near
 pub mod Visited
 pub mod Parts
 pub mod Shaped

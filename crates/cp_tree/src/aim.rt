@@ -50,7 +50,8 @@ pub(crate) fn pointer_at(lists: &[Vec<u64>], at: Place) -> Option<Pointer>
 }
 
 /// Where a body begins, unless that is before its segment.
-fn start_from(word: usize, offset: i32) -> Option<usize>
+#[inline(always)]
+pub(crate) fn start_from(word: usize, offset: i32) -> Option<usize>
     requires { word < 2 ^ 63 }
     ensures { result ≡ start_of word offset }
 {

@@ -30,6 +30,7 @@ pub(crate) struct Area {
 
 impl Form {
     /// What a body costs, apart from what hangs on it.
+    #[inline(always)]
     pub(crate) fn price(self) -> u64
         ensures { result ≡ price self }
     {
@@ -61,6 +62,7 @@ impl Form {
 }
 
 /// Where a body begins, if it lies wholly inside its segment.
+#[inline(always)]
 fn inside(at: Place, words: &[u64], size: usize, start: Option<usize>) -> Result<usize, TreeFault>
     ensures place { result ≡ placed at (in_segment words.now size start) }
     ensures room { IfOk result (λ p. p + size ≤ length words.now) }
@@ -73,6 +75,7 @@ fn inside(at: Place, words: &[u64], size: usize, start: Option<usize>) -> Result
 }
 
 /// The elements of a composite list, by its tag.
+#[inline(always)]
 fn elements_at(
     lists: &[Vec<u64>],
     at: Place,
@@ -106,6 +109,7 @@ fn elements_at(
 }
 
 /// The body at which a pointer aims, if it lies wholly inside its segment.
+#[inline(always)]
 pub(crate) fn area_of(lists: &[Vec<u64>], at: Place, aim: Aim) -> Result<Area, TreeFault>
     requires exists { aim.segment < length lists.now }
     ensures area { result ≡ area_by at (words_of lists.now) aim }
@@ -138,6 +142,7 @@ pub(crate) fn area_of(lists: &[Vec<u64>], at: Place, aim: Aim) -> Result<Area, T
 
 /// The way into a body: structs and lists may nest so deep, and the price is taken from what is
 /// left.
+#[inline(always)]
 pub(crate) fn pay(at: Place, depth: u32, price: u64, left: &mut u64) -> Result<(), TreeFault>
     ensures paid { IfOk result (λ _. toll at depth price left.old ≡ Ok left.new) }
     ensures cost { OnOk result (left.new + price ≡ left.old) }

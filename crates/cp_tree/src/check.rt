@@ -10,13 +10,15 @@ ghost use Rattle.cp_tree.specs.Visited.{passed, answered, pointers, pointers_of_
 use crate::aim::{Kind, aim_of, pointer_at, pointer_in, segment_at};
 use crate::area::{Area, Form, area_of, pay};
 use crate::fault::{Place, TreeFault};
+use crate::near::{list_aim, struct_aim};
 use crate::visits::Visits;
 use cp_words::{ElementSize, Pointer};
 use std::sync::ledger::Ledger;
 
 /// Checks what hangs on one pointer word.
 #[cycle(check)]
-pub(crate) fn check_word<L: Ledger>(
+#[inline(always)]
+fn check_word<L: Ledger>(
     lists: &[Vec<u64>],
     at: Place,
     word: u64,
@@ -31,6 +33,39 @@ pub(crate) fn check_word<L: Ledger>(
     ensures few { visits.new + left.new ≤ visits.old + 1 + left.old }
 {
     visits.tick();
+    if word == 0 {
+        return Ok(());
+    }
+    match word % 4 {
+        0 => {
+            let area = area_of(lists, at, struct_aim(at, word))?;
+            check_body(lists, at, area, depth, left, visits)
+        }
+        1 => {
+            let area = area_of(lists, at, list_aim(at, word))?;
+            check_body(lists, at, area, depth, left, visits)
+        }
+        _ => check_any(lists, at, word, depth, left, visits),
+    }
+}
+
+/// Checks what hangs on one pointer word of any kind, which is visited.
+#[cycle(check)]
+#[cold]
+fn check_any<L: Ledger>(
+    lists: &[Vec<u64>],
+    at: Place,
+    word: u64,
+    depth: u32,
+    left: &mut u64,
+    visits: &mut Visits<L>,
+) -> Result<(), TreeFault>
+    requires exists { at.segment < length lists.now }
+    requires stands { word ≡ slice_index (segment (words_of lists.now) at.segment) at.word }
+    requires small { at.word < 2 ^ 63 }
+    ensures told { passed pointers visits.old (tree_at depth (words_of lists.now) at.segment at.word left.old) ≡ answered result left.new visits.new }
+    ensures few { visits.new + left.new ≤ visits.old + left.old }
+{
     match pointer_in(word) {
         None => Err(TreeFault::BadCapability(at)),
         Some(Pointer::Null | Pointer::Cap(_)) => Ok(()),
@@ -44,6 +79,7 @@ pub(crate) fn check_word<L: Ledger>(
 
 /// Checks a body and what hangs on it.
 #[cycle(check)]
+#[inline(always)]
 pub(crate) fn check_body<L: Ledger>(
     lists: &[Vec<u64>],
     at: Place,
@@ -63,6 +99,7 @@ pub(crate) fn check_body<L: Ledger>(
 
 /// Checks the pointers of a body.
 #[cycle(check)]
+#[inline(always)]
 fn check_parts<L: Ledger>(
     lists: &[Vec<u64>],
     area: Area,
@@ -85,12 +122,12 @@ fn check_parts<L: Ledger>(
                 segment: area.segment,
                 word: area.start + words as usize,
             };
-            check_row(lists, first, ptrs as usize, depth, left, visits)
+            check_ptrs(lists, first, ptrs as usize, depth, left, visits)
         }
         Form::List {
             size: ElementSize::Pointer,
             count,
-        } => check_row(lists, first, count as usize, depth, left, visits),
+        } => check_ptrs(lists, first, count as usize, depth, left, visits),
         Form::List { .. } => Ok(()),
         Form::Structs { words, ptrs, count } => {
             check_elements(lists, first, words, ptrs, count, depth, left, visits)
@@ -129,6 +166,29 @@ fn check_elements<L: Ledger>(
         start = row.word + ptrs as usize;
     }
     Ok(())
+}
+
+/// Checks the pointer words from `first` on, if there are any.
+#[cycle(check)]
+#[inline(always)]
+fn check_ptrs<L: Ledger>(
+    lists: &[Vec<u64>],
+    first: Place,
+    count: usize,
+    depth: u32,
+    left: &mut u64,
+    visits: &mut Visits<L>,
+) -> Result<(), TreeFault>
+    requires exists { first.segment < length lists.now }
+    requires within { first.word + count ≤ length (segment (words_of lists.now) first.segment) }
+    requires small { first.word + count < 2 ^ 63 }
+    ensures told { passed pointers_of_row visits.old (rows_at depth (words_of lists.now) first.segment count first.word left.old) ≡ answered result left.new visits.new }
+    ensures few { visits.new + left.new ≤ visits.old + count + left.old }
+{
+    if count == 0 {
+        return Ok(());
+    }
+    check_row(lists, first, count, depth, left, visits)
 }
 
 /// Checks the pointer words from `first` on.

@@ -14,6 +14,7 @@ mod fault;
 mod laws;
 mod lay;
 mod measure;
+mod near;
 mod pack;
 mod read;
 mod shape;

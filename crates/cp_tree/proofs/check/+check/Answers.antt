@@ -1,6 +1,9 @@
-use Rattle.std.proofs.Common.{◌≡◌, ◌<◌, ◌+◌, Some, ◌-◌, arith, add-zero, sym, refl}
+use Rattle.std.proofs.Common.{◌≡◌, ◌∙◌, ◌<◌, ◌+◌, Some, ◌-◌, arith, add-zero, sym, refl}
 use Rattle.std.proofs.lemmas.Result.{err_from_is_err_and}
 use Rattle.cp_words.specs.Word.{pointer_of}
+use Rattle.cp_tree.specs.NodeOf.{words_of}
+use Rattle.cp_tree.specs.Reading.{kids_at}
+use Rattle.cp_tree.proofs.Nears.{null_left, near_fails, near_body}
 use Rattle.cp_tree.proofs.Checks.{row_fails, row_goes_on, row_ends, bodies_fail, bodies_go_on, bodies_end, passed-flat, aimed, one_fewer}
 use Rattle.cp_tree.proofs.Entries.{entered_err, entered_ok}
 use Rattle.cp_tree.proofs.check.+check.Goals as goal
@@ -58,15 +61,39 @@ check_row-loop-i-preserved g t c =
 pub check_row-returns-clause-told : goal.check_row-returns-clause-told
 check_row-returns-clause-told g t c = row_ends _ _ _ _ _ _ c.loop-i.invariant.2 (omega (arith, c.loop-i.invariant.1))
 
-pub check_word-returns-in_err-area-in-Some : goal.check_word-returns-in_err-area-in-Some
-check_word-returns-in_err-area-in-Some g t c =
+pub check_ptrs-returns-then-count-eq0-clause-told : goal.check_ptrs-returns-then-count-eq0-clause-told
+check_ptrs-returns-then-count-eq0-clause-told g t c = row_ends _ _ _ _ _ _ refl c.if-count-eq0.true
+
+pub check_any-returns-in_err-area-in-Some : goal.check_any-returns-in_err-area-in-Some
+check_any-returns-in_err-area-in-Some g t c =
     let p = err_from_is_err_and c.from_residual-in_err-area-in-Some.result c.from_residual-in_err-area-in-Some.ensures.1 in
     let word = c.requires.stands in
     let says : pointer_of c.args.word ≡ Some c.in-Some.pointer = sym c.in-Some.ensures in
-    record { told = rw (p.1, p.2, ← word, says, aimed _ _ _ _ _ _ (sym c.in_ok-aim-in-Some.ensures.aim), ← c.in_err-area-in-Some.ensures.area) refl; few = omega (arith, c.tick.ensures) }
+    record { told = rw (p.1, p.2, ← word, says, aimed _ _ _ _ _ _ (sym c.in_ok-aim-in-Some.ensures.aim), ← c.in_err-area-in-Some.ensures.area) refl; few = omega arith }
 
-pub check_word-returns-in_ok-area-in-Some : goal.check_word-returns-in_ok-area-in-Some
-check_word-returns-in_ok-area-in-Some g t c =
+pub check_any-returns-in_ok-area-in-Some : goal.check_any-returns-in_ok-area-in-Some
+check_any-returns-in_ok-area-in-Some g t c =
     let word = c.requires.stands in
     let says : pointer_of c.args.word ≡ Some c.in-Some.pointer = sym c.in-Some.ensures in
-    record { told = rw (← c.tick.ensures, ← word, says, aimed _ _ _ _ _ _ (sym c.in_ok-aim-in-Some.ensures.aim), ← c.in_ok-area-in-Some.ensures.area) c.check_body.ensures.told; few = omega (arith, c.tick.ensures, c.check_body.ensures.few) }
+    record { told = rw (← word, says, aimed _ _ _ _ _ _ (sym c.in_ok-aim-in-Some.ensures.aim), ← c.in_ok-area-in-Some.ensures.area) c.check_body.ensures.told; few = omega (arith, c.check_body.ensures.few) }
+
+pub check_word-returns-then-word-eq0-clause-told : goal.check_word-returns-then-word-eq0-clause-told
+check_word-returns-then-word-eq0-clause-told g t c = rw (← c.tick.ensures) (null_left c.args.at c.args.word (kids_at c.args.depth (words_of c.args.lists.now)) (words_of c.args.lists.now) c.args.left.now c.tick.new.self (sym c.requires.stands) c.if-word-eq0.true)
+
+pub check_word-returns-in_err-area-in-0-clause-told : goal.check_word-returns-in_err-area-in-0-clause-told
+check_word-returns-in_err-area-in-0-clause-told g t c =
+    let p = err_from_is_err_and c.from_residual.result c.from_residual.ensures.1 in
+    rw (p.1, p.2) (near_fails c.args.at c.args.word (kids_at c.args.depth (words_of c.args.lists.now)) (words_of c.args.lists.now) c.args.left.now (c.args.visits.now + 1) (sym c.requires.stands) _ c.struct_aim.ensures.near _ (sym c.in_err-area-in-0.ensures.area))
+
+pub check_word-returns-in_err-area-in-1-clause-told : goal.check_word-returns-in_err-area-in-1-clause-told
+check_word-returns-in_err-area-in-1-clause-told g t c =
+    let p = err_from_is_err_and c.from_residual-in_err-area-in-1.result c.from_residual-in_err-area-in-1.ensures.1 in
+    rw (p.1, p.2) (near_fails c.args.at c.args.word (kids_at c.args.depth (words_of c.args.lists.now)) (words_of c.args.lists.now) c.args.left.now (c.args.visits.now + 1) (sym c.requires.stands) _ c.list_aim.ensures.near _ (sym c.in_err-area-in-1.ensures.area))
+
+pub check_word-returns-in_ok-area-in-0-clause-told : goal.check_word-returns-in_ok-area-in-0-clause-told
+check_word-returns-in_ok-area-in-0-clause-told g t c =
+    rw (← c.tick.ensures) (near_body c.args.at c.args.word (kids_at c.args.depth (words_of c.args.lists.now)) (words_of c.args.lists.now) c.args.left.now c.tick.new.self (sym c.requires.stands) _ c.struct_aim.ensures.near _ (sym c.in_ok-area-in-0.ensures.area) ∙ c.check_body.ensures.told)
+
+pub check_word-returns-in_ok-area-in-1-clause-told : goal.check_word-returns-in_ok-area-in-1-clause-told
+check_word-returns-in_ok-area-in-1-clause-told g t c =
+    rw (← c.tick.ensures) (near_body c.args.at c.args.word (kids_at c.args.depth (words_of c.args.lists.now)) (words_of c.args.lists.now) c.args.left.now c.tick.new.self (sym c.requires.stands) _ c.list_aim.ensures.near _ (sym c.in_ok-area-in-1.ensures.area) ∙ c.check_body-in-1.ensures.told)

@@ -5,19 +5,25 @@ use Rattle.cp_tree.specs.Visited.{passed, pointers_of_row, pointers_of_bodies}
 use Rattle.cp_tree.proofs.check.+check.Given as goal
 
 abbrev pub decreases-check_body : goal.decreases-check_body
-decreases-check_body g l = 5 * l.depth
+decreases-check_body g l = 7 * l.depth
+
+abbrev pub decreases-check_any : goal.decreases-check_any
+decreases-check_any g l = 7 * l.depth + 1
 
 abbrev pub decreases-check_word : goal.decreases-check_word
-decreases-check_word g l = 5 * l.depth + 1
+decreases-check_word g l = 7 * l.depth + 2
 
 abbrev pub decreases-check_row : goal.decreases-check_row
-decreases-check_row g l = 5 * l.depth + 2
+decreases-check_row g l = 7 * l.depth + 3
+
+abbrev pub decreases-check_ptrs : goal.decreases-check_ptrs
+decreases-check_ptrs g l = 7 * l.depth + 4
 
 abbrev pub decreases-check_elements : goal.decreases-check_elements
-decreases-check_elements g l = 5 * l.depth + 3
+decreases-check_elements g l = 7 * l.depth + 5
 
 abbrev pub decreases-check_parts : goal.decreases-check_parts
-decreases-check_parts g l = 5 * l.depth + 4
+decreases-check_parts g l = 7 * l.depth + 6
 
 -- What is left of the row, read from here on, comes to what the whole row comes to. No more words were visited than those
 -- before here and what was paid for.

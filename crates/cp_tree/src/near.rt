@@ -1,0 +1,89 @@
+//! Struct and list words, whose bodies lie in their own segments: most pointers of a message are such.
+
+ghost use Rattle.std.specs.Prelude.{◌≡◌, ◌<◌, ◌%◌, ◌^◌};
+ghost use Rattle.cp_words.specs.Word.{offset_of, size_of};
+ghost use Rattle.cp_tree.specs.Near.{Near};
+ghost use Rattle.cp_tree.specs.Reading.{start_of};
+
+use crate::aim::{Aim, Kind, start_from};
+use crate::fault::Place;
+use cp_words::ElementSize;
+
+/// Bits 2 to 31, a signed number.
+#[inline(always)]
+fn offset_in(word: u64) -> i32
+    ensures { result ≡ offset_of word }
+{
+    let field = (word / 4 % 0x4000_0000) as i32;
+    if field < 0x2000_0000 {
+        field
+    } else {
+        field - 0x4000_0000
+    }
+}
+
+/// The element size that three bits say.
+#[inline(always)]
+fn size_in(code: u64) -> ElementSize
+    requires { code < 8 }
+    ensures { result ≡ size_of code }
+{
+    match code {
+        0 => ElementSize::Void,
+        1 => ElementSize::Bit,
+        2 => ElementSize::Byte,
+        3 => ElementSize::TwoBytes,
+        4 => ElementSize::FourBytes,
+        5 => ElementSize::EightBytes,
+        6 => ElementSize::Pointer,
+        _ => ElementSize::Composite,
+    }
+}
+
+/// Where the body of a struct or list word begins, unless that is before its segment.
+#[inline(always)]
+fn near_start(at: usize, word: u64) -> Option<usize>
+    requires { at < 2 ^ 63 }
+    ensures { result ≡ start_of at (offset_of word) }
+{
+    start_from(at, offset_in(word))
+}
+
+/// The body of a struct word.
+#[inline(always)]
+pub(crate) fn struct_aim(at: Place, word: u64) -> Aim
+    requires small { at.word < 2 ^ 63 }
+    requires some { 0 < word }
+    requires kind { word % 4 ≡ 0 }
+    ensures near { Near at word result }
+    ensures here { result.segment ≡ at.segment }
+{
+    let high = word / 0x1_0000_0000;
+    Aim {
+        kind: Kind::Struct {
+            words: (high % 0x1_0000) as u16,
+            ptrs: (high / 0x1_0000) as u16,
+        },
+        segment: at.segment,
+        start: near_start(at.word, word),
+    }
+}
+
+/// The body of a list word.
+#[inline(always)]
+pub(crate) fn list_aim(at: Place, word: u64) -> Aim
+    requires small { at.word < 2 ^ 63 }
+    requires kind { word % 4 ≡ 1 }
+    ensures near { Near at word result }
+    ensures here { result.segment ≡ at.segment }
+{
+    let high = word / 0x1_0000_0000;
+    Aim {
+        kind: Kind::List {
+            size: size_in(high % 8),
+            count: (high / 8) as u32,
+        },
+        segment: at.segment,
+        start: near_start(at.word, word),
+    }
+}
