@@ -1,13 +1,14 @@
 -- What a view's body says of its parts.
-use Rattle.std.proofs.Common.{◌≡◌, ℕ, zero, suc, ◌+◌, ◌-◌, ◌*◌, ◌/◌, ◌<◌, ◌≤◌, List, length, Some, Result, Ok, Err, true, is_ok, refl, sym, ap, ◌∙◌, subst, arith}
+use Rattle.std.proofs.Common.{◌≡◌, ℕ, zero, suc, ◌+◌, ◌-◌, ◌*◌, ◌/◌, ◌<◌, ◌≤◌, ◌^◌, List, length, Some, Result, Ok, Err, true, is_ok, refl, sym, ap, ◌∙◌, subst, arith}
 use Rattle.std.proofs.Math.Nat.{mul-le-mul_left}
 use Rattle.cp_words.specs.Word.{words_for}
 use Rattle.cp_words.specs.declared.pointer.ElementSize.TheVariants as sizes
+use Rattle.cp_words.specs.declared.pointer.Pointer.{Pointer}
 use Rattle.cp_tree.specs.Node.{voids, Node, null, cap, struct, list, ptrs, structs, Nodes, no_nodes, node, Bodies, no_bodies, body, count, number_of, greatest_depth, deepest_body, cost, total_cost, body_cost}
 use Rattle.cp_tree.specs.Aims.{segment}
 use Rattle.cp_tree.specs.Denotes.{words_at, EachDenotes, EachBody}
 use Rattle.cp_tree.specs.Parts.{form_shape_of, part_node, IsPart}
-use Rattle.cp_tree.specs.Reading.{Read, Kids, entered, filled, bodies_by, price, body_words, lent_words, IsWhole, IsWithin, IsRootArea, top, body_by, kids_at, rows_at, most_nesting, most_traversal, node_in, tree_read, area_read}
+use Rattle.cp_tree.specs.Reading.{◌>>=◌, pointer_read, area_here, Read, Kids, entered, filled, bodies_by, price, body_words, lent_words, IsWhole, IsWithin, IsRootArea, top, body_by, kids_at, rows_at, most_nesting, most_traversal, node_in, tree_read, area_read}
 use Rattle.cp_tree.specs.Seen.{shape_of, node_at, body_at, part_of, AreWordsOf}
 use Rattle.cp_tree.specs.declared.area.Area.{Area}
 use Rattle.cp_tree.specs.declared.area.Form.{Form}
@@ -215,6 +216,31 @@ module _ (S : List (List ℕ)) (p : Part) (a : Area) (is : p ≡ parts.Body a) (
 -- what was read at a word, or of a body
 pub read-node : (r : Read Node) (t : Node) (left : ℕ) → r ≡ Ok (t, left) → node_in r ≡ t
 read-node r t left e = rw e refl
+
+-- The body that a pointer was found to have, of a pointer that was read: it is a view's part, and its tree is the pointer's.
+module _ (S : List (List ℕ)) (at : Place) (r : Pointer) (ws : List ℕ) (a : Area) where
+  found-again : pointer_read S at r ≡ area_here at (segment S at.segment) r >>= body_by at (kids_at most_nesting S) S most_traversal → is_ok (pointer_read S at r) ≡ true → ws ≡ segment S at.segment → area_here at ws r ≡ Ok a → IsWithin S a
+      → (x : Node × ℕ) × (pointer_read S at r ≡ Ok x) × (left : ℕ) × (area_read S a ≡ Ok (x.0, left))
+  found-again leads checked same is within =
+      let k = ok_of (pointer_read S at r) checked in
+      let there : area_here at (segment S at.segment) r ≡ Ok a = subst (λ list. area_here at list r ≡ Ok a) same is in
+      let led : body_by at (kids_at most_nesting S) S most_traversal a ≡ Ok k.0 = ap (λ q. q >>= body_by at (kids_at most_nesting S) S most_traversal) (sym there) ∙ sym leads ∙ k.1 in
+      (k.0, k.1, _, body_again S at most_nesting most_traversal a k.0 (omega arith) (omega arith) within led)
+
+  found-within : ws ≡ segment S at.segment → a.segment ≡ at.segment → at.segment < length S → a.start + body_words a.form ≤ length ws → IsWhole a.form → IsWithin S a
+  found-within same here exists room whole = (rw here exists, rw (here, ← same) room, whole)
+
+  pub found-node : pointer_read S at r ≡ area_here at (segment S at.segment) r >>= body_by at (kids_at most_nesting S) S most_traversal → is_ok (pointer_read S at r) ≡ true → ws ≡ segment S at.segment → area_here at ws r ≡ Ok a
+      → a.segment ≡ at.segment → at.segment < length S → a.start + body_words a.form ≤ length ws → IsWhole a.form → node_in (area_read S a) ≡ node_in (pointer_read S at r)
+  found-node leads checked same is here exists room whole =
+      let k = found-again leads checked same is (found-within same here exists room whole) in
+      ap node_in k.3 ∙ sym (ap node_in k.1)
+
+  pub found-part : pointer_read S at r ≡ area_here at (segment S at.segment) r >>= body_by at (kids_at most_nesting S) S most_traversal → is_ok (pointer_read S at r) ≡ true → ws ≡ segment S at.segment → area_here at ws r ≡ Ok a
+      → a.segment ≡ at.segment → at.segment < length S → a.start + body_words a.form ≤ length ws → IsWhole a.form → a.start + body_words a.form < 2 ^ 63 → IsPart S (parts.Body a)
+  found-part leads checked same is here exists room whole small =
+      let within = found-within same here exists room whole in
+      (within, small, ok_is_ok _ _ (found-again leads checked same is within).3)
 
 -- an element lies among the elements
 pub element-inside : (q d n k i : ℕ) → i < k → q + i * (d + n) + (d + n) ≤ q + k * (d + n)

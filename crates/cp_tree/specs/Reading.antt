@@ -106,6 +106,10 @@ area_by_kind at ws s start (kinds.List size n) = placed at (in_segment ws (words
 abbrev pub area_by : Place → List (List ℕ) → Aim → Result Area TreeFault
 area_by at S aim = area_by_kind at (segment S aim.segment) aim.segment aim.start aim.kind
 
+-- the body of a pointer that aims into its own segment, which has these words
+abbrev pub area_here : Place → List ℕ → Pointer → Result Area TreeFault
+area_here at ws r = pad_or at (aim_here at.segment at.word r) >>= λ aim. area_by_kind at ws aim.segment aim.start aim.kind
+
 -- how the pointers of a body are read: of a segment, so many from a word on, with what is left
 abbrev pub Kids : Type 0
 Kids = ℕ → ℕ → ℕ → ℕ → Read Nodes

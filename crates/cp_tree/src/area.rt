@@ -1,14 +1,14 @@
 //! Bodies, and where they lie.
 
-ghost use Rattle.std.specs.Prelude.{◌≡◌, ◌<◌, ◌≤◌, ◌+◌, ◌*◌, ◌^◌, length, Some, IfSome, IfOk, IfErr, OnOk, OnErr, Ok, Err, slice_index};
+ghost use Rattle.std.specs.Prelude.{◌≡◌, ◌<◌, ◌≤◌, ◌+◌, ◌*◌, ◌^◌, length, true, Some, is_some, is_ok, IfSome, IfOk, IfErr, OnOk, OnErr, Ok, Err, slice_index};
 ghost use Rattle.cp_words.specs.Word.{tag_of, words_for};
 ghost use Rattle.cp_tree.specs.Aims.{segment};
 ghost use Rattle.cp_tree.specs.NodeOf.{words_of};
-ghost use Rattle.cp_tree.specs.Reading.{in_segment, placed, tagged, area_by, price, body_words, lent_words, toll, IsWhole, IsWithin};
+ghost use Rattle.cp_tree.specs.Reading.{in_segment, start_of, placed, tagged, area_by, area_here, price, body_words, lent_words, toll, IsWhole, IsWithin};
 
 use crate::aim::{Aim, Kind, segment_at};
 use crate::fault::{Place, TreeFault};
-use cp_words::{ElementSize, decode_tag, list_words};
+use cp_words::{ElementSize, Pointer, decode_tag, list_words};
 
 /// What a body is.
 #[derive(Clone, Copy)]
@@ -138,6 +138,79 @@ pub(crate) fn area_of(lists: &[Vec<u64>], at: Place, aim: Aim) -> Result<Area, T
         segment: aim.segment,
         start,
     })
+}
+
+/// Where a body begins that was found to begin in its segment.
+fn start_again(word: usize, offset: i32) -> usize
+    requires small { word < 2 ^ 63 }
+    requires checked { is_some (start_of word offset) ≡ true }
+    ensures { start_of word offset ≡ Some result }
+{
+    if offset >= 0 {
+        word + 1 + offset as usize
+    } else {
+        word + 1 - (-i64::from(offset)) as usize
+    }
+}
+
+/// The elements of a composite list whose tag was checked.
+fn elements_again(list: &[u64], at: Place, tag: usize, size: u32) -> Area
+    requires room { tag + (size + 1) ≤ length list.now }
+    requires checked { is_ok (tagged at at.segment size tag (tag_of (slice_index list.now tag))) ≡ true }
+    ensures area { tagged at at.segment size tag (tag_of (slice_index list.now tag)) ≡ Ok result }
+    ensures within { result.start + body_words result.form ≤ length list.now }
+    ensures small { result.start + body_words result.form < 2 ^ 63 }
+    ensures whole { IsWhole result.form }
+    ensures here { result.segment ≡ at.segment }
+{
+    let Some(parts) = decode_tag(list[tag]) else {
+        unreachable!();
+    };
+    Area {
+        form: Form::Structs {
+            words: parts.words,
+            ptrs: parts.ptrs,
+            count: parts.count,
+        },
+        segment: at.segment,
+        start: tag + 1,
+    }
+}
+
+/// The body of a pointer that aims into its own segment and was checked: no bound is looked at
+/// again.
+pub(crate) fn area_again(list: &[u64], at: Place, pointer: Pointer) -> Area
+    requires small { at.word < 2 ^ 63 }
+    requires checked { is_ok (area_here at list.now pointer) ≡ true }
+    ensures area { area_here at list.now pointer ≡ Ok result }
+    ensures within { result.start + body_words result.form ≤ length list.now }
+    ensures small { result.start + body_words result.form < 2 ^ 63 }
+    ensures whole { IsWhole result.form }
+    ensures here { result.segment ≡ at.segment }
+{
+    let (form, start) = match pointer {
+        Pointer::Struct {
+            offset,
+            words,
+            ptrs,
+        } => (Form::Struct { words, ptrs }, start_again(at.word, offset)),
+        Pointer::List {
+            offset,
+            size: ElementSize::Composite,
+            count,
+        } => return elements_again(list, at, start_again(at.word, offset), count),
+        Pointer::List {
+            offset,
+            size,
+            count,
+        } => (Form::List { size, count }, start_again(at.word, offset)),
+        _ => unreachable!(),
+    };
+    Area {
+        form,
+        segment: at.segment,
+        start,
+    }
 }
 
 /// The way into a body: structs and lists may nest so deep, and the price is taken from what is

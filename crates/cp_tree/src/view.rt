@@ -13,7 +13,7 @@ ghost use Rattle.cp_tree.specs.Seen.{part_of};
 ghost use Rattle.cp_tree.specs.declared.view.Part.TheVariants.{Body};
 
 use crate::aim::{aim_of, pointer_at, segment_at};
-use crate::area::{Area, Form, area_of};
+use crate::area::{Area, Form, area_again, area_of};
 use crate::check::check_root;
 use crate::fault::{Place, TreeFault};
 use crate::read::whole_of;
@@ -278,6 +278,22 @@ pub(crate) fn part_at(lists: &[Vec<u64>], at: Place) -> Part
 
 /// The body of a struct, list or far pointer that was checked.
 fn body_at(lists: &[Vec<u64>], at: Place, pointer: Pointer) -> Part
+    requires exists { at.segment < length lists.now }
+    requires small { at.word < 2 ^ 63 }
+    requires checked { is_ok (pointer_read (words_of lists.now) at pointer) ≡ true }
+    ensures node { part_node (words_of lists.now) result ≡ node_in (pointer_read (words_of lists.now) at pointer) }
+    ensures part { IsPart (words_of lists.now) result }
+{
+    let list = segment_at(lists, at.segment);
+    match pointer {
+        Pointer::Struct { .. } => Part::Body(area_again(list, at, pointer)),
+        Pointer::List { .. } => Part::Body(area_again(list, at, pointer)),
+        _ => far_body(lists, at, pointer),
+    }
+}
+
+/// The body of a pointer that was checked, wherever it leads.
+fn far_body(lists: &[Vec<u64>], at: Place, pointer: Pointer) -> Part
     requires exists { at.segment < length lists.now }
     requires small { at.word < 2 ^ 63 }
     requires checked { is_ok (pointer_read (words_of lists.now) at pointer) ≡ true }
