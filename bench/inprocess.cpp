@@ -1,4 +1,5 @@
 // Our library beside the reference library in one process: inprocess FOLDER [MEGABYTES]. The inputs are generate's.
+#include "cp_bench.h"
 #include "whole.hpp"
 #include <algorithm>
 #include <chrono>
@@ -6,15 +7,6 @@
 #include <fstream>
 #include <string>
 #include <vector>
-
-// The exports of cp_bench. Nothing checks these lines against its source.
-extern "C" {
-size_t cpb_pack(const uint64_t* words, size_t count, uint8_t* room, size_t size);
-size_t cpb_unpack(const uint8_t* bytes, size_t length, size_t limit, uint64_t* room, size_t size);
-uint64_t cpb_read_frames(const uint8_t* bytes, size_t length, uint8_t kind);
-uint64_t cpb_packed_frames(const uint8_t* bytes, size_t length, uint8_t kind);
-size_t cpb_write_frames(const uint8_t* bytes, size_t length, uint32_t turns, uint8_t* room, size_t size);
-}
 
 // The least time of seven runs.
 template <class Job>
