@@ -1,6 +1,6 @@
 //! Owned trees, built from views.
 
-ghost use Rattle.std.specs.Prelude.{◌≡◌, ◌<◌, ◌≤◌, ◌+◌, ◌*◌, ◌/◌, ◌^◌, map, length, IfOk, IfErr, OnOk, ◌≢◌};
+ghost use Rattle.std.specs.Prelude.{◌≡◌, ◌<◌, ◌≤◌, ◌+◌, ◌*◌, ◌/◌, ◌^◌, [], ◌∷◌, map, length, IfOk, IfErr, OnOk, ◌≢◌};
 ghost use Rattle.cp_words.specs.Word.{words_for};
 ghost use Rattle.cp_words.specs.declared.pointer.ElementSize.TheVariants as sizes;
 ghost use Rattle.cp_tree.specs.Answers.{Answers, IsRefusalOf};
@@ -50,15 +50,37 @@ pub(crate) fn bits_of(alloc: Global, words: &[u64], count: u32) -> Result<Vec<bo
     Ok(items)
 }
 
+/// The numbers of two bytes that a word holds.
+fn halves_in(word: u64) -> [u16; 4]
+    ensures { result ≡ numbers (word ∷ []) 16 4 }
+{
+    [
+        (word % 0x1_0000) as u16,
+        (word / 0x1_0000 % 0x1_0000) as u16,
+        (word / 0x1_0000_0000 % 0x1_0000) as u16,
+        (word / 0x1_0000_0000_0000) as u16,
+    ]
+}
+
+/// The numbers of four bytes that a word holds.
+fn quads_in(word: u64) -> [u32; 2]
+    ensures { result ≡ numbers (word ∷ []) 32 2 }
+{
+    [(word % 0x1_0000_0000) as u32, (word / 0x1_0000_0000) as u32]
+}
+
 /// The first so many bytes.
 pub(crate) fn bytes_of(alloc: Global, words: &[u64], count: u32) -> Result<Vec<u8>, AllocError>
     requires { words_for sizes.Byte count ≤ length words.now }
     ensures { IfOk result (λ v. v.items ≡ numbers words.now 8 count) }
 {
-    let mut items = Vec::with_capacity(alloc, count as usize)?;
-    for i in 0..count {
-        items.push(element_of(words, 8, i) as u8)?;
+    let count = count as usize;
+    let whole = (count + 7) / 8;
+    let mut items = Vec::with_capacity(alloc, 8 * whole)?;
+    for i in 0..whole {
+        items.extend_from_slice(&words[i].to_le_bytes())?;
     }
+    items.truncate(count);
     Ok(items)
 }
 
@@ -67,10 +89,13 @@ pub(crate) fn halves_of(alloc: Global, words: &[u64], count: u32) -> Result<Vec<
     requires { words_for sizes.TwoBytes count ≤ length words.now }
     ensures { IfOk result (λ v. v.items ≡ numbers words.now 16 count) }
 {
-    let mut items = Vec::with_capacity(alloc, count as usize)?;
-    for i in 0..count {
-        items.push(element_of(words, 16, i) as u16)?;
+    let count = count as usize;
+    let whole = (count + 3) / 4;
+    let mut items = Vec::with_capacity(alloc, 4 * whole)?;
+    for i in 0..whole {
+        items.extend_from_slice(&halves_in(words[i]))?;
     }
+    items.truncate(count);
     Ok(items)
 }
 
@@ -79,10 +104,13 @@ pub(crate) fn quads_of(alloc: Global, words: &[u64], count: u32) -> Result<Vec<u
     requires { words_for sizes.FourBytes count ≤ length words.now }
     ensures { IfOk result (λ v. v.items ≡ numbers words.now 32 count) }
 {
-    let mut items = Vec::with_capacity(alloc, count as usize)?;
-    for i in 0..count {
-        items.push(element_of(words, 32, i) as u32)?;
+    let count = count as usize;
+    let whole = (count + 1) / 2;
+    let mut items = Vec::with_capacity(alloc, 2 * whole)?;
+    for i in 0..whole {
+        items.extend_from_slice(&quads_in(words[i]))?;
     }
+    items.truncate(count);
     Ok(items)
 }
 
@@ -91,11 +119,7 @@ pub(crate) fn words_of(alloc: Global, words: &[u64], count: u32) -> Result<Vec<u
     requires { words_for sizes.EightBytes count ≤ length words.now }
     ensures { IfOk result (λ v. v.items ≡ numbers words.now 64 count) }
 {
-    let mut items = Vec::with_capacity(alloc, count as usize)?;
-    for i in 0..count {
-        items.push(element_of(words, 64, i))?;
-    }
-    Ok(items)
+    Vec::from_slice(alloc, &words[..count as usize])
 }
 
 /// A list without pointers, of the words that hold its elements.
@@ -141,6 +165,7 @@ fn build<L: Ledger>(alloc: Global, view: &View, visits: &mut Visits<L>) -> Resul
 
 /// The struct that is viewed.
 #[cycle(build)]
+#[inline]
 fn build_body<L: Ledger>(
     alloc: Global,
     view: &View,
