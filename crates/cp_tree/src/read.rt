@@ -1,6 +1,8 @@
 //! Owned trees, built from views.
 
-ghost use Rattle.std.specs.Prelude.{◌≡◌, ◌<◌, ◌≤◌, ◌+◌, ◌*◌, ◌/◌, ◌^◌, [], ◌∷◌, map, length, IfOk, IfErr, OnOk, ◌≢◌};
+ghost use Rattle.std.specs.Prelude.{◌≡◌, ◌<◌, ◌≤◌, ◌+◌, ◌*◌, ◌/◌, ◌^◌, [], ◌∷◌, map, length, IfOk, IfErr, OnOk, ◌≢◌, slice_index};
+ghost use Rattle.std.specs.Int.{to_le_bytes, w64};
+ghost use Rattle.std.specs.List.{range_with_len};
 ghost use Rattle.cp_words.specs.Word.{words_for};
 ghost use Rattle.cp_words.specs.declared.pointer.ElementSize.TheVariants as sizes;
 ghost use Rattle.cp_tree.specs.Answers.{Answers, IsRefusalOf};
@@ -69,6 +71,23 @@ fn quads_in(word: u64) -> [u32; 2]
     [(word % 0x1_0000_0000) as u32, (word / 0x1_0000_0000) as u32]
 }
 
+/// The bytes of eight words, from one on.
+fn bytes_in(words: &[u64], first: usize) -> [[u8; 8]; 8]
+    requires { first + 8 ≤ length words.now }
+    ensures { result ≡ map (λ k. to_le_bytes w64 (slice_index words.now (first + k))) (range_with_len 0 8) }
+{
+    [
+        words[first].to_le_bytes(),
+        words[first + 1].to_le_bytes(),
+        words[first + 2].to_le_bytes(),
+        words[first + 3].to_le_bytes(),
+        words[first + 4].to_le_bytes(),
+        words[first + 5].to_le_bytes(),
+        words[first + 6].to_le_bytes(),
+        words[first + 7].to_le_bytes(),
+    ]
+}
+
 /// The first so many bytes.
 pub(crate) fn bytes_of(alloc: Global, words: &[u64], count: u32) -> Result<Vec<u8>, AllocError>
     requires { words_for sizes.Byte count ≤ length words.now }
@@ -77,8 +96,14 @@ pub(crate) fn bytes_of(alloc: Global, words: &[u64], count: u32) -> Result<Vec<u
     let count = count as usize;
     let whole = (count + 7) / 8;
     let mut items = Vec::with_capacity(alloc, 8 * whole)?;
-    for i in 0..whole {
+    let mut i = 0;
+    'eights: while i + 8 <= whole {
+        items.extend_from_slice(bytes_in(words, i).as_flattened())?;
+        i += 8;
+    }
+    'rest: while i < whole {
         items.extend_from_slice(&words[i].to_le_bytes())?;
+        i += 1;
     }
     items.truncate(count);
     Ok(items)
