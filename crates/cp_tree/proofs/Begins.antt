@@ -8,9 +8,9 @@ use Rattle.cp_tree.specs.declared.fault.Place.{Place}
 use Rattle.cp_tree.specs.declared.fault.WriteFault.{WriteFault}
 use Rattle.cp_tree.specs.declared.fault.WriteFault.TheVariants as faults
 use Rattle.cp_tree.specs.declared.sheet.Room.{Room}
-use Rattle.cp_tree.specs.Node.{Node, struct, ptrs, structs, Nodes, no_nodes, node, Bodies, body, count, number_of}
+use Rattle.cp_tree.specs.Node.{Node, struct, ptrs, structs, Nodes, no_nodes, node, Bodies, no_bodies, body, count, number_of}
 use Rattle.cp_tree.specs.NodeOf.{bodies_of, nodes_of}
-use Rattle.cp_tree.specs.Shaped.{Shaped}
+use Rattle.cp_tree.specs.Shaped.{Shaped, EachEven}
 use Rattle.cp_tree.specs.Sheets.{Written, Placed, put, append, IsPlace, IsRun, KeepsTo, Writes, Refuses}
 use Rattle.cp_tree.specs.Writing.{body_blank, bodies_blank, tag_word, struct_placed, ptrs_placed, structs_placed, struct_begun, ptrs_begun, structs_begun, Begins, BeginsBodies, tree_by, row_by, bodies_by}
 use Rattle.cp_tree.proofs.Decided.{count-nodes, number-bodies}
@@ -72,6 +72,10 @@ some_struct room s p ws ts F some = rw (ne_eqb (length ws + count ts) 0 (λ e. o
 nothing_hangs : (room : Room) (s p : ℕ) (ts : Nodes) (F : Written) → count ts ≡ 0 → row_by room s p ts F ≡ F
 nothing_hangs room s p no_nodes F e = refl
 nothing_hangs room s p (node t ts) F e = absurd (omega (arith, e))
+
+pub nothing_hangs_on : (room : Room) (s q d n : ℕ) (bs : Bodies) (F : Written) → n ≡ 0 → EachEven d n bs → bodies_by room s q d n bs F ≡ F
+nothing_hangs_on room s q d n no_bodies F none e = refl
+nothing_hangs_on room s q d n (body ws ts bs) F none e = ap (bodies_by room s (q + d + n) d n bs) (nothing_hangs room s (q + d) ts F (e.1 ∙ none)) ∙ nothing_hangs_on room s (q + d + n) d n bs F none e.4
 
 pub empty_begins : (room : Room) (at : Place) (ws : List ℕ) (n : ℕ) (F new : Written) → length ws + n ≡ 0 → IsPlace F at → KeepsTo room F → new ≡ put at.segment at.word 4294967292 F → Begins room at n (struct ws) (Ok at) F new
 empty_begins room at ws n F new none there keeps is =

@@ -25,6 +25,7 @@ pub mod PointerWords
 pub mod Alone
 pub mod OneSegment
 pub mod PackedHolds
+pub mod Numbers
 pub mod LayoutDenotes
 pub mod SheetWords
 pub mod ReadBack

@@ -62,7 +62,7 @@ groups_are base per ns some g =
     (cases_lt g n)
 
 -- where a digit of w bits stands, of those that a word has
-place : (w per k : ℕ) → per * w ≡ 64 → 0 < per → (k * w / 64 ≡ k / per) × (k * w % 64 ≡ k % per * w)
+pub place : (w per k : ℕ) → per * w ≡ 64 → 0 < per → (k * w / 64 ≡ k / per) × (k * w % 64 ≡ k % per * w)
 place w per k e some =
     let wide : 0 < w = pos_of_ne-zero (λ none. omega (arith, sym e ∙ ap (λ n. per * n) none ∙ mul-zero per)) in
     let small : k % per * w < per * w = mul-lt-mul_of_pos_right (mod_below k per some) wide in

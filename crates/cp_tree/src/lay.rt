@@ -38,6 +38,7 @@ fn place_list(
 }
 
 /// A struct's data words, and blank words for its pointers.
+#[inline]
 pub(crate) fn append_body(
     sheet: &mut Sheet,
     room: Room,
@@ -47,11 +48,15 @@ pub(crate) fn append_body(
     requires { KeepsTo room (written sheet.old) }
     ensures { Writes room result (append (body_blank words.now ptrs) (written sheet.old)) (written sheet.new) }
 {
+    if ptrs == 0 {
+        return sheet.append(room, words);
+    }
     sheet.append(room, words)?;
     sheet.append_blank(room, ptrs)
 }
 
 /// The elements of a composite list, each with blank words for its pointers.
+#[inline]
 fn append_bodies(sheet: &mut Sheet, room: Room, bodies: &[Body]) -> Result<(), WriteFault>
     requires { KeepsTo room (written sheet.old) }
     ensures { Writes room result (append (bodies_blank (bodies_of (map body_of bodies.now))) (written sheet.old)) (written sheet.new) }
@@ -282,6 +287,9 @@ fn lay_bodies(
     requires even { EachEven words ptrs (bodies_of (map body_of bodies.now)) }
     ensures { Writes room result (bodies_by room first.segment first.word words ptrs (bodies_of (map body_of bodies.now)) (written sheet.old)) (written sheet.new) }
 {
+    if ptrs == 0 {
+        return Ok(());
+    }
     let mut at = first;
     for body in bodies {
         let pointers = Place {

@@ -1,6 +1,8 @@
 //! Owned trees, built from views.
 
-ghost use Rattle.std.specs.Prelude.{◌≡◌, ◌<◌, ◌≤◌, ◌+◌, ◌*◌, ◌/◌, ◌^◌, map, length, IfOk, IfErr, OnOk, ◌≢◌};
+ghost use Rattle.std.specs.Prelude.{◌≡◌, ◌<◌, ◌≤◌, ◌+◌, ◌*◌, ◌/◌, ◌^◌, [], ◌∷◌, map, length, IfOk, IfErr, OnOk, ◌≢◌, slice_index};
+ghost use Rattle.std.specs.Int.{to_le_bytes, w64};
+ghost use Rattle.std.specs.List.{range_with_len};
 ghost use Rattle.cp_words.specs.Word.{words_for};
 ghost use Rattle.cp_words.specs.declared.pointer.ElementSize.TheVariants as sizes;
 ghost use Rattle.cp_tree.specs.Answers.{Answers, IsRefusalOf};
@@ -50,15 +52,60 @@ pub(crate) fn bits_of(alloc: Global, words: &[u64], count: u32) -> Result<Vec<bo
     Ok(items)
 }
 
+/// The numbers of two bytes that a word holds.
+fn halves_in(word: u64) -> [u16; 4]
+    ensures { result ≡ numbers (word ∷ []) 16 4 }
+{
+    [
+        (word % 0x1_0000) as u16,
+        (word / 0x1_0000 % 0x1_0000) as u16,
+        (word / 0x1_0000_0000 % 0x1_0000) as u16,
+        (word / 0x1_0000_0000_0000) as u16,
+    ]
+}
+
+/// The numbers of four bytes that a word holds.
+fn quads_in(word: u64) -> [u32; 2]
+    ensures { result ≡ numbers (word ∷ []) 32 2 }
+{
+    [(word % 0x1_0000_0000) as u32, (word / 0x1_0000_0000) as u32]
+}
+
+/// The bytes of eight words, from one on.
+fn bytes_in(words: &[u64], first: usize) -> [[u8; 8]; 8]
+    requires { first + 8 ≤ length words.now }
+    ensures { result ≡ map (λ k. to_le_bytes w64 (slice_index words.now (first + k))) (range_with_len 0 8) }
+{
+    [
+        words[first].to_le_bytes(),
+        words[first + 1].to_le_bytes(),
+        words[first + 2].to_le_bytes(),
+        words[first + 3].to_le_bytes(),
+        words[first + 4].to_le_bytes(),
+        words[first + 5].to_le_bytes(),
+        words[first + 6].to_le_bytes(),
+        words[first + 7].to_le_bytes(),
+    ]
+}
+
 /// The first so many bytes.
 pub(crate) fn bytes_of(alloc: Global, words: &[u64], count: u32) -> Result<Vec<u8>, AllocError>
     requires { words_for sizes.Byte count ≤ length words.now }
     ensures { IfOk result (λ v. v.items ≡ numbers words.now 8 count) }
 {
-    let mut items = Vec::with_capacity(alloc, count as usize)?;
-    for i in 0..count {
-        items.push(element_of(words, 8, i) as u8)?;
+    let count = count as usize;
+    let whole = (count + 7) / 8;
+    let mut items = Vec::with_capacity(alloc, 8 * whole)?;
+    let mut i = 0;
+    'eights: while i + 8 <= whole {
+        items.extend_from_slice(bytes_in(words, i).as_flattened())?;
+        i += 8;
     }
+    'rest: while i < whole {
+        items.extend_from_slice(&words[i].to_le_bytes())?;
+        i += 1;
+    }
+    items.truncate(count);
     Ok(items)
 }
 
@@ -67,10 +114,13 @@ pub(crate) fn halves_of(alloc: Global, words: &[u64], count: u32) -> Result<Vec<
     requires { words_for sizes.TwoBytes count ≤ length words.now }
     ensures { IfOk result (λ v. v.items ≡ numbers words.now 16 count) }
 {
-    let mut items = Vec::with_capacity(alloc, count as usize)?;
-    for i in 0..count {
-        items.push(element_of(words, 16, i) as u16)?;
+    let count = count as usize;
+    let whole = (count + 3) / 4;
+    let mut items = Vec::with_capacity(alloc, 4 * whole)?;
+    for i in 0..whole {
+        items.extend_from_slice(&halves_in(words[i]))?;
     }
+    items.truncate(count);
     Ok(items)
 }
 
@@ -79,10 +129,13 @@ pub(crate) fn quads_of(alloc: Global, words: &[u64], count: u32) -> Result<Vec<u
     requires { words_for sizes.FourBytes count ≤ length words.now }
     ensures { IfOk result (λ v. v.items ≡ numbers words.now 32 count) }
 {
-    let mut items = Vec::with_capacity(alloc, count as usize)?;
-    for i in 0..count {
-        items.push(element_of(words, 32, i) as u32)?;
+    let count = count as usize;
+    let whole = (count + 1) / 2;
+    let mut items = Vec::with_capacity(alloc, 2 * whole)?;
+    for i in 0..whole {
+        items.extend_from_slice(&quads_in(words[i]))?;
     }
+    items.truncate(count);
     Ok(items)
 }
 
@@ -91,11 +144,7 @@ pub(crate) fn words_of(alloc: Global, words: &[u64], count: u32) -> Result<Vec<u
     requires { words_for sizes.EightBytes count ≤ length words.now }
     ensures { IfOk result (λ v. v.items ≡ numbers words.now 64 count) }
 {
-    let mut items = Vec::with_capacity(alloc, count as usize)?;
-    for i in 0..count {
-        items.push(element_of(words, 64, i))?;
-    }
-    Ok(items)
+    Vec::from_slice(alloc, &words[..count as usize])
 }
 
 /// A list without pointers, of the words that hold its elements.
@@ -141,6 +190,7 @@ fn build<L: Ledger>(alloc: Global, view: &View, visits: &mut Visits<L>) -> Resul
 
 /// The struct that is viewed.
 #[cycle(build)]
+#[inline]
 fn build_body<L: Ledger>(
     alloc: Global,
     view: &View,

@@ -102,6 +102,7 @@ impl Sheet {
     }
 
     /// Writes a word at a place that is there.
+    #[inline]
     pub fn put(&mut self, at: Place, word: u64)
         requires { IsPlace (written self.old) at }
         ensures { written self.new ≡ put at.segment at.word word (written self.old) }
@@ -129,6 +130,7 @@ impl Sheet {
     }
 
     /// Appends the words to the last segment.
+    #[inline]
     pub fn append(&mut self, room: Room, words: &[u64]) -> Result<(), WriteFault>
         requires { KeepsTo room (written self.old) }
         ensures { Writes room result (append words.now (written self.old)) (written self.new) }
@@ -139,6 +141,7 @@ impl Sheet {
     }
 
     /// Appends so many blank words to the last segment.
+    #[inline]
     pub fn append_blank(&mut self, room: Room, words: usize) -> Result<(), WriteFault>
         requires { KeepsTo room (written self.old) }
         ensures { Writes room result (append (replicate words 0) (written self.old)) (written self.new) }
@@ -212,6 +215,7 @@ impl Sheet {
     }
 
     /// Names a body directly, and gives where it is to be written: at the end of its pointer's segment.
+    #[inline]
     fn place_here(&mut self, at: Place, kind: Kind) -> Place
         requires small { (s : ℕ) → end_of (written self.old) s ≤ 67108864 }
         requires there { IsPlace (written self.old) at }

@@ -104,6 +104,7 @@ impl<'a> View<'a> {
     }
 
     /// The tree's kind and sizes.
+    #[inline]
     pub fn shape(&self) -> Shape
         ensures { result ≡ shape_of self.now }
     {
@@ -116,6 +117,7 @@ impl<'a> View<'a> {
 
     /// A struct's data words, or the words that hold a list's elements of one bit to eight bytes
     /// (encoding specification, "Lists"); else none.
+    #[inline]
     pub fn words(&self) -> &'a [u64]
         ensures { AreWordsOf result.now self.now }
     {
@@ -127,6 +129,7 @@ impl<'a> View<'a> {
 
     /// Part `i` of the tree: a struct's pointer, or an element of a list of pointers or of a
     /// composite list. Past the end it is null.
+    #[inline]
     pub fn child(&self, i: u32) -> View<'a>
         ensures { result ≡ part_of self.now i }
     {

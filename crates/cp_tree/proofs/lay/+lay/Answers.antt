@@ -3,11 +3,11 @@ use Rattle.std.proofs.lemmas.Result.{err_from_is_err_and}
 use Rattle.std.specs.Prelude.{List, ℕ}
 use Rattle.cp_tree.specs.Node.{Nodes, depth, greatest_depth, struct, ptrs, count}
 use Rattle.cp_tree.specs.Shaped.{Shaped}
-use Rattle.cp_tree.proofs.Begins.{count_in, hung, not_begun}
+use Rattle.cp_tree.proofs.Begins.{count_in, hung, not_begun, nothing_hangs_on}
 use Rattle.cp_tree.proofs.Steps.{tree_needs, tree_refused, row_next, body_needs, body_refused, bodies_next, item_depth, body_depth}
 use Rattle.cp_words.specs.declared.pointer.Pointer.TheVariants as pointers
 use Rattle.cp_words.specs.Word.{word_of}
-use Rattle.cp_tree.specs.NodeOf.{node_of, body_of, nodes_of}
+use Rattle.cp_tree.specs.NodeOf.{node_of, body_of, nodes_of, bodies_of}
 use Rattle.cp_tree.specs.Sheets.{written, put, KeepsTo}
 use Rattle.cp_tree.proofs.Decided.{body_of-is, node-Ptrs}
 use Rattle.cp_tree.proofs.Shapes.{node-Struct}
@@ -140,3 +140,9 @@ lay_row-loop-tree-preserved t c =
     let l = c.loop-tree in
     let next = next_tree c.args.trees.now l.tree-index c.tree-item.result c.loop-tree-test.true c.tree-item.is in
     row_next c.args.room c.args.first.segment l.at _ _ _ (written l.sheet) _ next l.invariant (written c.lay.new.sheet) c.in_ok-lay.ensures.0 c.in_ok-lay.ensures.1
+
+pub lay_bodies-returns-then-ptrs-eq0 : goal.lay_bodies-returns-then-ptrs-eq0
+lay_bodies-returns-then-ptrs-eq0 t c =
+    let at = c.args.first in
+    let bs = bodies_of (map body_of c.args.bodies.now) in
+    (sym (nothing_hangs_on c.args.room at.segment at.word c.args.words c.args.ptrs bs (written c.args.sheet.now) (omega arith) c.requires.even), c.requires.keeps)

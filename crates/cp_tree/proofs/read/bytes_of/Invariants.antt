@@ -1,6 +1,15 @@
-use Rattle.std.proofs.Common.{◌≡◌}
+use Rattle.std.proofs.Common.{◌≡◌, ◌*◌, ◌-◌, ◌≤◌}
 use Rattle.cp_tree.specs.Denotes.{numbers}
 use Rattle.cp_tree.proofs.read.bytes_of.Given as goal
 
-abbrev pub invariant-loop-i : goal.invariant-loop-i
-invariant-loop-i l = l.items.items ≡ numbers l.words 8 l.i
+abbrev pub invariant-eights : goal.invariant-eights
+invariant-eights l = (l.i ≤ l.whole) × (l.items.items ≡ numbers l.words 8 (8 * l.i))
+
+abbrev pub decreases-eights : goal.decreases-eights
+decreases-eights l = l.whole - l.i
+
+abbrev pub invariant-rest : goal.invariant-rest
+invariant-rest l = (l.i ≤ l.whole) × (l.items.items ≡ numbers l.words 8 (8 * l.i))
+
+abbrev pub decreases-rest : goal.decreases-rest
+decreases-rest l = l.whole - l.i

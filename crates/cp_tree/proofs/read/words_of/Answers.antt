@@ -1,8 +1,6 @@
-use Rattle.std.proofs.Common.{arith}
-use Rattle.std.proofs.lemmas.List.FromFn.{map-range_with_len_more}
-use Rattle.cp_tree.specs.Denotes.{element}
+use Rattle.std.proofs.Common.{◌≡◌, IfOk, subst, arith}
+use Rattle.cp_tree.proofs.Numbers.{first_words}
 use Rattle.cp_tree.proofs.read.words_of.Goals as goal
 
-pub loop-i-preserved : goal.loop-i-preserved
-loop-i-preserved c =
-    rw (map-range_with_len_more (element c.args.words.now 64) 0 c.loop-i.i c.loop-i.i (omega arith), ← c.loop-i.invariant, ← c.element_of.ensures.value) c.in_ok-push.ensures.items
+pub returns : goal.returns
+returns c = subst (λ ns. IfOk c.from_slice.result (λ v. v.items ≡ ns)) (first_words c.args.words.now c.args.count (omega (arith, c.requires)) (λ k. omega (arith, c.type_inv.words k))) c.from_slice.ensures.items
