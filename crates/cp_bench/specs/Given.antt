@@ -6,6 +6,11 @@ use Rattle.cp_frame.specs.Packed.{Packed, Spelt}
 abbrev pub over : {A : Type 0} → List A → List A → List A
 over items room = take (length room) items ++ drop (length items) room
 
+-- There is nothing, and the room is as it was.
+pub record GivesNone (number : ℕ) (old new : List ℕ) : Type 0 where
+  pub number_is : number ≡ 0
+  pub room_is : new ≡ old
+
 -- There are so many items, and what fits of them was put into the room.
 pub record Gives (items : List ℕ) (number : ℕ) (old new : List ℕ) : Type 0 where
   pub number_is : number ≡ length items

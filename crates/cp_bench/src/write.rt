@@ -1,6 +1,7 @@
 //! Writing frames.
 
 ghost use Rattle.std.specs.Prelude.{◌≡◌, ◌⊎◌, [], IfSome, IsTrue};
+ghost use Rattle.cp_bench.specs.Given.{GivesNone};
 ghost use Rattle.cp_bench.specs.Write.{AreTreesOf, AreWritten, IsRewritten, GivesWritten};
 
 use crate::fill::fill;
@@ -65,7 +66,8 @@ fn rewrite(alloc: Global, bytes: &[u8], turns: u32) -> Option<Vec<u8>>
 }
 
 /// A plain stream's frames are read into owned trees, and these are written as frames `turns` times. Gives
-/// the number of bytes of a turn, and puts what fits of the last into the room.
+/// the number of bytes of a turn, and puts what fits of the last into the room. Where a frame has no tree
+/// it gives 0, and the room stays as it was.
 #[unsafe(no_mangle)]
 pub extern "C" fn cpb_write_frames(
     alloc: Global,
@@ -73,7 +75,7 @@ pub extern "C" fn cpb_write_frames(
     turns: u32,
     room: &mut [u8],
 ) -> usize
-    ensures { (result ≡ 0) ⊎ GivesWritten bytes.now turns result room.old room.new }
+    ensures { GivesNone result room.old room.new ⊎ GivesWritten bytes.now turns result room.old room.new }
 {
     match rewrite(alloc, bytes, turns) {
         Some(out) => {
