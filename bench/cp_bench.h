@@ -15,4 +15,8 @@ uint64_t cpb_packed_frames(const uint8_t* bytes, size_t length, uint8_t kind);
 // Reads a plain stream's frames into owned trees and writes these `turns` times. Gives the number of bytes of a turn, and puts
 // what fits of the last into the room.
 size_t cpb_write_frames(const uint8_t* bytes, size_t length, uint32_t turns, uint8_t* room, size_t size);
+// The same three within limits on nesting and traversal; what is written is in segments of at most `words` words.
+uint64_t cpb_read_frames_within(const uint8_t* bytes, size_t length, uint8_t kind, uint32_t nesting, uint32_t traversal);
+uint64_t cpb_packed_frames_within(const uint8_t* bytes, size_t length, uint8_t kind, uint32_t nesting, uint32_t traversal);
+size_t cpb_write_frames_within(const uint8_t* bytes, size_t length, uint32_t turns, uint32_t words, uint32_t nesting, uint32_t traversal, uint8_t* room, size_t size);
 }

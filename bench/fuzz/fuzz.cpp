@@ -1,8 +1,10 @@
 // Reading, writing and unpacking of bytes that nobody vouches for, over the static library cp_bench.
 //
-// An input is one byte that says of what form the rest is, and the rest: plain frames, packed ones, or words. Besides cutting and joining, as
+// An input is one byte and the rest. The byte says of what form the rest is (plain frames, packed ones, or words), within
+// which limits it is looked at, and in segments of how many words it is written again. Besides cutting and joining, as
 // libFuzzer does, inputs are changed by words: a pointer's offset, size or kind, a table's number, a bit. Packed inputs
 // are unpacked for that and packed again, so that the change arrives at the reader.
+#include "../cp_bench.h"
 #include <chrono>
 #include <cstddef>
 #include <cstdint>
@@ -11,37 +13,47 @@
 #include <cstring>
 #include <vector>
 
-extern "C" {
-size_t cpb_pack(const uint64_t* words, size_t count, uint8_t* out, size_t room);
-size_t cpb_unpack(const uint8_t* bytes, size_t length, size_t limit, uint64_t* out, size_t room);
-uint64_t cpb_read_frames(const uint8_t* bytes, size_t length, uint8_t kind);
-uint64_t cpb_packed_frames(const uint8_t* bytes, size_t length, uint8_t kind);
-size_t cpb_write_frames(const uint8_t* bytes, size_t length, uint32_t turns, uint8_t* out, size_t room);
-size_t LLVMFuzzerMutate(uint8_t* data, size_t size, size_t max_size);
-}
+extern "C" size_t LLVMFuzzerMutate(uint8_t* data, size_t size, size_t max_size);
 
 // The library has no counters of its own for libFuzzer, so it is shown what was answered: an input that brings a new
 // answer is kept. One that is written as many words isn't, since it takes long each time.
-__attribute__((section("__libfuzzer_extra_counters"))) uint8_t seen[1 << 16];
+__attribute__((section("__libfuzzer_extra_counters"))) uint8_t seen[1 << 14];
 
 namespace {
 
 constexpr size_t LIMIT = 1 << 16;
+constexpr uint32_t SMALL = 1 << 16;
 enum Form { Plain, Packed, Words, Forms };
 const char* const NAMES[Forms] = {"plain frames", "packed frames", "words"};
 
+// What an input's first byte says. A message that refers to its parts many times over takes as long as the limits allow, so
+// most inputs are looked at within small ones, and one of 64 within the standard ones.
+struct Head {
+  int form;
+  bool standard;
+  uint32_t nesting = 64, traversal, words;
+  explicit Head(uint8_t byte) : form(byte % Forms), standard(byte / Forms == 63) {
+    static const uint32_t WORDS[] = {8u << 20, 1, 3, 16};
+    traversal = standard ? 8u << 20 : SMALL;
+    words = WORDS[byte / Forms % 4];
+  }
+  static uint8_t byte(int form, unsigned random) { return uint8_t(form + Forms * (random % 64)); }
+};
+
 // How many inputs there were of each form, and how many of them were accepted; printed at the end.
 struct Tally {
-  uint64_t tried[Forms] = {}, accepted[Forms] = {};
+  uint64_t tried[Forms] = {}, accepted[Forms] = {}, standard = 0;
   ~Tally() {
     for (int i = 0; i < Forms; i++) std::fprintf(stderr, "%s: %llu tried, %llu accepted\n", NAMES[i], (unsigned long long)tried[i], (unsigned long long)accepted[i]);
+    std::fprintf(stderr, "within the standard limits: %llu\n", (unsigned long long)standard);
   }
 } tally;
 
-void note(int form, uint64_t accepted, uint64_t answer) {
-  tally.tried[form]++;
-  tally.accepted[form] += accepted > 0;
-  seen[(form << 12 | answer % 4096) % sizeof seen] = 1;
+void note(const Head& head, uint64_t accepted, uint64_t answer) {
+  tally.tried[head.form]++;
+  tally.accepted[head.form] += accepted > 0;
+  tally.standard += head.standard;
+  seen[(head.form << 12 | answer % 4096) % sizeof seen] = 1;
 }
 
 void fail(const char* what) {
@@ -49,11 +61,10 @@ void fail(const char* what) {
   std::abort();
 }
 
-// A message that refers to its parts many times over takes as long as the limits allow, and longer to build and write. Of
-// those that took long to look at, few are built.
-bool is_long(std::chrono::steady_clock::time_point before) {
+// What takes long to look at within the standard limits takes longer to build and write, and few of such inputs are built.
+bool is_long(const Head& head, std::chrono::steady_clock::time_point before) {
   static unsigned turn = 0;
-  return std::chrono::steady_clock::now() - before > std::chrono::microseconds(100) && ++turn % 64 != 0;
+  return head.standard && std::chrono::steady_clock::now() - before > std::chrono::milliseconds(1) && ++turn % 64 != 0;
 }
 
 // Where each root is a message's, an owned tree of each is given as often.
@@ -86,11 +97,12 @@ uint64_t pack(const uint8_t* bytes, size_t length) {
   return size;
 }
 
-uint64_t write(const uint8_t* bytes, size_t length) {
+// Of trees that fit in the limits, what is written is read back, unless there are more segments than the limits have.
+uint64_t write(const Head& head, const uint8_t* bytes, size_t length, uint64_t trees) {
   static std::vector<uint8_t> out(1 << 24);
-  size_t size = cpb_write_frames(bytes, length, 1, out.data(), out.size());
+  size_t size = cpb_write_frames_within(bytes, length, 1, head.words, head.nesting, head.traversal, out.data(), out.size());
   if (size == 0 || size > out.size()) return 0;
-  if (cpb_read_frames(out.data(), size, 2) != cpb_read_frames(bytes, length, 2)) fail("written, and read back otherwise");
+  if (cpb_read_frames_within(out.data(), size, 2, head.nesting, head.traversal) != trees) fail("written, and read back otherwise");
   return size;
 }
 
@@ -116,29 +128,22 @@ extern "C" int LLVMFuzzerTestOneInput(const uint8_t* data, size_t size) {
   if (size == 0) return 0;
   const uint8_t* bytes = data + 1;
   size_t length = size - 1;
-  int form = data[0] % Forms;
-  if (form == Plain) {
-    cpb_read_frames(bytes, length, 0);
-    auto before = std::chrono::steady_clock::now();
-    uint64_t views = cpb_read_frames(bytes, length, 1);
-    if (is_long(before)) return note(form, views, 0), 0;
-    uint64_t trees = compare(views, cpb_read_frames(bytes, length, 2));
-    uint64_t words = write(bytes, length) / 8;
-    note(form, trees, words < 256 ? words : 0);
-  } else if (form == Packed) {
-    unpack(bytes, length);
-    cpb_packed_frames(bytes, length, 0);
-    auto before = std::chrono::steady_clock::now();
-    uint64_t views = cpb_packed_frames(bytes, length, 1);
-    if (is_long(before)) return note(form, views, 0), 0;
-    uint64_t trees = compare(views, cpb_packed_frames(bytes, length, 2));
-    note(form, trees, trees);
-  } else {
-    note(form, pack(bytes, length), 0);
-  }
+  Head head(data[0]);
+  if (head.form == Words) return note(head, pack(bytes, length), 0), 0;
+  auto read = head.form == Plain ? cpb_read_frames_within : cpb_packed_frames_within;
+  if (head.form == Packed) unpack(bytes, length);
+  uint64_t frames = read(bytes, length, 0, head.nesting, head.traversal);
+  auto before = std::chrono::steady_clock::now();
+  uint64_t views = read(bytes, length, 1, head.nesting, head.traversal);
+  if (views > 0 && views != frames) fail("more messages than frames, or fewer");
+  if (is_long(head, before)) return note(head, views, 0), 0;
+  uint64_t trees = compare(views, read(bytes, length, 2, head.nesting, head.traversal));
+  uint64_t words = head.form == Plain && trees > 0 ? write(head, bytes, length, trees) / 8 : trees;
+  note(head, trees, words < 256 ? words : 0);
   return 0;
 }
 
+// Some words are changed, and half of the inputs become plain frames, three of eight packed ones.
 extern "C" size_t LLVMFuzzerCustomMutator(uint8_t* data, size_t size, size_t max_size, unsigned seed) {
   if (size < 17 || seed % 4 == 0) return LLVMFuzzerMutate(data, size, max_size);
   bool packed = data[0] % Forms == Packed;
@@ -153,13 +158,21 @@ extern "C" size_t LLVMFuzzerCustomMutator(uint8_t* data, size_t size, size_t max
     seed = seed * 1664525u + 1013904223u;
     change(words[at], seed >> 8);
   }
-  if (!packed) {
+  seed = seed * 1664525u + 1013904223u;
+  static const uint8_t FORMS[] = {Plain, Plain, Plain, Plain, Packed, Packed, Packed, Words};
+  int form = FORMS[seed >> 16 & 7];
+  uint8_t first = Head::byte(form, seed >> 20);
+  if (form != Packed) {
+    size_t length = packed ? 8 * count : size - 1;
+    if (length + 1 > max_size) return LLVMFuzzerMutate(data, size, max_size);
     std::memcpy(data + 1, words.data(), 8 * count);
-    return size;
+    data[0] = first;
+    return length + 1;
   }
-  std::vector<uint8_t> out(16 * count + 16);
+  static std::vector<uint8_t> out(16 * LIMIT);
   size_t length = cpb_pack(words.data(), count, out.data(), out.size());
-  if (length + 1 > max_size) return size;
+  if (length == 0 || length + 1 > max_size) return LLVMFuzzerMutate(data, size, max_size);
   std::memcpy(data + 1, out.data(), length);
+  data[0] = first;
   return length + 1;
 }

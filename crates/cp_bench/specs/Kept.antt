@@ -1,7 +1,7 @@
 -- What loops keep. No public clause names these.
 use Rattle.std.specs.Prelude.{◌≡◌, ℕ, List, ◌++◌, length, take}
 use Rattle.std.specs.List.{AllByRecursion}
-use Rattle.cp_words.specs.Limits.{standard}
+use Rattle.cp_words.specs.Limits.{Bounds}
 use Rattle.cp_tree.specs.Node.{Node}
 use Rattle.cp_frame.specs.declared.mode.Mode.{Mode}
 use Rattle.cp_frame.specs.Stream.{Frames}
@@ -10,26 +10,26 @@ use Rattle.cp_bench.specs.Read.{IsOfKind}
 use Rattle.cp_bench.specs.Write.{AreTreesOf, AreWritten}
 
 -- Of the bytes, all but what is left were fed: so many frames, each with what is asked for, and a rest that the reader stands for.
-pub record IsCounted (mode : Mode) (kind : ℕ) (bytes : List ℕ) (reader : Reader) (number : ℕ) (left : List ℕ) : Type 0 where
+pub record IsCounted (limits : Bounds) (mode : Mode) (kind : ℕ) (bytes : List ℕ) (reader : Reader) (number : ℕ) (left : List ℕ) : Type 0 where
   pub fed : List ℕ
   pub given : List (ℕ × List (List ℕ))
   pub rest : List ℕ
   pub splits : bytes ≡ fed ++ left
-  pub frames : Frames mode standard fed given rest
+  pub frames : Frames mode limits fed given rest
   pub stands : StandsFor reader rest
   pub same_mode : reader.mode ≡ mode
-  pub same_limits : reader.limits ≡ standard
-  pub each : AllByRecursion (λ f. IsOfKind kind f.1) given
+  pub same_limits : reader.limits ≡ limits
+  pub each : AllByRecursion (λ f. IsOfKind limits kind f.1) given
   pub number_is : number ≡ length given
 
 -- the first frames' trees
-abbrev pub AreFirstTrees : List (ℕ × List (List ℕ)) → ℕ → List Node → Type 0
-AreFirstTrees frames n trees = AreTreesOf (take n frames) trees
+abbrev pub AreFirstTrees : Bounds → List (ℕ × List (List ℕ)) → ℕ → List Node → Type 0
+AreFirstTrees limits frames n trees = AreTreesOf limits (take n frames) trees
 
 -- the bytes are the first trees' frames
-abbrev pub AreFirstWritten : List Node → ℕ → List ℕ → Type 0
-AreFirstWritten trees n b = AreWritten (take n trees) b
+abbrev pub AreFirstWritten : ℕ → Bounds → List Node → ℕ → List ℕ → Type 0
+AreFirstWritten words limits trees n b = AreWritten words limits (take n trees) b
 
 -- each of the first frames has what is asked for
-abbrev pub GiveFirst : ℕ → List (ℕ × List (List ℕ)) → ℕ → Type 0
-GiveFirst kind frames n = AllByRecursion (λ f. IsOfKind kind f.1) (take n frames)
+abbrev pub GiveFirst : Bounds → ℕ → List (ℕ × List (List ℕ)) → ℕ → Type 0
+GiveFirst limits kind frames n = AllByRecursion (λ f. IsOfKind limits kind f.1) (take n frames)

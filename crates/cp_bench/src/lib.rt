@@ -10,5 +10,7 @@ mod read;
 mod write;
 
 pub use packed::{cpb_pack, cpb_unpack};
-pub use read::{cpb_packed_frames, cpb_read_frames};
-pub use write::cpb_write_frames;
+pub use read::{
+    cpb_packed_frames, cpb_packed_frames_within, cpb_read_frames, cpb_read_frames_within,
+};
+pub use write::{cpb_write_frames, cpb_write_frames_within};

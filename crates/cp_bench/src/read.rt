@@ -3,7 +3,7 @@
 ghost use Rattle.std.specs.Prelude.{◌≡◌, ◌⊎◌, IfSome, IsTrue};
 ghost use Rattle.std.specs.List.{AllByRecursion};
 ghost use Rattle.cp_frame.specs.declared.mode.Mode.TheVariants.{Plain, Packed};
-ghost use Rattle.cp_bench.specs.Read.{IsOfKind, Counts};
+ghost use Rattle.cp_bench.specs.Read.{IsOfKind, Counts, CountsWithin, within};
 
 use cp_frame::{FrameReader, Mode};
 use cp_stream::view_of;
@@ -15,35 +15,48 @@ use std::alloc::Global;
 const PIECE: usize = 65_536;
 
 /// Whether the segments give what is asked for: at 0 nothing, at 1 a view of a message, else an owned tree.
-fn gives(alloc: Global, segments: &Segments, kind: u8) -> bool
-    ensures { IsTrue result → IsOfKind kind segments.now }
+fn gives(alloc: Global, segments: &Segments, kind: u8, limits: Limits) -> bool
+    ensures { IsTrue result → IsOfKind limits kind segments.now }
 {
     match kind {
         0 => true,
-        1 => view_of(segments, Limits::standard()).is_ok(),
-        _ => read_root(alloc, segments, Limits::standard()).is_ok(),
+        1 => view_of(segments, limits).is_ok(),
+        _ => read_root(alloc, segments, limits).is_ok(),
     }
 }
 
 /// Whether each of the frames gives it.
-fn all_give(alloc: Global, frames: &[(u64, Segments)], kind: u8) -> bool
-    ensures { IsTrue result → AllByRecursion (λ f. IsOfKind kind f.1) frames.now }
+fn all_give(alloc: Global, frames: &[(u64, Segments)], kind: u8, limits: Limits) -> bool
+    ensures { IsTrue result → AllByRecursion (λ f. IsOfKind limits kind f.1) frames.now }
 {
     for frame in frames {
-        if !gives(alloc, &frame.1, kind) {
+        if !gives(alloc, &frame.1, kind, limits) {
             return false;
         }
     }
     true
 }
 
+/// The standard limits, but for these two. `None` where one is out of its range.
+pub(crate) fn limits_of(nesting: u32, traversal: u32) -> Option<Limits>
+    ensures { IfSome result (λ l. l ≡ within nesting traversal) }
+{
+    let standard = Limits::standard();
+    Limits::new(
+        nesting,
+        traversal,
+        standard.segments(),
+        standard.frame_words(),
+    )
+}
+
 /// How many frames a whole stream has, if each gives what is asked for.
-fn count(alloc: Global, mode: Mode, bytes: &[u8], kind: u8) -> Option<u64>
-    ensures { IfSome result (Counts mode kind bytes.now) }
+fn count(alloc: Global, mode: Mode, bytes: &[u8], kind: u8, limits: Limits) -> Option<u64>
+    ensures { IfSome result (CountsWithin limits mode kind bytes.now) }
 {
     let mut reader = match mode {
-        Mode::Plain => FrameReader::plain(alloc, Limits::standard()),
-        Mode::Packed => FrameReader::packed(alloc, Limits::standard()),
+        Mode::Plain => FrameReader::plain(alloc, limits),
+        Mode::Packed => FrameReader::packed(alloc, limits),
     };
     let mut count: u64 = 0;
     let mut left = bytes;
@@ -52,7 +65,7 @@ fn count(alloc: Global, mode: Mode, bytes: &[u8], kind: u8) -> Option<u64>
         let Ok(frames) = reader.feed(piece) else {
             return None;
         };
-        if !all_give(alloc, &frames, kind) {
+        if !all_give(alloc, &frames, kind, limits) {
             return None;
         }
         count = count.checked_add(frames.len() as u64)?;
@@ -70,7 +83,7 @@ fn count(alloc: Global, mode: Mode, bytes: &[u8], kind: u8) -> Option<u64>
 pub extern "C" fn cpb_read_frames(alloc: Global, bytes: &[u8], kind: u8) -> u64
     ensures { (result ≡ 0) ⊎ Counts Plain kind bytes.now result }
 {
-    count(alloc, Mode::Plain, bytes, kind).unwrap_or(0)
+    count(alloc, Mode::Plain, bytes, kind, Limits::standard()).unwrap_or(0)
 }
 
 /// How many frames a packed stream has, likewise.
@@ -78,5 +91,39 @@ pub extern "C" fn cpb_read_frames(alloc: Global, bytes: &[u8], kind: u8) -> u64
 pub extern "C" fn cpb_packed_frames(alloc: Global, bytes: &[u8], kind: u8) -> u64
     ensures { (result ≡ 0) ⊎ Counts Packed kind bytes.now result }
 {
-    count(alloc, Mode::Packed, bytes, kind).unwrap_or(0)
+    count(alloc, Mode::Packed, bytes, kind, Limits::standard()).unwrap_or(0)
+}
+
+/// What `cpb_read_frames` gives within limits on nesting and traversal.
+#[unsafe(no_mangle)]
+pub extern "C" fn cpb_read_frames_within(
+    alloc: Global,
+    bytes: &[u8],
+    kind: u8,
+    nesting: u32,
+    traversal: u32,
+) -> u64
+    ensures { (result ≡ 0) ⊎ CountsWithin (within nesting traversal) Plain kind bytes.now result }
+{
+    match limits_of(nesting, traversal) {
+        Some(limits) => count(alloc, Mode::Plain, bytes, kind, limits).unwrap_or(0),
+        None => 0,
+    }
+}
+
+/// What `cpb_packed_frames` gives within limits on nesting and traversal.
+#[unsafe(no_mangle)]
+pub extern "C" fn cpb_packed_frames_within(
+    alloc: Global,
+    bytes: &[u8],
+    kind: u8,
+    nesting: u32,
+    traversal: u32,
+) -> u64
+    ensures { (result ≡ 0) ⊎ CountsWithin (within nesting traversal) Packed kind bytes.now result }
+{
+    match limits_of(nesting, traversal) {
+        Some(limits) => count(alloc, Mode::Packed, bytes, kind, limits).unwrap_or(0),
+        None => 0,
+    }
 }

@@ -7,5 +7,5 @@ pub loop-frame-preserved : goal.loop-frame-preserved
 loop-frame-preserved c =
     let l = c.loop-frame in
     let pushed : c.push.new.self.items ≡ l.trees.items ++ c.in-Ok.tree ∷ [] = search (rules) in
-    subst (λ ts. AreFirstTrees c.args.frames.now (l.frame-index + 1) ts) (sym pushed)
-    (trees_more c.args.frames.now l.frame-index l.trees.items _ c.frame-item.result c.in-Ok.tree l.invariant (search (rules)) c.frame-item.is (search (rules)))
+    subst (λ ts. AreFirstTrees c.args.limits c.args.frames.now (l.frame-index + 1) ts) (sym pushed)
+    (trees_more c.args.limits c.args.frames.now l.frame-index l.trees.items _ c.frame-item.result c.in-Ok.tree l.invariant (search (rules)) c.frame-item.is (search (rules)))
