@@ -30,3 +30,4 @@ pub mod Decoded
 pub mod Bulks
 pub mod Fronts
 pub mod Parted
+pub mod Places

@@ -1,7 +1,7 @@
 -- A frame that is written in packed pieces.
-use Rattle.std.proofs.Common.{◌≡◌, ◌==◌, if◌then◌else◌, Bool, true, false, ℕ, ◌+◌, ◌-◌, ◌*◌, ◌/◌, ◌%◌, ◌<◌, ◌≤◌, List, [], ◌∷◌, ◌++◌, length, take, get_or, sym, ◌∙◌, ap, subst, append_assoc, length-append, arith}
+use Rattle.std.proofs.Common.{◌≡◌, ◌==◌, if◌then◌else◌, Bool, true, false, ℕ, ◌+◌, ◌-◌, ◌*◌, ◌/◌, ◌%◌, ◌^◌, ◌<◌, ◌≤◌, List, [], ◌∷◌, ◌++◌, length, take, get_or, sym, ◌∙◌, ap, subst, append_assoc, length-append, arith}
 use Rattle.std.specs.List.{AllZip, flat_map}
-use Rattle.std.specs.Int.{to_le_bytes, w32}
+use Rattle.std.specs.Int.{to_le_bytes, w32, w64}
 use Rattle.std.specs.Global.{Vec}
 use Rattle.std.proofs.lemmas.List.{append-nil, take_all}
 use Rattle.std.proofs.lemmas.Grind.{flat_map-append}
@@ -11,7 +11,7 @@ use Rattle.cp_frame.specs.Frame.{IsWritten, padded_table}
 use Rattle.cp_frame.specs.Packed.{Spelt}
 use Rattle.cp_frame.specs.Packing.{PutsSpelt}
 use Rattle.cp_frame.specs.Parts.{lists, words_in}
-use Rattle.cp_frame.proofs.Numbers.{length_spelled}
+use Rattle.cp_frame.proofs.Numbers.{length_spelled, bytes_of_word}
 use Rattle.cp_frame.proofs.Filling.{words_in_is}
 use Rattle.cp_frame.proofs.Framing.{length_sizes}
 use Rattle.cp_frame.proofs.Opened.{next_list}
@@ -76,3 +76,17 @@ padding_are false = tt
 
 pub padded_small : (S : List (List ℕ)) (i : ℕ) → get_or (padded_table S) i 0 < 256
 padded_small S i = byte_at (padded_table S) (are-append (table S) (if length S % 2 == 0 then spelled (0 ∷ []) else []) (spelled_are ((length S - 1) ∷ sizes_of S)) (padding_are (length S % 2 == 0))) i
+
+-- the table of one segment
+pub one_table : (vs : List (Vec ℕ)) (v : Vec ℕ) (n w : ℕ) → length vs ≡ 1 → v ≡ get_or vs 0 v → n ≡ length v.items → n < 2 ^ 32 → w ≡ n * 2 ^ 32 → padded_table (lists vs) ≡ bytes_of (w ∷ [])
+one_table [] v n w h r e k m = absurd (omega (arith, h))
+one_table (x ∷ y ∷ vs) v n w h r e k m = absurd (omega (arith, h))
+one_table (x ∷ []) v n w h r e k m =
+    let size : length x.items ≡ w / 2 ^ 32 = ap (λ (u : Vec ℕ). length u.items) (sym r) ∙ sym e ∙ omega (arith, m, k) in
+    let none : 0 ≡ w % 2 ^ 32 = omega (arith, m, k) in
+    append-nil (spelled (0 ∷ length x.items ∷ []))
+    ∙ ap (λ (b : List ℕ). to_le_bytes w32 0 ++ b) (append-nil (to_le_bytes w32 (length x.items)))
+    ∙ ap (λ (i : ℕ). to_le_bytes w32 0 ++ to_le_bytes w32 i) size
+    ∙ ap (λ (i : ℕ). to_le_bytes w32 i ++ to_le_bytes w32 (w / 2 ^ 32)) none
+    ∙ sym (bytes_of_word w (omega (arith, m, k)))
+    ∙ sym (append-nil (to_le_bytes w64 w))

@@ -1,5 +1,7 @@
 -- Words written as packed bytes behind others. No public clause names these.
 use Rattle.std.specs.Prelude.{◌≡◌, ℕ, ◌==◌, if◌then◌else◌, List, ◌++◌, map, Option, Some, None}
+use Rattle.cp_frame.specs.Framed.{bytes_of}
+use Rattle.cp_frame.specs.Frame.{padded_table}
 use Rattle.cp_frame.specs.Packed.{Group, IsGroup, IsSparing, IsLongest, spelling, words_of, Spelt}
 
 -- a word's bytes, of which those that aren't zero are written
@@ -18,3 +20,7 @@ pub record PutsGroup (old new words back : List ℕ) : Type 0 where
 -- the words were written packed behind what stood there
 abbrev pub PutsSpelt : List ℕ → List ℕ → List ℕ → Type 0
 PutsSpelt old new words = (bytes : List ℕ) × Spelt words bytes × (new ≡ old ++ bytes)
+
+-- the table of these segments was written packed behind what stood there
+abbrev pub PutsTable : List (List ℕ) → List ℕ → List ℕ → Type 0
+PutsTable S old new = (head : List ℕ) × (padded_table S ≡ bytes_of head) × PutsSpelt old new head

@@ -36,14 +36,21 @@ pub struct OpenFrame {
 }
 
 /// A segment of which nothing has come. A large one begins with less room than it will need, since
-/// its bytes may never come.
+/// its bytes may never come, and with half of it at most, since room doubles: so it isn't copied when
+/// it is nearly whole.
 fn new_segment(alloc: Global, table: &[u64], segment: usize) -> Result<Vec<u64>, AllocError>
     requires { IsWholeTable table.now }
     ensures items { IfOk result (λ v. v.items ≡ []) }
     ensures room { IfOk result (λ v. vec_capacity v ≤ FIRST_ROOM) }
 {
     let room = if segment < table::count(table) {
-        table::size(table, segment).min(FIRST_ROOM)
+        let size = table::size(table, segment);
+        let half = size - size / 2;
+        if size <= FIRST_ROOM {
+            size
+        } else {
+            half.min(FIRST_ROOM)
+        }
     } else {
         0
     };

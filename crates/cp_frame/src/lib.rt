@@ -7,6 +7,7 @@ mod bulk;
 mod decode;
 mod fault;
 mod frame;
+mod gather;
 mod group;
 mod laws;
 mod mode;

@@ -9,6 +9,7 @@ ghost use Rattle.cp_frame.specs.Packing.{PutsGroup, PutsSpelt, bytes_that_count}
 ghost use Rattle.cp_frame.specs.declared.fault.FrameFault.TheVariants.{OutOfMemory};
 
 use crate::fault::FrameFault;
+use crate::gather::gathered;
 use byteorder::{ByteOrder, LittleEndian};
 use std::alloc::{AllocError, Global};
 use std::simd::prelude::*;
@@ -18,6 +19,9 @@ pub const LONGEST: usize = 10;
 
 /// How many words a run has at most behind its first.
 const MOST: usize = 255;
+
+/// How many words are written at once.
+const BLOCK: usize = 64;
 
 /// How many of a word's bytes are zero.
 fn count_zeros(word: u64) -> usize
@@ -69,42 +73,32 @@ fn tag_of(bytes: &[u8; 8]) -> u8
     (255 - zeros) as u8
 }
 
-/// Puts the bytes that aren't zero at the front of the room. Gives how many these are.
-fn gather(bytes: &[u8; 8], room: &mut [u8]) -> usize
-    requires { 8 ≤ length room.old }
-    ensures few { result ≤ 8 }
-    ensures front { take result room.new ≡ written (bytes_that_count bytes.now) }
+/// Writes a group of one word that has bytes of both kinds, of which the mask has a bit each.
+fn push_sparse(out: &mut Vec<u8>, mask: u8, bytes: &[u8; 8]) -> Result<(), AllocError>
+    requires { mask ≡ tag (bytes_that_count bytes.now) }
+    ensures { OnOk result (out.new.items ≡ out.old.items ++ mask ∷ written (bytes_that_count bytes.now)) }
 {
-    let mut count = 0;
-    for byte in bytes {
-        room[count] = *byte;
-        if *byte != 0 {
-            count += 1;
-        }
-    }
-    count
-}
-
-/// Writes a group of one word that has bytes of both kinds.
-fn push_sparse(out: &mut Vec<u8>, tag: u8, bytes: &[u8; 8]) -> Result<(), AllocError>
-    ensures { OnOk result (out.new.items ≡ out.old.items ++ tag ∷ written (bytes_that_count bytes.now)) }
-{
-    out.push(tag)?;
+    out.push(mask)?;
     let start = out.len();
-    out.extend_from_slice(&[0; 8])?;
-    let count = gather(bytes, &mut out[start..]);
-    out.truncate(start + count);
+    out.extend_from_slice(&gathered(mask, bytes).to_array())?;
+    out.truncate(start + mask.count_ones() as usize);
     Ok(())
 }
 
 /// Writes words as they are.
-fn push_raw(out: &mut Vec<u8>, words: &[u64]) -> Result<(), AllocError>
-    requires { length words.now ≤ 255 }
+pub fn push_plain(out: &mut Vec<u8>, words: &[u64]) -> Result<(), AllocError>
     ensures { OnOk result (out.new.items ≡ out.old.items ++ bytes_of words.now) }
 {
-    let start = out.len();
-    out.resize(start + 8 * words.len(), 0)?;
-    LittleEndian::write_u64_into(words, &mut out[start..]);
+    // By way of the stack: room made behind `out` would be filled before it is written.
+    let mut block = [0; 8 * BLOCK];
+    let mut left = words;
+    'writing: while !left.is_empty() {
+        let (front, back) = left.split_at(left.len().min(BLOCK));
+        let room = &mut block[..8 * front.len()];
+        LittleEndian::write_u64_into(front, room);
+        out.extend_from_slice(room)?;
+        left = back;
+    }
     Ok(())
 }
 
@@ -130,7 +124,7 @@ fn push_group<'a>(out: &mut Vec<u8>, words: &'a [u64]) -> Result<&'a [u64], Allo
     out.extend_from_slice(&bytes)?;
     let (run, back) = behind.split_at(raw_run(behind));
     out.push(run.len() as u8)?;
-    push_raw(out, run)?;
+    push_plain(out, run)?;
     Ok(back)
 }
 

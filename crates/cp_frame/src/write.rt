@@ -3,14 +3,14 @@
 ghost use Rattle.std.specs.Prelude.{◌≡◌, [], ◌+◌, ◌^◌, ◌<◌, ◌≤◌, ◌++◌, IfOk, OnOk, IfErr, IfSome, IfNone, length, sum};
 ghost use Rattle.cp_frame.specs.Framed.{bytes_of, sizes_of};
 ghost use Rattle.cp_frame.specs.Frame.{IsWithin, Written, IsWritten, IsRefusedFor, padded_table};
+ghost use Rattle.cp_frame.specs.Packing.{PutsTable};
 ghost use Rattle.cp_frame.specs.Parts.{lists};
 ghost use Rattle.cp_frame.specs.declared.mode.Mode.TheVariants.{Plain, Packed};
 
 use crate::fault::FrameFault;
 use crate::frame::take_in;
 use crate::mode::Mode;
-use crate::packing::{LONGEST, push_packed};
-use byteorder::{ByteOrder, LittleEndian};
+use crate::packing::{LONGEST, push_packed, push_plain};
 use cp_words::{Limits, Segments};
 use std::alloc::{AllocError, Global};
 
@@ -51,17 +51,6 @@ fn push_table(out: &mut Vec<u8>, segments: &[Vec<u64>]) -> Result<(), AllocError
     Ok(())
 }
 
-/// Writes words.
-fn push_words(out: &mut Vec<u8>, words: &[u64]) -> Result<(), AllocError>
-    requires { length out.old.items + length words.now < 2 ^ 40 }
-    ensures { OnOk result (out.new.items ≡ out.old.items ++ bytes_of words.now) }
-{
-    let start = out.len();
-    out.resize(start + 8 * words.len(), 0)?;
-    LittleEndian::write_u64_into(words, &mut out[start..]);
-    Ok(())
-}
-
 /// The words of all segments together, within the limits.
 fn count_words(segments: &[Vec<u64>], limits: Limits) -> Result<u64, FrameFault>
     ensures words { IfOk result (λ words. words ≡ sum (sizes_of (lists segments.now))) }
@@ -87,7 +76,7 @@ fn write_plain(out: &mut Vec<u8>, segments: &[Vec<u64>], words: u64) -> Result<(
     out.reserve(8 * (table + words as usize))?;
     push_table(out, segments)?;
     for segment in segments {
-        push_words(out, segment)?;
+        push_plain(out, segment)?;
     }
     Ok(())
 }
@@ -106,6 +95,25 @@ fn table_words(alloc: Global, segments: &[Vec<u64>]) -> Result<Vec<u64>, AllocEr
     Ok(words)
 }
 
+/// Writes the segment table, packed as one piece.
+fn push_packed_table(
+    alloc: Global,
+    out: &mut Vec<u8>,
+    segments: &[Vec<u64>],
+) -> Result<(), AllocError>
+    requires some { 0 < length segments.now }
+    requires few { length segments.now ≤ 512 }
+    requires small { sum (sizes_of (lists segments.now)) < 2 ^ 32 }
+    ensures { OnOk result (PutsTable (lists segments.now) out.old.items out.new.items) }
+{
+    // Most messages have one segment.
+    if segments.len() == 1 {
+        return push_packed(out, &[segments[0].len() as u64 * 0x1_0000_0000]);
+    }
+    let table = table_words(alloc, segments)?;
+    push_packed(out, &table)
+}
+
 /// Writes the frame of the segments, in the packed form: the table and each segment are a piece each.
 fn write_packed(
     alloc: Global,
@@ -120,10 +128,10 @@ fn write_packed(
     requires small { words ≤ 67108864 }
     ensures { OnOk result (IsWritten Packed (lists segments.now) out.new.items) }
 {
-    let table = table_words(alloc, segments)?;
-    let most = LONGEST * (table.len() + words as usize);
+    let table = segments.len() / 2 + 1;
+    let most = LONGEST * (table + words as usize);
     out.reserve(most.min(FIRST_ROOM))?;
-    push_packed(out, &table)?;
+    push_packed_table(alloc, out, segments)?;
     for segment in segments {
         push_packed(out, segment)?;
     }

@@ -57,11 +57,11 @@ returns-clause-group c =
     let whole = first_word words c.requires ∙ ap (λ (vs : List ℕ). w ∷ vs) (sym c.split_at.ensures.back) in
     let are : AreWords behind = words_by behind (λ i. subst (λ (vs : List ℕ). get_or vs i 0 < 2 ^ 64) (sym c.split_at.ensures.back) (subst (λ m. m < 2 ^ 64) (sym (get_or-drop 1 words i 0)) (omega (arith, c.type_inv.words (1 + i))))) in
     let ends = subst (λ (vs : List ℕ). (n ≡ 255) ⊎ StartsWithout (λ v. zero_bytes v ≤ 1) vs) (sym c.split_at-2.ensures.back) c.raw_run.ensures.ends in
-    let text : c.push_raw.new.out.items ≡ out ++ 255 ∷ (to_le_bytes w64 w ++ (n ∷ bytes_of (take n behind))) =
-    raw_bytes out c.push.new.self.items c.extend_from_slice.new.self.items c.push-2.new.self.items c.push_raw.new.out.items c.to_le_bytes-bytes.result (bytes_of c.split_at-2.result.0.now) c.tag_of-tag.result (length c.split_at-2.result.0.now)
-    c.in_ok-push.ensures.items c.in_ok-extend_from_slice.ensures.items c.in_ok-push-3.ensures.items c.in_ok-push_raw.ensures
+    let text : c.push_plain.new.out.items ≡ out ++ 255 ∷ (to_le_bytes w64 w ++ (n ∷ bytes_of (take n behind))) =
+    raw_bytes out c.push.new.self.items c.extend_from_slice.new.self.items c.push-2.new.self.items c.push_plain.new.out.items c.to_le_bytes-bytes.result (bytes_of c.split_at-2.result.0.now) c.tag_of-tag.result (length c.split_at-2.result.0.now)
+    c.in_ok-push.ensures.items c.in_ok-extend_from_slice.ensures.items c.in_ok-push-3.ensures.items c.in_ok-push_plain.ensures
     ∙ ap (λ (m : ℕ). out ++ m ∷ (c.to_le_bytes-bytes.result ++ (length c.split_at-2.result.0.now ∷ bytes_of c.split_at-2.result.0.now))) tag_full
     ∙ ap (λ (d : List ℕ). out ++ 255 ∷ (d ++ (length c.split_at-2.result.0.now ∷ bytes_of c.split_at-2.result.0.now))) b
     ∙ ap (λ (m : ℕ). out ++ 255 ∷ (to_le_bytes w64 w ++ (m ∷ bytes_of c.split_at-2.result.0.now))) c.split_at-2.ensures.front_len
     ∙ ap (λ (vs : List ℕ). out ++ 255 ∷ (to_le_bytes w64 w ++ (n ∷ bytes_of vs))) c.split_at-2.ensures.front in
-    puts_raw out c.push_raw.new.out.items words behind c.split_at-2.result.1.now w n small are (sym t ∙ tag_full) whole c.raw_run.ensures.few c.raw_run.ensures.within c.raw_run.ensures.full c.split_at-2.ensures.back ends text
+    puts_raw out c.push_plain.new.out.items words behind c.split_at-2.result.1.now w n small are (sym t ∙ tag_full) whole c.raw_run.ensures.few c.raw_run.ensures.within c.raw_run.ensures.full c.split_at-2.ensures.back ends text
