@@ -646,3 +646,59 @@ fn a_device_may_fail(rt: HostRuntime) -> Result<(), Fail> {
     assert_eq!(rt; err.as_slice(), b"device\n".as_slice());
     Ok(())
 }
+
+/// `FINISH` as bytes, which lie in no memory that could be refused.
+const PLAIN: [u8; 40] = [
+    0x00, 0x00, 0x00, 0x00, 0x04, 0x00, 0x00, 0x00, 0x00, 0x00, 0x00, 0x00, 0x01, 0x00, 0x01, 0x00,
+    0x04, 0x00, 0x00, 0x00, 0x00, 0x00, 0x00, 0x00, 0x00, 0x00, 0x00, 0x00, 0x01, 0x00, 0x00, 0x00,
+    0x07, 0x00, 0x00, 0x00, 0x00, 0x00, 0x00, 0x00,
+];
+
+/// The same and a return of a capability, packed.
+const PACKED: [u8; 40] = [
+    0x10, 0x04, 0x50, 0x01, 0x01, 0x01, 0x04, 0x10, 0x01, 0x01, 0x07, 0x10, 0x0b, 0x50, 0x01, 0x01,
+    0x01, 0x03, 0x50, 0x02, 0x01, 0x10, 0x01, 0x00, 0x00, 0x40, 0x02, 0x01, 0x03, 0x11, 0x01, 0x17,
+    0x51, 0x04, 0x01, 0x01, 0x01, 0x01, 0x00, 0x00,
+];
+
+// With memory enough no growth is refused. `rt try --test --fail-alloc N` refuses the Nth.
+#[test]
+fn want_of_memory_is_told(rt: HostRuntime) -> Result<(), Fail> {
+    let alloc = rt.alloc();
+    let limits = Limits::standard();
+    let (plain, mode, words) = (Mode::Plain, Mode::Packed, 3);
+    for (plan, bytes) in [
+        (
+            Plan::Show {
+                mode: plain,
+                limits,
+            },
+            PLAIN.as_slice(),
+        ),
+        (Plan::Show { mode, limits }, PACKED.as_slice()),
+        (
+            Plan::Check {
+                mode: plain,
+                limits,
+            },
+            PLAIN.as_slice(),
+        ),
+        (Plan::Check { mode, limits }, PACKED.as_slice()),
+        (Plan::Pack, PLAIN.as_slice()),
+        (Plan::Unpack, PACKED.as_slice()),
+        (Plan::Recut { mode: plain, words }, PLAIN.as_slice()),
+        (Plan::Recut { mode, words }, PACKED.as_slice()),
+    ] {
+        let (mut from, mut err) = (bytes, Vec::new(alloc));
+        let status = act(alloc, &plan, &mut from, &mut io::sink(), &mut err);
+        let said = String::from_utf8(err).map_err(|_| "not UTF-8")?;
+        if status == 0 {
+            assert_eq!(rt; said.as_str(), "");
+        } else {
+            assert_eq!(rt; status, 1);
+            assert!(rt; said.as_str().starts_with("refused at byte "), "{said}");
+            assert!(rt; said.as_str().ends_with(" OutOfMemory\n"), "{said}");
+        }
+    }
+    Ok(())
+}

@@ -120,13 +120,48 @@ fn go_round(alloc: Global, words: &[u64]) -> Result<usize, FrameFault> {
     Ok(write_frame(alloc, &segments, Mode::Packed, Limits::standard())?.len())
 }
 
-// With memory enough no growth is refused. `rt try --test --fail-alloc N` refuses the Nth.
+// With memory enough no growth is refused. `rt try --test --fail-alloc N` refuses the Nth of each
+// of the two tests below.
 #[test]
 fn want_of_memory_is_told_in_packing(rt: HostRuntime) {
     match go_round(rt.alloc(), &TWO.1) {
         Ok(length) => assert_eq!(rt; length, 10),
         Err(fault) => assert_eq!(rt; fault, FrameFault::OutOfMemory),
     }
+}
+
+/// Two segments. A growth that is refused once is asked for again.
+fn two_segments(alloc: Global) -> Result<Segments, Fail> {
+    let mut lists = match Vec::with_capacity(alloc, 2) {
+        Ok(lists) => lists,
+        Err(_) => Vec::with_capacity(alloc, 2)?,
+    };
+    for words in [&TWO.1[..], &[0; 3]] {
+        lists.push(match words.to_vec(alloc) {
+            Ok(list) => list,
+            Err(_) => words.to_vec(alloc)?,
+        })?;
+    }
+    match Segments::new(lists) {
+        Ok(segments) => Ok(segments),
+        Err(_) => Err(Fail::from("segments")),
+    }
+}
+
+#[test]
+fn want_of_memory_leaves_nothing_written(rt: HostRuntime) -> Result<(), Fail> {
+    let segments = two_segments(rt.alloc())?;
+    let mut out = Vec::new(rt.alloc());
+    for (mode, length) in [(Mode::Packed, 15), (Mode::Plain, 56), (Mode::Packed, 15)] {
+        let done = write_over(rt.alloc(), &mut out, &segments, mode, Limits::standard());
+        if let Err(fault) = done {
+            assert_eq!(rt; fault, FrameFault::OutOfMemory);
+            assert!(rt; out.is_empty());
+        } else {
+            assert_eq!(rt; out.len(), length);
+        }
+    }
+    Ok(())
 }
 
 /// The one segment of a frame that these packed bytes are, and the same frame written.

@@ -24,7 +24,7 @@ const KEEPING: [u8; 40] = [
 ];
 
 /// The message of `FINISH` over two segments.
-const TWO_SEGMENTS: [u8; 56] = [
+pub(crate) const TWO_SEGMENTS: [u8; 56] = [
     0x01, 0x00, 0x00, 0x00, 0x01, 0x00, 0x00, 0x00, 0x04, 0x00, 0x00, 0x00, 0x00, 0x00, 0x00, 0x00,
     0x02, 0x00, 0x00, 0x00, 0x01, 0x00, 0x00, 0x00, 0x00, 0x00, 0x00, 0x00, 0x01, 0x00, 0x01, 0x00,
     0x04, 0x00, 0x00, 0x00, 0x00, 0x00, 0x00, 0x00, 0x00, 0x00, 0x00, 0x00, 0x01, 0x00, 0x00, 0x00,
@@ -175,15 +175,23 @@ pub(crate) fn is_memory(fault: StreamFault) -> bool {
     )
 }
 
+/// A reader that met want of memory has failed behind the same bytes.
+pub(crate) fn expect_failed(rt: &impl Abort, reader: &mut MessageReader, fault: StreamFault) {
+    assert!(rt; is_memory(fault));
+    let StreamFault::Refused { at: behind, .. } = fault else {
+        return;
+    };
+    assert_eq!(rt; told(reader, &FINISH), Some(at(behind, FAILED)));
+    assert_eq!(rt; reader.finish(), Err(at(behind, FAILED)));
+}
+
 // With memory enough no growth is refused. `rt try --test --fail-alloc N` refuses the Nth.
 #[test]
 fn want_of_memory_is_told_and_then_failed(rt: HostRuntime) {
     let mut reader = new_reader(rt.alloc());
     for piece in [&FINISH[..], &TWO_SEGMENTS[..13], &TWO_SEGMENTS[13..]] {
         if let Some(fault) = told(&mut reader, piece) {
-            assert!(rt; is_memory(fault));
-            assert!(rt; told(&mut reader, &FINISH).is_some());
-            assert!(rt; reader.finish().is_err());
+            expect_failed(&rt, &mut reader, fault);
             return;
         }
     }

@@ -1,7 +1,9 @@
 //! Messages of a connection, read and written back, and devices that fail on the way.
 
 use super::*;
-use crate::tests::{FINISH, PACKED, Source, at, is_memory, read, tap_of};
+use crate::tests::{
+    FINISH, PACKED, Source, TWO_SEGMENTS, at, expect_failed, is_memory, read, tap_of,
+};
 use cp_rpc::{Message, Op, Returned, Target};
 use cp_tree::WriteFault;
 use std::alloc::Global;
@@ -416,21 +418,68 @@ fn a_reader_may_fail_at_each_call(rt: HostRuntime) -> Result<(), Fail> {
     Ok(())
 }
 
-// With memory enough no growth is refused. `rt try --test --fail-alloc N` refuses the Nth.
+/// Frames that lie in no memory that could be refused.
+fn lying_frames<'a>() -> [(Mode, &'a [u8]); 4] {
+    [
+        (Mode::Plain, FINISH.as_slice()),
+        (Mode::Plain, TWO_SEGMENTS.as_slice()),
+        (Mode::Packed, PACKED.as_slice()),
+        (Mode::Packed, PACKED_RETURN.as_slice()),
+    ]
+}
+
+// With memory enough no growth is refused. `rt try --test --fail-alloc N` refuses the Nth of each
+// of the four tests below.
 #[test]
-fn want_of_memory_writes_nothing(rt: HostRuntime) -> Result<(), Fail> {
-    let alloc = rt.alloc();
-    let mut from = tap_of(&FINISH, 0);
-    let limits = Limits::standard();
-    let Ok(Some(message)) = read_message(alloc, &mut from, Mode::Plain, limits) else {
-        return Ok(());
-    };
-    for mode in [Mode::Plain, Mode::Packed] {
-        let mut to = Tap::new(std::io::sink());
-        if let Err(fault) = write_message(alloc, &mut to, &message, mode, limits) {
-            assert!(rt; is_memory(fault));
-            assert_eq!(rt; (to.failures(), to.bytes()), (0, 0));
+fn want_of_memory_while_a_message_is_read(rt: HostRuntime) {
+    for (mode, frame) in lying_frames() {
+        let mut from = tap_of(frame, 0);
+        match read(rt.alloc(), &mut from, mode) {
+            Ok(there) => assert!(rt; there),
+            Err(fault) => assert!(rt; is_memory(fault)),
+        }
+        assert_eq!(rt; from.failures(), 0);
+    }
+}
+
+#[test]
+fn want_of_memory_while_a_frame_is_read(rt: HostRuntime) {
+    for (mode, frame) in lying_frames() {
+        let mut from = tap_of(frame, 0);
+        match read_segments(rt.alloc(), &mut from, mode, Limits::standard()) {
+            Ok(segments) => assert!(rt; segments.is_some()),
+            Err(fault) => assert!(rt; is_memory(fault)),
+        }
+        assert_eq!(rt; from.failures(), 0);
+    }
+}
+
+#[test]
+fn want_of_memory_while_a_packed_stream_is_fed(rt: HostRuntime) {
+    let mut reader = MessageReader::packed(rt.alloc(), Limits::standard());
+    for piece in [&PACKED[..], &PACKED_RETURN[..7], &PACKED_RETURN[7..]] {
+        if let Err(fault) = reader.feed(piece) {
+            expect_failed(&rt, &mut reader, fault);
+            return;
         }
     }
-    Ok(())
+    assert_eq!(rt; reader.finish(), Ok(()));
+}
+
+#[test]
+fn want_of_memory_writes_nothing(rt: HostRuntime) {
+    let alloc = rt.alloc();
+    let limits = Limits::standard();
+    for (mode, frame) in lying_frames() {
+        let Ok(Some(message)) = read_message(alloc, &mut tap_of(frame, 0), mode, limits) else {
+            continue;
+        };
+        for words in [3, 8_388_608] {
+            let mut to = Tap::new(std::io::sink());
+            if let Err(fault) = write_message_in(alloc, &mut to, &message, mode, words, limits) {
+                assert!(rt; is_memory(fault));
+                assert_eq!(rt; (to.failures(), to.bytes()), (0, 0));
+            }
+        }
+    }
 }

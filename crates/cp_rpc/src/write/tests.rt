@@ -1,20 +1,24 @@
 //! Messages written: what a tree of the table's sizes says is written as that very tree.
 
-use crate::{Field, SchemaFault, message_of, tree_of};
-use cp_tree::{Limits, Object, write_root};
+use crate::{Field, Message, SchemaFault, message_of, tree_of};
+use cp_tree::{Limits, Object, WriteFault, write_root};
 use cp_words::Segments;
 use std::alloc::Global;
 use std::test::Fail;
 
+/// The root of a message of one segment, if there is one and memory for it.
+fn found_root(alloc: Global, words: &[u64]) -> Option<Object> {
+    let mut lists = Vec::with_capacity(alloc, 1).ok()?;
+    lists.push(Vec::from_slice(alloc, words).ok()?).ok()?;
+    let segments = Segments::new(lists).ok()?;
+    cp_tree::read_root(alloc, &segments, Limits::standard()).ok()
+}
+
 /// The root of a message of one segment.
 fn root(alloc: Global, words: &[u64]) -> Result<Object, Fail> {
-    let lists = vec![in alloc; Vec::from_slice(alloc, words)?]?;
-    let Ok(segments) = Segments::new(lists) else {
-        return Err(Fail::from("no segment"));
-    };
-    match cp_tree::read_root(alloc, &segments, Limits::standard()) {
-        Ok(object) => Ok(object),
-        Err(_) => Err(Fail::from("no root")),
+    match found_root(alloc, words) {
+        Some(object) => Ok(object),
+        None => Err(Fail::from("no root")),
     }
 }
 
@@ -396,6 +400,152 @@ fn messages_are_written_word_for_word(rt: HostRuntime) -> Result<(), Fail> {
     ];
     for (words, written) in rows {
         assert_eq!(rt; words_of(rt.alloc(), words)?.as_slice(), written);
+    }
+    Ok(())
+}
+
+/// A call whose results go to a third party that is a struct.
+const THIRD_PARTY: [u64; 14] = [
+    ROOT,
+    2,
+    THREE_EACH,
+    0x0002_0000_0000_0000,
+    0,
+    0,
+    0x0001_0001_0000_0008,
+    0x0002_0000_0000_000c,
+    0x0000_0001_0000_0010,
+    0x0000_0000_0000_0003,
+    0,
+    CAP,
+    0,
+    5,
+];
+
+/// A return of an exception with a reason.
+const RETURNED_EXCEPTION: [u64; 10] = [
+    ROOT,
+    3,
+    TWO_AND_ONE,
+    0x0001_0000_0000_0000,
+    0,
+    ONE_AND_TWO,
+    0,
+    0x0000_001a_0000_0005,
+    0,
+    0x6f6e,
+];
+
+/// A resolve to an exception with a reason.
+const BROKEN: [u64; 9] = [
+    ROOT,
+    5,
+    ONE_EACH,
+    0x0000_0001_0000_0000,
+    ONE_AND_TWO,
+    0,
+    0x0000_001a_0000_0005,
+    0,
+    0x6f6e,
+];
+
+/// A resolve to a promised answer's third pointer.
+const RESOLVED: [u64; 11] = [
+    ROOT,
+    5,
+    ONE_EACH,
+    0x0000_0000_0000_0009,
+    ONE_EACH,
+    0x0000_0000_0000_0004,
+    ONE_EACH,
+    0x0000_0000_0000_0007,
+    0x0000_000f_0000_0001,
+    0x0000_0001_0000_0004,
+    0x0000_0000_0003_0001,
+];
+
+/// The roots of messages that hold, between them, each part that takes memory. A growth that is refused
+/// once is asked for again.
+fn roots_of_all_parts(alloc: Global) -> Result<Vec<Object>, Fail> {
+    let mut roots = match Vec::with_capacity(alloc, 16) {
+        Ok(roots) => roots,
+        Err(_) => Vec::with_capacity(alloc, 16)?,
+    };
+    for words in [
+        [ROOT, 0, ONE_AND_NONE, 5].as_slice(),
+        [ROOT, 7, ONE_AND_NONE, 5].as_slice(),
+        ABORT.as_slice(),
+        PIPELINED.as_slice(),
+        PIPELINED_CALL.as_slice(),
+        THIRD_PARTY.as_slice(),
+        RESULTS.as_slice(),
+        RETURNED_EXCEPTION.as_slice(),
+        BROKEN.as_slice(),
+        RESOLVED.as_slice(),
+    ] {
+        roots.push(match found_root(alloc, words) {
+            Some(root) => root,
+            None => root(alloc, words)?,
+        })?;
+    }
+    Ok(roots)
+}
+
+// With memory enough no growth is refused. `rt try --test --fail-alloc N` refuses the Nth of each
+// of the three tests below.
+#[test]
+fn want_of_memory_while_messages_are_read(rt: HostRuntime) -> Result<(), Fail> {
+    let alloc = rt.alloc();
+    for root in &roots_of_all_parts(alloc)? {
+        let right = match (message_of(alloc, root), message_of(alloc, root)) {
+            (Ok(_), Ok(_)) => true,
+            (Err(fault), Ok(_)) | (Ok(_), Err(fault)) => fault == SchemaFault::OutOfMemory,
+            (Err(_), Err(_)) => false,
+        };
+        assert!(rt; right);
+    }
+    Ok(())
+}
+
+/// The message of a root, which is asked for again where memory ran out.
+fn message(alloc: Global, root: &Object) -> Result<Message, Fail> {
+    match (message_of(alloc, root), message_of(alloc, root)) {
+        (Ok(message), _) | (Err(_), Ok(message)) => Ok(message),
+        (Err(_), Err(_)) => Err(Fail::from("no message")),
+    }
+}
+
+#[test]
+fn want_of_memory_while_trees_are_made(rt: HostRuntime) -> Result<(), Fail> {
+    let alloc = rt.alloc();
+    for root in &roots_of_all_parts(alloc)? {
+        let message = message(alloc, root)?;
+        let right = match (tree_of(alloc, &message), tree_of(alloc, &message)) {
+            (Ok(first), Ok(second)) => first.tree() == root.tree() && second.tree() == root.tree(),
+            (Err(fault), Ok(tree)) | (Ok(tree), Err(fault)) => {
+                fault == WriteFault::OutOfMemory && tree.tree() == root.tree()
+            }
+            (Err(_), Err(_)) => false,
+        };
+        assert!(rt; right);
+    }
+    Ok(())
+}
+
+#[test]
+fn want_of_memory_while_messages_are_copied(rt: HostRuntime) -> Result<(), Fail> {
+    let alloc = rt.alloc();
+    for root in &roots_of_all_parts(alloc)? {
+        let message = message(alloc, root)?;
+        let copy = match (message.copy(alloc), message.copy(alloc)) {
+            (Ok(copy), _) | (Err(_), Ok(copy)) => copy,
+            (Err(_), Err(_)) => return Err(Fail::from("no copy")),
+        };
+        let right = match (tree_of(alloc, &copy), tree_of(alloc, &copy)) {
+            (Ok(tree), _) | (Err(_), Ok(tree)) => tree.tree() == root.tree(),
+            (Err(_), Err(_)) => false,
+        };
+        assert!(rt; right);
     }
     Ok(())
 }

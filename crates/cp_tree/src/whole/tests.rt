@@ -98,3 +98,44 @@ fn depth_and_cost_are_counted(rt: HostRuntime) -> Result<(), Fail> {
     assert!(rt; !fits(&Tree::Voids(5), 0, 1));
     Ok(())
 }
+
+/// An object and a list. A growth that is refused once is asked for again.
+fn held(alloc: Global) -> Result<(Object, Whole), Fail> {
+    let tree = match whole(alloc, &[8]) {
+        Ok(tree) => tree,
+        Err(_) => whole(alloc, &[8])?,
+    };
+    let list = match structs(alloc, &[8]) {
+        Ok(list) => list,
+        Err(_) => structs(alloc, &[8])?,
+    };
+    match (Object::new(tree), Whole::new(list)) {
+        (Ok(object), Ok(list)) => Ok((object, list)),
+        _ => Err(Fail::from("refused")),
+    }
+}
+
+// With memory enough no growth is refused. `rt try --test --fail-alloc N` refuses the Nth.
+#[test]
+fn want_of_memory_while_trees_are_copied(rt: HostRuntime) -> Result<(), Fail> {
+    let alloc = rt.alloc();
+    let (object, list) = held(alloc)?;
+    let right = match (object.copy(alloc), object.copy(alloc)) {
+        (Ok(copy), _) | (Err(_), Ok(copy)) => copy.tree() == object.tree(),
+        (Err(_), Err(_)) => false,
+    };
+    assert!(rt; right);
+    for source in [&list, &Whole::null()] {
+        let right = match (source.copy(alloc), source.copy(alloc)) {
+            (Ok(copy), _) | (Err(_), Ok(copy)) => copy.tree() == source.tree(),
+            (Err(_), Err(_)) => false,
+        };
+        assert!(rt; right);
+    }
+    let right = match (object.child(alloc, 0), object.child(alloc, 0)) {
+        (Ok(child), _) | (Err(_), Ok(child)) => child.tree() == list.tree(),
+        (Err(_), Err(_)) => false,
+    };
+    assert!(rt; right);
+    Ok(())
+}

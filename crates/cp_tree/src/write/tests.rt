@@ -298,7 +298,7 @@ fn object_of_all_kinds(alloc: Global) -> Result<Object, Fail> {
 }
 
 // With memory enough no growth is refused. `rt try --test --fail-alloc N` refuses the Nth of each
-// of the two tests below.
+// of the three tests below.
 #[test]
 fn want_of_memory_while_segments_are_written(rt: HostRuntime) -> Result<(), Fail> {
     let alloc = rt.alloc();
@@ -330,5 +330,35 @@ fn want_of_memory_while_one_segment_is_written(rt: HostRuntime) -> Result<(), Fa
         (Err(_), Err(_)) => false,
     };
     assert!(rt; right);
+    Ok(())
+}
+
+/// Whether the draft is copied and written twice as the same, or once that memory ran out.
+fn writes_again(alloc: Global, draft: &Draft) -> Result<bool, Fail>
+    requires { Shaped (draft_of draft.now) }
+{
+    let copied = match (draft.copy(alloc), draft.copy(alloc)) {
+        (Ok(first), Ok(second)) => first.tree() == second.tree(),
+        (Err(_), Ok(_)) | (Ok(_), Err(_)) => true,
+        (Err(_), Err(_)) => false,
+    };
+    let limits = Limits::standard();
+    let first = write_draft(alloc, draft, 7, limits);
+    let second = write_draft(alloc, draft, 7, limits);
+    let written = match (&first, &second) {
+        (Ok(first), Ok(second)) => first.lists() == second.lists(),
+        (Err(fault), Ok(_)) | (Ok(_), Err(fault)) => *fault == WriteFault::OutOfMemory,
+        (Err(_), Err(_)) => false,
+    };
+    Ok(copied && written)
+}
+
+#[test]
+fn want_of_memory_while_a_draft_is_written(rt: HostRuntime) -> Result<(), Fail> {
+    let alloc = rt.alloc();
+    let lent = object_of_all_kinds(alloc)?;
+    if let Ok(draft) = drafted(alloc, lent.tree()) {
+        assert!(rt; writes_again(alloc, &draft)?);
+    }
     Ok(())
 }
