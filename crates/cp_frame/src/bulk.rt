@@ -3,7 +3,7 @@
 ghost use Rattle.std.specs.Prelude.{◌≡◌, ◌<◌, IfOk, length};
 ghost use Rattle.cp_frame.specs.Bulk.{TakesGroups};
 
-use crate::frame::take_in;
+use crate::frame::{make_room, take_in};
 use crate::group::{header, spread_whole};
 use std::alloc::AllocError;
 
@@ -26,6 +26,7 @@ fn take_run<'a>(
     let fitting = if wanted <= room { wanted } else { room - 1 };
     let count = fitting.min(left.len() / 8);
     let (front, back) = left.split_at(8 * count);
+    make_room(words, count, room)?;
     take_in(words, front)?;
     *run = wanted - count;
     Ok(back)
@@ -54,6 +55,7 @@ fn take_header<'a>(
         if room < count {
             return Ok(left);
         }
+        make_room(words, count, room)?;
         words.resize(words.len() + count, 0)?;
         return Ok(back);
     }
@@ -61,6 +63,7 @@ fn take_header<'a>(
     if room == 1 && 0 < count {
         return Ok(left);
     }
+    make_room(words, 1, room)?;
     words.push(u64::from_le_bytes(spread_whole(tag, behind)))?;
     *run = count;
     Ok(back)
