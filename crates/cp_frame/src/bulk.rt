@@ -4,7 +4,8 @@ ghost use Rattle.std.specs.Prelude.{◌≡◌, ◌<◌, IfOk, length};
 ghost use Rattle.cp_frame.specs.Bulk.{TakesGroups};
 
 use crate::frame::{make_room, take_in};
-use crate::group::{header, spread_whole};
+use crate::group::header;
+use crate::scatter::scattered;
 use std::alloc::AllocError;
 
 /// How many bytes a group has at most, before the further words of a raw run.
@@ -64,7 +65,7 @@ fn take_header<'a>(
         return Ok(left);
     }
     make_room(words, 1, room)?;
-    words.push(u64::from_le_bytes(spread_whole(tag, behind)))?;
+    words.push(u64::from_le_bytes(scattered(tag, behind)))?;
     *run = count;
     Ok(back)
 }

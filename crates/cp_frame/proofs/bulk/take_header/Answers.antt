@@ -65,7 +65,7 @@ returns c =
       | else-room-eq1-via-else-room-eq1 w ↦ absurd (omega (arith, w.if-room-eq1.false, e, c.len.ensures))
     ] in
     let long : suc (length bytes) ≡ header_of tag = omega (arith, c.split_at-2.ensures.front_len, c.header.ensures, header_long tag) in
-    let spread : c.spread_whole.result ≡ laid_by 8 tag bytes = c.spread_whole.ensures ∙ ap (λ (b : List ℕ). laid_by 8 tag b) split ∙ laid_group_front tag bytes back (omega (arith, c.type_inv.left 0)) long in
+    let spread : c.scattered.result ≡ laid_by 8 tag bytes = c.scattered.ensures ∙ ap (λ (b : List ℕ). laid_by 8 tag b) split ∙ laid_group_front tag bytes back (omega (arith, c.type_inv.left 0)) long in
     let there = header_there old left c.push.new.self.items behind bytes back tag c.if-tag.count some refl c.split_at.ensures.back split
     long (word_new old c.push.new.self.items bytes tag word sparse (c.from_le_bytes.ensures ∙ ap (λ (b : List ℕ). from_le_bytes w64 b) spread) pushed) run in
     takes_header c.args.most old c.push.new.self.items (word ∷ []) left back c.args.run.now c.if-tag.count c.requires.none there pushed (omega (arith, c.from_le_bytes.type_inv), tt) few (omega (arith, c.requires.room)) last
