@@ -6,6 +6,7 @@ pub mod Filling
 pub mod Opened
 pub mod Ends
 pub mod Singles
+pub mod Sources
 pub mod Readers
 pub mod Whole
 pub mod Groups

@@ -39,7 +39,7 @@ picks b (x ∷ s) i h = go (eqb x 0) (ap (λ m. get_or b m 0) (omega arith) ∙ 
         ∙ ap (λ (m : ℕ). m ∷ map (λ j. get_or b j 0) (places (length s) (suc i) (tag (bytes_that_count s)))) first ∙ ap (λ (js : List ℕ). x ∷ js) rest
 
 -- a row begins with these places, and has eight that are below eight
-begins : List ℕ → List ℕ → Bool
+unfoldable pub begins : List ℕ → List ℕ → Bool
 begins [] row = true
 begins (x ∷ xs) [] = false
 begins (x ∷ xs) (y ∷ row) = eqb x y && begins xs row
@@ -48,15 +48,15 @@ abbrev small : List ℕ → Bool
 small [] = true
 small (j ∷ js) = ltb j 8 && small js
 
-left_of : (a b : Bool) → T (a && b) → T a
+pub left_of : (a b : Bool) → T (a && b) → T a
 left_of true b h = tt
 left_of false b h = h
 
-right_of : (a b : Bool) → T (a && b) → T b
+pub right_of : (a b : Bool) → T (a && b) → T b
 right_of true b h = h
 right_of false b h = absurd h
 
-begun : (xs row : List ℕ) → T (begins xs row) → (rest : List ℕ) × (row ≡ xs ++ rest)
+pub begun : (xs row : List ℕ) → T (begins xs row) → (rest : List ℕ) × (row ≡ xs ++ rest)
 unfolding begins
 begun [] row h = (row, refl)
 begun (x ∷ xs) [] h = absurd h
@@ -92,7 +92,7 @@ small_row (j ∷ row) h =
     (omega (arith, low), small_row row (right_of (ltb j 8) (small row) h))
 
 -- the lanes at these places
-lanes_at : (xs js : List ℕ) (i : ℕ) → i + length js ≤ 16 → Each1 (λ j. j < 16) js → swz_l w8 16 xs i js ≡ map (λ j. get_or xs j 0) js
+pub lanes_at : (xs js : List ℕ) (i : ℕ) → i + length js ≤ 16 → Each1 (λ j. j < 16) js → swz_l w8 16 xs i js ≡ map (λ j. get_or xs j 0) js
 lanes_at xs [] i l h = refl
 lanes_at xs (j ∷ js) i l h =
     let first : get_or (swz_l w8 16 xs i (j ∷ js)) 0 0 ≡ get_or xs j 0 = get_or-swz_l_below w8 16 xs i (j ∷ js) 0 (omega arith) h.0 ∙ ap (λ (m : ℕ). get_or xs m 0) (omega (arith, l)) in
@@ -103,16 +103,16 @@ beyond zero k = refl
 beyond (suc n) zero = refl
 beyond (suc n) (suc k) = beyond n k
 
-padded : (b : List ℕ) (n k : ℕ) → get_or (b ++ replicate n 0) k 0 ≡ get_or b k 0
+pub padded : (b : List ℕ) (n k : ℕ) → get_or (b ++ replicate n 0) k 0 ≡ get_or b k 0
 padded [] n k = beyond n k
 padded (x ∷ b) n zero = refl
 padded (x ∷ b) n (suc k) = padded b n k
 
-length_map : (f : ℕ → ℕ) (js : List ℕ) → length (map f js) ≡ length js
+pub length_map : (f : ℕ → ℕ) (js : List ℕ) → length (map f js) ≡ length js
 length_map f [] = refl
 length_map f (j ∷ js) = ap (λ (m : ℕ). suc m) (length_map f js)
 
-map_both : (f : ℕ → ℕ) (a b : List ℕ) → map f (a ++ b) ≡ map f a ++ map f b
+pub map_both : (f : ℕ → ℕ) (a b : List ℕ) → map f (a ++ b) ≡ map f a ++ map f b
 map_both f [] b = refl
 map_both f (j ∷ a) b = ap (λ (ys : List ℕ). f j ∷ ys) (map_both f a b)
 

@@ -101,11 +101,3 @@ whole_by tag written bytes bits left front (suc n) l z s e = absurd (omega (arit
 
 pub spread_whole : (tag : ℕ) (written bytes : List ℕ) (bits : ℕ) (left : List ℕ) (place : ℕ) → Spreads tag written bytes bits left place → place ≡ 8 → Spread tag written bytes 8
 spread_whole tag written bytes bits left place h e = whole_by tag written bytes bits left h.front h.behind (h.long ∙ e) (omega (arith, h.all, e)) h.stand h.are
-
-eight_by : (tag : ℕ) (written bytes : List ℕ) (bits : ℕ) (left front : List ℕ) (n : ℕ) → n ≡ 0 → bytes ≡ front ++ replicate n 0 → laid_by 8 tag written ≡ front ++ laid_by n bits left → bytes ≡ laid_by 8 tag written
-unfolding laid_by
-eight_by tag written bytes bits left front zero z s e = s ∙ sym e
-eight_by tag written bytes bits left front (suc n) z s e = absurd (omega (arith, z))
-
-pub spread_eight : (tag : ℕ) (written bytes : List ℕ) (bits : ℕ) (left : List ℕ) (place : ℕ) → Spreads tag written bytes bits left place → place ≡ 8 → bytes ≡ laid_by 8 tag written
-spread_eight tag written bytes bits left place h e = eight_by tag written bytes bits left h.front h.behind (omega (arith, h.all, e)) h.stand h.are

@@ -3,8 +3,9 @@
 ghost use Rattle.std.specs.Prelude.{◌≡◌, ◌<◌, IfOk, length};
 ghost use Rattle.cp_frame.specs.Bulk.{TakesGroups};
 
-use crate::frame::take_in;
-use crate::group::{header, spread_whole};
+use crate::frame::{make_room, take_in};
+use crate::group::header;
+use crate::scatter::scattered;
 use std::alloc::AllocError;
 
 /// How many bytes a group has at most, before the further words of a raw run.
@@ -26,6 +27,7 @@ fn take_run<'a>(
     let fitting = if wanted <= room { wanted } else { room - 1 };
     let count = fitting.min(left.len() / 8);
     let (front, back) = left.split_at(8 * count);
+    make_room(words, count, room)?;
     take_in(words, front)?;
     *run = wanted - count;
     Ok(back)
@@ -54,6 +56,7 @@ fn take_header<'a>(
         if room < count {
             return Ok(left);
         }
+        make_room(words, count, room)?;
         words.resize(words.len() + count, 0)?;
         return Ok(back);
     }
@@ -61,7 +64,8 @@ fn take_header<'a>(
     if room == 1 && 0 < count {
         return Ok(left);
     }
-    words.push(u64::from_le_bytes(spread_whole(tag, behind)))?;
+    make_room(words, 1, room)?;
+    words.push(u64::from_le_bytes(scattered(tag, behind)))?;
     *run = count;
     Ok(back)
 }

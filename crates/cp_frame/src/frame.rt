@@ -36,21 +36,14 @@ pub struct OpenFrame {
 }
 
 /// A segment of which nothing has come. A large one begins with less room than it will need, since
-/// its bytes may never come, and with half of it at most, since room doubles: so it isn't copied when
-/// it is nearly whole.
+/// its bytes may never come.
 fn new_segment(alloc: Global, table: &[u64], segment: usize) -> Result<Vec<u64>, AllocError>
     requires { IsWholeTable table.now }
     ensures items { IfOk result (λ v. v.items ≡ []) }
     ensures room { IfOk result (λ v. vec_capacity v ≤ FIRST_ROOM) }
 {
     let room = if segment < table::count(table) {
-        let size = table::size(table, segment);
-        let half = size - size / 2;
-        if size <= FIRST_ROOM {
-            size
-        } else {
-            half.min(FIRST_ROOM)
-        }
+        table::size(table, segment).min(FIRST_ROOM)
     } else {
         0
     };
@@ -74,6 +67,18 @@ fn close(
     'closing: while segments.len() < count && words.len() == table::size(table, segments.len()) {
         let next = new_segment(alloc, table, segments.len() + 1)?;
         segments.push(mem::replace(words, next))?;
+    }
+    Ok(())
+}
+
+/// Makes room for so many words that have come, where so many are missing of the segment: for all that
+/// are missing, but no more than doubles the room.
+pub fn make_room(words: &mut Vec<u64>, taken: usize, missing: usize) -> Result<(), AllocError>
+    ensures { OnOk result (words.new.items ≡ words.old.items) }
+{
+    let room = words.capacity() - words.len();
+    if room < taken {
+        words.reserve_exact(missing.min(words.len().max(taken)))?;
     }
     Ok(())
 }
@@ -111,6 +116,7 @@ fn take_words<'a>(
     let missing = table::size(table, segments.len()) - words.len();
     let taken = missing.min(left.len() / 8);
     let (front, back) = left.split_at(8 * taken);
+    make_room(words, taken, missing)?;
     take_in(words, front)?;
     close(alloc, table, segments, words)?;
     Ok(back)

@@ -267,12 +267,14 @@ static PLACES: [[u8; 8]; 256] = [
 ];
 
 /// The bytes, with eight zeros behind them.
-fn widened(bytes: &[u8; 8]) -> u8x16
+pub fn widened(bytes: &[u8; 8]) -> u8x16
     ensures { result ≡ bytes.now ++ replicate 8 0 }
 {
-    let mut wide = [0; 16];
-    wide[..8].copy_from_slice(bytes);
-    u8x16::from_array(wide)
+    // No way by memory: the lanes stay in registers.
+    u8x8::from_array(*bytes).shuffle(
+        u8x8::splat(0),
+        [0, 1, 2, 3, 4, 5, 6, 7, 8, 9, 10, 11, 12, 13, 14, 15],
+    )
 }
 
 /// The bytes that aren't zero, of which the mask has a bit each, and then any others.

@@ -61,25 +61,6 @@ pub fn spread(tag: u8, written: &[u8]) -> ([u8; 8], usize)
     (bytes, 8)
 }
 
-/// The bytes of a word, where all that are written are there.
-pub fn spread_whole(tag: u8, written: &[u8]) -> [u8; 8]
-    requires { 8 ≤ length written.now }
-    ensures { result ≡ laid_by 8 tag written.now }
-{
-    let mut bytes = [0; 8];
-    let mut bits = tag;
-    let mut next = 0;
-    for place in 0..8 {
-        let bit = bits % 2;
-        // Read whether it is wanted or not: so no branch hangs on the tag.
-        let byte = written[next];
-        bytes[place] = if bit == 1 { byte } else { 0 };
-        next += bit as usize;
-        bits /= 2;
-    }
-    bytes
-}
-
 impl OpenGroup {
     /// Nothing of a group.
     pub fn new(alloc: Global) -> OpenGroup

@@ -14,6 +14,7 @@ mod mode;
 mod packing;
 mod reader;
 mod rest;
+mod scatter;
 mod single;
 mod status;
 mod table;

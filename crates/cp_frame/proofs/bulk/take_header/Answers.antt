@@ -24,14 +24,16 @@ returns-then-tag-eq0 c =
     let count = get_or bytes 0 0 + 1 in
     let some : 0 < length left = omega (arith, c.if-left-lt-LONGEST.false) in
     let split : behind ≡ bytes ++ back = rw (c.split_at-2.ensures.front, c.split_at-2.ensures.back) (sym (take-append-drop (c.header.result - 1) behind)) in
-    let same : vec_len c.args.words.now ≡ length old = omega arith in
+    let stay = c.in_ok-make_room.ensures in
     let n = c.len-then-tag-eq0.result + count in
-    let resized = c.in_ok-resize.ensures.items ∙ ap (λ (m : ℕ). take n old ++ replicate (n - m) 0) same in
+    let same : vec_len c.make_room.new.words ≡ length c.make_room.new.words.items = omega arith in
+    let resized = c.in_ok-resize.ensures.items ∙ ap (λ (m : ℕ). take n c.make_room.new.words.items ++ replicate (n - m) 0) same ∙ ap (λ (ws : List ℕ). take n ws ++ replicate (n - length ws) 0) stay in
+    let held : c.len-then-tag-eq0.result ≡ length old = c.len-then-tag-eq0.ensures ∙ same ∙ ap (λ (ws : List ℕ). length ws) stay in
     let zero_tag : tag ≡ 0 = omega (arith, c.if-tag-eq0.true) in
     let none : run_of tag bytes ≡ 0 = run_sparse tag bytes (omega (arith, zero_tag)) in
-    let new : c.resize.new.self.items ≡ old ++ replicate count 0 = resized ∙ filled_up old n count 0 (omega (arith, c.len-then-tag-eq0.ensures)) in
+    let new : c.resize.new.self.items ≡ old ++ replicate count 0 = resized ∙ filled_up old n count 0 (omega (arith, held)) in
     let there = header_there old left c.resize.new.self.items behind bytes back tag c.args.run.now some refl c.split_at.ensures.back split
-    (omega (arith, c.split_at-2.ensures.front_len, c.header.ensures, header_long tag)) (zeros_new old c.resize.new.self.items bytes tag n zero_tag (omega (arith, c.len-then-tag-eq0.ensures)) resized) (c.requires.none ∙ sym none) in
+    (omega (arith, c.split_at-2.ensures.front_len, c.header.ensures, header_long tag)) (zeros_new old c.resize.new.self.items bytes tag n zero_tag (omega (arith, held)) resized) (c.requires.none ∙ sym none) in
     takes_header c.args.most old c.resize.new.self.items (replicate count 0) left back c.args.run.now c.args.run.now c.requires.none there new (words_repeat count 0 (omega arith)) (omega (arith, c.requires.none))
     (omega (arith, length-replicate {A = ℕ} count 0, c.if-room-count.false, c.len.ensures)) (λ e. c.requires.none)
 
@@ -46,6 +48,7 @@ returns c =
     let word = c.from_le_bytes.result in
     let some : 0 < length left = omega (arith, c.if-left-lt-LONGEST.false) in
     let split : behind ≡ bytes ++ back = rw (c.split_at-2.ensures.front, c.split_at-2.ensures.back) (sym (take-append-drop (c.header.result - 1) behind)) in
+    let pushed : c.push.new.self.items ≡ old ++ word ∷ [] = c.in_ok-push.ensures.items ∙ ap (λ (ws : List ℕ). ws ++ word ∷ []) c.in_ok-make_room-2.ensures in
     let sparse : 0 < tag = omega (arith, c.if-tag-eq0.false) in
     let run : c.if-tag.count ≡ run_of tag bytes = elim c.if-tag.branch [
       | then-tag w ↦ w.count-is ∙ run_raw bytes tag (omega (arith, w.if-tag.true))
@@ -62,7 +65,7 @@ returns c =
       | else-room-eq1-via-else-room-eq1 w ↦ absurd (omega (arith, w.if-room-eq1.false, e, c.len.ensures))
     ] in
     let long : suc (length bytes) ≡ header_of tag = omega (arith, c.split_at-2.ensures.front_len, c.header.ensures, header_long tag) in
-    let spread : c.spread_whole.result ≡ laid_by 8 tag bytes = c.spread_whole.ensures ∙ ap (λ (b : List ℕ). laid_by 8 tag b) split ∙ laid_group_front tag bytes back (omega (arith, c.type_inv.left 0)) long in
+    let spread : c.scattered.result ≡ laid_by 8 tag bytes = c.scattered.ensures ∙ ap (λ (b : List ℕ). laid_by 8 tag b) split ∙ laid_group_front tag bytes back (omega (arith, c.type_inv.left 0)) long in
     let there = header_there old left c.push.new.self.items behind bytes back tag c.if-tag.count some refl c.split_at.ensures.back split
-    long (word_new old c.push.new.self.items bytes tag word sparse (c.from_le_bytes.ensures ∙ ap (λ (b : List ℕ). from_le_bytes w64 b) spread) c.in_ok-push.ensures.items) run in
-    takes_header c.args.most old c.push.new.self.items (word ∷ []) left back c.args.run.now c.if-tag.count c.requires.none there c.in_ok-push.ensures.items (omega (arith, c.from_le_bytes.type_inv), tt) few (omega (arith, c.requires.room)) last
+    long (word_new old c.push.new.self.items bytes tag word sparse (c.from_le_bytes.ensures ∙ ap (λ (b : List ℕ). from_le_bytes w64 b) spread) pushed) run in
+    takes_header c.args.most old c.push.new.self.items (word ∷ []) left back c.args.run.now c.if-tag.count c.requires.none there pushed (omega (arith, c.from_le_bytes.type_inv), tt) few (omega (arith, c.requires.room)) last

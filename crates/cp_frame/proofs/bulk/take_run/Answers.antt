@@ -1,5 +1,6 @@
-use Rattle.std.proofs.Common.{◌≡◌, ◌<◌, ◌≤◌, ◌+◌, ◌-◌, ◌*◌, ◌++◌, ℕ, List, length, get_or, sym, subst, arith}
+use Rattle.std.proofs.Common.{◌≡◌, ◌<◌, ◌≤◌, ◌+◌, ◌-◌, ◌*◌, ◌++◌, ℕ, List, length, get_or, sym, subst, ap, ◌∙◌, arith}
 use Rattle.std.proofs.lemmas.List.{take-append-drop}
+use Rattle.cp_frame.specs.Parts.{words_in}
 use Rattle.cp_frame.proofs.Filling.{take_small}
 use Rattle.cp_frame.proofs.Bulks.{takes_run}
 use Rattle.cp_frame.proofs.bulk.take_run.Goals as goal
@@ -27,4 +28,4 @@ returns c =
       | then-wanted-room w ↦ omega (arith, e, w.if-wanted-room.true, w.fitting-is, c.min-count.ensures, c.len.ensures, c.requires.room)
       | else-wanted-room w ↦ omega (arith, e, w.if-wanted-room.false, w.fitting-is, c.min-count.ensures, c.len.ensures, c.requires.room)
     ] in
-    takes_run c.args.most old c.take_in.new.words.items left front back run count (run - count) c.split_at.ensures.front_len small whole c.in_ok-take_in.ensures (omega (arith, fits)) c.requires.few room last
+    takes_run c.args.most old c.take_in.new.words.items left front back run count (run - count) c.split_at.ensures.front_len small whole (c.in_ok-take_in.ensures ∙ ap (λ (ws : List ℕ). ws ++ words_in front) c.in_ok-make_room.ensures) (omega (arith, fits)) c.requires.few room last

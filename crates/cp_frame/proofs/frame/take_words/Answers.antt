@@ -11,11 +11,12 @@ close-requires-clause-fills c =
     let S = lists c.args.segments.now.items in
     let front = c.split_at.result.0.now in
     let some = words_in_is c.min-taken.result front c.split_at.ensures.front_len (subst (λ (b : List ℕ). (i : ℕ) → get_or b i 0 < 256) (sym c.split_at.ensures.front) (take_small (8 * c.min-taken.result) c.args.left.now (λ i. omega (arith, c.type_inv.left i)))) in
+    let taken = c.in_ok-take_in.ensures ∙ ap (λ (ws : List ℕ). ws ++ words_in front) c.in_ok-make_room.ensures in
     let room : length c.args.words.now.items + length (words_in front) ≤ get_or sizes (length S) 0 =
     let next : length S ≡ c.len.result = omega (arith, length_lists c.args.segments.now.items, c.len.ensures) in
     let size : c.size.result ≡ get_or sizes (length S) 0 = c.size.ensures.value ∙ ap (λ i. get_or sizes i 0) (sym next) in
     omega (arith, size, some.0, c.min-taken.ensures, c.len-2.ensures, c.requires.fills.room) in
-    rw c.in_ok-take_in.ensures (fills_more sizes S c.args.words.now.items (words_in front) c.requires.fills some.1 room)
+    rw taken (fills_more sizes S c.args.words.now.items (words_in front) c.requires.fills some.1 room)
 
 pub returns-clause-body : goal.returns-clause-body
 returns-clause-body c =
@@ -23,6 +24,7 @@ returns-clause-body c =
     let front = c.split_at.result.0.now in
     let back = c.split_at.result.1.now in
     let some = words_in_is c.min-taken.result front c.split_at.ensures.front_len (subst (λ (b : List ℕ). (i : ℕ) → get_or b i 0 < 256) (sym c.split_at.ensures.front) (take_small (8 * c.min-taken.result) c.args.left.now (λ i. omega (arith, c.type_inv.left i)))) in
-    let new = c.in_ok-close.ensures.body ∙ ap (λ (ws : List ℕ). body S ws) c.in_ok-take_in.ensures ∙ body_more S c.args.words.now.items (words_in front) ∙ ap (λ (b : List ℕ). body S c.args.words.now.items ++ b) some.2 in
+    let taken = c.in_ok-take_in.ensures ∙ ap (λ (ws : List ℕ). ws ++ words_in front) c.in_ok-make_room.ensures in
+    let new = c.in_ok-close.ensures.body ∙ ap (λ (ws : List ℕ). body S ws) taken ∙ body_more S c.args.words.now.items (words_in front) ∙ ap (λ (b : List ℕ). body S c.args.words.now.items ++ b) some.2 in
     let whole : front ++ back ≡ c.args.left.now = rw (c.split_at.ensures.front, c.split_at.ensures.back) (take-append-drop (8 * c.min-taken.result) c.args.left.now) in
     ap (λ (b : List ℕ). b ++ back) new ∙ append_assoc (body S c.args.words.now.items) front back ∙ ap (λ (b : List ℕ). body S c.args.words.now.items ++ b) whole
