@@ -202,45 +202,45 @@ impl<S: Source> MessageIn<S> {
         requires { IsStructField (S.seen t.now) }
         ensures { Gives (told_message S.seen) (message_said (S.seen t.now)) (message_faults (S.seen t.now)) result }
     {
-        Ok(match u16_at(t.data(), Message::WHICH) {
-            0 => MessageIn::Unimplemented(t.pointer(Message::MEMBER)),
+        match u16_at(t.data(), Message::WHICH) {
+            0 => Ok(MessageIn::Unimplemented(t.pointer(Message::MEMBER))),
             1 => {
                 let member = struct_field(t, Message::MEMBER, Field::MessageAbort)?;
-                MessageIn::Abort(ExceptionView::of(&member)?)
+                Ok(MessageIn::Abort(ExceptionView::of(&member)?))
             }
             2 => {
                 let member = struct_field(t, Message::MEMBER, Field::MessageCall)?;
-                MessageIn::Call(CallView::of(&member)?)
+                Ok(MessageIn::Call(CallView::of(&member)?))
             }
             3 => {
                 let member = struct_field(t, Message::MEMBER, Field::MessageReturn)?;
-                MessageIn::Return(ReturnView::of(&member)?)
+                Ok(MessageIn::Return(ReturnView::of(&member)?))
             }
             4 => {
                 let member = struct_field(t, Message::MEMBER, Field::MessageFinish)?;
-                MessageIn::Finish(Finish::of(member.data()))
+                Ok(MessageIn::Finish(Finish::of(member.data())))
             }
             5 => {
                 let member = struct_field(t, Message::MEMBER, Field::MessageResolve)?;
-                MessageIn::Resolve(ResolveView::of(&member)?)
+                Ok(MessageIn::Resolve(ResolveView::of(&member)?))
             }
             6 => {
                 let member = struct_field(t, Message::MEMBER, Field::MessageRelease)?;
-                MessageIn::Release(Release::of(member.data()))
+                Ok(MessageIn::Release(Release::of(member.data())))
             }
             8 => {
                 let member = struct_field(t, Message::MEMBER, Field::MessageBootstrap)?;
-                MessageIn::Bootstrap(Bootstrap::of(member.data()))
+                Ok(MessageIn::Bootstrap(Bootstrap::of(member.data())))
             }
             13 => {
                 let member = struct_field(t, Message::MEMBER, Field::MessageDisembargo)?;
-                MessageIn::Disembargo(DisembargoView::of(&member)?)
+                Ok(MessageIn::Disembargo(DisembargoView::of(&member)?))
             }
-            which => MessageIn::Other {
+            which => Ok(MessageIn::Other {
                 which: OtherWhich::of(which),
                 body: t.pointer(Message::MEMBER),
-            },
-        })
+            }),
+        }
     }
 
     /// The message, owned.

@@ -7,7 +7,7 @@ ghost use Rattle.cp_stream.specs.Stream.{Holds, HoldsNone};
 ghost use Rattle.cp_stream.specs.Reader.{IsAt, IsMemory};
 ghost use Rattle.cp_stream.specs.Answers.{AnswersView};
 
-use crate::fault::{Refusal, StreamFault};
+use crate::fault::{Refusal, StreamFault, refused};
 use cp_rpc::{Message, MessageView, SchemaFault, message_view};
 use cp_tree::View;
 use cp_words::{Limits, Segments};
@@ -52,8 +52,12 @@ pub fn view_of<'a>(segments: &'a Segments, limits: Limits) -> Result<MessageView
     // A fault says why they hold none.
     ensures refused { IfErr result (IsAt 0 (HoldsNone limits segments.now)) }
 {
-    match view_in(segments, limits) {
-        Ok(view) => Ok(view),
-        Err(refusal) => Err(StreamFault::Refused { at: 0, refusal }),
+    let view = match View::root(segments, limits) {
+        Ok(view) => view,
+        Err(fault) => return Err(refused(0, Refusal::Tree(fault))),
+    };
+    match message_view(view) {
+        Ok(message) => Ok(message),
+        Err(fault) => Err(refused(0, Refusal::Schema(fault))),
     }
 }

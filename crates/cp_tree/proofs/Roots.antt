@@ -8,6 +8,7 @@ use Rattle.cp_words.specs.declared.pointer.Pointer.TheVariants as pointers
 use Rattle.cp_tree.specs.Node.{Node, null, cap, struct, list, ptrs, structs, count, IsStruct}
 use Rattle.cp_tree.specs.Aims.{segment, Aims}
 use Rattle.cp_tree.specs.Denotes.{Root}
+use Rattle.cp_tree.specs.Near.{Near}
 use Rattle.cp_tree.specs.Reading.{◌>>=◌, Read, Kids, aim_by, area_by, area_by_kind, placed, in_segment, entered, filled, body_by, tree_at, kids_at, rooted, root_by, root_of, top}
 use Rattle.cp_tree.specs.Visited.{passed}
 use Rattle.cp_tree.specs.declared.aim.Aim.{Aim}
@@ -92,6 +93,20 @@ module _ (n b : ℕ) (S : List (List ℕ)) where
       rw (some, says) (root_led r aim aims
       ∙ ap (λ (k : Kind). rooted k (area_by top S aim >>= body_by top (kids_at n S) S b)) kind
       ∙ ap (λ (q : Result Area TreeFault). q >>= body_by top (kids_at n S) S b >>= λ x. Ok x.0) area)
+
+  module _ (w : ℕ) (aim : Aim) (d c : ℕ) (within : 0 < length (segment S 0)) (stands : slice_index (segment S 0) 0 ≡ w) (near : Near top w aim) (kind : aim.kind ≡ kinds.Struct d c) where
+    -- the body of a root word that is a struct word
+    pub root_near : (a : Area) → area_by top S aim ≡ Ok a → root_of n b S ≡ (body_by top (kids_at n S) S b a >>= λ x. Ok x.0)
+    root_near a area = root_steps near.pointer aim d c a within (ap pointer_of stands ∙ near.says) (near.aims S) kind area
+
+    pub root_near_fails : (e : TreeFault) → area_by top S aim ≡ Err e → root_of n b S ≡ Err e
+    unfolding root_of
+    root_near_fails e area =
+        let some : (length (segment S 0) == 0) ≡ false = grind (arith, nat_tests) in
+        let says : pointer_of (slice_index (segment S 0) 0) ≡ Some near.pointer = ap pointer_of stands ∙ near.says in
+        rw (some, says) (root_led near.pointer aim (near.aims S)
+        ∙ ap (λ (k : Kind). rooted k (area_by top S aim >>= body_by top (kids_at n S) S b)) kind
+        ∙ ap (λ (q : Result Area TreeFault). q >>= body_by top (kids_at n S) S b >>= λ x. Ok x.0) area)
 
   -- the message's tree is given
   pub root_given : (limits : Bounds) (t : Node) → limits.nesting ≡ n → limits.traversal ≡ b → Root S limits t → root_of n b S ≡ Ok t

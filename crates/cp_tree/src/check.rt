@@ -1,7 +1,8 @@
 //! Going over a message's words once, without taking memory.
 
-ghost use Rattle.std.specs.Prelude.{◌≡◌, ◌<◌, ◌≤◌, ◌+◌, ◌*◌, ◌^◌, List, ℕ, length, Some, Ok, Err, IfOk, IfErr, slice_index};
+ghost use Rattle.std.specs.Prelude.{◌≡◌, ◌<◌, ◌==◌, false, ◌≤◌, ◌+◌, ◌*◌, ◌^◌, List, ℕ, length, Some, Ok, Err, IfOk, IfErr, slice_index};
 ghost use Rattle.cp_tree.specs.Aims.{segment};
+ghost use Rattle.cp_tree.specs.Near.{root_read};
 ghost use Rattle.cp_tree.specs.Node.{Node};
 ghost use Rattle.cp_tree.specs.NodeOf.{words_of};
 ghost use Rattle.cp_tree.specs.Reading.{body_by, filled, price, bodies_by, kids_at, tree_at, rows_at, root_of, body_words, IsRootArea, IsWithin};
@@ -224,6 +225,61 @@ const TOP: Place = Place {
     word: 0,
 };
 
+/// Checks the root struct's body and what hangs on it.
+#[inline(always)]
+fn check_root_body<L: Ledger>(
+    lists: &[Vec<u64>],
+    area: Area,
+    nesting: u32,
+    traversal: u32,
+    visits: &mut Visits<L>,
+) -> Result<Area, TreeFault>
+    requires within { IsWithin (words_of lists.now) area }
+    requires small { area.start + body_words area.form < 2 ^ 63 }
+    requires root { root_of nesting traversal (words_of lists.now) ≡ root_read nesting traversal (words_of lists.now) area }
+    ensures fault { IfErr result (λ e. root_of nesting traversal (words_of lists.now) ≡ Err e) }
+    ensures read { IfOk result (λ a. IsRootArea nesting traversal (words_of lists.now) a) }
+    ensures small { IfOk result (λ a. a.start + body_words a.form < 2 ^ 63) }
+    ensures exact { IfOk result (λ a. (t : Node) → root_of nesting traversal (words_of lists.now) ≡ Ok t → visits.new ≡ visits.old + pointers t) }
+    ensures few { visits.new ≤ visits.old + traversal }
+{
+    let mut left = traversal as u64;
+    check_body(lists, TOP, area, nesting, &mut left, visits)?;
+    Ok(area)
+}
+
+/// Checks what hangs on a root word of any kind, which is visited.
+#[cold]
+#[tactic(auto, unfolding(crate::specs::Reading::root_of))]
+fn check_any_root<L: Ledger>(
+    lists: &[Vec<u64>],
+    nesting: u32,
+    traversal: u32,
+    visits: &mut Visits<L>,
+) -> Result<Area, TreeFault>
+    requires exists { 0 < length lists.now }
+    requires some { (length (segment (words_of lists.now) 0) == 0) ≡ false }
+    ensures fault { IfErr result (λ e. root_of nesting traversal (words_of lists.now) ≡ Err e) }
+    ensures read { IfOk result (λ a. IsRootArea nesting traversal (words_of lists.now) a) }
+    ensures small { IfOk result (λ a. a.start + body_words a.form < 2 ^ 63) }
+    ensures exact { IfOk result (λ a. (t : Node) → root_of nesting traversal (words_of lists.now) ≡ Ok t → visits.new ≡ visits.old + pointers t) }
+    ensures few { visits.new ≤ visits.old + traversal }
+{
+    match pointer_at(lists, TOP) {
+        None => Err(TreeFault::BadCapability(TOP)),
+        Some(Pointer::Null) => Err(TreeFault::NoRoot(TOP)),
+        Some(Pointer::Cap(_)) => Err(TreeFault::RootKind(TOP)),
+        Some(pointer) => {
+            let aim = aim_of(lists, TOP, pointer)?;
+            let Kind::Struct { .. } = aim.kind else {
+                return Err(TreeFault::RootKind(TOP));
+            };
+            let area = area_of(lists, TOP, aim)?;
+            check_root_body(lists, area, nesting, traversal, visits)
+        }
+    }
+}
+
 /// Checks the root struct and what hangs on it.
 #[tactic(auto, unfolding(crate::specs::Reading::root_of))]
 pub(crate) fn check_root<L: Ledger>(
@@ -239,23 +295,15 @@ pub(crate) fn check_root<L: Ledger>(
     ensures exact { IfOk result (λ a. (t : Node) → root_of nesting traversal (words_of lists.now) ≡ Ok t → visits.new ≡ visits.old + 1 + pointers t) }
     ensures few { visits.new ≤ visits.old + 1 + traversal }
 {
-    if segment_at(lists, 0).is_empty() {
+    let words = segment_at(lists, 0);
+    if words.is_empty() {
         return Err(TreeFault::NoRoot(TOP));
     }
     visits.tick();
-    match pointer_at(lists, TOP) {
-        None => Err(TreeFault::BadCapability(TOP)),
-        Some(Pointer::Null) => Err(TreeFault::NoRoot(TOP)),
-        Some(Pointer::Cap(_)) => Err(TreeFault::RootKind(TOP)),
-        Some(pointer) => {
-            let aim = aim_of(lists, TOP, pointer)?;
-            let Kind::Struct { .. } = aim.kind else {
-                return Err(TreeFault::RootKind(TOP));
-            };
-            let area = area_of(lists, TOP, aim)?;
-            let mut left = traversal as u64;
-            check_body(lists, TOP, area, nesting, &mut left, visits)?;
-            Ok(area)
-        }
+    let word = words[0];
+    if word == 0 || word % 4 != 0 {
+        return check_any_root(lists, nesting, traversal, visits);
     }
+    let area = area_of(lists, TOP, struct_aim(TOP, word))?;
+    check_root_body(lists, area, nesting, traversal, visits)
 }

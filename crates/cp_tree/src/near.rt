@@ -1,9 +1,10 @@
 //! Struct and list words, whose bodies lie in their own segments: most pointers of a message are such.
 
-ghost use Rattle.std.specs.Prelude.{◌≡◌, ◌<◌, ◌%◌, ◌^◌};
-ghost use Rattle.cp_words.specs.Word.{offset_of, size_of};
+ghost use Rattle.std.specs.Prelude.{◌≡◌, ◌<◌, ◌%◌, ◌/◌, ◌^◌};
+ghost use Rattle.cp_words.specs.Word.{high_of, offset_of, size_of};
 ghost use Rattle.cp_tree.specs.Near.{Near};
 ghost use Rattle.cp_tree.specs.Reading.{start_of};
+ghost use Rattle.cp_tree.specs.declared.aim.Kind.TheVariants.{Struct};
 
 use crate::aim::{Aim, Kind, start_from};
 use crate::fault::Place;
@@ -57,6 +58,7 @@ pub(crate) fn struct_aim(at: Place, word: u64) -> Aim
     requires kind { word % 4 ≡ 0 }
     ensures near { Near at word result }
     ensures here { result.segment ≡ at.segment }
+    ensures kind { result.kind ≡ Struct (high_of word % 2 ^ 16) (high_of word / 2 ^ 16) }
 {
     let high = word / 0x1_0000_0000;
     Aim {
