@@ -35,7 +35,12 @@ CountsWrite old new (Ok zero) = Fails old new
 CountsWrite old new (Ok (suc n)) = Moves old new (suc n)
 CountsWrite old new (Err error) = Fails old new
 
--- an error of a flush is a failure
+-- no call failed, and no byte went through
+pub record Stays {T : Type 0} (old new : Tap T) : Type 0 where
+  pub failures : failures_of new ≡ failures_of old
+  pub bytes : bytes_of new ≡ bytes_of old
+
+-- a flush moves no byte, and an error of it is a failure
 abbrev pub CountsFlush : {T U E : Type 0} → Tap T → Tap T → Result U E → Type 0
-CountsFlush old new (Ok done) = new.failures ≡ old.failures
+CountsFlush old new (Ok done) = Stays old new
 CountsFlush old new (Err error) = Fails old new
