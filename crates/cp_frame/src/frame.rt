@@ -72,7 +72,7 @@ fn close(
 }
 
 /// Makes room for so many words that have come, where so many are missing of the segment: for all that
-/// are missing, but no more than doubles the room.
+/// are missing, but for no more than have come.
 pub fn make_room(words: &mut Vec<u64>, taken: usize, missing: usize) -> Result<(), AllocError>
     ensures { OnOk result (words.new.items ≡ words.old.items) }
 {
