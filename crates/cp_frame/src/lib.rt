@@ -4,7 +4,7 @@
 #![tactic(auto)]
 
 mod bulk;
-mod decode;
+mod decoding;
 mod fault;
 mod frame;
 mod gather;
@@ -22,6 +22,7 @@ mod unpacking;
 mod write;
 
 pub use cp_words::Limits;
+pub use decoding::decode;
 pub use fault::FrameFault;
 pub use laws::{any_cut, one_fault, one_reading, read_back};
 pub use mode::Mode;
@@ -29,12 +30,3 @@ pub use packing::pack;
 pub use reader::FrameReader;
 pub use unpacking::unpack;
 pub use write::{write_frame, write_over};
-
-#[cfg(test)]
-mod decode_tests;
-#[cfg(test)]
-mod packed_stream_tests;
-#[cfg(test)]
-mod packed_tests;
-#[cfg(test)]
-mod tests;

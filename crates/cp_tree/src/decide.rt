@@ -99,12 +99,9 @@ fn denotes(alloc: Global, lists: &[Vec<u64>], at: Place, tree: &Tree) -> Result<
     }
 }
 
-/// Whether a message's root word denotes the tree.
-pub(crate) fn root_denotes(
-    alloc: Global,
-    segments: &Segments,
-    tree: &Tree,
-) -> Result<bool, AllocError>
+/// Whether a message's root word denotes the tree (encoding specification, "Messages"), without limits. It goes over the
+/// tree part by part, slowly: it is to compare a reader with. The error is want of memory.
+pub fn root_denotes(alloc: Global, segments: &Segments, tree: &Tree) -> Result<bool, AllocError>
     ensures { IfOk result (λ b. Decides b (Denotes segments.now 0 0 (node_of tree.now))) }
 {
     let lists = segments.lists();

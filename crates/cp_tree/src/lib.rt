@@ -26,6 +26,7 @@ mod whole;
 mod write;
 
 pub use cp_words::Limits;
+pub use decide::root_denotes;
 pub use draft::{Draft, DraftBody};
 pub use fault::{Place, TreeFault, WriteFault};
 pub use laws::{layout_denotes, written_is_read};
@@ -36,6 +37,3 @@ pub use view::{Shape, View};
 pub use visits::Visits;
 pub use whole::{Object, Whole};
 pub use write::{write_draft, write_root, write_segments};
-
-#[cfg(test)]
-mod tests;

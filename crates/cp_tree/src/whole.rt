@@ -177,6 +177,3 @@ impl Object {
         self.tree
     }
 }
-
-#[cfg(test)]
-mod tests;

@@ -120,6 +120,3 @@ pub fn write_root(alloc: Global, object: &Object, limits: Limits) -> Result<Vec<
     let sheet = lay_out(alloc, &draft, limits.frame_words(), 1, limits)?;
     Ok(sheet.into_last())
 }
-
-#[cfg(test)]
-mod tests;

@@ -11,6 +11,3 @@ pub use pointer::{
     BadCapability, ElementSize, Pointer, Tag, decode, decode_tag, encode, list_words,
 };
 pub use segments::Segments;
-
-#[cfg(test)]
-mod tests;

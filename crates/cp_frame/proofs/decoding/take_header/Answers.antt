@@ -4,8 +4,8 @@ use Rattle.std.proofs.lemmas.List.{take-append-drop}
 use Rattle.cp_frame.specs.Unpacking.{run_of}
 use Rattle.cp_frame.proofs.Unpacks.{header_long, run_sparse}
 use Rattle.cp_frame.proofs.Decoded.{header_missing, header_there, zeros_new, word_new, run_raw}
-use Rattle.cp_frame.proofs.decode.take_header.Goals as goal
-use Rattle.cp_frame.proofs.decode.take_header.Goals.{then-tag, else-tag}
+use Rattle.cp_frame.proofs.decoding.take_header.Goals as goal
+use Rattle.cp_frame.proofs.decoding.take_header.Goals.{then-tag, else-tag}
 
 pub returns-then-behind-length-clause-none : goal.returns-then-behind-length-clause-none
 returns-then-behind-length-clause-none c =

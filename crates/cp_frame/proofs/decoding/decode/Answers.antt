@@ -4,7 +4,7 @@ use Rattle.cp_frame.specs.Decoding.{Decodes, TakesHeader, TakesNone}
 use Rattle.cp_frame.proofs.Limited.{bytes_by}
 use Rattle.cp_frame.proofs.Opens.{is_by}
 use Rattle.cp_frame.proofs.Decoded.{decodes_header, decodes_word, packs_no_header, packs_no_word, packs_no_run, packs_words}
-use Rattle.cp_frame.proofs.decode.decode.Goals as goal
+use Rattle.cp_frame.proofs.decoding.decode.Goals as goal
 
 pub returns-then-left-lt8-clause-only : goal.returns-then-left-lt8-clause-only
 returns-then-left-lt8-clause-only c = λ ws p. absurd (packs_no_word c.args.bytes.now c.decoding.words.items c.decoding.left.now c.decoding.run c.decoding.invariant c.if-run-gt0.true c.if-left-lt8.true ws p)

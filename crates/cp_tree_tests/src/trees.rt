@@ -2,8 +2,7 @@
 
 ghost use Rattle.std.specs.Prelude.{◌≡◌, ◌<◌};
 
-use super::*;
-use crate::decide::root_denotes;
+use cp_tree::*;
 use cp_words::{ElementSize, Segments};
 use std::alloc::{AllocError, Global};
 use std::marker::Brand;

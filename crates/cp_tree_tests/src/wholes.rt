@@ -1,8 +1,7 @@
 //! Owned trees: which are held, copies, and how deep they nest and what they cost.
 
-use super::*;
-use crate::fits;
-use crate::tree::Body;
+use cp_tree::*;
+use std::alloc::{AllocError, Global};
 use std::test::Fail;
 
 fn body(alloc: Global, words: &[u64], ptrs: Vec<Tree>) -> Result<Body, AllocError> {

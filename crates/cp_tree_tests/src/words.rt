@@ -1,6 +1,6 @@
 //! Words from outside: each kind of pointer word, read and written back.
 
-use super::*;
+use cp_words::*;
 use std::test::Fail;
 
 #[test]

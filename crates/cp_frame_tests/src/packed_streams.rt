@@ -1,7 +1,7 @@
 //! Packed frames from outside, whole and in pieces.
 
-use super::packed_tests::{BOOTSTRAP, FINISH, RELEASE, TWO};
-use super::*;
+use crate::packed::{BOOTSTRAP, FINISH, RELEASE, TWO};
+use cp_frame::*;
 use cp_words::Segments;
 use std::alloc::Global;
 use std::process::Abort;

@@ -6,11 +6,8 @@ ghost use Rattle.cp_tree.specs.NodeOf.{node_of, nodes_of};
 ghost use Rattle.cp_tree.specs.DraftOf.{draft_of, draft_body_of};
 ghost use Rattle.cp_tree.specs.Shaped.{Shaped};
 
-use super::*;
-use crate::draft::DraftBody;
-use crate::read::read_root;
-use crate::tree::{Body, Tree};
-use std::alloc::AllocError;
+use cp_tree::*;
+use std::alloc::{AllocError, Global};
 use std::test::Fail;
 
 /// A word by its eight bytes in hexadecimal, in the order of the stream.

@@ -1,8 +1,7 @@
 //! Packed words read group by group, beside those read byte by byte.
 
-use super::packed_tests::{BOOTSTRAP, FINISH, RELEASE, TWO};
-use super::*;
-use crate::decode::decode;
+use crate::packed::{BOOTSTRAP, FINISH, RELEASE, TWO};
+use cp_frame::*;
 use std::alloc::Global;
 use std::process::Abort;
 use std::test::Fail;

@@ -1,6 +1,6 @@
 use Rattle.std.proofs.Common.{length}
 use Rattle.cp_frame.specs.Decoding.{Decodes}
-use Rattle.cp_frame.proofs.decode.decode.Given as goal
+use Rattle.cp_frame.proofs.decoding.decode.Given as goal
 
 abbrev pub invariant-decoding : goal.invariant-decoding
 invariant-decoding l = Decodes l.bytes l.words.items l.run l.left

@@ -1,6 +1,6 @@
 //! Packed words from outside, whole and in pieces.
 
-use super::*;
+use cp_frame::*;
 use cp_words::Segments;
 use std::alloc::Global;
 use std::process::Abort;
