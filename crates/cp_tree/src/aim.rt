@@ -25,6 +25,7 @@ pub(crate) struct Aim {
 }
 
 /// The words of a segment.
+#[inline(always)]
 pub(crate) fn segment_at(lists: &[Vec<u64>], index: usize) -> &[u64]
     requires { index < length lists.now }
     ensures words { result.now ≡ segment (words_of lists.now) index }
@@ -34,6 +35,7 @@ pub(crate) fn segment_at(lists: &[Vec<u64>], index: usize) -> &[u64]
 }
 
 /// What a pointer word says. `None` is a capability word with a bit that should be zero.
+#[inline(always)]
 pub(crate) fn pointer_in(word: u64) -> Option<Pointer>
     ensures { result ≡ pointer_of word }
 {
@@ -41,6 +43,7 @@ pub(crate) fn pointer_in(word: u64) -> Option<Pointer>
 }
 
 /// What the pointer word at a place says.
+#[inline(always)]
 pub(crate) fn pointer_at(lists: &[Vec<u64>], at: Place) -> Option<Pointer>
     requires { at.word < length (segment (words_of lists.now) at.segment) }
     ensures says { result ≡ pointer_of (slice_index (segment (words_of lists.now) at.segment) at.word) }

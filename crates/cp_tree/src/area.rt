@@ -141,6 +141,7 @@ pub(crate) fn area_of(lists: &[Vec<u64>], at: Place, aim: Aim) -> Result<Area, T
 }
 
 /// Where a body begins that was found to begin in its segment.
+#[inline(always)]
 fn start_again(word: usize, offset: i32) -> usize
     requires small { word < 2 ^ 63 }
     requires checked { is_some (start_of word offset) ≡ true }
@@ -154,6 +155,7 @@ fn start_again(word: usize, offset: i32) -> usize
 }
 
 /// The elements of a composite list whose tag was checked.
+#[inline(always)]
 fn elements_again(list: &[u64], at: Place, tag: usize, size: u32) -> Area
     requires room { tag + (size + 1) ≤ length list.now }
     requires checked { is_ok (tagged at at.segment size tag (tag_of (slice_index list.now tag))) ≡ true }
@@ -179,6 +181,7 @@ fn elements_again(list: &[u64], at: Place, tag: usize, size: u32) -> Area
 
 /// The body of a pointer that aims into its own segment and was checked: no bound is looked at
 /// again.
+#[inline(always)]
 pub(crate) fn area_again(list: &[u64], at: Place, pointer: Pointer) -> Area
     requires small { at.word < 2 ^ 63 }
     requires checked { is_ok (area_here at list.now pointer) ≡ true }

@@ -8,38 +8,7 @@ ghost use Rattle.cp_tree.specs.declared.aim.Kind.TheVariants.{Struct};
 
 use crate::aim::{Aim, Kind, start_from};
 use crate::fault::Place;
-use cp_words::ElementSize;
-
-/// Bits 2 to 31, a signed number.
-#[inline(always)]
-fn offset_in(word: u64) -> i32
-    ensures { result ≡ offset_of word }
-{
-    let field = (word / 4 % 0x4000_0000) as i32;
-    if field < 0x2000_0000 {
-        field
-    } else {
-        field - 0x4000_0000
-    }
-}
-
-/// The element size that three bits say.
-#[inline(always)]
-fn size_in(code: u64) -> ElementSize
-    requires { code < 8 }
-    ensures { result ≡ size_of code }
-{
-    match code {
-        0 => ElementSize::Void,
-        1 => ElementSize::Bit,
-        2 => ElementSize::Byte,
-        3 => ElementSize::TwoBytes,
-        4 => ElementSize::FourBytes,
-        5 => ElementSize::EightBytes,
-        6 => ElementSize::Pointer,
-        _ => ElementSize::Composite,
-    }
-}
+use cp_words::{offset_of, size_of};
 
 /// Where the body of a struct or list word begins, unless that is before its segment.
 #[inline(always)]
@@ -47,7 +16,7 @@ fn near_start(at: usize, word: u64) -> Option<usize>
     requires { at < 2 ^ 63 }
     ensures { result ≡ start_of at (offset_of word) }
 {
-    start_from(at, offset_in(word))
+    start_from(at, offset_of(word))
 }
 
 /// The body of a struct word.
@@ -82,7 +51,7 @@ pub(crate) fn list_aim(at: Place, word: u64) -> Aim
     let high = word / 0x1_0000_0000;
     Aim {
         kind: Kind::List {
-            size: size_in(high % 8),
+            size: size_of(high % 8),
             count: (high / 8) as u32,
         },
         segment: at.segment,

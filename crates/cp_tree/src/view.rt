@@ -265,6 +265,7 @@ fn part_in(lists: &[Vec<u64>], area: Area, i: u32) -> Part
 }
 
 /// What a pointer word that was checked stands for.
+#[inline(always)]
 pub(crate) fn part_at(lists: &[Vec<u64>], at: Place) -> Part
     requires exists { at.segment < length lists.now }
     requires within { at.word < length (segment (words_of lists.now) at.segment) }
@@ -280,6 +281,7 @@ pub(crate) fn part_at(lists: &[Vec<u64>], at: Place) -> Part
 }
 
 /// The body of a struct, list or far pointer that was checked.
+#[inline(always)]
 fn body_at(lists: &[Vec<u64>], at: Place, pointer: Pointer) -> Part
     requires exists { at.segment < length lists.now }
     requires small { at.word < 2 ^ 63 }
@@ -296,6 +298,7 @@ fn body_at(lists: &[Vec<u64>], at: Place, pointer: Pointer) -> Part
 }
 
 /// The body of a pointer that was checked, wherever it leads.
+#[cold]
 fn far_body(lists: &[Vec<u64>], at: Place, pointer: Pointer) -> Part
     requires exists { at.segment < length lists.now }
     requires small { at.word < 2 ^ 63 }

@@ -8,6 +8,7 @@ mod segments;
 
 pub use limits::Limits;
 pub use pointer::{
-    BadCapability, ElementSize, Pointer, Tag, decode, decode_tag, encode, list_words,
+    BadCapability, ElementSize, Pointer, Tag, decode, decode_tag, encode, list_words, offset_of,
+    size_of,
 };
 pub use segments::Segments;

@@ -1,7 +1,7 @@
 //! Pointer words.
 
-ghost use Rattle.std.specs.Prelude.{◌≡◌, ◌<◌, ◌^◌, ◌-ℤ◌, pos, nat_lt, if◌then◌else◌, Some, ok_or};
-ghost use Rattle.cp_words.specs.Word.{pointer_of, tag_of, size_of, IsOffset, IsWritable, offset_of, size_code, words_for, offset_bits, word_of};
+ghost use Rattle.std.specs.Prelude.{◌≡◌, ◌<◌, ◌≤◌, ◌^◌, ◌-ℤ◌, pos, nat_lt, if◌then◌else◌, Some, ok_or};
+ghost use Rattle.cp_words.specs.Word.{pointer_of, tag_of, size_of, IsOffset, IsWritable, offset_of, size_code, bits_of, words_for, offset_bits, word_of};
 
 /// How large each element of a list is (encoding specification, "Lists").
 #[derive(Clone, Copy, PartialEq, Eq, Debug)]
@@ -51,7 +51,9 @@ pub enum Pointer {
 #[derive(Clone, Copy, PartialEq, Eq, Debug)]
 pub struct BadCapability;
 
-fn offset_of(word: u64) -> i32
+/// Bits 2 to 31 of a struct or list word, a signed number.
+#[inline(always)]
+pub fn offset_of(word: u64) -> i32
     ensures { result ≡ offset_of word }
 {
     let field = (word / 4 % 0x4000_0000) as i32;
@@ -62,7 +64,9 @@ fn offset_of(word: u64) -> i32
     }
 }
 
-fn size_of(code: u64) -> ElementSize
+/// The element size that three bits say.
+#[inline(always)]
+pub fn size_of(code: u64) -> ElementSize
     requires { code < 8 }
     ensures { result ≡ size_of code }
 {
@@ -79,6 +83,7 @@ fn size_of(code: u64) -> ElementSize
 }
 
 /// What the word says, by the bit tables of the encoding specification.
+#[inline(always)]
 #[tactic(auto, unfolding(crate::specs::Word::pointer_of))]
 pub fn decode(word: u64) -> Result<Pointer, BadCapability>
     ensures { result ≡ ok_or (pointer_of word) (record {}) }
@@ -180,20 +185,34 @@ pub fn encode(pointer: Pointer) -> u64
     }
 }
 
+/// How many bits of a list's body an element takes; the elements of a composite list are counted by
+/// words.
+#[inline(always)]
+fn bits_of(size: ElementSize) -> u64
+    ensures value { result ≡ bits_of size }
+    ensures small { result ≤ 64 }
+{
+    match size {
+        ElementSize::Void => 0,
+        ElementSize::Bit => 1,
+        ElementSize::Byte => 8,
+        ElementSize::TwoBytes => 16,
+        ElementSize::FourBytes => 32,
+        ElementSize::EightBytes | ElementSize::Pointer | ElementSize::Composite => 64,
+    }
+}
+
 /// The words of a list's body: of so many elements, or for a composite list of so many words and
 /// their tag.
+#[inline(always)]
 pub fn list_words(size: ElementSize, count: u32) -> u64
     ensures { result ≡ words_for size count }
 {
     let count = count as u64;
     match size {
-        ElementSize::Void => 0,
-        ElementSize::Bit => (count + 63) / 64,
-        ElementSize::Byte => (count + 7) / 8,
-        ElementSize::TwoBytes => (count + 3) / 4,
-        ElementSize::FourBytes => (count + 1) / 2,
-        ElementSize::EightBytes | ElementSize::Pointer => count,
         ElementSize::Composite => count + 1,
+        // A table of widths, so that no jump depends on the size.
+        _ => (count * bits_of(size) + 63) / 64,
     }
 }
 
@@ -207,6 +226,7 @@ pub struct Tag {
 }
 
 /// The tag that a word is. `None` is a word of another kind than a struct pointer's.
+#[inline(always)]
 #[tactic(auto, unfolding(crate::specs::Word::tag_of))]
 pub fn decode_tag(word: u64) -> Option<Tag>
     ensures { result ≡ tag_of word }
