@@ -3,7 +3,7 @@
 use crate::fault::Stop;
 use cp_frame::{FrameReader, Mode, write_over};
 use cp_lines::push_line;
-use cp_stream::view_of;
+use cp_stream::{check_of, view_of};
 use cp_tree::{Limits, read_root, write_segments};
 use cp_words::Segments;
 use std::alloc::Global;
@@ -32,7 +32,7 @@ const REFUSED: u8 = 1;
 const BROKEN: u8 = 2;
 
 /// How many bytes are asked for at once.
-const PIECE: usize = 65_536;
+const PIECE: usize = 16_384;
 
 /// How far a command has come: how many frames it accepted, and how many bytes they took.
 #[derive(Drop)]
@@ -60,6 +60,35 @@ fn write<W: Write>(
     Ok(out.write_all(frame)?)
 }
 
+/// Writes the message's line. `line` is the last one.
+fn show<W: Write>(
+    alloc: Global,
+    segments: &Segments,
+    limits: Limits,
+    line: &mut String,
+    out: &mut W,
+) -> Result<(), Stop> {
+    let view = view_of(segments, limits)?;
+    line.clear();
+    push_line(alloc, line, &view)?;
+    Ok(out.write_all(line.as_bytes())?)
+}
+
+/// Writes the frame's tree again, in segments of at most so many words. `frame` is the last one.
+fn recut<W: Write>(
+    alloc: Global,
+    segments: &Segments,
+    mode: Mode,
+    words: u32,
+    frame: &mut Vec<u8>,
+    out: &mut W,
+) -> Result<(), Stop> {
+    let limits = Limits::standard();
+    let root = read_root(alloc, segments, limits)?;
+    let cut = write_segments(alloc, &root, words, limits)?;
+    write(alloc, &cut, mode, frame, out)
+}
+
 impl Plan {
     /// A reader of the frames that the command takes.
     fn reader(&self, alloc: Global) -> FrameReader {
@@ -84,30 +113,14 @@ impl Plan {
         out: &mut W,
     ) -> Result<(), Stop> {
         match self {
-            Plan::Show { limits, .. } => {
-                let view = view_of(segments, *limits)?;
-                last.line.clear();
-                push_line(alloc, &mut last.line, &view)?;
-                out.write_all(last.line.as_bytes())?;
-            }
-            Plan::Check { limits, .. } => {
-                view_of(segments, *limits)?;
-            }
-            Plan::Pack => write(alloc, segments, Mode::Packed, &mut last.frame, out)?,
-            Plan::Unpack => write(alloc, segments, Mode::Plain, &mut last.frame, out)?,
+            Plan::Show { limits, .. } => show(alloc, segments, *limits, &mut last.line, out),
+            Plan::Check { limits, .. } => Ok(check_of(segments, *limits)?),
+            Plan::Pack => write(alloc, segments, Mode::Packed, &mut last.frame, out),
+            Plan::Unpack => write(alloc, segments, Mode::Plain, &mut last.frame, out),
             Plan::Recut { mode, words } => {
-                let limits = Limits::standard();
-                let root = read_root(alloc, segments, limits)?;
-                write(
-                    alloc,
-                    &write_segments(alloc, &root, *words, limits)?,
-                    *mode,
-                    &mut last.frame,
-                    out,
-                )?;
+                recut(alloc, segments, *mode, *words, &mut last.frame, out)
             }
         }
-        Ok(())
     }
 
     /// Does the command on each frame, up to the end or to what stops it.

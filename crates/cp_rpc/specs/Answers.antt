@@ -17,6 +17,11 @@ abbrev pub Gives : {V X : Type 0} → (V → X) → X → List SchemaFault → R
 Gives told said faults (Ok v) = (faults ≡ []) × (told v ≡ said)
 Gives told said faults (Err f) = first_of faults ≡ Some f
 
+-- There are no faults; or the first fault was answered.
+abbrev pub Checks : {V : Type 0} → List SchemaFault → Result V SchemaFault → Type 0
+Checks faults (Ok done) = faults ≡ []
+Checks faults (Err f) = first_of faults ≡ Some f
+
 -- a view of this message was answered
 abbrev pub AnswersView : Result (MessageIn Node) SchemaFault → Message → Type 0
 AnswersView (Ok v) m = told v ≡ m

@@ -2,7 +2,7 @@
 
 ghost use Rattle.std.specs.Prelude.{◌≡◌, IfOk};
 ghost use Rattle.cp_rpc.specs.Fields.{IsStructField};
-ghost use Rattle.cp_rpc.specs.Answers.{Gives};
+ghost use Rattle.cp_rpc.specs.Answers.{Checks, Gives};
 ghost use Rattle.cp_rpc.specs.Said.{send_results_to_said, call_said};
 ghost use Rattle.cp_rpc.specs.Faulty.{call_faults};
 ghost use Rattle.cp_rpc.specs.Told.{told_send_results_to, told_call};
@@ -181,6 +181,15 @@ impl<S: Source> SendResultsToView<S> {
 }
 
 impl<S: Source> CallView<S> {
+    /// Checks the call that a struct says.
+    pub(crate) fn check(t: &S) -> Result<(), SchemaFault>
+        requires { IsStructField (S.seen t.now) }
+        ensures { Checks (call_faults (S.seen t.now)) result }
+    {
+        TargetView::check(&struct_field(t, Call::TARGET, Field::CallTarget)?)?;
+        PayloadView::check(&struct_field(t, Call::PARAMS, Field::CallParams)?)
+    }
+
     /// The call that a struct says.
     pub(crate) fn of(t: &S) -> Result<CallView<S>, SchemaFault>
         requires { IsStructField (S.seen t.now) }

@@ -2,7 +2,7 @@
 
 ghost use Rattle.std.specs.Prelude.{◌≡◌, IfOk};
 ghost use Rattle.cp_rpc.specs.Fields.{IsStructField};
-ghost use Rattle.cp_rpc.specs.Answers.{Gives};
+ghost use Rattle.cp_rpc.specs.Answers.{Checks, Gives};
 ghost use Rattle.cp_rpc.specs.Said.{descriptor_said};
 ghost use Rattle.cp_rpc.specs.Faulty.{descriptor_faults};
 ghost use Rattle.cp_rpc.specs.Told.{told_descriptor};
@@ -117,6 +117,21 @@ impl Descriptor {
 }
 
 impl<S: Source> DescriptorView<S> {
+    /// Checks the descriptor that a struct says.
+    pub(crate) fn check(t: &S) -> Result<(), SchemaFault>
+        requires { IsStructField (S.seen t.now) }
+        ensures { Checks (descriptor_faults (S.seen t.now)) result }
+    {
+        if u16_at(t.data(), Descriptor::WHICH) != 4 {
+            return Ok(());
+        }
+        PromisedAnswerView::check(&struct_field(
+            t,
+            Descriptor::POINTER,
+            Field::CapDescriptorReceiverAnswer,
+        )?)
+    }
+
     /// The descriptor that a struct says.
     pub(crate) fn of(t: &S) -> Result<DescriptorView<S>, SchemaFault>
         requires { IsStructField (S.seen t.now) }

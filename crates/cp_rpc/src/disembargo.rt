@@ -2,7 +2,7 @@
 
 ghost use Rattle.std.specs.Prelude.{◌≡◌, IfOk};
 ghost use Rattle.cp_rpc.specs.Fields.{IsStructField};
-ghost use Rattle.cp_rpc.specs.Answers.{Gives};
+ghost use Rattle.cp_rpc.specs.Answers.{Checks, Gives};
 ghost use Rattle.cp_rpc.specs.Said.{context_said, disembargo_said};
 ghost use Rattle.cp_rpc.specs.Faulty.{disembargo_faults};
 ghost use Rattle.cp_rpc.specs.Told.{told_disembargo};
@@ -115,6 +115,14 @@ impl Disembargo {
 }
 
 impl<S: Source> DisembargoView<S> {
+    /// Checks the disembargo that a struct says.
+    pub(crate) fn check(t: &S) -> Result<(), SchemaFault>
+        requires { IsStructField (S.seen t.now) }
+        ensures { Checks (disembargo_faults (S.seen t.now)) result }
+    {
+        TargetView::check(&struct_field(t, Disembargo::TARGET, Field::DisembargoTarget)?)
+    }
+
     /// The disembargo that a struct says.
     pub(crate) fn of(t: &S) -> Result<DisembargoView<S>, SchemaFault>
         requires { IsStructField (S.seen t.now) }

@@ -2,7 +2,7 @@
 
 ghost use Rattle.std.specs.Prelude.{◌≡◌, ◌≤◌, true, length, IfOk};
 ghost use Rattle.cp_rpc.specs.Fields.{IsStructField};
-ghost use Rattle.cp_rpc.specs.Answers.{Gives};
+ghost use Rattle.cp_rpc.specs.Answers.{Checks, Gives};
 ghost use Rattle.cp_rpc.specs.Said.{kind_said, exception_said};
 ghost use Rattle.cp_rpc.specs.Faulty.{exception_faults};
 ghost use Rattle.cp_rpc.specs.Told.{told_exception};
@@ -125,6 +125,16 @@ impl ExceptionKind {
 }
 
 impl<S: Source> ExceptionView<S> {
+    /// Checks the exception that a struct says.
+    pub(crate) fn check(t: &S) -> Result<(), SchemaFault>
+        requires { IsStructField (S.seen t.now) }
+        ensures { Checks (exception_faults (S.seen t.now)) result }
+    {
+        text_field(t, Exception::REASON, Field::ExceptionReason)?;
+        text_field(t, Exception::TRACE, Field::ExceptionTrace)?;
+        Ok(())
+    }
+
     /// The exception that a struct says.
     pub(crate) fn of(t: &S) -> Result<ExceptionView<S>, SchemaFault>
         requires { IsStructField (S.seen t.now) }

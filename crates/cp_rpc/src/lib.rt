@@ -36,7 +36,7 @@ pub use message::{Message, MessageIn, MessageView, OtherWhich};
 pub use past::Past;
 pub use payload::{CapTable, CapTableView, Payload, PayloadView};
 pub use promised_answer::{Op, PromisedAnswer, PromisedAnswerView, Transform, TransformView};
-pub use read::{message_of, message_view};
+pub use read::{check_message, message_of, message_view};
 pub use resolve::{Resolution, ResolutionView, Resolve, ResolveView};
 pub use returned::{Return, ReturnView, Returned, ReturnedView};
 pub use small::{Bootstrap, Finish, Release};

@@ -3,7 +3,7 @@
 ghost use Rattle.std.specs.Prelude.{◌≡◌, Some, IfOk, IfErr, IfSome, IfNone, true, false};
 ghost use Rattle.cp_tree.specs.Node.{Node, IsStruct};
 ghost use Rattle.cp_rpc.specs.Fields.{IsStructField};
-ghost use Rattle.cp_rpc.specs.Answers.{Gives};
+ghost use Rattle.cp_rpc.specs.Answers.{Checks, Gives};
 ghost use Rattle.cp_rpc.specs.Others.{is_other};
 ghost use Rattle.cp_rpc.specs.Said.{message_said};
 ghost use Rattle.cp_rpc.specs.Faulty.{message_faults};
@@ -197,6 +197,33 @@ impl Message {
 }
 
 impl<S: Source> MessageIn<S> {
+    /// Checks the message that a struct says.
+    pub(crate) fn check(t: &S) -> Result<(), SchemaFault>
+        requires { IsStructField (S.seen t.now) }
+        ensures { Checks (message_faults (S.seen t.now)) result }
+    {
+        let field = match u16_at(t.data(), Message::WHICH) {
+            1 => Field::MessageAbort,
+            2 => Field::MessageCall,
+            3 => Field::MessageReturn,
+            4 => Field::MessageFinish,
+            5 => Field::MessageResolve,
+            6 => Field::MessageRelease,
+            8 => Field::MessageBootstrap,
+            13 => Field::MessageDisembargo,
+            _ => return Ok(()),
+        };
+        let member = struct_field(t, Message::MEMBER, field)?;
+        match field {
+            Field::MessageAbort => ExceptionView::check(&member),
+            Field::MessageCall => CallView::check(&member),
+            Field::MessageReturn => ReturnView::check(&member),
+            Field::MessageResolve => ResolveView::check(&member),
+            Field::MessageDisembargo => DisembargoView::check(&member),
+            _ => Ok(()),
+        }
+    }
+
     /// The message that a struct says.
     pub(crate) fn of(t: &S) -> Result<MessageIn<S>, SchemaFault>
         requires { IsStructField (S.seen t.now) }

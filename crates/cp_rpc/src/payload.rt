@@ -4,7 +4,7 @@ ghost use Rattle.std.specs.Prelude.{◌≡◌, ◌<◌, length, flat_map, slice_
 ghost use Rattle.std.specs.List.{list_all};
 ghost use Rattle.cp_tree.specs.DraftOf.{draft_of};
 ghost use Rattle.cp_rpc.specs.Fields.{IsStructField, items_of};
-ghost use Rattle.cp_rpc.specs.Answers.{Gives};
+ghost use Rattle.cp_rpc.specs.Answers.{Checks, Gives};
 ghost use Rattle.cp_rpc.specs.Said.{descriptors_said, payload_said};
 ghost use Rattle.cp_rpc.specs.Faulty.{descriptor_faults, payload_faults};
 ghost use Rattle.cp_rpc.specs.Told.{told_descriptor, told_payload};
@@ -134,13 +134,21 @@ impl<S: Source> Model for CapTableView<S> {
 }
 
 impl<S: Source> CapTableView<S> {
+    /// Checks the table that a list says.
+    fn check(source: &S) -> Result<(), SchemaFault>
+        ensures { Checks (flat_map descriptor_faults (items_of (S.seen source.now))) result }
+    {
+        for i in 0..item_count(source) {
+            DescriptorView::check(&source.item(i))?;
+        }
+        Ok(())
+    }
+
     /// The table that a list says.
     fn of(source: S) -> Result<CapTableView<S>, SchemaFault>
         ensures { Gives (λ t. t) (descriptors_said (S.seen source)) (flat_map descriptor_faults (items_of (S.seen source))) result }
     {
-        for i in 0..item_count(&source) {
-            DescriptorView::of(&source.item(i))?;
-        }
+        CapTableView::check(&source)?;
         Ok(CapTableView { source })
     }
 
@@ -227,6 +235,15 @@ pub struct PayloadView<S: Source> {
 }
 
 impl<S: Source> PayloadView<S> {
+    /// Checks the payload that a struct says.
+    pub(crate) fn check(t: &S) -> Result<(), SchemaFault>
+        requires { IsStructField (S.seen t.now) }
+        ensures { Checks (payload_faults (S.seen t.now)) result }
+    {
+        let table = list_field(t, Payload::CAP_TABLE, Field::PayloadCapTable)?;
+        CapTableView::check(&table)
+    }
+
     /// The payload that a struct says.
     pub(crate) fn of(t: &S) -> Result<PayloadView<S>, SchemaFault>
         requires { IsStructField (S.seen t.now) }

@@ -4,7 +4,7 @@ ghost use Rattle.std.specs.Prelude.{◌≡◌, ◌<◌, ◌^◌, true, length, m
 ghost use Rattle.cp_tree.specs.DraftOf.{draft_of, draft_body_of};
 ghost use Rattle.cp_tree.specs.Node.{data_of};
 ghost use Rattle.cp_rpc.specs.Fields.{IsStructField, items_of};
-ghost use Rattle.cp_rpc.specs.Answers.{Gives};
+ghost use Rattle.cp_rpc.specs.Answers.{Checks, Gives};
 ghost use Rattle.cp_rpc.specs.Said.{op_said, promised_answer_said};
 ghost use Rattle.cp_rpc.specs.Faulty.{promised_answer_faults};
 ghost use Rattle.cp_rpc.specs.Fitting.{promised_answer_fits};
@@ -236,6 +236,15 @@ pub struct PromisedAnswerView<S: Source> {
 }
 
 impl<S: Source> PromisedAnswerView<S> {
+    /// Checks the promised answer that a struct says.
+    pub(crate) fn check(t: &S) -> Result<(), SchemaFault>
+        requires { IsStructField (S.seen t.now) }
+        ensures { Checks (promised_answer_faults (S.seen t.now)) result }
+    {
+        list_field(t, PromisedAnswer::TRANSFORM, Field::PromisedAnswerTransform)?;
+        Ok(())
+    }
+
     /// The promised answer that a struct says.
     pub(crate) fn of(t: &S) -> Result<PromisedAnswerView<S>, SchemaFault>
         requires { IsStructField (S.seen t.now) }

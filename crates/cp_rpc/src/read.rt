@@ -1,6 +1,6 @@
 //! Reading messages.
 
-ghost use Rattle.std.specs.Prelude.{◌≡◌, Some, IfOk, IfErr};
+ghost use Rattle.std.specs.Prelude.{◌≡◌, Some, IsOk, IfOk, IfErr, OnOk};
 ghost use Rattle.cp_tree.specs.Node.{IsStruct};
 ghost use Rattle.cp_rpc.specs.Answers.{Answers, AnswersView, IsFirstFault, first_of};
 ghost use Rattle.cp_rpc.specs.Says.{Says};
@@ -26,6 +26,20 @@ pub fn message_view<'a>(view: View<'a>) -> Result<MessageView<'a>, SchemaFault>
     ensures fault { IfErr result (λ f. first_of (message_faults view.entry) ≡ Some f) }
 {
     MessageIn::of(&view)
+}
+
+/// Checks the message that the root struct of a frame says, as `message_view` does, and hands out none. A
+/// fault is the first in the order of the fields, depth first.
+pub fn check_message(view: &View) -> Result<(), SchemaFault>
+    requires { IsStruct view.now }
+    // The tree says a message.
+    ensures found { OnOk result ((m : Message) × Says view.now m) }
+    // A tree that says a message is accepted.
+    ensures only { (m : Message) → Says view.now m → IsOk result }
+    // A fault is the first that the tree has.
+    ensures fault { IfErr result (λ f. first_of (message_faults view.now) ≡ Some f) }
+{
+    MessageIn::check(view)
 }
 
 /// The message that an owned root struct says. Trees in it are copied. A fault is the first in the

@@ -2,7 +2,7 @@
 
 ghost use Rattle.std.specs.Prelude.{◌≡◌, true, IfOk};
 ghost use Rattle.cp_rpc.specs.Fields.{IsStructField};
-ghost use Rattle.cp_rpc.specs.Answers.{Gives};
+ghost use Rattle.cp_rpc.specs.Answers.{Checks, Gives};
 ghost use Rattle.cp_rpc.specs.Said.{resolution_said, resolve_said};
 ghost use Rattle.cp_rpc.specs.Faulty.{resolve_faults};
 ghost use Rattle.cp_rpc.specs.Told.{told_resolution, told_resolve};
@@ -161,6 +161,18 @@ impl<S: Source> ResolutionView<S> {
 }
 
 impl<S: Source> ResolveView<S> {
+    /// Checks the resolve that a struct says.
+    pub(crate) fn check(t: &S) -> Result<(), SchemaFault>
+        requires { IsStructField (S.seen t.now) }
+        ensures { Checks (resolve_faults (S.seen t.now)) result }
+    {
+        match u16_at(t.data(), Resolve::WHICH) {
+            0 => DescriptorView::check(&struct_field(t, Resolve::MEMBER, Field::ResolveCap)?),
+            1 => ExceptionView::check(&struct_field(t, Resolve::MEMBER, Field::ResolveException)?),
+            _ => Ok(()),
+        }
+    }
+
     /// The resolve that a struct says.
     pub(crate) fn of(t: &S) -> Result<ResolveView<S>, SchemaFault>
         requires { IsStructField (S.seen t.now) }

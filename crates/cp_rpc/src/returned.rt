@@ -2,7 +2,7 @@
 
 ghost use Rattle.std.specs.Prelude.{◌≡◌, true, IfOk};
 ghost use Rattle.cp_rpc.specs.Fields.{IsStructField};
-ghost use Rattle.cp_rpc.specs.Answers.{Gives};
+ghost use Rattle.cp_rpc.specs.Answers.{Checks, Gives};
 ghost use Rattle.cp_rpc.specs.Said.{returned_said, return_said};
 ghost use Rattle.cp_rpc.specs.Faulty.{return_faults};
 ghost use Rattle.cp_rpc.specs.Told.{told_returned, told_return};
@@ -208,6 +208,18 @@ impl<S: Source> ReturnedView<S> {
 }
 
 impl<S: Source> ReturnView<S> {
+    /// Checks the return that a struct says.
+    pub(crate) fn check(t: &S) -> Result<(), SchemaFault>
+        requires { IsStructField (S.seen t.now) }
+        ensures { Checks (return_faults (S.seen t.now)) result }
+    {
+        match u16_at(t.data(), Return::WHICH) {
+            0 => PayloadView::check(&struct_field(t, Return::MEMBER, Field::ReturnResults)?),
+            1 => ExceptionView::check(&struct_field(t, Return::MEMBER, Field::ReturnException)?),
+            _ => Ok(()),
+        }
+    }
+
     /// The return that a struct says.
     pub(crate) fn of(t: &S) -> Result<ReturnView<S>, SchemaFault>
         requires { IsStructField (S.seen t.now) }

@@ -2,7 +2,7 @@
 
 ghost use Rattle.std.specs.Prelude.{◌≡◌, IfOk};
 ghost use Rattle.cp_rpc.specs.Fields.{IsStructField};
-ghost use Rattle.cp_rpc.specs.Answers.{Gives};
+ghost use Rattle.cp_rpc.specs.Answers.{Checks, Gives};
 ghost use Rattle.cp_rpc.specs.Said.{target_said};
 ghost use Rattle.cp_rpc.specs.Faulty.{target_faults};
 ghost use Rattle.cp_rpc.specs.Told.{told_target};
@@ -96,6 +96,21 @@ impl Target {
 }
 
 impl<S: Source> TargetView<S> {
+    /// Checks the target that a struct says.
+    pub(crate) fn check(t: &S) -> Result<(), SchemaFault>
+        requires { IsStructField (S.seen t.now) }
+        ensures { Checks (target_faults (S.seen t.now)) result }
+    {
+        if u16_at(t.data(), Target::WHICH) != 1 {
+            return Ok(());
+        }
+        PromisedAnswerView::check(&struct_field(
+            t,
+            Target::PROMISED_ANSWER,
+            Field::MessageTargetPromisedAnswer,
+        )?)
+    }
+
     /// The target that a struct says.
     pub(crate) fn of(t: &S) -> Result<TargetView<S>, SchemaFault>
         requires { IsStructField (S.seen t.now) }

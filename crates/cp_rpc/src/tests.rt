@@ -36,11 +36,18 @@ fn said(alloc: Global, words: &[u64]) -> Result<(String, String), Fail> {
     }
 }
 
-/// Why the view of a root struct says nothing.
+/// Why the view of a root struct says nothing, as its check tells too.
 fn fault_of(alloc: Global, words: &[u64]) -> Result<Option<SchemaFault>, Fail> {
     let segments = segments(alloc, words)?;
     match View::root(&segments, Limits::standard()) {
-        Ok(root) => Ok(message_view(root).err()),
+        Ok(root) => {
+            let checked = check_message(&root).err();
+            let viewed = message_view(root).err();
+            if checked != viewed {
+                return Err(Fail::from("checked otherwise than viewed"));
+            }
+            Ok(viewed)
+        }
         Err(_) => Err(Fail::from("no root")),
     }
 }

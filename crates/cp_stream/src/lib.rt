@@ -18,7 +18,7 @@ pub use laws::read_back;
 pub use read::{read_message, read_segments};
 pub use reader::MessageReader;
 pub use tap::Tap;
-pub use view::view_of;
+pub use view::{check_of, view_of};
 pub use write::{write_message, write_message_in};
 
 #[cfg(test)]

@@ -204,10 +204,15 @@ fn a_view_is_of_one_frame(rt: HostRuntime) -> Result<(), Fail> {
     let frames = cp_frame::FrameReader::plain(rt.alloc(), limits).feed(&TWO_SEGMENTS)?;
     for frame in &frames {
         assert!(rt; view_of(&frame.1, limits).is_ok());
+        assert!(rt; check_of(&frame.1, limits).is_ok());
     }
     let faulty = cp_frame::FrameReader::plain(rt.alloc(), limits).feed(&SHORT_ROOT)?;
     for frame in &faulty {
         assert_eq!(rt; view_of(&frame.1, limits).err(), Some(at(0, OUT_OF_BOUNDS)));
+        assert_eq!(rt;
+            check_of(&frame.1, limits).err(),
+            Some(at(0, OUT_OF_BOUNDS))
+        );
     }
     assert_eq!(rt; frames.len() + faulty.len(), 2);
     Ok(())

@@ -1,6 +1,6 @@
 //! The message of a frame.
 
-ghost use Rattle.std.specs.Prelude.{◌≡◌, ◌⊎◌, IfOk, IfErr};
+ghost use Rattle.std.specs.Prelude.{◌≡◌, ◌⊎◌, IsOk, IfOk, IfErr, OnOk};
 ghost use Rattle.cp_rpc.specs.Told.{told};
 ghost use Rattle.cp_rpc.specs.declared.message.Message.{Message};
 ghost use Rattle.cp_stream.specs.Stream.{Holds, HoldsNone};
@@ -8,7 +8,7 @@ ghost use Rattle.cp_stream.specs.Reader.{IsAt, IsMemory};
 ghost use Rattle.cp_stream.specs.Answers.{AnswersView};
 
 use crate::fault::{Refusal, StreamFault, refused};
-use cp_rpc::{Message, MessageView, SchemaFault, message_view};
+use cp_rpc::{Message, MessageView, SchemaFault, check_message, message_view};
 use cp_tree::View;
 use cp_words::{Limits, Segments};
 use std::alloc::Global;
@@ -60,4 +60,23 @@ pub fn view_of<'a>(segments: &'a Segments, limits: Limits) -> Result<MessageView
         Ok(message) => Ok(message),
         Err(fault) => Err(refused(0, Refusal::Schema(fault))),
     }
+}
+
+/// Checks that a frame's segments hold a message of rpc.capnp, as `view_of` does, and hands out none.
+pub fn check_of(segments: &Segments, limits: Limits) -> Result<(), StreamFault>
+    // The segments hold a message.
+    ensures found { OnOk result ((m : Message) × Holds limits segments.now m) }
+    // Segments that hold a message are accepted.
+    ensures only { (m : Message) → Holds limits segments.now m → IsOk result }
+    // A fault says why they hold none.
+    ensures refused { IfErr result (IsAt 0 (HoldsNone limits segments.now)) }
+{
+    let view = match View::root(segments, limits) {
+        Ok(view) => view,
+        Err(fault) => return Err(refused(0, Refusal::Tree(fault))),
+    };
+    if let Err(fault) = check_message(&view) {
+        return Err(refused(0, Refusal::Schema(fault)));
+    }
+    Ok(())
 }
