@@ -208,11 +208,11 @@ fn bits_of(size: ElementSize) -> u64
 pub fn list_words(size: ElementSize, count: u32) -> u64
     ensures { result ≡ words_for size count }
 {
-    let count = count as u64;
+    // One sum for each size, so that no jump depends on it.
+    let whole = (count as u64 * bits_of(size) + 63) / 64;
     match size {
-        ElementSize::Composite => count + 1,
-        // A table of widths, so that no jump depends on the size.
-        _ => (count * bits_of(size) + 63) / 64,
+        ElementSize::Composite => whole + 1,
+        _ => whole,
     }
 }
 
