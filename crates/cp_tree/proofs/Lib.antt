@@ -8,6 +8,7 @@ pub mod Decided
 pub mod Views
 pub mod Roots
 pub mod Builds
+pub mod Built
 pub mod Pointees
 pub mod Shapes
 pub mod Spending

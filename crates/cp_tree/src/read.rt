@@ -7,18 +7,21 @@ ghost use Rattle.cp_words.specs.Word.{words_for};
 ghost use Rattle.cp_words.specs.declared.pointer.ElementSize.TheVariants as sizes;
 ghost use Rattle.cp_tree.specs.Answers.{Answers, IsRefusalOf};
 ghost use Rattle.cp_tree.specs.Denotes.{element, numbers, flags, elements_of, Root};
-ghost use Rattle.cp_tree.specs.Node.{Node, IsStruct, struct, list, count, number_of};
-ghost use Rattle.cp_tree.specs.NodeOf.{node_of, body_of, nodes_of, bodies_of};
-ghost use Rattle.cp_tree.specs.Rows.{row_of, bodies_in, IsData};
+ghost use Rattle.cp_tree.specs.Node.{Node, struct, list};
+ghost use Rattle.cp_tree.specs.NodeOf.{node_of, body_of, nodes_of, bodies_of, words_of};
+ghost use Rattle.cp_tree.specs.Parts.{part_node, IsPart};
+ghost use Rattle.cp_tree.specs.Rows.{bodies_in, struct_at, structs_at, trees_from, IsData};
 ghost use Rattle.cp_tree.specs.Visited.{pointers, pointers_of_row, pointers_of_bodies};
 ghost use Rattle.cp_tree.specs.declared.fault.TreeFault.TheVariants.{OutOfMemory};
+ghost use Rattle.cp_tree.specs.declared.view.Part.TheVariants as parts;
 
-use crate::fault::TreeFault;
+use crate::area::{Area, Form};
+use crate::fault::{Place, TreeFault};
 use crate::tree::{Body, Tree};
-use crate::view::{Shape, View, root_counted};
+use crate::view::{Part, View, part_at, root_counted, words_at};
 use crate::visits::Visits;
 use crate::whole::{Object, Whole};
-use cp_words::{ElementSize, Limits, Segments};
+use cp_words::{ElementSize, Limits, Segments, list_words};
 use std::alloc::{AllocError, Global};
 use std::marker::Brand;
 use std::sync::ledger::{Blank, Ledger};
@@ -165,90 +168,171 @@ fn list_of(alloc: Global, words: &[u64], size: ElementSize, count: u32) -> Resul
     }
 }
 
-/// The tree that is viewed.
+/// The tree that a part stands for.
 #[cycle(build)]
-fn build<L: Ledger>(alloc: Global, view: &View, visits: &mut Visits<L>) -> Result<Tree, AllocError>
-    ensures tree { IfOk result (λ t. node_of t ≡ view.now) }
-    ensures exact { OnOk result (visits.new ≡ visits.old + pointers view.now) }
-    ensures few { visits.new ≤ visits.old + pointers view.now }
+#[inline(always)]
+fn build<L: Ledger>(
+    alloc: Global,
+    lists: &[Vec<u64>],
+    part: Part,
+    visits: &mut Visits<L>,
+) -> Result<Tree, AllocError>
+    requires { IsPart (words_of lists.now) part }
+    ensures tree { IfOk result (λ t. node_of t ≡ part_node (words_of lists.now) part) }
+    ensures exact { OnOk result (visits.new ≡ visits.old + pointers (part_node (words_of lists.now) part)) }
+    ensures few { visits.new ≤ visits.old + pointers (part_node (words_of lists.now) part) }
 {
-    match view.shape() {
-        Shape::Null => Ok(Tree::Null),
-        Shape::Cap(index) => Ok(Tree::Cap(index)),
-        Shape::Struct { ptrs, .. } => Ok(Tree::Struct(build_body(alloc, view, ptrs, visits)?)),
-        Shape::List { size, count } => match size {
-            ElementSize::Pointer => Ok(Tree::Ptrs(build_row(alloc, view, count, visits)?)),
-            _ => list_of(alloc, view.words(), size, count),
+    match part {
+        Part::Null => Ok(Tree::Null),
+        Part::Cap(index) => Ok(Tree::Cap(index)),
+        Part::Body(area) => build_area(alloc, lists, area, visits),
+    }
+}
+
+/// The tree of a body.
+#[cycle(build)]
+#[inline(always)]
+fn build_area<L: Ledger>(
+    alloc: Global,
+    lists: &[Vec<u64>],
+    area: Area,
+    visits: &mut Visits<L>,
+) -> Result<Tree, AllocError>
+    requires { IsPart (words_of lists.now) (parts.Body area) }
+    ensures tree { IfOk result (λ t. node_of t ≡ part_node (words_of lists.now) (parts.Body area)) }
+    ensures exact { OnOk result (visits.new ≡ visits.old + pointers (part_node (words_of lists.now) (parts.Body area))) }
+    ensures few { visits.new ≤ visits.old + pointers (part_node (words_of lists.now) (parts.Body area)) }
+{
+    let first = Place {
+        segment: area.segment,
+        word: area.start,
+    };
+    match area.form {
+        Form::Struct { words, ptrs } => Ok(Tree::Struct(build_body(
+            alloc, lists, first, words, ptrs, visits,
+        )?)),
+        Form::List { size, count } => match size {
+            ElementSize::Pointer => Ok(Tree::Ptrs(build_row(
+                alloc,
+                lists,
+                first,
+                count as usize,
+                visits,
+            )?)),
+            _ => {
+                let words = list_words(size, count) as usize;
+                list_of(
+                    alloc,
+                    words_at(lists, area.segment, area.start, words),
+                    size,
+                    count,
+                )
+            }
         },
-        Shape::Structs { words, ptrs, count } => Ok(Tree::Structs {
+        Form::Structs { words, ptrs, count } => Ok(Tree::Structs {
             words,
             ptrs,
-            items: build_bodies(alloc, view, count, visits)?,
+            items: build_bodies(alloc, lists, first, words, ptrs, count, visits)?,
         }),
     }
 }
 
-/// The struct that is viewed.
+/// The struct whose body begins at a place.
 #[cycle(build)]
-#[inline]
+#[inline(always)]
 fn build_body<L: Ledger>(
     alloc: Global,
-    view: &View,
+    lists: &[Vec<u64>],
+    start: Place,
+    words: u16,
     ptrs: u16,
     visits: &mut Visits<L>,
 ) -> Result<Body, AllocError>
-    requires is_struct { IsStruct view.now }
-    requires all { count (row_of view.now) ≡ ptrs }
-    ensures body { IfOk result (λ b. struct (body_of b).0 (body_of b).1 ≡ view.now) }
-    ensures exact { OnOk result (visits.new ≡ visits.old + pointers view.now) }
-    ensures few { visits.new ≤ visits.old + pointers view.now }
+    requires { IsPart (words_of lists.now) (parts.Body (struct_at start words ptrs)) }
+    ensures body { IfOk result (λ b. struct (body_of b).0 (body_of b).1 ≡ part_node (words_of lists.now) (parts.Body (struct_at start words ptrs))) }
+    ensures exact { OnOk result (visits.new ≡ visits.old + pointers (part_node (words_of lists.now) (parts.Body (struct_at start words ptrs)))) }
+    ensures few { visits.new ≤ visits.old + pointers (part_node (words_of lists.now) (parts.Body (struct_at start words ptrs))) }
 {
-    let words = Vec::from_slice(alloc, view.words())?;
-    let ptrs = build_row(alloc, view, ptrs as u32, visits)?;
+    let held = words_at(lists, start.segment, start.word, words as usize);
+    let words = Vec::from_slice(alloc, held)?;
+    let first = Place {
+        segment: start.segment,
+        word: start.word + held.len(),
+    };
+    let ptrs = build_ptrs(alloc, lists, first, ptrs as usize, visits)?;
     Ok(Body { words, ptrs })
 }
 
-/// The pointers of the struct or list that is viewed.
+/// The trees of so many pointer words, if there are any.
+#[cycle(build)]
+#[inline(always)]
+fn build_ptrs<L: Ledger>(
+    alloc: Global,
+    lists: &[Vec<u64>],
+    first: Place,
+    number: usize,
+    visits: &mut Visits<L>,
+) -> Result<Vec<Tree>, AllocError>
+    requires { IsPart (words_of lists.now) (parts.Body (struct_at first 0 number)) }
+    ensures row { IfOk result (λ v. nodes_of (map node_of v.items) ≡ trees_from (words_of lists.now) first number) }
+    ensures exact { OnOk result (visits.new ≡ visits.old + pointers_of_row (trees_from (words_of lists.now) first number)) }
+    ensures few { visits.new ≤ visits.old + pointers_of_row (trees_from (words_of lists.now) first number) }
+{
+    if number == 0 {
+        return Ok(Vec::new(alloc));
+    }
+    build_row(alloc, lists, first, number, visits)
+}
+
+/// The trees of so many pointer words, from one on.
 #[cycle(build)]
 fn build_row<L: Ledger>(
     alloc: Global,
-    view: &View,
-    number: u32,
+    lists: &[Vec<u64>],
+    first: Place,
+    number: usize,
     visits: &mut Visits<L>,
 ) -> Result<Vec<Tree>, AllocError>
-    requires { count (row_of view.now) ≡ number }
-    ensures row { IfOk result (λ v. nodes_of (map node_of v.items) ≡ row_of view.now) }
-    ensures exact { OnOk result (visits.new ≡ visits.old + pointers_of_row (row_of view.now)) }
-    ensures few { visits.new ≤ visits.old + pointers_of_row (row_of view.now) }
+    requires { IsPart (words_of lists.now) (parts.Body (struct_at first 0 number)) }
+    ensures row { IfOk result (λ v. nodes_of (map node_of v.items) ≡ trees_from (words_of lists.now) first number) }
+    ensures exact { OnOk result (visits.new ≡ visits.old + pointers_of_row (trees_from (words_of lists.now) first number)) }
+    ensures few { visits.new ≤ visits.old + pointers_of_row (trees_from (words_of lists.now) first number) }
 {
-    let mut found = Vec::with_capacity(alloc, number as usize)?;
+    let mut found = Vec::with_capacity(alloc, number)?;
     for i in 0..number {
+        let at = Place {
+            segment: first.segment,
+            word: first.word + i,
+        };
         visits.tick();
-        found.push(build(alloc, &view.child(i), visits)?)?;
+        found.push(build(alloc, lists, part_at(lists, at), visits)?)?;
     }
     Ok(found)
 }
 
-/// The elements of the composite list that is viewed.
+/// The elements of the composite list whose first one begins at a place.
 #[cycle(build)]
 fn build_bodies<L: Ledger>(
     alloc: Global,
-    view: &View,
+    lists: &[Vec<u64>],
+    first: Place,
+    words: u16,
+    ptrs: u16,
     number: u32,
     visits: &mut Visits<L>,
 ) -> Result<Vec<Body>, AllocError>
-    requires { number_of (bodies_in view.now) ≡ number }
-    ensures bodies { IfOk result (λ v. bodies_of (map body_of v.items) ≡ bodies_in view.now) }
-    ensures exact { OnOk result (visits.new ≡ visits.old + pointers_of_bodies (bodies_in view.now)) }
-    ensures few { visits.new ≤ visits.old + pointers_of_bodies (bodies_in view.now) }
+    requires { IsPart (words_of lists.now) (parts.Body (structs_at first words ptrs number)) }
+    ensures bodies { IfOk result (λ v. bodies_of (map body_of v.items) ≡ bodies_in (part_node (words_of lists.now) (parts.Body (structs_at first words ptrs number)))) }
+    ensures exact { OnOk result (visits.new ≡ visits.old + pointers_of_bodies (bodies_in (part_node (words_of lists.now) (parts.Body (structs_at first words ptrs number))))) }
+    ensures few { visits.new ≤ visits.old + pointers_of_bodies (bodies_in (part_node (words_of lists.now) (parts.Body (structs_at first words ptrs number)))) }
 {
     let mut found = Vec::with_capacity(alloc, number as usize)?;
     for i in 0..number {
-        let element = view.child(i);
-        let Shape::Struct { ptrs, .. } = element.shape() else {
-            unreachable!();
+        let start = Place {
+            segment: first.segment,
+            word: first.word + i as usize * (words as usize + ptrs as usize),
         };
-        found.push(build_body(alloc, &element, ptrs, visits)?)?;
+        found.push(build_body(alloc, lists, start, words, ptrs, visits)?)?;
     }
     Ok(found)
 }
@@ -264,8 +348,9 @@ pub(crate) fn whole_of<L: Ledger>(
     ensures few { visits.new ≤ visits.old + pointers view.now }
 {
     view.holds_a_shaped_tree();
+    let (lists, part) = view.place();
     Ok(Whole {
-        tree: build(alloc, view, visits)?,
+        tree: build(alloc, lists, part, visits)?,
     })
 }
 

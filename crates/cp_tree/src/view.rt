@@ -76,6 +76,8 @@ impl<'a> View<'a> {
     ghost use Rattle.cp_tree.specs.Denotes.{Root};
     ghost use Rattle.cp_tree.specs.Faults.{IsFaultOf};
     ghost use Rattle.cp_tree.specs.Node.{Node};
+    ghost use Rattle.cp_tree.specs.NodeOf.{words_of};
+    ghost use Rattle.cp_tree.specs.Parts.{part_node, IsPart};
     ghost use Rattle.cp_tree.specs.Seen.{shape_of, part_of, AreWordsOf};
     ghost use Rattle.cp_tree.specs.Shaped.{Shaped};
 
@@ -147,6 +149,15 @@ impl<'a> View<'a> {
         ensures { IfOk result (λ w. w ≡ self.now) }
     {
         tree_uncounted::<Brand>(alloc, self, Blank::new(1))
+    }
+
+    /// Where the tree lies.
+    #[inline]
+    pub(crate) fn place(&self) -> (&'a [Vec<u64>], Part)
+        ensures tree { part_node (words_of result.0.now) result.1 ≡ self.now }
+        ensures part { IsPart (words_of result.0.now) result.1 }
+    {
+        (self.lists, self.part)
     }
 
     /// What was read in words fits them again. This says so and does nothing.
