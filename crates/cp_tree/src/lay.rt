@@ -38,7 +38,7 @@ fn place_list(
 }
 
 /// A struct's data words, and blank words for its pointers.
-#[inline]
+#[inline(always)]
 pub(crate) fn append_body(
     sheet: &mut Sheet,
     room: Room,
@@ -77,6 +77,7 @@ fn tag_word(count: usize, words: u16, ptrs: u16) -> u64
 
 /// Begins a struct: its data words, and blank words for its pointers. Gives where these begin. One of
 /// size zero has no body.
+#[inline(always)]
 pub(crate) fn begin_struct(
     sheet: &mut Sheet,
     room: Room,

@@ -12,6 +12,7 @@ use crate::tree::{Body, Tree};
 
 /// Takes so much from what is left of a limit. Nothing is left any more where it passes that.
 #[tactic(auto, unfolding(crate::specs::Spent::spent))]
+#[inline(always)]
 fn spend(left: &mut Option<u64>, price: u64)
     ensures { left.new ≡ spent left.old price }
 {
@@ -27,6 +28,7 @@ fn spend(left: &mut Option<u64>, price: u64)
 /// Whether bodies nest no deeper than so many levels, and then what the tree leaves of a limit on
 /// cost.
 #[cycle(measure)]
+#[inline(always)]
 pub(crate) fn nests(tree: &Tree, levels: u32, left: &mut Option<u64>) -> bool
     ensures deep { Decides result (depth (node_of tree.now) ≤ levels) }
     ensures left { OnTrue result (left.new ≡ spent left.old (cost (node_of tree.now))) }

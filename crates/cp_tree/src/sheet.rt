@@ -10,7 +10,7 @@ ghost use Rattle.cp_tree.specs.declared.fault.WriteFault.TheVariants.{TooManyWor
 use crate::aim::Kind;
 use crate::fault::{Place, WriteFault};
 use crate::pack::{push_bits, push_bytes, push_halves, push_quads};
-use cp_words::{Pointer, encode};
+use cp_words::{Pointer, Segments, encode};
 use std::alloc::{AllocError, Global};
 use std::mem;
 
@@ -73,13 +73,19 @@ impl Sheet {
         })
     }
 
-    /// The segments.
-    pub fn into_lists(self) -> Result<Vec<Vec<u64>>, AllocError>
-        ensures { IfOk result (λ v. words_of v.items ≡ lists (written self)) }
+    /// The segments. Most messages have one, which needs no vector around it.
+    pub fn into_segments(self) -> Result<Segments, AllocError>
+        ensures { IfOk result (λ s. s ≡ lists (written self)) }
     {
         let mut lists = self.full;
+        if lists.is_empty() {
+            return Ok(Segments::one(self.last));
+        }
         lists.push(self.last)?;
-        Ok(lists)
+        match Segments::new(lists) {
+            Ok(segments) => Ok(segments),
+            Err(_) => Err(AllocError),
+        }
     }
 
     /// The last segment.
@@ -115,6 +121,7 @@ impl Sheet {
     }
 
     /// Counts so many more words.
+    #[inline(always)]
     fn count(&mut self, room: Room, words: usize) -> Result<(), WriteFault>
         requires within { self.old.words ≤ room.whole }
         requires small { room.whole ≤ 67108864 }
@@ -130,7 +137,7 @@ impl Sheet {
     }
 
     /// Appends the words to the last segment.
-    #[inline]
+    #[inline(always)]
     pub fn append(&mut self, room: Room, words: &[u64]) -> Result<(), WriteFault>
         requires { KeepsTo room (written self.old) }
         ensures { Writes room result (append words.now (written self.old)) (written self.new) }
@@ -141,7 +148,7 @@ impl Sheet {
     }
 
     /// Appends so many blank words to the last segment.
-    #[inline]
+    #[inline(always)]
     pub fn append_blank(&mut self, room: Room, words: usize) -> Result<(), WriteFault>
         requires { KeepsTo room (written self.old) }
         ensures { Writes room result (append (replicate words 0) (written self.old)) (written self.new) }
@@ -188,6 +195,7 @@ impl Sheet {
     }
 
     /// Ends the last segment and begins a new one, with room for a pad and a body of so many words.
+    #[cold]
     fn begin(&mut self, size: usize) -> Result<(), AllocError>
         requires { size < 2 ^ 60 }
         ensures { OnOk result (written self.new ≡ begin (written self.old)) }
@@ -199,6 +207,7 @@ impl Sheet {
 
     /// Begins a new segment, if a body of so many words, whose pointer stands in a segment, doesn't fit
     /// into the last one and a new one may be begun.
+    #[inline(always)]
     fn make_room(&mut self, room: Room, segment: usize, size: usize) -> Result<(), AllocError>
         requires keeps { KeepsTo room (written self.old) }
         requires sized { size < 2 ^ 60 }
@@ -215,7 +224,7 @@ impl Sheet {
     }
 
     /// Names a body directly, and gives where it is to be written: at the end of its pointer's segment.
-    #[inline]
+    #[inline(always)]
     fn place_here(&mut self, at: Place, kind: Kind) -> Place
         requires small { (s : ℕ) → end_of (written self.old) s ≤ 67108864 }
         requires there { IsPlace (written self.old) at }
@@ -233,6 +242,7 @@ impl Sheet {
 
     /// Names a body by a pad, and gives where it is to be written: behind the pad, which is at the end
     /// of the last segment.
+    #[cold]
     fn place_behind_pad(&mut self, room: Room, at: Place, kind: Kind) -> Result<Place, WriteFault>
         requires keeps { KeepsTo room (written self.old) }
         requires there { IsPlace (written self.old) at }
@@ -256,6 +266,7 @@ impl Sheet {
 
     /// Places a body of so many words, whose pointer stands at a place: directly, or behind a pad.
     /// Gives where it is to be written.
+    #[inline(always)]
     pub fn place(
         &mut self,
         room: Room,

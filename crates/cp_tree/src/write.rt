@@ -84,10 +84,7 @@ pub fn write_draft(
 {
     let words = if max_words == 0 { 1 } else { max_words };
     let sheet = lay_out(alloc, draft, words, limits.segments(), limits)?;
-    match Segments::new(sheet.into_lists()?) {
-        Ok(segments) => Ok(segments),
-        Err(_) => Err(WriteFault::OutOfMemory),
-    }
+    Ok(sheet.into_segments()?)
 }
 
 /// Writes the tree into segments of at most so many words, as `write_draft` writes it lent.

@@ -9,8 +9,8 @@ use Rattle.cp_tree.proofs.SheetWords.{laid_words, laid_within}
 use Rattle.cp_tree.proofs.write.write_draft.Goals.{then-max_words-eq0, else-max_words-eq0}
 use Rattle.cp_tree.proofs.write.write_draft.Goals as goal
 
-pub returns-in-Ok-clause-layout : goal.returns-in-Ok-clause-layout
-returns-in-Ok-clause-layout c =
+pub returns-clause-layout : goal.returns-clause-layout
+returns-clause-layout c =
     let limits = c.args.limits in
     let t = draft_of c.args.draft.now in
     let F = written c.in_ok-sheet.sheet in
@@ -22,14 +22,14 @@ returns-in-Ok-clause-layout c =
     c.in_ok-sheet.ensures.written
     ∙ ap (λ n. laid_out (room_for n c.segments.result limits) t) words
     ∙ ap (λ n. laid_out (room_for (max 1 c.args.max_words) n limits) t) c.segments.ensures.value in
-    subst (λ S. Layout S (record { words = c.args.max_words; segments = limits.segments }) t) (sym (c.in-Ok.ensures.held ∙ c.in_ok-into_lists.ensures))
+    subst (λ S. Layout S (record { words = c.args.max_words; segments = limits.segments }) t) (sym (c.in_ok-into_segments.ensures))
     (written_is_layout c.args.max_words limits t F (omega (arith, c.segments.ensures.value, c.segments.ensures.range)) c.requires.shaped is c.in_ok-sheet.ensures.small)
 
-pub returns-in-Ok-clause-small : goal.returns-in-Ok-clause-small
-returns-in-Ok-clause-small c =
+pub returns-clause-small : goal.returns-clause-small
+returns-clause-small c =
     let limits = c.args.limits in
     let t = draft_of c.args.draft.now in
     let room = room_for c.if-max_words-eq0.words c.segments.result limits in
-    let is = c.in-Ok.ensures.held ∙ c.in_ok-into_lists.ensures ∙ ap lists c.in_ok-sheet.ensures.written in
+    let is = c.in_ok-into_segments.ensures ∙ ap lists c.in_ok-sheet.ensures.written in
     subst (λ (s : List (List ℕ)). (length s ≤ limits.segments) × (sum (map length s) ≤ limits.frame_words)) (sym is)
     (omega (arith, laid_within room t (omega (arith, c.segments.ensures.range)), c.segments.ensures.value), omega (arith, laid_words room t, c.in_ok-sheet.ensures.fits.2))
