@@ -7,7 +7,7 @@ ghost use Rattle.cp_bench.specs.Write.{AreTreesOf, AreWritten, IsRewritten, Give
 
 use crate::fill::fill;
 use crate::read::limits_of;
-use cp_frame::{FrameReader, Mode, write_over};
+use cp_frame::{FrameReader, write_behind};
 use cp_tree::{Object, read_root, write_segments};
 use cp_words::{Limits, Segments};
 use std::alloc::Global;
@@ -31,18 +31,14 @@ fn trees_of(alloc: Global, frames: &[(u64, Segments)], limits: Limits) -> Option
 fn write_all(alloc: Global, trees: &[Object], words: u32, limits: Limits, out: &mut Vec<u8>) -> bool
     ensures { IsTrue result → AreWritten words limits trees.now out.new.items }
 {
-    let mut frame = Vec::new(alloc);
     out.clear();
     for tree in trees {
         let Ok(segments) = write_segments(alloc, tree, words, limits) else {
             return false;
         };
-        if write_over(alloc, &mut frame, &segments, Mode::Plain, limits).is_err() {
+        let Ok(()) = write_behind(out, &segments, limits) else {
             return false;
-        }
-        if out.extend_from_slice(&frame).is_err() {
-            return false;
-        }
+        };
     }
     true
 }

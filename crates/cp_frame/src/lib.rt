@@ -29,4 +29,4 @@ pub use mode::Mode;
 pub use packing::pack;
 pub use reader::FrameReader;
 pub use unpacking::unpack;
-pub use write::{write_frame, write_over};
+pub use write::{write_behind, write_frame, write_over};

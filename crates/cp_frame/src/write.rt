@@ -2,7 +2,7 @@
 
 ghost use Rattle.std.specs.Prelude.{◌≡◌, [], ◌+◌, ◌^◌, ◌<◌, ◌≤◌, ◌++◌, IfOk, OnOk, IfErr, IfSome, IfNone, length, sum};
 ghost use Rattle.cp_frame.specs.Framed.{bytes_of, sizes_of};
-ghost use Rattle.cp_frame.specs.Frame.{IsWithin, Written, IsWritten, IsRefusedFor, padded_table};
+ghost use Rattle.cp_frame.specs.Frame.{IsWithin, Written, WrittenBehind, IsWritten, IsWrittenBehind, IsRefusedFor, padded_table};
 ghost use Rattle.cp_frame.specs.Packing.{PutsTable};
 ghost use Rattle.cp_frame.specs.Parts.{lists};
 ghost use Rattle.cp_frame.specs.declared.mode.Mode.TheVariants.{Plain, Packed};
@@ -63,14 +63,13 @@ fn count_words(segments: &[Vec<u64>], limits: Limits) -> Result<u64, FrameFault>
     words_in(segments, limits.frame_words() as u64).ok_or(FrameFault::FrameTooLarge)
 }
 
-/// Writes the frame of the segments, in the plain form.
+/// Writes the frame of the segments, in the plain form, behind what stands in `out`.
 fn write_plain(out: &mut Vec<u8>, segments: &[Vec<u64>], words: u64) -> Result<(), AllocError>
-    requires none { out.old.items ≡ [] }
     requires some { 0 < length segments.now }
     requires few { length segments.now ≤ 512 }
     requires words { words ≡ sum (sizes_of (lists segments.now)) }
     requires small { words ≤ 67108864 }
-    ensures { OnOk result (IsWritten Plain (lists segments.now) out.new.items) }
+    ensures { OnOk result (IsWrittenBehind (lists segments.now) out.old.items out.new.items) }
 {
     let table = segments.len() / 2 + 1;
     out.reserve(8 * (table + words as usize))?;
@@ -136,6 +135,36 @@ fn write_packed(
         push_packed(out, segment)?;
     }
     Ok(())
+}
+
+/// Writes the bytes of the segments' frame in the plain form, as `write_frame` gives them, behind what
+/// stands in `out`.
+///
+/// Where the limits are passed, `TooManySegments` (F1) is told, or else `FrameTooLarge` (F2). At an
+/// `Err` nothing stands in `out`.
+pub fn write_behind(
+    out: &mut Vec<u8>,
+    segments: &Segments,
+    limits: Limits,
+) -> Result<(), FrameFault>
+    ensures written { OnOk result (WrittenBehind limits segments.now out.old.items out.new.items) }
+    ensures refused { IfErr result (IsRefusedFor limits segments.now) }
+    ensures nothing { IfErr result (λ fault. out.new.items ≡ []) }
+{
+    let segments = segments.lists();
+    match count_words(segments, limits) {
+        Ok(words) => {
+            if write_plain(out, segments, words).is_err() {
+                out.clear();
+                return Err(FrameFault::OutOfMemory);
+            }
+            Ok(())
+        }
+        Err(fault) => {
+            out.clear();
+            Err(fault)
+        }
+    }
 }
 
 /// Writes the bytes of the segments' frame as `write_frame` gives them, over what stands in `out`,

@@ -6,4 +6,4 @@ use Rattle.cp_frame.specs.Parts.{lists}
 use Rattle.cp_frame.proofs.write.write_plain.Given as goal
 
 abbrev pub invariant-loop-segment : goal.invariant-loop-segment
-invariant-loop-segment l = l.out.items ≡ padded_table (lists l.segments) ++ flat_map bytes_of (take l.segment-index (lists l.segments))
+invariant-loop-segment l = l.out.items ≡ (l.fn.out.items ++ padded_table (lists l.segments)) ++ flat_map bytes_of (take l.segment-index (lists l.segments))
