@@ -1,5 +1,5 @@
 -- Bodies that trees are built from.
-use Rattle.std.proofs.Common.{◌≡◌, ℕ, suc, ◌+◌, ◌*◌, ◌<◌, ◌≤◌, ◌^◌, List, length, Ok, Err, true, is_ok, refl, sym, ap, ◌∙◌, arith}
+use Rattle.std.proofs.Common.{◌≡◌, ℕ, ◌+◌, ◌*◌, ◌<◌, ◌≤◌, List, Ok, Err, true, is_ok, refl, sym, ap, ◌∙◌, arith}
 use Rattle.cp_tree.specs.Node.{Node, struct, structs, Nodes, no_nodes, node, Bodies, count, number_of, depth}
 use Rattle.cp_tree.specs.Denotes.{words_at}
 use Rattle.cp_tree.specs.Parts.{part_node, IsPart}
