@@ -1,7 +1,7 @@
 //! What the commands do, over a reader and two writers.
 
 use crate::fault::Stop;
-use cp_frame::{FrameReader, Mode, write_over};
+use cp_frame::{FrameReader, Mode, send_frame};
 use cp_lines::push_line;
 use cp_stream::{check_of, view_of};
 use cp_tree::{Limits, read_root, write_segments};
@@ -41,23 +41,22 @@ struct Progress {
     bytes: u64,
 }
 
-/// What the last message gave: it is written over by the next.
+/// The last message's line, which the next is written over, and the room that frames are made in.
 #[derive(Drop)]
 struct Last {
     line: String,
-    frame: Vec<u8>,
+    room: Vec<u8>,
 }
 
-/// Writes the frame of the segments. `frame` is the last one.
+/// Writes the frame of the segments, by way of `room`.
 fn write<W: Write>(
     alloc: Global,
     segments: &Segments,
     mode: Mode,
-    frame: &mut Vec<u8>,
+    room: &mut Vec<u8>,
     out: &mut W,
 ) -> Result<(), Stop> {
-    write_over(alloc, frame, segments, mode, Limits::standard())?;
-    Ok(out.write_all(frame)?)
+    Ok(send_frame(alloc, out, room, segments, mode, Limits::standard())??)
 }
 
 /// Writes the message's line. `line` is the last one.
@@ -74,19 +73,19 @@ fn show<W: Write>(
     Ok(out.write_all(line.as_bytes())?)
 }
 
-/// Writes the frame's tree again, in segments of at most so many words. `frame` is the last one.
+/// Writes the frame's tree again, in segments of at most so many words, by way of `room`.
 fn recut<W: Write>(
     alloc: Global,
     segments: &Segments,
     mode: Mode,
     words: u32,
-    frame: &mut Vec<u8>,
+    room: &mut Vec<u8>,
     out: &mut W,
 ) -> Result<(), Stop> {
     let limits = Limits::standard();
     let root = read_root(alloc, segments, limits)?;
     let cut = write_segments(alloc, &root, words, limits)?;
-    write(alloc, &cut, mode, frame, out)
+    write(alloc, &cut, mode, room, out)
 }
 
 impl Plan {
@@ -115,10 +114,10 @@ impl Plan {
         match self {
             Plan::Show { limits, .. } => show(alloc, segments, *limits, &mut last.line, out),
             Plan::Check { limits, .. } => Ok(check_of(segments, *limits)?),
-            Plan::Pack => write(alloc, segments, Mode::Packed, &mut last.frame, out),
-            Plan::Unpack => write(alloc, segments, Mode::Plain, &mut last.frame, out),
+            Plan::Pack => write(alloc, segments, Mode::Packed, &mut last.room, out),
+            Plan::Unpack => write(alloc, segments, Mode::Plain, &mut last.room, out),
             Plan::Recut { mode, words } => {
-                recut(alloc, segments, *mode, *words, &mut last.frame, out)
+                recut(alloc, segments, *mode, *words, &mut last.room, out)
             }
         }
     }
@@ -135,7 +134,7 @@ impl Plan {
         let mut piece = vec![in alloc; 0u8; PIECE]?;
         let mut last = Last {
             line: String::new(alloc),
-            frame: Vec::new(alloc),
+            room: Vec::new(alloc),
         };
         // A reader could go on for ever; no device gives so many pieces.
         for _ in 0..u64::MAX {

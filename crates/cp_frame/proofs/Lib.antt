@@ -29,6 +29,8 @@ pub mod Taken
 pub mod Needed
 pub mod Decoded
 pub mod Bulks
+pub mod Blocks
+pub mod Sends
 pub mod Fronts
 pub mod Parted
 pub mod Places

@@ -1,5 +1,5 @@
 -- The bytes of a word that are written, moved to their places by a table of sources.
-use Rattle.std.proofs.Common.{◌≡◌, ◌==◌, if◌then◌else◌, Bool, true, false, ◌&&◌, ◌⊎◌, T, eqb, ltb, ℕ, zero, suc, ◌+◌, ◌-◌, ◌/◌, ◌%◌, ◌<◌, ◌≤◌, List, [], ◌∷◌, ◌++◌, length, take, drop, get_or, map, replicate, refl, sym, ◌∙◌, ap, subst, inl, inr, arith, w8, eqb→eq, ltb→lt, length-append, length-take, append_assoc, eq-zero-or-pos}
+use Rattle.std.proofs.Common.{◌≡◌, ◌==◌, if◌then◌else◌, Bool, true, ◌&&◌, ◌⊎◌, T, eqb, ltb, ℕ, zero, suc, ◌+◌, ◌-◌, ◌/◌, ◌%◌, ◌<◌, ◌≤◌, List, [], ◌∷◌, ◌++◌, length, take, get_or, map, replicate, refl, sym, ◌∙◌, ap, subst, inl, inr, arith, w8, eqb→eq, ltb→lt, length-append, length-take, append_assoc, eq-zero-or-pos}
 use Rattle.std.proofs.lemmas.List.{take_at, get_or_default, get_or-take, get_or_past}
 use Rattle.std.proofs.lemmas.Simd.{swz_l, SwzOk, SwzOk-from_below}
 use lib.Lanes.{Each1}

@@ -9,7 +9,7 @@ use Rattle.std.proofs.lemmas.List.{append-nil, take-append-drop, take-append-le,
 use Rattle.std.proofs.lemmas.Bool.{cases_eq}
 use Rattle.cp_frame.specs.Framed.{AreWords, bytes_of}
 use Rattle.cp_frame.specs.Packed.{Group, sparse, zeros, raw, tag, written, IsGroup, IsSparing, IsLongest, StartsWithout, zero_bytes, spelling, words_of, Spelt}
-use Rattle.cp_frame.specs.Packing.{bytes_that_count, PutsGroup, PutsSpelt}
+use Rattle.cp_frame.specs.Packing.{PutsFront, bytes_that_count, PutsGroup, PutsSpelt}
 use Rattle.cp_frame.proofs.Opens.{test_true, test_false}
 use Rattle.cp_frame.proofs.Filling.{all-append}
 use Rattle.cp_frame.proofs.Ends.{all-take}
@@ -165,12 +165,7 @@ spelt_more g ws back b is s l e h = record {
 pub spelt_none : Spelt [] []
 spelt_none = record { groups = []; each = tt; sparing = tt; longest = tt; spells = refl; gives = refl }
 
--- What was written of words, where some are left: whatever these are packed as goes on what all are packed as.
-pub record PutsFront (old out words left : List ℕ) : Type 0 where
-  pub front : List ℕ
-  pub text : out ≡ old ++ front
-  pub goes : (b : List ℕ) → Spelt left b → Spelt words (front ++ b)
-
+-- what was written of words, where some are left
 pub front_none : (old words : List ℕ) → PutsFront old old words words
 front_none old words = record { front = []; text = sym (append-nil old); goes = λ b h. h }
 

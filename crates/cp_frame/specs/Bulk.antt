@@ -1,5 +1,5 @@
 -- Groups of the packed form taken at once. No public clause names these.
-use Rattle.std.specs.Prelude.{◌≡◌, ◌⊎◌, ℕ, ◌+◌, ◌<◌, ◌≤◌, List, [], ◌∷◌, ◌++◌, length}
+use Rattle.std.specs.Prelude.{◌≡◌, ◌⊎◌, ℕ, ◌+◌, ◌-◌, ◌<◌, ◌≤◌, List, [], ◌∷◌, ◌++◌, length, replicate}
 use Rattle.cp_words.specs.Limits.{Bounds}
 use Rattle.cp_frame.specs.declared.mode.Mode.TheVariants as modes
 use Rattle.cp_frame.specs.declared.frame.OpenFrame.{OpenFrame}
@@ -24,6 +24,13 @@ pub record TakesGroups (most : ℕ) (old : List ℕ) (run : ℕ) (left new : Lis
   pub few : next < 256
   pub within : length new ≤ most
   pub ends : length new ≡ most → next ≡ 0
+
+-- A front of the bytes was taken, and the words that it brings were put over the first of so many zeros. No run goes on.
+pub record FillsFront (most : ℕ) (left new : List ℕ) (filled : ℕ) (back : List ℕ) : Type 0 where
+  pub words : List ℕ
+  pub takes : TakesGroups most [] 0 left words 0 back
+  pub count : length words ≡ filled
+  pub puts : new ≡ words ++ replicate (most - filled) 0
 
 -- Likewise, whatever is open of a group: a front of the bytes was taken, with the words that it brings, and there are no more than there may be.
 pub record TakesWithin (limit : ℕ) (old : List ℕ) (p : Pending) (left new : List ℕ) (q : Pending) (back : List ℕ) : Type 0 where

@@ -6,6 +6,7 @@ pub mod Bulk
 pub mod Decoding
 pub mod Packing
 pub mod Frame
+pub mod Sending
 pub mod Stream
 pub mod Reader
 pub mod Runs

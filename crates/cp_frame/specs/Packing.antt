@@ -17,6 +17,12 @@ pub record PutsGroup (old new words back : List ℕ) : Type 0 where
   pub spells : new ≡ old ++ spelling group
   pub gives : words ≡ words_of group ++ back
 
+-- What was written of words, where some are left: whatever these are packed as goes on what all are packed as.
+pub record PutsFront (old out words left : List ℕ) : Type 0 where
+  pub front : List ℕ
+  pub text : out ≡ old ++ front
+  pub goes : (b : List ℕ) → Spelt left b → Spelt words (front ++ b)
+
 -- the words were written packed behind what stood there
 abbrev pub PutsSpelt : List ℕ → List ℕ → List ℕ → Type 0
 PutsSpelt old new words = (bytes : List ℕ) × Spelt words bytes × (new ≡ old ++ bytes)

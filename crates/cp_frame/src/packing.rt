@@ -5,7 +5,7 @@ ghost use Rattle.std.specs.List.{AllByRecursion};
 ghost use Rattle.std.specs.Int.{to_le_bytes, w64};
 ghost use Rattle.cp_frame.specs.Framed.{bytes_of};
 ghost use Rattle.cp_frame.specs.Packed.{Spelt, StartsWithout, zero_bytes, tag, written};
-ghost use Rattle.cp_frame.specs.Packing.{PutsGroup, PutsSpelt, bytes_that_count};
+ghost use Rattle.cp_frame.specs.Packing.{PutsFront, PutsGroup, PutsSpelt, bytes_that_count};
 ghost use Rattle.cp_frame.specs.declared.fault.FrameFault.TheVariants.{OutOfMemory};
 
 use crate::fault::FrameFault;
@@ -128,14 +128,27 @@ fn push_group<'a>(out: &mut Vec<u8>, words: &'a [u64]) -> Result<&'a [u64], Allo
     Ok(back)
 }
 
+/// Writes groups that words begin with, until no more than so many words are left, and gives these back.
+pub fn push_groups<'a>(
+    out: &mut Vec<u8>,
+    words: &'a [u64],
+    most: usize,
+) -> Result<&'a [u64], AllocError>
+    ensures front { IfOk result (λ back. PutsFront out.old.items out.new.items words.now back.now) }
+    ensures few { IfOk result (λ back. length back.now ≤ most) }
+{
+    let mut left = words;
+    'packing: while most < left.len() {
+        left = push_group(out, left)?;
+    }
+    Ok(left)
+}
+
 /// Writes words, packed as one piece.
 pub fn push_packed(out: &mut Vec<u8>, words: &[u64]) -> Result<(), AllocError>
     ensures { OnOk result (PutsSpelt out.old.items out.new.items words.now) }
 {
-    let mut left = words;
-    'packing: while !left.is_empty() {
-        left = push_group(out, left)?;
-    }
+    push_groups(out, words, 0)?;
     Ok(())
 }
 

@@ -35,7 +35,7 @@ fn words_in(segments: &[Vec<u64>], limit: u64) -> Option<u64>
 }
 
 /// Writes the segment table.
-fn push_table(out: &mut Vec<u8>, segments: &[Vec<u64>]) -> Result<(), AllocError>
+pub fn push_table(out: &mut Vec<u8>, segments: &[Vec<u64>]) -> Result<(), AllocError>
     requires some { 0 < length segments.now }
     requires few { length segments.now ≤ 512 }
     requires small { sum (sizes_of (lists segments.now)) < 2 ^ 32 }
@@ -52,7 +52,7 @@ fn push_table(out: &mut Vec<u8>, segments: &[Vec<u64>]) -> Result<(), AllocError
 }
 
 /// The words of all segments together, within the limits.
-fn count_words(segments: &[Vec<u64>], limits: Limits) -> Result<u64, FrameFault>
+pub fn count_words(segments: &[Vec<u64>], limits: Limits) -> Result<u64, FrameFault>
     ensures words { IfOk result (λ words. words ≡ sum (sizes_of (lists segments.now))) }
     ensures within { OnOk result (IsWithin limits (lists segments.now)) }
     ensures refused { IfErr result (IsRefusedFor limits (lists segments.now)) }
@@ -95,7 +95,7 @@ fn table_words(alloc: Global, segments: &[Vec<u64>]) -> Result<Vec<u64>, AllocEr
 }
 
 /// Writes the segment table, packed as one piece.
-fn push_packed_table(
+pub fn push_packed_table(
     alloc: Global,
     out: &mut Vec<u8>,
     segments: &[Vec<u64>],

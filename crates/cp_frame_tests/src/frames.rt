@@ -300,6 +300,22 @@ fn a_frame_is_written_over_another(rt: HostRuntime) -> Result<(), Fail> {
     Ok(())
 }
 
+#[test]
+fn a_frame_goes_out_to_a_writer(rt: HostRuntime) -> Result<(), Fail> {
+    let alloc = rt.alloc();
+    let limits = Limits::standard();
+    let mut room = Vec::new(alloc);
+    for mode in [Mode::Plain, Mode::Packed] {
+        let mut out: Vec<u8> = Vec::new(alloc);
+        let frames = new_reader(alloc).feed(&THREE_SEGMENTS)?;
+        assert_eq!(rt; frames.len(), 1);
+        send_frame(alloc, &mut out, &mut room, &frames[0].1, mode, limits)??;
+        let frame = write_frame(alloc, &frames[0].1, mode, limits)?;
+        assert_eq!(rt; out.as_slice(), frame.as_slice());
+    }
+    Ok(())
+}
+
 /// A reader that met want of memory has failed, and keeps nothing.
 fn expect_refused(rt: &impl Abort, reader: &mut FrameReader, fault: FrameFault) {
     assert_eq!(rt; fault, FrameFault::OutOfMemory);

@@ -1,6 +1,6 @@
 use Rattle.std.proofs.Common.{length}
-use Rattle.cp_frame.proofs.Sparing.{PutsFront}
-use Rattle.cp_frame.proofs.packing.push_packed.Given as goal
+use Rattle.cp_frame.specs.Packing.{PutsFront}
+use Rattle.cp_frame.proofs.packing.push_groups.Given as goal
 
 abbrev pub invariant-packing : goal.invariant-packing
 invariant-packing l = PutsFront l.fn.out.items l.out.items l.words l.left

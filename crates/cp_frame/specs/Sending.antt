@@ -1,0 +1,23 @@
+-- Frames that go out to a writer.
+use Rattle.std.specs.Prelude.{◌≡◌, ℕ, List, ◌++◌, Option}
+use Rattle.std.specs.Io.KnownBytes.{Appends}
+use Rattle.cp_words.specs.Limits.{Bounds}
+use Rattle.cp_frame.specs.declared.mode.Mode.{Mode}
+use Rattle.cp_frame.specs.Frame.{IsWritten, Written}
+use Rattle.cp_frame.specs.Packing.{PutsSpelt}
+
+-- The segments' frame in this form went out, behind what the writer held.
+abbrev pub SendsForm : Mode → List (List ℕ) → Option (List ℕ) → Option (List ℕ) → Type 0
+SendsForm mode S old new = (b : List ℕ) × IsWritten mode S b × Appends old new b
+
+-- what stood in the room went out, but for what stands there now
+abbrev pub Moves : Option (List ℕ) → Option (List ℕ) → List ℕ → List ℕ → Type 0
+Moves old new before after = (sent : List ℕ) × Appends old new sent × (before ≡ sent ++ after)
+
+-- the words were written packed behind what stood in the room, and of both together this went out, and that stands there now
+abbrev pub SendsSpelt : Option (List ℕ) → Option (List ℕ) → List ℕ → List ℕ → List ℕ → Type 0
+SendsSpelt old new before after words = (sent : List ℕ) × Appends old new sent × PutsSpelt before (sent ++ after) words
+
+-- what is written of these segments went out, behind what the writer held
+abbrev pub Sends : Mode → Bounds → List (List ℕ) → Option (List ℕ) → Option (List ℕ) → Type 0
+Sends mode limits S old new = (b : List ℕ) × Written mode limits S b × Appends old new b
