@@ -301,6 +301,22 @@ fn a_frame_is_written_over_another(rt: HostRuntime) -> Result<(), Fail> {
 }
 
 #[test]
+fn frames_are_written_behind_one_another(rt: HostRuntime) -> Result<(), Fail> {
+    let alloc = rt.alloc();
+    let limits = Limits::standard();
+    let mut out = Vec::new(alloc);
+    let mut both = Vec::new(alloc);
+    for bytes in [&THREE_SEGMENTS[..], &FINISH[..]] {
+        let frames = new_reader(alloc).feed(bytes)?;
+        assert_eq!(rt; frames.len(), 1);
+        write_behind(&mut out, &frames[0].1, limits)?;
+        both.extend_from_slice(bytes)?;
+        assert_eq!(rt; out.as_slice(), both.as_slice());
+    }
+    Ok(())
+}
+
+#[test]
 fn a_frame_goes_out_to_a_writer(rt: HostRuntime) -> Result<(), Fail> {
     let alloc = rt.alloc();
     let limits = Limits::standard();
