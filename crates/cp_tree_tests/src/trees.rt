@@ -139,61 +139,61 @@ fn a_pad_of_zero_bits_is_an_empty_struct(rt: HostRuntime) -> Result<(), Fail> {
     Ok(())
 }
 
+/// A struct of this pointer alone.
+fn holding(alloc: Global, tree: Tree) -> Result<Tree, AllocError> {
+    Ok(Tree::Struct(body(alloc, &[], vec![in alloc; tree]?)?))
+}
+
+/// Whether a struct of this pointer and no data, with these words behind it, holds the tree.
+fn holds(alloc: Global, pointer: &str, words: &str, tree: Tree) -> Result<bool, Fail> {
+    let whole = holding(alloc, tree)?;
+    let text = format!(in alloc; "0000000000000100 {pointer} {words}")?;
+    match read(alloc, &[text.as_str()], 64, 8_388_608)? {
+        Ok(found) => Ok(*found.tree() == whole),
+        Err(_) => Err(Fail::from("refused")),
+    }
+}
+
 #[test]
 fn lists_of_every_size(rt: HostRuntime) -> Result<(), Fail> {
     let alloc = rt.alloc();
-    let rows = [
-        ("0100000048000000", "0000000000000000", Tree::Voids(9)),
-        (
-            "0100000021000000",
-            "0a00000000000000",
-            Tree::Bits(vec![in alloc; false, true, false, true]?),
-        ),
-        (
-            "010000000a000000",
-            "ab00000000000000",
-            Tree::Bytes(vec![in alloc; 0xab]?),
-        ),
-        (
-            "0100000013000000",
-            "0102030400000000",
-            Tree::Halves(vec![in alloc; 0x0201, 0x0403]?),
-        ),
-        (
-            "010000000c000000",
-            "0102030400000000",
-            Tree::Quads(vec![in alloc; 0x0403_0201]?),
-        ),
-        (
-            "010000000d000000",
-            "0500000000000000",
-            Tree::Words(vec![in alloc; 5]?),
-        ),
-    ];
-    for (pointer, words, tree) in rows {
-        let text = format!(in alloc; "0000000000000100 {pointer} {words}")?;
-        let Ok(found) = read(alloc, &[text.as_str()], 64, 8_388_608)? else {
-            return Err(Fail::from("refused"));
-        };
-        let mut ptrs = Vec::new(alloc);
-        ptrs.push(tree)?;
-        assert!(rt;
-            *found.tree() == Tree::Struct(body(alloc, &[], ptrs)?),
-            "{pointer}"
-        );
-    }
+    let voids = Tree::Voids(9);
+    assert!(rt; holds(alloc, "0100000048000000", "0000000000000000", voids)?);
+    let bits = Tree::Bits(Vec::from_slice(alloc, &[false, true, false, true])?);
+    assert!(rt; holds(alloc, "0100000021000000", "0a00000000000000", bits)?);
+    let bytes = Tree::Bytes(Vec::from_slice(alloc, &[0xab])?);
+    assert!(rt; holds(alloc, "010000000a000000", "ab00000000000000", bytes)?);
+    let halves = Tree::Halves(Vec::from_slice(alloc, &[0x0201, 0x0403])?);
+    assert!(rt; holds(alloc, "0100000013000000", "0102030400000000", halves)?);
+    let quads = Tree::Quads(Vec::from_slice(alloc, &[0x0403_0201])?);
+    assert!(rt; holds(alloc, "010000000c000000", "0102030400000000", quads)?);
+    let words = Tree::Words(Vec::from_slice(alloc, &[5])?);
+    assert!(rt; holds(alloc, "010000000d000000", "0500000000000000", words)?);
     Ok(())
+}
+
+/// A struct of one data word and one pointer.
+fn one_each(alloc: Global, word: u64, ptr: Tree) -> Result<Body, AllocError> {
+    body(alloc, &[word], vec![in alloc; ptr]?)
+}
+
+/// A composite list of two such structs.
+fn two_structs(alloc: Global) -> Result<Tree, AllocError> {
+    let first = one_each(alloc, 7, Tree::Null)?;
+    let second = one_each(alloc, 8, Tree::Cap(2))?;
+    Ok(Tree::Structs {
+        words: 1,
+        ptrs: 1,
+        items: vec![in alloc; first, second]?,
+    })
 }
 
 #[test]
 fn lists_of_pointers_and_structs(rt: HostRuntime) -> Result<(), Fail> {
     let alloc = rt.alloc();
-    let pointers = "0000000000000100 0100000016000000 0000000000000000 0300000009000000";
-    let Ok(found) = read(alloc, &[pointers], 64, 8_388_608)? else {
-        return Err(Fail::from("refused"));
-    };
     let list = Tree::Ptrs(vec![in alloc; Tree::Null, Tree::Cap(9)]?);
-    assert!(rt; *found.tree() == Tree::Struct(body(alloc, &[], vec![in alloc; list]?)?));
+    let words = "0000000000000000 0300000009000000";
+    assert!(rt; holds(alloc, "0100000016000000", words, list)?);
 
     let structs = "0000000000000100 0100000027000000 0800000001000100 \
         0700000000000000 0000000000000000 0800000000000000 0300000002000000";
@@ -213,17 +213,22 @@ fn lists_of_pointers_and_structs(rt: HostRuntime) -> Result<(), Fail> {
     assert_eq!(rt; list.child(1).words(), [8].as_slice());
     assert_eq!(rt; list.child(1).child(0).shape(), Shape::Cap(2));
     assert_eq!(rt; list.child(2).shape(), Shape::Null);
-    let items = vec![in alloc;
-        body(alloc, &[7], vec![in alloc; Tree::Null]?)?,
-        body(alloc, &[8], vec![in alloc; Tree::Cap(2)]?)?,
-    ]?;
-    let whole = Tree::Structs {
-        words: 1,
-        ptrs: 1,
-        items,
-    };
-    assert!(rt; *list.tree(alloc)?.tree() == whole);
+    let tree = list.tree(alloc)?.into_tree();
+    assert!(rt; tree == two_structs(alloc)?);
     Ok(())
+}
+
+/// Whether the root's two children are structs of the word 5.
+fn shows_five_twice(segments: &Segments) -> Result<bool, Fail> {
+    let Ok(root) = View::root(segments, Limits::standard()) else {
+        return Err(Fail::from("refused"));
+    };
+    let five = [5];
+    Ok(
+        root.child(0).words() == five.as_slice()
+            && root.child(1).words() == five.as_slice()
+            && root.child(2).shape() == Shape::Null,
+    )
 }
 
 #[test]
@@ -236,12 +241,7 @@ fn a_shared_body_is_paid_for_each_way(rt: HostRuntime) -> Result<(), Fail> {
         Some(TreeFault::TraversalLimit(at(0, 2)))
     );
     let segments = segments(alloc, &shared)?;
-    let Ok(root) = View::root(&segments, Limits::standard()) else {
-        return Err(Fail::from("refused"));
-    };
-    assert_eq!(rt; root.child(0).words(), [5].as_slice());
-    assert_eq!(rt; root.child(1).words(), [5].as_slice());
-    assert_eq!(rt; root.child(2).shape(), Shape::Null);
+    assert!(rt; shows_five_twice(&segments)?);
     Ok(())
 }
 
@@ -345,14 +345,19 @@ const KINDS: [&str; 11] = [
     "0600000000000000",
 ];
 
+/// The message of one segment of these words.
+fn small_message(alloc: Global, first: &str, second: &str, third: &str) -> Result<Segments, Fail> {
+    let text = format!(in alloc; "{first} {second} {third}")?;
+    segments(alloc, &[text.as_str()])
+}
+
 /// All messages of one segment of three such words.
 fn small_messages(alloc: Global) -> Result<Vec<Segments>, Fail> {
     let mut all = Vec::new(alloc);
     for first in KINDS {
         for second in KINDS {
             for third in KINDS {
-                let text = format!(in alloc; "{first} {second} {third}")?;
-                all.push(segments(alloc, &[text.as_str()])?)?;
+                all.push(small_message(alloc, first, second, third)?)?;
             }
         }
     }
@@ -372,6 +377,25 @@ fn trees_of(alloc: Global, messages: &[Segments]) -> Result<Vec<Object>, AllocEr
     Ok(trees)
 }
 
+/// Whether the message denotes, of these trees, just the one that is read, if any.
+fn denotes_what_is_found(
+    alloc: Global,
+    message: &Segments,
+    trees: &[Object],
+) -> Result<bool, AllocError> {
+    let found = read_root(alloc, message, Limits::standard()).ok();
+    for tree in trees {
+        let is_found = match &found {
+            Some(found) => *found.tree() == *tree.tree(),
+            None => false,
+        };
+        if root_denotes(alloc, message, tree.tree())? != is_found {
+            return Ok(false);
+        }
+    }
+    Ok(true)
+}
+
 #[test]
 fn the_reader_finds_what_is_denoted(rt: HostRuntime) -> Result<(), Fail> {
     let alloc = rt.alloc();
@@ -379,14 +403,7 @@ fn the_reader_finds_what_is_denoted(rt: HostRuntime) -> Result<(), Fail> {
     let trees = trees_of(alloc, &messages)?;
     assert!(rt; trees.len() > 20);
     for message in &messages {
-        let found = read_root(alloc, message, Limits::standard());
-        for tree in &trees {
-            let is_found = match &found {
-                Ok(found) => *found.tree() == *tree.tree(),
-                Err(_) => false,
-            };
-            assert_eq!(rt; root_denotes(alloc, message, tree.tree())?, is_found);
-        }
+        assert!(rt; denotes_what_is_found(alloc, message, &trees)?);
     }
     Ok(())
 }

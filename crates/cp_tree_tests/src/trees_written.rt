@@ -7,6 +7,7 @@ ghost use Rattle.cp_tree.specs.DraftOf.{draft_of, draft_body_of};
 ghost use Rattle.cp_tree.specs.Shaped.{Shaped};
 
 use cp_tree::*;
+use cp_words::Segments;
 use std::alloc::{AllocError, Global};
 use std::test::Fail;
 
@@ -62,32 +63,38 @@ fn are(lists: &[Vec<u64>], wanted: &[&str]) -> bool {
     true
 }
 
-/// Whether the tree is written so, with at most so many words in a segment, and its segments are
-/// read as the tree and written back in one segment, as `write_root` writes it.
-fn writes(alloc: Global, tree: Tree, max_words: u32, wanted: &[&str]) -> Result<bool, Fail> {
+/// Whether the second tree is written in one segment, as `write_root` writes the first.
+fn is_written_in_one(alloc: Global, first: &Object, second: &Object) -> Result<bool, Fail> {
     let limits = Limits::standard();
+    let Ok(words) = write_root(alloc, first, limits) else {
+        return Err(Fail::from("not written"));
+    };
+    match write_segments(alloc, second, 8_388_608, limits) {
+        Ok(one) => Ok(one.lists().len() == 1 && one.lists()[0] == words),
+        Err(_) => Err(Fail::from("not written")),
+    }
+}
+
+/// Whether these segments are read as the tree, and written back in one segment, as `write_root`
+/// writes it.
+fn are_read_back(alloc: Global, segments: &Segments, object: &Object) -> Result<bool, Fail> {
+    match read_root(alloc, segments, Limits::standard()) {
+        Ok(back) => Ok(*back.tree() == *object.tree() && is_written_in_one(alloc, object, &back)?),
+        Err(_) => Err(Fail::from("not read")),
+    }
+}
+
+/// Whether the tree is written so, with at most so many words in a segment, and its segments are
+/// read back.
+fn writes(alloc: Global, tree: Tree, max_words: u32, wanted: &[&str]) -> Result<bool, Fail> {
     let object = object(tree)?;
-    let segments = match write_segments(alloc, &object, max_words, limits) {
-        Ok(segments) => segments,
-        Err(WriteFault::OutOfMemory) => return Err(Fail::from(AllocError)),
-        Err(_) => return Ok(false),
-    };
-    let Ok(back) = read_root(alloc, &segments, limits) else {
-        return Err(Fail::from("not read"));
-    };
-    let Ok(first) = write_root(alloc, &object, limits) else {
-        return Err(Fail::from("not written"));
-    };
-    let Ok(again) = write_segments(alloc, &back, 8_388_608, limits) else {
-        return Err(Fail::from("not written"));
-    };
-    let one = again.lists();
-    Ok(
-        are(segments.lists(), wanted)
-            && *back.tree() == *object.tree()
-            && one.len() == 1
-            && one[0] == first,
-    )
+    match write_segments(alloc, &object, max_words, Limits::standard()) {
+        Ok(segments) => {
+            Ok(are(segments.lists(), wanted) && are_read_back(alloc, &segments, &object)?)
+        }
+        Err(WriteFault::OutOfMemory) => Err(Fail::from(AllocError)),
+        Err(_) => Ok(false),
+    }
 }
 
 #[test]
@@ -162,6 +169,14 @@ fn all_kinds(alloc: Global) -> Result<Tree, AllocError> {
         structs,
     ]?;
     Ok(Tree::Struct(body(alloc, &[4], ptrs)?))
+}
+
+/// An object with each kind of tree. A growth that is refused once is asked for again.
+fn object_of_all_kinds(alloc: Global) -> Result<Object, Fail> {
+    object(match all_kinds(alloc) {
+        Ok(tree) => tree,
+        Err(_) => all_kinds(alloc)?,
+    })
 }
 
 #[test]
@@ -243,17 +258,34 @@ fn writes_as_its_copy(
     Ok(written.lists() == wanted.lists() && *back.tree() == *copy.tree())
 }
 
+/// The same in segments of one word, of seven, and in one segment.
+fn writes_as_its_copies(alloc: Global, draft: &Draft, copy: &Object) -> Result<bool, Fail>
+    requires { Shaped (draft_of draft.now) }
+{
+    Ok(
+        writes_as_its_copy(alloc, draft, copy, 0)?
+            && writes_as_its_copy(alloc, draft, copy, 7)?
+            && writes_as_its_copy(alloc, draft, copy, 8_388_608)?,
+    )
+}
+
+/// The draft's copy, which is a struct.
+fn copy_of(alloc: Global, draft: &Draft) -> Result<Object, Fail>
+    requires { Shaped (draft_of draft.now) }
+{
+    match draft.copy(alloc)?.into_object() {
+        Ok(copy) => Ok(copy),
+        Err(_) => Err(Fail::from("no struct")),
+    }
+}
+
 #[test]
 fn a_tree_with_lent_parts_is_written_as_its_copy(rt: HostRuntime) -> Result<(), Fail> {
     let alloc = rt.alloc();
-    let lent = object(all_kinds(alloc)?)?;
+    let lent = object_of_all_kinds(alloc)?;
     let draft = drafted(alloc, lent.tree())?;
-    let Ok(copy) = draft.copy(alloc)?.into_object() else {
-        return Err(Fail::from("no struct"));
-    };
-    assert!(rt; writes_as_its_copy(alloc, &draft, &copy, 0)?);
-    assert!(rt; writes_as_its_copy(alloc, &draft, &copy, 7)?);
-    assert!(rt; writes_as_its_copy(alloc, &draft, &copy, 8_388_608)?);
+    let copy = copy_of(alloc, &draft)?;
+    assert!(rt; writes_as_its_copies(alloc, &draft, &copy)?);
     Ok(())
 }
 
@@ -284,14 +316,6 @@ fn cost_has_a_limit(rt: HostRuntime) -> Result<(), Fail> {
     assert!(rt; write_root(alloc, &object, within).is_ok());
     assert!(rt; write_root(alloc, &object, past).err() == Some(WriteFault::TooCostly));
     Ok(())
-}
-
-/// An object with each kind of tree. A growth that is refused once is asked for again.
-fn object_of_all_kinds(alloc: Global) -> Result<Object, Fail> {
-    object(match all_kinds(alloc) {
-        Ok(tree) => tree,
-        Err(_) => all_kinds(alloc)?,
-    })
 }
 
 // With memory enough no growth is refused. `rt try --test --fail-alloc N` refuses the Nth of each
@@ -330,24 +354,29 @@ fn want_of_memory_while_one_segment_is_written(rt: HostRuntime) -> Result<(), Fa
     Ok(())
 }
 
-/// Whether the draft is copied and written twice as the same, or once that memory ran out.
-fn writes_again(alloc: Global, draft: &Draft) -> Result<bool, Fail>
+/// Whether the draft is copied twice as the same, or once that memory ran out.
+fn copies_again(alloc: Global, draft: &Draft) -> bool
     requires { Shaped (draft_of draft.now) }
 {
-    let copied = match (draft.copy(alloc), draft.copy(alloc)) {
+    match (draft.copy(alloc), draft.copy(alloc)) {
         (Ok(first), Ok(second)) => first.tree() == second.tree(),
         (Err(_), Ok(_)) | (Ok(_), Err(_)) => true,
         (Err(_), Err(_)) => false,
-    };
+    }
+}
+
+/// Whether the draft is written twice as the same, or once that memory ran out.
+fn writes_again(alloc: Global, draft: &Draft) -> bool
+    requires { Shaped (draft_of draft.now) }
+{
     let limits = Limits::standard();
     let first = write_draft(alloc, draft, 7, limits);
     let second = write_draft(alloc, draft, 7, limits);
-    let written = match (&first, &second) {
+    match (&first, &second) {
         (Ok(first), Ok(second)) => first.lists() == second.lists(),
         (Err(fault), Ok(_)) | (Ok(_), Err(fault)) => *fault == WriteFault::OutOfMemory,
         (Err(_), Err(_)) => false,
-    };
-    Ok(copied && written)
+    }
 }
 
 #[test]
@@ -355,7 +384,8 @@ fn want_of_memory_while_a_draft_is_written(rt: HostRuntime) -> Result<(), Fail> 
     let alloc = rt.alloc();
     let lent = object_of_all_kinds(alloc)?;
     if let Ok(draft) = drafted(alloc, lent.tree()) {
-        assert!(rt; writes_again(alloc, &draft)?);
+        assert!(rt; copies_again(alloc, &draft));
+        assert!(rt; writes_again(alloc, &draft));
     }
     Ok(())
 }

@@ -34,17 +34,31 @@ fn whole(alloc: Global, second: &[u64]) -> Result<Tree, AllocError> {
     Ok(Tree::Struct(body(alloc, &[4], ptrs)?))
 }
 
+/// That struct, held. A growth that is refused once is asked for again.
+fn object(alloc: Global) -> Result<Object, Fail> {
+    let tree = match whole(alloc, &[8]) {
+        Ok(tree) => tree,
+        Err(_) => whole(alloc, &[8])?,
+    };
+    Object::new(tree).map_err(|_| Fail::from("refused"))
+}
+
+/// That list, held. A growth that is refused once is asked for again.
+fn list(alloc: Global) -> Result<Whole, Fail> {
+    let list = match structs(alloc, &[8]) {
+        Ok(list) => list,
+        Err(_) => structs(alloc, &[8])?,
+    };
+    Whole::new(list).map_err(|_| Fail::from("refused"))
+}
+
 #[test]
 fn what_a_message_can_hold_is_held(rt: HostRuntime) -> Result<(), Fail> {
     let alloc = rt.alloc();
-    let Ok(object) = Object::new(whole(alloc, &[8])?) else {
-        return Err(Fail::from("refused"));
-    };
-    assert!(rt; object.into_tree() == whole(alloc, &[8])?);
-    let Ok(list) = Whole::new(structs(alloc, &[8])?) else {
-        return Err(Fail::from("refused"));
-    };
-    assert!(rt; list.into_tree() == structs(alloc, &[8])?);
+    let tree = object(alloc)?.into_tree();
+    assert!(rt; tree == whole(alloc, &[8])?);
+    let tree = list(alloc)?.into_tree();
+    assert!(rt; tree == structs(alloc, &[8])?);
     Ok(())
 }
 
@@ -73,15 +87,10 @@ fn what_is_no_struct_or_too_long_is_handed_back(rt: HostRuntime) -> Result<(), F
 #[test]
 fn copies_are_equal(rt: HostRuntime) -> Result<(), Fail> {
     let alloc = rt.alloc();
-    let tree = whole(alloc, &[8])?;
-    let Ok(object) = Object::new(whole(alloc, &[8])?) else {
-        return Err(Fail::from("refused"));
-    };
-    let Ok(list) = Whole::new(structs(alloc, &[8])?) else {
-        return Err(Fail::from("refused"));
-    };
-    assert!(rt; *object.copy(alloc)?.tree() == tree);
-    assert!(rt; *list.copy(alloc)?.tree() == structs(alloc, &[8])?);
+    let copy = object(alloc)?.copy(alloc)?;
+    assert!(rt; *copy.tree() == whole(alloc, &[8])?);
+    let copy = list(alloc)?.copy(alloc)?;
+    assert!(rt; *copy.tree() == structs(alloc, &[8])?);
     Ok(())
 }
 
@@ -98,19 +107,27 @@ fn depth_and_cost_are_counted(rt: HostRuntime) -> Result<(), Fail> {
     Ok(())
 }
 
-/// An object and a list. A growth that is refused once is asked for again.
-fn held(alloc: Global) -> Result<(Object, Whole), Fail> {
-    let tree = match whole(alloc, &[8]) {
-        Ok(tree) => tree,
-        Err(_) => whole(alloc, &[8])?,
-    };
-    let list = match structs(alloc, &[8]) {
-        Ok(list) => list,
-        Err(_) => structs(alloc, &[8])?,
-    };
-    match (Object::new(tree), Whole::new(list)) {
-        (Ok(object), Ok(list)) => Ok((object, list)),
-        _ => Err(Fail::from("refused")),
+/// Whether copying a tree twice gives it each time, or once that memory ran out.
+fn copies_again(alloc: Global, source: &Whole) -> bool {
+    match (source.copy(alloc), source.copy(alloc)) {
+        (Ok(copy), _) | (Err(_), Ok(copy)) => copy.tree() == source.tree(),
+        (Err(_), Err(_)) => false,
+    }
+}
+
+/// The same of a struct.
+fn object_copies_again(alloc: Global, source: &Object) -> bool {
+    match (source.copy(alloc), source.copy(alloc)) {
+        (Ok(copy), _) | (Err(_), Ok(copy)) => copy.tree() == source.tree(),
+        (Err(_), Err(_)) => false,
+    }
+}
+
+/// The same of a struct's first child, which is that list.
+fn child_copies_again(alloc: Global, source: &Object, list: &Whole) -> bool {
+    match (source.child(alloc, 0), source.child(alloc, 0)) {
+        (Ok(child), _) | (Err(_), Ok(child)) => child.tree() == list.tree(),
+        (Err(_), Err(_)) => false,
     }
 }
 
@@ -118,23 +135,11 @@ fn held(alloc: Global) -> Result<(Object, Whole), Fail> {
 #[test]
 fn want_of_memory_while_trees_are_copied(rt: HostRuntime) -> Result<(), Fail> {
     let alloc = rt.alloc();
-    let (object, list) = held(alloc)?;
-    let right = match (object.copy(alloc), object.copy(alloc)) {
-        (Ok(copy), _) | (Err(_), Ok(copy)) => copy.tree() == object.tree(),
-        (Err(_), Err(_)) => false,
-    };
-    assert!(rt; right);
-    for source in [&list, &Whole::null()] {
-        let right = match (source.copy(alloc), source.copy(alloc)) {
-            (Ok(copy), _) | (Err(_), Ok(copy)) => copy.tree() == source.tree(),
-            (Err(_), Err(_)) => false,
-        };
-        assert!(rt; right);
-    }
-    let right = match (object.child(alloc, 0), object.child(alloc, 0)) {
-        (Ok(child), _) | (Err(_), Ok(child)) => child.tree() == list.tree(),
-        (Err(_), Err(_)) => false,
-    };
-    assert!(rt; right);
+    let object = object(alloc)?;
+    let list = list(alloc)?;
+    assert!(rt; object_copies_again(alloc, &object));
+    assert!(rt; copies_again(alloc, &list));
+    assert!(rt; copies_again(alloc, &Whole::null()));
+    assert!(rt; child_copies_again(alloc, &object, &list));
     Ok(())
 }
