@@ -44,6 +44,3 @@ pub use source::{Look, Source};
 pub use target::{Target, TargetView};
 pub use text::{Text, TextView};
 pub use write::{draft_of, tree_of};
-
-#[cfg(test)]
-mod tests;

@@ -45,6 +45,3 @@ pub fn tree_of(alloc: Global, message: &Message) -> Result<Object, WriteFault>
         Err(_) => unreachable!(),
     }
 }
-
-#[cfg(test)]
-mod tests;

@@ -1,6 +1,8 @@
 //! Messages from outside, viewed and owned. `cp_cli` has a row for each field, member and number.
 
-use super::*;
+use cp_rpc::{
+    Field, Message, OtherWhich, Past, SchemaFault, check_message, message_of, message_view,
+};
 use cp_tree::{Limits, View};
 use cp_words::Segments;
 use std::alloc::Global;

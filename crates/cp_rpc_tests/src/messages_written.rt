@@ -1,6 +1,6 @@
 //! Messages written: what a tree of the table's sizes says is written as that very tree.
 
-use crate::{Field, Message, SchemaFault, message_of, tree_of};
+use cp_rpc::{Field, Message, SchemaFault, message_of, tree_of};
 use cp_tree::{Limits, Object, WriteFault, write_root};
 use cp_words::Segments;
 use std::alloc::Global;
@@ -491,16 +491,21 @@ fn roots_of_all_parts(alloc: Global) -> Result<Vec<Object>, Fail> {
     Ok(roots)
 }
 
+/// Why a root says no message, if it says none.
+fn fault_of(alloc: Global, root: &Object) -> Option<SchemaFault> {
+    message_of(alloc, root).err()
+}
+
 // With memory enough no growth is refused. `rt try --test --fail-alloc N` refuses the Nth of each
 // of the three tests below.
 #[test]
 fn want_of_memory_while_messages_are_read(rt: HostRuntime) -> Result<(), Fail> {
     let alloc = rt.alloc();
     for root in &roots_of_all_parts(alloc)? {
-        let right = match (message_of(alloc, root), message_of(alloc, root)) {
-            (Ok(_), Ok(_)) => true,
-            (Err(fault), Ok(_)) | (Ok(_), Err(fault)) => fault == SchemaFault::OutOfMemory,
-            (Err(_), Err(_)) => false,
+        let right = match (fault_of(alloc, root), fault_of(alloc, root)) {
+            (None, None) => true,
+            (Some(fault), None) | (None, Some(fault)) => fault == SchemaFault::OutOfMemory,
+            (Some(_), Some(_)) => false,
         };
         assert!(rt; right);
     }
@@ -509,10 +514,16 @@ fn want_of_memory_while_messages_are_read(rt: HostRuntime) -> Result<(), Fail> {
 
 /// The message of a root, which is asked for again where memory ran out.
 fn message(alloc: Global, root: &Object) -> Result<Message, Fail> {
-    match (message_of(alloc, root), message_of(alloc, root)) {
-        (Ok(message), _) | (Err(_), Ok(message)) => Ok(message),
-        (Err(_), Err(_)) => Err(Fail::from("no message")),
+    let first = message_of(alloc, root);
+    match message_of(alloc, root) {
+        Ok(message) => Ok(message),
+        Err(_) => first.map_err(|_| Fail::from("no message")),
     }
+}
+
+/// Whether a message is made as this root.
+fn is_made_as(alloc: Global, message: &Message, root: &Object) -> Result<bool, WriteFault> {
+    Ok(tree_of(alloc, message)?.tree() == root.tree())
 }
 
 #[test]
@@ -520,10 +531,11 @@ fn want_of_memory_while_trees_are_made(rt: HostRuntime) -> Result<(), Fail> {
     let alloc = rt.alloc();
     for root in &roots_of_all_parts(alloc)? {
         let message = message(alloc, root)?;
-        let right = match (tree_of(alloc, &message), tree_of(alloc, &message)) {
-            (Ok(first), Ok(second)) => first.tree() == root.tree() && second.tree() == root.tree(),
-            (Err(fault), Ok(tree)) | (Ok(tree), Err(fault)) => {
-                fault == WriteFault::OutOfMemory && tree.tree() == root.tree()
+        let first = is_made_as(alloc, &message, root);
+        let right = match (first, is_made_as(alloc, &message, root)) {
+            (Ok(first), Ok(second)) => first && second,
+            (Err(fault), Ok(right)) | (Ok(right), Err(fault)) => {
+                right && fault == WriteFault::OutOfMemory
             }
             (Err(_), Err(_)) => false,
         };
@@ -532,17 +544,23 @@ fn want_of_memory_while_trees_are_made(rt: HostRuntime) -> Result<(), Fail> {
     Ok(())
 }
 
+/// A message's copy, which is asked for again where memory ran out.
+fn copy_of(alloc: Global, message: &Message) -> Result<Message, Fail> {
+    let first = message.copy(alloc);
+    match message.copy(alloc) {
+        Ok(copy) => Ok(copy),
+        Err(_) => first.map_err(|_| Fail::from("no copy")),
+    }
+}
+
 #[test]
 fn want_of_memory_while_messages_are_copied(rt: HostRuntime) -> Result<(), Fail> {
     let alloc = rt.alloc();
     for root in &roots_of_all_parts(alloc)? {
-        let message = message(alloc, root)?;
-        let copy = match (message.copy(alloc), message.copy(alloc)) {
-            (Ok(copy), _) | (Err(_), Ok(copy)) => copy,
-            (Err(_), Err(_)) => return Err(Fail::from("no copy")),
-        };
-        let right = match (tree_of(alloc, &copy), tree_of(alloc, &copy)) {
-            (Ok(tree), _) | (Err(_), Ok(tree)) => tree.tree() == root.tree(),
+        let copy = copy_of(alloc, &message(alloc, root)?)?;
+        let first = is_made_as(alloc, &copy, root);
+        let right = match (first, is_made_as(alloc, &copy, root)) {
+            (Ok(right), _) | (Err(_), Ok(right)) => right,
             (Err(_), Err(_)) => false,
         };
         assert!(rt; right);
