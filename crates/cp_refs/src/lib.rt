@@ -18,6 +18,3 @@ pub use outcome::{Outcome, at};
 pub use route::{Gate, Route};
 pub use values::{Question, QuestionKind, Values};
 pub use waiting::Waiting;
-
-#[cfg(test)]
-mod tests;

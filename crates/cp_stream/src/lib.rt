@@ -20,8 +20,3 @@ pub use reader::MessageReader;
 pub use tap::Tap;
 pub use view::{check_of, view_of};
 pub use write::{write_message, write_message_in};
-
-#[cfg(test)]
-mod tests;
-#[cfg(test)]
-mod write_tests;

@@ -1,8 +1,8 @@
 //! Messages of streams from outside, whole and in pieces.
 
-use super::*;
 use cp_frame::FrameFault;
 use cp_rpc::{Field, Message, SchemaFault};
+use cp_stream::*;
 use cp_tree::{Place, TreeFault, WriteFault};
 use std::alloc::Global;
 use std::io::{Read, Write};

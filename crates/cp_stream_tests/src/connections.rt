@@ -1,10 +1,10 @@
 //! Messages of a connection, read and written back, and devices that fail on the way.
 
-use super::*;
-use crate::tests::{
+use crate::streams::{
     FINISH, PACKED, Source, TWO_SEGMENTS, at, expect_failed, is_memory, read, tap_of,
 };
 use cp_rpc::{Message, Op, Returned, Target};
+use cp_stream::*;
 use cp_tree::WriteFault;
 use std::alloc::Global;
 use std::io::Write;

@@ -1,6 +1,6 @@
 use Rattle.std.proofs.Common.{refl}
 use Rattle.cp_refs.proofs.Walks.{promise_routes}
-use Rattle.cp_refs.proofs.tests.route_by_promises.Goals as goal
+use Rattle.cp_refs_tests.proofs.routes.route_by_promises.Goals as goal
 
 pub route-requires : goal.route-requires
 route-requires c =

@@ -1,0 +1,7 @@
+//! Tests of cp_stream, over its library.
+#![tactic(auto)]
+
+#[cfg(test)]
+mod connections;
+#[cfg(test)]
+mod streams;
