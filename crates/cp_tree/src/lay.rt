@@ -11,31 +11,12 @@ ghost use Rattle.cp_tree.specs.Writing.{body_blank, bodies_blank, tag_word, stru
 
 use crate::aim::Kind;
 use crate::fault::{Place, WriteFault};
+use crate::lay_list::{
+    lay_bits, lay_bytes, lay_halves, lay_quads, lay_voids, lay_words, place_list,
+};
 use crate::sheet::{Room, Sheet};
 use crate::tree::{Body, Tree};
 use cp_words::{ElementSize, Pointer, encode};
-
-/// Lays out a list's body, and gives where its elements are to be written.
-fn place_list(
-    sheet: &mut Sheet,
-    room: Room,
-    at: Place,
-    size: ElementSize,
-    count: usize,
-    words: usize,
-) -> Result<Place, WriteFault>
-    requires keeps { KeepsTo room (written sheet.old) }
-    requires there { IsPlace (written sheet.old) at }
-    requires few { count < 2 ^ 29 }
-    requires sized { words < 2 ^ 60 }
-    ensures { Places room result (place_by room at.segment at.word (kinds.List size count) words (written sheet.old)) (written sheet.new) }
-{
-    let kind = Kind::List {
-        size,
-        count: count as u32,
-    };
-    sheet.place(room, at, kind, words)
-}
 
 /// A struct's data words, and blank words for its pointers.
 #[inline(always)]
@@ -181,80 +162,33 @@ pub(crate) fn lay(sheet: &mut Sheet, room: Room, at: Place, tree: &Tree) -> Resu
     ensures { Writes room result (tree_by room at.segment at.word (node_of tree.now) (written sheet.old)) (written sheet.new) }
 {
     match tree {
-        Tree::Null => sheet.put(at, 0),
-        Tree::Cap(index) => sheet.put(at, encode(Pointer::Cap(*index))),
+        Tree::Null => {
+            sheet.put(at, 0);
+            Ok(())
+        }
+        Tree::Cap(index) => {
+            sheet.put(at, encode(Pointer::Cap(*index)));
+            Ok(())
+        }
         Tree::Struct(body) => {
             let first = begin_struct(sheet, room, at, &body.words, body.ptrs.len())?;
-            return lay_row(sheet, room, first, &body.ptrs);
+            lay_row(sheet, room, first, &body.ptrs)
         }
-        Tree::Voids(count) => {
-            place_list(sheet, room, at, ElementSize::Void, *count as usize, 0)?;
-        }
-        Tree::Bits(items) => {
-            place_list(
-                sheet,
-                room,
-                at,
-                ElementSize::Bit,
-                items.len(),
-                (items.len() + 63) / 64,
-            )?;
-            sheet.append_bits(room, items)?;
-        }
-        Tree::Bytes(items) => {
-            place_list(
-                sheet,
-                room,
-                at,
-                ElementSize::Byte,
-                items.len(),
-                (items.len() + 7) / 8,
-            )?;
-            sheet.append_bytes(room, items)?;
-        }
-        Tree::Halves(items) => {
-            place_list(
-                sheet,
-                room,
-                at,
-                ElementSize::TwoBytes,
-                items.len(),
-                (items.len() + 3) / 4,
-            )?;
-            sheet.append_halves(room, items)?;
-        }
-        Tree::Quads(items) => {
-            place_list(
-                sheet,
-                room,
-                at,
-                ElementSize::FourBytes,
-                items.len(),
-                (items.len() + 1) / 2,
-            )?;
-            sheet.append_quads(room, items)?;
-        }
-        Tree::Words(items) => {
-            place_list(
-                sheet,
-                room,
-                at,
-                ElementSize::EightBytes,
-                items.len(),
-                items.len(),
-            )?;
-            sheet.append(room, items)?;
-        }
+        Tree::Voids(count) => lay_voids(sheet, room, at, *count),
+        Tree::Bits(items) => lay_bits(sheet, room, at, items),
+        Tree::Bytes(items) => lay_bytes(sheet, room, at, items),
+        Tree::Halves(items) => lay_halves(sheet, room, at, items),
+        Tree::Quads(items) => lay_quads(sheet, room, at, items),
+        Tree::Words(items) => lay_words(sheet, room, at, items),
         Tree::Ptrs(items) => {
             let first = begin_ptrs(sheet, room, at, items.len())?;
-            return lay_row(sheet, room, first, items);
+            lay_row(sheet, room, first, items)
         }
         Tree::Structs { words, ptrs, items } => {
             let first = begin_structs(sheet, room, at, *words, *ptrs, items)?;
-            return lay_bodies(sheet, room, first, *words, *ptrs, items);
+            lay_bodies(sheet, room, first, *words, *ptrs, items)
         }
     }
-    Ok(())
 }
 
 /// Lays out the trees whose pointers stand from a place on.

@@ -13,6 +13,7 @@ mod draft_lay;
 mod fault;
 mod laws;
 mod lay;
+mod lay_list;
 mod measure;
 mod near;
 mod pack;

@@ -41,8 +41,8 @@ lay-lay_row-requires t c =
     let many = count_in node_of b.ptrs.items ∙ sym b.ptrs.ok.0 ∙ sym c.len.ensures in
     (omega (arith, c.decreases, ap depth is, ap (λ xs. greatest_depth (nodes_of (map node_of xs))) value), (begun.0, ((begun.1.0, rw value (omega (arith, begun.1.1, many))), rw value shaped.2)))
 
-pub lay-returns-in-Struct : goal.lay-returns-in-Struct
-lay-returns-in-Struct t c =
+pub lay-returns-in_ok-first-in-Struct : goal.lay-returns-in_ok-first-in-Struct
+lay-returns-in_ok-first-in-Struct t c =
     let b = c.in-Struct.body in
     let ts = nodes_of (map node_of c.deref-in-Struct.result.now) in
     let value = ap (λ xs. nodes_of (map node_of xs)) c.deref-in-Struct.ensures.value in
@@ -73,8 +73,8 @@ lay-lay_row-requires-in-Ptrs t c =
     let many = count_in node_of v.items ∙ sym v.ok.0 ∙ sym c.len-in-Ptrs.ensures in
     (omega (arith, c.decreases, ap depth is, ap (λ xs. greatest_depth (nodes_of (map node_of xs))) value), (begun.0, ((begun.1.0, rw value (omega (arith, begun.1.1, many))), rw value shaped.1)))
 
-pub lay-returns-in-Ptrs : goal.lay-returns-in-Ptrs
-lay-returns-in-Ptrs t c =
+pub lay-returns-in_ok-first-in-Ptrs : goal.lay-returns-in_ok-first-in-Ptrs
+lay-returns-in_ok-first-in-Ptrs t c =
     let v = c.in-Ptrs.items in
     let ts = nodes_of (map node_of c.deref-in-Ptrs.result.now) in
     let value = ap (λ xs. nodes_of (map node_of xs)) c.deref-in-Ptrs.ensures.value in
