@@ -38,3 +38,4 @@ pub mod BoundedTrees
 pub mod AnyWidth
 pub mod LaidOut
 pub mod Drafts
+pub mod Lists

@@ -1,18 +1,17 @@
 //! Whether a word denotes a given tree, told part by part: slow, for comparing with the reader.
 
-ghost use Rattle.std.specs.Prelude.{◌≡◌, ◌<◌, ◌≤◌, ◌+◌, ◌*◌, ◌^◌, ℕ, List, length, map, Some, is_some, IfOk, IfSome, IsTrue, Decides};
+ghost use Rattle.std.specs.Prelude.{◌≡◌, ◌<◌, ◌≤◌, ◌+◌, ◌*◌, ◌^◌, ℕ, List, length, map, Some, IfOk, IfSome, Decides};
 ghost use Rattle.cp_tree.specs.Aims.{segment, Locates};
 ghost use Rattle.cp_tree.specs.Denotes.{Denotes, EachDenotes, EachBody};
-ghost use Rattle.cp_tree.specs.Fills.{form_of, Fills, IsListIn, IsBodyAt};
+ghost use Rattle.cp_tree.specs.Fills.{form_of, Fills, IsBodyAt};
 ghost use Rattle.cp_tree.specs.NodeOf.{node_of, body_of, nodes_of, bodies_of, words_of};
-ghost use Rattle.cp_tree.specs.Reading.{body_words, lent_words, IsWhole, IsWithin};
+ghost use Rattle.cp_tree.specs.Reading.{body_words, IsWhole, IsWithin};
 ghost use Rattle.cp_tree.specs.declared.area.Form.{Form};
-ghost use Rattle.cp_tree.specs.declared.area.Form.TheVariants as forms;
 
 use crate::aim::{aim_of, pointer_at, segment_at};
 use crate::area::{Area, Form, area_of};
+use crate::decide_list::{list_count, list_holds};
 use crate::fault::Place;
-use crate::read::{bits_of, bytes_of, halves_of, quads_of, words_of};
 use crate::tree::{Body, Tree};
 use crate::view::words_at;
 use cp_words::{ElementSize, Pointer, Segments};
@@ -34,51 +33,6 @@ fn body_found(lists: &[Vec<u64>], at: Place) -> Option<Area>
         return None;
     };
     Some(area)
-}
-
-/// How many elements a list has, if a body's form is such a list.
-fn list_count(form: Form, size: ElementSize, count: usize) -> Option<u32>
-    ensures same { IfSome result (λ n. (n ≡ count) × (form ≡ forms.List size count)) }
-    ensures other { form ≡ forms.List size count → IsTrue (is_some result) }
-{
-    match form {
-        Form::List {
-            size: found,
-            count: number,
-        } if found == size && number as usize == count => Some(number),
-        _ => None,
-    }
-}
-
-/// Whether the words of a body are those of a list without pointers.
-fn list_holds(alloc: Global, form: Form, words: &[u64], tree: &Tree) -> Result<bool, AllocError>
-    requires { length words.now ≡ lent_words form }
-    ensures { IfOk result (λ b. Decides b (IsListIn form words.now (node_of tree.now))) }
-{
-    Ok(match tree {
-        Tree::Voids(count) => list_count(form, ElementSize::Void, *count as usize).is_some(),
-        Tree::Bits(items) => match list_count(form, ElementSize::Bit, items.len()) {
-            Some(count) => bits_of(alloc, words, count)?.as_slice() == items.as_slice(),
-            None => false,
-        },
-        Tree::Bytes(items) => match list_count(form, ElementSize::Byte, items.len()) {
-            Some(count) => bytes_of(alloc, words, count)?.as_slice() == items.as_slice(),
-            None => false,
-        },
-        Tree::Halves(items) => match list_count(form, ElementSize::TwoBytes, items.len()) {
-            Some(count) => halves_of(alloc, words, count)?.as_slice() == items.as_slice(),
-            None => false,
-        },
-        Tree::Quads(items) => match list_count(form, ElementSize::FourBytes, items.len()) {
-            Some(count) => quads_of(alloc, words, count)?.as_slice() == items.as_slice(),
-            None => false,
-        },
-        Tree::Words(items) => match list_count(form, ElementSize::EightBytes, items.len()) {
-            Some(count) => words_of(alloc, words, count)?.as_slice() == items.as_slice(),
-            None => false,
-        },
-        _ => false,
-    })
 }
 
 /// Whether a pointer word denotes the tree.

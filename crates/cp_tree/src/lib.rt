@@ -7,6 +7,7 @@ mod area;
 mod check;
 mod copy;
 mod decide;
+mod decide_list;
 mod draft;
 mod draft_copy;
 mod draft_lay;

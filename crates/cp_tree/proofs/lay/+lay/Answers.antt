@@ -9,7 +9,8 @@ use Rattle.cp_words.specs.declared.pointer.Pointer.TheVariants as pointers
 use Rattle.cp_words.specs.Word.{word_of}
 use Rattle.cp_tree.specs.NodeOf.{node_of, body_of, nodes_of, bodies_of}
 use Rattle.cp_tree.specs.Sheets.{written, put, KeepsTo}
-use Rattle.cp_tree.proofs.Decided.{body_of-is, node-Ptrs}
+use Rattle.cp_tree.proofs.Decided.{body_of-is, node-Bits, node-Ptrs}
+use Rattle.cp_tree.proofs.Lists.{node-Voids, node-Bytes, node-Halves, node-Quads, node-Words}
 use Rattle.cp_tree.proofs.Shapes.{node-Struct}
 use Rattle.cp_tree.proofs.Sheets.{put-keeps}
 use Rattle.cp_tree.proofs.Spending.{next_tree, next_body}
@@ -146,3 +147,54 @@ lay_bodies-returns-then-ptrs-eq0 t c =
     let at = c.args.first in
     let bs = bodies_of (map body_of c.args.bodies.now) in
     (sym (nothing_hangs_on c.args.room at.segment at.word c.args.words c.args.ptrs bs (written c.args.sheet.now) (omega arith) c.requires.even), c.requires.keeps)
+
+pub lay-lay_voids-requires-clause-few : goal.lay-lay_voids-requires-clause-few
+lay-lay_voids-requires-clause-few t c = subst Shaped (ap node_of c.in-Voids.is ∙ node-Voids c.in-Voids.count) c.requires.shaped
+
+pub lay-returns-in-Voids : goal.lay-returns-in-Voids
+lay-returns-in-Voids t c = rw (ap node_of c.in-Voids.is ∙ node-Voids c.in-Voids.count) c.lay_voids.ensures
+
+pub lay-lay_bits-requires-clause-few : goal.lay-lay_bits-requires-clause-few
+lay-lay_bits-requires-clause-few t c =
+    let v = c.in-Bits.items in
+    let shaped = subst Shaped (ap node_of c.in-Bits.is ∙ node-Bits v) c.requires.shaped in
+    rw (c.deref-in-Bits.ensures.value) shaped
+
+pub lay-returns-in-Bits : goal.lay-returns-in-Bits
+lay-returns-in-Bits t c = rw (ap node_of c.in-Bits.is ∙ node-Bits c.in-Bits.items) (rw (c.deref-in-Bits.ensures.value) at c.lay_bits.ensures)
+
+pub lay-lay_bytes-requires-clause-few : goal.lay-lay_bytes-requires-clause-few
+lay-lay_bytes-requires-clause-few t c =
+    let v = c.in-Bytes.items in
+    let shaped = subst Shaped (ap node_of c.in-Bytes.is ∙ node-Bytes v) c.requires.shaped in
+    rw (c.deref-in-Bytes.ensures.value) shaped.0
+
+pub lay-returns-in-Bytes : goal.lay-returns-in-Bytes
+lay-returns-in-Bytes t c = rw (ap node_of c.in-Bytes.is ∙ node-Bytes c.in-Bytes.items) (rw (c.deref-in-Bytes.ensures.value) at c.lay_bytes.ensures)
+
+pub lay-lay_halves-requires-clause-few : goal.lay-lay_halves-requires-clause-few
+lay-lay_halves-requires-clause-few t c =
+    let v = c.in-Halves.items in
+    let shaped = subst Shaped (ap node_of c.in-Halves.is ∙ node-Halves v) c.requires.shaped in
+    rw (c.deref-in-Halves.ensures.value) shaped.0
+
+pub lay-returns-in-Halves : goal.lay-returns-in-Halves
+lay-returns-in-Halves t c = rw (ap node_of c.in-Halves.is ∙ node-Halves c.in-Halves.items) (rw (c.deref-in-Halves.ensures.value) at c.lay_halves.ensures)
+
+pub lay-lay_quads-requires-clause-few : goal.lay-lay_quads-requires-clause-few
+lay-lay_quads-requires-clause-few t c =
+    let v = c.in-Quads.items in
+    let shaped = subst Shaped (ap node_of c.in-Quads.is ∙ node-Quads v) c.requires.shaped in
+    rw (c.deref-in-Quads.ensures.value) shaped.0
+
+pub lay-returns-in-Quads : goal.lay-returns-in-Quads
+lay-returns-in-Quads t c = rw (ap node_of c.in-Quads.is ∙ node-Quads c.in-Quads.items) (rw (c.deref-in-Quads.ensures.value) at c.lay_quads.ensures)
+
+pub lay-lay_words-requires-clause-few : goal.lay-lay_words-requires-clause-few
+lay-lay_words-requires-clause-few t c =
+    let v = c.in-Words.items in
+    let shaped = subst Shaped (ap node_of c.in-Words.is ∙ node-Words v) c.requires.shaped in
+    rw (c.deref-in-Words.ensures.value) shaped.0
+
+pub lay-returns-in-Words : goal.lay-returns-in-Words
+lay-returns-in-Words t c = rw (ap node_of c.in-Words.is ∙ node-Words c.in-Words.items) (rw (c.deref-in-Words.ensures.value) at c.lay_words.ensures)

@@ -1,6 +1,7 @@
-use Rattle.std.proofs.Common.{rules, ◌≡◌, ◌+◌, ◌<◌, ◌≤◌, arith, ap, ◌∙◌}
+use Rattle.std.proofs.Common.{rules, ◌≡◌, ◌+◌, ◌<◌, ◌≤◌, arith, ap, sym, ◌∙◌}
+use Rattle.std.specs.Prelude.{ℕ, List}
 use Rattle.std.proofs.lemmas.List.{map_push}
-use Rattle.cp_tree.specs.Node.{count, number_of, depth}
+use Rattle.cp_tree.specs.Node.{Nodes, struct, count, number_of, depth}
 use Rattle.cp_tree.specs.NodeOf.{node_of, body_of, words_of}
 use Rattle.cp_tree.specs.Parts.{part_node}
 use Rattle.cp_tree.specs.Rows.{struct_at, trees_from}
@@ -9,6 +10,9 @@ use Rattle.cp_tree.specs.Visited.{pointers, pointers_of_row}
 use Rattle.cp_tree.specs.declared.view.Part.TheVariants as parts
 use Rattle.cp_tree.proofs.Builds.{one_more_tree, all_trees, one_more_body, all_bodies, no_pointers, no_elements, more_pointers, all_pointers, few_pointers, more_elements, all_elements, few_elements}
 use Rattle.cp_tree.proofs.Built.{row_count, row_word, row_deep, no_row, structs_count, the_elements, element_part, element_node, element_depth}
+use Rattle.cp_tree.proofs.Decided.{body_of-is}
+use Rattle.cp_tree.proofs.Shapes.{node-Struct}
+use Rattle.cp_tree.proofs.Steps.{node-Null, node-Cap}
 use Rattle.cp_tree.proofs.Views.{ok_is_ok, read-node}
 use Rattle.cp_tree.proofs.read.+build.Goals as goal
 
@@ -125,3 +129,18 @@ build_row-returns g t c =
     let end : count ts ≤ c.loop-i.i = omega (arith, row_count (words_of c.args.lists.now) c.args.first c.args.number c.requires) in
     let all = all_pointers ts c.loop-i.i end in
     record { row = all_trees _ _ _ c.loop-i.invariant.0 end; exact = omega (arith, all, c.loop-i.invariant.1); few = omega (arith, all, c.loop-i.invariant.1) }
+
+pub build-returns-in-Null-clause-tree : goal.build-returns-in-Null-clause-tree
+build-returns-in-Null-clause-tree g t c = rw c.in-Null.is node-Null
+
+pub build-returns-in-Cap-clause-tree : goal.build-returns-in-Cap-clause-tree
+build-returns-in-Cap-clause-tree g t c = rw c.in-Cap.is (node-Cap c.in-Cap.index)
+
+pub build_area-returns-in_ok-build_body-in-Struct-clause-tree : goal.build_area-returns-in_ok-build_body-in-Struct-clause-tree
+build_area-returns-in_ok-build_body-in-Struct-clause-tree g t c =
+    let b = c.in_ok-build_body-in-Struct.field-0 in
+    let a = c.args.area in
+    node-Struct b
+    ∙ ap (λ (p : List ℕ × Nodes). struct p.0 p.1) (sym (body_of-is b))
+    ∙ c.in_ok-build_body-in-Struct.ensures.body
+    ∙ ap (λ f. part_node (words_of c.args.lists.now) (parts.Body (record { form = f; segment = a.segment; start = a.start }))) (sym c.in-Struct.is)
