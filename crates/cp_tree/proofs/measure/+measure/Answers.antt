@@ -1,11 +1,12 @@
-use Rattle.std.proofs.Common.{◌≡◌, ◌⊎◌, inl, inr, ◌+◌, ◌*◌, ℕ, map, true, false, sym, ap, ◌∙◌, refl, arith, rules}
+use Rattle.std.proofs.Common.{◌≡◌, ◌⊎◌, inl, inr, ◌+◌, ◌*◌, ◌/◌, ℕ, map, true, false, sym, ap, ◌∙◌, refl, arith, rules}
 use Rattle.std.proofs.lemmas.List.{at_drop_all}
 use Rattle.cp_tree.specs.declared.tree.Tree.{Tree, the_lemmas}
 use Rattle.cp_tree.specs.declared.tree.Tree.TheVariants as trees
-use Rattle.cp_tree.specs.Node.{cost, total_cost, body_cost, count, number_of}
+use Rattle.cp_tree.specs.Node.{bits, bytes, halves, quads, words, list, cost, total_cost, body_cost, count, number_of}
 use Rattle.cp_tree.specs.NodeOf.{node_of, body_of, nodes_of, bodies_of}
 use Rattle.cp_tree.specs.Spent.{spent}
-use Rattle.cp_tree.proofs.Decided.{node-Structs, node-Ptrs}
+use Rattle.cp_tree.proofs.Decided.{node-Structs, node-Bits, node-Ptrs}
+use Rattle.cp_tree.proofs.Lists.{node-Bytes, node-Halves, node-Quads, node-Words}
 use Rattle.cp_tree.proofs.Shapes.{node-Struct, count-row}
 use Rattle.cp_tree.proofs.Spending.{spent-0, next_tree, next_body, along, step_left, no_more, row_nests_on, bodies_nest_on}
 use Rattle.cp_tree.proofs.measure.+measure.Goals.{nests-in_default, nests-in-Null, nests-in-Null-2}
@@ -49,6 +50,46 @@ nests-returns-in-Structs-clause-left t c =
     let v = c.in-Structs.items in
     rw (ap node_of c.in-Structs.is ∙ node-Structs _ _ v) (along c.bodies_nest.result c.bodies_nest.new.left c.bodies_nest.ensures.left
     (step_left c.args.left.now c.spend-in-Structs.new.left _ _ _ _ c.spend-in-Structs.ensures (rw (c.deref-in-Structs.ensures.value) (omega arith)) refl))
+
+pub nests-returns-in-Bits-clause-deep : goal.nests-returns-in-Bits-clause-deep
+nests-returns-in-Bits-clause-deep t c = rw (ap node_of c.in-Bits.is ∙ node-Bits c.in-Bits.items) (λ e. omega arith, λ k. refl)
+
+pub nests-returns-in-Bits-clause-left : goal.nests-returns-in-Bits-clause-left
+nests-returns-in-Bits-clause-left t c =
+    let price : 1 + (c.len.result + 63) / 64 ≡ cost (list (bits c.in-Bits.items.items)) = omega (arith, c.len.ensures) in
+    rw (ap node_of c.in-Bits.is ∙ node-Bits c.in-Bits.items) (c.spend.ensures ∙ ap (spent c.args.left.now) price)
+
+pub nests-returns-in-Bytes-clause-deep : goal.nests-returns-in-Bytes-clause-deep
+nests-returns-in-Bytes-clause-deep t c = rw (ap node_of c.in-Bytes.is ∙ node-Bytes c.in-Bytes.items) (λ e. omega arith, λ k. refl)
+
+pub nests-returns-in-Bytes-clause-left : goal.nests-returns-in-Bytes-clause-left
+nests-returns-in-Bytes-clause-left t c =
+    let price : 1 + (c.len-in-Bytes.result + 7) / 8 ≡ cost (list (bytes c.in-Bytes.items.items)) = omega (arith, c.len-in-Bytes.ensures) in
+    rw (ap node_of c.in-Bytes.is ∙ node-Bytes c.in-Bytes.items) (c.spend-in-Bytes.ensures ∙ ap (spent c.args.left.now) price)
+
+pub nests-returns-in-Halves-clause-deep : goal.nests-returns-in-Halves-clause-deep
+nests-returns-in-Halves-clause-deep t c = rw (ap node_of c.in-Halves.is ∙ node-Halves c.in-Halves.items) (λ e. omega arith, λ k. refl)
+
+pub nests-returns-in-Halves-clause-left : goal.nests-returns-in-Halves-clause-left
+nests-returns-in-Halves-clause-left t c =
+    let price : 1 + (c.len-in-Halves.result + 3) / 4 ≡ cost (list (halves c.in-Halves.items.items)) = omega (arith, c.len-in-Halves.ensures) in
+    rw (ap node_of c.in-Halves.is ∙ node-Halves c.in-Halves.items) (c.spend-in-Halves.ensures ∙ ap (spent c.args.left.now) price)
+
+pub nests-returns-in-Quads-clause-deep : goal.nests-returns-in-Quads-clause-deep
+nests-returns-in-Quads-clause-deep t c = rw (ap node_of c.in-Quads.is ∙ node-Quads c.in-Quads.items) (λ e. omega arith, λ k. refl)
+
+pub nests-returns-in-Quads-clause-left : goal.nests-returns-in-Quads-clause-left
+nests-returns-in-Quads-clause-left t c =
+    let price : 1 + (c.len-in-Quads.result + 1) / 2 ≡ cost (list (quads c.in-Quads.items.items)) = omega (arith, c.len-in-Quads.ensures) in
+    rw (ap node_of c.in-Quads.is ∙ node-Quads c.in-Quads.items) (c.spend-in-Quads.ensures ∙ ap (spent c.args.left.now) price)
+
+pub nests-returns-in-Words-clause-deep : goal.nests-returns-in-Words-clause-deep
+nests-returns-in-Words-clause-deep t c = rw (ap node_of c.in-Words.is ∙ node-Words c.in-Words.items) (λ e. omega arith, λ k. refl)
+
+pub nests-returns-in-Words-clause-left : goal.nests-returns-in-Words-clause-left
+nests-returns-in-Words-clause-left t c =
+    let price : 1 + c.len-in-Words.result ≡ cost (list (words c.in-Words.items.items)) = omega (arith, c.len-in-Words.ensures) in
+    rw (ap node_of c.in-Words.is ∙ node-Words c.in-Words.items) (c.spend-in-Words.ensures ∙ ap (spent c.args.left.now) price)
 
 pub row_nests-loop-tree-preserved : goal.row_nests-loop-tree-preserved
 row_nests-loop-tree-preserved t c =
