@@ -39,3 +39,4 @@ pub mod AnyWidth
 pub mod LaidOut
 pub mod Drafts
 pub mod Lists
+pub mod Deeper

@@ -1,10 +1,11 @@
-use Rattle.std.proofs.Common.{◌+◌, ◌*◌, map, ap, ◌∙◌, refl, arith}
+use Rattle.std.proofs.Common.{◌+◌, ◌*◌, ◌<◌, map, ap, ◌∙◌, refl, arith}
 use Rattle.std.proofs.lemmas.List.{at_drop_all}
 use Rattle.cp_tree.specs.DraftOf.{draft_of, draft_body_of}
 use Rattle.cp_tree.specs.Node.{total_cost, body_cost, number_of}
 use Rattle.cp_tree.specs.NodeOf.{nodes_of, bodies_of}
 use Rattle.cp_tree.proofs.Begins.{count_in}
-use Rattle.cp_tree.proofs.Drafts.{draft-Struct, draft-Ptrs, draft-Structs, next_draft_body}
+use Rattle.cp_tree.proofs.Deeper.{deeper}
+use Rattle.cp_tree.proofs.Drafts.{draft-Lent, draft-Struct, draft-Ptrs, draft-Structs, next_draft_body}
 use Rattle.cp_tree.proofs.Spending.{next_of, along, step_left, no_more, row_nests_on, bodies_nest_on}
 use Rattle.cp_tree.proofs.measure.+draft_measure.Goals as goal
 
@@ -28,6 +29,27 @@ draft_nests-returns-then-levels-gt0-3-clause-left t c =
     let bodies = c.draft_bodies_nest in
     rw (ap draft_of c.in-Structs.is ∙ draft-Structs _ _ c.in-Structs.items) (along bodies.result bodies.new.left bodies.ensures.left
     (step_left c.args.left.now c.spend-in-Structs.new.left _ _ _ _ c.spend-in-Structs.ensures (rw (c.deref-then-levels-gt0-3.ensures.value) (omega arith)) refl))
+
+pub draft_nests-returns-then-levels-gt0-clause-deep : goal.draft_nests-returns-then-levels-gt0-clause-deep
+draft_nests-returns-then-levels-gt0-clause-deep t c =
+    let some : 0 < c.args.levels = omega arith in
+    rw (ap draft_of c.in-Struct.is ∙ draft-Struct c.in-Struct.body) (deeper _ _ _ some (rw (c.deref.ensures.value) at c.drafts_nest.ensures.deep))
+
+pub draft_nests-returns-then-levels-gt0-2-clause-deep : goal.draft_nests-returns-then-levels-gt0-2-clause-deep
+draft_nests-returns-then-levels-gt0-2-clause-deep t c =
+    let some : 0 < c.args.levels = omega arith in
+    rw (ap draft_of c.in-Ptrs.is ∙ draft-Ptrs c.in-Ptrs.items) (deeper _ _ _ some (rw (c.deref-then-levels-gt0-2.ensures.value) at c.drafts_nest-then-levels-gt0-2.ensures.deep))
+
+pub draft_nests-returns-then-levels-gt0-3-clause-deep : goal.draft_nests-returns-then-levels-gt0-3-clause-deep
+draft_nests-returns-then-levels-gt0-3-clause-deep t c =
+    let some : 0 < c.args.levels = omega arith in
+    rw (ap draft_of c.in-Structs.is ∙ draft-Structs _ _ c.in-Structs.items) (deeper _ _ _ some (rw (c.deref-then-levels-gt0-3.ensures.value) at c.draft_bodies_nest.ensures.deep))
+
+pub draft_nests-returns-in-Lent-clause-deep : goal.draft_nests-returns-in-Lent-clause-deep
+draft_nests-returns-in-Lent-clause-deep t c = rw (ap draft_of c.in-Lent.is ∙ draft-Lent c.in-Lent.tree) c.nests-in-Lent.ensures.deep
+
+pub draft_nests-returns-in-Lent-clause-left : goal.draft_nests-returns-in-Lent-clause-left
+draft_nests-returns-in-Lent-clause-left t c = rw (ap draft_of c.in-Lent.is ∙ draft-Lent c.in-Lent.tree) c.nests-in-Lent.ensures.left
 
 pub drafts_nest-loop-draft-preserved : goal.drafts_nest-loop-draft-preserved
 drafts_nest-loop-draft-preserved t c =

@@ -1,4 +1,4 @@
-use Rattle.std.proofs.Common.{◌≡◌, ◌⊎◌, inl, inr, ◌+◌, ◌*◌, ◌/◌, ℕ, map, true, false, sym, ap, ◌∙◌, refl, arith, rules}
+use Rattle.std.proofs.Common.{◌≡◌, ◌⊎◌, inl, inr, ◌+◌, ◌*◌, ◌/◌, ◌<◌, ℕ, map, true, false, sym, ap, ◌∙◌, refl, arith, rules}
 use Rattle.std.proofs.lemmas.List.{at_drop_all}
 use Rattle.cp_tree.specs.declared.tree.Tree.{Tree, the_lemmas}
 use Rattle.cp_tree.specs.declared.tree.Tree.TheVariants as trees
@@ -6,6 +6,7 @@ use Rattle.cp_tree.specs.Node.{bits, bytes, halves, quads, words, list, cost, to
 use Rattle.cp_tree.specs.NodeOf.{node_of, body_of, nodes_of, bodies_of}
 use Rattle.cp_tree.specs.Spent.{spent}
 use Rattle.cp_tree.proofs.Decided.{node-Structs, node-Bits, node-Ptrs}
+use Rattle.cp_tree.proofs.Deeper.{deeper}
 use Rattle.cp_tree.proofs.Lists.{node-Bytes, node-Halves, node-Quads, node-Words}
 use Rattle.cp_tree.proofs.Shapes.{node-Struct, count-row}
 use Rattle.cp_tree.proofs.Spending.{spent-0, next_tree, next_body, along, step_left, no_more, row_nests_on, bodies_nest_on}
@@ -90,6 +91,21 @@ pub nests-returns-in-Words-clause-left : goal.nests-returns-in-Words-clause-left
 nests-returns-in-Words-clause-left t c =
     let price : 1 + c.len-in-Words.result ≡ cost (list (words c.in-Words.items.items)) = omega (arith, c.len-in-Words.ensures) in
     rw (ap node_of c.in-Words.is ∙ node-Words c.in-Words.items) (c.spend-in-Words.ensures ∙ ap (spent c.args.left.now) price)
+
+pub nests-returns-in-Struct-clause-deep : goal.nests-returns-in-Struct-clause-deep
+nests-returns-in-Struct-clause-deep t c =
+    let some : 0 < c.args.levels = omega arith in
+    rw (ap node_of c.in-Struct.is ∙ node-Struct c.in-Struct.body) (deeper _ _ _ some (rw (c.deref.ensures.value) at c.row_nests.ensures.deep))
+
+pub nests-returns-in-Ptrs-clause-deep : goal.nests-returns-in-Ptrs-clause-deep
+nests-returns-in-Ptrs-clause-deep t c =
+    let some : 0 < c.args.levels = omega arith in
+    rw (ap node_of c.in-Ptrs.is ∙ node-Ptrs c.in-Ptrs.items) (deeper _ _ _ some (rw (c.deref-in-Ptrs.ensures.value) at c.row_nests-in-Ptrs.ensures.deep))
+
+pub nests-returns-in-Structs-clause-deep : goal.nests-returns-in-Structs-clause-deep
+nests-returns-in-Structs-clause-deep t c =
+    let some : 0 < c.args.levels = omega arith in
+    rw (ap node_of c.in-Structs.is ∙ node-Structs _ _ c.in-Structs.items) (deeper _ _ _ some (rw (c.deref-in-Structs.ensures.value) at c.bodies_nest.ensures.deep))
 
 pub row_nests-loop-tree-preserved : goal.row_nests-loop-tree-preserved
 row_nests-loop-tree-preserved t c =
