@@ -12,7 +12,7 @@ use Rattle.cp_tree.proofs.Builds.{one_more_tree, all_trees, one_more_body, all_b
 use Rattle.cp_tree.proofs.Built.{row_count, row_word, row_deep, no_row, structs_count, the_elements, element_part, element_node, element_depth}
 use Rattle.cp_tree.proofs.Decided.{body_of-is}
 use Rattle.cp_tree.proofs.Shapes.{node-Struct}
-use Rattle.cp_tree.proofs.Steps.{node-Null, node-Cap}
+use Rattle.cp_tree.proofs.Steps.{node-Null}
 use Rattle.cp_tree.proofs.Views.{ok_is_ok, read-node}
 use Rattle.cp_tree.proofs.read.+build.Goals as goal
 
@@ -132,9 +132,6 @@ build_row-returns g t c =
 
 pub build-returns-in-Null-clause-tree : goal.build-returns-in-Null-clause-tree
 build-returns-in-Null-clause-tree g t c = rw c.in-Null.is node-Null
-
-pub build-returns-in-Cap-clause-tree : goal.build-returns-in-Cap-clause-tree
-build-returns-in-Cap-clause-tree g t c = rw c.in-Cap.is (node-Cap c.in-Cap.index)
 
 pub build_area-returns-in_ok-build_body-in-Struct-clause-tree : goal.build_area-returns-in_ok-build_body-in-Struct-clause-tree
 build_area-returns-in_ok-build_body-in-Struct-clause-tree g t c =
