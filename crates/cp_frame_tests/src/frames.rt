@@ -57,26 +57,45 @@ fn new_reader(alloc: Global) -> FrameReader {
     FrameReader::plain(alloc, Limits::standard())
 }
 
+/// The frames of these bytes, of which so many come with the front. The bytes end behind a frame.
+fn frames_of(
+    rt: &impl Abort,
+    alloc: Global,
+    front: &[u8],
+    back: &[u8],
+    early: usize,
+) -> Result<Vec<(u64, Segments)>, Fail> {
+    let mut reader = new_reader(alloc);
+    let mut frames = reader.feed(front)?;
+    assert_eq!(rt; frames.len(), early);
+    for frame in reader.feed(back)? {
+        frames.push(frame)?;
+    }
+    reader.finish()?;
+    Ok(frames)
+}
+
 #[test]
 fn two_frames_come_however_they_are_cut(rt: HostRuntime) -> Result<(), Fail> {
     let mut stream = FINISH.to_vec(rt.alloc())?;
     stream.extend_from_slice(&KEEPING)?;
     for cut in 0..81 {
-        let mut reader = new_reader(rt.alloc());
         let (front, back) = stream.split_at(cut);
-        let mut frames = Vec::new(rt.alloc());
-        for frame in reader.feed(front)? {
-            frames.push(frame)?;
-        }
-        assert_eq!(rt; frames.len(), cut / 40);
-        for frame in reader.feed(back)? {
-            frames.push(frame)?;
-        }
+        let frames = frames_of(&rt, rt.alloc(), front, back, cut / 40)?;
         assert_eq!(rt; frames.len(), 2);
         expect_frame(&rt, &frames[0], 40, &[&FINISH_WORDS]);
         expect_frame(&rt, &frames[1], 40, &[&KEEPING_WORDS]);
-        reader.finish()?;
     }
+    Ok(())
+}
+
+/// These bytes end inside a frame.
+fn expect_short(rt: &impl Abort, alloc: Global, bytes: &[u8]) -> Result<(), Fail> {
+    let mut reader = new_reader(alloc);
+    assert!(rt; reader.feed(bytes)?.is_empty());
+    assert_eq!(rt; reader.finish(), Err(FrameFault::Truncated));
+    assert_eq!(rt; reader.held(), (0, 0));
+    assert_eq!(rt; reader.finish(), Err(FrameFault::Failed));
     Ok(())
 }
 
@@ -92,11 +111,7 @@ fn read_by_bytes(
         let frames = whole.feed(&bytes[i..i + 1])?;
         if i + 1 < bytes.len() {
             assert!(rt; frames.is_empty());
-            let mut short = new_reader(alloc);
-            assert!(rt; short.feed(&bytes[..i + 1])?.is_empty());
-            assert_eq!(rt; short.finish(), Err(FrameFault::Truncated));
-            assert_eq!(rt; short.held(), (0, 0));
-            assert_eq!(rt; short.finish(), Err(FrameFault::Failed));
+            expect_short(rt, alloc, &bytes[..i + 1])?;
         } else {
             assert_eq!(rt; frames.len(), 1);
             expect_frame(rt, &frames[0], bytes.len() as u64, segments);

@@ -3,6 +3,7 @@
 use cp_frame::*;
 use cp_words::Segments;
 use std::alloc::Global;
+use std::io::Cursor;
 use std::process::Abort;
 use std::test::Fail;
 
@@ -121,7 +122,7 @@ fn go_round(alloc: Global, words: &[u64]) -> Result<usize, FrameFault> {
 }
 
 // With memory enough no growth is refused. `rt try --test --fail-alloc N` refuses the Nth of each
-// of the two tests below.
+// of the three tests below.
 #[test]
 fn want_of_memory_is_told_in_packing(rt: HostRuntime) {
     match go_round(rt.alloc(), &TWO.1) {
@@ -159,6 +160,27 @@ fn want_of_memory_leaves_nothing_written(rt: HostRuntime) -> Result<(), Fail> {
             assert!(rt; out.is_empty());
         } else {
             assert_eq!(rt; out.len(), length);
+        }
+    }
+    Ok(())
+}
+
+#[test]
+fn want_of_memory_leaves_nothing_sent(rt: HostRuntime) -> Result<(), Fail> {
+    let segments = two_segments(rt.alloc())?;
+    let limits = Limits::standard();
+    let mut room = Vec::new(rt.alloc());
+    for (mode, length) in [(Mode::Packed, 15), (Mode::Plain, 56), (Mode::Packed, 15)] {
+        let mut to = Cursor::new([0u8; 64]);
+        match send_frame(rt.alloc(), &mut to, &mut room, &segments, mode, limits) {
+            Ok(sent) => {
+                sent?;
+                assert_eq!(rt; to.position(), length);
+            }
+            Err(fault) => {
+                assert_eq!(rt; fault, FrameFault::OutOfMemory);
+                assert_eq!(rt; to.position(), 0);
+            }
         }
     }
     Ok(())

@@ -26,6 +26,16 @@ fn expect_frame(rt: &impl Abort, frames: &[(u64, Segments)], taken: usize, words
     assert_eq!(rt; place, words.len());
 }
 
+/// These bytes end inside a frame.
+fn expect_short(rt: &impl Abort, alloc: Global, bytes: &[u8]) -> Result<(), Fail> {
+    let mut reader = new_reader(alloc);
+    assert!(rt; reader.feed(bytes)?.is_empty());
+    assert_eq!(rt; reader.finish(), Err(FrameFault::Truncated));
+    assert_eq!(rt; reader.held(), (0, 0));
+    assert_eq!(rt; reader.finish(), Err(FrameFault::Failed));
+    Ok(())
+}
+
 /// Packed bytes are a frame of these words: whole, cut at each place, and byte by byte. Where they
 /// are cut, they end inside it.
 fn expect_cuts(rt: &impl Abort, alloc: Global, bytes: &[u8], words: &[u64]) -> Result<(), Fail> {
@@ -36,11 +46,7 @@ fn expect_cuts(rt: &impl Abort, alloc: Global, bytes: &[u8], words: &[u64]) -> R
         assert!(rt; reader.feed(front)?.is_empty());
         expect_frame(rt, &reader.feed(back)?, bytes.len(), words);
         reader.finish()?;
-        let mut short = new_reader(alloc);
-        assert!(rt; short.feed(front)?.is_empty());
-        assert_eq!(rt; short.finish(), Err(FrameFault::Truncated));
-        assert_eq!(rt; short.held(), (0, 0));
-        assert_eq!(rt; short.finish(), Err(FrameFault::Failed));
+        expect_short(rt, alloc, front)?;
     }
     expect_bytes(rt, alloc, bytes, words)
 }
@@ -129,6 +135,37 @@ fn what_is_held_follows_the_packed_bytes(rt: HostRuntime) -> Result<(), Fail> {
     Ok(())
 }
 
+/// The back of some bytes brings the fault, and the front none.
+fn expect_fault_in(
+    rt: &impl Abort,
+    alloc: Global,
+    (front, back): (&[u8], &[u8]),
+    fault: FrameFault,
+) -> Result<(), Fail> {
+    let mut reader = new_reader(alloc);
+    assert!(rt; reader.feed(front)?.is_empty());
+    assert_eq!(rt; reader.feed(back).err(), Some(fault));
+    assert_eq!(rt; reader.held(), (0, 0));
+    assert_eq!(rt; reader.feed(&FINISH).err(), Some(FrameFault::Failed));
+    assert_eq!(rt; reader.finish(), Err(FrameFault::Failed));
+    Ok(())
+}
+
+/// A frame comes, and the fault of what stands behind it is kept.
+fn expect_kept(
+    rt: &impl Abort,
+    alloc: Global,
+    stream: &[u8],
+    fault: FrameFault,
+) -> Result<(), Fail> {
+    let mut reader = new_reader(alloc);
+    assert_eq!(rt; reader.feed(stream)?.len(), 1);
+    assert_eq!(rt; reader.held(), (0, 0));
+    assert_eq!(rt; reader.finish(), Err(fault));
+    assert_eq!(rt; reader.feed(&[]).err(), Some(FrameFault::Failed));
+    Ok(())
+}
+
 /// The last of these bytes, and none before it, brings the fault.
 fn expect_fault(
     rt: &impl Abort,
@@ -137,22 +174,11 @@ fn expect_fault(
     fault: FrameFault,
 ) -> Result<(), Fail> {
     for cut in 0..bytes.len() {
-        let (front, back) = bytes.split_at(cut);
-        let mut reader = new_reader(alloc);
-        assert!(rt; reader.feed(front)?.is_empty());
-        assert_eq!(rt; reader.feed(back).err(), Some(fault));
-        assert_eq!(rt; reader.held(), (0, 0));
-        assert_eq!(rt; reader.feed(&FINISH).err(), Some(FrameFault::Failed));
-        assert_eq!(rt; reader.finish(), Err(FrameFault::Failed));
+        expect_fault_in(rt, alloc, bytes.split_at(cut), fault)?;
     }
-    let mut kept = new_reader(alloc);
     let mut stream = FINISH.to_vec(alloc)?;
     stream.extend_from_slice(bytes)?;
-    assert_eq!(rt; kept.feed(&stream)?.len(), 1);
-    assert_eq!(rt; kept.held(), (0, 0));
-    assert_eq!(rt; kept.finish(), Err(fault));
-    assert_eq!(rt; kept.feed(&[]).err(), Some(FrameFault::Failed));
-    Ok(())
+    expect_kept(rt, alloc, &stream, fault)
 }
 
 #[test]
@@ -180,21 +206,31 @@ fn faults_of_the_table_are_told_with_a_byte(rt: HostRuntime) -> Result<(), Fail>
     expect_fault(&rt, rt.alloc(), &[0xff, 0, 0, 0, 0, 1, 0, 0x80, 0], large)
 }
 
+/// Three frames of these lengths come, and nothing behind them.
+fn expect_three(
+    rt: &impl Abort,
+    alloc: Global,
+    (front, back): (&[u8], &[u8]),
+    lengths: [u64; 3],
+) -> Result<(), Fail> {
+    let mut reader = new_reader(alloc);
+    let first = reader.feed(front)?;
+    let second = reader.feed(back)?;
+    assert_eq!(rt; first.len() + second.len(), 3);
+    for (frame, length) in first.iter().chain(second.iter()).zip(lengths) {
+        assert_eq!(rt; frame.0, length);
+    }
+    reader.finish()?;
+    Ok(())
+}
+
 #[test]
 fn packed_frames_follow_one_another(rt: HostRuntime) -> Result<(), Fail> {
     let mut stream = FINISH.to_vec(rt.alloc())?;
     stream.extend_from_slice(&BOOTSTRAP)?;
     stream.extend_from_slice(&RELEASE)?;
     for cut in 0..stream.len() + 1 {
-        let (front, back) = stream.split_at(cut);
-        let mut reader = new_reader(rt.alloc());
-        let first = reader.feed(front)?;
-        let second = reader.feed(back)?;
-        assert_eq!(rt; first.len() + second.len(), 3);
-        for (frame, length) in first.iter().chain(second.iter()).zip([11, 12, 12]) {
-            assert_eq!(rt; frame.0, length);
-        }
-        reader.finish()?;
+        expect_three(&rt, rt.alloc(), stream.split_at(cut), [11, 12, 12])?;
     }
     Ok(())
 }
