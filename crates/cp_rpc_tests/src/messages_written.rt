@@ -1,51 +1,30 @@
 //! Messages written: what a tree of the table's sizes says is written as that very tree.
 
+use crate::messages::{ABORT, ONE_AND_TWO, ONE_EACH, ROOT, message, owned_fault_of, root};
 use cp_rpc::{Field, Message, SchemaFault, message_of, tree_of};
 use cp_tree::{Limits, Object, WriteFault, write_root};
 use cp_words::Segments;
 use std::alloc::Global;
-use std::test::Fail;
+use std::process::Abort;
 
-/// The root of a message of one segment, if there is one and memory for it.
-fn found_root(alloc: Global, words: &[u64]) -> Option<Object> {
-    let mut lists = Vec::with_capacity(alloc, 1).ok()?;
-    lists.push(Vec::from_slice(alloc, words).ok()?).ok()?;
-    let segments = Segments::new(lists).ok()?;
-    cp_tree::read_root(alloc, &segments, Limits::standard()).ok()
-}
-
-/// The root of a message of one segment.
-fn root(alloc: Global, words: &[u64]) -> Result<Object, Fail> {
-    match found_root(alloc, words) {
-        Some(object) => Ok(object),
-        None => Err(Fail::from("no root")),
-    }
+/// The tree that what a message says is written as.
+fn tree(rt: &impl Abort, alloc: Global, words: &[u64]) -> Object {
+    let message = message(rt, alloc, &root(rt, alloc, words));
+    tree_of(alloc, &message).expect(rt, "a tree")
 }
 
 /// Whether what the first message says is written as the tree of the second.
-fn is_written_as(alloc: Global, words: &[u64], written: &[u64]) -> Result<bool, Fail> {
-    let Ok(message) = message_of(alloc, &root(alloc, words)?) else {
-        return Err(Fail::from("no message"));
-    };
-    match tree_of(alloc, &message) {
-        Ok(object) => Ok(object.tree() == root(alloc, written)?.tree()),
-        Err(_) => Err(Fail::from("not written")),
-    }
+fn is_written_as(rt: &impl Abort, alloc: Global, words: &[u64], written: &[u64]) -> bool {
+    tree(rt, alloc, words).tree() == root(rt, alloc, written).tree()
 }
 
 /// Whether what a message says is written as its own tree.
-fn is_kept(alloc: Global, words: &[u64]) -> Result<bool, Fail> {
-    is_written_as(alloc, words, words)
+fn is_kept(rt: &impl Abort, alloc: Global, words: &[u64]) -> bool {
+    is_written_as(rt, alloc, words, words)
 }
 
-/// A root struct of one data word and one pointer.
-const ROOT: u64 = 0x0001_0001_0000_0000;
 /// Struct pointers to what follows them, by the numbers of data words and pointers.
 const ONE_AND_NONE: u64 = 0x0000_0001_0000_0000;
-
-const ONE_EACH: u64 = 0x0001_0001_0000_0000;
-
-const ONE_AND_TWO: u64 = 0x0002_0001_0000_0000;
 
 const TWO_AND_ONE: u64 = 0x0001_0002_0000_0000;
 
@@ -54,54 +33,41 @@ const THREE_EACH: u64 = 0x0003_0003_0000_0000;
 const NONE_AND_TWO: u64 = 0x0002_0000_0000_0000;
 /// A capability.
 const CAP: u64 = 0x0000_0005_0000_0003;
-/// An abort with the reason "no" and the trace "x".
-const ABORT: [u64; 8] = [
-    ROOT,
-    1,
-    ONE_AND_TWO,
-    0,
-    0x0000_001a_0000_0005,
-    0x0000_0012_0000_0005,
-    0x0000_0000_0000_6f6e,
-    0x0000_0000_0000_0078,
-];
 
 #[test]
-fn small_messages(rt: HostRuntime) -> Result<(), Fail> {
+fn small_messages(rt: HostRuntime) {
     // Finish and release: each field alone, and both.
     for word in [0, 0xffff_ffff, 0x1_0000_0000, 0x1_0000_0007] {
-        assert!(rt; is_kept(rt.alloc(), &[ROOT, 4, ONE_AND_NONE, word])?);
+        assert!(rt; is_kept(&rt, rt.alloc(), &[ROOT, 4, ONE_AND_NONE, word]));
     }
     for word in [0, 0xffff_ffff, 0xffff_ffff_0000_0000, 0x0000_0002_0000_0007] {
-        assert!(rt; is_kept(rt.alloc(), &[ROOT, 6, ONE_AND_NONE, word])?);
+        assert!(rt; is_kept(&rt, rt.alloc(), &[ROOT, 6, ONE_AND_NONE, word]));
     }
-    assert!(rt; is_kept(rt.alloc(), &[ROOT, 8, ONE_EACH, 0xffff_ffff, 0])?);
+    assert!(rt; is_kept(&rt, rt.alloc(), &[ROOT, 8, ONE_EACH, 0xffff_ffff, 0]));
     // The numbers of members that aren't looked into.
     for which in [0, 7, 9, 10, 11, 12, 14, 0xffff] {
-        assert!(rt; is_kept(rt.alloc(), &[ROOT, which, CAP])?);
+        assert!(rt; is_kept(&rt, rt.alloc(), &[ROOT, which, CAP]));
     }
-    Ok(())
 }
 
 #[test]
-fn exceptions(rt: HostRuntime) -> Result<(), Fail> {
+fn exceptions(rt: HostRuntime) {
     // Each type, and the first past them.
     for kind in [0, 1, 2, 3, 4, 0xffff] {
         let words = [ROOT, 1, ONE_AND_TWO, kind * 0x1_0000_0000, 0, 0];
-        assert!(rt; is_kept(rt.alloc(), &words)?);
+        assert!(rt; is_kept(&rt, rt.alloc(), &words));
     }
     let reason = [ROOT, 1, ONE_AND_TWO, 0, 0x0000_001a_0000_0005, 0, 0x6f6e];
     let trace = [ROOT, 1, ONE_AND_TWO, 0, 0, 0x0000_0012_0000_0001, 0x78];
-    assert!(rt; is_kept(rt.alloc(), &reason)?);
-    assert!(rt; is_kept(rt.alloc(), &trace)?);
-    assert!(rt; is_kept(rt.alloc(), &ABORT)?);
+    assert!(rt; is_kept(&rt, rt.alloc(), &reason));
+    assert!(rt; is_kept(&rt, rt.alloc(), &trace));
+    assert!(rt; is_kept(&rt, rt.alloc(), &ABORT));
     // One of one pointer is written with two, and an empty text as null.
     let smaller = [ROOT, 1, ONE_EACH, 0, 0x0000_001a_0000_0001, 0x6f6e];
-    assert!(rt; is_written_as(rt.alloc(), &smaller, &reason)?);
+    assert!(rt; is_written_as(&rt, rt.alloc(), &smaller, &reason));
     let empty = [ROOT, 1, ONE_EACH, 0, 0x0000_000a_0000_0001, 0];
     let none = [ROOT, 1, ONE_AND_TWO, 0, 0, 0];
-    assert!(rt; is_written_as(rt.alloc(), &empty, &none)?);
-    Ok(())
+    assert!(rt; is_written_as(&rt, rt.alloc(), &empty, &none));
 }
 
 /// A disembargo on a promised answer with three steps.
@@ -122,7 +88,7 @@ const PIPELINED: [u64; 13] = [
 ];
 
 #[test]
-fn disembargoes_and_targets(rt: HostRuntime) -> Result<(), Fail> {
+fn disembargoes_and_targets(rt: HostRuntime) {
     // Each context, with its number where it has one.
     for word in [
         0x0000_0000_ffff_ffff,
@@ -133,14 +99,14 @@ fn disembargoes_and_targets(rt: HostRuntime) -> Result<(), Fail> {
         0x0000_ffff_0000_0000,
     ] {
         let words = [ROOT, 13, ONE_EACH, word, ONE_EACH, 0, 0];
-        assert!(rt; is_kept(rt.alloc(), &words)?);
+        assert!(rt; is_kept(&rt, rt.alloc(), &words));
     }
     // Each target.
     for target in [0xffff_ffff, 0x0000_0002_0000_0000, 0x0000_ffff_0000_0000] {
         let words = [ROOT, 13, ONE_EACH, 0, ONE_EACH, target, 0];
-        assert!(rt; is_kept(rt.alloc(), &words)?);
+        assert!(rt; is_kept(&rt, rt.alloc(), &words));
     }
-    assert!(rt; is_kept(rt.alloc(), &PIPELINED)?);
+    assert!(rt; is_kept(&rt, rt.alloc(), &PIPELINED));
     // What a member carries that isn't chosen or known is dropped.
     let carried = [
         ROOT,
@@ -160,8 +126,7 @@ fn disembargoes_and_targets(rt: HostRuntime) -> Result<(), Fail> {
         0x0000_0002_0000_0000,
         0,
     ];
-    assert!(rt; is_written_as(rt.alloc(), &carried, &dropped)?);
-    Ok(())
+    assert!(rt; is_written_as(&rt, rt.alloc(), &carried, &dropped));
 }
 
 /// A call on an import without parameters.
@@ -203,7 +168,7 @@ const PIPELINED_CALL: [u64; 15] = [
 ];
 
 #[test]
-fn calls(rt: HostRuntime) -> Result<(), Fail> {
+fn calls(rt: HostRuntime) {
     // The question, the method, each place of results, the interface, and the third party.
     for (first, interface, third_party) in [
         (0xffff_ffff, 0, 0),
@@ -214,13 +179,13 @@ fn calls(rt: HostRuntime) -> Result<(), Fail> {
         (0xffff_0000_0000_0000, 0, 0),
         (0, 0xe5a1_0000_0000_0001, 0),
     ] {
-        assert!(rt; is_kept(rt.alloc(), &call(first, interface, third_party))?);
+        assert!(rt; is_kept(&rt, rt.alloc(), &call(first, interface, third_party)));
     }
-    assert!(rt; is_kept(rt.alloc(), &PIPELINED_CALL)?);
+    assert!(rt; is_kept(&rt, rt.alloc(), &PIPELINED_CALL));
     // A third party is dropped where results go elsewhere.
     let carried = call(0x0001_0000_0000_0000, 0, CAP);
     let dropped = call(0x0001_0000_0000_0000, 0, 0);
-    assert!(rt; is_written_as(rt.alloc(), &carried, &dropped)?);
+    assert!(rt; is_written_as(&rt, rt.alloc(), &carried, &dropped));
     // A call that is null is written with its parts.
     let parts = [
         ROOT,
@@ -237,8 +202,7 @@ fn calls(rt: HostRuntime) -> Result<(), Fail> {
         0,
         0,
     ];
-    assert!(rt; is_written_as(rt.alloc(), &[ROOT, 2, 0], &parts)?);
-    Ok(())
+    assert!(rt; is_written_as(&rt, rt.alloc(), &[ROOT, 2, 0], &parts));
 }
 
 /// A return of results with a descriptor of each kind.
@@ -273,7 +237,7 @@ const RESULTS: [u64; 27] = [
 ];
 
 #[test]
-fn returns(rt: HostRuntime) -> Result<(), Fail> {
+fn returns(rt: HostRuntime) {
     // The answer, the default of releaseParamCaps, and each member without a struct.
     for (first, second, pointer) in [
         (0x0002_0000_ffff_ffff, 0, 0),
@@ -285,9 +249,9 @@ fn returns(rt: HostRuntime) -> Result<(), Fail> {
         (0xffff_0000_0000_0000, 0, 0),
     ] {
         let words = [ROOT, 3, TWO_AND_ONE, first, second, pointer];
-        assert!(rt; is_kept(rt.alloc(), &words)?);
+        assert!(rt; is_kept(&rt, rt.alloc(), &words));
     }
-    assert!(rt; is_kept(rt.alloc(), &RESULTS)?);
+    assert!(rt; is_kept(&rt, rt.alloc(), &RESULTS));
     let exception = [
         ROOT,
         3,
@@ -299,12 +263,11 @@ fn returns(rt: HostRuntime) -> Result<(), Fail> {
         0,
         0,
     ];
-    assert!(rt; is_kept(rt.alloc(), &exception)?);
-    Ok(())
+    assert!(rt; is_kept(&rt, rt.alloc(), &exception));
 }
 
 #[test]
-fn resolves(rt: HostRuntime) -> Result<(), Fail> {
+fn resolves(rt: HostRuntime) {
     let cap = [
         ROOT,
         5,
@@ -325,64 +288,57 @@ fn resolves(rt: HostRuntime) -> Result<(), Fail> {
         0,
     ];
     let unknown = [ROOT, 5, ONE_EACH, 0x0000_0007_0000_0002, 0];
-    assert!(rt; is_kept(rt.alloc(), &cap)?);
-    assert!(rt; is_kept(rt.alloc(), &exception)?);
-    assert!(rt; is_kept(rt.alloc(), &unknown)?);
-    assert!(rt; is_kept(rt.alloc(), &[ROOT, 5, ONE_EACH, 0x0000_0002_0000_0000, 0])?);
+    assert!(rt; is_kept(&rt, rt.alloc(), &cap));
+    assert!(rt; is_kept(&rt, rt.alloc(), &exception));
+    assert!(rt; is_kept(&rt, rt.alloc(), &unknown));
+    assert!(rt;
+        is_kept(
+            &rt,
+            rt.alloc(),
+            &[ROOT, 5, ONE_EACH, 0x0000_0002_0000_0000, 0]
+        )
+    );
     // What an unknown member carries is dropped.
     let carried = [ROOT, 5, ONE_EACH, 0x0000_0007_0000_0002, CAP];
-    assert!(rt; is_written_as(rt.alloc(), &carried, &unknown)?);
-    Ok(())
+    assert!(rt; is_written_as(&rt, rt.alloc(), &carried, &unknown));
 }
 
 #[test]
-fn structs_of_other_sizes(rt: HostRuntime) -> Result<(), Fail> {
+fn structs_of_other_sizes(rt: HostRuntime) {
     // A finish without data words, and one with more than the table has.
     let none = [ROOT, 4, ONE_AND_NONE, 0];
     let some = [ROOT, 4, ONE_AND_NONE, 3];
-    assert!(rt; is_written_as(rt.alloc(), &[ROOT, 4, 0], &none)?);
-    assert!(rt; is_written_as(rt.alloc(), &[ROOT, 4, 0xffff_fffc], &none)?);
+    assert!(rt; is_written_as(&rt, rt.alloc(), &[ROOT, 4, 0], &none));
+    assert!(rt; is_written_as(&rt, rt.alloc(), &[ROOT, 4, 0xffff_fffc], &none));
     let more = [ROOT, 4, TWO_AND_ONE, 3, 8, CAP];
-    assert!(rt; is_written_as(rt.alloc(), &more, &some)?);
+    assert!(rt; is_written_as(&rt, rt.alloc(), &more, &some));
     // A message without data words or pointers is unimplemented, and null.
-    assert!(rt; is_written_as(rt.alloc(), &[0xffff_fffc], &[ROOT, 0, 0])?);
+    assert!(rt; is_written_as(&rt, rt.alloc(), &[0xffff_fffc], &[ROOT, 0, 0]));
     let larger = [0x0002_0002_0000_0000, 4, 9, 0x0000_0001_0000_0004, CAP, 3];
-    assert!(rt; is_written_as(rt.alloc(), &larger, &some)?);
-    Ok(())
+    assert!(rt; is_written_as(&rt, rt.alloc(), &larger, &some));
 }
 
 #[test]
-fn an_unimplemented_message_keeps_its_depth(rt: HostRuntime) -> Result<(), Fail> {
+fn an_unimplemented_message_keeps_its_depth(rt: HostRuntime) {
     // 64 structs, one in the other.
-    let mut words = Vec::from_slice(rt.alloc(), &[ROOT, 0])?;
-    for _ in 0..63 {
-        words.push(0x0001_0000_0000_0000)?;
-    }
-    words.push(0)?;
-    assert!(rt; is_kept(rt.alloc(), &words)?);
-    Ok(())
+    let mut words = [0x0001_0000_0000_0000; 66];
+    words[0] = ROOT;
+    words[1] = 0;
+    words[65] = 0;
+    assert!(rt; is_kept(&rt, rt.alloc(), &words));
 }
 
 #[test]
-fn a_list_is_no_finish(rt: HostRuntime) -> Result<(), Fail> {
+fn a_list_is_no_finish(rt: HostRuntime) {
     let words = [ROOT, 4, 0x0000_0002_0000_0001];
-    let fault = message_of(rt.alloc(), &root(rt.alloc(), &words)?).err();
+    let fault = owned_fault_of(&rt, rt.alloc(), &words);
     assert_eq!(rt; fault, Some(SchemaFault::Kind(Field::MessageFinish)));
-    Ok(())
 }
 
 /// The words that what a message says is written as.
-fn words_of(alloc: Global, words: &[u64]) -> Result<Vec<u64>, Fail> {
-    let Ok(message) = message_of(alloc, &root(alloc, words)?) else {
-        return Err(Fail::from("no message"));
-    };
-    let Ok(object) = tree_of(alloc, &message) else {
-        return Err(Fail::from("no tree"));
-    };
-    match write_root(alloc, &object, Limits::standard()) {
-        Ok(written) => Ok(written),
-        Err(_) => Err(Fail::from("not written")),
-    }
+fn words_of(rt: &impl Abort, alloc: Global, words: &[u64]) -> Vec<u64> {
+    let tree = tree(rt, alloc, words);
+    write_root(alloc, &tree, Limits::standard()).expect(rt, "words")
 }
 
 /// An abort with the reason "no", of a struct without a trace.
@@ -392,16 +348,15 @@ const SMALL_ABORT: [u64; 6] = [ROOT, 1, ONE_EACH, 0, 0x0000_001a_0000_0001, 0x6f
 const PLAIN_ABORT: [u64; 7] = [ROOT, 1, ONE_AND_TWO, 0, 0x0000_001a_0000_0005, 0, 0x6f6e];
 
 #[test]
-fn messages_are_written_word_for_word(rt: HostRuntime) -> Result<(), Fail> {
+fn messages_are_written_word_for_word(rt: HostRuntime) {
     let rows = [
         (PIPELINED_CALL.as_slice(), PIPELINED_CALL.as_slice()),
         (SMALL_ABORT.as_slice(), PLAIN_ABORT.as_slice()),
         (ABORT.as_slice(), ABORT.as_slice()),
     ];
     for (words, written) in rows {
-        assert_eq!(rt; words_of(rt.alloc(), words)?.as_slice(), written);
+        assert_eq!(rt; words_of(&rt, rt.alloc(), words).as_slice(), written);
     }
-    Ok(())
 }
 
 /// A call whose results go to a third party that is a struct.
@@ -464,31 +419,32 @@ const RESOLVED: [u64; 11] = [
     0x0000_0000_0003_0001,
 ];
 
-/// The roots of messages that hold, between them, each part that takes memory. A growth that is refused
-/// once is asked for again.
-fn roots_of_all_parts(alloc: Global) -> Result<Vec<Object>, Fail> {
-    let mut roots = match Vec::with_capacity(alloc, 16) {
-        Ok(roots) => roots,
-        Err(_) => Vec::with_capacity(alloc, 16)?,
-    };
-    for words in [
-        [ROOT, 0, ONE_AND_NONE, 5].as_slice(),
-        [ROOT, 7, ONE_AND_NONE, 5].as_slice(),
-        ABORT.as_slice(),
-        PIPELINED.as_slice(),
-        PIPELINED_CALL.as_slice(),
-        THIRD_PARTY.as_slice(),
-        RESULTS.as_slice(),
-        RETURNED_EXCEPTION.as_slice(),
-        BROKEN.as_slice(),
-        RESOLVED.as_slice(),
-    ] {
-        roots.push(match found_root(alloc, words) {
-            Some(root) => root,
-            None => root(alloc, words)?,
-        })?;
+/// Messages that hold, between them, each part that takes memory.
+const ALL_PARTS: [&[u64]; 10] = [
+    &[ROOT, 0, ONE_AND_NONE, 5],
+    &[ROOT, 7, ONE_AND_NONE, 5],
+    &ABORT,
+    &PIPELINED,
+    &PIPELINED_CALL,
+    &THIRD_PARTY,
+    &RESULTS,
+    &RETURNED_EXCEPTION,
+    &BROKEN,
+    &RESOLVED,
+];
+
+/// The root of a message of one segment, if there is memory for it.
+fn found_root(alloc: Global, words: &[u64]) -> Option<Object> {
+    let segments = Segments::one(Vec::from_slice(alloc, words).ok()?);
+    cp_tree::read_root(alloc, &segments, Limits::standard()).ok()
+}
+
+/// The same. A growth that is refused once is asked for again.
+fn root_again(rt: &impl Abort, alloc: Global, words: &[u64]) -> Object {
+    match found_root(alloc, words) {
+        Some(root) => root,
+        None => root(rt, alloc, words),
     }
-    Ok(roots)
 }
 
 /// Why a root says no message, if it says none.
@@ -496,28 +452,30 @@ fn fault_of(alloc: Global, root: &Object) -> Option<SchemaFault> {
     message_of(alloc, root).err()
 }
 
+/// Whether a root is read twice, or once that memory ran out.
+fn is_read_again(alloc: Global, root: &Object) -> bool {
+    match (fault_of(alloc, root), fault_of(alloc, root)) {
+        (None, None) => true,
+        (Some(fault), None) | (None, Some(fault)) => fault == SchemaFault::OutOfMemory,
+        (Some(_), Some(_)) => false,
+    }
+}
+
 // With memory enough no growth is refused. `rt try --test --fail-alloc N` refuses the Nth of each
 // of the three tests below.
 #[test]
-fn want_of_memory_while_messages_are_read(rt: HostRuntime) -> Result<(), Fail> {
-    let alloc = rt.alloc();
-    for root in &roots_of_all_parts(alloc)? {
-        let right = match (fault_of(alloc, root), fault_of(alloc, root)) {
-            (None, None) => true,
-            (Some(fault), None) | (None, Some(fault)) => fault == SchemaFault::OutOfMemory,
-            (Some(_), Some(_)) => false,
-        };
-        assert!(rt; right);
+fn want_of_memory_while_messages_are_read(rt: HostRuntime) {
+    for words in ALL_PARTS {
+        let root = root_again(&rt, rt.alloc(), words);
+        assert!(rt; is_read_again(rt.alloc(), &root));
     }
-    Ok(())
 }
 
-/// The message of a root, which is asked for again where memory ran out.
-fn message(alloc: Global, root: &Object) -> Result<Message, Fail> {
-    let first = message_of(alloc, root);
+/// The message of a root. A growth that is refused once is asked for again.
+fn message_again(rt: &impl Abort, alloc: Global, root: &Object) -> Message {
     match message_of(alloc, root) {
-        Ok(message) => Ok(message),
-        Err(_) => first.map_err(|_| Fail::from("no message")),
+        Ok(message) => message,
+        Err(_) => message(rt, alloc, root),
     }
 }
 
@@ -526,44 +484,52 @@ fn is_made_as(alloc: Global, message: &Message, root: &Object) -> Result<bool, W
     Ok(tree_of(alloc, message)?.tree() == root.tree())
 }
 
-#[test]
-fn want_of_memory_while_trees_are_made(rt: HostRuntime) -> Result<(), Fail> {
-    let alloc = rt.alloc();
-    for root in &roots_of_all_parts(alloc)? {
-        let message = message(alloc, root)?;
-        let first = is_made_as(alloc, &message, root);
-        let right = match (first, is_made_as(alloc, &message, root)) {
-            (Ok(first), Ok(second)) => first && second,
-            (Err(fault), Ok(right)) | (Ok(right), Err(fault)) => {
-                right && fault == WriteFault::OutOfMemory
-            }
-            (Err(_), Err(_)) => false,
-        };
-        assert!(rt; right);
+/// Whether a message is made twice as this root, or once that memory ran out.
+fn is_made_again(alloc: Global, message: &Message, root: &Object) -> bool {
+    let first = is_made_as(alloc, message, root);
+    match (first, is_made_as(alloc, message, root)) {
+        (Ok(first), Ok(second)) => first && second,
+        (Err(fault), Ok(right)) | (Ok(right), Err(fault)) => {
+            right && fault == WriteFault::OutOfMemory
+        }
+        (Err(_), Err(_)) => false,
     }
-    Ok(())
 }
 
-/// A message's copy, which is asked for again where memory ran out.
-fn copy_of(alloc: Global, message: &Message) -> Result<Message, Fail> {
-    let first = message.copy(alloc);
+#[test]
+fn want_of_memory_while_trees_are_made(rt: HostRuntime) {
+    for words in ALL_PARTS {
+        let root = root_again(&rt, rt.alloc(), words);
+        let message = message_again(&rt, rt.alloc(), &root);
+        assert!(rt; is_made_again(rt.alloc(), &message, &root));
+    }
+}
+
+/// A message's copy. A growth that is refused once is asked for again.
+fn copy_again(rt: &impl Abort, alloc: Global, message: &Message) -> Message {
     match message.copy(alloc) {
-        Ok(copy) => Ok(copy),
-        Err(_) => first.map_err(|_| Fail::from("no copy")),
+        Ok(copy) => copy,
+        Err(_) => message.copy(alloc).expect(rt, "memory"),
+    }
+}
+
+/// Whether a message's copy is made as this root, once or twice.
+fn copy_is_made_again(rt: &impl Abort, alloc: Global, message: &Message, root: &Object) -> bool {
+    let copy = copy_again(rt, alloc, message);
+    match (
+        is_made_as(alloc, &copy, root),
+        is_made_as(alloc, &copy, root),
+    ) {
+        (Ok(right), _) | (Err(_), Ok(right)) => right,
+        (Err(_), Err(_)) => false,
     }
 }
 
 #[test]
-fn want_of_memory_while_messages_are_copied(rt: HostRuntime) -> Result<(), Fail> {
-    let alloc = rt.alloc();
-    for root in &roots_of_all_parts(alloc)? {
-        let copy = copy_of(alloc, &message(alloc, root)?)?;
-        let first = is_made_as(alloc, &copy, root);
-        let right = match (first, is_made_as(alloc, &copy, root)) {
-            (Ok(right), _) | (Err(_), Ok(right)) => right,
-            (Err(_), Err(_)) => false,
-        };
-        assert!(rt; right);
+fn want_of_memory_while_messages_are_copied(rt: HostRuntime) {
+    for words in ALL_PARTS {
+        let root = root_again(&rt, rt.alloc(), words);
+        let message = message_again(&rt, rt.alloc(), &root);
+        assert!(rt; copy_is_made_again(&rt, rt.alloc(), &message, &root));
     }
-    Ok(())
 }
