@@ -6,11 +6,11 @@ use cp_tree::*;
 use cp_words::{ElementSize, Segments};
 use std::alloc::{AllocError, Global};
 use std::marker::Brand;
+use std::process::Abort;
 use std::sync::ledger::{Blank, Ledger};
-use std::test::Fail;
 
 /// A word by its eight bytes in hexadecimal, in the order of the stream.
-fn word(text: &str) -> u64 {
+pub fn word(text: &str) -> u64 {
     let mut word = 0u64;
     for digit in text.bytes() {
         let value = match digit {
@@ -23,47 +23,77 @@ fn word(text: &str) -> u64 {
     word.swap_bytes()
 }
 
+/// Words, each by its text.
+fn words_of(alloc: Global, list: &str) -> Result<Vec<u64>, AllocError> {
+    let mut words = Vec::with_capacity(alloc, list.len() / 16)?;
+    for text in list.split_whitespace() {
+        words.push(word(text))?;
+    }
+    Ok(words)
+}
+
 /// Lists of words.
 fn lists_of(alloc: Global, lists: &[&str]) -> Result<Vec<Vec<u64>>, AllocError> {
     let mut all = Vec::with_capacity(alloc, lists.len())?;
     for list in lists {
-        let mut words = Vec::with_capacity(alloc, list.len() / 16)?;
-        for text in list.split_whitespace() {
-            words.push(word(text))?;
-        }
-        all.push(words)?;
+        all.push(words_of(alloc, list)?)?;
     }
     Ok(all)
 }
 
 /// Segments, each by its words. A growth that is refused once is asked for again.
-fn segments(alloc: Global, lists: &[&str]) -> Result<Segments, Fail> {
+pub fn segments(rt: &impl Abort, alloc: Global, lists: &[&str]) -> Segments {
     let all = match lists_of(alloc, lists) {
         Ok(all) => all,
-        Err(_) => lists_of(alloc, lists)?,
+        Err(_) => lists_of(alloc, lists).expect(rt, "memory"),
     };
-    match Segments::new(all) {
-        Ok(segments) => Ok(segments),
-        Err(_) => Err(Fail::from("no segment")),
+    Segments::new(all).ok().expect(rt, "a segment")
+}
+
+/// The struct that these segments hold. A growth that is refused once is asked for again.
+pub fn object_of(rt: &impl Abort, alloc: Global, segments: &Segments) -> Object {
+    match read_root(alloc, segments, Limits::standard()) {
+        Ok(object) => object,
+        Err(_) => read_root(alloc, segments, Limits::standard()).expect(rt, "an object"),
     }
 }
 
-/// The tree that one segment holds, within limits on nesting and traversal.
+/// Whether the message of these segments denotes the tree.
+fn is_denoted(rt: &impl Abort, alloc: Global, segments: &Segments, tree: &Tree) -> bool {
+    root_denotes(alloc, segments, tree).expect(rt, "memory")
+}
+
+/// The tree that these segments hold, within limits on nesting and traversal.
 fn read(
+    rt: &impl Abort,
     alloc: Global,
     lists: &[&str],
     nesting: u32,
     traversal: u32,
-) -> Result<Result<Object, TreeFault>, Fail> {
-    let segments = segments(alloc, lists)?;
-    let limits = Limits::new(nesting, traversal, 512, 67_108_864).ok_or("limits")?;
-    let in_place = View::root(&segments, limits).map(|_| ());
+) -> Result<Object, TreeFault> {
+    let segments = segments(rt, alloc, lists);
+    let limits = Limits::new(nesting, traversal, 512, 67_108_864).expect(rt, "limits");
+    let in_place = View::root(&segments, limits).err();
     let owned = read_root(alloc, &segments, limits);
-    match (&in_place, &owned) {
-        (Ok(()), Ok(found)) if root_denotes(alloc, &segments, found.tree())? => Ok(owned),
-        (Err(a), Err(b)) if *a == *b => Ok(owned),
-        _ => Err(Fail::from("the view, the owned tree and the relation disagree")),
+    match &owned {
+        Ok(found) => {
+            assert_eq!(rt; in_place, None);
+            assert!(rt; is_denoted(rt, alloc, &segments, found.tree()));
+        }
+        Err(fault) => assert_eq!(rt; in_place, Some(*fault)),
     }
+    owned
+}
+
+/// Why these segments hold no tree within such limits, if they hold none.
+fn fault_of(
+    rt: &impl Abort,
+    alloc: Global,
+    lists: &[&str],
+    nesting: u32,
+    traversal: u32,
+) -> Option<TreeFault> {
+    read(rt, alloc, lists, nesting, traversal).err()
 }
 
 const FINISH: &str = "0000000001000100 0400000000000000 0000000001000000 0700000000000000";
@@ -72,135 +102,160 @@ fn at(segment: usize, word: usize) -> Place {
     Place { segment, word }
 }
 
-fn body(alloc: Global, words: &[u64], ptrs: Vec<Tree>) -> Result<Body, AllocError> {
-    Ok(Body {
-        words: Vec::from_slice(alloc, words)?,
-        ptrs,
-    })
+pub fn body<const N: usize>(
+    rt: &impl Abort,
+    alloc: Global,
+    words: &[u64],
+    ptrs: [Tree; N],
+) -> Body {
+    Body {
+        words: Vec::from_slice(alloc, words).expect(rt, "memory"),
+        ptrs: Vec::from_array(alloc, ptrs).expect(rt, "memory"),
+    }
 }
 
-fn leaf(alloc: Global, word: u64) -> Result<Tree, AllocError> {
-    Ok(Tree::Struct(body(alloc, &[word], Vec::new(alloc))?))
+/// A struct of one data word and no pointer.
+pub fn leaf(rt: &impl Abort, alloc: Global, word: u64) -> Tree {
+    Tree::Struct(body(rt, alloc, &[word], []))
+}
+
+/// The tree of the message `finish`.
+pub fn finish(rt: &impl Abort, alloc: Global) -> Tree {
+    Tree::Struct(body(rt, alloc, &[4], [leaf(rt, alloc, 7)]))
 }
 
 #[test]
-fn views_lend_parts(rt: HostRuntime) -> Result<(), Fail> {
-    let segments = segments(rt.alloc(), &[FINISH])?;
-    let Ok(root) = View::root(&segments, Limits::standard()) else {
-        return Err(Fail::from("refused"));
-    };
+fn views_lend_parts(rt: HostRuntime) {
+    let segments = segments(&rt, rt.alloc(), &[FINISH]);
+    let root = View::root(&segments, Limits::standard()).expect(&rt, "a root");
     assert_eq!(rt; root.shape(), Shape::Struct { words: 1, ptrs: 1 });
     assert_eq!(rt; root.words(), [4].as_slice());
     let member = root.child(0);
     assert_eq!(rt; member.shape(), Shape::Struct { words: 1, ptrs: 0 });
     assert_eq!(rt; member.again().words(), [7].as_slice());
     assert_eq!(rt; root.child(1).shape(), Shape::Null);
-    Ok(())
 }
 
 /// Whether these segments hold the message `finish`, in place and owned.
-fn is_finish(alloc: Global, lists: &[&str]) -> Result<bool, Fail> {
-    let whole = Tree::Struct(body(alloc, &[4], vec![in alloc; leaf(alloc, 7)?]?)?);
-    match read(alloc, lists, 64, 8_388_608)? {
-        Ok(found) => Ok(*found.tree() == whole && found.into_tree() == whole),
-        Err(_) => Ok(false),
-    }
+fn is_finish(rt: &impl Abort, alloc: Global, lists: &[&str]) -> bool {
+    let finish = finish(rt, alloc);
+    let found = read(rt, alloc, lists, 64, 8_388_608).expect(rt, "a tree");
+    *found.tree() == finish && found.into_tree() == finish
 }
 
 #[test]
-fn one_message_in_any_segments(rt: HostRuntime) -> Result<(), Fail> {
-    let alloc = rt.alloc();
-    assert!(rt; is_finish(alloc, &[FINISH])?);
-    assert!(rt; is_finish(alloc, &["0200000001000000", FINISH])?);
+fn one_message_in_any_segments(rt: HostRuntime) {
+    assert!(rt; is_finish(&rt, rt.alloc(), &[FINISH]));
+    assert!(rt; is_finish(&rt, rt.alloc(), &["0200000001000000", FINISH]));
     let by_two = [
         "0600000001000000",
         "0200000002000000 0000000001000100",
         "0400000000000000 0000000001000000 0700000000000000",
     ];
-    assert!(rt; is_finish(alloc, &by_two)?);
-    Ok(())
+    assert!(rt; is_finish(&rt, rt.alloc(), &by_two));
 }
 
 #[test]
-fn a_pad_of_zero_bits_is_an_empty_struct(rt: HostRuntime) -> Result<(), Fail> {
-    let alloc = rt.alloc();
+fn a_pad_of_zero_bits_is_an_empty_struct(rt: HostRuntime) {
     let lists = ["0600000001000000", "0200000002000000 0000000000000000", ""];
-    let Ok(found) = read(alloc, &lists, 64, 8_388_608)? else {
-        return Err(Fail::from("refused"));
-    };
-    assert!(rt; *found.tree() == Tree::Struct(body(alloc, &[], Vec::new(alloc))?));
-    let one_word = read(
-        alloc,
-        &["0200000001000000", "0000000000000000"],
-        64,
-        8_388_608,
-    )?;
-    assert!(rt; one_word.is_err());
-    Ok(())
-}
-
-/// A struct of this pointer alone.
-fn holding(alloc: Global, tree: Tree) -> Result<Tree, AllocError> {
-    Ok(Tree::Struct(body(alloc, &[], vec![in alloc; tree]?)?))
+    let found = read(&rt, rt.alloc(), &lists, 64, 8_388_608).expect(&rt, "a tree");
+    assert!(rt; *found.tree() == Tree::Struct(body(&rt, rt.alloc(), &[], [])));
+    let one_word = ["0200000001000000", "0000000000000000"];
+    assert!(rt; fault_of(&rt, rt.alloc(), &one_word, 64, 8_388_608).is_some());
 }
 
 /// Whether a struct of this pointer and no data, with these words behind it, holds the tree.
-fn holds(alloc: Global, pointer: &str, words: &str, tree: Tree) -> Result<bool, Fail> {
-    let whole = holding(alloc, tree)?;
-    let text = format!(in alloc; "0000000000000100 {pointer} {words}")?;
-    match read(alloc, &[text.as_str()], 64, 8_388_608)? {
-        Ok(found) => Ok(*found.tree() == whole),
-        Err(_) => Err(Fail::from("refused")),
+fn holds(rt: &impl Abort, alloc: Global, pointer: &str, words: &str, tree: Tree) -> bool {
+    let whole = Tree::Struct(body(rt, alloc, &[], [tree]));
+    let text = format!(in alloc; "0000000000000100 {pointer} {words}").expect(rt, "memory");
+    let found = read(rt, alloc, &[text.as_str()], 64, 8_388_608).expect(rt, "a tree");
+    *found.tree() == whole
+}
+
+#[test]
+fn lists_of_every_size(rt: HostRuntime) {
+    let alloc = rt.alloc();
+    let voids = Tree::Voids(9);
+    assert!(rt; holds(&rt, alloc, "0100000048000000", "0000000000000000", voids));
+    let bits = Vec::from_slice(alloc, &[false, true, false, true]).expect(&rt, "memory");
+    assert!(rt;
+        holds(
+            &rt,
+            alloc,
+            "0100000021000000",
+            "0a00000000000000",
+            Tree::Bits(bits)
+        )
+    );
+    let bytes = Vec::from_slice(alloc, &[0xab]).expect(&rt, "memory");
+    assert!(rt;
+        holds(
+            &rt,
+            alloc,
+            "010000000a000000",
+            "ab00000000000000",
+            Tree::Bytes(bytes)
+        )
+    );
+    let halves = Vec::from_slice(alloc, &[0x0201, 0x0403]).expect(&rt, "memory");
+    assert!(rt;
+        holds(
+            &rt,
+            alloc,
+            "0100000013000000",
+            "0102030400000000",
+            Tree::Halves(halves)
+        )
+    );
+    let quads = Vec::from_slice(alloc, &[0x0403_0201]).expect(&rt, "memory");
+    assert!(rt;
+        holds(
+            &rt,
+            alloc,
+            "010000000c000000",
+            "0102030400000000",
+            Tree::Quads(quads)
+        )
+    );
+    let words = Vec::from_slice(alloc, &[5]).expect(&rt, "memory");
+    assert!(rt;
+        holds(
+            &rt,
+            alloc,
+            "010000000d000000",
+            "0500000000000000",
+            Tree::Words(words)
+        )
+    );
+}
+
+#[test]
+fn lists_of_pointers(rt: HostRuntime) {
+    let list = [Tree::Null, Tree::Cap(9)];
+    let list = Tree::Ptrs(Vec::from_array(rt.alloc(), list).expect(&rt, "memory"));
+    let words = "0000000000000000 0300000009000000";
+    assert!(rt; holds(&rt, rt.alloc(), "0100000016000000", words, list));
+}
+
+/// A composite list of two structs of one data word and one pointer.
+fn two_structs(rt: &impl Abort, alloc: Global) -> Tree {
+    let first = body(rt, alloc, &[7], [Tree::Null]);
+    let second = body(rt, alloc, &[8], [Tree::Cap(2)]);
+    Tree::Structs {
+        words: 1,
+        ptrs: 1,
+        items: Vec::from_array(alloc, [first, second]).expect(rt, "memory"),
     }
 }
 
-#[test]
-fn lists_of_every_size(rt: HostRuntime) -> Result<(), Fail> {
-    let alloc = rt.alloc();
-    let voids = Tree::Voids(9);
-    assert!(rt; holds(alloc, "0100000048000000", "0000000000000000", voids)?);
-    let bits = Tree::Bits(Vec::from_slice(alloc, &[false, true, false, true])?);
-    assert!(rt; holds(alloc, "0100000021000000", "0a00000000000000", bits)?);
-    let bytes = Tree::Bytes(Vec::from_slice(alloc, &[0xab])?);
-    assert!(rt; holds(alloc, "010000000a000000", "ab00000000000000", bytes)?);
-    let halves = Tree::Halves(Vec::from_slice(alloc, &[0x0201, 0x0403])?);
-    assert!(rt; holds(alloc, "0100000013000000", "0102030400000000", halves)?);
-    let quads = Tree::Quads(Vec::from_slice(alloc, &[0x0403_0201])?);
-    assert!(rt; holds(alloc, "010000000c000000", "0102030400000000", quads)?);
-    let words = Tree::Words(Vec::from_slice(alloc, &[5])?);
-    assert!(rt; holds(alloc, "010000000d000000", "0500000000000000", words)?);
-    Ok(())
-}
-
-/// A struct of one data word and one pointer.
-fn one_each(alloc: Global, word: u64, ptr: Tree) -> Result<Body, AllocError> {
-    body(alloc, &[word], vec![in alloc; ptr]?)
-}
-
-/// A composite list of two such structs.
-fn two_structs(alloc: Global) -> Result<Tree, AllocError> {
-    let first = one_each(alloc, 7, Tree::Null)?;
-    let second = one_each(alloc, 8, Tree::Cap(2))?;
-    Ok(Tree::Structs {
-        words: 1,
-        ptrs: 1,
-        items: vec![in alloc; first, second]?,
-    })
-}
+/// A struct of that list.
+const TWO_STRUCTS: &str = "0000000000000100 0100000027000000 0800000001000100 \
+    0700000000000000 0000000000000000 0800000000000000 0300000002000000";
 
 #[test]
-fn lists_of_pointers_and_structs(rt: HostRuntime) -> Result<(), Fail> {
-    let alloc = rt.alloc();
-    let list = Tree::Ptrs(vec![in alloc; Tree::Null, Tree::Cap(9)]?);
-    let words = "0000000000000000 0300000009000000";
-    assert!(rt; holds(alloc, "0100000016000000", words, list)?);
-
-    let structs = "0000000000000100 0100000027000000 0800000001000100 \
-        0700000000000000 0000000000000000 0800000000000000 0300000002000000";
-    let segments = segments(alloc, &[structs])?;
-    let Ok(root) = View::root(&segments, Limits::standard()) else {
-        return Err(Fail::from("refused"));
-    };
+fn lists_of_structs(rt: HostRuntime) {
+    let segments = segments(&rt, rt.alloc(), &[TWO_STRUCTS]);
+    let root = View::root(&segments, Limits::standard()).expect(&rt, "a root");
     let list = root.child(0);
     assert_eq!(rt;
         list.shape(),
@@ -213,41 +268,36 @@ fn lists_of_pointers_and_structs(rt: HostRuntime) -> Result<(), Fail> {
     assert_eq!(rt; list.child(1).words(), [8].as_slice());
     assert_eq!(rt; list.child(1).child(0).shape(), Shape::Cap(2));
     assert_eq!(rt; list.child(2).shape(), Shape::Null);
-    let tree = list.tree(alloc)?.into_tree();
-    assert!(rt; tree == two_structs(alloc)?);
-    Ok(())
+    let tree = list.tree(rt.alloc()).expect(&rt, "memory").into_tree();
+    assert!(rt; tree == two_structs(&rt, rt.alloc()));
 }
 
 /// Whether the root's two children are structs of the word 5.
-fn shows_five_twice(segments: &Segments) -> Result<bool, Fail> {
-    let Ok(root) = View::root(segments, Limits::standard()) else {
-        return Err(Fail::from("refused"));
-    };
+fn shows_five_twice(rt: &impl Abort, segments: &Segments) -> bool {
+    let root = View::root(segments, Limits::standard()).expect(rt, "a root");
     let five = [5];
-    Ok(
-        root.child(0).words() == five.as_slice()
-            && root.child(1).words() == five.as_slice()
-            && root.child(2).shape() == Shape::Null,
-    )
+    root.child(0).words() == five.as_slice()
+        && root.child(1).words() == five.as_slice()
+        && root.child(2).shape() == Shape::Null
 }
 
+/// A struct of two pointers to one body.
+const SHARED: &str = "0000000000000200 0400000001000000 0000000001000000 0500000000000000";
+
 #[test]
-fn a_shared_body_is_paid_for_each_way(rt: HostRuntime) -> Result<(), Fail> {
+fn a_shared_body_is_paid_for_each_way(rt: HostRuntime) {
     let alloc = rt.alloc();
-    let shared = ["0000000000000200 0400000001000000 0000000001000000 0500000000000000"];
-    assert!(rt; read(alloc, &shared, 64, 7)?.is_ok());
+    assert_eq!(rt; fault_of(&rt, alloc, &[SHARED], 64, 7), None);
     assert_eq!(rt;
-        read(alloc, &shared, 64, 6)?.err(),
+        fault_of(&rt, alloc, &[SHARED], 64, 6),
         Some(TreeFault::TraversalLimit(at(0, 2)))
     );
-    let segments = segments(alloc, &shared)?;
-    assert!(rt; shows_five_twice(&segments)?);
-    Ok(())
+    let segments = segments(&rt, alloc, &[SHARED]);
+    assert!(rt; shows_five_twice(&rt, &segments));
 }
 
 #[test]
-fn faults_have_their_places(rt: HostRuntime) -> Result<(), Fail> {
-    let alloc = rt.alloc();
+fn faults_have_their_places(rt: HostRuntime) {
     let rows = [
         ("", TreeFault::NoRoot(at(0, 0))),
         ("0000000000000000", TreeFault::NoRoot(at(0, 0))),
@@ -282,16 +332,15 @@ fn faults_have_their_places(rt: HostRuntime) -> Result<(), Fail> {
     ];
     for (text, fault) in rows {
         assert_eq!(rt;
-            read(alloc, &[text], 64, 8_388_608)?.err(),
+            fault_of(&rt, rt.alloc(), &[text], 64, 8_388_608),
             Some(fault),
             "{text}"
         );
     }
-    Ok(())
 }
 
 /// So many nested structs of one pointer, then a null pointer.
-fn nested(alloc: Global, depth: usize) -> Result<String, AllocError> {
+fn nested_text(alloc: Global, depth: usize) -> Result<String, AllocError> {
     let mut text = String::with_capacity(alloc, 2_048)?;
     for _ in 0..depth {
         text.push_str("0000000000000100 ")?;
@@ -300,33 +349,45 @@ fn nested(alloc: Global, depth: usize) -> Result<String, AllocError> {
     Ok(text)
 }
 
-#[test]
-fn nesting_has_a_limit(rt: HostRuntime) -> Result<(), Fail> {
-    let alloc = rt.alloc();
-    let text = nested(alloc, 64)?;
-    assert!(rt; read(alloc, &[text.as_str()], 64, 8_388_608)?.is_ok());
-    let text = nested(alloc, 65)?;
-    let deep = read(alloc, &[text.as_str()], 64, 8_388_608)?;
-    assert_eq!(rt; deep.err(), Some(TreeFault::NestingLimit(at(0, 64))));
-    assert!(rt; read(alloc, &[text.as_str()], 65, 130)?.is_ok());
-    let dear = read(alloc, &[text.as_str()], 65, 129)?;
-    assert_eq!(rt; dear.err(), Some(TreeFault::TraversalLimit(at(0, 64))));
-    Ok(())
+/// The same. A growth that is refused once is asked for again.
+fn nested(rt: &impl Abort, alloc: Global, depth: usize) -> String {
+    match nested_text(alloc, depth) {
+        Ok(text) => text,
+        Err(_) => nested_text(alloc, depth).expect(rt, "memory"),
+    }
 }
 
 #[test]
-fn amplified_input_costs_what_it_denotes(rt: HostRuntime) -> Result<(), Fail> {
+fn nesting_has_a_limit(rt: HostRuntime) {
     let alloc = rt.alloc();
+    let text = nested(&rt, alloc, 64);
+    assert_eq!(rt; fault_of(&rt, alloc, &[text.as_str()], 64, 8_388_608), None);
+    let text = nested(&rt, alloc, 65);
+    let deep = fault_of(&rt, alloc, &[text.as_str()], 64, 8_388_608);
+    assert_eq!(rt; deep, Some(TreeFault::NestingLimit(at(0, 64))));
+    assert_eq!(rt; fault_of(&rt, alloc, &[text.as_str()], 65, 130), None);
+    let dear = fault_of(&rt, alloc, &[text.as_str()], 65, 129);
+    assert_eq!(rt; dear, Some(TreeFault::TraversalLimit(at(0, 64))));
+}
+
+/// Sixty lists of two pointers, both to the next list.
+fn amplified(alloc: Global) -> Result<String, AllocError> {
     let mut text = String::from_str(alloc, "0000000000000100 0100000016000000")?;
     for _ in 0..59 {
         text.push_str(" 0500000016000000 0100000016000000")?;
     }
     text.push_str(" 0000000000000000 0000000000000000")?;
-    let found = read(alloc, &[text.as_str()], 64, 8_388_608)?;
-    assert_eq!(rt; found.err(), Some(TreeFault::TraversalLimit(at(0, 117))));
-    let found = read(alloc, &[text.as_str()], 64, 100)?;
-    assert_eq!(rt; found.err(), Some(TreeFault::TraversalLimit(at(0, 64))));
-    Ok(())
+    Ok(text)
+}
+
+#[test]
+fn amplified_input_costs_what_it_denotes(rt: HostRuntime) {
+    let alloc = rt.alloc();
+    let text = amplified(alloc).expect(&rt, "memory");
+    let fault = fault_of(&rt, alloc, &[text.as_str()], 64, 8_388_608);
+    assert_eq!(rt; fault, Some(TreeFault::TraversalLimit(at(0, 117))));
+    let fault = fault_of(&rt, alloc, &[text.as_str()], 64, 100);
+    assert_eq!(rt; fault, Some(TreeFault::TraversalLimit(at(0, 64))));
 }
 
 /// Words of every kind: structs of two sizes, an empty one before its word, one that has itself,
@@ -346,66 +407,64 @@ const KINDS: [&str; 11] = [
 ];
 
 /// The message of one segment of these words.
-fn small_message(alloc: Global, first: &str, second: &str, third: &str) -> Result<Segments, Fail> {
-    let text = format!(in alloc; "{first} {second} {third}")?;
-    segments(alloc, &[text.as_str()])
+fn small_message(
+    rt: &impl Abort,
+    alloc: Global,
+    first: &str,
+    second: &str,
+    third: &str,
+) -> Segments {
+    let text = format!(in alloc; "{first} {second} {third}").expect(rt, "memory");
+    segments(rt, alloc, &[text.as_str()])
 }
 
 /// All messages of one segment of three such words.
-fn small_messages(alloc: Global) -> Result<Vec<Segments>, Fail> {
+fn small_messages(rt: &impl Abort, alloc: Global) -> Vec<Segments> {
     let mut all = Vec::new(alloc);
     for first in KINDS {
         for second in KINDS {
             for third in KINDS {
-                all.push(small_message(alloc, first, second, third)?)?;
+                let message = small_message(rt, alloc, first, second, third);
+                all.push(message).expect(rt, "memory");
             }
         }
     }
-    Ok(all)
+    all
 }
 
 /// The trees that the reader finds in the messages, each once.
-fn trees_of(alloc: Global, messages: &[Segments]) -> Result<Vec<Object>, AllocError> {
+fn trees_of(rt: &impl Abort, alloc: Global, messages: &[Segments]) -> Vec<Object> {
     let mut trees: Vec<Object> = Vec::new(alloc);
     for message in messages {
         if let Ok(found) = read_root(alloc, message, Limits::standard()) {
             if !trees.iter().any(|tree| *tree.tree() == *found.tree()) {
-                trees.push(found)?;
+                trees.push(found).expect(rt, "memory");
             }
         }
     }
-    Ok(trees)
+    trees
 }
 
-/// Whether the message denotes, of these trees, just the one that is read, if any.
-fn denotes_what_is_found(
-    alloc: Global,
-    message: &Segments,
-    trees: &[Object],
-) -> Result<bool, AllocError> {
+/// Of these trees the message denotes just the one that is read, if any.
+fn expect_what_is_found(rt: &impl Abort, alloc: Global, message: &Segments, trees: &[Object]) {
     let found = read_root(alloc, message, Limits::standard()).ok();
     for tree in trees {
         let is_found = match &found {
             Some(found) => *found.tree() == *tree.tree(),
             None => false,
         };
-        if root_denotes(alloc, message, tree.tree())? != is_found {
-            return Ok(false);
-        }
+        assert_eq!(rt; is_denoted(rt, alloc, message, tree.tree()), is_found);
     }
-    Ok(true)
 }
 
 #[test]
-fn the_reader_finds_what_is_denoted(rt: HostRuntime) -> Result<(), Fail> {
-    let alloc = rt.alloc();
-    let messages = small_messages(alloc)?;
-    let trees = trees_of(alloc, &messages)?;
+fn the_reader_finds_what_is_denoted(rt: HostRuntime) {
+    let messages = small_messages(&rt, rt.alloc());
+    let trees = trees_of(&rt, rt.alloc(), &messages);
     assert!(rt; trees.len() > 20);
     for message in &messages {
-        assert!(rt; denotes_what_is_found(alloc, message, &trees)?);
+        expect_what_is_found(&rt, rt.alloc(), message, &trees);
     }
-    Ok(())
 }
 
 /// Reads the message's tree, and counts.
@@ -423,99 +482,72 @@ fn read_with_count<L: Ledger>(
 }
 
 #[test]
-fn counting_changes_no_answer(rt: HostRuntime) -> Result<(), Fail> {
+fn counting_changes_no_answer(rt: HostRuntime) {
     let alloc = rt.alloc();
-    let segments = segments(alloc, &[FINISH])?;
+    let segments = segments(&rt, alloc, &[FINISH]);
     let limits = Limits::standard();
     let counted = read_with_count::<Brand>(alloc, &segments, limits, Blank::new(1));
-    let plain = read_root(alloc, &segments, limits);
-    let (Ok(counted), Ok(plain)) = (counted, plain) else {
-        return Err(Fail::from("the message has a tree"));
-    };
+    let counted = counted.expect(&rt, "a tree");
+    let plain = read_root(alloc, &segments, limits).expect(&rt, "a tree");
     assert!(rt; *counted.tree() == *plain.tree());
-    Ok(())
 }
 
 /// Whether reading these segments twice gives the same tree, or once that memory ran out.
-fn reads_again(alloc: Global, lists: &[&str], limits: Limits) -> Result<bool, Fail> {
-    let segments = segments(alloc, lists)?;
-    let first = read_root(alloc, &segments, limits);
-    let second = read_root(alloc, &segments, limits);
-    Ok(match (&first, &second) {
+fn reads_again(rt: &impl Abort, alloc: Global, lists: &[&str]) -> bool {
+    let segments = segments(rt, alloc, lists);
+    let first = read_root(alloc, &segments, Limits::standard());
+    let second = read_root(alloc, &segments, Limits::standard());
+    match (&first, &second) {
         (Ok(first), Ok(second)) => *first.tree() == *second.tree(),
         (Err(fault), Ok(_)) | (Ok(_), Err(fault)) => *fault == TreeFault::OutOfMemory,
         (Err(_), Err(_)) => false,
-    })
+    }
 }
 
 // With memory enough no growth is refused. `rt try --test --fail-alloc N` refuses the Nth of each
 // of the five tests below.
 #[test]
-fn want_of_memory_for_a_message(rt: HostRuntime) -> Result<(), Fail> {
-    let alloc = rt.alloc();
-    assert!(rt; reads_again(alloc, &[FINISH], Limits::standard())?);
-    assert!(rt; reads_again(alloc, &["0200000001000000", FINISH], Limits::standard())?);
-    Ok(())
+fn want_of_memory_for_a_message(rt: HostRuntime) {
+    assert!(rt; reads_again(&rt, rt.alloc(), &[FINISH]));
+    assert!(rt; reads_again(&rt, rt.alloc(), &["0200000001000000", FINISH]));
 }
 
 #[test]
-fn want_of_memory_behind_two_words(rt: HostRuntime) -> Result<(), Fail> {
-    let alloc = rt.alloc();
+fn want_of_memory_behind_two_words(rt: HostRuntime) {
     let by_two = [
         "0600000001000000",
         "0200000002000000 0000000001000100",
         "0400000000000000 0000000001000000 0700000000000000",
     ];
-    assert!(rt; reads_again(alloc, &by_two, Limits::standard())?);
+    assert!(rt; reads_again(&rt, rt.alloc(), &by_two));
     let zero_bits = ["0600000001000000", "0200000002000000 0000000000000000", ""];
-    assert!(rt; reads_again(alloc, &zero_bits, Limits::standard())?);
-    Ok(())
+    assert!(rt; reads_again(&rt, rt.alloc(), &zero_bits));
 }
 
 #[test]
-fn want_of_memory_for_lists(rt: HostRuntime) -> Result<(), Fail> {
-    let alloc = rt.alloc();
+fn want_of_memory_for_lists(rt: HostRuntime) {
     for list in [
-        "0100000048000000",
-        "0100000021000000",
-        "010000000a000000",
-        "0100000013000000",
-        "010000000c000000",
-        "010000000d000000",
+        "0000000000000100 0100000048000000 0500000000000000",
+        "0000000000000100 0100000021000000 0500000000000000",
+        "0000000000000100 010000000a000000 0500000000000000",
+        "0000000000000100 0100000013000000 0500000000000000",
+        "0000000000000100 010000000c000000 0500000000000000",
+        "0000000000000100 010000000d000000 0500000000000000",
     ] {
-        let text = format!(in alloc; "0000000000000100 {list} 0500000000000000");
-        let text = match text {
-            Ok(text) => text,
-            Err(_) => format!(in alloc; "0000000000000100 {list} 0500000000000000")?,
-        };
-        assert!(rt;
-            reads_again(alloc, &[text.as_str()], Limits::standard())?,
-            "{list}"
-        );
+        assert!(rt; reads_again(&rt, rt.alloc(), &[list]), "{list}");
     }
-    Ok(())
 }
 
 #[test]
-fn want_of_memory_for_lists_of_pointers_and_structs(rt: HostRuntime) -> Result<(), Fail> {
-    let alloc = rt.alloc();
+fn want_of_memory_for_lists_of_pointers_and_structs(rt: HostRuntime) {
     let pointers = "0000000000000100 0100000016000000 0000000000000000 0300000009000000";
-    assert!(rt; reads_again(alloc, &[pointers], Limits::standard())?);
-    let structs = "0000000000000100 0100000027000000 0800000001000100 \
-        0700000000000000 0000000000000000 0800000000000000 0300000002000000";
-    assert!(rt; reads_again(alloc, &[structs], Limits::standard())?);
-    let shared = "0000000000000200 0400000001000000 0000000001000000 0500000000000000";
-    assert!(rt; reads_again(alloc, &[shared], Limits::standard())?);
-    Ok(())
+    assert!(rt; reads_again(&rt, rt.alloc(), &[pointers]));
+    assert!(rt; reads_again(&rt, rt.alloc(), &[TWO_STRUCTS]));
+    assert!(rt; reads_again(&rt, rt.alloc(), &[SHARED]));
 }
 
 #[test]
-fn want_of_memory_for_nested_structs(rt: HostRuntime) -> Result<(), Fail> {
-    let alloc = rt.alloc();
-    let text = match nested(alloc, 64) {
-        Ok(text) => text,
-        Err(_) => nested(alloc, 64)?,
-    };
-    assert!(rt; reads_again(alloc, &[text.as_str()], Limits::standard())?);
-    Ok(())
+fn want_of_memory_for_nested_structs(rt: HostRuntime) {
+    let text = nested(&rt, rt.alloc(), 64);
+    assert!(rt; reads_again(&rt, rt.alloc(), &[text.as_str()]));
 }

@@ -6,41 +6,14 @@ ghost use Rattle.cp_tree.specs.NodeOf.{node_of, nodes_of};
 ghost use Rattle.cp_tree.specs.DraftOf.{draft_of, draft_body_of};
 ghost use Rattle.cp_tree.specs.Shaped.{Shaped};
 
+use crate::trees::{body, finish, leaf, object_of, segments, word};
 use cp_tree::*;
 use cp_words::Segments;
 use std::alloc::{AllocError, Global};
-use std::test::Fail;
+use std::process::Abort;
 
-/// A word by its eight bytes in hexadecimal, in the order of the stream.
-fn word(text: &str) -> u64 {
-    let mut word = 0u64;
-    for digit in text.bytes() {
-        let value = match digit {
-            b'0'..=b'9' => digit - b'0',
-            b'a'..=b'f' => digit - b'a' + 10,
-            _ => 0,
-        };
-        word = word.wrapping_mul(16).wrapping_add(value as u64);
-    }
-    word.swap_bytes()
-}
-
-fn body(alloc: Global, words: &[u64], ptrs: Vec<Tree>) -> Result<Body, AllocError> {
-    Ok(Body {
-        words: Vec::from_slice(alloc, words)?,
-        ptrs,
-    })
-}
-
-fn leaf(alloc: Global, word: u64) -> Result<Tree, AllocError> {
-    Ok(Tree::Struct(body(alloc, &[word], Vec::new(alloc))?))
-}
-
-fn object(tree: Tree) -> Result<Object, Fail> {
-    match Object::new(tree) {
-        Ok(object) => Ok(object),
-        Err(_) => Err(Fail::from("no object")),
-    }
+fn object(rt: &impl Abort, tree: Tree) -> Object {
+    Object::new(tree).ok().expect(rt, "an object")
 }
 
 /// Whether the lists are these, each by its words.
@@ -64,129 +37,117 @@ fn are(lists: &[Vec<u64>], wanted: &[&str]) -> bool {
 }
 
 /// Whether the second tree is written in one segment, as `write_root` writes the first.
-fn is_written_in_one(alloc: Global, first: &Object, second: &Object) -> Result<bool, Fail> {
+fn is_written_in_one(rt: &impl Abort, alloc: Global, first: &Object, second: &Object) -> bool {
     let limits = Limits::standard();
-    let Ok(words) = write_root(alloc, first, limits) else {
-        return Err(Fail::from("not written"));
-    };
-    match write_segments(alloc, second, 8_388_608, limits) {
-        Ok(one) => Ok(one.lists().len() == 1 && one.lists()[0] == words),
-        Err(_) => Err(Fail::from("not written")),
-    }
+    let words = write_root(alloc, first, limits).expect(rt, "words");
+    let one = write_segments(alloc, second, 8_388_608, limits).expect(rt, "segments");
+    one.lists().len() == 1 && one.lists()[0] == words
 }
 
 /// Whether these segments are read as the tree, and written back in one segment, as `write_root`
 /// writes it.
-fn are_read_back(alloc: Global, segments: &Segments, object: &Object) -> Result<bool, Fail> {
-    match read_root(alloc, segments, Limits::standard()) {
-        Ok(back) => Ok(*back.tree() == *object.tree() && is_written_in_one(alloc, object, &back)?),
-        Err(_) => Err(Fail::from("not read")),
-    }
+fn are_read_back(rt: &impl Abort, alloc: Global, segments: &Segments, object: &Object) -> bool {
+    let back = read_root(alloc, segments, Limits::standard()).expect(rt, "a tree");
+    *back.tree() == *object.tree() && is_written_in_one(rt, alloc, object, &back)
 }
 
 /// Whether the tree is written so, with at most so many words in a segment, and its segments are
 /// read back.
-fn writes(alloc: Global, tree: Tree, max_words: u32, wanted: &[&str]) -> Result<bool, Fail> {
-    let object = object(tree)?;
-    match write_segments(alloc, &object, max_words, Limits::standard()) {
-        Ok(segments) => {
-            Ok(are(segments.lists(), wanted) && are_read_back(alloc, &segments, &object)?)
-        }
-        Err(WriteFault::OutOfMemory) => Err(Fail::from(AllocError)),
-        Err(_) => Ok(false),
-    }
+fn writes(rt: &impl Abort, alloc: Global, tree: Tree, max_words: u32, wanted: &[&str]) -> bool {
+    let object = object(rt, tree);
+    let limits = Limits::standard();
+    let segments = write_segments(alloc, &object, max_words, limits).expect(rt, "segments");
+    are(segments.lists(), wanted) && are_read_back(rt, alloc, &segments, &object)
 }
 
 #[test]
-fn bytes_are_written_as_their_words(rt: HostRuntime) -> Result<(), Fail> {
+fn bytes_are_written_as_their_words(rt: HostRuntime) {
     let alloc = rt.alloc();
-    let bytes = Tree::Bytes(Vec::from_slice(alloc, &[0xab])?);
-    let tree = Tree::Struct(body(alloc, &[], vec![in alloc; bytes]?)?);
+    let bytes = Tree::Bytes(Vec::from_slice(alloc, &[0xab]).expect(&rt, "memory"));
+    let tree = Tree::Struct(body(&rt, alloc, &[], [bytes]));
     let words = ["0000000000000100 010000000a000000 ab00000000000000"];
-    assert!(rt; writes(alloc, tree, 8_388_608, &words)?);
-    Ok(())
-}
-
-fn finish(alloc: Global) -> Result<Tree, AllocError> {
-    Ok(Tree::Struct(body(alloc, &[4], vec![in alloc; leaf(alloc, 7)?]?)?))
+    assert!(rt; writes(&rt, alloc, tree, 8_388_608, &words));
 }
 
 #[test]
-fn segments_of_three_words_and_of_four(rt: HostRuntime) -> Result<(), Fail> {
+fn segments_of_three_words_and_of_four(rt: HostRuntime) {
     let alloc = rt.alloc();
     let by_three = [
         "0000000001000100 0400000000000000 0200000001000000",
         "0000000001000000 0700000000000000",
     ];
-    assert!(rt; writes(alloc, finish(alloc)?, 3, &by_three)?);
+    assert!(rt; writes(&rt, alloc, finish(&rt, alloc), 3, &by_three));
     let by_four = ["0000000001000100 0400000000000000 0000000001000000 0700000000000000"];
-    assert!(rt; writes(alloc, finish(alloc)?, 4, &by_four)?);
+    assert!(rt; writes(&rt, alloc, finish(&rt, alloc), 4, &by_four));
     let by_none = [
         "0200000001000000",
         "0000000001000100 0400000000000000 0200000002000000",
         "0000000001000000 0700000000000000",
     ];
-    assert!(rt; writes(alloc, finish(alloc)?, 0, &by_none)?);
-    Ok(())
+    assert!(rt; writes(&rt, alloc, finish(&rt, alloc), 0, &by_none));
 }
 
 #[test]
-fn bodies_follow_pads_in_the_last_segment(rt: HostRuntime) -> Result<(), Fail> {
+fn bodies_follow_pads_in_the_last_segment(rt: HostRuntime) {
     let alloc = rt.alloc();
-    let ptrs = vec![in alloc; leaf(alloc, 1)?, leaf(alloc, 2)?]?;
-    let tree = Tree::Struct(body(alloc, &[9], ptrs)?);
+    let ptrs = [leaf(&rt, alloc, 1), leaf(&rt, alloc, 2)];
+    let tree = Tree::Struct(body(&rt, alloc, &[9], ptrs));
     let words = [
         "0000000001000200 0900000000000000 0200000001000000 1200000001000000",
         "0000000001000000 0100000000000000 0000000001000000 0200000000000000",
     ];
-    assert!(rt; writes(alloc, tree, 4, &words)?);
-    Ok(())
+    assert!(rt; writes(&rt, alloc, tree, 4, &words));
+}
+
+/// A composite list of two structs of one data word and two pointers.
+fn structs(rt: &impl Abort, alloc: Global) -> Tree {
+    let first = body(rt, alloc, &[1], [Tree::Cap(9), leaf(rt, alloc, 11)]);
+    let second = body(rt, alloc, &[2], [leaf(rt, alloc, 12), Tree::Null]);
+    Tree::Structs {
+        words: 1,
+        ptrs: 2,
+        items: Vec::from_array(alloc, [first, second]).expect(rt, "memory"),
+    }
 }
 
 /// A struct with each kind of tree.
-fn all_kinds(alloc: Global) -> Result<Tree, AllocError> {
-    let items = vec![in alloc;
-        body(alloc, &[1], vec![in alloc; Tree::Cap(9), leaf(alloc, 11)?]?)?,
-        body(alloc, &[2], vec![in alloc; leaf(alloc, 12)?, Tree::Null]?)?,
-    ]?;
-    let structs = Tree::Structs {
-        words: 1,
-        ptrs: 2,
-        items,
-    };
-    let empty = Tree::Struct(body(alloc, &[], Vec::new(alloc))?);
-    let ptrs = vec![in alloc;
+fn all_kinds(rt: &impl Abort, alloc: Global) -> Tree {
+    let list = [leaf(rt, alloc, 13), Tree::Null];
+    let ptrs = [
         Tree::Null,
         Tree::Cap(3),
-        empty,
+        Tree::Struct(body(rt, alloc, &[], [])),
         Tree::Voids(5),
-        Tree::Bits(Vec::from_slice(alloc, &[true, false, true])?),
-        Tree::Bytes(Vec::from_slice(alloc, b"nine byte")?),
-        Tree::Halves(Vec::from_slice(alloc, &[1, 2, 3, 4, 5])?),
-        Tree::Quads(Vec::from_slice(alloc, &[6, 7, 8])?),
-        Tree::Words(Vec::from_slice(alloc, &[10])?),
-        Tree::Ptrs(vec![in alloc; leaf(alloc, 13)?, Tree::Null]?),
-        structs,
-    ]?;
-    Ok(Tree::Struct(body(alloc, &[4], ptrs)?))
+        Tree::Bits(Vec::from_slice(alloc, &[true, false, true]).expect(rt, "memory")),
+        Tree::Bytes(Vec::from_slice(alloc, b"nine byte").expect(rt, "memory")),
+        Tree::Halves(Vec::from_slice(alloc, &[1, 2, 3, 4, 5]).expect(rt, "memory")),
+        Tree::Quads(Vec::from_slice(alloc, &[6, 7, 8]).expect(rt, "memory")),
+        Tree::Words(Vec::from_slice(alloc, &[10]).expect(rt, "memory")),
+        Tree::Ptrs(Vec::from_array(alloc, list).expect(rt, "memory")),
+        structs(rt, alloc),
+    ];
+    Tree::Struct(body(rt, alloc, &[4], ptrs))
+}
+
+/// The words of that struct.
+const ALL_KINDS: &str =
+    "0000000001000b00 0400000000000000 0000000000000000 0300000003000000 fcffffff00000000 \
+    1d00000028000000 1900000019000000 190000004a000000 1d0000002b000000 210000001c000000 \
+    250000000d000000 2500000016000000 2d00000037000000 0500000000000000 6e696e6520627974 \
+    6500000000000000 0100020003000400 0500000000000000 0600000007000000 0800000000000000 \
+    0a00000000000000 0400000001000000 0000000000000000 0d00000000000000 0800000001000200 \
+    0100000000000000 0300000009000000 0c00000001000000 0200000000000000 0800000001000000 \
+    0000000000000000 0b00000000000000 0c00000000000000";
+
+#[test]
+fn each_kind_is_written(rt: HostRuntime) {
+    let tree = all_kinds(&rt, rt.alloc());
+    assert!(rt; writes(&rt, rt.alloc(), tree, 8_388_608, &[ALL_KINDS]));
 }
 
 /// An object with each kind of tree. A growth that is refused once is asked for again.
-fn object_of_all_kinds(alloc: Global) -> Result<Object, Fail> {
-    object(match all_kinds(alloc) {
-        Ok(tree) => tree,
-        Err(_) => all_kinds(alloc)?,
-    })
-}
-
-#[test]
-fn each_kind_is_written(rt: HostRuntime) -> Result<(), Fail> {
-    let alloc = rt.alloc();
-    let words = [
-        "0000000001000b00 0400000000000000 0000000000000000 0300000003000000 fcffffff00000000 1d00000028000000 1900000019000000 190000004a000000 1d0000002b000000 210000001c000000 250000000d000000 2500000016000000 2d00000037000000 0500000000000000 6e696e6520627974 6500000000000000 0100020003000400 0500000000000000 0600000007000000 0800000000000000 0a00000000000000 0400000001000000 0000000000000000 0d00000000000000 0800000001000200 0100000000000000 0300000009000000 0c00000001000000 0200000000000000 0800000001000000 0000000000000000 0b00000000000000 0c00000000000000",
-    ];
-    assert!(rt; writes(alloc, all_kinds(alloc)?, 8_388_608, &words)?);
-    Ok(())
+fn object_of_all_kinds(rt: &impl Abort, alloc: Global) -> Object {
+    object_of(rt, alloc, &segments(rt, alloc, &[ALL_KINDS]))
 }
 
 /// A list of two pointers: a lent tree, and a capability of its own.
@@ -238,61 +199,50 @@ fn drafted<'a>(alloc: Global, lent: &'a Tree) -> Result<Draft<'a>, AllocError>
 
 /// Whether the draft is written as this copy of it is, and read as it.
 fn writes_as_its_copy(
+    rt: &impl Abort,
     alloc: Global,
     draft: &Draft,
     copy: &Object,
     max_words: u32,
-) -> Result<bool, Fail>
+) -> bool
     requires { Shaped (draft_of draft.now) }
 {
     let limits = Limits::standard();
-    let Ok(written) = write_draft(alloc, draft, max_words, limits) else {
-        return Err(Fail::from("not written"));
-    };
-    let Ok(wanted) = write_segments(alloc, copy, max_words, limits) else {
-        return Err(Fail::from("not written"));
-    };
-    let Ok(back) = read_root(alloc, &written, limits) else {
-        return Err(Fail::from("not read"));
-    };
-    Ok(written.lists() == wanted.lists() && *back.tree() == *copy.tree())
+    let written = write_draft(alloc, draft, max_words, limits).expect(rt, "segments");
+    let wanted = write_segments(alloc, copy, max_words, limits).expect(rt, "segments");
+    let back = read_root(alloc, &written, limits).expect(rt, "a tree");
+    written.lists() == wanted.lists() && *back.tree() == *copy.tree()
 }
 
 /// The same in segments of one word, of seven, and in one segment.
-fn writes_as_its_copies(alloc: Global, draft: &Draft, copy: &Object) -> Result<bool, Fail>
+fn writes_as_its_copies(rt: &impl Abort, alloc: Global, draft: &Draft, copy: &Object) -> bool
     requires { Shaped (draft_of draft.now) }
 {
-    Ok(
-        writes_as_its_copy(alloc, draft, copy, 0)?
-            && writes_as_its_copy(alloc, draft, copy, 7)?
-            && writes_as_its_copy(alloc, draft, copy, 8_388_608)?,
-    )
+    writes_as_its_copy(rt, alloc, draft, copy, 0)
+        && writes_as_its_copy(rt, alloc, draft, copy, 7)
+        && writes_as_its_copy(rt, alloc, draft, copy, 8_388_608)
 }
 
 /// The draft's copy, which is a struct.
-fn copy_of(alloc: Global, draft: &Draft) -> Result<Object, Fail>
+fn copy_of(rt: &impl Abort, alloc: Global, draft: &Draft) -> Object
     requires { Shaped (draft_of draft.now) }
 {
-    match draft.copy(alloc)?.into_object() {
-        Ok(copy) => Ok(copy),
-        Err(_) => Err(Fail::from("no struct")),
-    }
+    let copy = draft.copy(alloc).expect(rt, "memory");
+    copy.into_object().ok().expect(rt, "a struct")
 }
 
 #[test]
-fn a_tree_with_lent_parts_is_written_as_its_copy(rt: HostRuntime) -> Result<(), Fail> {
+fn a_tree_with_lent_parts_is_written_as_its_copy(rt: HostRuntime) {
     let alloc = rt.alloc();
-    let lent = object_of_all_kinds(alloc)?;
-    let draft = drafted(alloc, lent.tree())?;
-    let copy = copy_of(alloc, &draft)?;
-    assert!(rt; writes_as_its_copies(alloc, &draft, &copy)?);
-    Ok(())
+    let lent = object_of_all_kinds(&rt, alloc);
+    let draft = drafted(alloc, lent.tree()).expect(&rt, "memory");
+    let copy = copy_of(&rt, alloc, &draft);
+    assert!(rt; writes_as_its_copies(&rt, alloc, &draft, &copy));
 }
 
 #[test]
-fn depth_is_told_before_cost_and_cost_before_words(rt: HostRuntime) -> Result<(), Fail> {
-    let alloc = rt.alloc();
-    let object = object(finish(alloc)?)?;
+fn depth_is_told_before_cost_and_cost_before_words(rt: HostRuntime) {
+    let object = object(&rt, finish(&rt, rt.alloc()));
     // Two levels, a cost of 5, and 6 words in segments of one word.
     for (nesting, traversal, frame_words, wanted) in [
         (1, 4, 5, Some(WriteFault::TooDeep)),
@@ -300,58 +250,60 @@ fn depth_is_told_before_cost_and_cost_before_words(rt: HostRuntime) -> Result<()
         (2, 5, 5, Some(WriteFault::TooManyWords)),
         (2, 5, 6, None),
     ] {
-        let limits = Limits::new(nesting, traversal, 512, frame_words).ok_or("limits")?;
-        let told = write_segments(alloc, &object, 1, limits).err();
+        let limits = Limits::new(nesting, traversal, 512, frame_words).expect(&rt, "limits");
+        let told = write_segments(rt.alloc(), &object, 1, limits).err();
         assert!(rt; told == wanted);
     }
-    Ok(())
 }
 
 #[test]
-fn cost_has_a_limit(rt: HostRuntime) -> Result<(), Fail> {
-    let alloc = rt.alloc();
-    let object = object(finish(alloc)?)?;
-    let within = Limits::new(64, 5, 512, 8_388_608).ok_or("limits")?;
-    let past = Limits::new(64, 4, 512, 8_388_608).ok_or("limits")?;
-    assert!(rt; write_root(alloc, &object, within).is_ok());
-    assert!(rt; write_root(alloc, &object, past).err() == Some(WriteFault::TooCostly));
-    Ok(())
+fn cost_has_a_limit(rt: HostRuntime) {
+    let object = object(&rt, finish(&rt, rt.alloc()));
+    let within = Limits::new(64, 5, 512, 8_388_608).expect(&rt, "limits");
+    let past = Limits::new(64, 4, 512, 8_388_608).expect(&rt, "limits");
+    assert!(rt; write_root(rt.alloc(), &object, within).is_ok());
+    assert!(rt; write_root(rt.alloc(), &object, past).err() == Some(WriteFault::TooCostly));
+}
+
+/// Whether the tree is written twice as the same, or once that memory ran out.
+fn writes_segments_again(alloc: Global, object: &Object, max_words: u32) -> bool {
+    let first = write_segments(alloc, object, max_words, Limits::standard());
+    let second = write_segments(alloc, object, max_words, Limits::standard());
+    match (&first, &second) {
+        (Ok(first), Ok(second)) => first.lists() == second.lists(),
+        (Err(fault), Ok(_)) | (Ok(_), Err(fault)) => *fault == WriteFault::OutOfMemory,
+        (Err(_), Err(_)) => false,
+    }
 }
 
 // With memory enough no growth is refused. `rt try --test --fail-alloc N` refuses the Nth of each
 // of the three tests below.
 #[test]
-fn want_of_memory_while_segments_are_written(rt: HostRuntime) -> Result<(), Fail> {
-    let alloc = rt.alloc();
-    let limits = Limits::standard();
-    let object = object_of_all_kinds(alloc)?;
+fn want_of_memory_while_segments_are_written(rt: HostRuntime) {
+    let object = object_of_all_kinds(&rt, rt.alloc());
     for max_words in [0, 4, 8_388_608] {
-        let first = write_segments(alloc, &object, max_words, limits);
-        let second = write_segments(alloc, &object, max_words, limits);
-        let right = match (&first, &second) {
-            (Ok(first), Ok(second)) => first.lists() == second.lists(),
-            (Err(fault), Ok(_)) | (Ok(_), Err(fault)) => *fault == WriteFault::OutOfMemory,
-            (Err(_), Err(_)) => false,
-        };
-        assert!(rt; right, "{max_words}");
+        assert!(rt;
+            writes_segments_again(rt.alloc(), &object, max_words),
+            "{max_words}"
+        );
     }
-    Ok(())
 }
 
-#[test]
-fn want_of_memory_while_one_segment_is_written(rt: HostRuntime) -> Result<(), Fail> {
-    let alloc = rt.alloc();
-    let limits = Limits::standard();
-    let object = object_of_all_kinds(alloc)?;
-    let first = write_root(alloc, &object, limits);
-    let second = write_root(alloc, &object, limits);
-    let right = match (&first, &second) {
+/// The same of one segment.
+fn writes_words_again(alloc: Global, object: &Object) -> bool {
+    let first = write_root(alloc, object, Limits::standard());
+    let second = write_root(alloc, object, Limits::standard());
+    match (&first, &second) {
         (Ok(first), Ok(second)) => first == second,
         (Err(fault), Ok(_)) | (Ok(_), Err(fault)) => *fault == WriteFault::OutOfMemory,
         (Err(_), Err(_)) => false,
-    };
-    assert!(rt; right);
-    Ok(())
+    }
+}
+
+#[test]
+fn want_of_memory_while_one_segment_is_written(rt: HostRuntime) {
+    let object = object_of_all_kinds(&rt, rt.alloc());
+    assert!(rt; writes_words_again(rt.alloc(), &object));
 }
 
 /// Whether the draft is copied twice as the same, or once that memory ran out.
@@ -380,12 +332,11 @@ fn writes_again(alloc: Global, draft: &Draft) -> bool
 }
 
 #[test]
-fn want_of_memory_while_a_draft_is_written(rt: HostRuntime) -> Result<(), Fail> {
+fn want_of_memory_while_a_draft_is_written(rt: HostRuntime) {
     let alloc = rt.alloc();
-    let lent = object_of_all_kinds(alloc)?;
+    let lent = object_of_all_kinds(&rt, alloc);
     if let Ok(draft) = drafted(alloc, lent.tree()) {
         assert!(rt; copies_again(alloc, &draft));
         assert!(rt; writes_again(alloc, &draft));
     }
-    Ok(())
 }

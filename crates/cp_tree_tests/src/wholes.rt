@@ -1,110 +1,93 @@
 //! Owned trees: which are held, copies, and how deep they nest and what they cost.
 
+use crate::trees::{body, object_of, segments};
 use cp_tree::*;
-use std::alloc::{AllocError, Global};
-use std::test::Fail;
-
-fn body(alloc: Global, words: &[u64], ptrs: Vec<Tree>) -> Result<Body, AllocError> {
-    Ok(Body {
-        words: Vec::from_slice(alloc, words)?,
-        ptrs,
-    })
-}
+use cp_words::Segments;
+use std::alloc::Global;
+use std::process::Abort;
 
 /// A composite list of elements of one data word and one pointer, the second of these words.
-fn structs(alloc: Global, second: &[u64]) -> Result<Tree, AllocError> {
-    let items = vec![in alloc;
-        body(
-            alloc,
-            &[7],
-            vec![in alloc; Tree::Bytes(Vec::from_slice(alloc, b"text")?)]?
-        )?,
-        body(alloc, second, vec![in alloc; Tree::Cap(9)]?)?,
-    ]?;
-    Ok(Tree::Structs {
+fn structs(rt: &impl Abort, alloc: Global, second: &[u64]) -> Tree {
+    let text = Tree::Bytes(Vec::from_slice(alloc, b"text").expect(rt, "memory"));
+    let first = body(rt, alloc, &[7], [text]);
+    let second = body(rt, alloc, second, [Tree::Cap(9)]);
+    Tree::Structs {
         words: 1,
         ptrs: 1,
-        items,
-    })
+        items: Vec::from_array(alloc, [first, second]).expect(rt, "memory"),
+    }
 }
 
 /// A struct of one data word and that list.
-fn whole(alloc: Global, second: &[u64]) -> Result<Tree, AllocError> {
-    let ptrs = vec![in alloc; structs(alloc, second)?]?;
-    Ok(Tree::Struct(body(alloc, &[4], ptrs)?))
+fn whole(rt: &impl Abort, alloc: Global, second: &[u64]) -> Tree {
+    Tree::Struct(body(rt, alloc, &[4], [structs(rt, alloc, second)]))
 }
 
-/// That struct, held. A growth that is refused once is asked for again.
-fn object(alloc: Global) -> Result<Object, Fail> {
-    let tree = match whole(alloc, &[8]) {
-        Ok(tree) => tree,
-        Err(_) => whole(alloc, &[8])?,
-    };
-    Object::new(tree).map_err(|_| Fail::from("refused"))
+/// The words of that struct.
+const WHOLE: &str = "0000000001000100 0400000000000000 0100000027000000 0800000001000100 \
+    0700000000000000 0900000022000000 0800000000000000 0300000009000000 7465787400000000";
+
+/// That struct, held.
+fn object(rt: &impl Abort, alloc: Global) -> Object {
+    Object::new(whole(rt, alloc, &[8]))
+        .ok()
+        .expect(rt, "an object")
 }
 
-/// That list, held. A growth that is refused once is asked for again.
-fn list(alloc: Global) -> Result<Whole, Fail> {
-    let list = match structs(alloc, &[8]) {
-        Ok(list) => list,
-        Err(_) => structs(alloc, &[8])?,
-    };
-    Whole::new(list).map_err(|_| Fail::from("refused"))
+/// That list, held.
+fn list(rt: &impl Abort, alloc: Global) -> Whole {
+    Whole::new(structs(rt, alloc, &[8]))
+        .ok()
+        .expect(rt, "a list")
 }
 
 #[test]
-fn what_a_message_can_hold_is_held(rt: HostRuntime) -> Result<(), Fail> {
+fn what_a_message_can_hold_is_held(rt: HostRuntime) {
     let alloc = rt.alloc();
-    let tree = object(alloc)?.into_tree();
-    assert!(rt; tree == whole(alloc, &[8])?);
-    let tree = list(alloc)?.into_tree();
-    assert!(rt; tree == structs(alloc, &[8])?);
-    Ok(())
+    assert!(rt; object(&rt, alloc).into_tree() == whole(&rt, alloc, &[8]));
+    assert!(rt; list(&rt, alloc).into_tree() == structs(&rt, alloc, &[8]));
+    let segments = segments(&rt, alloc, &[WHOLE]);
+    assert!(rt; *object_of(&rt, alloc, &segments).tree() == whole(&rt, alloc, &[8]));
 }
 
 #[test]
-fn uneven_elements_are_handed_back(rt: HostRuntime) -> Result<(), Fail> {
+fn uneven_elements_are_handed_back(rt: HostRuntime) {
     let alloc = rt.alloc();
-    let Err(back) = Whole::new(structs(alloc, &[8, 9])?) else {
-        return Err(Fail::from("held"));
-    };
-    assert!(rt; back == structs(alloc, &[8, 9])?);
-    let Err(back) = Object::new(whole(alloc, &[])?) else {
-        return Err(Fail::from("held"));
-    };
-    assert!(rt; back == whole(alloc, &[])?);
-    Ok(())
+    let back = Whole::new(structs(&rt, alloc, &[8, 9]))
+        .err()
+        .expect(&rt, "a list");
+    assert!(rt; back == structs(&rt, alloc, &[8, 9]));
+    let back = Object::new(whole(&rt, alloc, &[]))
+        .err()
+        .expect(&rt, "a struct");
+    assert!(rt; back == whole(&rt, alloc, &[]));
 }
 
 #[test]
-fn what_is_no_struct_or_too_long_is_handed_back(rt: HostRuntime) -> Result<(), Fail> {
+fn what_is_no_struct_or_too_long_is_handed_back(rt: HostRuntime) {
     assert!(rt; Object::new(Tree::Null).is_err());
     assert!(rt; Whole::new(Tree::Voids(0x1fff_ffff)).is_ok());
     assert!(rt; Whole::new(Tree::Voids(0x2000_0000)).is_err());
-    Ok(())
 }
 
 #[test]
-fn copies_are_equal(rt: HostRuntime) -> Result<(), Fail> {
+fn copies_are_equal(rt: HostRuntime) {
     let alloc = rt.alloc();
-    let copy = object(alloc)?.copy(alloc)?;
-    assert!(rt; *copy.tree() == whole(alloc, &[8])?);
-    let copy = list(alloc)?.copy(alloc)?;
-    assert!(rt; *copy.tree() == structs(alloc, &[8])?);
-    Ok(())
+    let copy = object(&rt, alloc).copy(alloc).expect(&rt, "memory");
+    assert!(rt; *copy.tree() == whole(&rt, alloc, &[8]));
+    let copy = list(&rt, alloc).copy(alloc).expect(&rt, "memory");
+    assert!(rt; *copy.tree() == structs(&rt, alloc, &[8]));
 }
 
 #[test]
-fn depth_and_cost_are_counted(rt: HostRuntime) -> Result<(), Fail> {
-    let alloc = rt.alloc();
-    let tree = whole(alloc, &[8])?;
+fn depth_and_cost_are_counted(rt: HostRuntime) {
+    let tree = whole(&rt, rt.alloc(), &[8]);
     // A struct of 2 words, a list of 2 elements of 2 words, a list of 1 word.
     assert!(rt; fits(&tree, 3, 3 + 8 + 2));
     assert!(rt; !fits(&tree, 2, 13));
     assert!(rt; !fits(&tree, 3, 12));
     assert!(rt; fits(&Tree::Cap(1), 0, 0));
     assert!(rt; !fits(&Tree::Voids(5), 0, 1));
-    Ok(())
 }
 
 /// Whether copying a tree twice gives it each time, or once that memory ran out.
@@ -131,15 +114,24 @@ fn child_copies_again(alloc: Global, source: &Object, list: &Whole) -> bool {
     }
 }
 
+/// The list that these segments hold in that struct. A growth that is refused once is asked for again.
+fn list_of(rt: &impl Abort, alloc: Global, segments: &Segments) -> Whole {
+    let root = View::root(segments, Limits::standard()).expect(rt, "a root");
+    match root.child(0).tree(alloc) {
+        Ok(list) => list,
+        Err(_) => root.child(0).tree(alloc).expect(rt, "memory"),
+    }
+}
+
 // With memory enough no growth is refused. `rt try --test --fail-alloc N` refuses the Nth.
 #[test]
-fn want_of_memory_while_trees_are_copied(rt: HostRuntime) -> Result<(), Fail> {
+fn want_of_memory_while_trees_are_copied(rt: HostRuntime) {
     let alloc = rt.alloc();
-    let object = object(alloc)?;
-    let list = list(alloc)?;
+    let segments = segments(&rt, alloc, &[WHOLE]);
+    let object = object_of(&rt, alloc, &segments);
+    let list = list_of(&rt, alloc, &segments);
     assert!(rt; object_copies_again(alloc, &object));
     assert!(rt; copies_again(alloc, &list));
     assert!(rt; copies_again(alloc, &Whole::null()));
     assert!(rt; child_copies_again(alloc, &object, &list));
-    Ok(())
 }
