@@ -33,11 +33,19 @@ fn expect_texts(rt: &impl Abort, message: &Message, reason: &str, trace: &str) {
     assert_eq!(rt; exception.trace.as_str(), trace);
 }
 
+/// What a message of one segment says.
+pub fn said(rt: &impl Abort, alloc: Global, words: &[u64]) -> Message {
+    message(rt, alloc, &root(rt, alloc, words))
+}
+
+/// A copy of what a message of one segment says.
+fn copy_of(rt: &impl Abort, alloc: Global, words: &[u64]) -> Message {
+    said(rt, alloc, words).copy(alloc).expect(rt, "memory")
+}
+
 /// The copy of what an owned root struct says is an abort with this reason and this trace.
 fn expect_abort(rt: &impl Abort, alloc: Global, words: &[u64], reason: &str, trace: &str) {
-    let message = message(rt, alloc, &root(rt, alloc, words));
-    let copy = message.copy(alloc).expect(rt, "memory");
-    expect_texts(rt, &copy, reason, trace);
+    expect_texts(rt, &copy_of(rt, alloc, words), reason, trace);
 }
 
 /// Why the view of a root struct says nothing, as its check tells too.

@@ -1,6 +1,6 @@
 //! Messages written: what a tree of the table's sizes says is written as that very tree.
 
-use crate::messages::{ABORT, ONE_AND_TWO, ONE_EACH, ROOT, message, owned_fault_of, root};
+use crate::messages::{ABORT, ONE_AND_TWO, ONE_EACH, ROOT, message, owned_fault_of, root, said};
 use cp_rpc::{Field, Message, SchemaFault, message_of, tree_of};
 use cp_tree::{Limits, Object, WriteFault, write_root};
 use cp_words::Segments;
@@ -9,7 +9,7 @@ use std::process::Abort;
 
 /// The tree that what a message says is written as.
 fn tree(rt: &impl Abort, alloc: Global, words: &[u64]) -> Object {
-    let message = message(rt, alloc, &root(rt, alloc, words));
+    let message = said(rt, alloc, words);
     tree_of(alloc, &message).expect(rt, "a tree")
 }
 
@@ -496,12 +496,16 @@ fn is_made_again(alloc: Global, message: &Message, root: &Object) -> bool {
     }
 }
 
+/// A root's message is made twice as that root, or once that memory ran out.
+fn expect_made(rt: &impl Abort, alloc: Global, root: &Object) {
+    let message = message_again(rt, alloc, root);
+    assert!(rt; is_made_again(alloc, &message, root));
+}
+
 #[test]
 fn want_of_memory_while_trees_are_made(rt: HostRuntime) {
     for words in ALL_PARTS {
-        let root = root_again(&rt, rt.alloc(), words);
-        let message = message_again(&rt, rt.alloc(), &root);
-        assert!(rt; is_made_again(rt.alloc(), &message, &root));
+        expect_made(&rt, rt.alloc(), &root_again(&rt, rt.alloc(), words));
     }
 }
 
@@ -513,23 +517,29 @@ fn copy_again(rt: &impl Abort, alloc: Global, message: &Message) -> Message {
     }
 }
 
-/// Whether a message's copy is made as this root, once or twice.
-fn copy_is_made_again(rt: &impl Abort, alloc: Global, message: &Message, root: &Object) -> bool {
-    let copy = copy_again(rt, alloc, message);
-    match (
-        is_made_as(alloc, &copy, root),
-        is_made_as(alloc, &copy, root),
-    ) {
+/// Whether a message is made as this root, once or twice.
+fn is_made_once(alloc: Global, message: &Message, root: &Object) -> bool {
+    let first = is_made_as(alloc, message, root);
+    match (first, is_made_as(alloc, message, root)) {
         (Ok(right), _) | (Err(_), Ok(right)) => right,
         (Err(_), Err(_)) => false,
     }
 }
 
+/// Whether a message's copy is made as this root.
+fn is_copied(rt: &impl Abort, alloc: Global, message: &Message, root: &Object) -> bool {
+    is_made_once(alloc, &copy_again(rt, alloc, message), root)
+}
+
+/// The copy of a root's message is made as that root.
+fn expect_copied(rt: &impl Abort, alloc: Global, root: &Object) {
+    let message = message_again(rt, alloc, root);
+    assert!(rt; is_copied(rt, alloc, &message, root));
+}
+
 #[test]
 fn want_of_memory_while_messages_are_copied(rt: HostRuntime) {
     for words in ALL_PARTS {
-        let root = root_again(&rt, rt.alloc(), words);
-        let message = message_again(&rt, rt.alloc(), &root);
-        assert!(rt; copy_is_made_again(&rt, rt.alloc(), &message, &root));
+        expect_copied(&rt, rt.alloc(), &root_again(&rt, rt.alloc(), words));
     }
 }
