@@ -1,19 +1,26 @@
 //! Packed frames from outside, whole and in pieces.
 
+use crate::frames::{expect_fault_in, expect_short, fed};
 use crate::packed::{BOOTSTRAP, FINISH, RELEASE, TWO};
 use cp_frame::*;
-use cp_words::Segments;
 use std::alloc::Global;
 use std::process::Abort;
-use std::test::Fail;
 
 /// A reader within the standard limits.
 fn new_reader(alloc: Global) -> FrameReader {
     FrameReader::packed(alloc, Limits::standard())
 }
 
-/// The one frame took so many bytes, and its segments hold these words, one after another.
-fn expect_frame(rt: &impl Abort, frames: &[(u64, Segments)], taken: usize, words: &[u64]) {
+/// The bytes bring one frame, which took so many bytes, and whose segments hold these words, one
+/// after another.
+fn expect_frame(
+    rt: &impl Abort,
+    reader: &mut FrameReader,
+    bytes: &[u8],
+    taken: usize,
+    words: &[u64],
+) {
+    let frames = reader.feed(bytes).expect(rt, "frames");
     assert_eq!(rt; frames.len(), 1);
     assert_eq!(rt; frames[0].0, taken as u64);
     let mut place = 0;
@@ -26,91 +33,90 @@ fn expect_frame(rt: &impl Abort, frames: &[(u64, Segments)], taken: usize, words
     assert_eq!(rt; place, words.len());
 }
 
-/// These bytes end inside a frame.
-fn expect_short(rt: &impl Abort, alloc: Global, bytes: &[u8]) -> Result<(), Fail> {
+/// Packed bytes in two parts are a frame of these words, and the front ends inside it.
+fn expect_cut(
+    rt: &impl Abort,
+    alloc: Global,
+    (front, back): (&[u8], &[u8]),
+    taken: usize,
+    words: &[u64],
+) {
     let mut reader = new_reader(alloc);
-    assert!(rt; reader.feed(bytes)?.is_empty());
-    assert_eq!(rt; reader.finish(), Err(FrameFault::Truncated));
-    assert_eq!(rt; reader.held(), (0, 0));
-    assert_eq!(rt; reader.finish(), Err(FrameFault::Failed));
-    Ok(())
+    assert_eq!(rt; fed(&mut reader, front), Ok(0));
+    expect_frame(rt, &mut reader, back, taken, words);
+    assert_eq!(rt; reader.finish(), Ok(()));
+    expect_short(rt, new_reader(alloc), front);
 }
 
 /// Packed bytes are a frame of these words: whole, cut at each place, and byte by byte. Where they
 /// are cut, they end inside it.
-fn expect_cuts(rt: &impl Abort, alloc: Global, bytes: &[u8], words: &[u64]) -> Result<(), Fail> {
-    expect_frame(rt, &new_reader(alloc).feed(bytes)?, bytes.len(), words);
+fn expect_cuts(rt: &impl Abort, alloc: Global, bytes: &[u8], words: &[u64]) {
+    expect_frame(rt, &mut new_reader(alloc), bytes, bytes.len(), words);
     for cut in 1..bytes.len() {
-        let (front, back) = bytes.split_at(cut);
-        let mut reader = new_reader(alloc);
-        assert!(rt; reader.feed(front)?.is_empty());
-        expect_frame(rt, &reader.feed(back)?, bytes.len(), words);
-        reader.finish()?;
-        expect_short(rt, alloc, front)?;
+        expect_cut(rt, alloc, bytes.split_at(cut), bytes.len(), words);
     }
     expect_bytes(rt, alloc, bytes, words)
 }
 
 /// The frame comes with the last of single bytes.
-fn expect_bytes(rt: &impl Abort, alloc: Global, bytes: &[u8], words: &[u64]) -> Result<(), Fail> {
+fn expect_bytes(rt: &impl Abort, alloc: Global, bytes: &[u8], words: &[u64]) {
     let mut reader = new_reader(alloc);
-    for (i, byte) in bytes.iter().enumerate() {
-        let frames = reader.feed(&[*byte])?;
+    for i in 0..bytes.len() {
         if i + 1 < bytes.len() {
-            assert!(rt; frames.is_empty());
+            assert_eq!(rt; fed(&mut reader, &bytes[i..i + 1]), Ok(0));
         } else {
-            expect_frame(rt, &frames, bytes.len(), words);
+            expect_frame(rt, &mut reader, &bytes[i..], bytes.len(), words);
         }
     }
-    reader.finish()?;
-    Ok(())
+    assert_eq!(rt; reader.finish(), Ok(()));
 }
 
 /// The words of packed bytes behind those of the segment table.
-fn words_behind(alloc: Global, bytes: &[u8], table: usize) -> Result<Vec<u64>, Fail> {
-    let words = unpack(alloc, bytes, 600)?;
-    Ok(words[table.min(words.len())..].to_vec(alloc)?)
+fn words_behind(rt: &impl Abort, alloc: Global, bytes: &[u8], table: usize) -> Vec<u64> {
+    let words = unpack(alloc, bytes, 600).expect(rt, "words");
+    let behind = words[table.min(words.len())..].to_vec(alloc);
+    behind.expect(rt, "memory")
 }
 
 #[test]
-fn packed_frames_come_however_they_are_cut(rt: HostRuntime) -> Result<(), Fail> {
+fn packed_frames_come_however_they_are_cut(rt: HostRuntime) {
     for bytes in [&FINISH[..], &BOOTSTRAP[..], &RELEASE[..]] {
-        let words = words_behind(rt.alloc(), bytes, 1)?;
-        expect_cuts(&rt, rt.alloc(), bytes, &words)?;
+        let words = words_behind(&rt, rt.alloc(), bytes, 1);
+        expect_cuts(&rt, rt.alloc(), bytes, &words);
     }
-    Ok(())
 }
 
 /// Packed words behind the table of a frame of one segment.
-fn expect_segment(rt: &impl Abort, alloc: Global, words: &[u64]) -> Result<(), Fail> {
-    let mut bytes = pack(alloc, &[(words.len() as u64) << 32])?;
-    bytes.extend_from_slice(&pack(alloc, words)?)?;
+fn expect_segment(rt: &impl Abort, alloc: Global, words: &[u64]) {
+    let mut bytes = pack(alloc, &[(words.len() as u64) << 32]).expect(rt, "memory");
+    let behind = pack(alloc, words).expect(rt, "memory");
+    bytes.extend_from_slice(&behind).expect(rt, "memory");
     expect_cuts(rt, alloc, &bytes, words)
 }
 
 #[test]
-fn segments_come_however_they_are_packed(rt: HostRuntime) -> Result<(), Fail> {
-    expect_segment(&rt, rt.alloc(), &TWO.1)?;
-    expect_segment(&rt, rt.alloc(), &[0; 4])?;
-    expect_segment(&rt, rt.alloc(), &[0; 256])?;
-    expect_segment(&rt, rt.alloc(), &[0; 257])?;
-    expect_segment(&rt, rt.alloc(), &[0x8a8a_8a8a_8a8a_8a8a; 4])?;
-    expect_segment(&rt, rt.alloc(), &[0x0001_0203_0405_0607; 40])?;
+fn segments_come_however_they_are_packed(rt: HostRuntime) {
+    expect_segment(&rt, rt.alloc(), &TWO.1);
+    expect_segment(&rt, rt.alloc(), &[0; 4]);
+    expect_segment(&rt, rt.alloc(), &[0; 256]);
+    expect_segment(&rt, rt.alloc(), &[0; 257]);
+    expect_segment(&rt, rt.alloc(), &[0x8a8a_8a8a_8a8a_8a8a; 4]);
+    expect_segment(&rt, rt.alloc(), &[0x0001_0203_0405_0607; 40]);
     expect_segment(&rt, rt.alloc(), &[7])
 }
 
 #[test]
-fn a_run_goes_from_the_table_into_a_segment(rt: HostRuntime) -> Result<(), Fail> {
-    expect_cuts(&rt, rt.alloc(), &[0x11, 1, 1, 0, 1], &[0])?;
-    let mut raw = vec![in rt.alloc(); 0xffu8; 26]?;
+fn a_run_goes_from_the_table_into_a_segment(rt: HostRuntime) {
+    expect_cuts(&rt, rt.alloc(), &[0x11, 1, 1, 0, 1], &[0]);
+    let mut raw = vec![in rt.alloc(); 0xffu8; 26].expect(&rt, "memory");
     raw.as_mut_slice()[1..9].copy_from_slice(&[0, 0, 0, 0, 2, 0, 0, 0]);
     raw.as_mut_slice()[9] = 2;
-    expect_cuts(&rt, rt.alloc(), &raw, &[0xffff_ffff_ffff_ffff; 2])?;
+    expect_cuts(&rt, rt.alloc(), &raw, &[0xffff_ffff_ffff_ffff; 2]);
     expect_cuts(&rt, rt.alloc(), &[0, 0], &[])
 }
 
 #[test]
-fn what_is_held_follows_the_packed_bytes(rt: HostRuntime) -> Result<(), Fail> {
+fn what_is_held_follows_the_packed_bytes(rt: HostRuntime) {
     let rows = [
         (1, 0),
         (0, 1),
@@ -127,112 +133,90 @@ fn what_is_held_follows_the_packed_bytes(rt: HostRuntime) -> Result<(), Fail> {
     let mut reader = new_reader(rt.alloc());
     assert_eq!(rt; reader.held(), (0, 0));
     for (i, row) in rows.iter().enumerate() {
-        let frames = reader.feed(&FINISH[i..i + 1])?;
+        let count = fed(&mut reader, &FINISH[i..i + 1]);
         assert_eq!(rt; reader.held(), *row);
-        assert_eq!(rt; frames.len(), (i + 1) / 11);
+        assert_eq!(rt; count, Ok((i + 1) / 11));
     }
-    reader.finish()?;
-    Ok(())
-}
-
-/// The back of some bytes brings the fault, and the front none.
-fn expect_fault_in(
-    rt: &impl Abort,
-    alloc: Global,
-    (front, back): (&[u8], &[u8]),
-    fault: FrameFault,
-) -> Result<(), Fail> {
-    let mut reader = new_reader(alloc);
-    assert!(rt; reader.feed(front)?.is_empty());
-    assert_eq!(rt; reader.feed(back).err(), Some(fault));
-    assert_eq!(rt; reader.held(), (0, 0));
-    assert_eq!(rt; reader.feed(&FINISH).err(), Some(FrameFault::Failed));
-    assert_eq!(rt; reader.finish(), Err(FrameFault::Failed));
-    Ok(())
+    assert_eq!(rt; reader.finish(), Ok(()));
 }
 
 /// A frame comes, and the fault of what stands behind it is kept.
-fn expect_kept(
-    rt: &impl Abort,
-    alloc: Global,
-    stream: &[u8],
-    fault: FrameFault,
-) -> Result<(), Fail> {
+fn expect_kept(rt: &impl Abort, alloc: Global, stream: &[u8], fault: FrameFault) {
     let mut reader = new_reader(alloc);
-    assert_eq!(rt; reader.feed(stream)?.len(), 1);
+    assert_eq!(rt; fed(&mut reader, stream), Ok(1));
     assert_eq!(rt; reader.held(), (0, 0));
     assert_eq!(rt; reader.finish(), Err(fault));
-    assert_eq!(rt; reader.feed(&[]).err(), Some(FrameFault::Failed));
-    Ok(())
+    assert_eq!(rt; fed(&mut reader, &[]), Err(FrameFault::Failed));
 }
 
 /// The last of these bytes, and none before it, brings the fault.
-fn expect_fault(
-    rt: &impl Abort,
-    alloc: Global,
-    bytes: &[u8],
-    fault: FrameFault,
-) -> Result<(), Fail> {
+fn expect_fault(rt: &impl Abort, alloc: Global, bytes: &[u8], fault: FrameFault) {
     for cut in 0..bytes.len() {
-        expect_fault_in(rt, alloc, bytes.split_at(cut), fault)?;
+        expect_fault_in(rt, new_reader(alloc), bytes.split_at(cut), fault);
     }
-    let mut stream = FINISH.to_vec(alloc)?;
-    stream.extend_from_slice(bytes)?;
+    let mut stream = FINISH.to_vec(alloc).expect(rt, "memory");
+    stream.extend_from_slice(bytes).expect(rt, "memory");
     expect_kept(rt, alloc, &stream, fault)
 }
 
 #[test]
-fn a_run_past_the_frame_is_told_with_its_count(rt: HostRuntime) -> Result<(), Fail> {
+fn a_run_past_the_frame_is_told_with_its_count(rt: HostRuntime) {
     let fault = FrameFault::RunPastFrame;
-    expect_fault(&rt, rt.alloc(), &[0, 3], fault)?;
-    expect_fault(&rt, rt.alloc(), &[0, 1], fault)?;
-    expect_fault(&rt, rt.alloc(), &[0x10, 3, 0, 3], fault)?;
-    expect_fault(&rt, rt.alloc(), &[0xff, 0, 0, 0, 0, 0, 0, 0, 0, 1], fault)?;
+    expect_fault(&rt, rt.alloc(), &[0, 3], fault);
+    expect_fault(&rt, rt.alloc(), &[0, 1], fault);
+    expect_fault(&rt, rt.alloc(), &[0x10, 3, 0, 3], fault);
+    expect_fault(&rt, rt.alloc(), &[0xff, 0, 0, 0, 0, 0, 0, 0, 0, 1], fault);
     let past = [0x10, 1, 0xff, 1, 2, 3, 4, 5, 6, 7, 8, 1];
-    expect_fault(&rt, rt.alloc(), &past, fault)?;
+    expect_fault(&rt, rt.alloc(), &past, fault);
     let inside = [0xff, 0, 0, 0, 0, 1, 0, 0, 0, 2, 1, 2, 3, 4, 5, 6, 7, 8];
     expect_fault(&rt, rt.alloc(), &inside, fault)
 }
 
 #[test]
-fn faults_of_the_table_are_told_with_a_byte(rt: HostRuntime) -> Result<(), Fail> {
+fn faults_of_the_table_are_told_with_a_byte(rt: HostRuntime) {
     let many = FrameFault::TooManySegments;
-    expect_fault(&rt, rt.alloc(), &[0x0f, 0xff, 0xff, 0xff, 0xff], many)?;
-    expect_fault(&rt, rt.alloc(), &[0x02, 2], many)?;
-    expect_fault(&rt, rt.alloc(), &[0x0f, 0, 2, 0, 0], many)?;
+    expect_fault(&rt, rt.alloc(), &[0x0f, 0xff, 0xff, 0xff, 0xff], many);
+    expect_fault(&rt, rt.alloc(), &[0x02, 2], many);
+    expect_fault(&rt, rt.alloc(), &[0x0f, 0, 2, 0, 0], many);
     let large = FrameFault::FrameTooLarge;
-    expect_fault(&rt, rt.alloc(), &[0x01, 2, 0x15, 1, 0x80], large)?;
-    expect_fault(&rt, rt.alloc(), &[0x51, 2, 1, 0x80], large)?;
+    expect_fault(&rt, rt.alloc(), &[0x01, 2, 0x15, 1, 0x80], large);
+    expect_fault(&rt, rt.alloc(), &[0x51, 2, 1, 0x80], large);
     expect_fault(&rt, rt.alloc(), &[0xff, 0, 0, 0, 0, 1, 0, 0x80, 0], large)
 }
 
-/// Three frames of these lengths come, and nothing behind them.
-fn expect_three(
+/// The bytes bring frames of the first of these lengths: so many.
+fn expect_lengths(
     rt: &impl Abort,
-    alloc: Global,
-    (front, back): (&[u8], &[u8]),
-    lengths: [u64; 3],
-) -> Result<(), Fail> {
-    let mut reader = new_reader(alloc);
-    let first = reader.feed(front)?;
-    let second = reader.feed(back)?;
-    assert_eq!(rt; first.len() + second.len(), 3);
-    for (frame, length) in first.iter().chain(second.iter()).zip(lengths) {
-        assert_eq!(rt; frame.0, length);
+    reader: &mut FrameReader,
+    bytes: &[u8],
+    lengths: &[u64],
+) -> usize {
+    let frames = reader.feed(bytes).expect(rt, "frames");
+    assert!(rt; frames.len() <= lengths.len());
+    for (frame, length) in frames.iter().zip(lengths) {
+        assert_eq!(rt; frame.0, *length);
     }
-    reader.finish()?;
-    Ok(())
+    frames.len()
+}
+
+/// Three frames of these lengths come, and nothing behind them.
+fn expect_three(rt: &impl Abort, alloc: Global, (front, back): (&[u8], &[u8]), lengths: [u64; 3]) {
+    let mut reader = new_reader(alloc);
+    let first = expect_lengths(rt, &mut reader, front, &lengths);
+    assert!(rt; first <= 3);
+    let second = expect_lengths(rt, &mut reader, back, &lengths[first..]);
+    assert_eq!(rt; second, 3 - first);
+    assert_eq!(rt; reader.finish(), Ok(()));
 }
 
 #[test]
-fn packed_frames_follow_one_another(rt: HostRuntime) -> Result<(), Fail> {
-    let mut stream = FINISH.to_vec(rt.alloc())?;
-    stream.extend_from_slice(&BOOTSTRAP)?;
-    stream.extend_from_slice(&RELEASE)?;
+fn packed_frames_follow_one_another(rt: HostRuntime) {
+    let mut stream = FINISH.to_vec(rt.alloc()).expect(&rt, "memory");
+    stream.extend_from_slice(&BOOTSTRAP).expect(&rt, "memory");
+    stream.extend_from_slice(&RELEASE).expect(&rt, "memory");
     for cut in 0..stream.len() + 1 {
-        expect_three(&rt, rt.alloc(), stream.split_at(cut), [11, 12, 12])?;
+        expect_three(&rt, rt.alloc(), stream.split_at(cut), [11, 12, 12]);
     }
-    Ok(())
 }
 
 // With memory enough no growth is refused. `rt try --test --fail-alloc N` refuses the Nth.
@@ -241,10 +225,10 @@ fn want_of_memory_is_told_in_a_packed_stream(rt: HostRuntime) {
     let mut reader = new_reader(rt.alloc());
     let two = [0x11, 1, 1, 0x01, 2, 0, 0, 0, 1];
     for piece in [&FINISH[..], &two[..5], &two[5..], &BOOTSTRAP[..]] {
-        if let Err(fault) = reader.feed(piece) {
+        if let Err(fault) = fed(&mut reader, piece) {
             assert_eq!(rt; fault, FrameFault::OutOfMemory);
             assert_eq!(rt; reader.held(), (0, 0));
-            assert_eq!(rt; reader.feed(&FINISH).err(), Some(FrameFault::Failed));
+            assert_eq!(rt; fed(&mut reader, &FINISH), Err(FrameFault::Failed));
             assert_eq!(rt; reader.finish(), Err(FrameFault::Failed));
             return;
         }
