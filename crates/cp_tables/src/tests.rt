@@ -2,7 +2,6 @@
 
 use super::*;
 use TableFault::{Full, OutOfMemory, Taken, TooMany, Unknown};
-use std::test::Fail;
 
 const LAST: u32 = 65_535;
 
@@ -144,7 +143,7 @@ fn imports_go_at_count_0(rt: HostRuntime) {
 }
 
 #[test]
-fn embargoes_close(rt: HostRuntime) -> Result<(), Fail> {
+fn embargoes_close(rt: HostRuntime) {
     let mut embargoes = Embargoes::new(rt.alloc());
     assert_eq!(rt; embargoes.close(0), Err(Unknown));
     for number in 0..3u32 {
@@ -154,137 +153,126 @@ fn embargoes_close(rt: HostRuntime) -> Result<(), Fail> {
     assert_eq!(rt; embargoes.close(1), Err(Unknown));
     assert_eq!(rt; embargoes.open(7), Ok(1));
     assert_eq!(rt; embargoes.get(1).copied(), Some(7));
-    Ok(())
 }
 
 #[test]
-fn kept_with_questions(rt: HostRuntime) -> Result<(), Fail> {
+fn kept_with_questions(rt: HostRuntime) {
     let mut questions = Questions::new(rt.alloc());
-    let id = questions.open(b'a')?;
+    let id = questions.open(b'a').expect(&rt, "an entry");
     if let Some(kept) = questions.kept_mut(id) {
         *kept = b'b';
     }
     assert_eq!(rt; questions.get(id).map(|question| question.kept), Some(b'b'));
     assert_eq!(rt; questions.kept_mut(1), None);
-    Ok(())
 }
 
 #[test]
-fn kept_with_answers(rt: HostRuntime) -> Result<(), Fail> {
+fn kept_with_answers(rt: HostRuntime) {
     let mut answers = Answers::new(rt.alloc());
-    answers.open(4, b'a')?;
+    answers.open(4, b'a').expect(&rt, "an entry");
     if let Some(kept) = answers.kept_mut(4) {
         *kept = b'b';
     }
     assert_eq!(rt; answers.get(4).map(|answer| answer.kept), Some(b'b'));
     assert_eq!(rt; answers.kept_mut(1), None);
-    Ok(())
 }
 
 #[test]
-fn kept_with_exports(rt: HostRuntime) -> Result<(), Fail> {
+fn kept_with_exports(rt: HostRuntime) {
     let mut exports = Exports::new(rt.alloc());
-    let id = exports.raise(None, b'a')?;
-    exports.raise(Some(id), b'x')?;
+    let id = exports.raise(None, b'a').expect(&rt, "an entry");
+    exports.raise(Some(id), b'x').expect(&rt, "an entry");
     assert_eq!(rt; exports.get(id).map(|export| export.kept), Some(b'a'));
     if let Some(kept) = exports.kept_mut(id) {
         *kept = b'b';
     }
     assert_eq!(rt; exports.get(id).map(|export| export.kept), Some(b'b'));
     assert_eq!(rt; exports.kept_mut(1), None);
-    Ok(())
 }
 
 #[test]
-fn kept_with_imports(rt: HostRuntime) -> Result<(), Fail> {
+fn kept_with_imports(rt: HostRuntime) {
     let mut imports = Imports::new(rt.alloc());
-    imports.raise(4, b'a')?;
-    imports.raise(4, b'x')?;
+    imports.raise(4, b'a').expect(&rt, "an entry");
+    imports.raise(4, b'x').expect(&rt, "an entry");
     assert_eq!(rt; imports.get(4).map(|import| import.kept), Some(b'a'));
     if let Some(kept) = imports.kept_mut(4) {
         *kept = b'b';
     }
     assert_eq!(rt; imports.get(4).map(|import| import.kept), Some(b'b'));
     assert_eq!(rt; imports.kept_mut(1), None);
-    Ok(())
 }
 
 #[test]
-fn kept_with_embargoes(rt: HostRuntime) -> Result<(), Fail> {
+fn kept_with_embargoes(rt: HostRuntime) {
     let mut embargoes = Embargoes::new(rt.alloc());
-    let id = embargoes.open(b'a')?;
+    let id = embargoes.open(b'a').expect(&rt, "an entry");
     if let Some(kept) = embargoes.kept_mut(id) {
         *kept = b'b';
     }
     assert_eq!(rt; embargoes.kept_mut(1), None);
     assert_eq!(rt; embargoes.close(id), Ok(b'b'));
-    Ok(())
 }
 
 #[test]
-fn questions_end_at_their_limit(rt: HostRuntime) -> Result<(), Fail> {
+fn questions_end_at_their_limit(rt: HostRuntime) {
     let mut questions = Questions::new(rt.alloc());
     for number in 0..=LAST {
         assert_eq!(rt; questions.open(()), Ok(number));
     }
     assert_eq!(rt; questions.open(()), Err(Full));
-    questions.note_return(77)?;
+    questions.note_return(77).expect(&rt, "an entry");
     assert_eq!(rt; questions.open(()), Err(Full));
-    questions.note_finish(77)?;
+    questions.note_finish(77).expect(&rt, "an entry");
     assert_eq!(rt; questions.open(()), Ok(77));
-    Ok(())
 }
 
 #[test]
-fn answers_end_at_their_limit(rt: HostRuntime) -> Result<(), Fail> {
+fn answers_end_at_their_limit(rt: HostRuntime) {
     let mut answers = Answers::new(rt.alloc());
     for entry in 0..=LAST {
         assert_eq!(rt; answers.open(u32::MAX - entry, ()), Ok(()));
     }
     assert_eq!(rt; answers.open(0, ()), Err(Full));
     assert_eq!(rt; answers.open(u32::MAX, ()), Err(Taken));
-    answers.note_finish(u32::MAX)?;
-    answers.note_return(u32::MAX)?;
+    answers.note_finish(u32::MAX).expect(&rt, "an entry");
+    answers.note_return(u32::MAX).expect(&rt, "an entry");
     assert_eq!(rt; answers.open(0, ()), Ok(()));
-    Ok(())
 }
 
 #[test]
-fn exports_end_at_their_limit(rt: HostRuntime) -> Result<(), Fail> {
+fn exports_end_at_their_limit(rt: HostRuntime) {
     let mut exports = Exports::new(rt.alloc());
     for number in 0..=LAST {
         assert_eq!(rt; exports.raise(None, ()), Ok(number));
     }
     assert_eq!(rt; exports.raise(None, ()), Err(Full));
     assert_eq!(rt; exports.raise(Some(LAST), ()), Ok(LAST));
-    exports.lower(LAST, 2)?;
+    exports.lower(LAST, 2).expect(&rt, "an entry");
     assert_eq!(rt; exports.raise(None, ()), Ok(LAST));
-    Ok(())
 }
 
 #[test]
-fn imports_end_at_their_limit(rt: HostRuntime) -> Result<(), Fail> {
+fn imports_end_at_their_limit(rt: HostRuntime) {
     let mut imports = Imports::new(rt.alloc());
     for entry in 0..=LAST {
         assert_eq!(rt; imports.raise(entry * 3, ()), Ok(()));
     }
     assert_eq!(rt; imports.raise(1, ()), Err(Full));
     assert_eq!(rt; imports.raise(3, ()), Ok(()));
-    imports.lower(3, 2)?;
+    imports.lower(3, 2).expect(&rt, "an entry");
     assert_eq!(rt; imports.raise(1, ()), Ok(()));
-    Ok(())
 }
 
 #[test]
-fn embargoes_end_at_their_limit(rt: HostRuntime) -> Result<(), Fail> {
+fn embargoes_end_at_their_limit(rt: HostRuntime) {
     let mut embargoes = Embargoes::new(rt.alloc());
     for number in 0..=LAST {
         assert_eq!(rt; embargoes.open(()), Ok(number));
     }
     assert_eq!(rt; embargoes.open(()), Err(Full));
-    embargoes.close(0)?;
+    embargoes.close(0).expect(&rt, "an entry");
     assert_eq!(rt; embargoes.open(()), Ok(0));
-    Ok(())
 }
 
 #[test]
@@ -353,12 +341,14 @@ fn a_refused_embargo_changes_nothing(rt: HostRuntime) {
 }
 
 #[test]
-fn import_numbers_rise(rt: HostRuntime) -> Result<(), Fail> {
+fn import_numbers_rise(rt: HostRuntime) {
     let mut imports = Imports::new(rt.alloc());
     for id in [7, u32::MAX, 0, 7, 3] {
-        imports.raise(id, ())?;
+        imports.raise(id, ()).expect(&rt, "an entry");
     }
-    let ids = imports.ids().copied().collect::<Vec<u32>>(rt.alloc())?;
-    assert_eq!(rt; ids.as_slice(), [0, 3, 7, u32::MAX].as_slice());
-    Ok(())
+    let ids = imports.ids().copied().collect::<Vec<u32>>(rt.alloc());
+    assert_eq!(rt;
+        ids.expect(&rt, "memory").as_slice(),
+        [0, 3, 7, u32::MAX].as_slice()
+    );
 }
