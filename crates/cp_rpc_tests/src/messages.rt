@@ -1,4 +1,5 @@
 //! Messages from outside, viewed and owned. `cp_cli` has a row for each field, member and number.
+//! Messages are let go by `drop`, which is proved once, where the end of a scope is proved each time.
 
 use cp_rpc::{
     Field, Message, OtherWhich, Past, SchemaFault, check_message, message_of, message_view,
@@ -40,12 +41,17 @@ pub fn said(rt: &impl Abort, alloc: Global, words: &[u64]) -> Message {
 
 /// A copy of what a message of one segment says.
 fn copy_of(rt: &impl Abort, alloc: Global, words: &[u64]) -> Message {
-    said(rt, alloc, words).copy(alloc).expect(rt, "memory")
+    let message = said(rt, alloc, words);
+    let copy = message.copy(alloc).expect(rt, "memory");
+    drop(message);
+    copy
 }
 
 /// The copy of what an owned root struct says is an abort with this reason and this trace.
 fn expect_abort(rt: &impl Abort, alloc: Global, words: &[u64], reason: &str, trace: &str) {
-    expect_texts(rt, &copy_of(rt, alloc, words), reason, trace);
+    let copy = copy_of(rt, alloc, words);
+    expect_texts(rt, &copy, reason, trace);
+    drop(copy);
 }
 
 /// Why the view of a root struct says nothing, as its check tells too.

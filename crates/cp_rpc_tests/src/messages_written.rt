@@ -10,7 +10,9 @@ use std::process::Abort;
 /// The tree that what a message says is written as.
 fn tree(rt: &impl Abort, alloc: Global, words: &[u64]) -> Object {
     let message = said(rt, alloc, words);
-    tree_of(alloc, &message).expect(rt, "a tree")
+    let tree = tree_of(alloc, &message).expect(rt, "a tree");
+    drop(message);
+    tree
 }
 
 /// Whether what the first message says is written as the tree of the second.
@@ -500,6 +502,7 @@ fn is_made_again(alloc: Global, message: &Message, root: &Object) -> bool {
 fn expect_made(rt: &impl Abort, alloc: Global, root: &Object) {
     let message = message_again(rt, alloc, root);
     assert!(rt; is_made_again(alloc, &message, root));
+    drop(message);
 }
 
 #[test]
@@ -528,13 +531,17 @@ fn is_made_once(alloc: Global, message: &Message, root: &Object) -> bool {
 
 /// Whether a message's copy is made as this root.
 fn is_copied(rt: &impl Abort, alloc: Global, message: &Message, root: &Object) -> bool {
-    is_made_once(alloc, &copy_again(rt, alloc, message), root)
+    let copy = copy_again(rt, alloc, message);
+    let is_made = is_made_once(alloc, &copy, root);
+    drop(copy);
+    is_made
 }
 
 /// The copy of a root's message is made as that root.
 fn expect_copied(rt: &impl Abort, alloc: Global, root: &Object) {
     let message = message_again(rt, alloc, root);
     assert!(rt; is_copied(rt, alloc, &message, root));
+    drop(message);
 }
 
 #[test]
