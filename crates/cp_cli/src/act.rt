@@ -31,8 +31,11 @@ const REFUSED: u8 = 1;
 /// A usage fault, or a device that failed.
 const BROKEN: u8 = 2;
 
-/// How many bytes are asked for at once.
+/// How many bytes are asked for at once: at first and behind a frame, and behind a piece that ended no
+/// frame half as many more.
 const PIECE: usize = 16_384;
+/// The most bytes that are asked for at once.
+const LARGEST_PIECE: usize = 65_536;
 
 /// How far a command has come: how many frames it accepted, and how many bytes they took.
 #[derive(Drop)]
@@ -131,20 +134,28 @@ impl Plan {
         progress: &mut Progress,
     ) -> Result<(), Stop> {
         let mut reader = self.reader(alloc);
-        let mut piece = vec![in alloc; 0u8; PIECE]?;
+        let mut piece = vec![in alloc; 0u8; LARGEST_PIECE]?;
+        let mut most = PIECE;
         let mut last = Last {
             line: String::new(alloc),
             room: Vec::new(alloc),
         };
         // A reader could go on for ever; no device gives so many pieces.
         for _ in 0..u64::MAX {
-            let length = match from.read(&mut piece) {
+            let asked = most.min(piece.len());
+            let length = match from.read(&mut piece[..asked]) {
                 Ok(0) => return Ok(reader.finish()?),
                 Ok(length) => length,
                 Err(error) if error.kind() == ErrorKind::Interrupted => continue,
                 Err(_) => return Err(Stop::Device),
             };
-            for frame in &reader.feed(&piece[..length])? {
+            let frames = reader.feed(&piece[..length])?;
+            most = if frames.is_empty() {
+                asked + PIECE / 2
+            } else {
+                PIECE
+            };
+            for frame in &frames {
                 self.take(alloc, &frame.1, &mut last, out)?;
                 progress.frames = progress.frames.saturating_add(1);
                 progress.bytes = progress.bytes.saturating_add(frame.0);
