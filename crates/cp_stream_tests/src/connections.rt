@@ -1,7 +1,8 @@
 //! Messages of a connection, read and written back, and devices that fail on the way.
 
 use crate::streams::{
-    FINISH, PACKED, Source, TWO_SEGMENTS, at, expect_failed, is_memory, read, tap_of,
+    FINISH, PACKED, Source, TWO_SEGMENTS, at, expect_cut_short, expect_failed, is_memory, read,
+    tap_of,
 };
 use cp_rpc::{Message, Op, Returned, Target};
 use cp_stream::*;
@@ -9,7 +10,6 @@ use cp_tree::WriteFault;
 use std::alloc::Global;
 use std::io::Write;
 use std::process::Abort;
-use std::test::Fail;
 
 /// The Return that answers a bootstrap with a capability, packed.
 const PACKED_RETURN: [u8; 29] = [
@@ -31,6 +31,15 @@ const RETURN: [u64; 12] = [
     0x0400000001000100,
     0x0100000000000000,
     0x0000000000000000,
+];
+
+/// `FINISH` by words.
+const FINISH_WORDS: [u64; 5] = [
+    0x0000000004000000,
+    0x0000000001000100,
+    0x0400000000000000,
+    0x0000000001000000,
+    0x0700000000000000,
 ];
 
 /// A bootstrap, question 0.
@@ -97,59 +106,69 @@ const THREE_WORDS: [u64; 7] = [
     0x0700000000000000,
 ];
 
+/// The plain frames of a finish, a bootstrap's Return, a bootstrap and two calls.
+const FRAMES: [&[u64]; 5] = [
+    &FINISH_WORDS,
+    &RETURN,
+    &BOOTSTRAP,
+    &FIRST_CALL,
+    &SECOND_CALL,
+];
+
 /// Appends the words' bytes.
-fn push_words(bytes: &mut Vec<u8>, words: &[u64]) -> Result<(), Fail> {
+fn push_words(rt: &impl Abort, bytes: &mut Vec<u8>, words: &[u64]) {
     for word in words {
-        bytes.extend_from_slice(&word.to_be_bytes())?;
+        bytes
+            .extend_from_slice(&word.to_be_bytes())
+            .expect(rt, "memory");
     }
-    Ok(())
 }
 
 /// The words' bytes.
-fn bytes_of(alloc: Global, words: &[u64]) -> Result<Vec<u8>, Fail> {
+fn bytes_of(rt: &impl Abort, alloc: Global, words: &[u64]) -> Vec<u8> {
     let mut bytes = Vec::new(alloc);
-    push_words(&mut bytes, words)?;
-    Ok(bytes)
+    push_words(rt, &mut bytes, words);
+    bytes
 }
 
-/// The plain frames of a finish, a bootstrap's Return, a bootstrap and two calls.
-fn frames(alloc: Global) -> Result<Vec<Vec<u8>>, Fail> {
-    let mut all = Vec::new(alloc);
-    all.push(FINISH.to_vec(alloc)?)?;
-    for words in [
-        RETURN.as_slice(),
-        BOOTSTRAP.as_slice(),
-        FIRST_CALL.as_slice(),
-        SECOND_CALL.as_slice(),
-    ] {
-        all.push(bytes_of(alloc, words)?)?;
-    }
-    Ok(all)
+/// The next message of a device.
+fn next_message(rt: &impl Abort, alloc: Global, from: &mut Tap<Source>, mode: Mode) -> Message {
+    let found = read_message(alloc, from, mode, Limits::standard()).expect(rt, "read");
+    found.expect(rt, "message")
 }
 
 /// The message of a plain frame.
-fn message_of(alloc: Global, frame: &[u8]) -> Result<Message, Fail> {
-    match read_message(
-        alloc,
-        &mut tap_of(frame, 0),
-        Mode::Plain,
-        Limits::standard(),
-    )? {
-        Some(message) => Ok(message),
-        None => Err(Fail::from("message")),
-    }
+fn message_of(rt: &impl Abort, alloc: Global, frame: &[u8]) -> Message {
+    next_message(rt, alloc, &mut tap_of(frame, 0), Mode::Plain)
 }
 
 /// What is written of a message, in one segment.
-fn written(alloc: Global, message: &Message, mode: Mode) -> Result<Vec<u8>, Fail> {
+fn written(rt: &impl Abort, alloc: Global, message: &Message, mode: Mode) -> Vec<u8> {
     let mut to = Tap::new(Vec::new(alloc));
-    write_message(alloc, &mut to, message, mode, Limits::standard())?;
-    Ok(to.into_inner())
+    write_message(alloc, &mut to, message, mode, Limits::standard()).expect(rt, "written");
+    to.into_inner()
+}
+
+/// Whether it is the Return of question 0, with results, that keeps what the call named.
+fn is_results(message: &Message) -> bool {
+    match message {
+        Message::Return(answer) => {
+            answer.answer_id == 0
+                && !answer.release_param_caps
+                && matches!(&answer.returned, Returned::Results(_))
+        }
+        _ => false,
+    }
+}
+
+/// Whether it is the bootstrap of question 0.
+fn is_bootstrap(message: &Message) -> bool {
+    matches!(message, Message::Bootstrap(bootstrap) if bootstrap.question_id == 0)
 }
 
 /// Whether it is the call of this question on what that question gives, at these pointers.
-fn is_call(message: Option<Message>, question: u32, on: u32, path: &[Op]) -> bool {
-    let Some(Message::Call(call)) = message else {
+fn is_call(message: &Message, question: u32, on: u32, path: &[Op]) -> bool {
+    let Message::Call(call) = message else {
         return false;
     };
     match &call.target {
@@ -163,117 +182,108 @@ fn is_call(message: Option<Message>, question: u32, on: u32, path: &[Op]) -> boo
 }
 
 #[test]
-fn messages_of_a_connection_are_read(rt: HostRuntime) -> Result<(), Fail> {
+fn messages_of_a_connection_are_read(rt: HostRuntime) {
     let alloc = rt.alloc();
-    let mut stream = bytes_of(alloc, &RETURN)?;
-    push_words(&mut stream, &BOOTSTRAP)?;
-    push_words(&mut stream, &FIRST_CALL)?;
-    push_words(&mut stream, &SECOND_CALL)?;
+    let mut stream = Vec::new(alloc);
+    for words in &FRAMES[1..] {
+        push_words(&rt, &mut stream, words);
+    }
     let mut from = tap_of(&stream, 0);
-    let limits = Limits::standard();
-    let found = read_message(alloc, &mut from, Mode::Plain, limits)?;
-    let Some(Message::Return(answer)) = found else {
-        return Err(Fail::from("return"));
-    };
-    assert_eq!(rt; (answer.answer_id, answer.release_param_caps), (0, false));
-    assert!(rt; matches!(answer.returned, Returned::Results(_)));
-    let found = read_message(alloc, &mut from, Mode::Plain, limits)?;
-    assert!(rt; matches!(found, Some(Message::Bootstrap(bootstrap)) if bootstrap.question_id == 0));
-    let found = read_message(alloc, &mut from, Mode::Plain, limits)?;
-    assert!(rt; is_call(found, 1, 0, &[]));
-    let found = read_message(alloc, &mut from, Mode::Plain, limits)?;
-    assert!(rt; is_call(found, 2, 1, &[Op::GetPointerField(0)]));
+    assert!(rt; is_results(&next_message(&rt, alloc, &mut from, Mode::Plain)));
+    assert!(rt; is_bootstrap(&next_message(&rt, alloc, &mut from, Mode::Plain)));
+    let call = next_message(&rt, alloc, &mut from, Mode::Plain);
+    assert!(rt; is_call(&call, 1, 0, &[]));
+    let call = next_message(&rt, alloc, &mut from, Mode::Plain);
+    assert!(rt; is_call(&call, 2, 1, &[Op::GetPointerField(0)]));
     assert_eq!(rt; read(alloc, &mut from, Mode::Plain), Ok(false));
     assert_eq!(rt; from.bytes(), stream.len() as u64);
-    Ok(())
+}
+
+/// What is written of a plain frame's message is the frame, and read back from the packed form it is
+/// again.
+fn expect_written(rt: &impl Abort, alloc: Global, frame: &[u8]) {
+    let message = message_of(rt, alloc, frame);
+    assert_eq!(rt; written(rt, alloc, &message, Mode::Plain).as_slice(), frame);
+    let packed = written(rt, alloc, &message, Mode::Packed);
+    let mut from = tap_of(&packed, 0);
+    let again = next_message(rt, alloc, &mut from, Mode::Packed);
+    assert_eq!(rt; written(rt, alloc, &again, Mode::Plain).as_slice(), frame);
+    assert_eq!(rt; read(alloc, &mut from, Mode::Packed), Ok(false));
+}
+
+/// The message of these words' frame is written packed as these bytes.
+fn expect_packed(rt: &impl Abort, alloc: Global, words: &[u64], packed: &[u8]) {
+    let message = message_of(rt, alloc, &bytes_of(rt, alloc, words));
+    assert_eq!(rt;
+        written(rt, alloc, &message, Mode::Packed).as_slice(),
+        packed
+    );
 }
 
 #[test]
-fn messages_are_written_as_they_were_read(rt: HostRuntime) -> Result<(), Fail> {
+fn messages_are_written_as_they_were_read(rt: HostRuntime) {
     let alloc = rt.alloc();
-    for frame in &frames(alloc)? {
-        let message = message_of(alloc, frame)?;
-        let plain = written(alloc, &message, Mode::Plain)?;
-        assert_eq!(rt; plain.as_slice(), frame.as_slice());
-        let packed = written(alloc, &message, Mode::Packed)?;
-        let mut from = tap_of(&packed, 0);
-        let found = read_message(alloc, &mut from, Mode::Packed, Limits::standard())?;
-        let Some(again) = found else {
-            return Err(Fail::from("message"));
-        };
-        let plain = written(alloc, &again, Mode::Plain)?;
-        assert_eq!(rt; plain.as_slice(), frame.as_slice());
-        assert_eq!(rt; read(alloc, &mut from, Mode::Packed), Ok(false));
+    for words in FRAMES {
+        expect_written(&rt, alloc, &bytes_of(&rt, alloc, words));
     }
-    let finish = message_of(alloc, &FINISH)?;
-    let packed = written(alloc, &finish, Mode::Packed)?;
-    assert_eq!(rt; packed.as_slice(), PACKED.as_slice());
-    let answer = message_of(alloc, &bytes_of(alloc, &RETURN)?)?;
-    let packed = written(alloc, &answer, Mode::Packed)?;
-    assert_eq!(rt; packed.as_slice(), PACKED_RETURN.as_slice());
-    Ok(())
+    expect_packed(&rt, alloc, &FINISH_WORDS, &PACKED);
+    expect_packed(&rt, alloc, &RETURN, &PACKED_RETURN);
 }
 
 /// The bytes of a finish in segments of at most so many words.
-fn cut_finish(alloc: Global, words: u32) -> Result<Vec<u8>, Fail> {
-    let message = message_of(alloc, &FINISH)?;
+fn cut_finish(rt: &impl Abort, alloc: Global, words: u32) -> Vec<u8> {
+    let message = message_of(rt, alloc, &FINISH);
     let mut to = Tap::new(Vec::new(alloc));
     let limits = Limits::standard();
-    write_message_in(alloc, &mut to, &message, Mode::Plain, words, limits)?;
-    Ok(to.into_inner())
+    write_message_in(alloc, &mut to, &message, Mode::Plain, words, limits).expect(rt, "written");
+    to.into_inner()
 }
 
 #[test]
-fn segments_may_be_small(rt: HostRuntime) -> Result<(), Fail> {
+fn segments_may_be_small(rt: HostRuntime) {
     let alloc = rt.alloc();
-    let three = bytes_of(alloc, &THREE_WORDS)?;
-    assert_eq!(rt; cut_finish(alloc, 3)?.as_slice(), three.as_slice());
-    assert_eq!(rt; cut_finish(alloc, 4)?.as_slice(), FINISH.as_slice());
+    let three = bytes_of(&rt, alloc, &THREE_WORDS);
+    assert_eq!(rt; cut_finish(&rt, alloc, 3).as_slice(), three.as_slice());
+    assert_eq!(rt; cut_finish(&rt, alloc, 4).as_slice(), FINISH.as_slice());
     assert_eq!(rt;
-        cut_finish(alloc, 0)?.as_slice(),
-        cut_finish(alloc, 1)?.as_slice()
+        cut_finish(&rt, alloc, 0).as_slice(),
+        cut_finish(&rt, alloc, 1).as_slice()
     );
-    let again = message_of(alloc, &three)?;
-    let plain = written(alloc, &again, Mode::Plain)?;
-    assert_eq!(rt; plain.as_slice(), FINISH.as_slice());
-    Ok(())
+    let again = message_of(&rt, alloc, &three);
+    assert_eq!(rt;
+        written(&rt, alloc, &again, Mode::Plain).as_slice(),
+        FINISH.as_slice()
+    );
 }
 
-/// Limits for small messages.
-fn small_limits(nesting: u32, traversal: u32) -> Result<Limits, Fail> {
-    match Limits::new(nesting, traversal, 512, traversal) {
-        Some(limits) => Ok(limits),
-        None => Err(Fail::from("limits")),
-    }
-}
-
-/// How writing a finish in segments of one word ends within limits, and how many bytes went out.
+/// How writing a finish in segments of one word ends within limits for small messages, and how many
+/// bytes went out.
 fn fault_within(
+    rt: &impl Abort,
     alloc: Global,
     nesting: u32,
     traversal: u32,
-) -> Result<(Option<StreamFault>, u64), Fail> {
-    let message = message_of(alloc, &FINISH)?;
+) -> (Option<StreamFault>, u64) {
+    let limits = Limits::new(nesting, traversal, 512, traversal).expect(rt, "limits");
+    let message = message_of(rt, alloc, &FINISH);
     let mut to = Tap::new(Vec::new(alloc));
-    let limits = small_limits(nesting, traversal)?;
     let done = write_message_in(alloc, &mut to, &message, Mode::Plain, 1, limits);
-    Ok((done.err(), to.bytes()))
+    (done.err(), to.bytes())
 }
 
 // The finish nests 2 levels and costs 5 words. In segments of one word it takes 6.
 #[test]
-fn what_passes_the_limits_is_not_written(rt: HostRuntime) -> Result<(), Fail> {
+fn what_passes_the_limits_is_not_written(rt: HostRuntime) {
     let refused = [
         (1, 4, WriteFault::TooDeep),
         (2, 4, WriteFault::TooCostly),
         (2, 5, WriteFault::TooManyWords),
     ];
     for (nesting, traversal, fault) in refused {
-        let found = fault_within(rt.alloc(), nesting, traversal)?;
+        let found = fault_within(&rt, rt.alloc(), nesting, traversal);
         assert_eq!(rt; found, (Some(at(0, Refusal::Write(fault))), 0));
     }
-    assert_eq!(rt; fault_within(rt.alloc(), 2, 6)?.0, None);
-    Ok(())
+    assert_eq!(rt; fault_within(&rt, rt.alloc(), 2, 6).0, None);
 }
 
 /// A writer that takes so many bytes a call, and fails once, at one of its calls.
@@ -314,74 +324,68 @@ fn sink_of(alloc: Global, most: usize, fails_at: u64, takes_none: bool) -> Tap<S
     })
 }
 
-#[test]
-fn a_writer_may_take_a_byte_a_call(rt: HostRuntime) -> Result<(), Fail> {
-    let alloc = rt.alloc();
-    for frame in &frames(alloc)? {
-        let message = message_of(alloc, frame)?;
-        let mut to = sink_of(alloc, 1, 0, false);
-        write_message(alloc, &mut to, &message, Mode::Plain, Limits::standard())?;
-        assert_eq!(rt; (to.failures(), to.bytes()), (0, frame.len() as u64));
-        let sink = to.into_inner();
-        assert_eq!(rt; sink.bytes.as_slice(), frame.as_slice());
-        assert_eq!(rt; sink.call, frame.len() as u64);
-        let mut whole = sink_of(alloc, 1024, 0, false);
-        write_message(alloc, &mut whole, &message, Mode::Plain, Limits::standard())?;
-        assert_eq!(rt; whole.into_inner().call, 1);
-    }
-    Ok(())
+/// A plain frame's message is written as the frame, in so many calls of a writer that takes so many
+/// bytes a call.
+fn expect_calls(rt: &impl Abort, alloc: Global, frame: &[u8], most: usize, calls: u64) {
+    let message = message_of(rt, alloc, frame);
+    let mut to = sink_of(alloc, most, 0, false);
+    write_message(alloc, &mut to, &message, Mode::Plain, Limits::standard()).expect(rt, "written");
+    assert_eq!(rt; (to.failures(), to.bytes()), (0, frame.len() as u64));
+    let sink = to.into_inner();
+    assert_eq!(rt; sink.bytes.as_slice(), frame);
+    assert_eq!(rt; sink.call, calls);
 }
 
 #[test]
-fn a_writer_may_fail_at_each_call(rt: HostRuntime) -> Result<(), Fail> {
+fn a_writer_may_take_a_byte_a_call(rt: HostRuntime) {
     let alloc = rt.alloc();
-    for frame in &frames(alloc)? {
-        let message = message_of(alloc, frame)?;
+    for words in FRAMES {
+        let frame = bytes_of(&rt, alloc, words);
+        expect_calls(&rt, alloc, &frame, 1, frame.len() as u64);
+        expect_calls(&rt, alloc, &frame, 1024, 1);
+    }
+}
+
+/// A writer that fails behind this front of a message's frame took the front alone.
+fn expect_front(rt: &impl Abort, alloc: Global, message: &Message, front: &[u8], takes_none: bool) {
+    let length = front.len() as u64;
+    let mut to = sink_of(alloc, 1, length + 1, takes_none);
+    let done = write_message(alloc, &mut to, message, Mode::Plain, Limits::standard());
+    assert_eq!(rt; done, Err(StreamFault::Device));
+    assert_eq!(rt; (to.failures(), to.bytes()), (1, length));
+    assert_eq!(rt; to.into_inner().bytes.as_slice(), front);
+}
+
+#[test]
+fn a_writer_may_fail_at_each_call(rt: HostRuntime) {
+    let alloc = rt.alloc();
+    for words in FRAMES {
+        let frame = bytes_of(&rt, alloc, words);
+        let message = message_of(&rt, alloc, &frame);
         for length in 0..frame.len() {
-            for takes_none in [false, true] {
-                let mut to = sink_of(alloc, 1, length as u64 + 1, takes_none);
-                let done = write_message(alloc, &mut to, &message, Mode::Plain, Limits::standard());
-                assert_eq!(rt; done, Err(StreamFault::Device));
-                assert_eq!(rt; (to.failures(), to.bytes()), (1, length as u64));
-                assert_eq!(rt; to.into_inner().bytes.as_slice(), &frame[..length]);
-            }
+            expect_front(&rt, alloc, &message, &frame[..length], false);
+            expect_front(&rt, alloc, &message, &frame[..length], true);
         }
     }
-    Ok(())
 }
 
-/// Each message's frame, packed.
-fn packed_frames(alloc: Global) -> Result<Vec<Vec<u8>>, Fail> {
-    let mut all = Vec::new(alloc);
-    for frame in &frames(alloc)? {
-        let message = message_of(alloc, frame)?;
-        all.push(written(alloc, &message, Mode::Packed)?)?;
+/// The frame of these words' message in a form.
+fn frame_in(rt: &impl Abort, alloc: Global, words: &[u64], mode: Mode) -> Vec<u8> {
+    let plain = bytes_of(rt, alloc, words);
+    match mode {
+        Mode::Plain => plain,
+        Mode::Packed => written(rt, alloc, &message_of(rt, alloc, &plain), mode),
     }
-    Ok(all)
-}
-
-/// The frames of the rows in both forms.
-fn both_forms(alloc: Global) -> Result<[(Mode, Vec<Vec<u8>>); 2], Fail> {
-    Ok([
-        (Mode::Plain, frames(alloc)?),
-        (Mode::Packed, packed_frames(alloc)?),
-    ])
 }
 
 #[test]
-fn frames_that_end_early_are_refused(rt: HostRuntime) -> Result<(), Fail> {
+fn frames_that_end_early_are_refused(rt: HostRuntime) {
     let alloc = rt.alloc();
-    let truncated = at(0, Refusal::Frame(cp_frame::FrameFault::Truncated));
-    for (mode, frames) in &both_forms(alloc)? {
-        for frame in frames {
-            for length in 1..frame.len() {
-                let mut from = tap_of(&frame[..length], 0);
-                assert_eq!(rt; read(alloc, &mut from, *mode), Err(truncated));
-                assert_eq!(rt; from.bytes(), length as u64);
-            }
+    for words in FRAMES {
+        for mode in [Mode::Plain, Mode::Packed] {
+            expect_cut_short(&rt, alloc, mode, &frame_in(&rt, alloc, words, mode));
         }
     }
-    Ok(())
 }
 
 /// Reads messages until none comes, and says how many came and which fault ended it.
@@ -396,26 +400,30 @@ fn read_all(alloc: Global, from: &mut Tap<Source>, mode: Mode) -> (u64, Option<S
     (u64::MAX, None)
 }
 
+/// Reads a stream of five messages by a device that fails at that call.
+fn expect_failure(rt: &impl Abort, alloc: Global, mode: Mode, stream: &[u8], call: u64) {
+    let mut from = tap_of(stream, call);
+    let (count, fault) = read_all(alloc, &mut from, mode);
+    assert!(rt; count <= 5);
+    assert_eq!(rt; fault, Some(StreamFault::Device));
+    assert_eq!(rt; from.failures(), 1);
+}
+
 #[test]
-fn a_reader_may_fail_at_each_call(rt: HostRuntime) -> Result<(), Fail> {
+fn a_reader_may_fail_at_each_call(rt: HostRuntime) {
     let alloc = rt.alloc();
-    for (mode, frames) in &both_forms(alloc)? {
+    for mode in [Mode::Plain, Mode::Packed] {
         let mut stream = Vec::new(alloc);
-        for frame in frames {
-            stream.extend_from_slice(frame)?;
+        for words in FRAMES {
+            let frame = frame_in(&rt, alloc, words, mode);
+            stream.extend_from_slice(&frame).expect(&rt, "memory");
         }
         let mut whole = tap_of(&stream, 0);
-        assert_eq!(rt; read_all(alloc, &mut whole, *mode), (5, None));
-        let calls = whole.into_inner().call;
-        for call in 0..calls {
-            let mut from = tap_of(&stream, call + 1);
-            let (count, fault) = read_all(alloc, &mut from, *mode);
-            assert!(rt; count <= 5);
-            assert_eq!(rt; fault, Some(StreamFault::Device));
-            assert_eq!(rt; from.failures(), 1);
+        assert_eq!(rt; read_all(alloc, &mut whole, mode), (5, None));
+        for call in 0..whole.into_inner().call {
+            expect_failure(&rt, alloc, mode, &stream, call + 1);
         }
     }
-    Ok(())
 }
 
 /// Frames that lie in no memory that could be refused.
@@ -466,20 +474,24 @@ fn want_of_memory_while_a_packed_stream_is_fed(rt: HostRuntime) {
     assert_eq!(rt; reader.finish(), Ok(()));
 }
 
+/// Writes a message in segments of at most so many words. Where memory runs out, nothing goes out.
+fn expect_whole_or_none(rt: &impl Abort, alloc: Global, message: &Message, mode: Mode, words: u32) {
+    let mut to = Tap::new(std::io::sink());
+    let done = write_message_in(alloc, &mut to, message, mode, words, Limits::standard());
+    if let Err(fault) = done {
+        assert!(rt; is_memory(fault));
+        assert_eq!(rt; (to.failures(), to.bytes()), (0, 0));
+    }
+}
+
 #[test]
 fn want_of_memory_writes_nothing(rt: HostRuntime) {
     let alloc = rt.alloc();
-    let limits = Limits::standard();
     for (mode, frame) in lying_frames() {
-        let Ok(Some(message)) = read_message(alloc, &mut tap_of(frame, 0), mode, limits) else {
-            continue;
-        };
-        for words in [3, 8_388_608] {
-            let mut to = Tap::new(std::io::sink());
-            if let Err(fault) = write_message_in(alloc, &mut to, &message, mode, words, limits) {
-                assert!(rt; is_memory(fault));
-                assert_eq!(rt; (to.failures(), to.bytes()), (0, 0));
-            }
+        let found = read_message(alloc, &mut tap_of(frame, 0), mode, Limits::standard());
+        if let Ok(Some(message)) = found {
+            expect_whole_or_none(&rt, alloc, &message, mode, 3);
+            expect_whole_or_none(&rt, alloc, &message, mode, 8_388_608);
         }
     }
 }

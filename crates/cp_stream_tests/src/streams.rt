@@ -1,13 +1,12 @@
 //! Messages of streams from outside, whole and in pieces.
 
-use cp_frame::FrameFault;
+use cp_frame::{FrameFault, FrameReader};
 use cp_rpc::{Field, Message, SchemaFault};
 use cp_stream::*;
 use cp_tree::{Place, TreeFault, WriteFault};
 use std::alloc::Global;
 use std::io::{Read, Write};
 use std::process::Abort;
-use std::test::Fail;
 
 /// `finish` of question 7, that releases.
 pub(crate) const FINISH: [u8; 40] = [
@@ -59,34 +58,50 @@ const NO_STRUCT: Refusal = Refusal::Schema(SchemaFault::Kind(Field::MessageFinis
 /// F5.
 const FAILED: Refusal = Refusal::Frame(FrameFault::Failed);
 
+/// Bytes that hold no message, and why.
+const FAULTS: [(&[u8], Refusal); 3] = [
+    (&[0xff; 4], Refusal::Frame(FrameFault::TooManySegments)),
+    (&SHORT_ROOT, OUT_OF_BOUNDS),
+    (&FINISH_LIST, NO_STRUCT),
+];
+
 /// A reader of plain frames within the standard limits.
 fn new_reader(alloc: Global) -> MessageReader {
     MessageReader::plain(alloc, Limits::standard())
 }
 
-/// Feeds a piece, and gives of each message that comes whether it is a `finish` of question 7, and
-/// releases.
-fn feed(
-    alloc: Global,
-    reader: &mut MessageReader,
-    piece: &[u8],
-) -> Result<Vec<(bool, bool)>, Fail> {
-    let mut found = Vec::new(alloc);
-    for message in reader.feed(piece)? {
-        found.push(match message {
-            Message::Finish(finish) => (finish.question_id == 7, finish.release_result_caps),
-            _ => (false, false),
-        })?;
+/// The first bytes and then the second ones.
+fn joined(rt: &impl Abort, alloc: Global, first: &[u8], second: &[u8]) -> Vec<u8> {
+    let mut bytes = first.to_vec(alloc).expect(rt, "memory");
+    bytes.extend_from_slice(second).expect(rt, "memory");
+    bytes
+}
+
+/// Whether a message is a `finish` of question 7, and whether it releases.
+fn finish_of(message: &Message) -> (bool, bool) {
+    match message {
+        Message::Finish(finish) => (finish.question_id == 7, finish.release_result_caps),
+        _ => (false, false),
     }
-    Ok(found)
+}
+
+/// Feeds a piece, and appends of each message that comes whether it is a `finish` of question 7, and
+/// releases.
+fn feed(rt: &impl Abort, reader: &mut MessageReader, piece: &[u8], found: &mut Vec<(bool, bool)>) {
+    let messages = reader.feed(piece).expect(rt, "messages");
+    for message in &messages {
+        found.push(finish_of(message)).expect(rt, "memory");
+    }
+}
+
+/// Feeds a piece, and gives how many messages come.
+fn count_fed(rt: &impl Abort, reader: &mut MessageReader, piece: &[u8]) -> usize {
+    reader.feed(piece).expect(rt, "messages").len()
 }
 
 /// The fault that is told for a piece.
 fn told(reader: &mut MessageReader, piece: &[u8]) -> Option<StreamFault> {
-    match reader.feed(piece) {
-        Ok(_) => None,
-        Err(fault) => Some(fault),
-    }
+    reader.feed(piece).err()
 }
 
 /// A refusal behind so many bytes.
@@ -94,72 +109,87 @@ pub(crate) fn at(at: u64, refusal: Refusal) -> StreamFault {
     StreamFault::Refused { at, refusal }
 }
 
-#[test]
-fn messages_come_however_they_are_cut(rt: HostRuntime) -> Result<(), Fail> {
-    let mut stream = FINISH.to_vec(rt.alloc())?;
-    stream.extend_from_slice(&KEEPING)?;
-    for cut in 0..81 {
-        let mut reader = new_reader(rt.alloc());
-        let (front, back) = stream.split_at(cut);
-        let mut found = feed(rt.alloc(), &mut reader, front)?;
-        assert_eq!(rt; found.len(), cut / 40);
-        found.extend_from_slice(&feed(rt.alloc(), &mut reader, back)?)?;
-        assert_eq!(rt; found.as_slice(), [(true, true), (true, false)].as_slice());
-        reader.finish()?;
-    }
-    Ok(())
-}
-
-#[test]
-fn a_message_may_lie_in_two_segments(rt: HostRuntime) -> Result<(), Fail> {
-    let mut reader = new_reader(rt.alloc());
-    assert_eq!(rt;
-        feed(rt.alloc(), &mut reader, &TWO_SEGMENTS)?.as_slice(),
-        [(true, true)].as_slice()
-    );
+/// The two messages come, of which so many come with the front.
+fn expect_both(rt: &impl Abort, alloc: Global, (front, back): (&[u8], &[u8]), early: usize) {
+    let mut reader = new_reader(alloc);
+    let mut found = Vec::new(alloc);
+    feed(rt, &mut reader, front, &mut found);
+    assert_eq!(rt; found.len(), early);
+    feed(rt, &mut reader, back, &mut found);
+    assert_eq!(rt; found.as_slice(), [(true, true), (true, false)].as_slice());
     assert_eq!(rt; reader.finish(), Ok(()));
-    Ok(())
 }
 
 #[test]
-fn a_fault_behind_a_message_is_kept(rt: HostRuntime) -> Result<(), Fail> {
-    let faults = [
-        (&[0xff; 4][..], Refusal::Frame(FrameFault::TooManySegments)),
-        (&SHORT_ROOT[..], OUT_OF_BOUNDS),
-        (&FINISH_LIST[..], NO_STRUCT),
-    ];
-    for (bytes, refusal) in faults {
-        let mut stream = FINISH.to_vec(rt.alloc())?;
-        stream.extend_from_slice(bytes)?;
-        let mut fed = new_reader(rt.alloc());
-        assert_eq!(rt; feed(rt.alloc(), &mut fed, &stream)?.len(), 1);
-        assert_eq!(rt; told(&mut fed, &[]), Some(at(40, refusal)));
-        assert_eq!(rt; told(&mut fed, &FINISH), Some(at(40, FAILED)));
-        let mut ended = new_reader(rt.alloc());
-        assert_eq!(rt; feed(rt.alloc(), &mut ended, &stream)?.len(), 1);
-        assert_eq!(rt; ended.finish(), Err(at(40, refusal)));
-        assert_eq!(rt; ended.finish(), Err(at(40, FAILED)));
-        let mut first = new_reader(rt.alloc());
-        assert_eq!(rt; told(&mut first, bytes), Some(at(0, refusal)));
-        assert_eq!(rt; told(&mut first, &[]), Some(at(0, FAILED)));
+fn messages_come_however_they_are_cut(rt: HostRuntime) {
+    let stream = joined(&rt, rt.alloc(), &FINISH, &KEEPING);
+    for cut in 0..stream.len() + 1 {
+        expect_both(&rt, rt.alloc(), stream.split_at(cut), cut / 40);
     }
-    Ok(())
 }
 
 #[test]
-fn a_stream_ends_behind_a_message(rt: HostRuntime) -> Result<(), Fail> {
-    let truncated = Refusal::Frame(FrameFault::Truncated);
+fn a_message_may_lie_in_two_segments(rt: HostRuntime) {
+    let mut reader = new_reader(rt.alloc());
+    let mut found = Vec::new(rt.alloc());
+    feed(&rt, &mut reader, &TWO_SEGMENTS, &mut found);
+    assert_eq!(rt; found.as_slice(), [(true, true)].as_slice());
+    assert_eq!(rt; reader.finish(), Ok(()));
+}
+
+/// A message comes with the stream, and the fault behind it with the next piece.
+fn expect_kept(rt: &impl Abort, alloc: Global, stream: &[u8], refusal: Refusal) {
+    let mut reader = new_reader(alloc);
+    assert_eq!(rt; count_fed(rt, &mut reader, stream), 1);
+    assert_eq!(rt; told(&mut reader, &[]), Some(at(40, refusal)));
+    assert_eq!(rt; told(&mut reader, &FINISH), Some(at(40, FAILED)));
+}
+
+/// A message comes with the stream, and the fault behind it at the end.
+fn expect_kept_to_the_end(rt: &impl Abort, alloc: Global, stream: &[u8], refusal: Refusal) {
+    let mut reader = new_reader(alloc);
+    assert_eq!(rt; count_fed(rt, &mut reader, stream), 1);
+    assert_eq!(rt; reader.finish(), Err(at(40, refusal)));
+    assert_eq!(rt; reader.finish(), Err(at(40, FAILED)));
+}
+
+/// The fault is told at once where no message comes.
+fn expect_told(rt: &impl Abort, alloc: Global, bytes: &[u8], refusal: Refusal) {
+    let mut reader = new_reader(alloc);
+    assert_eq!(rt; told(&mut reader, bytes), Some(at(0, refusal)));
+    assert_eq!(rt; told(&mut reader, &[]), Some(at(0, FAILED)));
+}
+
+#[test]
+fn a_fault_behind_a_message_is_kept(rt: HostRuntime) {
+    let alloc = rt.alloc();
+    for (bytes, refusal) in FAULTS {
+        let stream = joined(&rt, alloc, &FINISH, bytes);
+        expect_kept(&rt, alloc, &stream, refusal);
+        expect_kept_to_the_end(&rt, alloc, &stream, refusal);
+        expect_told(&rt, alloc, bytes, refusal);
+    }
+}
+
+/// A stream that ends inside a message, behind other bytes, is truncated there.
+fn expect_truncated(rt: &impl Abort, alloc: Global, before: &[u8], front: &[u8]) {
+    let mut reader = new_reader(alloc);
+    assert_eq!(rt; told(&mut reader, before), None);
+    assert_eq!(rt; told(&mut reader, front), None);
+    let behind = before.len() as u64;
+    assert_eq!(rt;
+        reader.finish(),
+        Err(at(behind, Refusal::Frame(FrameFault::Truncated)))
+    );
+    assert_eq!(rt; reader.finish(), Err(at(behind, FAILED)));
+}
+
+#[test]
+fn a_stream_ends_behind_a_message(rt: HostRuntime) {
     for length in 1..40 {
-        let mut reader = new_reader(rt.alloc());
-        assert_eq!(rt; told(&mut reader, &FINISH[..length]), None);
-        assert_eq!(rt; reader.finish(), Err(at(0, truncated)));
-        let mut second = new_reader(rt.alloc());
-        assert_eq!(rt; told(&mut second, &FINISH), None);
-        assert_eq!(rt; told(&mut second, &KEEPING[..length]), None);
-        assert_eq!(rt; second.finish(), Err(at(40, truncated)));
-        assert_eq!(rt; second.finish(), Err(at(40, FAILED)));
+        expect_truncated(&rt, rt.alloc(), &[], &FINISH[..length]);
+        expect_truncated(&rt, rt.alloc(), &FINISH, &KEEPING[..length]);
     }
-    Ok(())
 }
 
 /// Whether memory ran out.
@@ -198,24 +228,24 @@ fn want_of_memory_is_told_and_then_failed(rt: HostRuntime) {
     assert_eq!(rt; reader.finish(), Ok(()));
 }
 
-#[test]
-fn a_view_is_of_one_frame(rt: HostRuntime) -> Result<(), Fail> {
+/// How many frames the bytes are, of each of which a view and a check end in this way.
+fn count_viewed(rt: &impl Abort, alloc: Global, bytes: &[u8], fault: Option<StreamFault>) -> usize {
     let limits = Limits::standard();
-    let frames = cp_frame::FrameReader::plain(rt.alloc(), limits).feed(&TWO_SEGMENTS)?;
-    for frame in &frames {
-        assert!(rt; view_of(&frame.1, limits).is_ok());
-        assert!(rt; check_of(&frame.1, limits).is_ok());
+    let frames = FrameReader::plain(alloc, limits)
+        .feed(bytes)
+        .expect(rt, "frames");
+    for (_, segments) in &frames {
+        assert_eq!(rt; view_of(segments, limits).err(), fault);
+        assert_eq!(rt; check_of(segments, limits).err(), fault);
     }
-    let faulty = cp_frame::FrameReader::plain(rt.alloc(), limits).feed(&SHORT_ROOT)?;
-    for frame in &faulty {
-        assert_eq!(rt; view_of(&frame.1, limits).err(), Some(at(0, OUT_OF_BOUNDS)));
-        assert_eq!(rt;
-            check_of(&frame.1, limits).err(),
-            Some(at(0, OUT_OF_BOUNDS))
-        );
-    }
-    assert_eq!(rt; frames.len() + faulty.len(), 2);
-    Ok(())
+    frames.len()
+}
+
+#[test]
+fn a_view_is_of_one_frame(rt: HostRuntime) {
+    let fault = Some(at(0, OUT_OF_BOUNDS));
+    assert_eq!(rt; count_viewed(&rt, rt.alloc(), &TWO_SEGMENTS, None), 1);
+    assert_eq!(rt; count_viewed(&rt, rt.alloc(), &SHORT_ROOT, fault), 1);
 }
 
 /// A device that fails once, at one of its calls, and takes or gives one byte at each other.
@@ -284,18 +314,19 @@ fn a_tap_counts(rt: HostRuntime) {
 }
 
 #[test]
-fn packed_messages_come_byte_by_byte(rt: HostRuntime) -> Result<(), Fail> {
+fn packed_messages_come_byte_by_byte(rt: HostRuntime) {
     let mut reader = MessageReader::packed(rt.alloc(), Limits::standard());
     for i in 0..22 {
-        let found = feed(rt.alloc(), &mut reader, &[PACKED[i % 11]])?;
-        assert_eq!(rt; found.len(), (i % 11) / 10);
+        assert_eq!(rt;
+            count_fed(&rt, &mut reader, &[PACKED[i % 11]]),
+            (i % 11) / 10
+        );
     }
     assert_eq!(rt; reader.finish(), Ok(()));
     assert_eq!(rt;
         told(&mut reader, &[0, 3]),
         Some(at(22, Refusal::Frame(FrameFault::RunPastFrame)))
     );
-    Ok(())
 }
 
 /// A device of known bytes that fails once, at one of its calls.
@@ -330,34 +361,43 @@ pub(crate) fn read(alloc: Global, from: &mut Tap<Source>, mode: Mode) -> Result<
     Ok(read_message(alloc, from, mode, Limits::standard())?.is_some())
 }
 
+/// Of a frame that stands twice exactly one is read, then the other, and then none.
+fn expect_two(rt: &impl Abort, alloc: Global, mode: Mode, frame: &[u8]) {
+    let stream = joined(rt, alloc, frame, frame);
+    let mut from = tap_of(&stream, 0);
+    assert_eq!(rt; read(alloc, &mut from, mode), Ok(true));
+    let rest = from.into_inner().bytes;
+    assert_eq!(rt; rest, frame);
+    let mut from = tap_of(rest, 0);
+    assert_eq!(rt; read(alloc, &mut from, mode), Ok(true));
+    assert_eq!(rt; read(alloc, &mut from, mode), Ok(false));
+}
+
+/// A device that ends inside a frame is refused behind the frame's bytes that it had.
+pub(crate) fn expect_cut_short(rt: &impl Abort, alloc: Global, mode: Mode, frame: &[u8]) {
+    let truncated = at(0, Refusal::Frame(FrameFault::Truncated));
+    for length in 1..frame.len() {
+        let mut from = tap_of(&frame[..length], 0);
+        assert_eq!(rt; read(alloc, &mut from, mode), Err(truncated));
+        assert_eq!(rt; Tap::bytes(&from), length as u64);
+    }
+}
+
 #[test]
-fn exactly_one_frame_is_read(rt: HostRuntime) -> Result<(), Fail> {
+fn exactly_one_frame_is_read(rt: HostRuntime) {
     let alloc = rt.alloc();
     for (mode, frame) in [
         (Mode::Plain, FINISH.as_slice()),
         (Mode::Packed, PACKED.as_slice()),
         (Mode::Plain, TWO_SEGMENTS.as_slice()),
     ] {
-        let mut stream = frame.to_vec(alloc)?;
-        stream.extend_from_slice(frame)?;
-        let mut from = tap_of(&stream, 0);
-        assert_eq!(rt; read(alloc, &mut from, mode), Ok(true));
-        let rest = from.into_inner().bytes;
-        assert_eq!(rt; rest, frame);
-        let mut from = tap_of(rest, 0);
-        assert_eq!(rt; read(alloc, &mut from, mode), Ok(true));
-        assert_eq!(rt; read(alloc, &mut from, mode), Ok(false));
-        for length in 1..frame.len() {
-            let mut from = tap_of(&frame[..length], 0);
-            let truncated = at(0, Refusal::Frame(FrameFault::Truncated));
-            assert_eq!(rt; read(alloc, &mut from, mode), Err(truncated));
-        }
+        expect_two(&rt, alloc, mode, frame);
+        expect_cut_short(&rt, alloc, mode, frame);
     }
-    Ok(())
 }
 
 #[test]
-fn a_device_may_fail_at_each_call(rt: HostRuntime) -> Result<(), Fail> {
+fn a_device_may_fail_at_each_call(rt: HostRuntime) {
     let alloc = rt.alloc();
     for (mode, frame) in [
         (Mode::Plain, FINISH.as_slice()),
@@ -374,23 +414,15 @@ fn a_device_may_fail_at_each_call(rt: HostRuntime) -> Result<(), Fail> {
             assert_eq!(rt; from.failures(), 1);
         }
     }
-    Ok(())
 }
 
 #[test]
-fn what_is_read_is_refused_at_0(rt: HostRuntime) -> Result<(), Fail> {
-    let rows = [
-        (&[0xff; 4][..], Refusal::Frame(FrameFault::TooManySegments)),
-        (&SHORT_ROOT[..], OUT_OF_BOUNDS),
-        (&FINISH_LIST[..], NO_STRUCT),
-    ];
-    for (bytes, refusal) in rows {
-        let mut stream = bytes.to_vec(rt.alloc())?;
-        stream.extend_from_slice(&[0; 8])?;
+fn what_is_read_is_refused_at_0(rt: HostRuntime) {
+    for (bytes, refusal) in FAULTS {
+        let stream = joined(&rt, rt.alloc(), bytes, &[0; 8]);
         let mut from = tap_of(&stream, 0);
         let found = read(rt.alloc(), &mut from, Mode::Plain);
         assert_eq!(rt; found, Err(at(0, refusal)));
         assert!(rt; from.into_inner().bytes.len() >= 4);
     }
-    Ok(())
 }
