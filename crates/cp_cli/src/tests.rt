@@ -1,370 +1,388 @@
-//! Frames from outside, by `show`.
+//! Frames from outside, by the commands.
 
 use crate::{Plan, act};
 use cp_frame::Mode;
 use cp_tree::Limits;
 use std::alloc::Global;
 use std::io::{self, ErrorKind, Read};
-use std::test::Fail;
+use std::process::Abort;
 
-/// What `show` wrote, what it said, and its status.
-fn shown(alloc: Global, hexadecimal: &str) -> Result<(String, String, u8), Fail> {
+/// `show` within the standard limits.
+fn show(mode: Mode) -> Plan {
     let limits = Limits::standard();
-    done(
-        alloc,
-        &Plan::Show {
-            mode: Mode::Plain,
-            limits,
-        },
-        hexadecimal,
-    )
+    Plan::Show { mode, limits }
+}
+
+/// `check` within the standard limits.
+fn check(mode: Mode) -> Plan {
+    let limits = Limits::standard();
+    Plan::Check { mode, limits }
 }
 
 /// A text without its spaces.
-fn without_spaces(alloc: Global, text: &str) -> Result<String, Fail> {
+fn without_spaces(rt: &impl Abort, alloc: Global, text: &str) -> String {
     let mut joined = String::new(alloc);
     for part in text.split_whitespace() {
-        joined.push_str(part)?;
+        joined.push_str(part).expect(rt, "memory");
     }
-    Ok(joined)
+    joined
 }
 
-/// The bytes of hexadecimal digits.
-fn decoded(alloc: Global, hexadecimal: &str) -> Result<Vec<u8>, Fail> {
-    let text = without_spaces(alloc, hexadecimal)?;
-    Ok(hex::decode(alloc, text.as_str()).map_err(|_| "not hexadecimal")?)
-}
-
-/// What a command wrote, what it said, and its status.
-fn done(alloc: Global, plan: &Plan, hexadecimal: &str) -> Result<(String, String, u8), Fail> {
-    let bytes = decoded(alloc, hexadecimal)?;
+/// What a command wrote of a file, what it said, and its status.
+fn done(rt: &impl Abort, alloc: Global, plan: Plan, hexadecimal: &str) -> (Vec<u8>, String, u8) {
+    let text = without_spaces(rt, alloc, hexadecimal);
+    let bytes = hex::decode(alloc, text.as_str()).expect(rt, "hexadecimal");
     let mut from = bytes.as_slice();
     let (mut out, mut err) = (Vec::new(alloc), Vec::new(alloc));
-    let status = act(alloc, plan, &mut from, &mut out, &mut err);
-    let out = String::from_utf8(out).map_err(|_| "not UTF-8")?;
-    let err = String::from_utf8(err).map_err(|_| "not UTF-8")?;
-    Ok((out, err, status))
+    let status = act(alloc, &plan, &mut from, &mut out, &mut err);
+    (out, String::from_utf8(err).expect(rt, "UTF-8"), status)
 }
 
+/// A command writes these lines of a file, says that, and ends with this status.
+fn expect_done(
+    rt: &impl Abort,
+    alloc: Global,
+    plan: Plan,
+    hexadecimal: &str,
+    (lines, said, ends): (&str, &str, u8),
+) {
+    let (out, err, status) = done(rt, alloc, plan, hexadecimal);
+    let out = String::from_utf8(out).expect(rt, "UTF-8");
+    assert_eq!(rt; (out.as_str(), err.as_str(), status), (lines, said, ends));
+}
+
+/// A plain file is refused at this byte, for this fault. `check` says the same, and `show` writes the
+/// lines of what stands before.
+fn expect_refused(rt: &impl Abort, alloc: Global, plain: &str, lines: &str, at: u64, fault: &str) {
+    let said = format!(in alloc; "refused at byte {at}: {fault}\n").expect(rt, "memory");
+    expect_done(
+        rt,
+        alloc,
+        show(Mode::Plain),
+        plain,
+        (lines, said.as_str(), 1),
+    );
+    expect_done(rt, alloc, check(Mode::Plain), plain, ("", said.as_str(), 1));
+}
+
+/// A frame of one segment of these words has this line.
+fn expect_line(rt: &impl Abort, alloc: Global, words: &str, line: &str) {
+    let size = words.split_whitespace().count();
+    let frame = format!(in alloc; "00000000{size:02x}000000 {words}").expect(rt, "memory");
+    let line = format!(in alloc; "{line}\n").expect(rt, "memory");
+    expect_done(
+        rt,
+        alloc,
+        show(Mode::Plain),
+        frame.as_str(),
+        (line.as_str(), "", 0),
+    );
+}
+
+/// Plain frames, and their lines.
+const SHOWN: [(&str, &str); 7] = [
+    ("", ""),
+    (
+        "0000000004000000 0000000001000100 0400000000000000 0000000001000000 0700000000000000",
+        "finish q=7 releaseResultCaps=true\n",
+    ),
+    (
+        "0000000004000000 0000000001000100 0400000000000000 0000000001000000 0700000001000000",
+        "finish q=7 releaseResultCaps=false\n",
+    ),
+    (
+        "0000000003000000 0000000001000100 0400000000000000 fcffffff00000000",
+        "finish q=0 releaseResultCaps=true\n",
+    ),
+    (
+        "0000000004000000 0000000001000100 0600000000000000 0000000001000000 0500000003000000",
+        "release id=5 count=3\n",
+    ),
+    (
+        "0000000005000000 0000000001000100 0800000000000000 0000000001000100 \
+         0000000000000000 0000000000000000",
+        "bootstrap q=0\n",
+    ),
+    (
+        "0000000005000000 0000000001000100 0800000000000000 0000000001000100 \
+         ffffffff00000000 0000000000000000",
+        "bootstrap q=4294967295\n",
+    ),
+];
+
 #[test]
-fn messages_are_shown(rt: HostRuntime) -> Result<(), Fail> {
-    let rows = [
-        ("", ""),
-        (
-            "0000000004000000 0000000001000100 0400000000000000 0000000001000000 0700000000000000",
-            "finish q=7 releaseResultCaps=true\n",
-        ),
-        (
-            "0000000004000000 0000000001000100 0400000000000000 0000000001000000 0700000001000000",
-            "finish q=7 releaseResultCaps=false\n",
-        ),
-        (
-            "0000000003000000 0000000001000100 0400000000000000 fcffffff00000000",
-            "finish q=0 releaseResultCaps=true\n",
-        ),
-        (
-            "0000000004000000 0000000001000100 0600000000000000 0000000001000000 0500000003000000",
-            "release id=5 count=3\n",
-        ),
-        (
-            "0000000005000000 0000000001000100 0800000000000000 0000000001000100 \
-             0000000000000000 0000000000000000",
-            "bootstrap q=0\n",
-        ),
-        (
-            "0000000005000000 0000000001000100 0800000000000000 0000000001000100 \
-             ffffffff00000000 0000000000000000",
-            "bootstrap q=4294967295\n",
-        ),
-    ];
-    for (frame, lines) in rows {
-        let (out, err, status) = shown(rt.alloc(), frame)?;
-        assert_eq!(rt; out.as_str(), lines);
-        assert_eq!(rt; err.as_str(), "");
-        assert_eq!(rt; status, 0);
+fn messages_are_shown(rt: HostRuntime) {
+    for (frame, lines) in SHOWN {
+        expect_done(&rt, rt.alloc(), show(Mode::Plain), frame, (lines, "", 0));
     }
-    Ok(())
 }
 
+/// Trees by words, and by the notation.
+const TREES: [(&str, &str); 12] = [
+    ("0000000000000000", "null"),
+    ("0300000009000000", "cap:9"),
+    ("fcffffff00000000", "(;)"),
+    ("0000000001000000 0500000000000000", "(0500000000000000;)"),
+    ("0100000048000000", "void:9"),
+    ("0100000021000000 0a00000000000000", "bits[0101]"),
+    ("0100000012000000 ab01000000000000", "bytes[ab01]"),
+    ("0100000013000000 0102030400000000", "halves[0102,0304]"),
+    (
+        "0100000014000000 0102030405060708",
+        "quads[01020304,05060708]",
+    ),
+    (
+        "010000000d000000 0500000000000000",
+        "words[0500000000000000]",
+    ),
+    (
+        "0100000016000000 0000000000000000 0300000002000000",
+        "ptrs[null,cap:2]",
+    ),
+    (
+        "0100000027000000 0800000001000100 0700000000000000 0000000000000000 \
+         0800000000000000 0300000002000000",
+        "structs:1,1[(0700000000000000;null),(0800000000000000;cap:2)]",
+    ),
+];
+
 #[test]
-fn trees_have_a_notation(rt: HostRuntime) -> Result<(), Fail> {
-    let rows = [
-        ("0000000000000000", "null"),
-        ("0300000009000000", "cap:9"),
-        ("fcffffff00000000", "(;)"),
-        ("0000000001000000 0500000000000000", "(0500000000000000;)"),
-        ("0100000048000000", "void:9"),
-        ("0100000021000000 0a00000000000000", "bits[0101]"),
-        ("0100000012000000 ab01000000000000", "bytes[ab01]"),
-        ("0100000013000000 0102030400000000", "halves[0102,0304]"),
-        (
-            "0100000014000000 0102030405060708",
-            "quads[01020304,05060708]",
-        ),
-        (
-            "010000000d000000 0500000000000000",
-            "words[0500000000000000]",
-        ),
-        (
-            "0100000016000000 0000000000000000 0300000002000000",
-            "ptrs[null,cap:2]",
-        ),
-        (
-            "0100000027000000 0800000001000100 0700000000000000 0000000000000000 \
-             0800000000000000 0300000002000000",
-            "structs:1,1[(0700000000000000;null),(0800000000000000;cap:2)]",
-        ),
-    ];
+fn trees_have_a_notation(rt: HostRuntime) {
     let alloc = rt.alloc();
-    for (words, tree) in rows {
-        let size = words.split_whitespace().count() + 1;
-        let frame = format!(in alloc; "00000000{size:02x}000000 0000000000000100 {words}")?;
-        let (out, err, status) = shown(alloc, frame.as_str())?;
-        let line = format!(in alloc; "unimplemented {tree}\n")?;
-        assert_eq!(rt; err.as_str(), "");
-        assert_eq!(rt; out.as_str(), line.as_str());
-        assert_eq!(rt; status, 0);
+    for (words, tree) in TREES {
+        let words = format!(in alloc; "0000000000000100 {words}").expect(&rt, "memory");
+        let line = format!(in alloc; "unimplemented {tree}").expect(&rt, "memory");
+        expect_line(&rt, alloc, words.as_str(), line.as_str());
     }
-    Ok(())
 }
 
-#[test]
-fn every_message_has_a_line(rt: HostRuntime) -> Result<(), Fail> {
-    let rows = [
-        (
-            "0000000001000100 0100000000000000 0000000001000100 0000000000000000 \
-             010000001a000000 6e6f000000000000",
-            "abort failed \"no\"",
-        ),
-        (
-            "0000000001000100 0100000000000000 0000000001000100 0000000001000000 \
-             0000000000000000",
-            "abort overloaded \"\"",
-        ),
-        (
-            "0000000001000100 0100000000000000 0000000001000100 0000000002000000 \
-             0000000000000000",
-            "abort disconnected \"\"",
-        ),
-        (
-            "0000000001000100 0100000000000000 0000000001000100 0000000003000000 \
-             0000000000000000",
-            "abort unimplemented \"\"",
-        ),
-        (
-            "0000000001000100 0100000000000000 0000000001000100 0000000004000000 \
-             0000000000000000",
-            "abort unknown:4 \"\"",
-        ),
-        (
-            "0000000001000100 0100000000000000 0000000001000200 0000000000000000 \
-             050000001a000000 0500000012000000 6e6f000000000000 7800000000000000",
-            "abort failed \"no\" trace \"x\"",
-        ),
-        (
-            "0000000001000100 0100000000000000 0000000001000100 0000000000000000 \
-             010000003a000000 225c017fc3a90000",
-            "abort failed \"\\x22\\x5c\\x01\\x7f\\xc3\\xa9\"",
-        ),
-        (
-            "0000000001000100 0200000000000000 0000000003000300 0100000001000000 \
-             010000000000a1e5 0000000000000000 0800000001000100 1400000000000200 \
-             0000000000000000 0000000001000000 0000000001000100 0000000000000000 \
-             0000000000000000 fcffffff00000000 0000000000000000",
-            "call q=1 to=answer:0[] i=e5a1000000000001 m=1 results=caller params={(;) caps[]}",
-        ),
-        (
-            "0000000001000100 0200000000000000 0000000003000300 0700000002000100 \
-             0900000000000000 0000000000000000 0000000000000000 0000000000000000 \
-             0000000000000000",
-            "call q=7 to=import:0 i=0000000000000009 m=2 results=yourself params={null caps[]}",
-        ),
-        (
-            "0000000001000100 0200000000000000 0000000003000300 0000000000000200 \
-             0000000000000000 0000000000000000 0000000000000000 0000000000000000 \
-             0300000005000000",
-            "call q=0 to=import:0 i=0000000000000000 m=0 results=thirdParty:cap:5 params={null caps[]}",
-        ),
-        (
-            "0000000001000100 0200000000000000 0000000003000300 0000000000000300 \
-             0000000000000000 0000000000000000 0800000001000100 0000000000000000 \
-             0000000000000000 0000000002000000 0000000000000000",
-            "call q=0 to=unknown:2 i=0000000000000000 m=0 results=unknown:3 params={null caps[]}",
-        ),
-        (
-            "0000000001000100 0200000000000000 0000000003000300 0000000000000000 \
-             0000000000000000 0000000000000000 0800000001000100 0000000000000000 \
-             0000000000000000 0000000001000000 0000000001000100 0300000000000000 \
-             010000001f000000 0c00000001000000 0000000000000000 0100050000000000 \
-             0900000000000000",
-            "call q=0 to=answer:3[noop,5,unknown:9] i=0000000000000000 m=0 results=caller params={null caps[]}",
-        ),
-        (
-            "0000000001000100 0300000000000000 0000000002000100 0100000001000000 \
-             0000000000000000 0000000000000200 0300000000000000 0100000077000000 \
-             1c00000001000100 0000000000000000 0000000000000000 0100000001000000 \
-             0000000000000000 0200000002000000 0000000000000000 0300000003000000 \
-             0000000000000000 0400000000000000 0000000000000000 0500000000000000 \
-             0300000004000000 0600000000000000 0000000000000000",
-            "return a=1 releaseParamCaps=false results {cap:0 caps[none,senderHosted:1,senderPromise:2,receiverHosted:3,receiverAnswer:0[],thirdPartyHosted:cap:4,unknown:6]}",
-        ),
-        (
-            "0000000001000100 0300000000000000 0000000002000100 0100000000000100 \
-             0000000000000000 0000000000000000",
-            "return a=1 releaseParamCaps=true exception failed \"\"",
-        ),
-        (
-            "0000000001000100 0300000000000000 0000000002000100 0100000001000200 \
-             0000000000000000 0000000000000000",
-            "return a=1 releaseParamCaps=false canceled",
-        ),
-        (
-            "0000000001000100 0300000000000000 0000000002000100 0100000000000300 \
-             0000000000000000 0000000000000000",
-            "return a=1 releaseParamCaps=true resultsSentElsewhere",
-        ),
-        (
-            "0000000001000100 0300000000000000 0000000002000100 0100000000000400 \
-             0800000000000000 0000000000000000",
-            "return a=1 releaseParamCaps=true takeFromOtherQuestion 8",
-        ),
-        (
-            "0000000001000100 0300000000000000 0000000002000100 0100000000000500 \
-             0000000000000000 0300000002000000",
-            "return a=1 releaseParamCaps=true acceptFromThirdParty cap:2",
-        ),
-        (
-            "0000000001000100 0300000000000000 0000000002000100 0100000000000600 \
-             0000000000000000 0000000000000000",
-            "return a=1 releaseParamCaps=true unknown 6",
-        ),
-        (
-            "0000000001000100 0500000000000000 0000000001000100 0200000000000000 \
-             0000000000000000",
-            "resolve p=2 cap none",
-        ),
-        (
-            "0000000001000100 0500000000000000 0000000001000100 0200000001000000 \
-             0000000000000000",
-            "resolve p=2 exception failed \"\"",
-        ),
-        (
-            "0000000001000100 0500000000000000 0000000001000100 0200000007000000 \
-             0000000000000000",
-            "resolve p=2 unknown 7",
-        ),
-        (
-            "0000000001000100 0d00000000000000 0000000001000100 0400000000000000 \
-             0000000000000000",
-            "disembargo to=import:0 senderLoopback 4",
-        ),
-        (
-            "0000000001000100 0d00000000000000 0000000001000100 0400000001000000 \
-             0000000000000000",
-            "disembargo to=import:0 receiverLoopback 4",
-        ),
-        (
-            "0000000001000100 0d00000000000000 0000000001000100 0400000002000000 \
-             0000000000000000",
-            "disembargo to=import:0 accept",
-        ),
-        (
-            "0000000001000100 0d00000000000000 0000000001000100 0400000003000000 \
-             0000000000000000",
-            "disembargo to=import:0 provide 4",
-        ),
-        (
-            "0000000001000100 0d00000000000000 0000000001000100 0400000004000000 \
-             0000000000000000",
-            "disembargo to=import:0 unknown 4",
-        ),
-        (
-            "0000000001000100 0a00000000000000 0000000001000000 0100000000000000",
-            "other 10 (0100000000000000;)",
-        ),
-        (
-            "0000000001000100 0e00000000000000 0000000000000000",
-            "other 14 null",
-        ),
-    ];
-    let alloc = rt.alloc();
-    for (words, line) in rows {
-        let size = words.split_whitespace().count();
-        let frame = format!(in alloc; "00000000{size:02x}000000 {words}")?;
-        let (out, err, status) = shown(alloc, frame.as_str())?;
-        let line = format!(in alloc; "{line}\n")?;
-        assert_eq!(rt; err.as_str(), "");
-        assert_eq!(rt; out.as_str(), line.as_str());
-        assert_eq!(rt; status, 0);
-    }
-    Ok(())
-}
+/// Frames' words, and their lines.
+const LINES: [(&str, &str); 29] = [
+    (
+        "0000000001000100 0100000000000000 0000000001000100 0000000000000000 \
+         010000001a000000 6e6f000000000000",
+        "abort failed \"no\"",
+    ),
+    (
+        "0000000001000100 0100000000000000 0000000001000100 0000000001000000 \
+         0000000000000000",
+        "abort overloaded \"\"",
+    ),
+    (
+        "0000000001000100 0100000000000000 0000000001000100 0000000002000000 \
+         0000000000000000",
+        "abort disconnected \"\"",
+    ),
+    (
+        "0000000001000100 0100000000000000 0000000001000100 0000000003000000 \
+         0000000000000000",
+        "abort unimplemented \"\"",
+    ),
+    (
+        "0000000001000100 0100000000000000 0000000001000100 0000000004000000 \
+         0000000000000000",
+        "abort unknown:4 \"\"",
+    ),
+    (
+        "0000000001000100 0100000000000000 0000000001000200 0000000000000000 \
+         050000001a000000 0500000012000000 6e6f000000000000 7800000000000000",
+        "abort failed \"no\" trace \"x\"",
+    ),
+    (
+        "0000000001000100 0100000000000000 0000000001000100 0000000000000000 \
+         010000003a000000 225c017fc3a90000",
+        "abort failed \"\\x22\\x5c\\x01\\x7f\\xc3\\xa9\"",
+    ),
+    (
+        "0000000001000100 0200000000000000 0000000003000300 0100000001000000 \
+         010000000000a1e5 0000000000000000 0800000001000100 1400000000000200 \
+         0000000000000000 0000000001000000 0000000001000100 0000000000000000 \
+         0000000000000000 fcffffff00000000 0000000000000000",
+        "call q=1 to=answer:0[] i=e5a1000000000001 m=1 results=caller params={(;) caps[]}",
+    ),
+    (
+        "0000000001000100 0200000000000000 0000000003000300 0700000002000100 \
+         0900000000000000 0000000000000000 0000000000000000 0000000000000000 \
+         0000000000000000",
+        "call q=7 to=import:0 i=0000000000000009 m=2 results=yourself params={null caps[]}",
+    ),
+    (
+        "0000000001000100 0200000000000000 0000000003000300 0000000000000200 \
+         0000000000000000 0000000000000000 0000000000000000 0000000000000000 \
+         0300000005000000",
+        "call q=0 to=import:0 i=0000000000000000 m=0 results=thirdParty:cap:5 params={null caps[]}",
+    ),
+    (
+        "0000000001000100 0200000000000000 0000000003000300 0000000000000300 \
+         0000000000000000 0000000000000000 0800000001000100 0000000000000000 \
+         0000000000000000 0000000002000000 0000000000000000",
+        "call q=0 to=unknown:2 i=0000000000000000 m=0 results=unknown:3 params={null caps[]}",
+    ),
+    (
+        "0000000001000100 0200000000000000 0000000003000300 0000000000000000 \
+         0000000000000000 0000000000000000 0800000001000100 0000000000000000 \
+         0000000000000000 0000000001000000 0000000001000100 0300000000000000 \
+         010000001f000000 0c00000001000000 0000000000000000 0100050000000000 \
+         0900000000000000",
+        "call q=0 to=answer:3[noop,5,unknown:9] i=0000000000000000 m=0 results=caller params={null caps[]}",
+    ),
+    (
+        "0000000001000100 0300000000000000 0000000002000100 0100000001000000 \
+         0000000000000000 0000000000000200 0300000000000000 0100000077000000 \
+         1c00000001000100 0000000000000000 0000000000000000 0100000001000000 \
+         0000000000000000 0200000002000000 0000000000000000 0300000003000000 \
+         0000000000000000 0400000000000000 0000000000000000 0500000000000000 \
+         0300000004000000 0600000000000000 0000000000000000",
+        "return a=1 releaseParamCaps=false results {cap:0 caps[none,senderHosted:1,senderPromise:2,receiverHosted:3,receiverAnswer:0[],thirdPartyHosted:cap:4,unknown:6]}",
+    ),
+    (
+        "0000000001000100 0300000000000000 0000000002000100 0100000000000100 \
+         0000000000000000 0000000000000000",
+        "return a=1 releaseParamCaps=true exception failed \"\"",
+    ),
+    (
+        "0000000001000100 0300000000000000 0000000002000100 0100000001000200 \
+         0000000000000000 0000000000000000",
+        "return a=1 releaseParamCaps=false canceled",
+    ),
+    (
+        "0000000001000100 0300000000000000 0000000002000100 0100000000000300 \
+         0000000000000000 0000000000000000",
+        "return a=1 releaseParamCaps=true resultsSentElsewhere",
+    ),
+    (
+        "0000000001000100 0300000000000000 0000000002000100 0100000000000400 \
+         0800000000000000 0000000000000000",
+        "return a=1 releaseParamCaps=true takeFromOtherQuestion 8",
+    ),
+    (
+        "0000000001000100 0300000000000000 0000000002000100 0100000000000500 \
+         0000000000000000 0300000002000000",
+        "return a=1 releaseParamCaps=true acceptFromThirdParty cap:2",
+    ),
+    (
+        "0000000001000100 0300000000000000 0000000002000100 0100000000000600 \
+         0000000000000000 0000000000000000",
+        "return a=1 releaseParamCaps=true unknown 6",
+    ),
+    (
+        "0000000001000100 0500000000000000 0000000001000100 0200000000000000 \
+         0000000000000000",
+        "resolve p=2 cap none",
+    ),
+    (
+        "0000000001000100 0500000000000000 0000000001000100 0200000001000000 \
+         0000000000000000",
+        "resolve p=2 exception failed \"\"",
+    ),
+    (
+        "0000000001000100 0500000000000000 0000000001000100 0200000007000000 \
+         0000000000000000",
+        "resolve p=2 unknown 7",
+    ),
+    (
+        "0000000001000100 0d00000000000000 0000000001000100 0400000000000000 \
+         0000000000000000",
+        "disembargo to=import:0 senderLoopback 4",
+    ),
+    (
+        "0000000001000100 0d00000000000000 0000000001000100 0400000001000000 \
+         0000000000000000",
+        "disembargo to=import:0 receiverLoopback 4",
+    ),
+    (
+        "0000000001000100 0d00000000000000 0000000001000100 0400000002000000 \
+         0000000000000000",
+        "disembargo to=import:0 accept",
+    ),
+    (
+        "0000000001000100 0d00000000000000 0000000001000100 0400000003000000 \
+         0000000000000000",
+        "disembargo to=import:0 provide 4",
+    ),
+    (
+        "0000000001000100 0d00000000000000 0000000001000100 0400000004000000 \
+         0000000000000000",
+        "disembargo to=import:0 unknown 4",
+    ),
+    (
+        "0000000001000100 0a00000000000000 0000000001000000 0100000000000000",
+        "other 10 (0100000000000000;)",
+    ),
+    (
+        "0000000001000100 0e00000000000000 0000000000000000",
+        "other 14 null",
+    ),
+];
 
 #[test]
-fn refusals_say_where_and_why(rt: HostRuntime) -> Result<(), Fail> {
-    let rows = [
-        ("ffffffff", "F1 TooManySegments"),
-        ("00000000 01008000", "F2 FrameTooLarge"),
-        ("000000", "F3 Truncated"),
-        ("0000000004000000 0000000001000100", "F3 Truncated"),
-        ("0100000001000000", "F3 Truncated"),
-        ("0000000000000000", "G1 NoRoot segment 0 word 0"),
-        (
-            "0000000001000000 0100000000000000",
-            "G2 RootKind segment 0 word 0",
-        ),
-        (
-            "0000000001000000 0000000001000100",
-            "G3 OutOfBounds segment 0 word 0",
-        ),
-        (
-            "0000000001000000 0200000001000000",
-            "G4 NoSegment segment 0 word 0",
-        ),
-        (
-            "0000000001000000 0200000000000000",
-            "G5 BadPad segment 0 word 0",
-        ),
-        (
-            "0000000003000000 0000000000000100 0100000007000000 0100000000000000",
-            "G6 BadTag segment 0 word 1",
-        ),
-        (
-            "0000000002000000 0000000000000100 0700000005000000",
-            "G7 BadCapability segment 0 word 1",
-        ),
-        (
-            "0000000001000000 fcffffff00000100",
-            "G8 NestingLimit segment 0 word 0",
-        ),
-        (
-            "0000000003000000 0000000000000100 0100000007000000 fcffffff00000000",
-            "G9 TraversalLimit segment 0 word 1",
-        ),
-        (
-            "0000000003000000 0000000001000100 0400000000000000 0100000002000000",
-            "S1 Kind Message.finish",
-        ),
-        (
-            "0000000009000000 0000000001000100 0200000000000000 0000000003000300 0000000000000000 \
-             0000000000000000 0000000000000000 0300000000000000 0000000000000000 0000000000000000",
-            "S1 Kind Call.target",
-        ),
-        (
-            "0000000006000000 0000000001000100 0100000000000000 0000000001000100 0000000000000000 \
-             0100000012000000 6e6f000000000000",
-            "S2 Text Exception.reason",
-        ),
-    ];
-    let alloc = rt.alloc();
-    for (frame, fault) in rows {
-        let (out, err, status) = shown(alloc, frame)?;
-        let line = format!(in alloc; "refused at byte 0: {fault}\n")?;
-        assert_eq!(rt; err.as_str(), line.as_str());
-        assert_eq!(rt; out.as_str(), "");
-        assert_eq!(rt; status, 1);
+fn every_message_has_a_line(rt: HostRuntime) {
+    for (words, line) in LINES {
+        expect_line(&rt, rt.alloc(), words, line);
     }
-    Ok(())
+}
+
+/// Plain frames that are refused, and why.
+const REFUSALS: [(&str, &str); 17] = [
+    ("ffffffff", "F1 TooManySegments"),
+    ("00000000 01008000", "F2 FrameTooLarge"),
+    ("000000", "F3 Truncated"),
+    ("0000000004000000 0000000001000100", "F3 Truncated"),
+    ("0100000001000000", "F3 Truncated"),
+    ("0000000000000000", "G1 NoRoot segment 0 word 0"),
+    (
+        "0000000001000000 0100000000000000",
+        "G2 RootKind segment 0 word 0",
+    ),
+    (
+        "0000000001000000 0000000001000100",
+        "G3 OutOfBounds segment 0 word 0",
+    ),
+    (
+        "0000000001000000 0200000001000000",
+        "G4 NoSegment segment 0 word 0",
+    ),
+    (
+        "0000000001000000 0200000000000000",
+        "G5 BadPad segment 0 word 0",
+    ),
+    (
+        "0000000003000000 0000000000000100 0100000007000000 0100000000000000",
+        "G6 BadTag segment 0 word 1",
+    ),
+    (
+        "0000000002000000 0000000000000100 0700000005000000",
+        "G7 BadCapability segment 0 word 1",
+    ),
+    (
+        "0000000001000000 fcffffff00000100",
+        "G8 NestingLimit segment 0 word 0",
+    ),
+    (
+        "0000000003000000 0000000000000100 0100000007000000 fcffffff00000000",
+        "G9 TraversalLimit segment 0 word 1",
+    ),
+    (
+        "0000000003000000 0000000001000100 0400000000000000 0100000002000000",
+        "S1 Kind Message.finish",
+    ),
+    (
+        "0000000009000000 0000000001000100 0200000000000000 0000000003000300 0000000000000000 \
+         0000000000000000 0000000000000000 0300000000000000 0000000000000000 0000000000000000",
+        "S1 Kind Call.target",
+    ),
+    (
+        "0000000006000000 0000000001000100 0100000000000000 0000000001000100 0000000000000000 \
+         0100000012000000 6e6f000000000000",
+        "S2 Text Exception.reason",
+    ),
+];
+
+#[test]
+fn refusals_say_where_and_why(rt: HostRuntime) {
+    for (frame, fault) in REFUSALS {
+        expect_refused(&rt, rt.alloc(), frame, "", 0, fault);
+    }
 }
 
 /// `finish` of question 7.
@@ -379,46 +397,33 @@ const IN_TWO: &str = "0100000001000000 0400000000000000 0200000001000000 0000000
 const IN_THREE: &str = "0200000001000000 0200000003000000 0600000001000000 0200000002000000 \
      0000000001000100 0400000000000000 0000000001000000 0700000000000000";
 
+/// The line of each.
+const FINISH_LINE: &str = "finish q=7 releaseResultCaps=true\n";
+
 #[test]
-fn files_have_many_frames(rt: HostRuntime) -> Result<(), Fail> {
+fn files_have_many_frames(rt: HostRuntime) {
     let alloc = rt.alloc();
-    let stream = format!(in alloc; "{FINISH} {IN_TWO} {IN_THREE}")?;
-    let limits = Limits::standard();
-    let (out, err, status) = shown(alloc, stream.as_str())?;
-    for line in out.as_str().lines() {
-        assert_eq!(rt; line, "finish q=7 releaseResultCaps=true");
-    }
-    assert_eq!(rt; out.as_str().lines().count(), 3);
-    assert_eq!(rt; (err.as_str(), status), ("", 0));
-    let (out, err, status) = done(
+    let stream = format!(in alloc; "{FINISH} {IN_TWO} {IN_THREE}").expect(&rt, "memory");
+    let lines = format!(in alloc; "{FINISH_LINE}{FINISH_LINE}{FINISH_LINE}").expect(&rt, "memory");
+    expect_done(
+        &rt,
         alloc,
-        &Plan::Check {
-            mode: Mode::Plain,
-            limits,
-        },
+        show(Mode::Plain),
         stream.as_str(),
-    )?;
-    assert_eq!(rt;
-        (out.as_str(), err.as_str(), status),
-        ("messages 3\n", "", 0)
+        (lines.as_str(), "", 0),
     );
-    let (out, err, status) = done(
+    expect_done(
+        &rt,
         alloc,
-        &Plan::Check {
-            mode: Mode::Plain,
-            limits,
-        },
-        "",
-    )?;
-    assert_eq!(rt;
-        (out.as_str(), err.as_str(), status),
-        ("messages 0\n", "", 0)
+        check(Mode::Plain),
+        stream.as_str(),
+        ("messages 3\n", "", 0),
     );
-    Ok(())
+    expect_done(&rt, alloc, check(Mode::Plain), "", ("messages 0\n", "", 0));
 }
 
 #[test]
-fn lines_stand_before_a_refusal(rt: HostRuntime) -> Result<(), Fail> {
+fn lines_stand_before_a_refusal(rt: HostRuntime) {
     let rows = [
         (&FINISH[..FINISH.len() - 2], "F3 Truncated"),
         ("ffffffff", "F1 TooManySegments"),
@@ -429,43 +434,30 @@ fn lines_stand_before_a_refusal(rt: HostRuntime) -> Result<(), Fail> {
         ),
     ];
     let alloc = rt.alloc();
-    let limits = Limits::standard();
     for (frame, fault) in rows {
-        let stream = format!(in alloc; "{FINISH} {frame}")?;
-        let line = format!(in alloc; "refused at byte 40: {fault}\n")?;
-        let (out, err, status) = shown(alloc, stream.as_str())?;
-        assert_eq!(rt; out.as_str(), "finish q=7 releaseResultCaps=true\n");
-        assert_eq!(rt; (err.as_str(), status), (line.as_str(), 1));
-        let (out, err, status) = done(
-            alloc,
-            &Plan::Check {
-                mode: Mode::Plain,
-                limits,
-            },
-            stream.as_str(),
-        )?;
-        assert_eq!(rt;
-            (out.as_str(), err.as_str(), status),
-            ("", line.as_str(), 1)
-        );
+        let stream = format!(in alloc; "{FINISH} {frame}").expect(&rt, "memory");
+        expect_refused(&rt, alloc, stream.as_str(), FINISH_LINE, 40, fault);
     }
-    Ok(())
 }
 
 /// What a command makes of a file, in hexadecimal, or what it says.
-fn made(alloc: Global, plan: Plan, hexadecimal: &str) -> Result<String, Fail> {
-    let bytes = decoded(alloc, hexadecimal)?;
-    let (mut out, mut err) = (Vec::new(alloc), Vec::new(alloc));
-    let mut from = bytes.as_slice();
-    let status = act(alloc, &plan, &mut from, &mut out, &mut err);
+fn made(rt: &impl Abort, alloc: Global, plan: Plan, hexadecimal: &str) -> String {
+    let (out, err, status) = done(rt, alloc, plan, hexadecimal);
     if status == 0 {
-        return Ok(hex::encode(alloc, &out)?);
+        return hex::encode(alloc, &out).expect(rt, "memory");
     }
-    Ok(String::from_utf8(err).map_err(|_| "not UTF-8")?)
+    err
+}
+
+/// A plain file is packed to these bytes, and they are unpacked to it.
+fn expect_packed(rt: &impl Abort, alloc: Global, plain: &str, packed: &str) {
+    assert_eq!(rt; made(rt, alloc, Plan::Pack, plain).as_str(), packed);
+    let again = made(rt, alloc, Plan::Unpack, packed);
+    assert_eq!(rt; again.as_str(), without_spaces(rt, alloc, plain).as_str());
 }
 
 #[test]
-fn frames_are_packed_and_unpacked(rt: HostRuntime) -> Result<(), Fail> {
+fn frames_are_packed_and_unpacked(rt: HostRuntime) {
     let alloc = rt.alloc();
     let rows = [
         (FINISH, "1004500101010410010107"),
@@ -477,10 +469,8 @@ fn frames_are_packed_and_unpacked(rt: HostRuntime) -> Result<(), Fail> {
         ("0000000000000000", "0000"),
         ("", ""),
     ];
-    for (frame, bytes) in rows {
-        assert_eq!(rt; made(alloc, Plan::Pack, frame)?.as_str(), bytes);
-        let plain = without_spaces(alloc, frame)?;
-        assert_eq!(rt; made(alloc, Plan::Unpack, bytes)?.as_str(), plain.as_str());
+    for (plain, packed) in rows {
+        expect_packed(&rt, alloc, plain, packed);
     }
     let refused = [
         (Plan::Pack, "00", "refused at byte 0: F3 Truncated\n"),
@@ -488,9 +478,8 @@ fn frames_are_packed_and_unpacked(rt: HostRuntime) -> Result<(), Fail> {
         (Plan::Unpack, "0003", "refused at byte 0: F4 RunPastFrame\n"),
     ];
     for (plan, bytes, line) in refused {
-        assert_eq!(rt; made(alloc, plan, bytes)?.as_str(), line);
+        assert_eq!(rt; made(&rt, alloc, plan, bytes).as_str(), line);
     }
-    Ok(())
 }
 
 /// A bootstrap's results, plain and packed.
@@ -502,35 +491,36 @@ const RESULTS: (&str, &str) = (
 );
 
 #[test]
-fn packed_frames_are_shown(rt: HostRuntime) -> Result<(), Fail> {
+fn packed_frames_are_shown(rt: HostRuntime) {
     let alloc = rt.alloc();
-    let limits = Limits::standard();
-    let mode = Mode::Packed;
-    let (plain, results) = RESULTS;
-    let (out, err, status) = shown(alloc, plain)?;
+    let (plain, packed) = RESULTS;
     let line = "return a=0 releaseParamCaps=false results {cap:0 caps[senderHosted:0]}\n";
-    assert_eq!(rt; (out.as_str(), err.as_str(), status), (line, "", 0));
-    let (out, err, status) = done(alloc, &Plan::Show { mode, limits }, results)?;
-    assert_eq!(rt; (out.as_str(), err.as_str(), status), (line, "", 0));
+    expect_done(&rt, alloc, show(Mode::Plain), plain, (line, "", 0));
+    expect_done(&rt, alloc, show(Mode::Packed), packed, (line, "", 0));
     let stream = "1004500101010410010107 100550010101085001010001";
-    let (out, err, status) = done(alloc, &Plan::Show { mode, limits }, stream)?;
-    assert_eq!(rt;
-        out.as_str(),
-        "finish q=7 releaseResultCaps=true\nbootstrap q=0\n"
+    let lines = "finish q=7 releaseResultCaps=true\nbootstrap q=0\n";
+    expect_done(&rt, alloc, show(Mode::Packed), stream, (lines, "", 0));
+    expect_done(
+        &rt,
+        alloc,
+        check(Mode::Packed),
+        stream,
+        ("messages 2\n", "", 0),
     );
-    assert_eq!(rt; (err.as_str(), status), ("", 0));
-    let (out, err, status) = done(alloc, &Plan::Check { mode, limits }, stream)?;
-    assert_eq!(rt;
-        (out.as_str(), err.as_str(), status),
-        ("messages 2\n", "", 0)
-    );
-    Ok(())
+}
+
+/// A finish in segments of at most so many words is this frame, and in one segment again itself.
+fn expect_recut(rt: &impl Abort, alloc: Global, words: u32, frame: &str) {
+    let mode = Mode::Plain;
+    let cut = made(rt, alloc, Plan::Recut { mode, words }, FINISH);
+    assert_eq!(rt; cut.as_str(), without_spaces(rt, alloc, frame).as_str());
+    let words = 8_388_608;
+    let back = made(rt, alloc, Plan::Recut { mode, words }, cut.as_str());
+    assert_eq!(rt; back.as_str(), without_spaces(rt, alloc, FINISH).as_str());
 }
 
 #[test]
-fn trees_are_recut(rt: HostRuntime) -> Result<(), Fail> {
-    let alloc = rt.alloc();
-    let mode = Mode::Plain;
+fn trees_are_recut(rt: HostRuntime) {
     let rows = [
         (
             3,
@@ -540,81 +530,59 @@ fn trees_are_recut(rt: HostRuntime) -> Result<(), Fail> {
         (4, FINISH),
         (8_388_608, FINISH),
     ];
-    let whole = without_spaces(alloc, FINISH)?;
     for (words, frame) in rows {
-        let cut = made(alloc, Plan::Recut { mode, words }, FINISH)?;
-        assert_eq!(rt; cut.as_str(), without_spaces(alloc, frame)?.as_str());
-        let back = made(
-            alloc,
-            Plan::Recut {
-                mode,
-                words: 8_388_608,
-            },
-            cut.as_str(),
-        )?;
-        assert_eq!(rt; back.as_str(), whole.as_str());
+        expect_recut(&rt, rt.alloc(), words, frame);
     }
-    let mode = Mode::Packed;
+    let (mode, words) = (Mode::Packed, 4);
     let packed = "1004500101010410010107";
-    let again = made(alloc, Plan::Recut { mode, words: 4 }, packed)?;
+    let again = made(&rt, rt.alloc(), Plan::Recut { mode, words }, packed);
     assert_eq!(rt; again.as_str(), packed);
-    Ok(())
 }
 
 /// A frame of so many nested structs of one pointer.
-fn nested(alloc: Global, depth: u8) -> Result<String, Fail> {
-    let mut frame = format!(in alloc; "00000000{:02x}000000", depth as u16 + 1)?;
+fn nested(rt: &impl Abort, alloc: Global, depth: u8) -> String {
+    let words = depth as u16 + 1;
+    let mut frame = format!(in alloc; "00000000{words:02x}000000").expect(rt, "memory");
     for _ in 0..depth {
-        frame.push_str("0000000000000100")?;
+        frame.push_str("0000000000000100").expect(rt, "memory");
     }
-    frame.push_str("0000000000000000")?;
-    Ok(frame)
+    frame.push_str("0000000000000000").expect(rt, "memory");
+    frame
 }
 
 #[test]
-fn limits_may_be_chosen(rt: HostRuntime) -> Result<(), Fail> {
+fn limits_may_be_chosen(rt: HostRuntime) {
     let alloc = rt.alloc();
-    let frame = nested(alloc, 65)?;
+    let frame = nested(&rt, alloc, 65);
+    let over = "refused at byte 0: G9 TraversalLimit segment 0 word 64\n";
     let rows = [
-        (65, 8_388_608, "messages 1\n", ""),
-        (65, 130, "messages 1\n", ""),
-        (
-            65,
-            129,
-            "",
-            "refused at byte 0: G9 TraversalLimit segment 0 word 64\n",
-        ),
+        (8_388_608, ("messages 1\n", "", 0)),
+        (130, ("messages 1\n", "", 0)),
+        (129, ("", over, 1)),
     ];
-    for (nesting, traversal, lines, fault) in rows {
-        let limits = Limits::new(nesting, traversal, 512, 8_388_608).ok_or("no limits")?;
-        let (out, err, status) = done(
+    for (traversal, ends) in rows {
+        let limits = Limits::new(65, traversal, 512, 8_388_608).expect(&rt, "limits");
+        let mode = Mode::Plain;
+        expect_done(
+            &rt,
             alloc,
-            &Plan::Check {
-                mode: Mode::Plain,
-                limits,
-            },
+            Plan::Check { mode, limits },
             frame.as_str(),
-        )?;
-        assert_eq!(rt; (out.as_str(), err.as_str()), (lines, fault));
-        assert_eq!(rt; status == 0, fault.is_empty());
+            ends,
+        );
     }
-    Ok(())
 }
 
 #[test]
-fn nesting_ends_at_64(rt: HostRuntime) -> Result<(), Fail> {
+fn nesting_ends_at_64(rt: HostRuntime) {
     let alloc = rt.alloc();
-    let (out, _, status) = shown(alloc, nested(alloc, 64)?.as_str())?;
-    assert!(rt; out.as_str().starts_with("unimplemented (;(;"));
+    let frame = nested(&rt, alloc, 64);
+    let (out, _, status) = done(&rt, alloc, show(Mode::Plain), frame.as_str());
+    assert!(rt; out.starts_with(b"unimplemented (;(;"));
     assert_eq!(rt; status, 0);
-    let (out, err, status) = shown(alloc, nested(alloc, 65)?.as_str())?;
-    assert_eq!(rt; out.as_str(), "");
-    assert_eq!(rt;
-        err.as_str(),
-        "refused at byte 0: G8 NestingLimit segment 0 word 64\n"
-    );
-    assert_eq!(rt; status, 1);
-    Ok(())
+    let frame = nested(&rt, alloc, 65);
+    let said = "refused at byte 0: G8 NestingLimit segment 0 word 64\n";
+    expect_done(&rt, alloc, show(Mode::Plain), frame.as_str(), ("", said, 1));
 }
 
 /// A reader whose device fails.
@@ -628,23 +596,12 @@ impl Read for Broken {
 }
 
 #[test]
-fn a_device_may_fail(rt: HostRuntime) -> Result<(), Fail> {
+fn a_device_may_fail(rt: HostRuntime) {
     let alloc = rt.alloc();
     let (mut out, mut err) = (Vec::new(alloc), Vec::new(alloc));
-    let limits = Limits::standard();
-    let status = act(
-        alloc,
-        &Plan::Show {
-            mode: Mode::Plain,
-            limits,
-        },
-        &mut Broken,
-        &mut out,
-        &mut err,
-    );
+    let status = act(alloc, &show(Mode::Plain), &mut Broken, &mut out, &mut err);
     assert_eq!(rt; status, 2);
     assert_eq!(rt; err.as_slice(), b"device\n".as_slice());
-    Ok(())
 }
 
 /// `FINISH` as bytes, which lie in no memory that could be refused.
@@ -661,44 +618,32 @@ const PACKED: [u8; 40] = [
     0x51, 0x04, 0x01, 0x01, 0x01, 0x01, 0x00, 0x00,
 ];
 
+/// A command ends well, or says that memory ran out.
+fn expect_memory_told(rt: &impl Abort, alloc: Global, plan: Plan, bytes: &[u8]) {
+    let (mut from, mut err) = (bytes, Vec::new(alloc));
+    let status = act(alloc, &plan, &mut from, &mut io::sink(), &mut err);
+    let said = String::from_utf8(err).expect(rt, "UTF-8");
+    if status == 0 {
+        assert_eq!(rt; said.as_str(), "");
+    } else {
+        assert_eq!(rt; status, 1);
+        assert!(rt; said.as_str().starts_with("refused at byte "), "{said}");
+        assert!(rt; said.as_str().ends_with(" OutOfMemory\n"), "{said}");
+    }
+}
+
 // With memory enough no growth is refused. `rt try --test --fail-alloc N` refuses the Nth.
 #[test]
-fn want_of_memory_is_told(rt: HostRuntime) -> Result<(), Fail> {
-    let alloc = rt.alloc();
-    let limits = Limits::standard();
-    let (plain, mode, words) = (Mode::Plain, Mode::Packed, 3);
-    for (plan, bytes) in [
-        (
-            Plan::Show {
-                mode: plain,
-                limits,
-            },
-            PLAIN.as_slice(),
-        ),
-        (Plan::Show { mode, limits }, PACKED.as_slice()),
-        (
-            Plan::Check {
-                mode: plain,
-                limits,
-            },
-            PLAIN.as_slice(),
-        ),
-        (Plan::Check { mode, limits }, PACKED.as_slice()),
-        (Plan::Pack, PLAIN.as_slice()),
-        (Plan::Unpack, PACKED.as_slice()),
-        (Plan::Recut { mode: plain, words }, PLAIN.as_slice()),
-        (Plan::Recut { mode, words }, PACKED.as_slice()),
+fn want_of_memory_is_told(rt: HostRuntime) {
+    let words = 3;
+    for (mode, bytes) in [
+        (Mode::Plain, PLAIN.as_slice()),
+        (Mode::Packed, PACKED.as_slice()),
     ] {
-        let (mut from, mut err) = (bytes, Vec::new(alloc));
-        let status = act(alloc, &plan, &mut from, &mut io::sink(), &mut err);
-        let said = String::from_utf8(err).map_err(|_| "not UTF-8")?;
-        if status == 0 {
-            assert_eq!(rt; said.as_str(), "");
-        } else {
-            assert_eq!(rt; status, 1);
-            assert!(rt; said.as_str().starts_with("refused at byte "), "{said}");
-            assert!(rt; said.as_str().ends_with(" OutOfMemory\n"), "{said}");
-        }
+        expect_memory_told(&rt, rt.alloc(), show(mode), bytes);
+        expect_memory_told(&rt, rt.alloc(), check(mode), bytes);
+        expect_memory_told(&rt, rt.alloc(), Plan::Recut { mode, words }, bytes);
     }
-    Ok(())
+    expect_memory_told(&rt, rt.alloc(), Plan::Pack, &PLAIN);
+    expect_memory_told(&rt, rt.alloc(), Plan::Unpack, &PACKED);
 }
