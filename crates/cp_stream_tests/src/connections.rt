@@ -137,9 +137,15 @@ fn next_message(rt: &impl Abort, alloc: Global, from: &mut Tap<Source>, mode: Mo
     found.expect(rt, "message")
 }
 
-/// The message of a plain frame.
-fn message_of(rt: &impl Abort, alloc: Global, frame: &[u8]) -> Message {
-    next_message(rt, alloc, &mut tap_of(frame, 0), Mode::Plain)
+/// Writes the message of a plain frame, in one segment.
+fn forward<W: Write>(
+    rt: &impl Abort,
+    alloc: Global,
+    frame: &[u8],
+    to: &mut Tap<W>,
+) -> Result<(), StreamFault> {
+    let message = next_message(rt, alloc, &mut tap_of(frame, 0), Mode::Plain);
+    write_message(alloc, to, &message, Mode::Plain, Limits::standard())
 }
 
 /// What is written of a message, in one segment.
@@ -149,36 +155,60 @@ fn written(rt: &impl Abort, alloc: Global, message: &Message, mode: Mode) -> Vec
     to.into_inner()
 }
 
-/// Whether it is the Return of question 0, with results, that keeps what the call named.
-fn is_results(message: &Message) -> bool {
-    match message {
-        Message::Return(answer) => {
-            answer.answer_id == 0
+/// What is written of a device's next message, in this form and one segment.
+fn rewritten(
+    rt: &impl Abort,
+    alloc: Global,
+    (from, mode): (&mut Tap<Source>, Mode),
+    into: Mode,
+) -> Vec<u8> {
+    let message = next_message(rt, alloc, from, mode);
+    written(rt, alloc, &message, into)
+}
+
+/// What a message is to be.
+#[derive(Clone, Copy)]
+enum Expected<'a> {
+    /// The Return of a question, with results, that keeps what the parameters named.
+    Results(u32),
+    /// The bootstrap of a question.
+    Bootstrap(u32),
+    /// The call of a question on what another gives, at these pointers.
+    Call(u32, u32, &'a [Op]),
+}
+
+/// Whether it is a promise of what that question gives, at these pointers.
+fn is_promised(target: &Target, on: u32, path: &[Op]) -> bool {
+    match target {
+        Target::PromisedAnswer(answer) => {
+            answer.question_id == on && answer.transform.ops() == path
+        }
+        _ => false,
+    }
+}
+
+/// Whether a message is as it is to be.
+fn is_as(message: &Message, expected: Expected) -> bool {
+    match (message, expected) {
+        (Message::Return(answer), Expected::Results(question)) => {
+            answer.answer_id == question
                 && !answer.release_param_caps
                 && matches!(&answer.returned, Returned::Results(_))
         }
-        _ => false,
-    }
-}
-
-/// Whether it is the bootstrap of question 0.
-fn is_bootstrap(message: &Message) -> bool {
-    matches!(message, Message::Bootstrap(bootstrap) if bootstrap.question_id == 0)
-}
-
-/// Whether it is the call of this question on what that question gives, at these pointers.
-fn is_call(message: &Message, question: u32, on: u32, path: &[Op]) -> bool {
-    let Message::Call(call) = message else {
-        return false;
-    };
-    match &call.target {
-        Target::PromisedAnswer(answer) => {
-            call.question_id == question
-                && answer.question_id == on
-                && answer.transform.ops() == path
+        (Message::Bootstrap(bootstrap), Expected::Bootstrap(question)) => {
+            bootstrap.question_id == question
+        }
+        (Message::Call(call), Expected::Call(question, on, path)) => {
+            call.question_id == question && is_promised(&call.target, on, path)
         }
         _ => false,
     }
+}
+
+/// The next message of a device of plain frames is as it is to be.
+fn expect_next(rt: &impl Abort, alloc: Global, from: &mut Tap<Source>, expected: Expected) {
+    let message = next_message(rt, alloc, from, Mode::Plain);
+    assert!(rt; is_as(&message, expected));
 }
 
 #[test]
@@ -189,35 +219,29 @@ fn messages_of_a_connection_are_read(rt: HostRuntime) {
         push_words(&rt, &mut stream, words);
     }
     let mut from = tap_of(&stream, 0);
-    assert!(rt; is_results(&next_message(&rt, alloc, &mut from, Mode::Plain)));
-    assert!(rt; is_bootstrap(&next_message(&rt, alloc, &mut from, Mode::Plain)));
-    let call = next_message(&rt, alloc, &mut from, Mode::Plain);
-    assert!(rt; is_call(&call, 1, 0, &[]));
-    let call = next_message(&rt, alloc, &mut from, Mode::Plain);
-    assert!(rt; is_call(&call, 2, 1, &[Op::GetPointerField(0)]));
+    expect_next(&rt, alloc, &mut from, Expected::Results(0));
+    expect_next(&rt, alloc, &mut from, Expected::Bootstrap(0));
+    expect_next(&rt, alloc, &mut from, Expected::Call(1, 0, &[]));
+    let path = [Op::GetPointerField(0)];
+    expect_next(&rt, alloc, &mut from, Expected::Call(2, 1, &path));
     assert_eq!(rt; read(alloc, &mut from, Mode::Plain), Ok(false));
     assert_eq!(rt; from.bytes(), stream.len() as u64);
+}
+
+/// A plain frame's bytes in a form.
+fn formed(rt: &impl Abort, alloc: Global, plain: &[u8], mode: Mode) -> Vec<u8> {
+    rewritten(rt, alloc, (&mut tap_of(plain, 0), Mode::Plain), mode)
 }
 
 /// What is written of a plain frame's message is the frame, and read back from the packed form it is
 /// again.
 fn expect_written(rt: &impl Abort, alloc: Global, frame: &[u8]) {
-    let message = message_of(rt, alloc, frame);
-    assert_eq!(rt; written(rt, alloc, &message, Mode::Plain).as_slice(), frame);
-    let packed = written(rt, alloc, &message, Mode::Packed);
+    assert_eq!(rt; formed(rt, alloc, frame, Mode::Plain).as_slice(), frame);
+    let packed = formed(rt, alloc, frame, Mode::Packed);
     let mut from = tap_of(&packed, 0);
-    let again = next_message(rt, alloc, &mut from, Mode::Packed);
-    assert_eq!(rt; written(rt, alloc, &again, Mode::Plain).as_slice(), frame);
+    let again = rewritten(rt, alloc, (&mut from, Mode::Packed), Mode::Plain);
+    assert_eq!(rt; again.as_slice(), frame);
     assert_eq!(rt; read(alloc, &mut from, Mode::Packed), Ok(false));
-}
-
-/// The message of these words' frame is written packed as these bytes.
-fn expect_packed(rt: &impl Abort, alloc: Global, words: &[u64], packed: &[u8]) {
-    let message = message_of(rt, alloc, &bytes_of(rt, alloc, words));
-    assert_eq!(rt;
-        written(rt, alloc, &message, Mode::Packed).as_slice(),
-        packed
-    );
 }
 
 #[test]
@@ -226,16 +250,28 @@ fn messages_are_written_as_they_were_read(rt: HostRuntime) {
     for words in FRAMES {
         expect_written(&rt, alloc, &bytes_of(&rt, alloc, words));
     }
-    expect_packed(&rt, alloc, &FINISH_WORDS, &PACKED);
-    expect_packed(&rt, alloc, &RETURN, &PACKED_RETURN);
+    let packed = frame_in(&rt, alloc, &FINISH_WORDS, Mode::Packed);
+    assert_eq!(rt; packed.as_slice(), PACKED.as_slice());
+    let packed = frame_in(&rt, alloc, &RETURN, Mode::Packed);
+    assert_eq!(rt; packed.as_slice(), PACKED_RETURN.as_slice());
+}
+
+/// Writes a finish in segments of at most so many words.
+fn write_finish(
+    rt: &impl Abort,
+    alloc: Global,
+    to: &mut Tap<Vec<u8>>,
+    words: u32,
+    limits: Limits,
+) -> Result<(), StreamFault> {
+    let message = next_message(rt, alloc, &mut tap_of(&FINISH, 0), Mode::Plain);
+    write_message_in(alloc, to, &message, Mode::Plain, words, limits)
 }
 
 /// The bytes of a finish in segments of at most so many words.
 fn cut_finish(rt: &impl Abort, alloc: Global, words: u32) -> Vec<u8> {
-    let message = message_of(rt, alloc, &FINISH);
     let mut to = Tap::new(Vec::new(alloc));
-    let limits = Limits::standard();
-    write_message_in(alloc, &mut to, &message, Mode::Plain, words, limits).expect(rt, "written");
+    write_finish(rt, alloc, &mut to, words, Limits::standard()).expect(rt, "written");
     to.into_inner()
 }
 
@@ -249,11 +285,8 @@ fn segments_may_be_small(rt: HostRuntime) {
         cut_finish(&rt, alloc, 0).as_slice(),
         cut_finish(&rt, alloc, 1).as_slice()
     );
-    let again = message_of(&rt, alloc, &three);
-    assert_eq!(rt;
-        written(&rt, alloc, &again, Mode::Plain).as_slice(),
-        FINISH.as_slice()
-    );
+    let again = formed(&rt, alloc, &three, Mode::Plain);
+    assert_eq!(rt; again.as_slice(), FINISH.as_slice());
 }
 
 /// How writing a finish in segments of one word ends within limits for small messages, and how many
@@ -265,9 +298,8 @@ fn fault_within(
     traversal: u32,
 ) -> (Option<StreamFault>, u64) {
     let limits = Limits::new(nesting, traversal, 512, traversal).expect(rt, "limits");
-    let message = message_of(rt, alloc, &FINISH);
     let mut to = Tap::new(Vec::new(alloc));
-    let done = write_message_in(alloc, &mut to, &message, Mode::Plain, 1, limits);
+    let done = write_finish(rt, alloc, &mut to, 1, limits);
     (done.err(), to.bytes())
 }
 
@@ -327,9 +359,8 @@ fn sink_of(alloc: Global, most: usize, fails_at: u64, takes_none: bool) -> Tap<S
 /// A plain frame's message is written as the frame, in so many calls of a writer that takes so many
 /// bytes a call.
 fn expect_calls(rt: &impl Abort, alloc: Global, frame: &[u8], most: usize, calls: u64) {
-    let message = message_of(rt, alloc, frame);
     let mut to = sink_of(alloc, most, 0, false);
-    write_message(alloc, &mut to, &message, Mode::Plain, Limits::standard()).expect(rt, "written");
+    forward(rt, alloc, frame, &mut to).expect(rt, "written");
     assert_eq!(rt; (to.failures(), to.bytes()), (0, frame.len() as u64));
     let sink = to.into_inner();
     assert_eq!(rt; sink.bytes.as_slice(), frame);
@@ -346,12 +377,14 @@ fn a_writer_may_take_a_byte_a_call(rt: HostRuntime) {
     }
 }
 
-/// A writer that fails behind this front of a message's frame took the front alone.
-fn expect_front(rt: &impl Abort, alloc: Global, message: &Message, front: &[u8], takes_none: bool) {
+/// A writer that fails behind this front of a plain frame took the front alone.
+fn expect_front(rt: &impl Abort, alloc: Global, frame: &[u8], front: &[u8], takes_none: bool) {
     let length = front.len() as u64;
     let mut to = sink_of(alloc, 1, length + 1, takes_none);
-    let done = write_message(alloc, &mut to, message, Mode::Plain, Limits::standard());
-    assert_eq!(rt; done, Err(StreamFault::Device));
+    assert_eq!(rt;
+        forward(rt, alloc, frame, &mut to),
+        Err(StreamFault::Device)
+    );
     assert_eq!(rt; (to.failures(), to.bytes()), (1, length));
     assert_eq!(rt; to.into_inner().bytes.as_slice(), front);
 }
@@ -361,10 +394,9 @@ fn a_writer_may_fail_at_each_call(rt: HostRuntime) {
     let alloc = rt.alloc();
     for words in FRAMES {
         let frame = bytes_of(&rt, alloc, words);
-        let message = message_of(&rt, alloc, &frame);
         for length in 0..frame.len() {
-            expect_front(&rt, alloc, &message, &frame[..length], false);
-            expect_front(&rt, alloc, &message, &frame[..length], true);
+            expect_front(&rt, alloc, &frame, &frame[..length], false);
+            expect_front(&rt, alloc, &frame, &frame[..length], true);
         }
     }
 }
@@ -374,7 +406,7 @@ fn frame_in(rt: &impl Abort, alloc: Global, words: &[u64], mode: Mode) -> Vec<u8
     let plain = bytes_of(rt, alloc, words);
     match mode {
         Mode::Plain => plain,
-        Mode::Packed => written(rt, alloc, &message_of(rt, alloc, &plain), mode),
+        Mode::Packed => formed(rt, alloc, &plain, mode),
     }
 }
 
