@@ -490,6 +490,30 @@ const RESULTS: (&str, &str) = (
     "100b50010101035002011001000040020103110117510401010101 0000",
 );
 
+/// What a command that accepts all makes of the bytes.
+fn taken(rt: &impl Abort, alloc: Global, plan: Plan, bytes: &[u8]) -> Vec<u8> {
+    let mut from = bytes;
+    let (mut out, mut err) = (Vec::new(alloc), Vec::new(alloc));
+    let status = act(alloc, &plan, &mut from, &mut out, &mut err);
+    assert_eq!(rt; (err.len(), status), (0, 0));
+    out
+}
+
+// Two frames of one segment of 20,000 words, which take several pieces each.
+#[test]
+fn frames_may_be_larger_than_a_piece(rt: HostRuntime) {
+    let alloc = rt.alloc();
+    let mut frames = Vec::new(alloc);
+    for end in [160_008, 320_016] {
+        let header = [0u8, 0, 0, 0, 0x20, 0x4e, 0, 0];
+        frames.extend_from_slice(&header).expect(&rt, "memory");
+        frames.resize(end, 7).expect(&rt, "memory");
+    }
+    let packed = taken(&rt, alloc, Plan::Pack, &frames);
+    let plain = taken(&rt, alloc, Plan::Unpack, &packed);
+    assert_eq!(rt; plain.as_slice(), frames.as_slice());
+}
+
 #[test]
 fn packed_frames_are_shown(rt: HostRuntime) {
     let alloc = rt.alloc();
