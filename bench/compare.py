@@ -3,8 +3,8 @@
 
     compare.py --build FOLDER --data FOLDER [--runs 7] [--only WORD] [--cpu 1] [--enforce]
 
-`make BUILD=FOLDER` makes the one folder, `generate` fills the other. The two programs run in turn. A ratio is ours over
-the reference's: below 1 we are faster. Times are processor seconds, of user and system together, so that other work on
+`make BUILD=FOLDER` makes the one folder, `generate` fills the other. The two programs run in turn, once with what they
+write compared, and then timed with nothing done with it. A ratio is ours over the reference's: below 1 we are faster. Times are processor seconds, of user and system together, so that other work on
 the machine shows little; the spread is the median over the least, ours and the reference's. With --enforce the status
 is 1 where a ratio passes its goal, or where what is written differs.
 """
@@ -27,11 +27,11 @@ GOALS = {
 }
 
 
-def run(words, cpu):
-    """Processor milliseconds, and the digest of what was written."""
-    child = subprocess.Popen(["taskset", "-c", cpu, *words], stdout=subprocess.PIPE)
+def run(words, cpu, out=subprocess.DEVNULL):
+    """Processor milliseconds, and the digest of what was written where it goes to a pipe."""
+    child = subprocess.Popen(["taskset", "-c", cpu, *words], stdout=out)
     digest = hashlib.sha256()
-    while piece := child.stdout.read(1 << 20):
+    while child.stdout and (piece := child.stdout.read(1 << 20)):
         digest.update(piece)
     _, status, use = os.wait4(child.pid, 0)
     child.returncode = os.waitstatus_to_exitcode(status)
@@ -44,13 +44,11 @@ def compare(job, name, args):
     """Prints a row; whether the goal is met and what was written is the same."""
     form = "packed" if job in ("check --packed", "unpack") else "plain"
     words = [*job.split(), str(args.data / f"{name}.{form}")]
-    ours, theirs, same = [], [], True
-    for _ in range(args.runs):
-        time, wrote = run([str(args.command), *words], args.cpu)
-        ours.append(time)
-        time, other = run([str(args.build / "reference"), *words], args.cpu)
-        theirs.append(time)
-        same = same and wrote == other
+    programs = [[str(it), *words] for it in (args.command, args.build / "reference")]
+    wrote = [run(it, args.cpu, subprocess.PIPE)[1] for it in programs]
+    same = wrote[0] == wrote[1]
+    times = [[run(it, args.cpu)[0] for it in programs] for _ in range(args.runs)]
+    ours, theirs = zip(*times)
     mine, other = statistics.median(ours), statistics.median(theirs)
     goal = GOALS[job][name]
     met = same and mine / other <= goal
