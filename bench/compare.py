@@ -4,9 +4,10 @@
     compare.py --build FOLDER --data FOLDER [--runs 7] [--only WORD] [--cpu 1] [--enforce]
 
 `make BUILD=FOLDER` makes the one folder, `generate` fills the other. The two programs run in turn, once with what they
-write compared, and then timed with nothing done with it. A ratio is ours over the reference's: below 1 we are faster. Times are processor seconds, of user and system together, so that other work on
-the machine shows little; the spread is the median over the least, ours and the reference's. With --enforce the status
-is 1 where a ratio passes its goal, or where what is written differs.
+write compared, and then timed with nothing done with it. A ratio is ours over the reference's: below 1 we are faster.
+Times are processor seconds, of user and system together, so that other work on the machine shows little; the spread is
+the median over the least, ours and the reference's. With --enforce the status is 1 where a ratio passes its goal, or
+where what is written differs.
 """
 import argparse
 import hashlib
