@@ -1,7 +1,7 @@
 //! The words of the command line.
 
-use crate::act::Plan;
 use clap::{Arg, ArgAction, ArgMatches, Command, Error, value_parser};
+use cp_commands::Plan;
 use cp_frame::Mode;
 use cp_tree::Limits;
 use std::alloc::Global;

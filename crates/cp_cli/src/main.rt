@@ -1,11 +1,9 @@
 //! `capnp_cli`: shows the messages of Cap'n Proto streams.
 #![tactic(auto)]
 
-mod act;
 mod command;
-mod fault;
 
-pub use act::{Plan, act};
+use cp_commands::act;
 use std::env;
 use std::fs::File;
 use std::io::{self, BufWriter, Write};
@@ -40,6 +38,3 @@ fn main(rt: HostRuntime) -> anyhow::Result<ExitCode> {
     let status = act(alloc, &plan, &mut from, &mut out, &mut err);
     Ok(ExitCode::from(status))
 }
-
-#[cfg(test)]
-mod tests;

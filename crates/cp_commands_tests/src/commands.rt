@@ -1,6 +1,6 @@
 //! Frames from outside, by the commands.
 
-use crate::{Plan, act};
+use cp_commands::{Plan, act};
 use cp_frame::Mode;
 use cp_tree::Limits;
 use std::alloc::Global;

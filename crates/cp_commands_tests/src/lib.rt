@@ -1,0 +1,5 @@
+//! Tests of cp_commands, over its library.
+#![tactic(auto)]
+
+#[cfg(test)]
+mod commands;
