@@ -1,10 +1,10 @@
 //! The words of the command line.
 
-use clap::{Arg, ArgAction, ArgMatches, Command, Error, value_parser};
+use clap::{Arg, ArgAction, ArgMatches, Command, value_parser};
 use cp_commands::Plan;
 use cp_frame::Mode;
 use cp_tree::Limits;
-use std::alloc::Global;
+use std::alloc::{AllocError, Global};
 
 /// The greatest limit on nesting.
 const MOST_NESTING: i64 = 256;
@@ -56,49 +56,71 @@ fn traversal<'a>(alloc: Global) -> Arg<'a> {
         .help("A message may cost N words to go over, 8388608 by default")
 }
 
-/// What `capnp_cli` understands.
-pub(crate) fn command<'a>(alloc: Global) -> Result<Command<'a>, Error> {
-    let show = Command::new(alloc, "show")
+/// Words that name the limits and the form of a file that is read, and the file.
+fn reading<'a>(alloc: Global, command: Command<'a>) -> Result<Command<'a>, AllocError> {
+    command
+        .arg(packed(alloc))?
+        .arg(nesting(alloc))?
+        .arg(traversal(alloc))?
+        .arg(file(alloc))
+}
+
+/// The words of `show`.
+fn show<'a>(alloc: Global) -> Result<Command<'a>, AllocError> {
+    let command = Command::new(alloc, "show")
         .about("Print each message of FILE as a line")
-        .after_help("Example: capnp_cli show --packed calls.packed")
-        .arg(packed(alloc))?
-        .arg(nesting(alloc))?
-        .arg(traversal(alloc))?
-        .arg(file(alloc))?;
-    let check = Command::new(alloc, "check")
+        .after_help("Example: capnp_cli show --packed calls.packed");
+    reading(alloc, command)
+}
+
+/// The words of `check`.
+fn check<'a>(alloc: Global) -> Result<Command<'a>, AllocError> {
+    let command = Command::new(alloc, "check")
         .about("Print how many messages FILE has, if all are accepted")
-        .after_help("Example: capnp_cli check --nesting 32 calls.bin")
-        .arg(packed(alloc))?
-        .arg(nesting(alloc))?
-        .arg(traversal(alloc))?
-        .arg(file(alloc))?;
-    let pack = Command::new(alloc, "pack")
+        .after_help("Example: capnp_cli check --nesting 32 calls.bin");
+    reading(alloc, command)
+}
+
+/// The words of `pack`.
+fn pack<'a>(alloc: Global) -> Result<Command<'a>, AllocError> {
+    Command::new(alloc, "pack")
         .about("Write the plain frames of FILE in the packed form")
         .after_help("Example: capnp_cli pack calls.bin > calls.packed")
-        .arg(file(alloc))?;
-    let unpack = Command::new(alloc, "unpack")
+        .arg(file(alloc))
+}
+
+/// The words of `unpack`.
+fn unpack<'a>(alloc: Global) -> Result<Command<'a>, AllocError> {
+    Command::new(alloc, "unpack")
         .about("Write the packed frames of FILE in the plain form")
         .after_help("Example: capnp_cli unpack calls.packed > calls.bin")
-        .arg(file(alloc))?;
-    let recut = Command::new(alloc, "recut")
+        .arg(file(alloc))
+}
+
+/// The words of `recut`.
+fn recut<'a>(alloc: Global) -> Result<Command<'a>, AllocError> {
+    Command::new(alloc, "recut")
         .about("Write each tree of FILE again, in segments of limited size")
         .after_help("Example: capnp_cli recut --words 64 calls.bin > short.bin")
         .arg(packed(alloc))?
         .arg(words(alloc))?
-        .arg(file(alloc))?;
-    let command = Command::new(alloc, "capnp_cli")
+        .arg(file(alloc))
+}
+
+/// What `capnp_cli` understands.
+pub(crate) fn command<'a>(alloc: Global) -> Result<Command<'a>, AllocError> {
+    Command::new(alloc, "capnp_cli")
         .about("Cap'n Proto messages and two-party RPC")
         .after_help(
             "Status: 0 where all was accepted; 1 where something was refused, with a line that says \
              where and why on standard error; 2 for wrong words or a device that failed.",
         )
         .subcommand_required(true)
-        .subcommand(show)?
-        .subcommand(check)?
-        .subcommand(pack)?
-        .subcommand(unpack)?
-        .subcommand(recut)?;
-    Ok(command)
+        .subcommand(show(alloc)?)?
+        .subcommand(check(alloc)?)?
+        .subcommand(pack(alloc)?)?
+        .subcommand(unpack(alloc)?)?
+        .subcommand(recut(alloc)?)
 }
 
 /// The limits that the words ask for. A frame may have 8,388,608 words, or as many as may be gone

@@ -1,7 +1,7 @@
 //! What `capnp_cli` does with a file, over a reader and two writers.
 #![tactic(auto)]
 
-mod act;
 mod fault;
+mod plan;
 
-pub use act::{Plan, act};
+pub use plan::{Plan, act};
