@@ -38,6 +38,16 @@ fn done(rt: &impl Abort, alloc: Global, plan: Plan, hexadecimal: &str) -> (Vec<u
     (out, String::from_utf8(err).expect(rt, "UTF-8"), status)
 }
 
+/// The text is the wanted one.
+fn expect_text(rt: &impl Abort, text: &str, wanted: &str) {
+    assert_eq!(rt; text, wanted);
+}
+
+/// The status is the wanted one.
+fn expect_status(rt: &impl Abort, status: u8, wanted: u8) {
+    assert_eq!(rt; status, wanted);
+}
+
 /// A command writes these lines of a file, says that, and ends with this status.
 fn expect_done(
     rt: &impl Abort,
@@ -48,7 +58,11 @@ fn expect_done(
 ) {
     let (out, err, status) = done(rt, alloc, plan, hexadecimal);
     let out = String::from_utf8(out).expect(rt, "UTF-8");
-    assert_eq!(rt; (out.as_str(), err.as_str(), status), (lines, said, ends));
+    expect_text(rt, out.as_str(), lines);
+    expect_text(rt, err.as_str(), said);
+    expect_status(rt, status, ends);
+    drop(out);
+    drop(err);
 }
 
 /// A plain file is refused at this byte, for this fault. `check` says the same, and `show` writes the
@@ -443,17 +457,26 @@ fn lines_stand_before_a_refusal(rt: HostRuntime) {
 /// What a command makes of a file, in hexadecimal, or what it says.
 fn made(rt: &impl Abort, alloc: Global, plan: Plan, hexadecimal: &str) -> String {
     let (out, err, status) = done(rt, alloc, plan, hexadecimal);
-    if status == 0 {
-        return hex::encode(alloc, &out).expect(rt, "memory");
+    if status != 0 {
+        return err;
     }
-    err
+    let text = hex::encode(alloc, &out).expect(rt, "memory");
+    drop(out);
+    text
 }
 
-/// A plain file is packed to these bytes, and they are unpacked to it.
-fn expect_packed(rt: &impl Abort, alloc: Global, plain: &str, packed: &str) {
-    assert_eq!(rt; made(rt, alloc, Plan::Pack, plain).as_str(), packed);
-    let again = made(rt, alloc, Plan::Unpack, packed);
-    assert_eq!(rt; again.as_str(), without_spaces(rt, alloc, plain).as_str());
+/// A command makes this text of a file.
+fn expect_made(rt: &impl Abort, alloc: Global, plan: Plan, hexadecimal: &str, wanted: &str) {
+    let text = made(rt, alloc, plan, hexadecimal);
+    expect_text(rt, text.as_str(), wanted);
+    drop(text);
+}
+
+/// A command makes this file of a file.
+fn expect_file(rt: &impl Abort, alloc: Global, plan: Plan, hexadecimal: &str, wanted: &str) {
+    let wanted = without_spaces(rt, alloc, wanted);
+    expect_made(rt, alloc, plan, hexadecimal, wanted.as_str());
+    drop(wanted);
 }
 
 #[test]
@@ -470,7 +493,8 @@ fn frames_are_packed_and_unpacked(rt: HostRuntime) {
         ("", ""),
     ];
     for (plain, packed) in rows {
-        expect_packed(&rt, alloc, plain, packed);
+        expect_file(&rt, alloc, Plan::Pack, plain, packed);
+        expect_file(&rt, alloc, Plan::Unpack, packed, plain);
     }
     let refused = [
         (Plan::Pack, "00", "refused at byte 0: F3 Truncated\n"),
@@ -478,7 +502,7 @@ fn frames_are_packed_and_unpacked(rt: HostRuntime) {
         (Plan::Unpack, "0003", "refused at byte 0: F4 RunPastFrame\n"),
     ];
     for (plan, bytes, line) in refused {
-        assert_eq!(rt; made(&rt, alloc, plan, bytes).as_str(), line);
+        expect_made(&rt, alloc, plan, bytes, line);
     }
 }
 
@@ -495,7 +519,9 @@ fn taken(rt: &impl Abort, alloc: Global, plan: Plan, bytes: &[u8]) -> Vec<u8> {
     let mut from = bytes;
     let (mut out, mut err) = (Vec::new(alloc), Vec::new(alloc));
     let status = act(alloc, &plan, &mut from, &mut out, &mut err);
-    assert_eq!(rt; (err.len(), status), (0, 0));
+    expect_status(rt, status, 0);
+    assert!(rt; err.is_empty());
+    drop(err);
     out
 }
 
@@ -511,7 +537,10 @@ fn frames_may_be_larger_than_a_piece(rt: HostRuntime) {
     }
     let packed = taken(&rt, alloc, Plan::Pack, &frames);
     let plain = taken(&rt, alloc, Plan::Unpack, &packed);
-    assert_eq!(rt; plain.as_slice(), frames.as_slice());
+    assert!(rt; plain.as_slice() == frames.as_slice());
+    drop(plain);
+    drop(packed);
+    drop(frames);
 }
 
 #[test]
@@ -536,11 +565,9 @@ fn packed_frames_are_shown(rt: HostRuntime) {
 /// A finish in segments of at most so many words is this frame, and in one segment again itself.
 fn expect_recut(rt: &impl Abort, alloc: Global, words: u32, frame: &str) {
     let mode = Mode::Plain;
-    let cut = made(rt, alloc, Plan::Recut { mode, words }, FINISH);
-    assert_eq!(rt; cut.as_str(), without_spaces(rt, alloc, frame).as_str());
+    expect_file(rt, alloc, Plan::Recut { mode, words }, FINISH, frame);
     let words = 8_388_608;
-    let back = made(rt, alloc, Plan::Recut { mode, words }, cut.as_str());
-    assert_eq!(rt; back.as_str(), without_spaces(rt, alloc, FINISH).as_str());
+    expect_file(rt, alloc, Plan::Recut { mode, words }, frame, FINISH);
 }
 
 #[test]
@@ -559,8 +586,7 @@ fn trees_are_recut(rt: HostRuntime) {
     }
     let (mode, words) = (Mode::Packed, 4);
     let packed = "1004500101010410010107";
-    let again = made(&rt, rt.alloc(), Plan::Recut { mode, words }, packed);
-    assert_eq!(rt; again.as_str(), packed);
+    expect_made(&rt, rt.alloc(), Plan::Recut { mode, words }, packed, packed);
 }
 
 /// A frame of so many nested structs of one pointer.
@@ -601,12 +627,21 @@ fn limits_may_be_chosen(rt: HostRuntime) {
 fn nesting_ends_at_64(rt: HostRuntime) {
     let alloc = rt.alloc();
     let frame = nested(&rt, alloc, 64);
-    let (out, _, status) = done(&rt, alloc, show(Mode::Plain), frame.as_str());
+    let (out, err, status) = done(&rt, alloc, show(Mode::Plain), frame.as_str());
+    expect_status(&rt, status, 0);
     assert!(rt; out.starts_with(b"unimplemented (;(;"));
-    assert_eq!(rt; status, 0);
+    drop(out);
+    drop(err);
+    drop(frame);
+}
+
+#[test]
+fn nesting_of_65_is_refused(rt: HostRuntime) {
+    let alloc = rt.alloc();
     let frame = nested(&rt, alloc, 65);
     let said = "refused at byte 0: G8 NestingLimit segment 0 word 64\n";
     expect_done(&rt, alloc, show(Mode::Plain), frame.as_str(), ("", said, 1));
+    drop(frame);
 }
 
 /// A reader whose device fails.
@@ -624,8 +659,10 @@ fn a_device_may_fail(rt: HostRuntime) {
     let alloc = rt.alloc();
     let (mut out, mut err) = (Vec::new(alloc), Vec::new(alloc));
     let status = act(alloc, &show(Mode::Plain), &mut Broken, &mut out, &mut err);
-    assert_eq!(rt; status, 2);
-    assert_eq!(rt; err.as_slice(), b"device\n".as_slice());
+    expect_status(&rt, status, 2);
+    assert!(rt; err.as_slice() == b"device\n".as_slice());
+    drop(out);
+    drop(err);
 }
 
 /// `FINISH` as bytes, which lie in no memory that could be refused.
@@ -648,12 +685,13 @@ fn expect_memory_told(rt: &impl Abort, alloc: Global, plan: Plan, bytes: &[u8]) 
     let status = act(alloc, &plan, &mut from, &mut io::sink(), &mut err);
     let said = String::from_utf8(err).expect(rt, "UTF-8");
     if status == 0 {
-        assert_eq!(rt; said.as_str(), "");
+        expect_text(rt, said.as_str(), "");
     } else {
-        assert_eq!(rt; status, 1);
-        assert!(rt; said.as_str().starts_with("refused at byte "), "{said}");
-        assert!(rt; said.as_str().ends_with(" OutOfMemory\n"), "{said}");
+        expect_status(rt, status, 1);
+        assert!(rt; said.as_str().starts_with("refused at byte "));
+        assert!(rt; said.as_str().ends_with(" OutOfMemory\n"));
     }
+    drop(said);
 }
 
 // With memory enough no growth is refused. `rt try --test --fail-alloc N` refuses the Nth.
