@@ -160,13 +160,19 @@ const TREES: [(&str, &str); 12] = [
     ),
 ];
 
+/// An unimplemented message with a tree of these words is shown with the tree's notation.
+fn expect_tree(rt: &impl Abort, alloc: Global, words: &str, tree: &str) {
+    let words = format!(in alloc; "0000000000000100 {words}").expect(rt, "memory");
+    let line = format!(in alloc; "unimplemented {tree}").expect(rt, "memory");
+    expect_line(rt, alloc, words.as_str(), line.as_str());
+    drop(words);
+    drop(line);
+}
+
 #[test]
 fn trees_have_a_notation(rt: HostRuntime) {
-    let alloc = rt.alloc();
     for (words, tree) in TREES {
-        let words = format!(in alloc; "0000000000000100 {words}").expect(&rt, "memory");
-        let line = format!(in alloc; "unimplemented {tree}").expect(&rt, "memory");
-        expect_line(&rt, alloc, words.as_str(), line.as_str());
+        expect_tree(&rt, rt.alloc(), words, tree);
     }
 }
 
@@ -434,6 +440,15 @@ fn files_have_many_frames(rt: HostRuntime) {
         ("messages 3\n", "", 0),
     );
     expect_done(&rt, alloc, check(Mode::Plain), "", ("messages 0\n", "", 0));
+    drop(stream);
+    drop(lines);
+}
+
+/// A frame behind another is refused for this fault, and the other's line is written.
+fn expect_refused_second(rt: &impl Abort, alloc: Global, frame: &str, fault: &str) {
+    let stream = format!(in alloc; "{FINISH} {frame}").expect(rt, "memory");
+    expect_refused(rt, alloc, stream.as_str(), FINISH_LINE, 40, fault);
+    drop(stream);
 }
 
 #[test]
@@ -447,10 +462,8 @@ fn lines_stand_before_a_refusal(rt: HostRuntime) {
             "S1 Kind Message.finish",
         ),
     ];
-    let alloc = rt.alloc();
     for (frame, fault) in rows {
-        let stream = format!(in alloc; "{FINISH} {frame}").expect(&rt, "memory");
-        expect_refused(&rt, alloc, stream.as_str(), FINISH_LINE, 40, fault);
+        expect_refused_second(&rt, rt.alloc(), frame, fault);
     }
 }
 
