@@ -5,6 +5,7 @@ use cp_frame::{FrameFault, FrameReader, Mode, write_frame};
 use cp_lines::push_line;
 use cp_rpc::Message;
 use cp_stream::{Limits, MessageReader, Tap, view_of, write_message_in};
+use cp_words::Segments;
 use std::alloc::Global;
 
 /// A new reader of frames.
@@ -15,6 +16,11 @@ fn reader_of(alloc: Global, mode: Mode) -> FrameReader {
     }
 }
 
+/// Adds the line of a frame's message.
+fn push_frame(alloc: Global, segments: &Segments, lines: &mut String) -> Result<(), Fault> {
+    Ok(push_line(alloc, lines, &view_of(segments, Limits::standard())?)?)
+}
+
 /// Adds the lines of the messages that a piece completes.
 fn push_lines(
     alloc: Global,
@@ -23,7 +29,7 @@ fn push_lines(
     lines: &mut String,
 ) -> Result<(), Fault> {
     for frame in &reader.feed(piece)? {
-        push_line(alloc, lines, &view_of(&frame.1, Limits::standard())?)?;
+        push_frame(alloc, &frame.1, lines)?;
     }
     Ok(())
 }

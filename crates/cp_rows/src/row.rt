@@ -19,7 +19,7 @@ fn decoded(alloc: Global, digits: &str) -> Result<Vec<u8>, Fault> {
 }
 
 /// Nothing, if the lines are the wanted ones.
-fn expect(lines: String, wanted: &str) -> Result<(), Fault> {
+pub fn expect(lines: String, wanted: &str) -> Result<(), Fault> {
     if lines.as_str() == wanted {
         Ok(())
     } else {

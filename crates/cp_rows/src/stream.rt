@@ -2,30 +2,43 @@
 
 use crate::fault::Fault;
 use crate::frame::{frame_of, lines_of, messages_of};
+use crate::row::expect;
 use cp_frame::Mode;
+use cp_rpc::Message;
 use std::alloc::Global;
 
-/// Reads the stream whole and cut at each byte, writes each message again, packed, and reads that.
-/// Answers how many messages there are.
-pub fn try_all(alloc: Global, bytes: &[u8], lines: &str) -> Result<usize, Fault> {
-    let shown = lines_of(alloc, bytes, &[], Mode::Plain)?;
-    if shown.as_str() != lines {
-        return Err(Fault::Line(shown));
-    }
+/// Nothing, if the stream has these lines, read whole and cut at each byte.
+fn try_cuts(alloc: Global, bytes: &[u8], lines: &str) -> Result<(), Fault> {
+    expect(lines_of(alloc, bytes, &[], Mode::Plain)?, lines)?;
     for cut in 1..bytes.len() {
         let (first, rest) = bytes.split_at(cut);
         if lines_of(alloc, first, rest, Mode::Plain)?.as_str() != lines {
             return Err(Fault::Cut(cut));
         }
     }
-    let messages = messages_of(alloc, bytes, Mode::Plain)?;
+    Ok(())
+}
+
+/// The messages' packed frames, in segments of at most 64 words.
+fn packed_again(alloc: Global, messages: &[Message]) -> Result<Vec<u8>, Fault> {
     let mut packed = Vec::new(alloc);
-    for message in &messages {
+    for message in messages {
         packed.extend_from_slice(&frame_of(alloc, message, 64, Mode::Packed)?)?;
     }
-    let again = lines_of(alloc, &packed, &[], Mode::Packed)?;
-    if again.as_str() != lines {
-        return Err(Fault::Line(again));
-    }
+    Ok(packed)
+}
+
+/// Nothing, if the messages have these lines once they are written, packed.
+fn try_writing(alloc: Global, messages: &[Message], lines: &str) -> Result<(), Fault> {
+    let packed = packed_again(alloc, messages)?;
+    expect(lines_of(alloc, &packed, &[], Mode::Packed)?, lines)
+}
+
+/// Reads the stream whole and cut at each byte, writes each message again, packed, and reads that.
+/// Answers how many messages there are.
+pub fn try_all(alloc: Global, bytes: &[u8], lines: &str) -> Result<usize, Fault> {
+    try_cuts(alloc, bytes, lines)?;
+    let messages = messages_of(alloc, bytes, Mode::Plain)?;
+    try_writing(alloc, &messages, lines)?;
     Ok(messages.len())
 }
