@@ -21,6 +21,8 @@ fn expect_same(rt: &impl Abort, alloc: Global, bytes: &[u8]) {
     let unpacked = unpack(alloc, bytes, 4096);
     let decoded = decode(alloc, bytes).expect(rt, "memory");
     assert!(rt; are_same(&unpacked, &decoded));
+    drop(unpacked);
+    drop(decoded);
 }
 
 /// The same for each front.
@@ -38,7 +40,7 @@ fn rows_are_read_alike(rt: HostRuntime) {
     for bytes in [&[0, 3][..], &[0, 255, 0, 0][..], &[3, 7, 0][..]] {
         expect_fronts(&rt, rt.alloc(), bytes);
     }
-    let mut raw = vec![in rt.alloc(); 0x8au8; 36].expect(&rt, "memory");
+    let mut raw = [0x8a; 36];
     raw[0] = 0xff;
     raw[9] = 3;
     raw[34] = 0;
@@ -71,13 +73,17 @@ fn plain_of(rt: &impl Abort, alloc: Global, bytes: &[u8]) -> Vec<u8> {
             .extend_from_slice(&word.to_le_bytes())
             .expect(rt, "memory");
     }
+    drop(words);
     plain
 }
 
 /// The segments of the plain frame of those words.
 fn plain_segments(rt: &impl Abort, alloc: Global, bytes: &[u8]) -> Segments {
     let reader = FrameReader::plain(alloc, Limits::standard());
-    segments_of(rt, reader, &plain_of(rt, alloc, bytes))
+    let plain = plain_of(rt, alloc, bytes);
+    let segments = segments_of(rt, reader, &plain);
+    drop(plain);
+    segments
 }
 
 /// A packed frame has the segments of the plain frame of its words.
@@ -85,6 +91,8 @@ fn expect_frame(rt: &impl Abort, alloc: Global, bytes: &[u8]) {
     let plain = plain_segments(rt, alloc, bytes);
     let packed = segments_of(rt, FrameReader::packed(alloc, Limits::standard()), bytes);
     assert!(rt; plain.lists() == packed.lists());
+    drop(plain);
+    drop(packed);
 }
 
 #[test]

@@ -41,13 +41,28 @@ const FINISH_WORDS: [u64; 4] = [0x1_0001_0000_0000, 4, 0x1_0000_0000, 7];
 /// The words of `KEEPING`.
 const KEEPING_WORDS: [u64; 4] = [0x1_0001_0000_0000, 4, 0x1_0000_0000, 0x1_0000_0007];
 
+/// A number is the wanted one.
+pub fn expect_number(rt: &impl Abort, number: usize, wanted: usize) {
+    assert_eq!(rt; number, wanted);
+}
+
+/// Words are the wanted ones.
+pub fn expect_words(rt: &impl Abort, words: &[u64], wanted: &[u64]) {
+    assert_eq!(rt; words, wanted);
+}
+
+/// Bytes are the wanted ones.
+pub fn expect_bytes(rt: &impl Abort, bytes: &[u8], wanted: &[u8]) {
+    assert_eq!(rt; bytes, wanted);
+}
+
 /// The frame took so many bytes, and its segments are these.
-fn expect_frame(rt: &impl Abort, frame: &(u64, Segments), taken: u64, segments: &[&[u64]]) {
-    assert_eq!(rt; frame.0, taken);
+fn expect_frame(rt: &impl Abort, frame: &(u64, Segments), taken: usize, segments: &[&[u64]]) {
+    assert!(rt; frame.0 == taken as u64);
     let lists = frame.1.lists();
-    assert_eq!(rt; lists.len(), segments.len());
+    expect_number(rt, lists.len(), segments.len());
     for (list, words) in lists.iter().zip(segments) {
-        assert_eq!(rt; list.as_slice(), *words);
+        expect_words(rt, list, words);
     }
 }
 
@@ -61,11 +76,34 @@ pub fn fed(reader: &mut FrameReader, bytes: &[u8]) -> Result<usize, FrameFault> 
     Ok(reader.feed(bytes)?.len())
 }
 
+/// These bytes bring so many frames, or the fault.
+pub fn expect_fed(
+    rt: &impl Abort,
+    reader: &mut FrameReader,
+    bytes: &[u8],
+    told: Result<usize, FrameFault>,
+) {
+    assert_eq!(rt; fed(reader, bytes), told);
+}
+
+/// So many bytes and words are held.
+pub fn expect_held(rt: &impl Abort, reader: &FrameReader, held: (usize, usize)) {
+    assert_eq!(rt; reader.held(), held);
+}
+
+/// This is told at the end.
+pub fn expect_end(rt: &impl Abort, reader: &mut FrameReader, told: Result<(), FrameFault>) {
+    assert_eq!(rt; reader.finish(), told);
+}
+
 /// The segments of the one frame that these bytes are.
 pub fn segments_of(rt: &impl Abort, mut reader: FrameReader, bytes: &[u8]) -> Segments {
     let mut frames = reader.feed(bytes).expect(rt, "frames");
-    assert_eq!(rt; frames.len(), 1);
-    frames.pop().expect(rt, "a frame").1
+    drop(reader);
+    expect_number(rt, frames.len(), 1);
+    let frame = frames.pop().expect(rt, "a frame");
+    drop(frames);
+    frame.1
 }
 
 /// The frames of these bytes, of which so many come with the front. The bytes end behind a frame.
@@ -78,12 +116,22 @@ fn frames_of(
 ) -> Vec<(u64, Segments)> {
     let mut reader = new_reader(alloc);
     let mut frames = reader.feed(front).expect(rt, "frames");
-    assert_eq!(rt; frames.len(), early);
+    expect_number(rt, frames.len(), early);
     for frame in reader.feed(back).expect(rt, "frames") {
         frames.push(frame).expect(rt, "memory");
     }
-    assert_eq!(rt; reader.finish(), Ok(()));
+    expect_end(rt, &mut reader, Ok(()));
+    drop(reader);
     frames
+}
+
+/// Two frames of one segment come with these bytes, of which `early` come with the front.
+fn expect_two(rt: &impl Abort, alloc: Global, (front, back): (&[u8], &[u8]), early: usize) {
+    let frames = frames_of(rt, alloc, front, back, early);
+    assert!(rt; frames.len() == 2);
+    expect_frame(rt, &frames[0], 40, &[&FINISH_WORDS]);
+    expect_frame(rt, &frames[1], 40, &[&KEEPING_WORDS]);
+    drop(frames);
 }
 
 #[test]
@@ -91,19 +139,16 @@ fn two_frames_come_however_they_are_cut(rt: HostRuntime) {
     let mut stream = FINISH.to_vec(rt.alloc()).expect(&rt, "memory");
     stream.extend_from_slice(&KEEPING).expect(&rt, "memory");
     for cut in 0..81 {
-        let (front, back) = stream.split_at(cut);
-        let frames = frames_of(&rt, rt.alloc(), front, back, cut / 40);
-        assert_eq!(rt; frames.len(), 2);
-        expect_frame(&rt, &frames[0], 40, &[&FINISH_WORDS]);
-        expect_frame(&rt, &frames[1], 40, &[&KEEPING_WORDS]);
+        expect_two(&rt, rt.alloc(), stream.split_at(cut), cut / 40);
     }
+    drop(stream);
 }
 
 /// A reader has failed, and keeps nothing.
-fn expect_failed(rt: &impl Abort, reader: &mut FrameReader) {
-    assert_eq!(rt; reader.held(), (0, 0));
-    assert_eq!(rt; fed(reader, &FINISH), Err(FrameFault::Failed));
-    assert_eq!(rt; reader.finish(), Err(FrameFault::Failed));
+pub fn expect_failed(rt: &impl Abort, reader: &mut FrameReader) {
+    expect_held(rt, reader, (0, 0));
+    expect_fed(rt, reader, &FINISH, Err(FrameFault::Failed));
+    expect_end(rt, reader, Err(FrameFault::Failed));
 }
 
 /// The back of some bytes brings the fault, and the front none.
@@ -113,33 +158,48 @@ pub fn expect_fault_in(
     (front, back): (&[u8], &[u8]),
     fault: FrameFault,
 ) {
-    assert_eq!(rt; fed(&mut reader, front), Ok(0));
-    assert_eq!(rt; fed(&mut reader, back), Err(fault));
+    expect_fed(rt, &mut reader, front, Ok(0));
+    expect_fed(rt, &mut reader, back, Err(fault));
     expect_failed(rt, &mut reader);
+    drop(reader);
 }
 
 /// These bytes end inside a frame.
 pub fn expect_short(rt: &impl Abort, mut reader: FrameReader, bytes: &[u8]) {
-    assert_eq!(rt; fed(&mut reader, bytes), Ok(0));
-    assert_eq!(rt; reader.finish(), Err(FrameFault::Truncated));
-    assert_eq!(rt; reader.held(), (0, 0));
-    assert_eq!(rt; reader.finish(), Err(FrameFault::Failed));
+    expect_fed(rt, &mut reader, bytes, Ok(0));
+    expect_end(rt, &mut reader, Err(FrameFault::Truncated));
+    expect_held(rt, &reader, (0, 0));
+    expect_end(rt, &mut reader, Err(FrameFault::Failed));
+    drop(reader);
+}
+
+/// These bytes bring a frame, which took so many bytes, and whose segments are these.
+fn expect_one(
+    rt: &impl Abort,
+    reader: &mut FrameReader,
+    bytes: &[u8],
+    taken: usize,
+    segments: &[&[u64]],
+) {
+    let frames = reader.feed(bytes).expect(rt, "frames");
+    assert!(rt; frames.len() == 1);
+    expect_frame(rt, &frames[0], taken, segments);
+    drop(frames);
 }
 
 /// Reads a frame by single bytes, and each front of it without its last bytes.
 fn read_by_bytes(rt: &impl Abort, alloc: Global, bytes: &[u8], segments: &[&[u64]]) {
     let mut whole = new_reader(alloc);
     for i in 0..bytes.len() {
-        let frames = whole.feed(&bytes[i..i + 1]).expect(rt, "frames");
         if i + 1 < bytes.len() {
-            assert!(rt; frames.is_empty());
+            expect_fed(rt, &mut whole, &bytes[i..i + 1], Ok(0));
             expect_short(rt, new_reader(alloc), &bytes[..i + 1]);
         } else {
-            assert_eq!(rt; frames.len(), 1);
-            expect_frame(rt, &frames[0], bytes.len() as u64, segments);
+            expect_one(rt, &mut whole, &bytes[i..], bytes.len(), segments);
         }
     }
-    assert_eq!(rt; whole.finish(), Ok(()));
+    expect_end(rt, &mut whole, Ok(()));
+    drop(whole);
 }
 
 #[test]
@@ -167,10 +227,11 @@ fn frames_come_byte_by_byte(rt: HostRuntime) {
 #[test]
 fn an_empty_segment_is_a_frame(rt: HostRuntime) {
     let frames = new_reader(rt.alloc()).feed(&[0; 24]).expect(&rt, "frames");
-    assert_eq!(rt; frames.len(), 3);
+    expect_number(&rt, frames.len(), 3);
     for frame in &frames {
         expect_frame(&rt, frame, 8, &[&[]]);
     }
+    drop(frames);
 }
 
 /// A frame, and a number of segments behind it that is too large.
@@ -183,17 +244,19 @@ fn faulty_stream() -> [u8; 44] {
 #[test]
 fn a_fault_behind_a_frame_is_kept(rt: HostRuntime) {
     let mut reader = new_reader(rt.alloc());
-    assert_eq!(rt; fed(&mut reader, &faulty_stream()), Ok(1));
-    assert_eq!(rt; fed(&mut reader, &[]), Err(FrameFault::TooManySegments));
-    assert_eq!(rt; fed(&mut reader, &FINISH), Err(FrameFault::Failed));
+    expect_fed(&rt, &mut reader, &faulty_stream(), Ok(1));
+    expect_fed(&rt, &mut reader, &[], Err(FrameFault::TooManySegments));
+    expect_fed(&rt, &mut reader, &FINISH, Err(FrameFault::Failed));
+    drop(reader);
 }
 
 #[test]
 fn a_fault_behind_a_frame_is_told_at_the_end(rt: HostRuntime) {
     let mut reader = new_reader(rt.alloc());
-    assert_eq!(rt; fed(&mut reader, &faulty_stream()), Ok(1));
-    assert_eq!(rt; reader.finish(), Err(FrameFault::TooManySegments));
-    assert_eq!(rt; reader.finish(), Err(FrameFault::Failed));
+    expect_fed(&rt, &mut reader, &faulty_stream(), Ok(1));
+    expect_end(&rt, &mut reader, Err(FrameFault::TooManySegments));
+    expect_end(&rt, &mut reader, Err(FrameFault::Failed));
+    drop(reader);
 }
 
 #[test]
@@ -202,8 +265,9 @@ fn too_many_segments_are_told_with_the_fourth_byte(rt: HostRuntime) {
     expect_fault_in(&rt, new_reader(rt.alloc()), (&[], &[0xff; 4]), fault);
     let cut = (&[0x00, 0x02, 0x00][..], &[0x00][..]);
     expect_fault_in(&rt, new_reader(rt.alloc()), cut, fault);
-    let most = fed(&mut new_reader(rt.alloc()), &[0xff, 0x01, 0x00, 0x00]);
-    assert_eq!(rt; most, Ok(0));
+    let mut most = new_reader(rt.alloc());
+    expect_fed(&rt, &mut most, &[0xff, 0x01, 0x00, 0x00], Ok(0));
+    drop(most);
 }
 
 #[test]
@@ -214,50 +278,58 @@ fn a_frame_too_large_is_told_with_the_last_byte_of_a_size(rt: HostRuntime) {
         expect_fault_in(&rt, new_reader(rt.alloc()), table.split_at(cut), fault);
     }
     let mut largest = new_reader(rt.alloc());
-    assert_eq!(rt; fed(&mut largest, &[0, 0, 0, 0, 0, 0, 0x80, 0]), Ok(0));
-    assert_eq!(rt; largest.held(), (0, 1));
+    expect_fed(&rt, &mut largest, &[0, 0, 0, 0, 0, 0, 0x80, 0], Ok(0));
+    expect_held(&rt, &largest, (0, 1));
+    drop(largest);
 }
 
 #[test]
 fn what_is_held_follows_the_bytes(rt: HostRuntime) {
     let mut reader = new_reader(rt.alloc());
-    assert_eq!(rt; reader.held(), (0, 0));
+    expect_held(&rt, &reader, (0, 0));
     for i in 0..FINISH.len() {
-        let count = fed(&mut reader, &FINISH[i..i + 1]);
+        expect_fed(&rt, &mut reader, &FINISH[i..i + 1], Ok((i + 1) / 40));
         let kept = if i == 39 {
             (0, 0)
         } else {
             ((i + 1) % 8, (i + 1) / 8)
         };
-        assert_eq!(rt; reader.held(), kept);
-        assert_eq!(rt; count, Ok((i + 1) / 40));
+        expect_held(&rt, &reader, kept);
     }
-    assert_eq!(rt; reader.finish(), Ok(()));
+    expect_end(&rt, &mut reader, Ok(()));
+    drop(reader);
+}
+
+/// Bytes one after another.
+pub fn joined(rt: &impl Abort, alloc: Global, parts: &[&[u8]]) -> Vec<u8> {
+    let mut bytes = Vec::new(alloc);
+    for part in parts {
+        bytes.extend_from_slice(part).expect(rt, "memory");
+    }
+    bytes
 }
 
 #[test]
 fn frames_of_each_kind_come_in_one_piece(rt: HostRuntime) {
-    let mut stream = FINISH.to_vec(rt.alloc()).expect(&rt, "memory");
-    stream
-        .extend_from_slice(&TWO_SEGMENTS)
-        .expect(&rt, "memory");
-    stream.extend_from_slice(&[0; 8]).expect(&rt, "memory");
-    stream.extend_from_slice(&KEEPING).expect(&rt, "memory");
+    let parts = [&FINISH[..], &TWO_SEGMENTS[..], &[0; 8][..], &KEEPING[..]];
+    let stream = joined(&rt, rt.alloc(), &parts);
     let frames = new_reader(rt.alloc()).feed(&stream).expect(&rt, "frames");
-    assert_eq!(rt; frames.len(), 4);
+    drop(stream);
+    assert!(rt; frames.len() == 4);
     expect_frame(&rt, &frames[0], 40, &[&FINISH_WORDS]);
-    assert_eq!(rt; frames[1].1.lists().len(), 2);
+    expect_number(&rt, frames[1].1.lists().len(), 2);
     expect_frame(&rt, &frames[2], 8, &[&[]]);
     expect_frame(&rt, &frames[3], 40, &[&KEEPING_WORDS]);
+    drop(frames);
 }
 
 /// The frame is one segment of 200,000 words.
 fn expect_large(rt: &impl Abort, frames: &[(u64, Segments)]) {
-    assert_eq!(rt; frames.len(), 1);
-    assert_eq!(rt; frames[0].0, 1_600_008);
+    assert!(rt; frames.len() == 1);
+    assert!(rt; frames[0].0 == 1_600_008);
     let lists = frames[0].1.lists();
-    assert_eq!(rt; lists.len(), 1);
-    assert_eq!(rt; lists[0].len(), 200_000);
+    assert!(rt; lists.len() == 1);
+    assert!(rt; lists[0].len() == 200_000);
     assert!(rt; lists[0].iter().all(|word| *word == 0x8a8a_8a8a_8a8a_8a8a));
 }
 
@@ -265,19 +337,25 @@ fn expect_large(rt: &impl Abort, frames: &[(u64, Segments)]) {
 fn a_large_segment_grows_with_its_bytes(rt: HostRuntime) {
     let piece = vec![in rt.alloc(); 0x8au8; 64_000].expect(&rt, "memory");
     let mut reader = new_reader(rt.alloc());
-    let table = fed(&mut reader, &[0, 0, 0, 0, 0x40, 0x0d, 0x03, 0]);
-    assert_eq!(rt; table, Ok(0));
+    expect_fed(&rt, &mut reader, &[0, 0, 0, 0, 0x40, 0x0d, 0x03, 0], Ok(0));
     for _ in 0..24 {
-        assert_eq!(rt; fed(&mut reader, &piece), Ok(0));
+        expect_fed(&rt, &mut reader, &piece, Ok(0));
     }
-    expect_large(&rt, &reader.feed(&piece).expect(&rt, "frames"));
+    let frames = reader.feed(&piece).expect(&rt, "frames");
+    drop(reader);
+    drop(piece);
+    expect_large(&rt, &frames);
+    drop(frames);
 }
 
 /// The segments of a frame are written as the frame was.
 fn write_back(rt: &impl Abort, alloc: Global, bytes: &[u8]) {
     let segments = segments_of(rt, new_reader(alloc), bytes);
     let written = write_frame(alloc, &segments, Mode::Plain, Limits::standard());
-    assert_eq!(rt; written.expect(rt, "a frame").as_slice(), bytes);
+    drop(segments);
+    let written = written.expect(rt, "a frame");
+    expect_bytes(rt, &written, bytes);
+    drop(written);
 }
 
 #[test]
@@ -288,56 +366,81 @@ fn frames_are_written_as_they_were(rt: HostRuntime) {
     write_back(&rt, rt.alloc(), &[0; 8])
 }
 
+/// The fault of writing a frame of two segments and five words within these limits, if any.
+fn limited(
+    rt: &impl Abort,
+    frame: &Segments,
+    alloc: Global,
+    segments: u32,
+    words: u32,
+) -> Option<FrameFault> {
+    let limits = Limits::new(64, 1, segments, words).expect(rt, "limits");
+    write_frame(alloc, frame, Mode::Plain, limits).err()
+}
+
 #[test]
 fn limits_are_kept_in_writing(rt: HostRuntime) {
     let frame = segments_of(&rt, new_reader(rt.alloc()), &TWO_SEGMENTS);
-    let rows = [
+    for (segments, words, fault) in [
         (1, 5, Some(FrameFault::TooManySegments)),
         (1, 4, Some(FrameFault::TooManySegments)),
         (2, 4, Some(FrameFault::FrameTooLarge)),
         (2, 5, None),
-    ];
-    for (segments, words, fault) in rows {
-        let limits = Limits::new(64, 1, segments, words).expect(&rt, "limits");
-        let written = write_frame(rt.alloc(), &frame, Mode::Plain, limits);
-        assert_eq!(rt; written.err(), fault);
+    ] {
+        assert_eq!(rt; limited(&rt, &frame, rt.alloc(), segments, words), fault);
     }
+    drop(frame);
 }
 
-/// These frames are written over what is in `out`, each over the one before.
-fn write_each_over(rt: &impl Abort, alloc: Global, out: &mut Vec<u8>) {
-    for bytes in [&THREE_SEGMENTS[..], &FINISH[..], &TWO_SEGMENTS[..]] {
-        let segments = segments_of(rt, new_reader(alloc), bytes);
-        let written = write_over(alloc, out, &segments, Mode::Plain, Limits::standard());
-        assert_eq!(rt; written, Ok(()));
-        assert_eq!(rt; out.as_slice(), bytes);
-    }
+/// What comes of writing is this.
+fn expect_told(rt: &impl Abort, written: Result<(), FrameFault>, told: Result<(), FrameFault>) {
+    assert_eq!(rt; written, told);
+}
+
+/// A frame is written over what is in `out`.
+fn expect_over(rt: &impl Abort, alloc: Global, out: &mut Vec<u8>, bytes: &[u8]) {
+    let segments = segments_of(rt, new_reader(alloc), bytes);
+    let written = write_over(alloc, out, &segments, Mode::Plain, Limits::standard());
+    drop(segments);
+    expect_told(rt, written, Ok(()));
+    expect_bytes(rt, out, bytes);
 }
 
 #[test]
 fn a_frame_is_written_over_another(rt: HostRuntime) {
     let alloc = rt.alloc();
     let mut out = Vec::new(alloc);
-    write_each_over(&rt, alloc, &mut out);
+    for bytes in [&THREE_SEGMENTS[..], &FINISH[..], &TWO_SEGMENTS[..]] {
+        expect_over(&rt, alloc, &mut out, bytes);
+    }
     let limits = Limits::new(64, 1, 2, 8).expect(&rt, "limits");
     let segments = segments_of(&rt, new_reader(alloc), &THREE_SEGMENTS);
     let written = write_over(alloc, &mut out, &segments, Mode::Packed, limits);
-    assert_eq!(rt; written, Err(FrameFault::TooManySegments));
+    drop(segments);
+    expect_told(&rt, written, Err(FrameFault::TooManySegments));
     assert!(rt; out.is_empty());
+    drop(out);
+}
+
+/// A frame is written behind what is in `out`.
+fn expect_behind(rt: &impl Abort, alloc: Global, out: &mut Vec<u8>, bytes: &[u8]) {
+    let segments = segments_of(rt, new_reader(alloc), bytes);
+    let written = write_behind(out, &segments, Limits::standard());
+    drop(segments);
+    expect_told(rt, written, Ok(()));
 }
 
 #[test]
 fn frames_are_written_behind_one_another(rt: HostRuntime) {
     let alloc = rt.alloc();
     let mut out = Vec::new(alloc);
-    let mut both = Vec::new(alloc);
-    for bytes in [&THREE_SEGMENTS[..], &FINISH[..]] {
-        let segments = segments_of(&rt, new_reader(alloc), bytes);
-        let written = write_behind(&mut out, &segments, Limits::standard());
-        assert_eq!(rt; written, Ok(()));
-        both.extend_from_slice(bytes).expect(&rt, "memory");
-        assert_eq!(rt; out.as_slice(), both.as_slice());
-    }
+    expect_behind(&rt, alloc, &mut out, &THREE_SEGMENTS);
+    expect_bytes(&rt, &out, &THREE_SEGMENTS);
+    expect_behind(&rt, alloc, &mut out, &FINISH);
+    let both = joined(&rt, alloc, &[&THREE_SEGMENTS, &FINISH]);
+    expect_bytes(&rt, &out, &both);
+    drop(both);
+    drop(out);
 }
 
 /// A frame that goes out to a writer is the frame as it is written.
@@ -347,7 +450,9 @@ fn send(rt: &impl Abort, alloc: Global, room: &mut Vec<u8>, segments: &Segments,
     let sent = send_frame(alloc, &mut out, room, segments, mode, limits);
     sent.expect(rt, "memory").expect(rt, "a writer");
     let frame = write_frame(alloc, segments, mode, limits).expect(rt, "a frame");
-    assert_eq!(rt; out.as_slice(), frame.as_slice());
+    expect_bytes(rt, &out, &frame);
+    drop(frame);
+    drop(out);
 }
 
 #[test]
@@ -357,6 +462,8 @@ fn a_frame_goes_out_to_a_writer(rt: HostRuntime) {
     for mode in [Mode::Plain, Mode::Packed] {
         send(&rt, rt.alloc(), &mut room, &segments, mode);
     }
+    drop(segments);
+    drop(room);
 }
 
 // With memory enough no growth is refused. `rt try --test --fail-alloc N` refuses the Nth.
@@ -370,10 +477,10 @@ fn want_of_memory_is_told_and_then_failed(rt: HostRuntime) {
         &THREE_SEGMENTS[..],
     ] {
         if let Err(fault) = fed(&mut reader, piece) {
-            assert_eq!(rt; fault, FrameFault::OutOfMemory);
-            expect_failed(&rt, &mut reader);
-            return;
+            assert!(rt; fault == FrameFault::OutOfMemory);
+            return expect_failed(&rt, &mut reader);
         }
     }
-    assert_eq!(rt; reader.finish(), Ok(()));
+    expect_end(&rt, &mut reader, Ok(()));
+    drop(reader);
 }

@@ -1,5 +1,6 @@
 //! Packed words from outside, whole and in pieces.
 
+use crate::frames::{expect_bytes, expect_words};
 use cp_frame::*;
 use cp_words::Segments;
 use std::alloc::Global;
@@ -21,79 +22,84 @@ pub const BOOTSTRAP: [u8; 12] = [0x10, 5, 0x50, 1, 1, 1, 8, 0x50, 1, 1, 0, 1];
 /// `release` of export 5, three times.
 pub const RELEASE: [u8; 12] = [0x10, 4, 0x50, 1, 1, 1, 6, 0x10, 1, 0x11, 5, 3];
 
+/// Packed bytes are these words.
+fn expect_unpacked(rt: &impl Abort, alloc: Global, bytes: &[u8], words: &[u64]) {
+    let unpacked = unpack(alloc, bytes, words.len()).expect(rt, "words");
+    expect_words(rt, &unpacked, words);
+    drop(unpacked);
+}
+
+/// Packed bytes of at most so many words are told to have this fault.
+fn expect_fault(rt: &impl Abort, alloc: Global, bytes: &[u8], limit: usize, fault: FrameFault) {
+    assert!(rt; unpack(alloc, bytes, limit).err() == Some(fault));
+}
+
 /// Words pack to bytes, and these unpack to them and to no fewer.
 fn expect_packed(rt: &impl Abort, alloc: Global, words: &[u64], bytes: &[u8]) {
-    assert_eq!(rt; pack(alloc, words).expect(rt, "memory").as_slice(), bytes);
-    assert_eq!(rt;
-        unpack(alloc, bytes, words.len())
-            .expect(rt, "words")
-            .as_slice(),
-        words
-    );
+    let packed = pack(alloc, words).expect(rt, "memory");
+    expect_bytes(rt, &packed, bytes);
+    drop(packed);
+    expect_unpacked(rt, alloc, bytes, words);
     if !words.is_empty() {
-        let refused = unpack(alloc, bytes, words.len() - 1);
-        assert_eq!(rt; refused.err(), Some(FrameFault::FrameTooLarge));
+        expect_fault(rt, alloc, bytes, words.len() - 1, FrameFault::FrameTooLarge);
     }
+}
+
+/// Four words without a zero byte, packed.
+fn raw_words() -> [u8; 34] {
+    let mut raw = [0x8a; 34];
+    raw[0] = 0xff;
+    raw[9] = 3;
+    raw
 }
 
 #[test]
 fn words_are_packed_and_unpacked(rt: HostRuntime) {
     expect_packed(&rt, rt.alloc(), &TWO.1, &TWO.0);
     expect_packed(&rt, rt.alloc(), &[0; 4], &[0, 3]);
-    let same = vec![in rt.alloc(); 0x8a8a_8a8a_8a8a_8a8au64; 4].expect(&rt, "memory");
-    let mut raw = vec![in rt.alloc(); 0x8au8; 34].expect(&rt, "memory");
-    raw[0] = 0xff;
-    raw[9] = 3;
-    expect_packed(&rt, rt.alloc(), &same, &raw);
-    let zeros = vec![in rt.alloc(); 0u64; 257].expect(&rt, "memory");
-    expect_packed(&rt, rt.alloc(), &zeros[..256], &[0, 255]);
-    expect_packed(&rt, rt.alloc(), &zeros, &[0, 255, 0, 0]);
+    expect_packed(&rt, rt.alloc(), &[0x8a8a_8a8a_8a8a_8a8a; 4], &raw_words());
+    expect_packed(&rt, rt.alloc(), &[0; 256], &[0, 255]);
+    expect_packed(&rt, rt.alloc(), &[0; 257], &[0, 255, 0, 0]);
     expect_packed(&rt, rt.alloc(), &[7], &[1, 7]);
     expect_packed(&rt, rt.alloc(), &[], &[])
 }
 
 #[test]
 fn a_byte_under_a_set_bit_may_be_zero(rt: HostRuntime) {
-    assert_eq!(rt;
-        unpack(rt.alloc(), &[3, 7, 0], 1)
-            .expect(&rt, "words")
-            .as_slice(),
-        [7].as_slice()
-    );
+    expect_unpacked(&rt, rt.alloc(), &[3, 7, 0], &[7])
 }
 
 #[test]
 fn too_many_words_are_told_before_an_open_group(rt: HostRuntime) {
-    let rows: [(&[u8], usize, FrameFault); 8] = [
-        (&[0, 0], 0, FrameFault::FrameTooLarge),
-        (&[0], 0, FrameFault::FrameTooLarge),
-        (&[0], 1, FrameFault::Truncated),
-        (&[1], 0, FrameFault::Truncated),
-        (&[1], 1, FrameFault::Truncated),
-        (
-            &[0xff, 1, 2, 3, 4, 5, 6, 7, 8],
-            0,
-            FrameFault::FrameTooLarge,
-        ),
-        (&[0xff, 1, 2, 3, 4, 5, 6, 7, 8, 1], 1, FrameFault::Truncated),
-        (&[0xff, 1, 2, 3, 4, 5, 6, 7], 0, FrameFault::Truncated),
-    ];
-    for (bytes, limit, fault) in rows {
-        assert_eq!(rt; unpack(rt.alloc(), bytes, limit).err(), Some(fault));
+    let (large, short) = (FrameFault::FrameTooLarge, FrameFault::Truncated);
+    let raw = [0xff, 1, 2, 3, 4, 5, 6, 7, 8, 1];
+    expect_fault(&rt, rt.alloc(), &[0, 0], 0, large);
+    expect_fault(&rt, rt.alloc(), &[0], 0, large);
+    expect_fault(&rt, rt.alloc(), &[0], 1, short);
+    expect_fault(&rt, rt.alloc(), &[1], 0, short);
+    expect_fault(&rt, rt.alloc(), &[1], 1, short);
+    expect_fault(&rt, rt.alloc(), &raw[..9], 0, large);
+    expect_fault(&rt, rt.alloc(), &raw, 1, short);
+    expect_fault(&rt, rt.alloc(), &raw[..8], 0, short);
+    expect_unpacked(&rt, rt.alloc(), &[], &[])
+}
+
+/// The front of some bytes ends inside a group or gives the first of these words.
+fn expect_front(rt: &impl Abort, alloc: Global, words: &[u64], bytes: &[u8]) {
+    match unpack(alloc, bytes, words.len()) {
+        Ok(front) => {
+            assert!(rt; front.len() <= words.len());
+            expect_words(rt, &front, &words[..front.len()]);
+            drop(front);
+        }
+        Err(fault) => assert!(rt; fault == FrameFault::Truncated),
     }
-    assert_eq!(rt; unpack(rt.alloc(), &[], 0).expect(&rt, "words").len(), 0);
 }
 
 /// Cut anywhere, the bytes end inside a group or give the words so far.
 fn expect_cuts(rt: &impl Abort, alloc: Global, words: &[u64], bytes: &[u8]) {
     for cut in 0..bytes.len() {
-        match unpack(alloc, &bytes[..cut], words.len()) {
-            Ok(front) => {
-                assert!(rt; front.len() <= words.len());
-                assert_eq!(rt; front.as_slice(), &words[..front.len()]);
-            }
-            Err(fault) => assert_eq!(rt; fault, FrameFault::Truncated),
-        }
+        expect_front(rt, alloc, words, &bytes[..cut]);
     }
 }
 
@@ -104,19 +110,24 @@ fn bytes_that_are_cut_end_inside_a_group_or_behind_one(rt: HostRuntime) {
     for bytes in [&FINISH[..], &BOOTSTRAP[..], &RELEASE[..]] {
         let words = unpack(rt.alloc(), bytes, 32).expect(&rt, "words");
         expect_cuts(&rt, rt.alloc(), &words, bytes);
+        drop(words);
     }
     let same = [0x8a8a_8a8a_8a8a_8a8au64; 4];
     let raw = pack(rt.alloc(), &same).expect(&rt, "memory");
-    assert_eq!(rt; raw.len(), 34);
-    expect_cuts(&rt, rt.alloc(), &same, &raw)
+    assert!(rt; raw.len() == 34);
+    expect_cuts(&rt, rt.alloc(), &same, &raw);
+    drop(raw);
 }
 
 /// Packs words, unpacks them, and writes them as a frame.
 fn go_round(alloc: Global, words: &[u64]) -> Result<usize, FrameFault> {
     let bytes = pack(alloc, words)?;
-    let back = unpack(alloc, &bytes, words.len())?;
-    let segments = Segments::one(back);
-    Ok(write_frame(alloc, &segments, Mode::Packed, Limits::standard())?.len())
+    let back = unpack(alloc, &bytes, words.len());
+    drop(bytes);
+    let segments = Segments::one(back?);
+    let written = write_frame(alloc, &segments, Mode::Packed, Limits::standard());
+    drop(segments);
+    written.map(|frame| frame.len())
 }
 
 // With memory enough no growth is refused. `rt try --test --fail-alloc N` refuses the Nth of each
@@ -124,8 +135,8 @@ fn go_round(alloc: Global, words: &[u64]) -> Result<usize, FrameFault> {
 #[test]
 fn want_of_memory_is_told_in_packing(rt: HostRuntime) {
     match go_round(rt.alloc(), &TWO.1) {
-        Ok(length) => assert_eq!(rt; length, 10),
-        Err(fault) => assert_eq!(rt; fault, FrameFault::OutOfMemory),
+        Ok(length) => assert!(rt; length == 10),
+        Err(fault) => assert!(rt; fault == FrameFault::OutOfMemory),
     }
 }
 
@@ -157,34 +168,42 @@ fn want_of_memory_leaves_nothing_written(rt: HostRuntime) {
     let segments = two_segments(&rt, rt.alloc());
     let mut out = Vec::new(rt.alloc());
     for (mode, length) in [(Mode::Packed, 15), (Mode::Plain, 56), (Mode::Packed, 15)] {
-        let done = write_over(rt.alloc(), &mut out, &segments, mode, Limits::standard());
-        if let Err(fault) = done {
-            assert_eq!(rt; fault, FrameFault::OutOfMemory);
-            assert!(rt; out.is_empty());
-        } else {
-            assert_eq!(rt; out.len(), length);
+        match write_over(rt.alloc(), &mut out, &segments, mode, Limits::standard()) {
+            Ok(()) => assert!(rt; out.len() == length),
+            Err(fault) => assert!(rt; fault == FrameFault::OutOfMemory && out.is_empty()),
         }
+    }
+    drop(out);
+    drop(segments);
+}
+
+/// A frame goes out in so many bytes, or none of it where memory runs out.
+fn send(
+    rt: &impl Abort,
+    alloc: Global,
+    room: &mut Vec<u8>,
+    segments: &Segments,
+    (mode, length): (Mode, u64),
+) {
+    let mut to = Cursor::new([0u8; 64]);
+    match send_frame(alloc, &mut to, room, segments, mode, Limits::standard()) {
+        Ok(sent) => {
+            sent.expect(rt, "a writer");
+            assert!(rt; to.position() == length);
+        }
+        Err(fault) => assert!(rt; fault == FrameFault::OutOfMemory && to.position() == 0),
     }
 }
 
 #[test]
 fn want_of_memory_leaves_nothing_sent(rt: HostRuntime) {
     let segments = two_segments(&rt, rt.alloc());
-    let limits = Limits::standard();
     let mut room = Vec::new(rt.alloc());
-    for (mode, length) in [(Mode::Packed, 15), (Mode::Plain, 56), (Mode::Packed, 15)] {
-        let mut to = Cursor::new([0u8; 64]);
-        match send_frame(rt.alloc(), &mut to, &mut room, &segments, mode, limits) {
-            Ok(sent) => {
-                sent.expect(&rt, "a writer");
-                assert_eq!(rt; to.position(), length);
-            }
-            Err(fault) => {
-                assert_eq!(rt; fault, FrameFault::OutOfMemory);
-                assert_eq!(rt; to.position(), 0);
-            }
-        }
+    for sent in [(Mode::Packed, 15), (Mode::Plain, 56), (Mode::Packed, 15)] {
+        send(&rt, rt.alloc(), &mut room, &segments, sent);
     }
+    drop(room);
+    drop(segments);
 }
 
 /// The one segment of a frame that these packed bytes are, and the same frame written.
@@ -192,8 +211,17 @@ fn write_packed_back(rt: &impl Abort, alloc: Global, bytes: &[u8]) {
     let words = unpack(alloc, bytes, 32).expect(rt, "words");
     assert!(rt; !words.is_empty());
     let segments = Segments::one(words[1..].to_vec(alloc).expect(rt, "memory"));
+    drop(words);
+    expect_written(rt, alloc, segments, bytes)
+}
+
+/// The packed frame of these segments is these bytes.
+fn expect_written(rt: &impl Abort, alloc: Global, segments: Segments, bytes: &[u8]) {
     let written = write_frame(alloc, &segments, Mode::Packed, Limits::standard());
-    assert_eq!(rt; written.expect(rt, "a frame").as_slice(), bytes);
+    drop(segments);
+    let written = written.expect(rt, "a frame");
+    expect_bytes(rt, &written, bytes);
+    drop(written);
 }
 
 #[test]
@@ -211,7 +239,6 @@ fn the_table_and_each_segment_are_packed_by_themselves(rt: HostRuntime) {
         lists.push(words).expect(&rt, "memory");
     }
     let segments = Segments::new(lists).ok().expect(&rt, "segments");
-    let written = write_frame(rt.alloc(), &segments, Mode::Packed, Limits::standard());
     let bytes = [0x11, 1, 1, 0x01, 2, 0, 0, 0, 1];
-    assert_eq!(rt; written.expect(&rt, "a frame").as_slice(), bytes.as_slice());
+    expect_written(&rt, rt.alloc(), segments, &bytes)
 }

@@ -1,6 +1,9 @@
 //! Packed frames from outside, whole and in pieces.
 
-use crate::frames::{expect_fault_in, expect_short, fed};
+use crate::frames::{
+    expect_end, expect_failed, expect_fault_in, expect_fed, expect_held, expect_short,
+    expect_words, fed, joined,
+};
 use crate::packed::{BOOTSTRAP, FINISH, RELEASE, TWO};
 use cp_frame::*;
 use std::alloc::Global;
@@ -21,16 +24,22 @@ fn expect_frame(
     words: &[u64],
 ) {
     let frames = reader.feed(bytes).expect(rt, "frames");
-    assert_eq!(rt; frames.len(), 1);
-    assert_eq!(rt; frames[0].0, taken as u64);
-    let mut place = 0;
-    for list in frames[0].1.lists() {
-        for word in list {
-            assert_eq!(rt; Some(word), words.get(place));
-            place += 1;
-        }
+    assert!(rt; frames.len() == 1);
+    assert!(rt; frames[0].0 == taken as u64);
+    expect_joined(rt, frames[0].1.lists(), words);
+    drop(frames);
+}
+
+/// The lists, one after another, are these words.
+fn expect_joined(rt: &impl Abort, lists: &[Vec<u64>], words: &[u64]) {
+    let mut rest = words;
+    for list in lists {
+        assert!(rt; list.len() <= rest.len());
+        let (front, behind) = rest.split_at(list.len());
+        expect_words(rt, list, front);
+        rest = behind;
     }
-    assert_eq!(rt; place, words.len());
+    assert!(rt; rest.is_empty());
 }
 
 /// Packed bytes in two parts are a frame of these words, and the front ends inside it.
@@ -42,9 +51,10 @@ fn expect_cut(
     words: &[u64],
 ) {
     let mut reader = new_reader(alloc);
-    assert_eq!(rt; fed(&mut reader, front), Ok(0));
+    expect_fed(rt, &mut reader, front, Ok(0));
     expect_frame(rt, &mut reader, back, taken, words);
-    assert_eq!(rt; reader.finish(), Ok(()));
+    expect_end(rt, &mut reader, Ok(()));
+    drop(reader);
     expect_short(rt, new_reader(alloc), front);
 }
 
@@ -63,18 +73,20 @@ fn expect_bytes(rt: &impl Abort, alloc: Global, bytes: &[u8], words: &[u64]) {
     let mut reader = new_reader(alloc);
     for i in 0..bytes.len() {
         if i + 1 < bytes.len() {
-            assert_eq!(rt; fed(&mut reader, &bytes[i..i + 1]), Ok(0));
+            expect_fed(rt, &mut reader, &bytes[i..i + 1], Ok(0));
         } else {
             expect_frame(rt, &mut reader, &bytes[i..], bytes.len(), words);
         }
     }
-    assert_eq!(rt; reader.finish(), Ok(()));
+    expect_end(rt, &mut reader, Ok(()));
+    drop(reader);
 }
 
 /// The words of packed bytes behind those of the segment table.
 fn words_behind(rt: &impl Abort, alloc: Global, bytes: &[u8], table: usize) -> Vec<u64> {
     let words = unpack(alloc, bytes, 600).expect(rt, "words");
     let behind = words[table.min(words.len())..].to_vec(alloc);
+    drop(words);
     behind.expect(rt, "memory")
 }
 
@@ -83,6 +95,7 @@ fn packed_frames_come_however_they_are_cut(rt: HostRuntime) {
     for bytes in [&FINISH[..], &BOOTSTRAP[..], &RELEASE[..]] {
         let words = words_behind(&rt, rt.alloc(), bytes, 1);
         expect_cuts(&rt, rt.alloc(), bytes, &words);
+        drop(words);
     }
 }
 
@@ -91,7 +104,9 @@ fn expect_segment(rt: &impl Abort, alloc: Global, words: &[u64]) {
     let mut bytes = pack(alloc, &[(words.len() as u64) << 32]).expect(rt, "memory");
     let behind = pack(alloc, words).expect(rt, "memory");
     bytes.extend_from_slice(&behind).expect(rt, "memory");
-    expect_cuts(rt, alloc, &bytes, words)
+    drop(behind);
+    expect_cuts(rt, alloc, &bytes, words);
+    drop(bytes);
 }
 
 #[test]
@@ -108,9 +123,9 @@ fn segments_come_however_they_are_packed(rt: HostRuntime) {
 #[test]
 fn a_run_goes_from_the_table_into_a_segment(rt: HostRuntime) {
     expect_cuts(&rt, rt.alloc(), &[0x11, 1, 1, 0, 1], &[0]);
-    let mut raw = vec![in rt.alloc(); 0xffu8; 26].expect(&rt, "memory");
-    raw.as_mut_slice()[1..9].copy_from_slice(&[0, 0, 0, 0, 2, 0, 0, 0]);
-    raw.as_mut_slice()[9] = 2;
+    let mut raw = [0xff; 26];
+    raw[1..9].copy_from_slice(&[0, 0, 0, 0, 2, 0, 0, 0]);
+    raw[9] = 2;
     expect_cuts(&rt, rt.alloc(), &raw, &[0xffff_ffff_ffff_ffff; 2]);
     expect_cuts(&rt, rt.alloc(), &[0, 0], &[])
 }
@@ -131,22 +146,23 @@ fn what_is_held_follows_the_packed_bytes(rt: HostRuntime) {
         (0, 0),
     ];
     let mut reader = new_reader(rt.alloc());
-    assert_eq!(rt; reader.held(), (0, 0));
+    expect_held(&rt, &reader, (0, 0));
     for (i, row) in rows.iter().enumerate() {
-        let count = fed(&mut reader, &FINISH[i..i + 1]);
-        assert_eq!(rt; reader.held(), *row);
-        assert_eq!(rt; count, Ok((i + 1) / 11));
+        expect_fed(&rt, &mut reader, &FINISH[i..i + 1], Ok((i + 1) / 11));
+        expect_held(&rt, &reader, *row);
     }
-    assert_eq!(rt; reader.finish(), Ok(()));
+    expect_end(&rt, &mut reader, Ok(()));
+    drop(reader);
 }
 
 /// A frame comes, and the fault of what stands behind it is kept.
 fn expect_kept(rt: &impl Abort, alloc: Global, stream: &[u8], fault: FrameFault) {
     let mut reader = new_reader(alloc);
-    assert_eq!(rt; fed(&mut reader, stream), Ok(1));
-    assert_eq!(rt; reader.held(), (0, 0));
-    assert_eq!(rt; reader.finish(), Err(fault));
-    assert_eq!(rt; fed(&mut reader, &[]), Err(FrameFault::Failed));
+    expect_fed(rt, &mut reader, stream, Ok(1));
+    expect_held(rt, &reader, (0, 0));
+    expect_end(rt, &mut reader, Err(fault));
+    expect_fed(rt, &mut reader, &[], Err(FrameFault::Failed));
+    drop(reader);
 }
 
 /// The last of these bytes, and none before it, brings the fault.
@@ -154,9 +170,9 @@ fn expect_fault(rt: &impl Abort, alloc: Global, bytes: &[u8], fault: FrameFault)
     for cut in 0..bytes.len() {
         expect_fault_in(rt, new_reader(alloc), bytes.split_at(cut), fault);
     }
-    let mut stream = FINISH.to_vec(alloc).expect(rt, "memory");
-    stream.extend_from_slice(bytes).expect(rt, "memory");
-    expect_kept(rt, alloc, &stream, fault)
+    let stream = joined(rt, alloc, &[&FINISH, bytes]);
+    expect_kept(rt, alloc, &stream, fault);
+    drop(stream);
 }
 
 #[test]
@@ -192,11 +208,13 @@ fn expect_lengths(
     lengths: &[u64],
 ) -> usize {
     let frames = reader.feed(bytes).expect(rt, "frames");
-    assert!(rt; frames.len() <= lengths.len());
-    for (frame, length) in frames.iter().zip(lengths) {
-        assert_eq!(rt; frame.0, *length);
+    let count = frames.len();
+    assert!(rt; count <= lengths.len());
+    for i in 0..count {
+        assert!(rt; frames[i].0 == lengths[i]);
     }
-    frames.len()
+    drop(frames);
+    count
 }
 
 /// Three frames of these lengths come, and nothing behind them.
@@ -205,18 +223,18 @@ fn expect_three(rt: &impl Abort, alloc: Global, (front, back): (&[u8], &[u8]), l
     let first = expect_lengths(rt, &mut reader, front, &lengths);
     assert!(rt; first <= 3);
     let second = expect_lengths(rt, &mut reader, back, &lengths[first..]);
-    assert_eq!(rt; second, 3 - first);
-    assert_eq!(rt; reader.finish(), Ok(()));
+    assert!(rt; second == 3 - first);
+    expect_end(rt, &mut reader, Ok(()));
+    drop(reader);
 }
 
 #[test]
 fn packed_frames_follow_one_another(rt: HostRuntime) {
-    let mut stream = FINISH.to_vec(rt.alloc()).expect(&rt, "memory");
-    stream.extend_from_slice(&BOOTSTRAP).expect(&rt, "memory");
-    stream.extend_from_slice(&RELEASE).expect(&rt, "memory");
+    let stream = joined(&rt, rt.alloc(), &[&FINISH, &BOOTSTRAP, &RELEASE]);
     for cut in 0..stream.len() + 1 {
         expect_three(&rt, rt.alloc(), stream.split_at(cut), [11, 12, 12]);
     }
+    drop(stream);
 }
 
 // With memory enough no growth is refused. `rt try --test --fail-alloc N` refuses the Nth.
@@ -226,12 +244,10 @@ fn want_of_memory_is_told_in_a_packed_stream(rt: HostRuntime) {
     let two = [0x11, 1, 1, 0x01, 2, 0, 0, 0, 1];
     for piece in [&FINISH[..], &two[..5], &two[5..], &BOOTSTRAP[..]] {
         if let Err(fault) = fed(&mut reader, piece) {
-            assert_eq!(rt; fault, FrameFault::OutOfMemory);
-            assert_eq!(rt; reader.held(), (0, 0));
-            assert_eq!(rt; fed(&mut reader, &FINISH), Err(FrameFault::Failed));
-            assert_eq!(rt; reader.finish(), Err(FrameFault::Failed));
-            return;
+            assert!(rt; fault == FrameFault::OutOfMemory);
+            return expect_failed(&rt, &mut reader);
         }
     }
-    assert_eq!(rt; reader.finish(), Ok(()));
+    expect_end(&rt, &mut reader, Ok(()));
+    drop(reader);
 }
