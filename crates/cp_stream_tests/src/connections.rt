@@ -1,8 +1,8 @@
 //! Messages of a connection, read and written back, and devices that fail on the way.
 
 use crate::streams::{
-    FINISH, PACKED, Source, TWO_SEGMENTS, at, expect_cut_short, expect_failed, is_memory, read,
-    tap_of,
+    FINISH, PACKED, Source, TWO_SEGMENTS, at, expect_bytes, expect_cut_short, expect_end,
+    expect_failed, expect_read, is_memory, read, tap_of,
 };
 use cp_rpc::{Message, Op, Returned, Target};
 use cp_stream::*;
@@ -145,7 +145,9 @@ fn forward<W: Write>(
     to: &mut Tap<W>,
 ) -> Result<(), StreamFault> {
     let message = next_message(rt, alloc, &mut tap_of(frame, 0), Mode::Plain);
-    write_message(alloc, to, &message, Mode::Plain, Limits::standard())
+    let done = write_message(alloc, to, &message, Mode::Plain, Limits::standard());
+    drop(message);
+    done
 }
 
 /// What is written of a message, in one segment.
@@ -163,7 +165,9 @@ fn rewritten(
     into: Mode,
 ) -> Vec<u8> {
     let message = next_message(rt, alloc, from, mode);
-    written(rt, alloc, &message, into)
+    let written = written(rt, alloc, &message, into);
+    drop(message);
+    written
 }
 
 /// What a message is to be.
@@ -209,6 +213,7 @@ fn is_as(message: &Message, expected: Expected) -> bool {
 fn expect_next(rt: &impl Abort, alloc: Global, from: &mut Tap<Source>, expected: Expected) {
     let message = next_message(rt, alloc, from, Mode::Plain);
     assert!(rt; is_as(&message, expected));
+    drop(message);
 }
 
 #[test]
@@ -224,8 +229,10 @@ fn messages_of_a_connection_are_read(rt: HostRuntime) {
     expect_next(&rt, alloc, &mut from, Expected::Call(1, 0, &[]));
     let path = [Op::GetPointerField(0)];
     expect_next(&rt, alloc, &mut from, Expected::Call(2, 1, &path));
-    assert_eq!(rt; read(alloc, &mut from, Mode::Plain), Ok(false));
-    assert_eq!(rt; from.bytes(), stream.len() as u64);
+    expect_read(&rt, alloc, (&mut from, Mode::Plain), Ok(false));
+    assert!(rt; from.bytes() == stream.len() as u64);
+    drop(from);
+    drop(stream);
 }
 
 /// A plain frame's bytes in a form.
@@ -236,24 +243,36 @@ fn formed(rt: &impl Abort, alloc: Global, plain: &[u8], mode: Mode) -> Vec<u8> {
 /// What is written of a plain frame's message is the frame, and read back from the packed form it is
 /// again.
 fn expect_written(rt: &impl Abort, alloc: Global, frame: &[u8]) {
-    assert_eq!(rt; formed(rt, alloc, frame, Mode::Plain).as_slice(), frame);
+    expect_formed(rt, alloc, frame, Mode::Plain, frame);
     let packed = formed(rt, alloc, frame, Mode::Packed);
     let mut from = tap_of(&packed, 0);
     let again = rewritten(rt, alloc, (&mut from, Mode::Packed), Mode::Plain);
-    assert_eq!(rt; again.as_slice(), frame);
-    assert_eq!(rt; read(alloc, &mut from, Mode::Packed), Ok(false));
+    expect_bytes(rt, &again, frame);
+    drop(again);
+    expect_read(rt, alloc, (&mut from, Mode::Packed), Ok(false));
+    drop(from);
+    drop(packed);
+}
+
+/// A plain frame's bytes in a form are these.
+fn expect_formed(rt: &impl Abort, alloc: Global, plain: &[u8], mode: Mode, wanted: &[u8]) {
+    let formed = formed(rt, alloc, plain, mode);
+    expect_bytes(rt, &formed, wanted);
+    drop(formed);
 }
 
 #[test]
 fn messages_are_written_as_they_were_read(rt: HostRuntime) {
     let alloc = rt.alloc();
     for words in FRAMES {
-        expect_written(&rt, alloc, &bytes_of(&rt, alloc, words));
+        let frame = bytes_of(&rt, alloc, words);
+        expect_written(&rt, alloc, &frame);
+        drop(frame);
     }
-    let packed = frame_in(&rt, alloc, &FINISH_WORDS, Mode::Packed);
-    assert_eq!(rt; packed.as_slice(), PACKED.as_slice());
-    let packed = frame_in(&rt, alloc, &RETURN, Mode::Packed);
-    assert_eq!(rt; packed.as_slice(), PACKED_RETURN.as_slice());
+    expect_formed(&rt, alloc, &FINISH, Mode::Packed, &PACKED);
+    let frame = bytes_of(&rt, alloc, &RETURN);
+    expect_formed(&rt, alloc, &frame, Mode::Packed, &PACKED_RETURN);
+    drop(frame);
 }
 
 /// Writes a finish in segments of at most so many words.
@@ -265,7 +284,9 @@ fn write_finish(
     limits: Limits,
 ) -> Result<(), StreamFault> {
     let message = next_message(rt, alloc, &mut tap_of(&FINISH, 0), Mode::Plain);
-    write_message_in(alloc, to, &message, Mode::Plain, words, limits)
+    let done = write_message_in(alloc, to, &message, Mode::Plain, words, limits);
+    drop(message);
+    done
 }
 
 /// The bytes of a finish in segments of at most so many words.
@@ -275,18 +296,24 @@ fn cut_finish(rt: &impl Abort, alloc: Global, words: u32) -> Vec<u8> {
     to.into_inner()
 }
 
+/// The bytes of a finish in segments of at most so many words are these.
+fn expect_cut(rt: &impl Abort, alloc: Global, words: u32, wanted: &[u8]) {
+    let bytes = cut_finish(rt, alloc, words);
+    expect_bytes(rt, &bytes, wanted);
+    drop(bytes);
+}
+
 #[test]
 fn segments_may_be_small(rt: HostRuntime) {
     let alloc = rt.alloc();
     let three = bytes_of(&rt, alloc, &THREE_WORDS);
-    assert_eq!(rt; cut_finish(&rt, alloc, 3).as_slice(), three.as_slice());
-    assert_eq!(rt; cut_finish(&rt, alloc, 4).as_slice(), FINISH.as_slice());
-    assert_eq!(rt;
-        cut_finish(&rt, alloc, 0).as_slice(),
-        cut_finish(&rt, alloc, 1).as_slice()
-    );
-    let again = formed(&rt, alloc, &three, Mode::Plain);
-    assert_eq!(rt; again.as_slice(), FINISH.as_slice());
+    expect_cut(&rt, alloc, 3, &three);
+    expect_cut(&rt, alloc, 4, &FINISH);
+    expect_formed(&rt, alloc, &three, Mode::Plain, &FINISH);
+    drop(three);
+    let one = cut_finish(&rt, alloc, 1);
+    expect_cut(&rt, alloc, 0, &one);
+    drop(one);
 }
 
 /// How writing a finish in segments of one word ends within limits for small messages, and how many
@@ -300,22 +327,30 @@ fn fault_within(
     let limits = Limits::new(nesting, traversal, 512, traversal).expect(rt, "limits");
     let mut to = Tap::new(Vec::new(alloc));
     let done = write_finish(rt, alloc, &mut to, 1, limits);
-    (done.err(), to.bytes())
+    let bytes = to.bytes();
+    drop(to);
+    (done.err(), bytes)
+}
+
+/// Writing it within such limits is refused for this, and nothing goes out.
+fn expect_unwritten(
+    rt: &impl Abort,
+    alloc: Global,
+    (nesting, traversal): (u32, u32),
+    fault: WriteFault,
+) {
+    let (told, bytes) = fault_within(rt, alloc, nesting, traversal);
+    assert!(rt; told == Some(at(0, Refusal::Write(fault))));
+    assert!(rt; bytes == 0);
 }
 
 // The finish nests 2 levels and costs 5 words. In segments of one word it takes 6.
 #[test]
 fn what_passes_the_limits_is_not_written(rt: HostRuntime) {
-    let refused = [
-        (1, 4, WriteFault::TooDeep),
-        (2, 4, WriteFault::TooCostly),
-        (2, 5, WriteFault::TooManyWords),
-    ];
-    for (nesting, traversal, fault) in refused {
-        let found = fault_within(&rt, rt.alloc(), nesting, traversal);
-        assert_eq!(rt; found, (Some(at(0, Refusal::Write(fault))), 0));
-    }
-    assert_eq!(rt; fault_within(&rt, rt.alloc(), 2, 6).0, None);
+    expect_unwritten(&rt, rt.alloc(), (1, 4), WriteFault::TooDeep);
+    expect_unwritten(&rt, rt.alloc(), (2, 4), WriteFault::TooCostly);
+    expect_unwritten(&rt, rt.alloc(), (2, 5), WriteFault::TooManyWords);
+    assert!(rt; fault_within(&rt, rt.alloc(), 2, 6).0.is_none());
 }
 
 /// A writer that takes so many bytes a call, and fails once, at one of its calls.
@@ -361,10 +396,18 @@ fn sink_of(alloc: Global, most: usize, fails_at: u64, takes_none: bool) -> Tap<S
 fn expect_calls(rt: &impl Abort, alloc: Global, frame: &[u8], most: usize, calls: u64) {
     let mut to = sink_of(alloc, most, 0, false);
     forward(rt, alloc, frame, &mut to).expect(rt, "written");
-    assert_eq!(rt; (to.failures(), to.bytes()), (0, frame.len() as u64));
+    let sink = expect_taken(rt, to, 0, frame);
+    assert!(rt; sink.call == calls);
+    drop(sink);
+}
+
+/// So many calls failed, and these bytes went through.
+fn expect_taken(rt: &impl Abort, to: Tap<Sink>, failures: u64, bytes: &[u8]) -> Sink {
+    assert!(rt; to.failures() == failures);
+    assert!(rt; to.bytes() == bytes.len() as u64);
     let sink = to.into_inner();
-    assert_eq!(rt; sink.bytes.as_slice(), frame);
-    assert_eq!(rt; sink.call, calls);
+    expect_bytes(rt, &sink.bytes, bytes);
+    sink
 }
 
 #[test]
@@ -374,19 +417,16 @@ fn a_writer_may_take_a_byte_a_call(rt: HostRuntime) {
         let frame = bytes_of(&rt, alloc, words);
         expect_calls(&rt, alloc, &frame, 1, frame.len() as u64);
         expect_calls(&rt, alloc, &frame, 1024, 1);
+        drop(frame);
     }
 }
 
 /// A writer that fails behind this front of a plain frame took the front alone.
 fn expect_front(rt: &impl Abort, alloc: Global, frame: &[u8], front: &[u8], takes_none: bool) {
-    let length = front.len() as u64;
-    let mut to = sink_of(alloc, 1, length + 1, takes_none);
-    assert_eq!(rt;
-        forward(rt, alloc, frame, &mut to),
-        Err(StreamFault::Device)
-    );
-    assert_eq!(rt; (to.failures(), to.bytes()), (1, length));
-    assert_eq!(rt; to.into_inner().bytes.as_slice(), front);
+    let mut to = sink_of(alloc, 1, front.len() as u64 + 1, takes_none);
+    assert!(rt; forward(rt, alloc, frame, &mut to) == Err(StreamFault::Device));
+    let sink = expect_taken(rt, to, 1, front);
+    drop(sink);
 }
 
 #[test]
@@ -398,16 +438,16 @@ fn a_writer_may_fail_at_each_call(rt: HostRuntime) {
             expect_front(&rt, alloc, &frame, &frame[..length], false);
             expect_front(&rt, alloc, &frame, &frame[..length], true);
         }
+        drop(frame);
     }
 }
 
 /// The frame of these words' message in a form.
 fn frame_in(rt: &impl Abort, alloc: Global, words: &[u64], mode: Mode) -> Vec<u8> {
     let plain = bytes_of(rt, alloc, words);
-    match mode {
-        Mode::Plain => plain,
-        Mode::Packed => formed(rt, alloc, &plain, mode),
-    }
+    let frame = formed(rt, alloc, &plain, mode);
+    drop(plain);
+    frame
 }
 
 #[test]
@@ -415,7 +455,9 @@ fn frames_that_end_early_are_refused(rt: HostRuntime) {
     let alloc = rt.alloc();
     for words in FRAMES {
         for mode in [Mode::Plain, Mode::Packed] {
-            expect_cut_short(&rt, alloc, mode, &frame_in(&rt, alloc, words, mode));
+            let frame = frame_in(&rt, alloc, words, mode);
+            expect_cut_short(&rt, alloc, mode, &frame);
+            drop(frame);
         }
     }
 }
@@ -437,24 +479,38 @@ fn expect_failure(rt: &impl Abort, alloc: Global, mode: Mode, stream: &[u8], cal
     let mut from = tap_of(stream, call);
     let (count, fault) = read_all(alloc, &mut from, mode);
     assert!(rt; count <= 5);
-    assert_eq!(rt; fault, Some(StreamFault::Device));
-    assert_eq!(rt; from.failures(), 1);
+    assert!(rt; fault == Some(StreamFault::Device));
+    assert!(rt; from.failures() == 1);
+    drop(from);
+}
+
+/// The frames of all messages in a form.
+fn stream_in(rt: &impl Abort, alloc: Global, mode: Mode) -> Vec<u8> {
+    let mut stream = Vec::new(alloc);
+    for words in FRAMES {
+        let frame = frame_in(rt, alloc, words, mode);
+        stream.extend_from_slice(&frame).expect(rt, "memory");
+        drop(frame);
+    }
+    stream
+}
+
+/// In how many calls a stream of five messages is read.
+fn calls_of(rt: &impl Abort, alloc: Global, mode: Mode, stream: &[u8]) -> u64 {
+    let mut whole = tap_of(stream, 0);
+    assert!(rt; read_all(alloc, &mut whole, mode) == (5, None));
+    whole.into_inner().call
 }
 
 #[test]
 fn a_reader_may_fail_at_each_call(rt: HostRuntime) {
     let alloc = rt.alloc();
     for mode in [Mode::Plain, Mode::Packed] {
-        let mut stream = Vec::new(alloc);
-        for words in FRAMES {
-            let frame = frame_in(&rt, alloc, words, mode);
-            stream.extend_from_slice(&frame).expect(&rt, "memory");
-        }
-        let mut whole = tap_of(&stream, 0);
-        assert_eq!(rt; read_all(alloc, &mut whole, mode), (5, None));
-        for call in 0..whole.into_inner().call {
+        let stream = stream_in(&rt, alloc, mode);
+        for call in 0..calls_of(&rt, alloc, mode, &stream) {
             expect_failure(&rt, alloc, mode, &stream, call + 1);
         }
+        drop(stream);
     }
 }
 
@@ -474,11 +530,17 @@ fn lying_frames<'a>() -> [(Mode, &'a [u8]); 4] {
 fn want_of_memory_while_a_message_is_read(rt: HostRuntime) {
     for (mode, frame) in lying_frames() {
         let mut from = tap_of(frame, 0);
-        match read(rt.alloc(), &mut from, mode) {
-            Ok(there) => assert!(rt; there),
-            Err(fault) => assert!(rt; is_memory(fault)),
-        }
-        assert_eq!(rt; from.failures(), 0);
+        expect_there(&rt, read(rt.alloc(), &mut from, mode));
+        assert!(rt; from.failures() == 0);
+        drop(from);
+    }
+}
+
+/// Something was there, or memory ran out.
+fn expect_there(rt: &impl Abort, found: Result<bool, StreamFault>) {
+    match found {
+        Ok(there) => assert!(rt; there),
+        Err(fault) => assert!(rt; is_memory(fault)),
     }
 }
 
@@ -486,11 +548,10 @@ fn want_of_memory_while_a_message_is_read(rt: HostRuntime) {
 fn want_of_memory_while_a_frame_is_read(rt: HostRuntime) {
     for (mode, frame) in lying_frames() {
         let mut from = tap_of(frame, 0);
-        match read_segments(rt.alloc(), &mut from, mode, Limits::standard()) {
-            Ok(segments) => assert!(rt; segments.is_some()),
-            Err(fault) => assert!(rt; is_memory(fault)),
-        }
-        assert_eq!(rt; from.failures(), 0);
+        let found = read_segments(rt.alloc(), &mut from, mode, Limits::standard());
+        expect_there(&rt, found.map(|segments| segments.is_some()));
+        assert!(rt; from.failures() == 0);
+        drop(from);
     }
 }
 
@@ -499,11 +560,11 @@ fn want_of_memory_while_a_packed_stream_is_fed(rt: HostRuntime) {
     let mut reader = MessageReader::packed(rt.alloc(), Limits::standard());
     for piece in [&PACKED[..], &PACKED_RETURN[..7], &PACKED_RETURN[7..]] {
         if let Err(fault) = reader.feed(piece) {
-            expect_failed(&rt, &mut reader, fault);
-            return;
+            return expect_failed(&rt, &mut reader, fault);
         }
     }
-    assert_eq!(rt; reader.finish(), Ok(()));
+    expect_end(&rt, &mut reader, None);
+    drop(reader);
 }
 
 /// Writes a message in segments of at most so many words. Where memory runs out, nothing goes out.
@@ -512,8 +573,10 @@ fn expect_whole_or_none(rt: &impl Abort, alloc: Global, message: &Message, mode:
     let done = write_message_in(alloc, &mut to, message, mode, words, Limits::standard());
     if let Err(fault) = done {
         assert!(rt; is_memory(fault));
-        assert_eq!(rt; (to.failures(), to.bytes()), (0, 0));
+        assert!(rt; to.failures() == 0);
+        assert!(rt; to.bytes() == 0);
     }
+    drop(to);
 }
 
 #[test]
@@ -524,6 +587,7 @@ fn want_of_memory_writes_nothing(rt: HostRuntime) {
         if let Ok(Some(message)) = found {
             expect_whole_or_none(&rt, alloc, &message, mode, 3);
             expect_whole_or_none(&rt, alloc, &message, mode, 8_388_608);
+            drop(message);
         }
     }
 }

@@ -4,6 +4,7 @@ use cp_frame::{FrameFault, FrameReader};
 use cp_rpc::{Field, Message, SchemaFault};
 use cp_stream::*;
 use cp_tree::{Place, TreeFault, WriteFault};
+use cp_words::Segments;
 use std::alloc::Global;
 use std::io::{Read, Write};
 use std::process::Abort;
@@ -92,16 +93,34 @@ fn feed(rt: &impl Abort, reader: &mut MessageReader, piece: &[u8], found: &mut V
     for message in &messages {
         found.push(finish_of(message)).expect(rt, "memory");
     }
+    drop(messages);
 }
 
-/// Feeds a piece, and gives how many messages come.
-fn count_fed(rt: &impl Abort, reader: &mut MessageReader, piece: &[u8]) -> usize {
-    reader.feed(piece).expect(rt, "messages").len()
+/// A piece brings so many messages.
+fn expect_count(rt: &impl Abort, reader: &mut MessageReader, piece: &[u8], count: usize) {
+    let messages = reader.feed(piece).expect(rt, "messages");
+    assert!(rt; messages.len() == count);
+    drop(messages);
 }
 
 /// The fault that is told for a piece.
 fn told(reader: &mut MessageReader, piece: &[u8]) -> Option<StreamFault> {
     reader.feed(piece).err()
+}
+
+/// This fault, or none, is told for a piece.
+fn expect_fed(
+    rt: &impl Abort,
+    reader: &mut MessageReader,
+    piece: &[u8],
+    fault: Option<StreamFault>,
+) {
+    assert_eq!(rt; told(reader, piece), fault);
+}
+
+/// This fault, or none, is told at the end.
+pub(crate) fn expect_end(rt: &impl Abort, reader: &mut MessageReader, fault: Option<StreamFault>) {
+    assert_eq!(rt; reader.finish().err(), fault);
 }
 
 /// A refusal behind so many bytes.
@@ -114,10 +133,17 @@ fn expect_both(rt: &impl Abort, alloc: Global, (front, back): (&[u8], &[u8]), ea
     let mut reader = new_reader(alloc);
     let mut found = Vec::new(alloc);
     feed(rt, &mut reader, front, &mut found);
-    assert_eq!(rt; found.len(), early);
+    assert!(rt; found.len() == early);
     feed(rt, &mut reader, back, &mut found);
-    assert_eq!(rt; found.as_slice(), [(true, true), (true, false)].as_slice());
-    assert_eq!(rt; reader.finish(), Ok(()));
+    expect_end(rt, &mut reader, None);
+    drop(reader);
+    expect_found(rt, &found, &[(true, true), (true, false)]);
+    drop(found);
+}
+
+/// These were found.
+fn expect_found(rt: &impl Abort, found: &[(bool, bool)], wanted: &[(bool, bool)]) {
+    assert!(rt; found == wanted);
 }
 
 #[test]
@@ -126,6 +152,7 @@ fn messages_come_however_they_are_cut(rt: HostRuntime) {
     for cut in 0..stream.len() + 1 {
         expect_both(&rt, rt.alloc(), stream.split_at(cut), cut / 40);
     }
+    drop(stream);
 }
 
 #[test]
@@ -133,31 +160,36 @@ fn a_message_may_lie_in_two_segments(rt: HostRuntime) {
     let mut reader = new_reader(rt.alloc());
     let mut found = Vec::new(rt.alloc());
     feed(&rt, &mut reader, &TWO_SEGMENTS, &mut found);
-    assert_eq!(rt; found.as_slice(), [(true, true)].as_slice());
-    assert_eq!(rt; reader.finish(), Ok(()));
+    expect_end(&rt, &mut reader, None);
+    drop(reader);
+    expect_found(&rt, &found, &[(true, true)]);
+    drop(found);
 }
 
 /// A message comes with the stream, and the fault behind it with the next piece.
 fn expect_kept(rt: &impl Abort, alloc: Global, stream: &[u8], refusal: Refusal) {
     let mut reader = new_reader(alloc);
-    assert_eq!(rt; count_fed(rt, &mut reader, stream), 1);
-    assert_eq!(rt; told(&mut reader, &[]), Some(at(40, refusal)));
-    assert_eq!(rt; told(&mut reader, &FINISH), Some(at(40, FAILED)));
+    expect_count(rt, &mut reader, stream, 1);
+    expect_fed(rt, &mut reader, &[], Some(at(40, refusal)));
+    expect_fed(rt, &mut reader, &FINISH, Some(at(40, FAILED)));
+    drop(reader);
 }
 
 /// A message comes with the stream, and the fault behind it at the end.
 fn expect_kept_to_the_end(rt: &impl Abort, alloc: Global, stream: &[u8], refusal: Refusal) {
     let mut reader = new_reader(alloc);
-    assert_eq!(rt; count_fed(rt, &mut reader, stream), 1);
-    assert_eq!(rt; reader.finish(), Err(at(40, refusal)));
-    assert_eq!(rt; reader.finish(), Err(at(40, FAILED)));
+    expect_count(rt, &mut reader, stream, 1);
+    expect_end(rt, &mut reader, Some(at(40, refusal)));
+    expect_end(rt, &mut reader, Some(at(40, FAILED)));
+    drop(reader);
 }
 
 /// The fault is told at once where no message comes.
 fn expect_told(rt: &impl Abort, alloc: Global, bytes: &[u8], refusal: Refusal) {
     let mut reader = new_reader(alloc);
-    assert_eq!(rt; told(&mut reader, bytes), Some(at(0, refusal)));
-    assert_eq!(rt; told(&mut reader, &[]), Some(at(0, FAILED)));
+    expect_fed(rt, &mut reader, bytes, Some(at(0, refusal)));
+    expect_fed(rt, &mut reader, &[], Some(at(0, FAILED)));
+    drop(reader);
 }
 
 #[test]
@@ -167,6 +199,7 @@ fn a_fault_behind_a_message_is_kept(rt: HostRuntime) {
         let stream = joined(&rt, alloc, &FINISH, bytes);
         expect_kept(&rt, alloc, &stream, refusal);
         expect_kept_to_the_end(&rt, alloc, &stream, refusal);
+        drop(stream);
         expect_told(&rt, alloc, bytes, refusal);
     }
 }
@@ -174,14 +207,13 @@ fn a_fault_behind_a_message_is_kept(rt: HostRuntime) {
 /// A stream that ends inside a message, behind other bytes, is truncated there.
 fn expect_truncated(rt: &impl Abort, alloc: Global, before: &[u8], front: &[u8]) {
     let mut reader = new_reader(alloc);
-    assert_eq!(rt; told(&mut reader, before), None);
-    assert_eq!(rt; told(&mut reader, front), None);
+    expect_fed(rt, &mut reader, before, None);
+    expect_fed(rt, &mut reader, front, None);
     let behind = before.len() as u64;
-    assert_eq!(rt;
-        reader.finish(),
-        Err(at(behind, Refusal::Frame(FrameFault::Truncated)))
-    );
-    assert_eq!(rt; reader.finish(), Err(at(behind, FAILED)));
+    let truncated = at(behind, Refusal::Frame(FrameFault::Truncated));
+    expect_end(rt, &mut reader, Some(truncated));
+    expect_end(rt, &mut reader, Some(at(behind, FAILED)));
+    drop(reader);
 }
 
 #[test]
@@ -211,8 +243,8 @@ pub(crate) fn expect_failed(rt: &impl Abort, reader: &mut MessageReader, fault: 
     let StreamFault::Refused { at: behind, .. } = fault else {
         return;
     };
-    assert_eq!(rt; told(reader, &FINISH), Some(at(behind, FAILED)));
-    assert_eq!(rt; reader.finish(), Err(at(behind, FAILED)));
+    expect_fed(rt, reader, &FINISH, Some(at(behind, FAILED)));
+    expect_end(rt, reader, Some(at(behind, FAILED)));
 }
 
 // With memory enough no growth is refused. `rt try --test --fail-alloc N` refuses the Nth.
@@ -221,31 +253,34 @@ fn want_of_memory_is_told_and_then_failed(rt: HostRuntime) {
     let mut reader = new_reader(rt.alloc());
     for piece in [&FINISH[..], &TWO_SEGMENTS[..13], &TWO_SEGMENTS[13..]] {
         if let Some(fault) = told(&mut reader, piece) {
-            expect_failed(&rt, &mut reader, fault);
-            return;
+            return expect_failed(&rt, &mut reader, fault);
         }
     }
-    assert_eq!(rt; reader.finish(), Ok(()));
+    expect_end(&rt, &mut reader, None);
+    drop(reader);
 }
 
-/// How many frames the bytes are, of each of which a view and a check end in this way.
-fn count_viewed(rt: &impl Abort, alloc: Global, bytes: &[u8], fault: Option<StreamFault>) -> usize {
-    let limits = Limits::standard();
-    let frames = FrameReader::plain(alloc, limits)
-        .feed(bytes)
-        .expect(rt, "frames");
-    for (_, segments) in &frames {
-        assert_eq!(rt; view_of(segments, limits).err(), fault);
-        assert_eq!(rt; check_of(segments, limits).err(), fault);
-    }
-    frames.len()
+/// A view and a check of these segments end in this way.
+fn expect_view(rt: &impl Abort, segments: &Segments, fault: Option<StreamFault>) {
+    assert!(rt; view_of(segments, Limits::standard()).err() == fault);
+    assert!(rt; check_of(segments, Limits::standard()).err() == fault);
+}
+
+/// The bytes are one frame, of which a view and a check end in this way.
+fn expect_viewed(rt: &impl Abort, alloc: Global, bytes: &[u8], fault: Option<StreamFault>) {
+    let mut reader = FrameReader::plain(alloc, Limits::standard());
+    let frames = reader.feed(bytes).expect(rt, "frames");
+    drop(reader);
+    assert!(rt; frames.len() == 1);
+    expect_view(rt, &frames[0].1, fault);
+    drop(frames);
 }
 
 #[test]
 fn a_view_is_of_one_frame(rt: HostRuntime) {
+    expect_viewed(&rt, rt.alloc(), &TWO_SEGMENTS, None);
     let fault = Some(at(0, OUT_OF_BOUNDS));
-    assert_eq!(rt; count_viewed(&rt, rt.alloc(), &TWO_SEGMENTS, None), 1);
-    assert_eq!(rt; count_viewed(&rt, rt.alloc(), &SHORT_ROOT, fault), 1);
+    expect_viewed(&rt, rt.alloc(), &SHORT_ROOT, fault)
 }
 
 /// A device that fails once, at one of its calls, and takes or gives one byte at each other.
@@ -288,9 +323,15 @@ impl Write for Failing {
     }
 }
 
-/// How many calls failed, and how many bytes went through.
-fn counts(tap: &Tap<Failing>) -> (u64, u64) {
-    (tap.failures(), tap.bytes())
+/// So many calls failed, and so many bytes went through.
+fn expect_counts(rt: &impl Abort, tap: &Tap<Failing>, failures: u64, bytes: u64) {
+    assert!(rt; tap.failures() == failures);
+    assert!(rt; tap.bytes() == bytes);
+}
+
+/// Writes bytes, of which so many are taken, if any.
+fn expect_taken(rt: &impl Abort, tap: &mut Tap<Failing>, bytes: &[u8], taken: Option<usize>) {
+    assert!(rt; tap.write(bytes).ok() == taken);
 }
 
 #[test]
@@ -300,33 +341,29 @@ fn a_tap_counts(rt: HostRuntime) {
         fails_at: 2,
     });
     let mut buffer = [0; 4];
-    assert_eq!(rt; tap.read(&mut buffer).ok(), Some(1));
-    assert_eq!(rt; counts(&tap), (0, 1));
-    assert!(rt; tap.write(&buffer).is_err());
-    assert_eq!(rt; counts(&tap), (1, 1));
-    assert_eq!(rt; tap.write(&buffer).ok(), Some(1));
-    assert_eq!(rt; counts(&tap), (1, 2));
-    assert_eq!(rt; tap.write(&[]).ok(), Some(0));
-    assert_eq!(rt; counts(&tap), (2, 2));
+    assert!(rt; tap.read(&mut buffer).ok() == Some(1));
+    expect_counts(&rt, &tap, 0, 1);
+    expect_taken(&rt, &mut tap, &buffer, None);
+    expect_counts(&rt, &tap, 1, 1);
+    expect_taken(&rt, &mut tap, &buffer, Some(1));
+    expect_counts(&rt, &tap, 1, 2);
+    expect_taken(&rt, &mut tap, &[], Some(0));
+    expect_counts(&rt, &tap, 2, 2);
     assert!(rt; tap.flush().is_ok());
-    assert_eq!(rt; tap.failures(), 2);
-    assert_eq!(rt; tap.into_inner().call, 5);
+    assert!(rt; tap.failures() == 2);
+    assert!(rt; tap.into_inner().call == 5);
 }
 
 #[test]
 fn packed_messages_come_byte_by_byte(rt: HostRuntime) {
     let mut reader = MessageReader::packed(rt.alloc(), Limits::standard());
     for i in 0..22 {
-        assert_eq!(rt;
-            count_fed(&rt, &mut reader, &[PACKED[i % 11]]),
-            (i % 11) / 10
-        );
+        expect_count(&rt, &mut reader, &[PACKED[i % 11]], (i % 11) / 10);
     }
-    assert_eq!(rt; reader.finish(), Ok(()));
-    assert_eq!(rt;
-        told(&mut reader, &[0, 3]),
-        Some(at(22, Refusal::Frame(FrameFault::RunPastFrame)))
-    );
+    expect_end(&rt, &mut reader, None);
+    let past = at(22, Refusal::Frame(FrameFault::RunPastFrame));
+    expect_fed(&rt, &mut reader, &[0, 3], Some(past));
+    drop(reader);
 }
 
 /// A device of known bytes that fails once, at one of its calls.
@@ -358,28 +395,51 @@ pub(crate) fn tap_of(bytes: &[u8], fails_at: u64) -> Tap<Source<'_>> {
 
 /// Reads a message, and says whether there is one.
 pub(crate) fn read(alloc: Global, from: &mut Tap<Source>, mode: Mode) -> Result<bool, StreamFault> {
-    Ok(read_message(alloc, from, mode, Limits::standard())?.is_some())
+    read_message(alloc, from, mode, Limits::standard()).map(|found| found.is_some())
+}
+
+/// A message is read, or none is there, or this fault is told.
+pub(crate) fn expect_read(
+    rt: &impl Abort,
+    alloc: Global,
+    (from, mode): (&mut Tap<Source>, Mode),
+    told: Result<bool, StreamFault>,
+) {
+    assert_eq!(rt; read(alloc, from, mode), told);
+}
+
+/// Bytes are the wanted ones.
+pub(crate) fn expect_bytes(rt: &impl Abort, bytes: &[u8], wanted: &[u8]) {
+    assert_eq!(rt; bytes, wanted);
 }
 
 /// Of a frame that stands twice exactly one is read, then the other, and then none.
 fn expect_two(rt: &impl Abort, alloc: Global, mode: Mode, frame: &[u8]) {
     let stream = joined(rt, alloc, frame, frame);
     let mut from = tap_of(&stream, 0);
-    assert_eq!(rt; read(alloc, &mut from, mode), Ok(true));
+    expect_read(rt, alloc, (&mut from, mode), Ok(true));
     let rest = from.into_inner().bytes;
-    assert_eq!(rt; rest, frame);
+    expect_bytes(rt, rest, frame);
     let mut from = tap_of(rest, 0);
-    assert_eq!(rt; read(alloc, &mut from, mode), Ok(true));
-    assert_eq!(rt; read(alloc, &mut from, mode), Ok(false));
+    expect_read(rt, alloc, (&mut from, mode), Ok(true));
+    expect_read(rt, alloc, (&mut from, mode), Ok(false));
+    drop(from);
+    drop(stream);
+}
+
+/// A device that ends with this front of a frame is refused behind the front's bytes.
+fn expect_refused_behind(rt: &impl Abort, alloc: Global, mode: Mode, front: &[u8]) {
+    let mut from = tap_of(front, 0);
+    let truncated = at(0, Refusal::Frame(FrameFault::Truncated));
+    expect_read(rt, alloc, (&mut from, mode), Err(truncated));
+    assert!(rt; Tap::bytes(&from) == front.len() as u64);
+    drop(from);
 }
 
 /// A device that ends inside a frame is refused behind the frame's bytes that it had.
 pub(crate) fn expect_cut_short(rt: &impl Abort, alloc: Global, mode: Mode, frame: &[u8]) {
-    let truncated = at(0, Refusal::Frame(FrameFault::Truncated));
     for length in 1..frame.len() {
-        let mut from = tap_of(&frame[..length], 0);
-        assert_eq!(rt; read(alloc, &mut from, mode), Err(truncated));
-        assert_eq!(rt; Tap::bytes(&from), length as u64);
+        expect_refused_behind(rt, alloc, mode, &frame[..length]);
     }
 }
 
@@ -396,33 +456,40 @@ fn exactly_one_frame_is_read(rt: HostRuntime) {
     }
 }
 
+/// A frame's message is read from a device that fails at that call, or the failure is told.
+fn expect_read_or_device(rt: &impl Abort, alloc: Global, mode: Mode, frame: &[u8], call: u64) {
+    let mut from = tap_of(frame, call);
+    let found = read(alloc, &mut from, mode);
+    let failures = from.failures();
+    drop(from);
+    if failures == 0 {
+        assert!(rt; found == Ok(true));
+    } else {
+        assert!(rt; found == Err(StreamFault::Device));
+        assert!(rt; failures == 1);
+    }
+}
+
 #[test]
 fn a_device_may_fail_at_each_call(rt: HostRuntime) {
-    let alloc = rt.alloc();
-    for (mode, frame) in [
-        (Mode::Plain, FINISH.as_slice()),
-        (Mode::Packed, PACKED.as_slice()),
-    ] {
-        for call in 1..100 {
-            let mut from = tap_of(frame, call);
-            let found = read(alloc, &mut from, mode);
-            if from.failures() == 0 {
-                assert_eq!(rt; found, Ok(true));
-                continue;
-            }
-            assert_eq!(rt; found, Err(StreamFault::Device));
-            assert_eq!(rt; from.failures(), 1);
-        }
+    for call in 1..100 {
+        expect_read_or_device(&rt, rt.alloc(), Mode::Plain, &FINISH, call);
+        expect_read_or_device(&rt, rt.alloc(), Mode::Packed, &PACKED, call);
     }
+}
+
+/// What is read of these bytes is refused.
+fn expect_refused(rt: &impl Abort, alloc: Global, bytes: &[u8], refusal: Refusal) {
+    let stream = joined(rt, alloc, bytes, &[0; 8]);
+    let mut from = tap_of(&stream, 0);
+    expect_read(rt, alloc, (&mut from, Mode::Plain), Err(at(0, refusal)));
+    assert!(rt; from.into_inner().bytes.len() >= 4);
+    drop(stream);
 }
 
 #[test]
 fn what_is_read_is_refused_at_0(rt: HostRuntime) {
     for (bytes, refusal) in FAULTS {
-        let stream = joined(&rt, rt.alloc(), bytes, &[0; 8]);
-        let mut from = tap_of(&stream, 0);
-        let found = read(rt.alloc(), &mut from, Mode::Plain);
-        assert_eq!(rt; found, Err(at(0, refusal)));
-        assert!(rt; from.into_inner().bytes.len() >= 4);
+        expect_refused(&rt, rt.alloc(), bytes, refusal);
     }
 }
