@@ -77,11 +77,12 @@ fn read(
     let owned = read_root(alloc, &segments, limits);
     match &owned {
         Ok(found) => {
-            assert_eq!(rt; in_place, None);
+            assert!(rt; in_place.is_none());
             assert!(rt; is_denoted(rt, alloc, &segments, found.tree()));
         }
-        Err(fault) => assert_eq!(rt; in_place, Some(*fault)),
+        Err(fault) => assert!(rt; in_place == Some(*fault)),
     }
+    drop(segments);
     owned
 }
 
@@ -94,6 +95,37 @@ fn fault_of(
     traversal: u32,
 ) -> Option<TreeFault> {
     read(rt, alloc, lists, nesting, traversal).err()
+}
+
+/// Within such limits this segment has the fault, or holds a tree where there is none.
+fn expect_fault(
+    rt: &impl Abort,
+    alloc: Global,
+    text: &str,
+    (nesting, traversal): (u32, u32),
+    fault: Option<TreeFault>,
+) {
+    assert_eq!(rt;
+        fault_of(rt, alloc, &[text], nesting, traversal),
+        fault,
+        "{text}"
+    );
+}
+
+/// A tree is the wanted one.
+pub fn expect_tree(rt: &impl Abort, tree: &Tree, wanted: Tree) {
+    assert!(rt; *tree == wanted);
+    drop(wanted);
+}
+
+/// A view has this shape.
+fn expect_shape(rt: &impl Abort, view: &View, shape: Shape) {
+    assert_eq!(rt; view.shape(), shape);
+}
+
+/// A view has these data words.
+fn expect_words(rt: &impl Abort, view: &View, words: &[u64]) {
+    assert_eq!(rt; view.words(), words);
 }
 
 const FINISH: &str = "0000000001000100 0400000000000000 0000000001000000 0700000000000000";
@@ -128,19 +160,25 @@ pub fn finish(rt: &impl Abort, alloc: Global) -> Tree {
 fn views_lend_parts(rt: HostRuntime) {
     let segments = segments(&rt, rt.alloc(), &[FINISH]);
     let root = View::root(&segments, Limits::standard()).expect(&rt, "a root");
-    assert_eq!(rt; root.shape(), Shape::Struct { words: 1, ptrs: 1 });
-    assert_eq!(rt; root.words(), [4].as_slice());
+    expect_shape(&rt, &root, Shape::Struct { words: 1, ptrs: 1 });
+    expect_words(&rt, &root, &[4]);
     let member = root.child(0);
-    assert_eq!(rt; member.shape(), Shape::Struct { words: 1, ptrs: 0 });
-    assert_eq!(rt; member.again().words(), [7].as_slice());
-    assert_eq!(rt; root.child(1).shape(), Shape::Null);
+    expect_shape(&rt, &member, Shape::Struct { words: 1, ptrs: 0 });
+    expect_words(&rt, &member.again(), &[7]);
+    expect_shape(&rt, &root.child(1), Shape::Null);
+    drop(segments);
 }
 
 /// Whether these segments hold the message `finish`, in place and owned.
 fn is_finish(rt: &impl Abort, alloc: Global, lists: &[&str]) -> bool {
     let finish = finish(rt, alloc);
     let found = read(rt, alloc, lists, 64, 8_388_608).expect(rt, "a tree");
-    *found.tree() == finish && found.into_tree() == finish
+    let is_lent = *found.tree() == finish;
+    let tree = found.into_tree();
+    let is_held = tree == finish;
+    drop(tree);
+    drop(finish);
+    is_lent && is_held
 }
 
 #[test]
@@ -159,7 +197,9 @@ fn one_message_in_any_segments(rt: HostRuntime) {
 fn a_pad_of_zero_bits_is_an_empty_struct(rt: HostRuntime) {
     let lists = ["0600000001000000", "0200000002000000 0000000000000000", ""];
     let found = read(&rt, rt.alloc(), &lists, 64, 8_388_608).expect(&rt, "a tree");
-    assert!(rt; *found.tree() == Tree::Struct(body(&rt, rt.alloc(), &[], [])));
+    let empty = Tree::Struct(body(&rt, rt.alloc(), &[], []));
+    expect_tree(&rt, found.tree(), empty);
+    drop(found);
     let one_word = ["0200000001000000", "0000000000000000"];
     assert!(rt; fault_of(&rt, rt.alloc(), &one_word, 64, 8_388_608).is_some());
 }
@@ -169,7 +209,11 @@ fn holds(rt: &impl Abort, alloc: Global, pointer: &str, words: &str, tree: Tree)
     let whole = Tree::Struct(body(rt, alloc, &[], [tree]));
     let text = format!(in alloc; "0000000000000100 {pointer} {words}").expect(rt, "memory");
     let found = read(rt, alloc, &[text.as_str()], 64, 8_388_608).expect(rt, "a tree");
-    *found.tree() == whole
+    drop(text);
+    let is_whole = *found.tree() == whole;
+    drop(found);
+    drop(whole);
+    is_whole
 }
 
 #[test]
@@ -178,55 +222,17 @@ fn lists_of_every_size(rt: HostRuntime) {
     let voids = Tree::Voids(9);
     assert!(rt; holds(&rt, alloc, "0100000048000000", "0000000000000000", voids));
     let bits = Vec::from_slice(alloc, &[false, true, false, true]).expect(&rt, "memory");
-    assert!(rt;
-        holds(
-            &rt,
-            alloc,
-            "0100000021000000",
-            "0a00000000000000",
-            Tree::Bits(bits)
-        )
-    );
-    let bytes = Vec::from_slice(alloc, &[0xab]).expect(&rt, "memory");
-    assert!(rt;
-        holds(
-            &rt,
-            alloc,
-            "010000000a000000",
-            "ab00000000000000",
-            Tree::Bytes(bytes)
-        )
-    );
+    let bits = Tree::Bits(bits);
+    assert!(rt; holds(&rt, alloc, "0100000021000000", "0a00000000000000", bits));
+    let bytes = Tree::Bytes(Vec::from_slice(alloc, &[0xab]).expect(&rt, "memory"));
+    assert!(rt; holds(&rt, alloc, "010000000a000000", "ab00000000000000", bytes));
     let halves = Vec::from_slice(alloc, &[0x0201, 0x0403]).expect(&rt, "memory");
-    assert!(rt;
-        holds(
-            &rt,
-            alloc,
-            "0100000013000000",
-            "0102030400000000",
-            Tree::Halves(halves)
-        )
-    );
-    let quads = Vec::from_slice(alloc, &[0x0403_0201]).expect(&rt, "memory");
-    assert!(rt;
-        holds(
-            &rt,
-            alloc,
-            "010000000c000000",
-            "0102030400000000",
-            Tree::Quads(quads)
-        )
-    );
-    let words = Vec::from_slice(alloc, &[5]).expect(&rt, "memory");
-    assert!(rt;
-        holds(
-            &rt,
-            alloc,
-            "010000000d000000",
-            "0500000000000000",
-            Tree::Words(words)
-        )
-    );
+    let halves = Tree::Halves(halves);
+    assert!(rt; holds(&rt, alloc, "0100000013000000", "0102030400000000", halves));
+    let quads = Tree::Quads(Vec::from_slice(alloc, &[0x0403_0201]).expect(&rt, "memory"));
+    assert!(rt; holds(&rt, alloc, "010000000c000000", "0102030400000000", quads));
+    let words = Tree::Words(Vec::from_slice(alloc, &[5]).expect(&rt, "memory"));
+    assert!(rt; holds(&rt, alloc, "010000000d000000", "0500000000000000", words));
 }
 
 #[test]
@@ -257,28 +263,16 @@ fn lists_of_structs(rt: HostRuntime) {
     let segments = segments(&rt, rt.alloc(), &[TWO_STRUCTS]);
     let root = View::root(&segments, Limits::standard()).expect(&rt, "a root");
     let list = root.child(0);
-    assert_eq!(rt;
-        list.shape(),
-        Shape::Structs {
-            words: 1,
-            ptrs: 1,
-            count: 2
-        }
-    );
-    assert_eq!(rt; list.child(1).words(), [8].as_slice());
-    assert_eq!(rt; list.child(1).child(0).shape(), Shape::Cap(2));
-    assert_eq!(rt; list.child(2).shape(), Shape::Null);
-    let tree = list.tree(rt.alloc()).expect(&rt, "memory").into_tree();
-    assert!(rt; tree == two_structs(&rt, rt.alloc()));
-}
-
-/// Whether the root's two children are structs of the word 5.
-fn shows_five_twice(rt: &impl Abort, segments: &Segments) -> bool {
-    let root = View::root(segments, Limits::standard()).expect(rt, "a root");
-    let five = [5];
-    root.child(0).words() == five.as_slice()
-        && root.child(1).words() == five.as_slice()
-        && root.child(2).shape() == Shape::Null
+    let (words, ptrs, count) = (1, 1, 2);
+    expect_shape(&rt, &list, Shape::Structs { words, ptrs, count });
+    expect_words(&rt, &list.child(1), &[8]);
+    expect_shape(&rt, &list.child(1).child(0), Shape::Cap(2));
+    expect_shape(&rt, &list.child(2), Shape::Null);
+    let tree = list.tree(rt.alloc()).expect(&rt, "memory");
+    drop(segments);
+    let tree = tree.into_tree();
+    expect_tree(&rt, &tree, two_structs(&rt, rt.alloc()));
+    drop(tree);
 }
 
 /// A struct of two pointers to one body.
@@ -287,13 +281,15 @@ const SHARED: &str = "0000000000000200 0400000001000000 0000000001000000 0500000
 #[test]
 fn a_shared_body_is_paid_for_each_way(rt: HostRuntime) {
     let alloc = rt.alloc();
-    assert_eq!(rt; fault_of(&rt, alloc, &[SHARED], 64, 7), None);
-    assert_eq!(rt;
-        fault_of(&rt, alloc, &[SHARED], 64, 6),
-        Some(TreeFault::TraversalLimit(at(0, 2)))
-    );
+    expect_fault(&rt, alloc, SHARED, (64, 7), None);
+    let dear = Some(TreeFault::TraversalLimit(at(0, 2)));
+    expect_fault(&rt, alloc, SHARED, (64, 6), dear);
     let segments = segments(&rt, alloc, &[SHARED]);
-    assert!(rt; shows_five_twice(&rt, &segments));
+    let root = View::root(&segments, Limits::standard()).expect(&rt, "a root");
+    expect_words(&rt, &root.child(0), &[5]);
+    expect_words(&rt, &root.child(1), &[5]);
+    expect_shape(&rt, &root.child(2), Shape::Null);
+    drop(segments);
 }
 
 #[test]
@@ -331,11 +327,7 @@ fn faults_have_their_places(rt: HostRuntime) {
         ),
     ];
     for (text, fault) in rows {
-        assert_eq!(rt;
-            fault_of(&rt, rt.alloc(), &[text], 64, 8_388_608),
-            Some(fault),
-            "{text}"
-        );
+        expect_fault(&rt, rt.alloc(), text, (64, 8_388_608), Some(fault));
     }
 }
 
@@ -361,33 +353,39 @@ fn nested(rt: &impl Abort, alloc: Global, depth: usize) -> String {
 fn nesting_has_a_limit(rt: HostRuntime) {
     let alloc = rt.alloc();
     let text = nested(&rt, alloc, 64);
-    assert_eq!(rt; fault_of(&rt, alloc, &[text.as_str()], 64, 8_388_608), None);
+    expect_fault(&rt, alloc, &text, (64, 8_388_608), None);
+    drop(text);
     let text = nested(&rt, alloc, 65);
-    let deep = fault_of(&rt, alloc, &[text.as_str()], 64, 8_388_608);
-    assert_eq!(rt; deep, Some(TreeFault::NestingLimit(at(0, 64))));
-    assert_eq!(rt; fault_of(&rt, alloc, &[text.as_str()], 65, 130), None);
-    let dear = fault_of(&rt, alloc, &[text.as_str()], 65, 129);
-    assert_eq!(rt; dear, Some(TreeFault::TraversalLimit(at(0, 64))));
+    let deep = Some(TreeFault::NestingLimit(at(0, 64)));
+    expect_fault(&rt, alloc, &text, (64, 8_388_608), deep);
+    expect_fault(&rt, alloc, &text, (65, 130), None);
+    let dear = Some(TreeFault::TraversalLimit(at(0, 64)));
+    expect_fault(&rt, alloc, &text, (65, 129), dear);
+    drop(text);
 }
 
 /// Sixty lists of two pointers, both to the next list.
-fn amplified(alloc: Global) -> Result<String, AllocError> {
-    let mut text = String::from_str(alloc, "0000000000000100 0100000016000000")?;
+fn amplified(rt: &impl Abort, alloc: Global) -> String {
+    let first = "0000000000000100 0100000016000000";
+    let mut text = String::from_str(alloc, first).expect(rt, "memory");
     for _ in 0..59 {
-        text.push_str(" 0500000016000000 0100000016000000")?;
+        text.push_str(" 0500000016000000 0100000016000000")
+            .expect(rt, "memory");
     }
-    text.push_str(" 0000000000000000 0000000000000000")?;
-    Ok(text)
+    text.push_str(" 0000000000000000 0000000000000000")
+        .expect(rt, "memory");
+    text
 }
 
 #[test]
 fn amplified_input_costs_what_it_denotes(rt: HostRuntime) {
     let alloc = rt.alloc();
-    let text = amplified(alloc).expect(&rt, "memory");
-    let fault = fault_of(&rt, alloc, &[text.as_str()], 64, 8_388_608);
-    assert_eq!(rt; fault, Some(TreeFault::TraversalLimit(at(0, 117))));
-    let fault = fault_of(&rt, alloc, &[text.as_str()], 64, 100);
-    assert_eq!(rt; fault, Some(TreeFault::TraversalLimit(at(0, 64))));
+    let text = amplified(&rt, alloc);
+    let fault = Some(TreeFault::TraversalLimit(at(0, 117)));
+    expect_fault(&rt, alloc, &text, (64, 8_388_608), fault);
+    let fault = Some(TreeFault::TraversalLimit(at(0, 64)));
+    expect_fault(&rt, alloc, &text, (64, 100), fault);
+    drop(text);
 }
 
 /// Words of every kind: structs of two sizes, an empty one before its word, one that has itself,
@@ -415,7 +413,23 @@ fn small_message(
     third: &str,
 ) -> Segments {
     let text = format!(in alloc; "{first} {second} {third}").expect(rt, "memory");
-    segments(rt, alloc, &[text.as_str()])
+    let message = segments(rt, alloc, &[text.as_str()]);
+    drop(text);
+    message
+}
+
+/// Adds all messages of one segment of three such words, of which these are the first two.
+fn push_messages(
+    rt: &impl Abort,
+    alloc: Global,
+    all: &mut Vec<Segments>,
+    first: &str,
+    second: &str,
+) {
+    for third in KINDS {
+        let message = small_message(rt, alloc, first, second, third);
+        all.push(message).expect(rt, "memory");
+    }
 }
 
 /// All messages of one segment of three such words.
@@ -423,10 +437,7 @@ fn small_messages(rt: &impl Abort, alloc: Global) -> Vec<Segments> {
     let mut all = Vec::new(alloc);
     for first in KINDS {
         for second in KINDS {
-            for third in KINDS {
-                let message = small_message(rt, alloc, first, second, third);
-                all.push(message).expect(rt, "memory");
-            }
+            push_messages(rt, alloc, &mut all, first, second);
         }
     }
     all
@@ -445,16 +456,22 @@ fn trees_of(rt: &impl Abort, alloc: Global, messages: &[Segments]) -> Vec<Object
     trees
 }
 
+/// Whether the tree was found.
+fn is_found(found: &Result<Object, TreeFault>, tree: &Tree) -> bool {
+    match found {
+        Ok(found) => *found.tree() == *tree,
+        Err(_) => false,
+    }
+}
+
 /// Of these trees the message denotes just the one that is read, if any.
 fn expect_what_is_found(rt: &impl Abort, alloc: Global, message: &Segments, trees: &[Object]) {
-    let found = read_root(alloc, message, Limits::standard()).ok();
+    let found = read_root(alloc, message, Limits::standard());
     for tree in trees {
-        let is_found = match &found {
-            Some(found) => *found.tree() == *tree.tree(),
-            None => false,
-        };
-        assert_eq!(rt; is_denoted(rt, alloc, message, tree.tree()), is_found);
+        let is_denoted = is_denoted(rt, alloc, message, tree.tree());
+        assert!(rt; is_denoted == is_found(&found, tree.tree()));
     }
+    drop(found);
 }
 
 #[test]
@@ -465,6 +482,8 @@ fn the_reader_finds_what_is_denoted(rt: HostRuntime) {
     for message in &messages {
         expect_what_is_found(&rt, rt.alloc(), message, &trees);
     }
+    drop(trees);
+    drop(messages);
 }
 
 /// Reads the message's tree, and counts.
@@ -489,7 +508,19 @@ fn counting_changes_no_answer(rt: HostRuntime) {
     let counted = read_with_count::<Brand>(alloc, &segments, limits, Blank::new(1));
     let counted = counted.expect(&rt, "a tree");
     let plain = read_root(alloc, &segments, limits).expect(&rt, "a tree");
+    drop(segments);
     assert!(rt; *counted.tree() == *plain.tree());
+    drop(counted);
+    drop(plain);
+}
+
+/// Whether both are the same tree, or memory ran out for one.
+fn is_same(first: &Result<Object, TreeFault>, second: &Result<Object, TreeFault>) -> bool {
+    match (first, second) {
+        (Ok(first), Ok(second)) => *first.tree() == *second.tree(),
+        (Err(fault), Ok(_)) | (Ok(_), Err(fault)) => *fault == TreeFault::OutOfMemory,
+        (Err(_), Err(_)) => false,
+    }
 }
 
 /// Whether reading these segments twice gives the same tree, or once that memory ran out.
@@ -497,11 +528,11 @@ fn reads_again(rt: &impl Abort, alloc: Global, lists: &[&str]) -> bool {
     let segments = segments(rt, alloc, lists);
     let first = read_root(alloc, &segments, Limits::standard());
     let second = read_root(alloc, &segments, Limits::standard());
-    match (&first, &second) {
-        (Ok(first), Ok(second)) => *first.tree() == *second.tree(),
-        (Err(fault), Ok(_)) | (Ok(_), Err(fault)) => *fault == TreeFault::OutOfMemory,
-        (Err(_), Err(_)) => false,
-    }
+    drop(segments);
+    let is_same = is_same(&first, &second);
+    drop(first);
+    drop(second);
+    is_same
 }
 
 // With memory enough no growth is refused. `rt try --test --fail-alloc N` refuses the Nth of each
@@ -550,4 +581,5 @@ fn want_of_memory_for_lists_of_pointers_and_structs(rt: HostRuntime) {
 fn want_of_memory_for_nested_structs(rt: HostRuntime) {
     let text = nested(&rt, rt.alloc(), 64);
     assert!(rt; reads_again(&rt, rt.alloc(), &[text.as_str()]));
+    drop(text);
 }

@@ -41,14 +41,20 @@ fn is_written_in_one(rt: &impl Abort, alloc: Global, first: &Object, second: &Ob
     let limits = Limits::standard();
     let words = write_root(alloc, first, limits).expect(rt, "words");
     let one = write_segments(alloc, second, 8_388_608, limits).expect(rt, "segments");
-    one.lists().len() == 1 && one.lists()[0] == words
+    let is_one = one.lists().len() == 1 && one.lists()[0] == words;
+    drop(one);
+    drop(words);
+    is_one
 }
 
 /// Whether these segments are read as the tree, and written back in one segment, as `write_root`
 /// writes it.
 fn are_read_back(rt: &impl Abort, alloc: Global, segments: &Segments, object: &Object) -> bool {
     let back = read_root(alloc, segments, Limits::standard()).expect(rt, "a tree");
-    *back.tree() == *object.tree() && is_written_in_one(rt, alloc, object, &back)
+    let is_read = *back.tree() == *object.tree();
+    let is_written = is_written_in_one(rt, alloc, object, &back);
+    drop(back);
+    is_read && is_written
 }
 
 /// Whether the tree is written so, with at most so many words in a segment, and its segments are
@@ -57,7 +63,11 @@ fn writes(rt: &impl Abort, alloc: Global, tree: Tree, max_words: u32, wanted: &[
     let object = object(rt, tree);
     let limits = Limits::standard();
     let segments = write_segments(alloc, &object, max_words, limits).expect(rt, "segments");
-    are(segments.lists(), wanted) && are_read_back(rt, alloc, &segments, &object)
+    let are_wanted = are(segments.lists(), wanted);
+    let are_read = are_read_back(rt, alloc, &segments, &object);
+    drop(segments);
+    drop(object);
+    are_wanted && are_read
 }
 
 #[test]
@@ -147,7 +157,10 @@ fn each_kind_is_written(rt: HostRuntime) {
 
 /// An object with each kind of tree. A growth that is refused once is asked for again.
 fn object_of_all_kinds(rt: &impl Abort, alloc: Global) -> Object {
-    object_of(rt, alloc, &segments(rt, alloc, &[ALL_KINDS]))
+    let segments = segments(rt, alloc, &[ALL_KINDS]);
+    let object = object_of(rt, alloc, &segments);
+    drop(segments);
+    object
 }
 
 /// A list of two pointers: a lent tree, and a capability of its own.
@@ -210,8 +223,13 @@ fn writes_as_its_copy(
     let limits = Limits::standard();
     let written = write_draft(alloc, draft, max_words, limits).expect(rt, "segments");
     let wanted = write_segments(alloc, copy, max_words, limits).expect(rt, "segments");
+    let are_wanted = written.lists() == wanted.lists();
+    drop(wanted);
     let back = read_root(alloc, &written, limits).expect(rt, "a tree");
-    written.lists() == wanted.lists() && *back.tree() == *copy.tree()
+    drop(written);
+    let is_copy = *back.tree() == *copy.tree();
+    drop(back);
+    are_wanted && is_copy
 }
 
 /// The same in segments of one word, of seven, and in one segment.
@@ -238,42 +256,73 @@ fn a_tree_with_lent_parts_is_written_as_its_copy(rt: HostRuntime) {
     let draft = drafted(alloc, lent.tree()).expect(&rt, "memory");
     let copy = copy_of(&rt, alloc, &draft);
     assert!(rt; writes_as_its_copies(&rt, alloc, &draft, &copy));
+    drop(copy);
+    drop(draft);
+    drop(lent);
+}
+
+/// Why the tree isn't written in segments of one word within these limits, if it isn't.
+fn limited(
+    rt: &impl Abort,
+    alloc: Global,
+    object: &Object,
+    (nesting, traversal, frame_words): (u32, u32, u32),
+) -> Option<WriteFault> {
+    let limits = Limits::new(nesting, traversal, 512, frame_words).expect(rt, "limits");
+    write_segments(alloc, object, 1, limits).err()
 }
 
 #[test]
 fn depth_is_told_before_cost_and_cost_before_words(rt: HostRuntime) {
     let object = object(&rt, finish(&rt, rt.alloc()));
     // Two levels, a cost of 5, and 6 words in segments of one word.
-    for (nesting, traversal, frame_words, wanted) in [
-        (1, 4, 5, Some(WriteFault::TooDeep)),
-        (2, 4, 5, Some(WriteFault::TooCostly)),
-        (2, 5, 5, Some(WriteFault::TooManyWords)),
-        (2, 5, 6, None),
+    for (limits, wanted) in [
+        ((1, 4, 5), Some(WriteFault::TooDeep)),
+        ((2, 4, 5), Some(WriteFault::TooCostly)),
+        ((2, 5, 5), Some(WriteFault::TooManyWords)),
+        ((2, 5, 6), None),
     ] {
-        let limits = Limits::new(nesting, traversal, 512, frame_words).expect(&rt, "limits");
-        let told = write_segments(rt.alloc(), &object, 1, limits).err();
-        assert!(rt; told == wanted);
+        assert!(rt; limited(&rt, rt.alloc(), &object, limits) == wanted);
     }
+    drop(object);
+}
+
+/// Why the tree isn't written in one segment within this cost, if it isn't.
+fn fault_within(
+    rt: &impl Abort,
+    alloc: Global,
+    object: &Object,
+    traversal: u32,
+) -> Option<WriteFault> {
+    let limits = Limits::new(64, traversal, 512, 8_388_608).expect(rt, "limits");
+    write_root(alloc, object, limits).err()
 }
 
 #[test]
 fn cost_has_a_limit(rt: HostRuntime) {
     let object = object(&rt, finish(&rt, rt.alloc()));
-    let within = Limits::new(64, 5, 512, 8_388_608).expect(&rt, "limits");
-    let past = Limits::new(64, 4, 512, 8_388_608).expect(&rt, "limits");
-    assert!(rt; write_root(rt.alloc(), &object, within).is_ok());
-    assert!(rt; write_root(rt.alloc(), &object, past).err() == Some(WriteFault::TooCostly));
+    assert!(rt; fault_within(&rt, rt.alloc(), &object, 5).is_none());
+    assert!(rt; fault_within(&rt, rt.alloc(), &object, 4) == Some(WriteFault::TooCostly));
+    drop(object);
+}
+
+/// Whether both are the same segments, or memory ran out for one.
+fn are_same(first: &Result<Segments, WriteFault>, second: &Result<Segments, WriteFault>) -> bool {
+    match (first, second) {
+        (Ok(first), Ok(second)) => first.lists() == second.lists(),
+        (Err(fault), Ok(_)) | (Ok(_), Err(fault)) => *fault == WriteFault::OutOfMemory,
+        (Err(_), Err(_)) => false,
+    }
 }
 
 /// Whether the tree is written twice as the same, or once that memory ran out.
 fn writes_segments_again(alloc: Global, object: &Object, max_words: u32) -> bool {
     let first = write_segments(alloc, object, max_words, Limits::standard());
     let second = write_segments(alloc, object, max_words, Limits::standard());
-    match (&first, &second) {
-        (Ok(first), Ok(second)) => first.lists() == second.lists(),
-        (Err(fault), Ok(_)) | (Ok(_), Err(fault)) => *fault == WriteFault::OutOfMemory,
-        (Err(_), Err(_)) => false,
-    }
+    let are_same = are_same(&first, &second);
+    drop(first);
+    drop(second);
+    are_same
 }
 
 // With memory enough no growth is refused. `rt try --test --fail-alloc N` refuses the Nth of each
@@ -287,34 +336,51 @@ fn want_of_memory_while_segments_are_written(rt: HostRuntime) {
             "{max_words}"
         );
     }
+    drop(object);
 }
 
-/// The same of one segment.
-fn writes_words_again(alloc: Global, object: &Object) -> bool {
-    let first = write_root(alloc, object, Limits::standard());
-    let second = write_root(alloc, object, Limits::standard());
-    match (&first, &second) {
+/// Whether both are the same words, or memory ran out for one.
+fn are_same_words(
+    first: &Result<Vec<u64>, WriteFault>,
+    second: &Result<Vec<u64>, WriteFault>,
+) -> bool {
+    match (first, second) {
         (Ok(first), Ok(second)) => first == second,
         (Err(fault), Ok(_)) | (Ok(_), Err(fault)) => *fault == WriteFault::OutOfMemory,
         (Err(_), Err(_)) => false,
     }
 }
 
+/// The same of one segment.
+fn writes_words_again(alloc: Global, object: &Object) -> bool {
+    let first = write_root(alloc, object, Limits::standard());
+    let second = write_root(alloc, object, Limits::standard());
+    let are_same = are_same_words(&first, &second);
+    drop(first);
+    drop(second);
+    are_same
+}
+
 #[test]
 fn want_of_memory_while_one_segment_is_written(rt: HostRuntime) {
     let object = object_of_all_kinds(&rt, rt.alloc());
     assert!(rt; writes_words_again(rt.alloc(), &object));
+    drop(object);
 }
 
 /// Whether the draft is copied twice as the same, or once that memory ran out.
 fn copies_again(alloc: Global, draft: &Draft) -> bool
     requires { Shaped (draft_of draft.now) }
 {
-    match (draft.copy(alloc), draft.copy(alloc)) {
+    let first = draft.copy(alloc);
+    let second = draft.copy(alloc);
+    let is_same = match (&first, &second) {
         (Ok(first), Ok(second)) => first.tree() == second.tree(),
-        (Err(_), Ok(_)) | (Ok(_), Err(_)) => true,
-        (Err(_), Err(_)) => false,
-    }
+        (first, second) => first.is_ok() || second.is_ok(),
+    };
+    drop(first);
+    drop(second);
+    is_same
 }
 
 /// Whether the draft is written twice as the same, or once that memory ran out.
@@ -324,11 +390,10 @@ fn writes_again(alloc: Global, draft: &Draft) -> bool
     let limits = Limits::standard();
     let first = write_draft(alloc, draft, 7, limits);
     let second = write_draft(alloc, draft, 7, limits);
-    match (&first, &second) {
-        (Ok(first), Ok(second)) => first.lists() == second.lists(),
-        (Err(fault), Ok(_)) | (Ok(_), Err(fault)) => *fault == WriteFault::OutOfMemory,
-        (Err(_), Err(_)) => false,
-    }
+    let are_same = are_same(&first, &second);
+    drop(first);
+    drop(second);
+    are_same
 }
 
 #[test]
@@ -338,5 +403,7 @@ fn want_of_memory_while_a_draft_is_written(rt: HostRuntime) {
     if let Ok(draft) = drafted(alloc, lent.tree()) {
         assert!(rt; copies_again(alloc, &draft));
         assert!(rt; writes_again(alloc, &draft));
+        drop(draft);
     }
+    drop(lent);
 }

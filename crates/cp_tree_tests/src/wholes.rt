@@ -1,6 +1,6 @@
 //! Owned trees: which are held, copies, and how deep they nest and what they cost.
 
-use crate::trees::{body, object_of, segments};
+use crate::trees::{body, expect_tree, object_of, segments};
 use cp_tree::*;
 use cp_words::Segments;
 use std::alloc::Global;
@@ -44,39 +44,57 @@ fn list(rt: &impl Abort, alloc: Global) -> Whole {
 #[test]
 fn what_a_message_can_hold_is_held(rt: HostRuntime) {
     let alloc = rt.alloc();
-    assert!(rt; object(&rt, alloc).into_tree() == whole(&rt, alloc, &[8]));
-    assert!(rt; list(&rt, alloc).into_tree() == structs(&rt, alloc, &[8]));
+    let tree = object(&rt, alloc).into_tree();
+    expect_tree(&rt, &tree, whole(&rt, alloc, &[8]));
+    drop(tree);
+    let tree = list(&rt, alloc).into_tree();
+    expect_tree(&rt, &tree, structs(&rt, alloc, &[8]));
+    drop(tree);
     let segments = segments(&rt, alloc, &[WHOLE]);
-    assert!(rt; *object_of(&rt, alloc, &segments).tree() == whole(&rt, alloc, &[8]));
+    let object = object_of(&rt, alloc, &segments);
+    drop(segments);
+    expect_tree(&rt, object.tree(), whole(&rt, alloc, &[8]));
+    drop(object);
 }
 
 #[test]
 fn uneven_elements_are_handed_back(rt: HostRuntime) {
     let alloc = rt.alloc();
-    let back = Whole::new(structs(&rt, alloc, &[8, 9]))
-        .err()
-        .expect(&rt, "a list");
-    assert!(rt; back == structs(&rt, alloc, &[8, 9]));
-    let back = Object::new(whole(&rt, alloc, &[]))
-        .err()
-        .expect(&rt, "a struct");
-    assert!(rt; back == whole(&rt, alloc, &[]));
+    let back = Whole::new(structs(&rt, alloc, &[8, 9])).err();
+    let back = back.expect(&rt, "a list");
+    expect_tree(&rt, &back, structs(&rt, alloc, &[8, 9]));
+    drop(back);
+    let back = Object::new(whole(&rt, alloc, &[])).err();
+    let back = back.expect(&rt, "a struct");
+    expect_tree(&rt, &back, whole(&rt, alloc, &[]));
+    drop(back);
+}
+
+/// Whether so many voids are held.
+fn holds_voids(count: u32) -> bool {
+    Whole::new(Tree::Voids(count)).is_ok()
 }
 
 #[test]
 fn what_is_no_struct_or_too_long_is_handed_back(rt: HostRuntime) {
     assert!(rt; Object::new(Tree::Null).is_err());
-    assert!(rt; Whole::new(Tree::Voids(0x1fff_ffff)).is_ok());
-    assert!(rt; Whole::new(Tree::Voids(0x2000_0000)).is_err());
+    assert!(rt; holds_voids(0x1fff_ffff));
+    assert!(rt; !holds_voids(0x2000_0000));
 }
 
 #[test]
 fn copies_are_equal(rt: HostRuntime) {
     let alloc = rt.alloc();
-    let copy = object(&rt, alloc).copy(alloc).expect(&rt, "memory");
-    assert!(rt; *copy.tree() == whole(&rt, alloc, &[8]));
-    let copy = list(&rt, alloc).copy(alloc).expect(&rt, "memory");
-    assert!(rt; *copy.tree() == structs(&rt, alloc, &[8]));
+    let first = object(&rt, alloc);
+    let copy = first.copy(alloc).expect(&rt, "memory");
+    drop(first);
+    expect_tree(&rt, copy.tree(), whole(&rt, alloc, &[8]));
+    drop(copy);
+    let first = list(&rt, alloc);
+    let copy = first.copy(alloc).expect(&rt, "memory");
+    drop(first);
+    expect_tree(&rt, copy.tree(), structs(&rt, alloc, &[8]));
+    drop(copy);
 }
 
 #[test]
@@ -86,6 +104,7 @@ fn depth_and_cost_are_counted(rt: HostRuntime) {
     assert!(rt; fits(&tree, 3, 3 + 8 + 2));
     assert!(rt; !fits(&tree, 2, 13));
     assert!(rt; !fits(&tree, 3, 12));
+    drop(tree);
     assert!(rt; fits(&Tree::Cap(1), 0, 0));
     assert!(rt; !fits(&Tree::Voids(5), 0, 1));
 }
@@ -134,4 +153,7 @@ fn want_of_memory_while_trees_are_copied(rt: HostRuntime) {
     assert!(rt; copies_again(alloc, &list));
     assert!(rt; copies_again(alloc, &Whole::null()));
     assert!(rt; child_copies_again(alloc, &object, &list));
+    drop(list);
+    drop(object);
+    drop(segments);
 }

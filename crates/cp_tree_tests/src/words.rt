@@ -1,7 +1,12 @@
 //! Words from outside: each kind of pointer word, read and written back.
 
 use cp_words::*;
-use std::test::Fail;
+use std::process::Abort;
+
+/// A word says this.
+fn expect_read(rt: &impl Abort, word: u64, says: Result<Pointer, BadCapability>) {
+    assert_eq!(rt; decode(word), says, "of {word}");
+}
 
 #[test]
 fn words_are_read(rt: HostRuntime) {
@@ -68,32 +73,47 @@ fn words_are_read(rt: HostRuntime) {
         (0x0000_0005_8000_0003, Err(BadCapability)),
     ];
     for (word, says) in rows {
-        assert_eq!(rt; decode(word), says, "of {word}");
+        expect_read(&rt, word, says);
     }
+}
+
+/// A word is the wanted one.
+fn expect_word(rt: &impl Abort, word: u64, wanted: u64) {
+    assert_eq!(rt; word, wanted);
 }
 
 #[test]
 fn words_are_written(rt: HostRuntime) {
-    assert_eq!(rt; encode(Pointer::Null), 0);
+    expect_word(&rt, encode(Pointer::Null), 0);
     let empty = Pointer::Struct {
         offset: -1,
         words: 0,
         ptrs: 0,
     };
-    assert_eq!(rt; encode(empty), 0x0000_0000_ffff_fffc);
+    expect_word(&rt, encode(empty), 0x0000_0000_ffff_fffc);
     let bytes = Pointer::List {
         offset: 1,
         size: ElementSize::Byte,
         count: 3,
     };
-    assert_eq!(rt; encode(bytes), 0x0000_001a_0000_0005);
+    expect_word(&rt, encode(bytes), 0x0000_001a_0000_0005);
     let far = Pointer::Far {
         double: true,
         place: 3,
         segment: 2,
     };
-    assert_eq!(rt; encode(far), 0x0000_0002_0000_001e);
-    assert_eq!(rt; encode(Pointer::Cap(7)), 0x0000_0007_0000_0003);
+    expect_word(&rt, encode(far), 0x0000_0002_0000_001e);
+    expect_word(&rt, encode(Pointer::Cap(7)), 0x0000_0007_0000_0003);
+}
+
+/// A body has so many words.
+fn expect_counted(rt: &impl Abort, size: ElementSize, count: u32, words: u64) {
+    assert_eq!(rt; list_words(size, count), words, "of {size:?}");
+}
+
+/// A composite list's first word has these sizes.
+fn expect_tag(rt: &impl Abort, word: u64, count: u32, words: u16, ptrs: u16) {
+    assert_eq!(rt; decode_tag(word), Some(Tag { count, words, ptrs }));
 }
 
 #[test]
@@ -109,40 +129,38 @@ fn bodies_are_counted(rt: HostRuntime) {
         (ElementSize::Composite, 3, 4),
     ];
     for (size, count, words) in rows {
-        assert_eq!(rt; list_words(size, count), words, "of {size:?}");
+        expect_counted(&rt, size, count, words);
     }
-    assert_eq!(rt;
-        decode_tag(0),
-        Some(Tag {
-            count: 0,
-            words: 0,
-            ptrs: 0
-        })
-    );
-    assert_eq!(rt;
-        decode_tag(0x0000_0000_ffff_fffc),
-        Some(Tag {
-            count: 0x3fff_ffff,
-            words: 0,
-            ptrs: 0
-        })
-    );
-    assert_eq!(rt; decode_tag(1), None);
+    expect_tag(&rt, 0, 0, 0, 0);
+    expect_tag(&rt, 0x0000_0000_ffff_fffc, 0x3fff_ffff, 0, 0);
+    assert!(rt; decode_tag(1).is_none());
+}
+
+/// Whether no segments are these lists.
+fn is_refused(lists: Vec<Vec<u64>>) -> bool {
+    Segments::new(lists).is_err()
 }
 
 #[test]
-fn segments_are_held(rt: HostRuntime) -> Result<(), Fail> {
+fn segments_are_held(rt: HostRuntime) {
     let alloc = rt.alloc();
-    assert!(rt; Segments::new(Vec::new(alloc)).is_err());
-    let mut lists = Vec::new(alloc);
-    lists.push(vec![in alloc; 1u64, 2]?)?;
-    let Ok(segments) = Segments::new(lists) else {
-        return Err(Fail::from("refused"));
-    };
-    assert_eq!(rt; segments.lists().len(), 1);
-    let one = Segments::one(vec![in alloc; 1u64, 2]?);
+    assert!(rt; is_refused(Vec::new(alloc)));
+    let words = vec![in alloc; 1u64, 2].expect(&rt, "memory");
+    let lists = vec![in alloc; words].expect(&rt, "memory");
+    let segments = Segments::new(lists).ok().expect(&rt, "segments");
+    assert!(rt; segments.lists().len() == 1);
+    let one = Segments::one(vec![in alloc; 1u64, 2].expect(&rt, "memory"));
     assert!(rt; one.lists() == segments.lists());
-    Ok(())
+    drop(one);
+    drop(segments);
+}
+
+/// No limits are these.
+fn expect_refused(rt: &impl Abort, nesting: u32, traversal: u32, segments: u32, words: u32) {
+    assert!(rt;
+        Limits::new(nesting, traversal, segments, words).is_none(),
+        "at {nesting}, {traversal}, {segments}, {words}"
+    );
 }
 
 #[test]
@@ -160,11 +178,8 @@ fn limits_have_ranges(rt: HostRuntime) {
         (1, 1, 1, 67_108_865),
     ];
     for (nesting, traversal, segments, words) in refused {
-        assert!(rt;
-            Limits::new(nesting, traversal, segments, words).is_none(),
-            "at {nesting}, {traversal}, {segments}, {words}"
-        );
+        expect_refused(&rt, nesting, traversal, segments, words);
     }
-    assert_eq!(rt; Limits::standard().nesting(), 64);
-    assert_eq!(rt; Limits::standard().frame_words(), 8_388_608);
+    assert!(rt; Limits::standard().nesting() == 64);
+    assert!(rt; Limits::standard().frame_words() == 8_388_608);
 }
