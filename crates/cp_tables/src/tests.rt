@@ -2,6 +2,7 @@
 
 use super::*;
 use TableFault::{Full, OutOfMemory, Taken, TooMany, Unknown};
+use std::process::Abort;
 
 const LAST: u32 = 65_535;
 
@@ -10,6 +11,47 @@ enum Step {
     Open,
     Return,
     Finish,
+}
+
+/// What a step of this entry told is what is wanted.
+fn expect_told(
+    rt: &impl Abort,
+    id: u32,
+    told: Result<u32, TableFault>,
+    want: Result<u32, TableFault>,
+) {
+    assert_eq!(rt; told, want, "at {id}");
+}
+
+/// The stage that this entry is at, if it is there.
+fn expect_stage(rt: &impl Abort, id: u32, exchange: Option<&Exchange<()>>, want: Option<Stage>) {
+    let stage = exchange.map(|exchange| exchange.stage);
+    assert_eq!(rt; stage, want, "at {id}");
+}
+
+/// The count that this entry is at, if it is there.
+fn expect_count(rt: &impl Abort, id: u32, counted: Option<&Counted<()>>, want: Option<u32>) {
+    let count = counted.map(|counted| counted.count);
+    assert_eq!(rt; count, want, "at {id}");
+}
+
+/// What is kept with an entry that is there.
+fn expect_kept(rt: &impl Abort, exchange: Option<&Exchange<u8>>, want: u8) {
+    assert!(rt; exchange.map(|exchange| exchange.kept) == Some(want));
+}
+
+/// The same of an entry that is counted.
+fn expect_kept_counted(rt: &impl Abort, counted: Option<&Counted<u8>>, want: u8) {
+    assert!(rt; counted.map(|counted| counted.kept) == Some(want));
+}
+
+/// Takes a step of a question.
+fn take_question(questions: &mut Questions<()>, step: Step, id: u32) -> Result<u32, TableFault> {
+    match step {
+        Step::Open => questions.open(()),
+        Step::Return => questions.note_return(id).and(Ok(id)),
+        Step::Finish => questions.note_finish(id).and(Ok(id)),
+    }
 }
 
 #[test]
@@ -33,19 +75,20 @@ fn questions_go_after_both_notes(rt: HostRuntime) {
         (Step::Open, 3, Ok(3), Some(Stage::Open)),
     ];
     for (step, id, want, left) in rows {
-        let got = match step {
-            Step::Open => questions.open(()),
-            Step::Return => questions.note_return(id).map(|_| id),
-            Step::Finish => questions.note_finish(id).map(|_| id),
-        };
-        assert_eq!(rt; got, want, "at {id}");
-        assert_eq!(rt;
-            questions.get(id).map(|question| question.stage),
-            left,
-            "at {id}"
-        );
+        expect_told(&rt, id, take_question(&mut questions, step, id), want);
+        expect_stage(&rt, id, questions.get(id), left);
     }
-    assert_eq!(rt; questions.len(), 4);
+    assert!(rt; questions.len() == 4);
+    drop(questions);
+}
+
+/// Takes a step of an answer.
+fn take_answer(answers: &mut Answers<()>, step: Step, id: u32) -> Result<(), TableFault> {
+    match step {
+        Step::Open => answers.open(id, ()),
+        Step::Return => answers.note_return(id),
+        Step::Finish => answers.note_finish(id),
+    }
 }
 
 #[test]
@@ -68,15 +111,12 @@ fn answers_go_after_both_notes(rt: HostRuntime) {
         (Step::Open, 5, Ok(()), Some(Stage::Open)),
     ];
     for (step, id, want, left) in rows {
-        let got = match step {
-            Step::Open => answers.open(id, ()),
-            Step::Return => answers.note_return(id),
-            Step::Finish => answers.note_finish(id),
-        };
-        assert_eq!(rt; got, want, "at {id}");
-        assert_eq!(rt; answers.get(id).map(|answer| answer.stage), left, "at {id}");
+        let told = take_answer(&mut answers, step, id);
+        expect_told(&rt, id, told.and(Ok(id)), want.and(Ok(id)));
+        expect_stage(&rt, id, answers.get(id), left);
     }
-    assert_eq!(rt; answers.len(), 1);
+    assert!(rt; answers.len() == 1);
+    drop(answers);
 }
 
 #[derive(Clone, Copy)]
@@ -84,6 +124,15 @@ enum Count {
     New,
     Raise,
     Lower(u32),
+}
+
+/// Counts an export.
+fn count_export(exports: &mut Exports<()>, step: Count, id: u32) -> Result<u32, TableFault> {
+    match step {
+        Count::New => exports.raise(None, ()),
+        Count::Raise => exports.raise(Some(id), ()),
+        Count::Lower(n) => exports.lower(id, n).and(Ok(id)),
+    }
 }
 
 #[test]
@@ -106,15 +155,19 @@ fn exports_go_at_count_0(rt: HostRuntime) {
         (Count::New, 3, Ok(3), Some(1)),
     ];
     for (step, id, want, left) in rows {
-        let got = match step {
-            Count::New => exports.raise(None, ()),
-            Count::Raise => exports.raise(Some(id), ()),
-            Count::Lower(n) => exports.lower(id, n).map(|_| id),
-        };
-        assert_eq!(rt; got, want, "at {id}");
-        assert_eq!(rt; exports.get(id).map(|export| export.count), left, "at {id}");
+        expect_told(&rt, id, count_export(&mut exports, step, id), want);
+        expect_count(&rt, id, exports.get(id), left);
     }
-    assert_eq!(rt; exports.len(), 4);
+    assert!(rt; exports.len() == 4);
+    drop(exports);
+}
+
+/// Counts an import.
+fn count_import(imports: &mut Imports<()>, step: Count, id: u32) -> Result<(), TableFault> {
+    match step {
+        Count::Lower(n) => imports.lower(id, n),
+        Count::New | Count::Raise => imports.raise(id, ()),
+    }
 }
 
 #[test]
@@ -132,27 +185,25 @@ fn imports_go_at_count_0(rt: HostRuntime) {
         (Count::Raise, 9, Ok(()), Some(1)),
     ];
     for (step, id, want, left) in rows {
-        let got = match step {
-            Count::Lower(n) => imports.lower(id, n),
-            Count::New | Count::Raise => imports.raise(id, ()),
-        };
-        assert_eq!(rt; got, want, "at {id}");
-        assert_eq!(rt; imports.get(id).map(|import| import.count), left, "at {id}");
+        let told = count_import(&mut imports, step, id);
+        expect_told(&rt, id, told.and(Ok(id)), want.and(Ok(id)));
+        expect_count(&rt, id, imports.get(id), left);
     }
-    assert_eq!(rt; imports.len(), 2);
+    assert!(rt; imports.len() == 2);
+    drop(imports);
 }
 
 #[test]
 fn embargoes_close(rt: HostRuntime) {
     let mut embargoes = Embargoes::new(rt.alloc());
-    assert_eq!(rt; embargoes.close(0), Err(Unknown));
+    assert!(rt; embargoes.close(0) == Err(Unknown));
     for number in 0..3u32 {
-        assert_eq!(rt; embargoes.open(number), Ok(number));
+        assert!(rt; embargoes.open(number) == Ok(number));
     }
-    assert_eq!(rt; embargoes.close(1), Ok(1));
-    assert_eq!(rt; embargoes.close(1), Err(Unknown));
-    assert_eq!(rt; embargoes.open(7), Ok(1));
-    assert_eq!(rt; embargoes.get(1).copied(), Some(7));
+    assert!(rt; embargoes.close(1) == Ok(1));
+    assert!(rt; embargoes.close(1) == Err(Unknown));
+    assert!(rt; embargoes.open(7) == Ok(1));
+    assert!(rt; embargoes.get(1).copied() == Some(7));
 }
 
 #[test]
@@ -162,8 +213,8 @@ fn kept_with_questions(rt: HostRuntime) {
     if let Some(kept) = questions.kept_mut(id) {
         *kept = b'b';
     }
-    assert_eq!(rt; questions.get(id).map(|question| question.kept), Some(b'b'));
-    assert_eq!(rt; questions.kept_mut(1), None);
+    expect_kept(&rt, questions.get(id), b'b');
+    assert!(rt; questions.kept_mut(1).is_none());
 }
 
 #[test]
@@ -173,8 +224,8 @@ fn kept_with_answers(rt: HostRuntime) {
     if let Some(kept) = answers.kept_mut(4) {
         *kept = b'b';
     }
-    assert_eq!(rt; answers.get(4).map(|answer| answer.kept), Some(b'b'));
-    assert_eq!(rt; answers.kept_mut(1), None);
+    expect_kept(&rt, answers.get(4), b'b');
+    assert!(rt; answers.kept_mut(1).is_none());
 }
 
 #[test]
@@ -182,12 +233,12 @@ fn kept_with_exports(rt: HostRuntime) {
     let mut exports = Exports::new(rt.alloc());
     let id = exports.raise(None, b'a').expect(&rt, "an entry");
     exports.raise(Some(id), b'x').expect(&rt, "an entry");
-    assert_eq!(rt; exports.get(id).map(|export| export.kept), Some(b'a'));
+    expect_kept_counted(&rt, exports.get(id), b'a');
     if let Some(kept) = exports.kept_mut(id) {
         *kept = b'b';
     }
-    assert_eq!(rt; exports.get(id).map(|export| export.kept), Some(b'b'));
-    assert_eq!(rt; exports.kept_mut(1), None);
+    expect_kept_counted(&rt, exports.get(id), b'b');
+    assert!(rt; exports.kept_mut(1).is_none());
 }
 
 #[test]
@@ -195,12 +246,12 @@ fn kept_with_imports(rt: HostRuntime) {
     let mut imports = Imports::new(rt.alloc());
     imports.raise(4, b'a').expect(&rt, "an entry");
     imports.raise(4, b'x').expect(&rt, "an entry");
-    assert_eq!(rt; imports.get(4).map(|import| import.kept), Some(b'a'));
+    expect_kept_counted(&rt, imports.get(4), b'a');
     if let Some(kept) = imports.kept_mut(4) {
         *kept = b'b';
     }
-    assert_eq!(rt; imports.get(4).map(|import| import.kept), Some(b'b'));
-    assert_eq!(rt; imports.kept_mut(1), None);
+    expect_kept_counted(&rt, imports.get(4), b'b');
+    assert!(rt; imports.kept_mut(1).is_none());
 }
 
 #[test]
@@ -210,69 +261,69 @@ fn kept_with_embargoes(rt: HostRuntime) {
     if let Some(kept) = embargoes.kept_mut(id) {
         *kept = b'b';
     }
-    assert_eq!(rt; embargoes.kept_mut(1), None);
-    assert_eq!(rt; embargoes.close(id), Ok(b'b'));
+    assert!(rt; embargoes.kept_mut(1).is_none());
+    assert!(rt; embargoes.close(id) == Ok(b'b'));
 }
 
 #[test]
 fn questions_end_at_their_limit(rt: HostRuntime) {
     let mut questions = Questions::new(rt.alloc());
     for number in 0..=LAST {
-        assert_eq!(rt; questions.open(()), Ok(number));
+        assert!(rt; questions.open(()) == Ok(number));
     }
-    assert_eq!(rt; questions.open(()), Err(Full));
+    assert!(rt; questions.open(()) == Err(Full));
     questions.note_return(77).expect(&rt, "an entry");
-    assert_eq!(rt; questions.open(()), Err(Full));
+    assert!(rt; questions.open(()) == Err(Full));
     questions.note_finish(77).expect(&rt, "an entry");
-    assert_eq!(rt; questions.open(()), Ok(77));
+    assert!(rt; questions.open(()) == Ok(77));
 }
 
 #[test]
 fn answers_end_at_their_limit(rt: HostRuntime) {
     let mut answers = Answers::new(rt.alloc());
     for entry in 0..=LAST {
-        assert_eq!(rt; answers.open(u32::MAX - entry, ()), Ok(()));
+        assert!(rt; answers.open(u32::MAX - entry, ()) == Ok(()));
     }
-    assert_eq!(rt; answers.open(0, ()), Err(Full));
-    assert_eq!(rt; answers.open(u32::MAX, ()), Err(Taken));
+    assert!(rt; answers.open(0, ()) == Err(Full));
+    assert!(rt; answers.open(u32::MAX, ()) == Err(Taken));
     answers.note_finish(u32::MAX).expect(&rt, "an entry");
     answers.note_return(u32::MAX).expect(&rt, "an entry");
-    assert_eq!(rt; answers.open(0, ()), Ok(()));
+    assert!(rt; answers.open(0, ()) == Ok(()));
 }
 
 #[test]
 fn exports_end_at_their_limit(rt: HostRuntime) {
     let mut exports = Exports::new(rt.alloc());
     for number in 0..=LAST {
-        assert_eq!(rt; exports.raise(None, ()), Ok(number));
+        assert!(rt; exports.raise(None, ()) == Ok(number));
     }
-    assert_eq!(rt; exports.raise(None, ()), Err(Full));
-    assert_eq!(rt; exports.raise(Some(LAST), ()), Ok(LAST));
+    assert!(rt; exports.raise(None, ()) == Err(Full));
+    assert!(rt; exports.raise(Some(LAST), ()) == Ok(LAST));
     exports.lower(LAST, 2).expect(&rt, "an entry");
-    assert_eq!(rt; exports.raise(None, ()), Ok(LAST));
+    assert!(rt; exports.raise(None, ()) == Ok(LAST));
 }
 
 #[test]
 fn imports_end_at_their_limit(rt: HostRuntime) {
     let mut imports = Imports::new(rt.alloc());
     for entry in 0..=LAST {
-        assert_eq!(rt; imports.raise(entry * 3, ()), Ok(()));
+        assert!(rt; imports.raise(entry * 3, ()) == Ok(()));
     }
-    assert_eq!(rt; imports.raise(1, ()), Err(Full));
-    assert_eq!(rt; imports.raise(3, ()), Ok(()));
+    assert!(rt; imports.raise(1, ()) == Err(Full));
+    assert!(rt; imports.raise(3, ()) == Ok(()));
     imports.lower(3, 2).expect(&rt, "an entry");
-    assert_eq!(rt; imports.raise(1, ()), Ok(()));
+    assert!(rt; imports.raise(1, ()) == Ok(()));
 }
 
 #[test]
 fn embargoes_end_at_their_limit(rt: HostRuntime) {
     let mut embargoes = Embargoes::new(rt.alloc());
     for number in 0..=LAST {
-        assert_eq!(rt; embargoes.open(()), Ok(number));
+        assert!(rt; embargoes.open(()) == Ok(number));
     }
-    assert_eq!(rt; embargoes.open(()), Err(Full));
+    assert!(rt; embargoes.open(()) == Err(Full));
     embargoes.close(0).expect(&rt, "an entry");
-    assert_eq!(rt; embargoes.open(()), Ok(0));
+    assert!(rt; embargoes.open(()) == Ok(0));
 }
 
 #[test]
@@ -281,10 +332,10 @@ fn a_refused_question_changes_nothing(rt: HostRuntime) {
     for number in 0..100u32 {
         let mut got = questions.open(());
         if got == Err(OutOfMemory) {
-            assert_eq!(rt; questions.len(), number as usize);
+            assert!(rt; questions.len() == number as usize);
             got = questions.open(());
         }
-        assert_eq!(rt; got, Ok(number));
+        assert!(rt; got == Ok(number));
     }
 }
 
@@ -294,10 +345,10 @@ fn a_refused_answer_changes_nothing(rt: HostRuntime) {
     for number in 0..100u32 {
         let mut got = answers.open(number, ());
         if got == Err(OutOfMemory) {
-            assert_eq!(rt; answers.len(), number as usize);
+            assert!(rt; answers.len() == number as usize);
             got = answers.open(number, ());
         }
-        assert_eq!(rt; got, Ok(()));
+        assert!(rt; got == Ok(()));
     }
 }
 
@@ -307,10 +358,10 @@ fn a_refused_export_changes_nothing(rt: HostRuntime) {
     for number in 0..100u32 {
         let mut got = exports.raise(None, ());
         if got == Err(OutOfMemory) {
-            assert_eq!(rt; exports.len(), number as usize);
+            assert!(rt; exports.len() == number as usize);
             got = exports.raise(None, ());
         }
-        assert_eq!(rt; got, Ok(number));
+        assert!(rt; got == Ok(number));
     }
 }
 
@@ -320,10 +371,10 @@ fn a_refused_import_changes_nothing(rt: HostRuntime) {
     for number in 0..100u32 {
         let mut got = imports.raise(number, ());
         if got == Err(OutOfMemory) {
-            assert_eq!(rt; imports.len(), number as usize);
+            assert!(rt; imports.len() == number as usize);
             got = imports.raise(number, ());
         }
-        assert_eq!(rt; got, Ok(()));
+        assert!(rt; got == Ok(()));
     }
 }
 
@@ -333,10 +384,10 @@ fn a_refused_embargo_changes_nothing(rt: HostRuntime) {
     for number in 0..100u32 {
         let mut got = embargoes.open(());
         if got == Err(OutOfMemory) {
-            assert_eq!(rt; embargoes.len(), number as usize);
+            assert!(rt; embargoes.len() == number as usize);
             got = embargoes.open(());
         }
-        assert_eq!(rt; got, Ok(number));
+        assert!(rt; got == Ok(number));
     }
 }
 
