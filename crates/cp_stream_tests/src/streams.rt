@@ -4,7 +4,6 @@ use cp_frame::{FrameFault, FrameReader};
 use cp_rpc::{Field, Message, SchemaFault};
 use cp_stream::*;
 use cp_tree::{Place, TreeFault, WriteFault};
-use cp_words::Segments;
 use std::alloc::Global;
 use std::io::{Read, Write};
 use std::process::Abort;
@@ -260,19 +259,14 @@ fn want_of_memory_is_told_and_then_failed(rt: HostRuntime) {
     drop(reader);
 }
 
-/// A view and a check of these segments end in this way.
-fn expect_view(rt: &impl Abort, segments: &Segments, fault: Option<StreamFault>) {
-    assert!(rt; view_of(segments, Limits::standard()).err() == fault);
-    assert!(rt; check_of(segments, Limits::standard()).err() == fault);
-}
-
 /// The bytes are one frame, of which a view and a check end in this way.
 fn expect_viewed(rt: &impl Abort, alloc: Global, bytes: &[u8], fault: Option<StreamFault>) {
     let mut reader = FrameReader::plain(alloc, Limits::standard());
     let frames = reader.feed(bytes).expect(rt, "frames");
     drop(reader);
     assert!(rt; frames.len() == 1);
-    expect_view(rt, &frames[0].1, fault);
+    assert!(rt; view_of(&frames[0].1, Limits::standard()).err() == fault);
+    assert!(rt; check_of(&frames[0].1, Limits::standard()).err() == fault);
     drop(frames);
 }
 
