@@ -12,7 +12,7 @@ ghost use Rattle.cp_rpc.specs.Made.{send_results_to_number, third_party_made, ca
 ghost use Rattle.cp_tree.specs.DraftOf.{draft_of};
 
 use crate::data::{u16_at, u16_part, u32_at, u32_part, u64_at, u64_part};
-use crate::draft::{null, struct_of};
+use crate::draft::{lent, null, triple_of};
 use crate::fault::{Field, SchemaFault};
 use crate::field::struct_field;
 use crate::past::Past;
@@ -114,14 +114,14 @@ impl Call {
         ensures made { IfOk result (λ d. draft_of d ≡ call_made self.now) }
         ensures held { IfOk result (λ d. IsCall self.now) }
     {
+        let target = self.target.draft(alloc)?;
+        let params = self.params.draft(alloc)?;
         let (number, third_party) = self.send_results_to.parts();
         let first = u32_part(Call::QUESTION_ID, self.question_id)
             + u16_part(Call::METHOD_ID, self.method_id)
             + u16_part(Call::SEND_RESULTS_TO, number);
-        let target = self.target.draft(alloc)?;
-        let params = self.params.draft(alloc)?;
-        let words = Vec::from_slice(alloc, &[first, u64_part(self.interface_id), 0])?;
-        Ok(struct_of(words, vec![in alloc; target, params, third_party]?))
+        let words = [first, u64_part(self.interface_id), 0];
+        triple_of(alloc, &words, target, params, third_party)
     }
 }
 
@@ -147,7 +147,7 @@ impl SendResultsTo {
         match self {
             SendResultsTo::Caller => (0, null()),
             SendResultsTo::Yourself => (1, null()),
-            SendResultsTo::ThirdParty(tree) => (2, Draft::Lent(tree.tree())),
+            SendResultsTo::ThirdParty(tree) => (2, lent(tree)),
             SendResultsTo::Unknown(number) => (number.number(), null()),
         }
     }

@@ -12,7 +12,7 @@ ghost use Rattle.cp_rpc.specs.Made.{body_made, descriptor_number, descriptor_id,
 ghost use Rattle.cp_tree.specs.DraftOf.{draft_of, draft_body_of};
 
 use crate::data::{u16_at, u16_part, u32_at, u32_part};
-use crate::draft::{body_of, null};
+use crate::draft::{body_of, lent, null};
 use crate::fault::{Field, SchemaFault};
 use crate::field::struct_field;
 use crate::past::Past;
@@ -87,32 +87,39 @@ impl Descriptor {
     }
 
     /// Its member's number, the number that the member carries, and what its pointer stands for.
-    fn parts(&self, alloc: Global) -> Result<(u16, u32, Draft<'_>), AllocError>
-        ensures number { IfOk result (λ p. p.0 ≡ descriptor_number self.now) }
-        ensures id { IfOk result (λ p. p.1 ≡ descriptor_id self.now) }
-        ensures pointer { IfOk result (λ p. draft_of p.2 ≡ descriptor_pointer self.now) }
-        ensures held { IfOk result (λ p. IsDescriptor self.now) }
+    fn parts(&self, alloc: Global) -> (u16, u32, Result<Draft<'_>, AllocError>)
+        ensures number { result.0 ≡ descriptor_number self.now }
+        ensures id { result.1 ≡ descriptor_id self.now }
+        ensures pointer { IfOk result.2 (λ d. draft_of d ≡ descriptor_pointer self.now) }
+        ensures held { IfOk result.2 (λ d. IsDescriptor self.now) }
     {
         match self {
-            Descriptor::None => Ok((0, 0, null())),
-            Descriptor::SenderHosted(id) => Ok((1, *id, null())),
-            Descriptor::SenderPromise(id) => Ok((2, *id, null())),
-            Descriptor::ReceiverHosted(id) => Ok((3, *id, null())),
-            Descriptor::ReceiverAnswer(answer) => Ok((4, 0, answer.draft(alloc)?)),
-            Descriptor::ThirdPartyHosted(tree) => Ok((5, 0, Draft::Lent(tree.tree()))),
-            Descriptor::Unknown(number) => Ok((number.number(), 0, null())),
+            Descriptor::None => (0, 0, Ok(null())),
+            Descriptor::SenderHosted(id) => (1, *id, Ok(null())),
+            Descriptor::SenderPromise(id) => (2, *id, Ok(null())),
+            Descriptor::ReceiverHosted(id) => (3, *id, Ok(null())),
+            Descriptor::ReceiverAnswer(answer) => (4, 0, answer.draft(alloc)),
+            Descriptor::ThirdPartyHosted(tree) => (5, 0, Ok(lent(tree))),
+            Descriptor::Unknown(number) => (number.number(), 0, Ok(null())),
         }
     }
 
-    /// The struct that the descriptor is written as.
-    pub(crate) fn draft(&self, alloc: Global) -> Result<DraftBody<'_>, AllocError>
+    /// The struct that the descriptor is written as, as a list holds it.
+    pub(crate) fn body(&self, alloc: Global) -> Result<DraftBody<'_>, AllocError>
         ensures made { IfOk result (λ b. draft_body_of b ≡ body_made (descriptor_made self.now)) }
         ensures held { IfOk result (λ b. IsDescriptor self.now) }
     {
-        let (number, id, pointer) = self.parts(alloc)?;
+        let (number, id, pointer) = self.parts(alloc);
         let word = u16_part(Descriptor::WHICH, number) + u32_part(Descriptor::ID, id);
-        let words = Vec::from_slice(alloc, &[word])?;
-        Ok(body_of(words, vec![in alloc; pointer]?))
+        body_of(alloc, &[word], pointer?)
+    }
+
+    /// The struct that the descriptor is written as.
+    pub(crate) fn draft(&self, alloc: Global) -> Result<Draft<'_>, AllocError>
+        ensures made { IfOk result (λ d. draft_of d ≡ descriptor_made self.now) }
+        ensures held { IfOk result (λ d. IsDescriptor self.now) }
+    {
+        Ok(Draft::Struct(self.body(alloc)?))
     }
 }
 

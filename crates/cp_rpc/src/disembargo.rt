@@ -109,8 +109,7 @@ impl Disembargo {
         let (which, number) = self.context.parts();
         let word = u32_part(Disembargo::NUMBER, number) + u16_part(Disembargo::CONTEXT, which);
         let target = self.target.draft(alloc)?;
-        let words = Vec::from_slice(alloc, &[word])?;
-        Ok(struct_of(words, vec![in alloc; target]?))
+        struct_of(alloc, &[word], target)
     }
 }
 

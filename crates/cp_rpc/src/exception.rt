@@ -12,7 +12,7 @@ ghost use Rattle.cp_rpc.specs.Made.{kind_number, exception_made};
 ghost use Rattle.cp_tree.specs.DraftOf.{draft_of};
 
 use crate::data::{u16_at, u16_part};
-use crate::draft::struct_of;
+use crate::draft::pair_of;
 use crate::fault::{Field, SchemaFault};
 use crate::field::text_field;
 use crate::past::Past;
@@ -90,8 +90,7 @@ impl Exception {
         let word = u16_part(Exception::KIND, self.kind.number());
         let reason = self.reason.draft(alloc)?;
         let trace = self.trace.draft(alloc)?;
-        let words = Vec::from_slice(alloc, &[word])?;
-        Ok(struct_of(words, vec![in alloc; reason, trace]?))
+        pair_of(alloc, &[word], reason, trace)
     }
 }
 

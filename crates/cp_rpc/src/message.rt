@@ -16,7 +16,7 @@ ghost use Rattle.cp_tree.specs.DraftOf.{draft_of};
 use crate::call::{Call, CallView};
 use crate::data::{u16_at, u16_part};
 use crate::disembargo::{Disembargo, DisembargoView};
-use crate::draft::struct_of;
+use crate::draft::{lent, struct_of};
 use crate::exception::{Exception, ExceptionView};
 use crate::fault::{Field, SchemaFault};
 use crate::field::struct_field;
@@ -163,23 +163,23 @@ impl Message {
     }
 
     /// Its member's number, and what its pointer stands for.
-    fn parts(&self, alloc: Global) -> Result<(u16, Draft<'_>), AllocError>
+    fn parts(&self, alloc: Global) -> (u16, Result<Draft<'_>, AllocError>)
         requires { message_fits self.now ≡ true }
-        ensures number { IfOk result (λ p. p.0 ≡ message_number self.now) }
-        ensures pointer { IfOk result (λ p. draft_of p.1 ≡ member_made self.now) }
-        ensures held { IfOk result (λ p. IsMessage self.now) }
+        ensures number { result.0 ≡ message_number self.now }
+        ensures pointer { IfOk result.1 (λ d. draft_of d ≡ member_made self.now) }
+        ensures held { IfOk result.1 (λ d. IsMessage self.now) }
     {
         match self {
-            Message::Unimplemented(tree) => Ok((0, Draft::Lent(tree.tree()))),
-            Message::Abort(exception) => Ok((1, exception.draft(alloc)?)),
-            Message::Call(call) => Ok((2, call.draft(alloc)?)),
-            Message::Return(returned) => Ok((3, returned.draft(alloc)?)),
-            Message::Finish(finish) => Ok((4, finish.draft(alloc)?)),
-            Message::Resolve(resolve) => Ok((5, resolve.draft(alloc)?)),
-            Message::Release(release) => Ok((6, release.draft(alloc)?)),
-            Message::Bootstrap(bootstrap) => Ok((8, bootstrap.draft(alloc)?)),
-            Message::Disembargo(disembargo) => Ok((13, disembargo.draft(alloc)?)),
-            Message::Other { which, body } => Ok((which.number(), Draft::Lent(body.tree()))),
+            Message::Unimplemented(tree) => (0, Ok(lent(tree))),
+            Message::Abort(exception) => (1, exception.draft(alloc)),
+            Message::Call(call) => (2, call.draft(alloc)),
+            Message::Return(returned) => (3, returned.draft(alloc)),
+            Message::Finish(finish) => (4, finish.draft(alloc)),
+            Message::Resolve(resolve) => (5, resolve.draft(alloc)),
+            Message::Release(release) => (6, release.draft(alloc)),
+            Message::Bootstrap(bootstrap) => (8, bootstrap.draft(alloc)),
+            Message::Disembargo(disembargo) => (13, disembargo.draft(alloc)),
+            Message::Other { which, body } => (which.number(), Ok(lent(body))),
         }
     }
 
@@ -189,10 +189,9 @@ impl Message {
         ensures made { IfOk result (λ d. draft_of d ≡ message_made self.now) }
         ensures held { IfOk result (λ d. IsMessage self.now) }
     {
-        let (number, member) = self.parts(alloc)?;
+        let (number, member) = self.parts(alloc);
         let word = u16_part(Message::WHICH, number);
-        let words = Vec::from_slice(alloc, &[word])?;
-        Ok(struct_of(words, vec![in alloc; member]?))
+        struct_of(alloc, &[word], member?)
     }
 }
 

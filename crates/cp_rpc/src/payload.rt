@@ -14,7 +14,7 @@ ghost use Rattle.cp_rpc.specs.Made.{cap_table_made, payload_made};
 ghost use Rattle.cp_rpc.specs.declared.descriptor.Descriptor.{Descriptor};
 
 use crate::descriptor::{Descriptor, DescriptorView};
-use crate::draft::{list_of, null, struct_of};
+use crate::draft::{lent, list_of, null, pair_of};
 use crate::fault::{Field, SchemaFault};
 use crate::field::{item_count, list_field};
 use crate::source::Source;
@@ -100,7 +100,7 @@ impl CapTable {
         }
         let mut items = Vec::with_capacity(alloc, descriptors.len())?;
         for descriptor in descriptors {
-            items.push(descriptor.draft(alloc)?)?;
+            items.push(descriptor.body(alloc)?)?;
         }
         Ok(list_of(1, 1, items))
     }
@@ -220,10 +220,8 @@ impl Payload {
         ensures made { IfOk result (λ d. draft_of d ≡ payload_made self.now) }
         ensures held { IfOk result (λ d. IsPayload self.now) }
     {
-        let content = Draft::Lent(self.content.tree());
         let cap_table = self.cap_table.draft(alloc)?;
-        let words = Vec::new(alloc);
-        Ok(struct_of(words, vec![in alloc; content, cap_table]?))
+        pair_of(alloc, &[], lent(&self.content), cap_table)
     }
 }
 

@@ -14,7 +14,7 @@ ghost use Rattle.cp_rpc.specs.Told.{told_promised_answer};
 ghost use Rattle.cp_rpc.specs.declared.promised_answer.Op.{Op};
 
 use crate::data::{u16_at, u16_part, u32_at, u32_part};
-use crate::draft::{body_of, list_of, null, struct_of};
+use crate::draft::{list_of, null, struct_of, words_of};
 use crate::fault::{Field, SchemaFault};
 use crate::field::{item_count, list_field};
 use crate::past::Past;
@@ -71,8 +71,7 @@ impl Op {
     {
         let (number, field) = self.parts();
         let word = u16_part(Op::WHICH, number) + u16_part(Op::FIELD, field);
-        let words = Vec::from_slice(alloc, &[word])?;
-        Ok(body_of(words, Vec::new(alloc)))
+        words_of(alloc, &[word])
     }
 }
 
@@ -223,8 +222,7 @@ impl PromisedAnswer {
     {
         let word = u32_part(PromisedAnswer::QUESTION_ID, self.question_id);
         let transform = self.transform.draft(alloc)?;
-        let words = Vec::from_slice(alloc, &[word])?;
-        Ok(struct_of(words, vec![in alloc; transform]?))
+        struct_of(alloc, &[word], transform)
     }
 }
 

@@ -81,11 +81,10 @@ impl Resolve {
         ensures made { IfOk result (λ d. draft_of d ≡ resolve_made self.now) }
         ensures held { IfOk result (λ d. IsResolve self.now) }
     {
-        let (number, pointer) = self.resolution.parts(alloc)?;
+        let (number, pointer) = self.resolution.parts(alloc);
         let word = u32_part(Resolve::PROMISE_ID, self.promise_id)
             + u16_part(Resolve::WHICH, number);
-        let words = Vec::from_slice(alloc, &[word])?;
-        Ok(struct_of(words, vec![in alloc; pointer]?))
+        struct_of(alloc, &[word], pointer?)
     }
 }
 
@@ -113,16 +112,16 @@ impl Resolution {
     }
 
     /// Its member's number, and what its pointer stands for.
-    fn parts(&self, alloc: Global) -> Result<(u16, Draft<'_>), AllocError>
+    fn parts(&self, alloc: Global) -> (u16, Result<Draft<'_>, AllocError>)
         requires { resolution_fits self.now ≡ true }
-        ensures number { IfOk result (λ p. p.0 ≡ resolution_number self.now) }
-        ensures pointer { IfOk result (λ p. draft_of p.1 ≡ resolution_pointer self.now) }
-        ensures held { IfOk result (λ p. IsResolution self.now) }
+        ensures number { result.0 ≡ resolution_number self.now }
+        ensures pointer { IfOk result.1 (λ d. draft_of d ≡ resolution_pointer self.now) }
+        ensures held { IfOk result.1 (λ d. IsResolution self.now) }
     {
         match self {
-            Resolution::Cap(descriptor) => Ok((0, Draft::Struct(descriptor.draft(alloc)?))),
-            Resolution::Exception(exception) => Ok((1, exception.draft(alloc)?)),
-            Resolution::Unknown(number) => Ok((number.number(), null())),
+            Resolution::Cap(descriptor) => (0, descriptor.draft(alloc)),
+            Resolution::Exception(exception) => (1, exception.draft(alloc)),
+            Resolution::Unknown(number) => (number.number(), Ok(null())),
         }
     }
 }

@@ -12,7 +12,7 @@ ghost use Rattle.cp_rpc.specs.Made.{returned_number, returned_question, returned
 ghost use Rattle.cp_tree.specs.DraftOf.{draft_of};
 
 use crate::data::{bit_at, bit_part, u16_at, u16_part, u32_at, u32_part};
-use crate::draft::{null, struct_of};
+use crate::draft::{lent, null, struct_of};
 use crate::exception::{Exception, ExceptionView};
 use crate::fault::{Field, SchemaFault};
 use crate::field::struct_field;
@@ -101,13 +101,12 @@ impl Return {
         ensures made { IfOk result (λ d. draft_of d ≡ return_made self.now) }
         ensures held { IfOk result (λ d. IsReturn self.now) }
     {
-        let (number, question, pointer) = self.returned.parts(alloc)?;
+        let (number, question, pointer) = self.returned.parts(alloc);
         let first = u32_part(Return::ANSWER_ID, self.answer_id)
             + bit_part(Return::RELEASE_PARAM_CAPS, !self.release_param_caps)
             + u16_part(Return::WHICH, number);
         let second = u32_part(Return::TAKE_FROM_OTHER_QUESTION, question);
-        let words = Vec::from_slice(alloc, &[first, second])?;
-        Ok(struct_of(words, vec![in alloc; pointer]?))
+        struct_of(alloc, &[first, second], pointer?)
     }
 }
 
@@ -141,21 +140,21 @@ impl Returned {
     }
 
     /// Its member's number, the number that the member carries, and what its pointer stands for.
-    fn parts(&self, alloc: Global) -> Result<(u16, u32, Draft<'_>), AllocError>
+    fn parts(&self, alloc: Global) -> (u16, u32, Result<Draft<'_>, AllocError>)
         requires { returned_fits self.now ≡ true }
-        ensures number { IfOk result (λ p. p.0 ≡ returned_number self.now) }
-        ensures question { IfOk result (λ p. p.1 ≡ returned_question self.now) }
-        ensures pointer { IfOk result (λ p. draft_of p.2 ≡ returned_pointer self.now) }
-        ensures held { IfOk result (λ p. IsReturned self.now) }
+        ensures number { result.0 ≡ returned_number self.now }
+        ensures question { result.1 ≡ returned_question self.now }
+        ensures pointer { IfOk result.2 (λ d. draft_of d ≡ returned_pointer self.now) }
+        ensures held { IfOk result.2 (λ d. IsReturned self.now) }
     {
         match self {
-            Returned::Results(payload) => Ok((0, 0, payload.draft(alloc)?)),
-            Returned::Exception(exception) => Ok((1, 0, exception.draft(alloc)?)),
-            Returned::Canceled => Ok((2, 0, null())),
-            Returned::ResultsSentElsewhere => Ok((3, 0, null())),
-            Returned::TakeFromOtherQuestion(question) => Ok((4, *question, null())),
-            Returned::AcceptFromThirdParty(tree) => Ok((5, 0, Draft::Lent(tree.tree()))),
-            Returned::Unknown(number) => Ok((number.number(), 0, null())),
+            Returned::Results(payload) => (0, 0, payload.draft(alloc)),
+            Returned::Exception(exception) => (1, 0, exception.draft(alloc)),
+            Returned::Canceled => (2, 0, Ok(null())),
+            Returned::ResultsSentElsewhere => (3, 0, Ok(null())),
+            Returned::TakeFromOtherQuestion(question) => (4, *question, Ok(null())),
+            Returned::AcceptFromThirdParty(tree) => (5, 0, Ok(lent(tree))),
+            Returned::Unknown(number) => (number.number(), 0, Ok(null())),
         }
     }
 }

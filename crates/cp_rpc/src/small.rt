@@ -7,7 +7,7 @@ ghost use Rattle.cp_rpc.specs.Held.{IsBootstrap, IsFinish, IsRelease};
 ghost use Rattle.cp_rpc.specs.Made.{bootstrap_made, finish_made, release_made};
 
 use crate::data::{bit_at, bit_part, u32_at, u32_part};
-use crate::draft::{null, struct_of};
+use crate::draft::{null, struct_of, words_of};
 use cp_tree::Draft;
 use std::alloc::{AllocError, Global};
 
@@ -55,8 +55,7 @@ impl Bootstrap {
         ensures held { IfOk result (λ d. IsBootstrap self) }
     {
         let word = u32_part(Bootstrap::QUESTION_ID, self.question_id);
-        let words = Vec::from_slice(alloc, &[word])?;
-        Ok(struct_of(words, vec![in alloc; null()]?))
+        struct_of(alloc, &[word], null())
     }
 }
 
@@ -83,8 +82,7 @@ impl Finish {
     {
         let word = u32_part(Finish::QUESTION_ID, self.question_id)
             + bit_part(Finish::RELEASE_RESULT_CAPS, !self.release_result_caps);
-        let words = Vec::from_slice(alloc, &[word])?;
-        Ok(struct_of(words, Vec::new(alloc)))
+        Ok(Draft::Struct(words_of(alloc, &[word])?))
     }
 }
 
@@ -111,7 +109,6 @@ impl Release {
     {
         let word = u32_part(Release::ID, self.id)
             + u32_part(Release::REFERENCE_COUNT, self.reference_count);
-        let words = Vec::from_slice(alloc, &[word])?;
-        Ok(struct_of(words, Vec::new(alloc)))
+        Ok(Draft::Struct(words_of(alloc, &[word])?))
     }
 }

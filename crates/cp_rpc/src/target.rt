@@ -70,16 +70,16 @@ impl Target {
     }
 
     /// Its member's number, the number that the member carries, and what its pointer stands for.
-    fn parts<'a>(&self, alloc: Global) -> Result<(u16, u32, Draft<'a>), AllocError>
-        ensures number { IfOk result (λ p. p.0 ≡ target_number self.now) }
-        ensures id { IfOk result (λ p. p.1 ≡ target_id self.now) }
-        ensures pointer { IfOk result (λ p. draft_of p.2 ≡ target_pointer self.now) }
-        ensures held { IfOk result (λ p. IsTarget self.now) }
+    fn parts<'a>(&self, alloc: Global) -> (u16, u32, Result<Draft<'a>, AllocError>)
+        ensures number { result.0 ≡ target_number self.now }
+        ensures id { result.1 ≡ target_id self.now }
+        ensures pointer { IfOk result.2 (λ d. draft_of d ≡ target_pointer self.now) }
+        ensures held { IfOk result.2 (λ d. IsTarget self.now) }
     {
         match self {
-            Target::ImportedCap(id) => Ok((0, *id, null())),
-            Target::PromisedAnswer(answer) => Ok((1, 0, answer.draft(alloc)?)),
-            Target::Unknown(number) => Ok((number.number(), 0, null())),
+            Target::ImportedCap(id) => (0, *id, Ok(null())),
+            Target::PromisedAnswer(answer) => (1, 0, answer.draft(alloc)),
+            Target::Unknown(number) => (number.number(), 0, Ok(null())),
         }
     }
 
@@ -88,10 +88,9 @@ impl Target {
         ensures made { IfOk result (λ d. draft_of d ≡ target_made self.now) }
         ensures held { IfOk result (λ d. IsTarget self.now) }
     {
-        let (number, id, pointer) = self.parts(alloc)?;
+        let (number, id, pointer) = self.parts(alloc);
         let word = u32_part(Target::IMPORTED_CAP, id) + u16_part(Target::WHICH, number);
-        let words = Vec::from_slice(alloc, &[word])?;
-        Ok(struct_of(words, vec![in alloc; pointer]?))
+        struct_of(alloc, &[word], pointer?)
     }
 }
 

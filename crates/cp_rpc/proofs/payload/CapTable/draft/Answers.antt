@@ -11,9 +11,9 @@ loop-descriptor-preserved c =
     let xs = c.descriptors-descriptors.result.now in
     let i = c.loop-descriptor.descriptor-index in
     let x = c.descriptor-item.result in
-    let one : draft_body_of c.in_ok-draft.field-0 ≡ body_made (descriptor_made (get_or xs i x)) = rw (← c.descriptor-item.is) c.in_ok-draft.ensures.made in
-    let held : IsDescriptor (get_or xs i x) = rw (← c.descriptor-item.is) c.in_ok-draft.ensures.held in
+    let one : draft_body_of c.in_ok-body.field-0 ≡ body_made (descriptor_made (get_or xs i x)) = rw (← c.descriptor-item.is) c.in_ok-body.ensures.made in
+    let held : IsDescriptor (get_or xs i x) = rw (← c.descriptor-item.is) c.in_ok-body.ensures.held in
     record {
-      made = made_more descriptor_made xs i x c.loop-descriptor.items.items c.push.new.self.items c.in_ok-draft.field-0 c.loop-descriptor-test.true c.loop-descriptor.invariant.made one c.in_ok-push.ensures.items;
+      made = made_more descriptor_made xs i x c.loop-descriptor.items.items c.push.new.self.items c.in_ok-body.field-0 c.loop-descriptor-test.true c.loop-descriptor.invariant.made one c.in_ok-push.ensures.items;
       held = All-more IsDescriptor xs i x c.loop-descriptor-test.true c.loop-descriptor.invariant.held held;
     }
