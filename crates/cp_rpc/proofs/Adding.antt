@@ -1,10 +1,15 @@
--- Structs that are made one after another.
-use Rattle.std.proofs.Common.{◌≡◌, ℕ, ◌+◌, ◌<◌, List, [], ◌∷◌, ◌++◌, length, map, take, get_or, sym, ap, ◌∙◌}
-use Rattle.std.proofs.lemmas.List.{take_more, map-append}
-use Rattle.cp_tree.specs.Node.{Node}
-use Rattle.cp_tree.specs.DraftOf.{draft_body_of}
+-- Structs that are made one after another, and texts.
+use Rattle.std.proofs.Common.{◌≡◌, ℕ, ◌+◌, ◌<◌, ◌≤◌, ◌==◌, false, List, [], ◌∷◌, ◌++◌, Vec, Global, length, map, take, get_or, sym, ap, ◌∙◌, rules}
+use Rattle.std.proofs.lemmas.List.{take_more, take_all, map-append}
+use Rattle.cp_tree.specs.Node.{bytes, Node, list, structs}
+use Rattle.cp_tree.specs.NodeOf.{bodies_of}
+use Rattle.cp_tree.specs.DraftOf.{draft_of, draft_body_of}
+use Rattle.cp_tree.specs.declared.draft.Draft.{the_lemmas}
+use Rattle.cp_tree.specs.declared.draft.Draft.TheVariants.{Own}
 use Rattle.cp_tree.specs.declared.draft.DraftBody.{DraftBody}
-use Rattle.cp_rpc.specs.Made.{body_made}
+use Rattle.cp_tree.specs.declared.tree.Tree.TheVariants.{Bytes}
+use Rattle.cp_tree.proofs.Lists.{node-Bytes}
+use Rattle.cp_rpc.specs.Made.{body_made, list_made, text_made}
 
 -- one more struct is made behind those that were made
 pub made_more : {X : Type 0} (made : X → Node) (xs : List X) (i : ℕ) (d : X) (bs more : List DraftBody) (b : DraftBody) → i < length xs
@@ -15,3 +20,18 @@ made_more made xs i d bs more b within before one pushed =
     ∙ ap (λ x. map body_made (map made (take i xs)) ++ x ∷ []) one
     ∙ sym (ap (λ l. map body_made (map made l)) (take_more xs i d within) ∙ ap (λ l. map body_made l) (map-append made (take i xs) (get_or xs i d ∷ []))
     ∙ map-append body_made (map made (take i xs)) (made (get_or xs i d) ∷ []))
+
+-- once all are made, they are the list
+pub made_all : {X : Type 0} (made : X → Node) (d n : ℕ) (xs : List X) (i : ℕ) (bs : List DraftBody) → (length xs == 0) ≡ false → length xs ≤ i
+    → map draft_body_of bs ≡ map body_made (map made (take i xs)) → structs d n (bodies_of (map draft_body_of bs)) ≡ list_made d n (map made xs)
+made_all made d n [] i bs some all before = cc
+made_all made d n (x ∷ xs) i bs some all before =
+    ap (λ l. structs d n (bodies_of l)) (before ∙ ap (λ l. map body_made (map made l)) (take_all i (x ∷ xs) all))
+
+drafted : (v : Vec ℕ Global) → draft_of (Own (Bytes v)) ≡ list (bytes v.items)
+drafted v = search (rules, the_lemmas, node-Bytes)
+
+-- a text that isn't empty
+pub text_ended : (v : Vec ℕ Global) (bs : List ℕ) → (length bs == 0) ≡ false → v.items ≡ bs ++ 0 ∷ [] → draft_of (Own (Bytes v)) ≡ text_made bs
+text_ended v [] some ended = cc
+text_ended v (b ∷ bs) some ended = drafted v ∙ ap (λ l. list (bytes l)) ended

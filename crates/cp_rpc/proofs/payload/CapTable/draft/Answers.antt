@@ -1,9 +1,9 @@
-use Rattle.std.proofs.Common.{◌≡◌, get_or}
+use Rattle.std.proofs.Common.{◌≡◌, get_or, sym, ◌∙◌}
 use Rattle.std.proofs.lemmas.List.Elements.{All-more}
 use Rattle.cp_tree.specs.DraftOf.{draft_body_of}
 use Rattle.cp_rpc.specs.Held.{IsDescriptor}
 use Rattle.cp_rpc.specs.Made.{body_made, descriptor_made}
-use Rattle.cp_rpc.proofs.Adding.{made_more}
+use Rattle.cp_rpc.proofs.Adding.{made_more, made_all}
 use Rattle.cp_rpc.proofs.payload.CapTable.draft.Goals as goal
 
 pub loop-descriptor-preserved : goal.loop-descriptor-preserved
@@ -17,3 +17,8 @@ loop-descriptor-preserved c =
       made = made_more descriptor_made xs i x c.loop-descriptor.items.items c.push.new.self.items c.in_ok-body.field-0 c.loop-descriptor-test.true c.loop-descriptor.invariant.made one c.in_ok-push.ensures.items;
       held = All-more IsDescriptor xs i x c.loop-descriptor-test.true c.loop-descriptor.invariant.held held;
     }
+
+pub returns-clause-made : goal.returns-clause-made
+returns-clause-made c =
+    let some = sym c.is_empty.ensures ∙ c.if-is_empty.false in
+    rw (← c.descriptors-descriptors.ensures) (c.list_of.ensures ∙ made_all descriptor_made 1 1 c.descriptors-descriptors.result.now c.loop-descriptor.descriptor-index c.loop-descriptor.items.items some c.loop-descriptor-test.false c.loop-descriptor.invariant.made)

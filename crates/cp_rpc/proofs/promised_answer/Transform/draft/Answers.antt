@@ -1,9 +1,9 @@
-use Rattle.std.proofs.Common.{◌≡◌, get_or}
+use Rattle.std.proofs.Common.{◌≡◌, get_or, sym, ◌∙◌}
 use Rattle.std.proofs.lemmas.List.Elements.{All-more}
 use Rattle.cp_tree.specs.DraftOf.{draft_body_of}
 use Rattle.cp_rpc.specs.Held.{IsOp}
 use Rattle.cp_rpc.specs.Made.{body_made, op_made}
-use Rattle.cp_rpc.proofs.Adding.{made_more}
+use Rattle.cp_rpc.proofs.Adding.{made_more, made_all}
 use Rattle.cp_rpc.proofs.promised_answer.Transform.draft.Goals as goal
 
 pub loop-op-preserved : goal.loop-op-preserved
@@ -17,3 +17,8 @@ loop-op-preserved c =
       made = made_more op_made xs i x c.loop-op.items.items c.push.new.self.items c.in_ok-draft.field-0 c.loop-op-test.true c.loop-op.invariant.made one c.in_ok-push.ensures.items;
       held = All-more IsOp xs i x c.loop-op-test.true c.loop-op.invariant.held held;
     }
+
+pub returns-clause-made : goal.returns-clause-made
+returns-clause-made c =
+    let some = sym c.is_empty.ensures ∙ c.if-is_empty.false in
+    rw (← c.ops-ops.ensures) (c.list_of.ensures ∙ made_all op_made 1 0 c.ops-ops.result.now c.loop-op.op-index c.loop-op.items.items some c.loop-op-test.false c.loop-op.invariant.made)
