@@ -1,4 +1,4 @@
-use Rattle.std.proofs.Common.{◌≡◌, get_or, sym, ◌∙◌}
+use Rattle.std.proofs.Common.{◌≡◌, ◌==◌, false, length, get_or, ◌∙◌}
 use Rattle.std.proofs.lemmas.List.Elements.{All-more}
 use Rattle.cp_tree.specs.DraftOf.{draft_body_of}
 use Rattle.cp_rpc.specs.Held.{IsDescriptor}
@@ -20,5 +20,5 @@ loop-descriptor-preserved c =
 
 pub returns-clause-made : goal.returns-clause-made
 returns-clause-made c =
-    let some = sym c.is_empty.ensures ∙ c.if-is_empty.false in
+    let some : (length c.descriptors-descriptors.result.now == 0) ≡ false = cc in
     rw (← c.descriptors-descriptors.ensures) (c.list_of.ensures ∙ made_all descriptor_made 1 1 c.descriptors-descriptors.result.now c.loop-descriptor.descriptor-index c.loop-descriptor.items.items some c.loop-descriptor-test.false c.loop-descriptor.invariant.made)

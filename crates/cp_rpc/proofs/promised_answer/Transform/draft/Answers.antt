@@ -1,4 +1,4 @@
-use Rattle.std.proofs.Common.{◌≡◌, get_or, sym, ◌∙◌}
+use Rattle.std.proofs.Common.{◌≡◌, ◌==◌, false, length, get_or, ◌∙◌}
 use Rattle.std.proofs.lemmas.List.Elements.{All-more}
 use Rattle.cp_tree.specs.DraftOf.{draft_body_of}
 use Rattle.cp_rpc.specs.Held.{IsOp}
@@ -20,5 +20,5 @@ loop-op-preserved c =
 
 pub returns-clause-made : goal.returns-clause-made
 returns-clause-made c =
-    let some = sym c.is_empty.ensures ∙ c.if-is_empty.false in
+    let some : (length c.ops-ops.result.now == 0) ≡ false = cc in
     rw (← c.ops-ops.ensures) (c.list_of.ensures ∙ made_all op_made 1 0 c.ops-ops.result.now c.loop-op.op-index c.loop-op.items.items some c.loop-op-test.false c.loop-op.invariant.made)

@@ -1,4 +1,4 @@
-use Rattle.std.proofs.Common.{refl, sym, ◌∙◌}
+use Rattle.std.proofs.Common.{refl}
 use Rattle.cp_rpc.proofs.Adding.{text_ended}
 use Rattle.cp_rpc.proofs.text.Text.draft.Goals as goal
 
@@ -6,5 +6,5 @@ pub returns-clause-made : goal.returns-clause-made
 returns-clause-made c =
     let bytes = c.as_bytes-bytes.ensures.value in
     text_ended c.push.new.self c.args.self.now
-    (rw (← c.as_str.ensures, ← bytes) (sym c.is_empty.ensures ∙ c.if-is_empty.false))
+    (rw (← c.as_str.ensures, ← bytes) (cc))
     (rw (c.in_ok-push.ensures.items, c.in_ok-extend_from_slice.ensures.items, c.in_ok-ended.ensures.items, bytes, c.as_str.ensures) refl)
