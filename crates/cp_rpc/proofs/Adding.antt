@@ -1,15 +1,11 @@
--- Structs that are made one after another, and texts.
-use Rattle.std.proofs.Common.{◌≡◌, ℕ, ◌+◌, ◌<◌, ◌≤◌, ◌==◌, false, List, [], ◌∷◌, ◌++◌, Vec, Global, length, map, take, get_or, sym, ap, ◌∙◌, rules}
+-- Structs that are made one after another.
+use Rattle.std.proofs.Common.{◌≡◌, ℕ, ◌+◌, ◌<◌, ◌≤◌, ◌==◌, false, List, [], ◌∷◌, ◌++◌, length, map, take, get_or, sym, ap, ◌∙◌}
 use Rattle.std.proofs.lemmas.List.{take_more, take_all, map-append}
-use Rattle.cp_tree.specs.Node.{bytes, Node, list, structs}
+use Rattle.cp_tree.specs.Node.{Node, structs}
 use Rattle.cp_tree.specs.NodeOf.{bodies_of}
-use Rattle.cp_tree.specs.DraftOf.{draft_of, draft_body_of}
-use Rattle.cp_tree.specs.declared.draft.Draft.{the_lemmas}
-use Rattle.cp_tree.specs.declared.draft.Draft.TheVariants.{Own}
+use Rattle.cp_tree.specs.DraftOf.{draft_body_of}
 use Rattle.cp_tree.specs.declared.draft.DraftBody.{DraftBody}
-use Rattle.cp_tree.specs.declared.tree.Tree.TheVariants.{Bytes}
-use Rattle.cp_tree.proofs.Lists.{node-Bytes}
-use Rattle.cp_rpc.specs.Made.{body_made, list_made, text_made}
+use Rattle.cp_rpc.specs.Made.{body_made, list_made}
 
 -- one more struct is made behind those that were made
 pub made_more : {X : Type 0} (made : X → Node) (xs : List X) (i : ℕ) (d : X) (bs more : List DraftBody) (b : DraftBody) → i < length xs
@@ -27,11 +23,3 @@ pub made_all : {X : Type 0} (made : X → Node) (d n : ℕ) (xs : List X) (i : �
 made_all made d n [] i bs some all before = cc
 made_all made d n (x ∷ xs) i bs some all before =
     ap (λ l. structs d n (bodies_of l)) (before ∙ ap (λ l. map body_made (map made l)) (take_all i (x ∷ xs) all))
-
-drafted : (v : Vec ℕ Global) → draft_of (Own (Bytes v)) ≡ list (bytes v.items)
-drafted v = search (rules, the_lemmas, node-Bytes)
-
--- a text that isn't empty
-pub text_ended : (v : Vec ℕ Global) (bs : List ℕ) → (length bs == 0) ≡ false → v.items ≡ bs ++ 0 ∷ [] → draft_of (Own (Bytes v)) ≡ text_made bs
-text_ended v [] some ended = cc
-text_ended v (b ∷ bs) some ended = drafted v ∙ ap (λ l. list (bytes l)) ended
