@@ -105,11 +105,8 @@ fn expect_fault(
     (nesting, traversal): (u32, u32),
     fault: Option<TreeFault>,
 ) {
-    assert_eq!(rt;
-        fault_of(rt, alloc, &[text], nesting, traversal),
-        fault,
-        "{text}"
-    );
+    let found = fault_of(rt, alloc, &[text], nesting, traversal);
+    assert!(rt; found == fault, "{text}");
 }
 
 /// A tree is the wanted one.
