@@ -445,9 +445,10 @@ fn a_writer_may_fail_at_each_call(rt: HostRuntime) {
 /// The frame of these words' message in a form.
 fn frame_in(rt: &impl Abort, alloc: Global, words: &[u64], mode: Mode) -> Vec<u8> {
     let plain = bytes_of(rt, alloc, words);
-    let frame = formed(rt, alloc, &plain, mode);
-    drop(plain);
-    frame
+    match mode {
+        Mode::Plain => plain,
+        Mode::Packed => formed(rt, alloc, &plain, mode),
+    }
 }
 
 #[test]
