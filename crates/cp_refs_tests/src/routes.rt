@@ -6,7 +6,7 @@ use cp_refs::{
 use cp_rpc::{Exception, ExceptionKind, Text};
 use cp_tree::{Body, Tree, Whole};
 use std::alloc::Global;
-use std::test::Fail;
+use std::process::Abort;
 
 /// A struct of these pointers.
 fn with_pointers(alloc: Global, ptrs: Vec<Tree>) -> Tree {
@@ -16,36 +16,41 @@ fn with_pointers(alloc: Global, ptrs: Vec<Tree>) -> Tree {
     })
 }
 
-fn whole(tree: Tree) -> Result<Whole, Fail> {
-    match Whole::new(tree) {
-        Ok(whole) => Ok(whole),
-        Err(_) => Err(Fail::from("no whole")),
-    }
+fn whole(rt: &impl Abort, tree: Tree) -> Whole {
+    Whole::new(tree).ok().expect(rt, "a whole")
 }
 
 /// Pointers to a capability, a struct with one, an index past the table, and a list.
-fn results(alloc: Global) -> Result<Outcome, Fail> {
-    let inner = with_pointers(alloc, vec![in alloc; Tree::Cap(1)]?);
-    let ptrs = vec![in alloc; Tree::Cap(0), inner, Tree::Cap(2), Tree::Voids(3)]?;
-    Ok(Outcome::Results {
-        content: whole(with_pointers(alloc, ptrs))?,
-        caps: Caps::new(vec![in alloc; Cap::Object(5), Cap::Import(6)]?),
-    })
-}
-
-/// The number of the object or the import at a path, and 0 for null.
-fn number_at(alloc: Global, outcome: &Outcome, path: &[u16]) -> Result<Option<u32>, Fail> {
-    match at(alloc, outcome, path)? {
-        Cap::None => Ok(Some(0)),
-        Cap::Object(id) => Ok(Some(id)),
-        Cap::Import(id) => Ok(Some(id)),
-        _ => Ok(None),
+fn results(rt: &impl Abort, alloc: Global) -> Outcome {
+    let inner = vec![in alloc; Tree::Cap(1)].expect(rt, "memory");
+    let inner = with_pointers(alloc, inner);
+    let ptrs = vec![in alloc; Tree::Cap(0), inner, Tree::Cap(2), Tree::Voids(3)];
+    let ptrs = ptrs.expect(rt, "memory");
+    let caps = vec![in alloc; Cap::Object(5), Cap::Import(6)].expect(rt, "memory");
+    Outcome::Results {
+        content: whole(rt, with_pointers(alloc, ptrs)),
+        caps: Caps::new(caps),
     }
 }
 
+/// The number of the object or the import at a path, and 0 for null.
+fn number_at(rt: &impl Abort, alloc: Global, outcome: &Outcome, path: &[u16]) -> Option<u32> {
+    match at(alloc, outcome, path).expect(rt, "memory") {
+        Cap::None => Some(0),
+        Cap::Object(id) => Some(id),
+        Cap::Import(id) => Some(id),
+        _ => None,
+    }
+}
+
+/// A path gives an object or an import of this number, or null for 0.
+fn expect_at(rt: &impl Abort, alloc: Global, outcome: &Outcome, path: &[u16], number: u32) {
+    assert_eq!(rt; number_at(rt, alloc, outcome, path), Some(number));
+}
+
 #[test]
-fn results_give_what_stands_at_a_path(rt: HostRuntime) -> Result<(), Fail> {
-    let outcome = results(rt.alloc())?;
+fn results_give_what_stands_at_a_path(rt: HostRuntime) {
+    let outcome = results(&rt, rt.alloc());
     let rows = [
         ([0, 0], 1, 5),
         ([1, 0], 1, 0),
@@ -57,10 +62,9 @@ fn results_give_what_stands_at_a_path(rt: HostRuntime) -> Result<(), Fail> {
         ([0, 0], 0, 0),
     ];
     for (path, length, want) in rows {
-        let got = number_at(rt.alloc(), &outcome, &path[..length])?;
-        assert_eq!(rt; got, Some(want), "at {length}");
+        expect_at(&rt, rt.alloc(), &outcome, &path[..length], want);
     }
-    Ok(())
+    drop(outcome);
 }
 
 /// The reason of a broken capability.
@@ -71,72 +75,92 @@ fn reason(cap: &Cap) -> &str {
     }
 }
 
-fn exception(alloc: Global, reason: &str) -> Result<Exception, Fail> {
-    Ok(Exception {
+fn exception(rt: &impl Abort, alloc: Global, reason: &str) -> Exception {
+    Exception {
         kind: ExceptionKind::Overloaded,
-        reason: Text::new(String::from_str(alloc, reason)?),
+        reason: Text::new(String::from_str(alloc, reason).expect(rt, "memory")),
         trace: Text::new(String::new(alloc)),
-    })
+    }
+}
+
+/// A path gives a capability that is broken for this reason.
+fn expect_broken(rt: &impl Abort, alloc: Global, outcome: &Outcome, path: &[u16], wanted: &str) {
+    let cap = at(alloc, outcome, path).expect(rt, "memory");
+    assert!(rt; reason(&cap) == wanted);
+    drop(cap);
 }
 
 #[test]
-fn what_failed_gives_its_exception_at_every_path(rt: HostRuntime) -> Result<(), Fail> {
-    let failed = Outcome::Failed(exception(rt.alloc(), "no")?);
-    assert_eq!(rt; reason(&at(rt.alloc(), &failed, &[3])?), "no");
-    let canceled = at(rt.alloc(), &Outcome::Canceled, &[0, 1])?;
-    assert_eq!(rt; reason(&canceled), "canceled");
-    Ok(())
+fn what_failed_gives_its_exception_at_every_path(rt: HostRuntime) {
+    let failed = Outcome::Failed(exception(&rt, rt.alloc(), "no"));
+    expect_broken(&rt, rt.alloc(), &failed, &[3], "no");
+    drop(failed);
+    expect_broken(&rt, rt.alloc(), &Outcome::Canceled, &[0, 1], "canceled");
 }
 
 /// The route of a promise, if it came to one that came to an import.
-fn route_by_promises(values: &Values, id: PromiseId) -> Result<Option<Route>, Fail> {
+fn route_by_promises(rt: &impl Abort, values: &Values, id: PromiseId) -> Option<Route> {
     let Some(Some(Cap::Promise(next))) = values.promise(id) else {
-        return Ok(None);
+        return None;
     };
     let Some(Some(Cap::Import(_))) = values.promise(*next) else {
-        return Ok(None);
+        return None;
     };
-    Ok(Some(values.route(&Cap::Promise(id))?))
+    Some(values.route(&Cap::Promise(id)).expect(rt, "memory"))
+}
+
+/// Promise 4, which came to promise 9, which came to import 7, which came to an object.
+fn promises(rt: &impl Abort, alloc: Global) -> Values {
+    let mut values = Values::new(alloc);
+    let put = values.put_promise(4, Some(Cap::Promise(9)));
+    put.expect(rt, "memory");
+    let put = values.put_promise(9, Some(Cap::Import(7)));
+    put.expect(rt, "memory");
+    let put = values.put_import(7, Some(Cap::Object(3)));
+    put.expect(rt, "memory");
+    values
 }
 
 #[test]
-fn promises_lead_to_an_import_whatever_it_came_to(rt: HostRuntime) -> Result<(), Fail> {
-    let mut values = Values::new(rt.alloc());
-    values.put_promise(4, Some(Cap::Promise(9)))?;
-    values.put_promise(9, Some(Cap::Import(7)))?;
-    values.put_import(7, Some(Cap::Object(3)))?;
-    let route = route_by_promises(&values, 4)?;
+fn promises_lead_to_an_import_whatever_it_came_to(rt: HostRuntime) {
+    let mut values = promises(&rt, rt.alloc());
+    let route = route_by_promises(&rt, &values, 4);
     assert!(rt; matches!(route, Some(Route::Import(7))));
+    drop(route);
     drop(values.remove_promise(9));
-    assert!(rt; route_by_promises(&values, 4)?.is_none());
-    Ok(())
+    assert!(rt; route_by_promises(&rt, &values, 4).is_none());
+    drop(values);
 }
 
 /// The route of what a question gives at a path, if it is open.
-fn route_if_open(values: &Values, id: u32, path: Path) -> Result<Option<Route>, Fail> {
+fn route_if_open(rt: &impl Abort, values: &Values, id: u32, path: Path) -> Option<Route> {
     let Some(question) = values.question(id) else {
-        return Ok(None);
+        return None;
     };
     if question.outcome.is_some() {
-        return Ok(None);
+        return None;
     }
-    Ok(Some(values.route(&Cap::Pipelined(id, path))?))
+    Some(values.route(&Cap::Pipelined(id, path)).expect(rt, "memory"))
 }
 
 /// The route of what question 1 of this kind gives, while it is open.
-fn open_route(alloc: Global, kind: QuestionKind) -> Result<Option<Route>, Fail> {
+fn open_route(rt: &impl Abort, alloc: Global, kind: QuestionKind) -> Option<Route> {
     let mut values = Values::new(alloc);
     let outcome = None;
-    values.put_question(1, Question { kind, outcome })?;
-    let path = Path::new(vec![in alloc; 3]?);
-    route_if_open(&values, 1, path)
+    let put = values.put_question(1, Question { kind, outcome });
+    put.expect(rt, "memory");
+    let path = Path::new(vec![in alloc; 3].expect(rt, "memory"));
+    let route = route_if_open(rt, &values, 1, path);
+    drop(values);
+    route
 }
 
 #[test]
-fn an_open_question_is_asked_or_waited_for(rt: HostRuntime) -> Result<(), Fail> {
-    let route = open_route(rt.alloc(), QuestionKind::Wire)?;
+fn an_open_question_is_asked_or_waited_for(rt: HostRuntime) {
+    let route = open_route(&rt, rt.alloc(), QuestionKind::Wire);
     assert!(rt; matches!(route, Some(Route::Pipe(1, _))));
-    let route = open_route(rt.alloc(), QuestionKind::Local)?;
+    drop(route);
+    let route = open_route(&rt, rt.alloc(), QuestionKind::Local);
     assert!(rt; matches!(route, Some(Route::Wait(Gate::Question(1, _)))));
-    Ok(())
+    drop(route);
 }

@@ -3,7 +3,7 @@
 use cp_refs::{Caps, Gate, Held, Origin, Path, Request, Waiting};
 use cp_tree::Whole;
 use std::alloc::Global;
-use std::test::Fail;
+use std::process::Abort;
 
 fn request(alloc: Global, method: u16) -> Request {
     Request {
@@ -14,18 +14,18 @@ fn request(alloc: Global, method: u16) -> Request {
     }
 }
 
-/// Takes in a call, if its ticket is free.
-fn hold(alloc: Global, waiting: &mut Waiting, ticket: u64, gate: Gate) -> Result<(), Fail> {
+/// Takes in a call, whose ticket is free.
+fn hold(rt: &impl Abort, alloc: Global, waiting: &mut Waiting, ticket: u64, gate: Gate) {
     if waiting.get(ticket).is_some() {
-        return Err(Fail::from("taken"));
+        panic!(rt; "taken");
     }
-    waiting.hold(Held {
+    let held = waiting.hold(Held {
         ticket,
         origin: Origin::Own(1),
         request: request(alloc, 2),
         gate,
-    })?;
-    Ok(())
+    });
+    held.expect(rt, "memory");
 }
 
 #[derive(Clone, Copy)]
@@ -36,11 +36,13 @@ enum Place {
 }
 
 /// Gate 3 of this place.
-fn gate(alloc: Global, place: Place) -> Result<Gate, Fail> {
+fn gate(rt: &impl Abort, alloc: Global, place: Place) -> Gate {
     match place {
-        Place::Promise => Ok(Gate::Promise(3)),
-        Place::Question(field) => Ok(Gate::Question(3, Path::new(vec![in alloc; field]?))),
-        Place::Embargo => Ok(Gate::Embargo(3)),
+        Place::Promise => Gate::Promise(3),
+        Place::Question(field) => {
+            Gate::Question(3, Path::new(vec![in alloc; field].expect(rt, "memory")))
+        }
+        Place::Embargo => Gate::Embargo(3),
     }
 }
 
@@ -55,25 +57,28 @@ fn next(waiting: &mut Waiting) -> Option<u64> {
     Some(waiting.next()?.ticket)
 }
 
-/// Does a move, and says whether it gave what was wanted.
-fn goes(alloc: Global, waiting: &mut Waiting, step: Move) -> Result<bool, Fail> {
+/// Ends a gate.
+fn end(rt: &impl Abort, waiting: &mut Waiting, gate: Gate) {
+    waiting.end(&gate).expect(rt, "memory");
+    drop(gate);
+}
+
+/// The call that leaves is the wanted one.
+fn expect_next(rt: &impl Abort, waiting: &mut Waiting, wanted: Option<u64>) {
+    assert_eq!(rt; next(waiting), wanted);
+}
+
+/// Does a move, which gives what is wanted.
+fn go(rt: &impl Abort, alloc: Global, waiting: &mut Waiting, step: Move) {
     match step {
-        Move::Hold(ticket, place) => {
-            let gate = gate(alloc, place)?;
-            hold(alloc, waiting, ticket, gate)?;
-            Ok(true)
-        }
-        Move::End(place) => {
-            let gate = gate(alloc, place)?;
-            waiting.end(&gate)?;
-            Ok(true)
-        }
-        Move::Next(want) => Ok(next(waiting) == want),
+        Move::Hold(ticket, place) => hold(rt, alloc, waiting, ticket, gate(rt, alloc, place)),
+        Move::End(place) => end(rt, waiting, gate(rt, alloc, place)),
+        Move::Next(wanted) => expect_next(rt, waiting, wanted),
     }
 }
 
 #[test]
-fn a_gate_ends_at_every_path_and_the_lowest_ticket_leaves(rt: HostRuntime) -> Result<(), Fail> {
+fn a_gate_ends_at_every_path_and_the_lowest_ticket_leaves(rt: HostRuntime) {
     let mut waiting = Waiting::new(rt.alloc());
     let steps = [
         Move::Hold(7, Place::Question(0)),
@@ -93,20 +98,21 @@ fn a_gate_ends_at_every_path_and_the_lowest_ticket_leaves(rt: HostRuntime) -> Re
         Move::Next(Some(1)),
     ];
     for step in steps {
-        assert!(rt; goes(rt.alloc(), &mut waiting, step)?);
+        go(&rt, rt.alloc(), &mut waiting, step);
     }
-    Ok(())
+    drop(waiting);
 }
 
 #[test]
-fn many_calls_come_and_leave(rt: HostRuntime) -> Result<(), Fail> {
+fn many_calls_come_and_leave(rt: HostRuntime) {
     let mut waiting = Waiting::new(rt.alloc());
     for place in 0..100_000u64 {
-        hold(rt.alloc(), &mut waiting, 100_000 - place, Gate::Promise(1))?;
+        let ticket = 100_000 - place;
+        hold(&rt, rt.alloc(), &mut waiting, ticket, Gate::Promise(1));
     }
-    waiting.end(&Gate::Promise(1))?;
+    end(&rt, &mut waiting, Gate::Promise(1));
     for ticket in 1..100_001 {
-        assert_eq!(rt; next(&mut waiting), Some(ticket));
+        expect_next(&rt, &mut waiting, Some(ticket));
     }
-    Ok(())
+    drop(waiting);
 }

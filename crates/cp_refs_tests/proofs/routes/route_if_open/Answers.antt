@@ -3,4 +3,4 @@ use Rattle.cp_refs.proofs.Walks.{open_routes}
 use Rattle.cp_refs_tests.proofs.routes.route_if_open.Goals as goal
 
 pub route-requires : goal.route-requires
-route-requires c = open_routes c.args.values.now c.args.id c.args.path c.in-Some.question.now c.in-Some.ensures (sym c.if-is_some.ensures)
+route-requires g c = open_routes c.args.values.now c.args.id c.args.path c.in-Some.question.now c.in-Some.ensures (sym c.if-is_some.ensures)
