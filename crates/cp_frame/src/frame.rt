@@ -20,16 +20,6 @@ use std::mem;
 /// How many words a header alone may reserve: with the table and the list of segments 1 MiB.
 const FIRST_ROOM: usize = 129_024;
 
-/// How many words are reserved at first for a segment that is larger.
-const SMALL_ROOM: usize = 8_192;
-
-/// How many words are reserved for a segment of so many, of which nothing has come.
-fn first_room(size: usize) -> usize
-    ensures { result ≤ FIRST_ROOM }
-{
-    if size <= FIRST_ROOM { size } else { SMALL_ROOM }
-}
-
 /// What has come of a frame.
 #[derive(Drop)]
 pub struct OpenFrame {
@@ -53,7 +43,7 @@ fn new_segment(alloc: Global, table: &[u64], segment: usize) -> Result<Vec<u64>,
     ensures room { IfOk result (λ v. vec_capacity v ≤ FIRST_ROOM) }
 {
     let room = if segment < table::count(table) {
-        first_room(table::size(table, segment))
+        table::size(table, segment).min(FIRST_ROOM)
     } else {
         0
     };
@@ -82,13 +72,13 @@ fn close(
 }
 
 /// Makes room for so many words that have come, where so many are missing of the segment: for all that
-/// are missing, but for no more than have come or than a header may reserve.
+/// are missing, but for no more than have come.
 pub fn make_room(words: &mut Vec<u64>, taken: usize, missing: usize) -> Result<(), AllocError>
     ensures { OnOk result (words.new.items ≡ words.old.items) }
 {
     let room = words.capacity() - words.len();
     if room < taken {
-        words.reserve_exact(missing.min(words.len().max(taken).max(FIRST_ROOM)))?;
+        words.reserve_exact(missing.min(words.len().max(taken)))?;
     }
     Ok(())
 }
@@ -295,7 +285,7 @@ impl OpenFrame {
             return Ok(left);
         }
         self.total = size as u64;
-        self.words = Vec::with_capacity(alloc, first_room(size))?;
+        self.words = Vec::with_capacity(alloc, size.min(FIRST_ROOM))?;
         Ok(back)
     }
 
