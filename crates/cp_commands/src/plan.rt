@@ -155,10 +155,11 @@ impl Plan {
             } else {
                 PIECE
             };
-            for frame in &frames {
-                self.take(alloc, &frame.1, &mut last, out)?;
+            for (taken, segments) in frames {
+                self.take(alloc, &segments, &mut last, out)?;
+                reader.reuse(segments);
                 progress.frames = progress.frames.saturating_add(1);
-                progress.bytes = progress.bytes.saturating_add(frame.0);
+                progress.bytes = progress.bytes.saturating_add(taken);
             }
         }
         Err(Stop::Device)

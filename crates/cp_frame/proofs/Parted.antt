@@ -45,8 +45,8 @@ module _ (limits : Bounds) (f : OpenFrame) (h : InSegments limits f) (none : f.p
       ap (λ (b : List ℕ). (bytes_of f.table.items ++ b) ++ f.part.items) (e ∙ ap (λ (us : List ℕ). body S us) t.puts ∙ body_more S f.words.items more)
       ∙ rest_more (bytes_of f.table.items) (body S f.words.items) (bytes_of more) f.part.items none
 
-  pub part_open : (W : Vec ℕ) → W.items ≡ words → (length words ≡ most → ⊥) → TakesPart limits f run left (record { table = f.table; total = f.total; segments = f.segments; words = W; part = f.part }) next back
-  part_open W e n = record {
+  pub part_open : (W R : Vec ℕ) → W.items ≡ words → (length words ≡ most → ⊥) → TakesPart limits f run left (record { table = f.table; total = f.total; segments = f.segments; words = W; part = f.part; room = R }) next back
+  part_open W R e n = record {
     front = t.front;
     whole = t.whole;
     are_words = t.are_words;
@@ -62,9 +62,9 @@ module _ (limits : Bounds) (f : OpenFrame) (h : InSegments limits f) (none : f.p
     });
   }
 
-  pub part_full : (V : Vec (Vec ℕ)) (W : Vec ℕ) → length words ≡ most → Fills sizes (lists V.items) W.items → body (lists V.items) W.items ≡ body S words
-      → (length V.items ≡ count_of f.table.items) ⊎ (length W.items < get_or sizes (length V.items) 0) → TakesPart limits f run left (record { table = f.table; total = f.total; segments = V; words = W; part = f.part }) next back
-  part_full V W e fills b k = record {
+  pub part_full : (V : Vec (Vec ℕ)) (W R : Vec ℕ) → length words ≡ most → Fills sizes (lists V.items) W.items → body (lists V.items) W.items ≡ body S words
+      → (length V.items ≡ count_of f.table.items) ⊎ (length W.items < get_or sizes (length V.items) 0) → TakesPart limits f run left (record { table = f.table; total = f.total; segments = V; words = W; part = f.part; room = R }) next back
+  part_full V W R e fills b k = record {
     front = t.front;
     whole = t.whole;
     are_words = t.are_words;
@@ -75,7 +75,7 @@ module _ (limits : Bounds) (f : OpenFrame) (h : InSegments limits f) (none : f.p
   }
     where
       by : (length V.items ≡ count_of f.table.items) ⊎ (length W.items < get_or sizes (length V.items) 0)
-          → InSegments limits (record { table = f.table; total = f.total; segments = V; words = W; part = f.part }) ⊎ (IsComplete limits (record { table = f.table; total = f.total; segments = V; words = W; part = f.part }) × (next ≡ 0))
+          → InSegments limits (record { table = f.table; total = f.total; segments = V; words = W; part = f.part; room = R }) ⊎ (IsComplete limits (record { table = f.table; total = f.total; segments = V; words = W; part = f.part; room = R }) × (next ≡ 0))
       by (inl all) = inr (record { table = h.table; whole = h.whole; fills = fills; all = all; no_part = none }, t.ends e)
       by (inr less) = inl (record { table = h.table; whole = h.whole; fills = fills; goes_on = less; short = h.short })
 

@@ -118,3 +118,7 @@ least_words f = (if length f.table.items == 0 then 0 else count_of f.table.items
 -- how many words are kept
 abbrev pub kept_words : OpenFrame → ℕ
 kept_words f = length f.table.items + sum (sizes_of (lists f.segments.items)) + length f.words.items
+
+-- the same frame, with other room for the next
+abbrev pub roomed : OpenFrame → Vec ℕ → OpenFrame
+roomed f room = record { table = f.table; total = f.total; segments = f.segments; words = f.words; part = f.part; room = room }

@@ -3,7 +3,7 @@
 ghost use Rattle.std.specs.Prelude.{◌≡◌, ◌⊎◌, ◌^◌, ◌+◌, ◌*◌, ◌/◌, ◌%◌, ◌<◌, ◌≤◌, ◌++◌, ◌∷◌, [], ◌↔◌, IsTrue, IfOk, OnOk, IfErr, length, sum, replicate, slice_index, vec_capacity};
 ghost use Rattle.cp_frame.specs.Framed.{bytes_of, sizes_of};
 ghost use Rattle.std.specs.Int.{to_le_bytes, w64};
-ghost use Rattle.cp_frame.specs.Parts.{Takes, IsBegun, InTable, InSegments, halves, count_of, IsWholeTable, IsTable, IsFaultOf, Fills, body, lists, words_in, rest_of, IsOpen, IsComplete, IsEmpty, least_words, kept_words};
+ghost use Rattle.cp_frame.specs.Parts.{Takes, IsBegun, InTable, InSegments, halves, count_of, IsWholeTable, IsTable, IsFaultOf, Fills, body, lists, words_in, rest_of, IsOpen, IsComplete, IsEmpty, least_words, kept_words, roomed};
 ghost use Rattle.cp_frame.specs.Stream.{numbers, named_sizes};
 ghost use Rattle.cp_frame.specs.Rest.{IsFaultOfWords};
 ghost use Rattle.cp_frame.specs.Bulk.{TakesPart};
@@ -20,6 +20,12 @@ use std::mem;
 /// How many words a header alone may reserve: with the table and the list of segments 1 MiB.
 const FIRST_ROOM: usize = 129_024;
 
+/// How many times the words of a first segment its room may have.
+const MOST_SPARE: usize = 8;
+
+/// How many words are moved at the most.
+const LITTLE: usize = 8_192;
+
 /// What has come of a frame.
 #[derive(Drop)]
 pub struct OpenFrame {
@@ -33,6 +39,8 @@ pub struct OpenFrame {
     pub words: Vec<u64>,
     /// The bytes of a word that isn't whole.
     pub part: Vec<u8>,
+    /// Room for the words of a frame's first segment.
+    pub room: Vec<u64>,
 }
 
 /// A segment of which nothing has come. A large one begins with less room than it will need, since
@@ -48,6 +56,35 @@ fn new_segment(alloc: Global, table: &[u64], segment: usize) -> Result<Vec<u64>,
         0
     };
     Vec::with_capacity(alloc, room)
+}
+
+/// The first segment, of so many words, of which nothing has come. It takes the spare room, where that
+/// is neither less than it would begin with nor far more than it needs.
+fn first_segment(alloc: Global, size: usize, spare: &mut Vec<u64>) -> Result<Vec<u64>, AllocError>
+    ensures items { IfOk result (λ v. v.items ≡ []) }
+    ensures room { IfOk result (λ v. (vec_capacity v ≤ FIRST_ROOM) ⊎ (vec_capacity v ≡ vec_capacity spare.old)) }
+{
+    let room = size.min(FIRST_ROOM);
+    if spare.capacity() < room || size < spare.capacity() / MOST_SPARE {
+        return Vec::with_capacity(alloc, room);
+    }
+    let mut words = mem::replace(spare, Vec::new(alloc));
+    words.clear();
+    Ok(words)
+}
+
+/// Moves a segment that will have so many words, and of which little has come, into the spare room, where it
+/// would have to grow in its own.
+fn settle(words: &mut Vec<u64>, size: usize, spare: &mut Vec<u64>) -> Result<(), AllocError>
+    ensures { OnOk result (words.new.items ≡ words.old.items) }
+{
+    if size <= words.capacity() || spare.capacity() < size || LITTLE < words.len() {
+        return Ok(());
+    }
+    spare.clear();
+    spare.extend_from_slice(words)?;
+    mem::swap(words, spare);
+    Ok(())
 }
 
 /// Puts away each segment that is whole.
@@ -169,6 +206,16 @@ impl OpenFrame {
             segments: Vec::new(alloc),
             words: Vec::new(alloc),
             part: Vec::new(alloc),
+            room: Vec::new(alloc),
+        }
+    }
+
+    /// Keeps the list's room, if it is more than what is kept.
+    pub fn keep_room(&mut self, list: Vec<u64>)
+        ensures { self.new ≡ roomed self.old self.new.room }
+    {
+        if self.room.capacity() < list.capacity() {
+            self.room = list;
         }
     }
 
@@ -191,7 +238,7 @@ impl OpenFrame {
         table::push(&mut self.table, &mut self.total, limits, word)?;
         if table::is_whole(&self.table) {
             self.segments = Vec::with_capacity(alloc, table::count(&self.table))?;
-            self.words = new_segment(alloc, &self.table, 0)?;
+            self.words = first_segment(alloc, table::size(&self.table, 0), &mut self.room)?;
             close(alloc, &self.table, &mut self.segments, &mut self.words)?;
         }
         Ok(())
@@ -285,7 +332,7 @@ impl OpenFrame {
             return Ok(left);
         }
         self.total = size as u64;
-        self.words = Vec::with_capacity(alloc, size.min(FIRST_ROOM))?;
+        self.words = first_segment(alloc, size, &mut self.room)?;
         Ok(back)
     }
 
@@ -304,6 +351,7 @@ impl OpenFrame {
         ensures { IfOk result (λ back. TakesPart limits self.old run.old left.now self.new run.new back.now) }
     {
         let most = table::size(&self.table, self.segments.len());
+        settle(&mut self.words, most, &mut self.room)?;
         let back = take_groups(&mut self.words, run, most, left)?;
         if self.words.len() == most {
             close(alloc, &self.table, &mut self.segments, &mut self.words)?;
@@ -325,6 +373,8 @@ impl OpenFrame {
         ensures begun { OnOk result (IsBegun limits self.new) }
     {
         if self.part.is_empty() && 8 <= left.len() {
+            let size = table::size(&self.table, self.segments.len());
+            settle(&mut self.words, size, &mut self.room)?;
             return take_words(
                 alloc,
                 &self.table,

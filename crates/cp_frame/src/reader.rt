@@ -242,6 +242,14 @@ impl FrameReader {
         )
     }
 
+    /// Takes back a message that isn't needed any more, for the room of its first segment, in which the reader
+    /// may make a later frame. It keeps one such room, the largest. What has come of the stream stays as it is.
+    pub fn reuse(&mut self, segments: Segments)
+        ensures { self.new ≡ self.old }
+    {
+        self.rest.frame.keep_room(segments.into_first());
+    }
+
     /// Ends the stream. `Ok` says that it ended behind a frame, and then it may still go on.
     ///
     /// `Truncated` (F3) says that it ended inside one. A kept fault is told instead, and after a

@@ -234,6 +234,40 @@ fn an_empty_segment_is_a_frame(rt: HostRuntime) {
     drop(frames);
 }
 
+/// A frame of one segment comes in two pieces, and its message is given back.
+fn read_and_reuse(
+    rt: &impl Abort,
+    reader: &mut FrameReader,
+    (front, back): (&[u8], &[u8]),
+    words: &[u64],
+) {
+    expect_fed(rt, reader, front, Ok(0));
+    let mut frames = reader.feed(back).expect(rt, "frames");
+    let frame = frames.pop().expect(rt, "a frame");
+    drop(frames);
+    expect_frame(rt, &frame, 40, &[words]);
+    reader.reuse(frame.1);
+}
+
+#[test]
+fn a_message_that_is_given_back_makes_room_for_the_next(rt: HostRuntime) {
+    let mut reader = new_reader(rt.alloc());
+    read_and_reuse(&rt, &mut reader, FINISH.split_at(9), &FINISH_WORDS);
+    read_and_reuse(&rt, &mut reader, KEEPING.split_at(9), &KEEPING_WORDS);
+    expect_end(&rt, &mut reader, Ok(()));
+    drop(reader);
+}
+
+#[test]
+fn a_message_may_be_given_back_inside_a_frame(rt: HostRuntime) {
+    let mut reader = new_reader(rt.alloc());
+    expect_fed(&rt, &mut reader, &FINISH[..25], Ok(0));
+    reader.reuse(segments_of(&rt, new_reader(rt.alloc()), &KEEPING));
+    expect_held(&rt, &reader, (1, 3));
+    expect_fed(&rt, &mut reader, &FINISH[25..], Ok(1));
+    drop(reader);
+}
+
 /// A frame, and a number of segments behind it that is too large.
 fn faulty_stream() -> [u8; 44] {
     let mut stream = [0xff; 44];
@@ -333,19 +367,39 @@ fn expect_large(rt: &impl Abort, frames: &[(u64, Segments)]) {
     assert!(rt; lists[0].iter().all(|word| *word == 0x8a8a_8a8a_8a8a_8a8a));
 }
 
+/// The table of such a frame.
+const LARGE_TABLE: [u8; 8] = [0, 0, 0, 0, 0x40, 0x0d, 0x03, 0];
+
+/// The last of so many pieces more brings the frame.
+fn expect_large_behind(rt: &impl Abort, mut reader: FrameReader, piece: &[u8], more: u32) {
+    for _ in 1..more {
+        expect_fed(rt, &mut reader, piece, Ok(0));
+    }
+    let frames = reader.feed(piece).expect(rt, "frames");
+    drop(reader);
+    expect_large(rt, &frames);
+    drop(frames);
+}
+
 #[test]
 fn a_large_segment_grows_with_its_bytes(rt: HostRuntime) {
     let piece = vec![in rt.alloc(); 0x8au8; 64_000].expect(&rt, "memory");
     let mut reader = new_reader(rt.alloc());
-    expect_fed(&rt, &mut reader, &[0, 0, 0, 0, 0x40, 0x0d, 0x03, 0], Ok(0));
-    for _ in 0..24 {
-        expect_fed(&rt, &mut reader, &piece, Ok(0));
-    }
-    let frames = reader.feed(&piece).expect(&rt, "frames");
-    drop(reader);
+    expect_fed(&rt, &mut reader, &LARGE_TABLE, Ok(0));
+    expect_large_behind(&rt, reader, &piece, 25);
     drop(piece);
-    expect_large(&rt, &frames);
-    drop(frames);
+}
+
+#[test]
+fn a_large_segment_moves_into_a_room_that_is_given_back(rt: HostRuntime) {
+    let piece = vec![in rt.alloc(); 0x8au8; 64_000].expect(&rt, "memory");
+    let mut reader = new_reader(rt.alloc());
+    expect_fed(&rt, &mut reader, &LARGE_TABLE, Ok(0));
+    expect_fed(&rt, &mut reader, &piece, Ok(0));
+    let room = Vec::with_capacity(rt.alloc(), 200_000).expect(&rt, "memory");
+    reader.reuse(Segments::one(room));
+    expect_large_behind(&rt, reader, &piece, 24);
+    drop(piece);
 }
 
 /// The segments of a frame are written as the frame was.

@@ -35,6 +35,15 @@ fn read_messages(
     Ok(())
 }
 
+/// Gives the last of the frames back to their reader, for its room.
+fn give_back(frames: &mut FrameReader, mut given: Vec<(u64, Segments)>)
+    ensures { frames.new ≡ frames.old }
+{
+    if let Some((_, segments)) = given.pop() {
+        frames.reuse(segments);
+    }
+}
+
 /// Reads the messages of a piece. At an `Err` those before the fault were read.
 fn read_frames(
     alloc: Global,
@@ -50,7 +59,9 @@ fn read_frames(
 {
     let given = frames.feed(piece)?;
     messages.reserve_exact(given.len())?;
-    read_messages(alloc, limits, &given, at, messages)
+    let read = read_messages(alloc, limits, &given, at, messages);
+    give_back(frames, given);
+    read
 }
 
 /// Reads a piece.

@@ -151,8 +151,23 @@ fn segments_are_held(rt: HostRuntime) {
     assert!(rt; segments.lists().len() == 1);
     let one = Segments::one(vec![in alloc; 1u64, 2].expect(&rt, "memory"));
     assert!(rt; one.lists() == segments.lists());
-    drop(one);
+    expect_first(&rt, one, 2);
     drop(segments);
+}
+
+/// The first list has so many words.
+fn expect_first(rt: &impl Abort, segments: Segments, length: usize) {
+    let list = segments.into_first();
+    assert!(rt; list.len() == length);
+    drop(list);
+}
+
+#[test]
+fn the_first_list_is_given(rt: HostRuntime) {
+    let first = vec![in rt.alloc(); 1u64].expect(&rt, "memory");
+    let second = vec![in rt.alloc(); 2u64, 3].expect(&rt, "memory");
+    let lists = vec![in rt.alloc(); first, second].expect(&rt, "memory");
+    expect_first(&rt, Segments::new(lists).ok().expect(&rt, "segments"), 1);
 }
 
 /// No limits are these.

@@ -61,4 +61,14 @@ impl Segments {
             Lists::Many(lists) => lists,
         }
     }
+
+    /// The first list, without the others.
+    pub fn into_first(self) -> Vec<u64>
+        ensures { (others : List (List ℕ)) × (self ≡ result.items ∷ others) }
+    {
+        match self.lists {
+            Lists::One(list) => list,
+            Lists::Many(mut lists) => lists.swap_remove(0),
+        }
+    }
 }

@@ -1,6 +1,16 @@
-use Rattle.std.proofs.Common.{◌+◌, refl}
+use Rattle.std.proofs.Common.{◌+◌, refl, arith}
+use Rattle.cp_frame.specs.declared.mode.Mode.TheVariants.{Packed}
+use Rattle.cp_frame.specs.declared.status.Status.TheVariants.{Reading}
+use Rattle.cp_frame.proofs.Needed.{less_kept, small_least}
+use Rattle.cp_frame.proofs.Readers.{part_short}
 use Rattle.cp_frame.proofs.Taken.{takes_run}
 use Rattle.cp_frame.proofs.rest.Rest.take_run.Goals as goal
+
+pub overflow_add-self : goal.overflow_add-self
+overflow_add-self c =
+    let r = c.args.self.now in
+    let limits = c.args.limits in
+    omega (arith, c.requires.count, less_kept limits r.frame c.requires.frame, small_least limits r.frame c.requires.frame, part_short Packed limits Reading r c.requires)
 
 pub returns-clause-takes : goal.returns-clause-takes
 returns-clause-takes c =
