@@ -1,6 +1,6 @@
 #!/bin/sh
 # Runs each test of PROGRAM that is named `memory`, which `rt test` made, once for each of its growths, which is refused,
-# and prints how many there were and which runs failed: sweep.sh PROGRAM
+# and prints how many there were and which runs failed; the status is 1 where one did: sweep.sh PROGRAM
 set -eu
 room=$(mktemp -d)
 trap 'rm -r "$room"' EXIT
@@ -15,4 +15,6 @@ program=$(realpath "$1")
         run "$number" || failed="$failed $number"
     done
     echo "$test: $growths growths refused, failed:${failed:- none}"
+    [ -z "$failed" ] || touch "$room/failed"
 done
+[ ! -e "$room/failed" ]
