@@ -39,7 +39,7 @@ pub struct OpenFrame {
     pub words: Vec<u64>,
     /// The bytes of a word that isn't whole.
     pub part: Vec<u8>,
-    /// Room for the words of a frame's first segment.
+    /// Room that was given back, for the words of a segment.
     pub room: Vec<u64>,
 }
 
