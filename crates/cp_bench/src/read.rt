@@ -11,8 +11,11 @@ use cp_tree::read_root;
 use cp_words::{Limits, Segments};
 use std::alloc::Global;
 
-/// How many bytes are read at once.
-const PIECE: usize = 65_536;
+/// How many bytes are read at once, at first and behind a frame: so few that the frames of a piece lie in
+/// the nearest cache, and their room is soon used again.
+const PIECE: usize = 8_192;
+/// The same behind a piece that ended no frame.
+const LARGEST_PIECE: usize = 65_536;
 
 /// Whether the segments give what is asked for: at 0 nothing, at 1 a view of a message, else an owned tree.
 fn gives(alloc: Global, segments: &Segments, kind: u8, limits: Limits) -> bool
@@ -60,8 +63,10 @@ fn count(alloc: Global, mode: Mode, bytes: &[u8], kind: u8, limits: Limits) -> O
     };
     let mut count: u64 = 0;
     let mut left = bytes;
+    let mut is_inside = false;
     'feeding: while !left.is_empty() {
-        let (piece, back) = left.split_at(left.len().min(PIECE));
+        let most = if is_inside { LARGEST_PIECE } else { PIECE };
+        let (piece, back) = left.split_at(left.len().min(most));
         let Ok(frames) = reader.feed(piece) else {
             return None;
         };
@@ -69,6 +74,7 @@ fn count(alloc: Global, mode: Mode, bytes: &[u8], kind: u8, limits: Limits) -> O
             return None;
         }
         count = count.checked_add(frames.len() as u64)?;
+        is_inside = frames.is_empty();
         left = back;
     }
     if reader.finish().is_err() {

@@ -17,7 +17,7 @@ use Rattle.cp_frame.specs.Parts.{lists, rest_of, kept_words, IsOpen, IsComplete,
 use Rattle.cp_frame.specs.Stream.{Frames, HasFault, Open, numbers}
 use Rattle.cp_frame.specs.Reader.{GoesOnAs}
 use Rattle.cp_frame.specs.Rest.{words_in_order, bytes_for, InPacked, TakesByte, KeptFor, Reads, Refuses}
-use Rattle.cp_frame.specs.Bulk.{TakesBytes, GivesWhole, HasRead}
+use Rattle.cp_frame.specs.Bulk.{TakesBytes, GivesWhole, HasRead, RefusesThere}
 use Rattle.cp_frame.specs.Unpacking.{Pending, nothing, next, brought, after, given, laid, IsPending, pending_of}
 use Rattle.cp_frame.proofs.Numbers.{length_bytes_of}
 use Rattle.cp_frame.proofs.Filling.{all-append}
@@ -209,11 +209,11 @@ pub first_left : (left : List ℕ) → 0 < length left → left ≡ (get_or left
 first_left [] h = absurd (omega (arith, h))
 first_left (x ∷ left) h = refl
 
-pub refuses_left : (limits : Bounds) (old r : Rest) (piece left : List ℕ) (frames : List (ℕ × List (List ℕ))) (fault : FrameFault) → AreBytes piece → HasRead limits old piece frames r left → 0 < length left
+pub refuses_there : (limits : Bounds) (r : Rest) (left : List ℕ) (frames : List (ℕ × List (List ℕ))) (fault : FrameFault) → 0 < length left
     → (fault ≡ faults.OutOfMemory) ⊎ HasFault modes.Packed limits (bytes_for modes.Packed r ++ get_or left 0 0 ∷ []) fault
-    → (fault ≡ faults.OutOfMemory) ⊎ Refuses modes.Packed limits old piece frames fault
-refuses_left limits old r piece left frames fault are h l (inl e) = inl e
-refuses_left limits old r piece left frames fault are h l (inr k) = inr (λ b f.
+    → (fault ≡ faults.OutOfMemory) ⊎ RefusesThere limits frames r left frames fault
+refuses_there limits r left frames fault l (inl e) = inl e
+refuses_there limits r left frames fault l (inr k) = inr (λ old piece are h b f.
     (let x = get_or left 0 0 in
     let one = h.reads b f in
     let behind = drop 1 left in
@@ -224,3 +224,9 @@ refuses_left limits old r piece left frames fault are h l (inr k) = inr (λ b f.
       subst (λ (c : List ℕ). Frames modes.Packed limits (b ++ c) frames (one.0 ++ left)) (sym h.whole) (frames_more modes.Packed limits b h.fed left frames one.0 one.1),
       subst (λ (c : List ℕ). HasFault modes.Packed limits c fault) rest there,
     )))
+
+pub refuses_now : (limits : Bounds) (old r : Rest) (piece left : List ℕ) (frames given : List (ℕ × List (List ℕ))) (fault : FrameFault) → AreBytes piece → HasRead limits old piece frames r left
+    → (fault ≡ faults.OutOfMemory) ⊎ RefusesThere limits frames r left given fault
+    → (fault ≡ faults.OutOfMemory) ⊎ Refuses modes.Packed limits old piece given fault
+refuses_now limits old r piece left frames given fault are h (inl e) = inl e
+refuses_now limits old r piece left frames given fault are h (inr k) = inr (k old piece are h)

@@ -1,14 +1,15 @@
 -- Groups of the packed form taken at once. No public clause names these.
 use Rattle.std.specs.Prelude.{◌≡◌, ◌⊎◌, ℕ, ◌+◌, ◌-◌, ◌<◌, ◌≤◌, List, [], ◌∷◌, ◌++◌, length, replicate}
 use Rattle.cp_words.specs.Limits.{Bounds}
+use Rattle.cp_frame.specs.declared.fault.FrameFault.{FrameFault}
 use Rattle.cp_frame.specs.declared.mode.Mode.TheVariants as modes
 use Rattle.cp_frame.specs.declared.frame.OpenFrame.{OpenFrame}
 use Rattle.cp_frame.specs.declared.rest.Rest.{Rest}
-use Rattle.cp_frame.specs.Framed.{AreWords, bytes_of}
+use Rattle.cp_frame.specs.Framed.{AreBytes, AreWords, bytes_of}
 use Rattle.cp_frame.specs.Parts.{IsOpen, InSegments, IsComplete, NamesLittle, lists, rest_of}
 use Rattle.cp_frame.specs.Stream.{numbers}
 use Rattle.cp_frame.specs.Unpacking.{Pending, nothing, after, given, laid, pending_of}
-use Rattle.cp_frame.specs.Rest.{IsBlank, InPacked, Reads}
+use Rattle.cp_frame.specs.Rest.{IsBlank, InPacked, Reads, Refuses}
 
 -- nothing of a group, and so many words of a raw run still to come
 abbrev pub running : ℕ → Pending
@@ -74,3 +75,11 @@ pub record HasRead (limits : Bounds) (old : Rest) (piece : List ℕ) (frames : L
   pub whole : piece ≡ fed ++ left
   pub begun : InPacked limits new
   pub reads : Reads modes.Packed limits old fed frames new
+
+-- Of whatever piece was read up to these bytes, all but what comes back is read now.
+abbrev pub GoesOn : Bounds → List (ℕ × List (List ℕ)) → Rest → List ℕ → List (ℕ × List (List ℕ)) → Rest → List ℕ → Type 0
+GoesOn limits frames r left all s back = (old : Rest) → (piece : List ℕ) → AreBytes piece → HasRead limits old piece frames r left → HasRead limits old piece all s back
+
+-- Whatever piece was read up to these bytes, it is refused.
+abbrev pub RefusesThere : Bounds → List (ℕ × List (List ℕ)) → Rest → List ℕ → List (ℕ × List (List ℕ)) → FrameFault → Type 0
+RefusesThere limits frames r left given fault = (old : Rest) → (piece : List ℕ) → AreBytes piece → HasRead limits old piece frames r left → Refuses modes.Packed limits old piece given fault

@@ -1,11 +1,11 @@
 //! Reading the frames of a stream.
 
-ghost use Rattle.std.specs.Prelude.{◌≡◌, ◌⊎◌, ◌++◌, ◌<◌, ◌^◌, ℕ, List, [], IsOk, OnOk, IfErr, IfOk, length};
+ghost use Rattle.std.specs.Prelude.{◌≡◌, ◌⊎◌, ◌++◌, ◌<◌, ◌≤◌, ◌^◌, ℕ, List, [], IsOk, OnOk, IfErr, IfOk, length};
 ghost use Rattle.cp_frame.specs.Stream.{Frames, HasFault, numbers};
 ghost use Rattle.cp_frame.specs.Kept.{KeepsUp, seen};
 ghost use Rattle.cp_frame.specs.Parts.{IsOpen, IsFaultOf, rest_of, kept_words};
 ghost use Rattle.cp_frame.specs.Rest.{InPacked, IsRest, IsSound, Reads, Refuses};
-ghost use Rattle.cp_frame.specs.Bulk.{GivesWhole};
+ghost use Rattle.cp_frame.specs.Bulk.{GivesWhole, GoesOn, RefusesThere};
 ghost use Rattle.cp_frame.specs.Reader.{Gives, Tells};
 ghost use Rattle.cp_frame.specs.declared.fault.FrameFault.TheVariants.{OutOfMemory};
 ghost use Rattle.cp_frame.specs.declared.mode.Mode.TheVariants.{Plain, Packed};
@@ -69,6 +69,46 @@ fn give(
     Ok(())
 }
 
+/// Takes the group of a segment table and whole groups, as far as they are there, and gives the frame
+/// if that ends it. What is left comes back.
+fn read_groups<'a>(
+    alloc: Global,
+    limits: Limits,
+    rest: &mut Rest,
+    frames: &mut Vec<(u64, Segments)>,
+    left: &'a [u8],
+) -> Result<&'a [u8], AllocError>
+    requires { InPacked limits rest.old }
+    ensures begun { OnOk result (InPacked limits rest.new) }
+    ensures reads { IfOk result (λ back. GoesOn limits frames.old.items rest.old left.now frames.new.items rest.new back.now) }
+    ensures back { IfOk result (λ back. length back.now ≤ length left.now) }
+{
+    let begun = rest.take_table(alloc, limits, left)?;
+    let back = rest.take_groups(alloc, limits, begun)?;
+    give(alloc, limits, rest, frames)?;
+    Ok(back)
+}
+
+/// Takes a byte, and gives the frame if that ends it. What is behind the byte comes back.
+fn read_byte<'a>(
+    alloc: Global,
+    limits: Limits,
+    rest: &mut Rest,
+    frames: &mut Vec<(u64, Segments)>,
+    left: &'a [u8],
+) -> Result<&'a [u8], FrameFault>
+    requires begun { InPacked limits rest.old }
+    requires some { 0 < length left.now }
+    ensures begun { OnOk result (InPacked limits rest.new) }
+    ensures reads { IfOk result (λ back. GoesOn limits frames.old.items rest.old left.now frames.new.items rest.new back.now) }
+    ensures back { IfOk result (λ back. length back.now < length left.now) }
+    ensures fault { IfErr result (λ fault. (fault ≡ OutOfMemory) ⊎ RefusesThere limits frames.old.items rest.old left.now frames.new.items fault) }
+{
+    rest.take_byte(alloc, limits, left[0])?;
+    give(alloc, limits, rest, frames)?;
+    Ok(left.split_at(1).1)
+}
+
 /// Reads the frames of a packed piece likewise: groups at once, and a byte where they end, or where the
 /// segment table or what goes past the frame may show.
 fn read_packed(
@@ -86,16 +126,12 @@ fn read_packed(
 {
     let mut left = piece;
     'reading: while !left.is_empty() {
-        let begun = rest.take_table(alloc, limits, left)?;
-        let back = rest.take_groups(alloc, limits, begun)?;
-        give(alloc, limits, rest, frames)?;
-        if back.len() < left.len() {
-            left = back;
-            continue;
-        }
-        rest.take_byte(alloc, limits, back[0])?;
-        give(alloc, limits, rest, frames)?;
-        left = back.split_at(1).1;
+        let back = read_groups(alloc, limits, rest, frames, left)?;
+        left = if back.len() < left.len() {
+            back
+        } else {
+            read_byte(alloc, limits, rest, frames, back)?
+        };
     }
     Ok(())
 }
