@@ -1,10 +1,11 @@
 -- What is written of a message, and why it isn't.
-use Rattle.std.specs.Prelude.{◌≡◌, ◌≢◌, ◌⊎◌, ℕ, ◌+◌, ◌%◌, ◌^◌, List, [], ◌++◌, Option, length, max}
+use Rattle.std.specs.Prelude.{◌≡◌, ◌≢◌, ◌⊎◌, ℕ, ◌+◌, ◌%◌, ◌^◌, ◌≤◌, List, [], ◌++◌, Option, length, map, max, sum}
 use Rattle.std.specs.Io.KnownBytes.{Appends}
 use Rattle.cp_words.specs.Limits.{Bounds}
 use Rattle.cp_tree.specs.Layout.{Layout}
 use Rattle.cp_tree.specs.Shaped.{Shaped}
 use Rattle.cp_tree.specs.Sheets.{lists}
+use Rattle.cp_tree.specs.declared.fault.WriteFault.{WriteFault}
 use Rattle.cp_tree.specs.Writes.{FitsIn, IsWriteFaultOf, room_for, laid_out}
 use Rattle.cp_frame.specs.declared.mode.Mode.{Mode}
 use Rattle.cp_frame.specs.declared.fault.FrameFault.TheVariants as frames
@@ -20,6 +21,20 @@ use Rattle.cp_stream.specs.declared.fault.StreamFault.TheVariants as faults
 use Rattle.cp_stream.specs.declared.tap.Tap.{Tap}
 use Rattle.cp_stream.specs.Tap.{inner_of, failures_of, bytes_of}
 use Rattle.cp_stream.specs.Read.{FailedOnce}
+
+-- These are the segments that a message is laid out in, of at most so many words and at most so many; 0 words count as 1. Its tree says it, a message can hold the tree, and the layout of the tree is within the limits, and so are they.
+pub record IsLaidOutAs (limits : Bounds) (words segments : ℕ) (m : Message) (S : List (List ℕ)) : Type 0 where
+  pub says : Says (message_made m) m
+  pub shaped : Shaped (message_made m)
+  pub fits : FitsIn limits (room_for (max 1 words) segments limits) (message_made m)
+  pub laid : S ≡ lists (laid_out (room_for (max 1 words) segments limits) (message_made m))
+  pub layout : Layout S (record { words = words; segments = segments }) (message_made m)
+  pub few : length S ≤ limits.segments
+  pub small : sum (map length S) ≤ limits.frame_words
+
+-- Why a message isn't laid out: it has a list that no message can hold; or its tree, which a message can hold, isn't laid out within the limits.
+abbrev pub IsNotLaidOut : Bounds → ℕ → ℕ → Message → WriteFault → Type 0
+IsNotLaidOut limits words segments m fault = IsRefusalOf m fault ⊎ (Shaped (message_made m) × IsWriteFaultOf limits (room_for (max 1 words) segments limits) (message_made m) fault)
 
 -- The bytes are the frame that a message is written as, in segments of at most so many words and at most so many; 0 words count as 1. Its tree says it, a message can hold the tree, and the layout of the tree is within the limits.
 pub record IsWrittenAs (mode : Mode) (limits : Bounds) (words segments : ℕ) (m : Message) (b : List ℕ) : Type 0 where
@@ -51,9 +66,9 @@ pub record Breaks {T : Type 0} (contents : T → Option (List ℕ)) (old new : T
 abbrev pub IsSent : {T : Type 0} → (T → Option (List ℕ)) → Mode → Bounds → ℕ → ℕ → Message → Tap T → Tap T → Type 0
 IsSent contents mode limits words segments m old new = (b : List ℕ) × IsWrittenAs mode limits words segments m b × Sends contents old new b
 
--- Why a message isn't written: it has a list that no message can hold; or its tree, which a message can hold, isn't laid out within the limits; or memory ran out, at last for the frame.
+-- Why a message isn't written: it isn't laid out; or memory ran out for the frame.
 abbrev pub IsUnwrittenFor : Bounds → ℕ → ℕ → Message → Refusal → Type 0
-IsUnwrittenFor limits words segments m (refusals.Write fault) = IsRefusalOf m fault ⊎ (Shaped (message_made m) × IsWriteFaultOf limits (room_for (max 1 words) segments limits) (message_made m) fault)
+IsUnwrittenFor limits words segments m (refusals.Write fault) = IsNotLaidOut limits words segments m fault
 IsUnwrittenFor limits words segments m (refusals.Frame fault) = (fault ≡ frames.OutOfMemory) × Shaped (message_made m) × FitsIn limits (room_for (max 1 words) segments limits) (message_made m)
 IsUnwrittenFor limits words segments m other = ⊥
 

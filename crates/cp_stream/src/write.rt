@@ -2,14 +2,14 @@
 
 ghost use Rattle.std.specs.Prelude.{◌≡◌, IfOk, IfErr, OnOk};
 ghost use Rattle.cp_stream.specs.declared.fault.StreamFault.TheVariants.{Device};
-ghost use Rattle.cp_stream.specs.Write.{IsWrittenAs, IsUnwrittenFor, IsSent, IsCutShort, Sends, Breaks};
+ghost use Rattle.cp_stream.specs.Write.{IsLaidOutAs, IsNotLaidOut, IsWrittenAs, IsUnwrittenFor, IsSent, IsCutShort, Sends, Breaks};
 
 use crate::fault::{Refusal, StreamFault, refused};
 use crate::tap::Tap;
 use cp_frame::{Mode, write_frame};
 use cp_rpc::{Message, draft_of};
-use cp_tree::write_draft;
-use cp_words::Limits;
+use cp_tree::{WriteFault, write_draft};
+use cp_words::{Limits, Segments};
 use std::alloc::Global;
 use std::io::Write;
 
@@ -30,6 +30,20 @@ fn write_whole<W: Write>(to: &mut Tap<W>, bytes: &[u8]) -> Result<(), StreamFaul
     Ok(())
 }
 
+/// The segments that a message is laid out in.
+fn segments_of(
+    alloc: Global,
+    message: &Message,
+    max_words: u32,
+    limits: Limits,
+) -> Result<Segments, WriteFault>
+    ensures laid { IfOk result (IsLaidOutAs limits max_words limits.segments message.now) }
+    ensures refused { IfErr result (IsNotLaidOut limits max_words limits.segments message.now) }
+{
+    let draft = draft_of(alloc, message)?;
+    write_draft(alloc, &draft, max_words, limits)
+}
+
 /// The frame that a message is written as.
 fn frame_of(
     alloc: Global,
@@ -41,8 +55,7 @@ fn frame_of(
     ensures written { IfOk result (λ b. IsWrittenAs mode limits max_words limits.segments message.now b.items) }
     ensures refused { IfErr result (IsUnwrittenFor limits max_words limits.segments message.now) }
 {
-    let draft = draft_of(alloc, message)?;
-    let segments = write_draft(alloc, &draft, max_words, limits)?;
+    let segments = segments_of(alloc, message, max_words, limits)?;
     let frame = write_frame(alloc, &segments, mode, limits)?;
     Ok(frame)
 }

@@ -1,4 +1,4 @@
-use Rattle.std.proofs.Common.{◌≡◌, ◌++◌, inr, ◌≤◌, ℕ, List, length, length-append, refl, ap, subst, arith}
+use Rattle.std.proofs.Common.{inr, ℕ, List, length, length-append, refl, ap, subst, arith}
 use Rattle.cp_frame.specs.Framed.{AreBytes}
 use Rattle.cp_frame.specs.Bulk.{GivesWhole}
 use Rattle.cp_frame.proofs.Certain.{are_front, are_back}
