@@ -1,5 +1,5 @@
 -- What loops keep. No public clause names these.
-use Rattle.std.specs.Prelude.{◌≡◌, ℕ, List, ◌++◌, length, take}
+use Rattle.std.specs.Prelude.{◌≡◌, ℕ, List, [], ◌++◌, length, take}
 use Rattle.std.specs.List.{AllByRecursion}
 use Rattle.cp_words.specs.Limits.{Bounds}
 use Rattle.cp_tree.specs.Node.{Node}
@@ -9,14 +9,13 @@ use Rattle.cp_frame.specs.Reader.{Reader, StandsFor}
 use Rattle.cp_bench.specs.Read.{IsOfKind}
 use Rattle.cp_bench.specs.Write.{AreTreesOf, AreWritten}
 
--- Of the bytes, all but what is left were fed: so many frames, each with what is asked for, and a rest that the reader stands for.
+-- Of the bytes, all but what is left were read: so many frames, each with what is asked for.
 pub record IsCounted (limits : Bounds) (mode : Mode) (kind : ℕ) (bytes : List ℕ) (reader : Reader) (number : ℕ) (left : List ℕ) : Type 0 where
   pub fed : List ℕ
   pub given : List (ℕ × List (List ℕ))
-  pub rest : List ℕ
   pub splits : bytes ≡ fed ++ left
-  pub frames : Frames mode limits fed given rest
-  pub stands : StandsFor reader rest
+  pub frames : Frames mode limits fed given []
+  pub stands : StandsFor reader []
   pub same_mode : reader.mode ≡ mode
   pub same_limits : reader.limits ≡ limits
   pub each : AllByRecursion (λ f. IsOfKind limits kind f.1) given
@@ -29,7 +28,3 @@ AreFirstTrees limits frames n trees = AreTreesOf limits (take n frames) trees
 -- the bytes are the first trees' frames
 abbrev pub AreFirstWritten : ℕ → Bounds → List Node → ℕ → List ℕ → Type 0
 AreFirstWritten words limits trees n b = AreWritten words limits (take n trees) b
-
--- each of the first frames has what is asked for
-abbrev pub GiveFirst : Bounds → ℕ → List (ℕ × List (List ℕ)) → ℕ → Type 0
-GiveFirst limits kind frames n = AllByRecursion (λ f. IsOfKind limits kind f.1) (take n frames)

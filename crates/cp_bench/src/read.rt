@@ -1,7 +1,6 @@
 //! Reading the frames of a stream.
 
 ghost use Rattle.std.specs.Prelude.{◌≡◌, ◌⊎◌, IfSome, IsTrue};
-ghost use Rattle.std.specs.List.{AllByRecursion};
 ghost use Rattle.cp_frame.specs.declared.mode.Mode.TheVariants.{Plain, Packed};
 ghost use Rattle.cp_bench.specs.Read.{IsOfKind, Counts, CountsWithin, within};
 
@@ -10,12 +9,6 @@ use cp_stream::view_of;
 use cp_tree::read_root;
 use cp_words::{Limits, Segments};
 use std::alloc::Global;
-
-/// How many bytes are read at once, at first and behind a frame: so few that the frames of a piece lie in
-/// the nearest cache, and their room is soon used again.
-const PIECE: usize = 8_192;
-/// The same behind a piece that ended no frame.
-const LARGEST_PIECE: usize = 65_536;
 
 /// Whether the segments give what is asked for: at 0 nothing, at 1 a view of a message, else an owned tree.
 fn gives(alloc: Global, segments: &Segments, kind: u8, limits: Limits) -> bool
@@ -26,18 +19,6 @@ fn gives(alloc: Global, segments: &Segments, kind: u8, limits: Limits) -> bool
         1 => view_of(segments, limits).is_ok(),
         _ => read_root(alloc, segments, limits).is_ok(),
     }
-}
-
-/// Whether each of the frames gives it.
-fn all_give(alloc: Global, frames: &[(u64, Segments)], kind: u8, limits: Limits) -> bool
-    ensures { IsTrue result → AllByRecursion (λ f. IsOfKind limits kind f.1) frames.now }
-{
-    for frame in frames {
-        if !gives(alloc, &frame.1, kind, limits) {
-            return false;
-        }
-    }
-    true
 }
 
 /// The standard limits, but for these two. `None` where one is out of its range.
@@ -63,22 +44,19 @@ fn count(alloc: Global, mode: Mode, bytes: &[u8], kind: u8, limits: Limits) -> O
     };
     let mut count: u64 = 0;
     let mut left = bytes;
-    let mut is_inside = false;
-    'feeding: while !left.is_empty() {
-        let most = if is_inside { LARGEST_PIECE } else { PIECE };
-        let (piece, back) = left.split_at(left.len().min(most));
-        let Ok(frames) = reader.feed(piece) else {
+    'reading: while !left.is_empty() {
+        let Ok(next) = reader.next(left) else {
             return None;
         };
-        if !all_give(alloc, &frames, kind, limits) {
+        let Some((_, segments, back)) = next else {
+            return None;
+        };
+        if !gives(alloc, &segments, kind, limits) {
             return None;
         }
-        count = count.checked_add(frames.len() as u64)?;
-        is_inside = frames.is_empty();
+        reader.reuse(segments);
+        count = count.checked_add(1)?;
         left = back;
-    }
-    if reader.finish().is_err() {
-        return None;
     }
     Some(count)
 }

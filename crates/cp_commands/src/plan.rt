@@ -125,6 +125,30 @@ impl Plan {
         }
     }
 
+    /// Does the command on each frame that ends in the piece. Tells whether one does.
+    fn take_piece<W: Write>(
+        &self,
+        alloc: Global,
+        reader: &mut FrameReader,
+        piece: &[u8],
+        last: &mut Last,
+        out: &mut W,
+        progress: &mut Progress,
+    ) -> Result<bool, Stop> {
+        let mut left = piece;
+        while !left.is_empty() {
+            let Some((taken, segments, back)) = reader.next(left)? else {
+                break;
+            };
+            self.take(alloc, &segments, last, out)?;
+            reader.reuse(segments);
+            progress.frames = progress.frames.saturating_add(1);
+            progress.bytes = progress.bytes.saturating_add(taken);
+            left = back;
+        }
+        Ok(left.len() < piece.len())
+    }
+
     /// Does the command on each frame, up to the end or to what stops it.
     fn run<R: Read, W: Write>(
         &self,
@@ -149,18 +173,15 @@ impl Plan {
                 Err(error) if error.kind() == ErrorKind::Interrupted => continue,
                 Err(_) => return Err(Stop::Device),
             };
-            let frames = reader.feed(&piece[..length])?;
-            most = if frames.is_empty() {
-                asked + PIECE / 2
-            } else {
-                PIECE
-            };
-            for (taken, segments) in frames {
-                self.take(alloc, &segments, &mut last, out)?;
-                reader.reuse(segments);
-                progress.frames = progress.frames.saturating_add(1);
-                progress.bytes = progress.bytes.saturating_add(taken);
-            }
+            let ended = self.take_piece(
+                alloc,
+                &mut reader,
+                &piece[..length],
+                &mut last,
+                out,
+                progress,
+            )?;
+            most = if ended { PIECE } else { asked + PIECE / 2 };
         }
         Err(Stop::Device)
     }

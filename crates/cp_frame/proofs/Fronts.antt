@@ -14,10 +14,10 @@ use Rattle.cp_frame.specs.Framed.{AreBytes, AreWords, bytes_of, Framed}
 use Rattle.cp_frame.specs.Frame.{Frame}
 use Rattle.cp_frame.specs.Packed.{Packed}
 use Rattle.cp_frame.specs.Parts.{lists, rest_of, kept_words, IsOpen, IsComplete, NamesLittle}
-use Rattle.cp_frame.specs.Stream.{Frames, HasFault, Open, numbers}
+use Rattle.cp_frame.specs.Stream.{Frames, Open, numbers}
 use Rattle.cp_frame.specs.Reader.{GoesOnAs}
-use Rattle.cp_frame.specs.Rest.{words_in_order, bytes_for, InPacked, TakesByte, KeptFor, Reads, Refuses}
-use Rattle.cp_frame.specs.Bulk.{TakesBytes, GivesWhole, HasRead, RefusesThere}
+use Rattle.cp_frame.specs.Rest.{words_in_order, bytes_for, InPacked, TakesByte, KeptFor}
+use Rattle.cp_frame.specs.Bulk.{TakesBytes}
 use Rattle.cp_frame.specs.Unpacking.{Pending, nothing, next, brought, after, given, laid, IsPending, pending_of}
 use Rattle.cp_frame.proofs.Numbers.{length_bytes_of}
 use Rattle.cp_frame.proofs.Filling.{all-append}
@@ -127,7 +127,7 @@ front_open limits r s b h l m k =
     (record { words = old.words ∙ sym (words_front limits r s b h m k); open_then = old.open_then ∙ sym m.group }) k.pending (no_front_kept limits s.frame k.frame k.no_part)
     (subst (λ (c : List ℕ). NamesLittle limits (numbers (c ++ laid (pending_of s.group)))) (sym (bytes_words s.frame k.no_part)) k.little)
 
-keeps_front : (limits : Bounds) (r s : Rest) (front b : List ℕ) → InPacked limits r → AreBytes front → TakesBytes limits r front s → InPacked limits s → KeptFor modes.Packed limits r b
+pub keeps_front : (limits : Bounds) (r s : Rest) (front b : List ℕ) → InPacked limits r → AreBytes front → TakesBytes limits r front s → InPacked limits s → KeptFor modes.Packed limits r b
     → KeptFor modes.Packed limits s (b ++ front)
 keeps_front limits r s front b h l m k f = (
   alike_both (bytes_for modes.Packed s) (bytes_for modes.Packed r ++ front) (b ++ front) (front_alike limits r s front h l m k) (alike_more (bytes_for modes.Packed r) b front f.0),
@@ -136,7 +136,7 @@ keeps_front limits r s front b h l m k f = (
 )
 
 -- a frame ends with them
-ends_front : (limits : Bounds) (r s : Rest) (front b : List ℕ) → InPacked limits r → AreBytes front → TakesBytes limits r front s → IsComplete limits s.frame → pending_of s.group ≡ nothing
+pub ends_front : (limits : Bounds) (r s : Rest) (front b : List ℕ) → InPacked limits r → AreBytes front → TakesBytes limits r front s → IsComplete limits s.frame → pending_of s.group ≡ nothing
     → KeptFor modes.Packed limits r b → Frame modes.Packed limits (lists s.frame.segments.items) (b ++ front)
 ends_front limits r s front b h l m k e f =
     let t = bytes_for modes.Packed r ++ front in
@@ -155,78 +155,11 @@ frames_more mode limits b a x given rest h =
     subst (λ (c : List ℕ). Frames mode limits c given (rest ++ x)) (append_assoc b a x)
     (subst (λ (gs : List (ℕ × List (List ℕ))). Frames mode limits ((b ++ a) ++ x) gs (rest ++ x)) (append-nil given) (cut mode limits (b ++ a) x given [] rest (rest ++ x) h refl))
 
--- the frames of what was fed, with these bytes more
-pub given_packed : (limits : Bounds) (r s t : Rest) (front : List ℕ) (frames all : List (ℕ × List (List ℕ))) → InPacked limits r → AreBytes front → TakesBytes limits r front s → GivesWhole limits s frames t all → InPacked limits t
-given_packed limits r s t front frames all h l m (inl g) = blank_packed limits t g.2
-given_packed limits r s t front frames all h l m (inr g) = subst (λ (u : Rest). InPacked limits u) (sym g.2) (packed_front limits r s front h l m g.0 g.1)
-
-pub given_reads : (limits : Bounds) (old r s t : Rest) (fed front : List ℕ) (frames all : List (ℕ × List (List ℕ))) → InPacked limits r → AreBytes front → TakesBytes limits r front s → GivesWhole limits s frames t all
-    → Reads modes.Packed limits old fed frames r → Reads modes.Packed limits old (fed ++ front) all t
-given_reads limits old r s t fed front frames all h l m (inl g) n = λ b f.
-    (let one = n b f in
-    let last = one.0 ++ front in
-    let before = frames_more modes.Packed limits b fed front frames one.0 one.1 in
-    let frame = ends_front limits r s front one.0 h l m g.0 g.1 one.2 in
-    let long : s.taken ≡ length last = omega (arith, m.taken, one.2.1, length-append one.0 front) in (
-      [],
-      subst (λ (gs : List (ℕ × List (List ℕ))). Frames modes.Packed limits (b ++ (fed ++ front)) gs []) (sym g.3)
-          (frames_push modes.Packed limits (b ++ (fed ++ front)) frames s.taken (lists s.frame.segments.items) last [] (subst (λ (c : List ℕ). Frames modes.Packed limits (b ++ (fed ++ front)) frames c) (sym (append-nil last)) before) long frame),
-      keeps_blank limits t g.2,
-    ))
-given_reads limits old r s t fed front frames all h l m (inr g) n = λ b f.
-    (let one = n b f in
-    let new = packed_front limits r s front h l m g.0 g.1 in (
-      one.0 ++ front,
-      subst (λ (gs : List (ℕ × List (List ℕ))). Frames modes.Packed limits (b ++ (fed ++ front)) gs (one.0 ++ front)) (sym g.3) (frames_more modes.Packed limits b fed front frames one.0 one.1),
-      subst (λ (u : Rest). KeptFor modes.Packed limits u (one.0 ++ front)) (sym g.2) (keeps_front limits r s front one.0 h l m new one.2),
-    ))
-
--- what was read of a piece, and these bytes more
-are_front : (front back : List ℕ) → AreBytes (front ++ back) → AreBytes front
+-- the first of bytes
+pub are_front : (front back : List ℕ) → AreBytes (front ++ back) → AreBytes front
 are_front [] back h = tt
 are_front (x ∷ front) back h = (h.0, are_front front back h.1)
-
-left_are : (piece fed left : List ℕ) → AreBytes piece → piece ≡ fed ++ left → AreBytes left
-left_are piece fed left h e = are_back fed left (subst (λ (b : List ℕ). AreBytes b) e h)
-
-pub read_more : (limits : Bounds) (old r s t : Rest) (piece left front back : List ℕ) (frames all : List (ℕ × List (List ℕ))) → AreBytes piece → HasRead limits old piece frames r left → left ≡ front ++ back
-    → TakesBytes limits r front s → GivesWhole limits s frames t all → HasRead limits old piece all t back
-read_more limits old r s t piece left front back frames all are h e m g =
-    let bytes = are_front front back (subst (λ (b : List ℕ). AreBytes b) e (left_are piece h.fed left are h.whole)) in
-    record {
-      fed = h.fed ++ front;
-      whole = h.whole ∙ ap (λ (b : List ℕ). h.fed ++ b) e ∙ sym (append_assoc h.fed front back);
-      begun = given_packed limits r s t front frames all h.begun bytes m g;
-      reads = given_reads limits old r s t h.fed front frames all h.begun bytes m g h.reads;
-    }
-
-pub read_all : (limits : Bounds) (old r : Rest) (piece left : List ℕ) (frames : List (ℕ × List (List ℕ))) → HasRead limits old piece frames r left → length left ≡ 0 → Reads modes.Packed limits old piece frames r
-read_all limits old r piece left frames h e =
-    let all : h.fed ≡ piece = sym (append-nil h.fed) ∙ ap (λ (b : List ℕ). h.fed ++ b) (sym (nil_from_length left e)) ∙ sym h.whole in
-    subst (λ (b : List ℕ). Reads modes.Packed limits old b frames r) all h.reads
 
 pub first_left : (left : List ℕ) → 0 < length left → left ≡ (get_or left 0 0 ∷ []) ++ drop 1 left
 first_left [] h = absurd (omega (arith, h))
 first_left (x ∷ left) h = refl
-
-pub refuses_there : (limits : Bounds) (r : Rest) (left : List ℕ) (frames : List (ℕ × List (List ℕ))) (fault : FrameFault) → 0 < length left
-    → (fault ≡ faults.OutOfMemory) ⊎ HasFault modes.Packed limits (bytes_for modes.Packed r ++ get_or left 0 0 ∷ []) fault
-    → (fault ≡ faults.OutOfMemory) ⊎ RefusesThere limits frames r left frames fault
-refuses_there limits r left frames fault l (inl e) = inl e
-refuses_there limits r left frames fault l (inr k) = inr (λ old piece are h b f.
-    (let x = get_or left 0 0 in
-    let one = h.reads b f in
-    let behind = drop 1 left in
-    let bytes = are_back (x ∷ []) behind (subst (λ (c : List ℕ). AreBytes c) (first_left left l) (left_are piece h.fed left are h.whole)) in
-    let there = fault_stays_packed limits (one.0 ++ x ∷ []) behind fault bytes (ends_fault limits r x one.0 fault k one.2) in
-    let rest : (one.0 ++ x ∷ []) ++ behind ≡ one.0 ++ left = append_assoc one.0 (x ∷ []) behind ∙ ap (λ (c : List ℕ). one.0 ++ c) (sym (first_left left l)) in (
-      one.0 ++ left,
-      subst (λ (c : List ℕ). Frames modes.Packed limits (b ++ c) frames (one.0 ++ left)) (sym h.whole) (frames_more modes.Packed limits b h.fed left frames one.0 one.1),
-      subst (λ (c : List ℕ). HasFault modes.Packed limits c fault) rest there,
-    )))
-
-pub refuses_now : (limits : Bounds) (old r : Rest) (piece left : List ℕ) (frames given : List (ℕ × List (List ℕ))) (fault : FrameFault) → AreBytes piece → HasRead limits old piece frames r left
-    → (fault ≡ faults.OutOfMemory) ⊎ RefusesThere limits frames r left given fault
-    → (fault ≡ faults.OutOfMemory) ⊎ Refuses modes.Packed limits old piece given fault
-refuses_now limits old r piece left frames given fault are h (inl e) = inl e
-refuses_now limits old r piece left frames given fault are h (inr k) = inr (k old piece are h)

@@ -32,5 +32,6 @@ pub mod Bulks
 pub mod Blocks
 pub mod Sends
 pub mod Fronts
+pub mod Following
 pub mod Parted
 pub mod Places

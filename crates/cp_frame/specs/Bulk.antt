@@ -63,23 +63,10 @@ pub record TakesBytes (limits : Bounds) (old : Rest) (xs : List ℕ) (new : Rest
 abbrev pub TakesFront : Bounds → Rest → List ℕ → Rest → List ℕ → Type 0
 TakesFront limits old left new back = (front : List ℕ) × (left ≡ front ++ back) × TakesBytes limits old front new
 
--- A frame that is whole was given, with the number of its bytes; or it is open, and nothing was done.
-abbrev pub GivesWhole : Bounds → Rest → List (ℕ × List (List ℕ)) → Rest → List (ℕ × List (List ℕ)) → Type 0
-GivesWhole limits old given new frames =
-    (IsComplete limits old.frame × (pending_of old.group ≡ nothing) × IsBlank new × (frames ≡ given ++ (old.taken, lists old.frame.segments.items) ∷ []))
-    ⊎ (IsOpen limits old.frame × NamesLittle limits (numbers (rest_of old.frame ++ laid (pending_of old.group))) × (new ≡ old) × (frames ≡ given))
-
--- Of the piece, all but what is left was read.
-pub record HasRead (limits : Bounds) (old : Rest) (piece : List ℕ) (frames : List (ℕ × List (List ℕ))) (new : Rest) (left : List ℕ) : Type 0 where
-  pub fed : List ℕ
-  pub whole : piece ≡ fed ++ left
-  pub begun : InPacked limits new
-  pub reads : Reads modes.Packed limits old fed frames new
-
--- Of whatever piece was read up to these bytes, all but what comes back is read now.
-abbrev pub GoesOn : Bounds → List (ℕ × List (List ℕ)) → Rest → List ℕ → List (ℕ × List (List ℕ)) → Rest → List ℕ → Type 0
-GoesOn limits frames r left all s back = (old : Rest) → (piece : List ℕ) → AreBytes piece → HasRead limits old piece frames r left → HasRead limits old piece all s back
-
--- Whatever piece was read up to these bytes, it is refused.
-abbrev pub RefusesThere : Bounds → List (ℕ × List (List ℕ)) → Rest → List ℕ → List (ℕ × List (List ℕ)) → FrameFault → Type 0
-RefusesThere limits frames r left given fault = (old : Rest) → (piece : List ℕ) → AreBytes piece → HasRead limits old piece frames r left → Refuses modes.Packed limits old piece given fault
+-- The frame was whole and is given, with the number of its bytes. Nothing is left of it.
+pub record GivesWhole (limits : Bounds) (old : Rest) (taken : ℕ) (S : List (List ℕ)) (new : Rest) : Type 0 where
+  pub complete : IsComplete limits old.frame
+  pub no_group : pending_of old.group ≡ nothing
+  pub count : taken ≡ old.taken
+  pub segments : S ≡ lists old.frame.segments.items
+  pub blank : IsBlank new

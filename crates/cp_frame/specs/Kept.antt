@@ -1,6 +1,8 @@
 -- What a reader keeps, and what its callers see of it. No public clause names these.
-use Rattle.std.specs.Prelude.{ℕ, ◌+◌, List, length}
+use Rattle.std.specs.Prelude.{◌≡◌, ℕ, ◌+◌, List, length}
 use Rattle.cp_words.specs.Limits.{Bounds}
+use Rattle.cp_frame.specs.declared.fault.FrameFault.{FrameFault}
+use Rattle.cp_frame.specs.declared.fault.FrameFault.TheVariants as faults
 use Rattle.cp_frame.specs.declared.mode.Mode.{Mode}
 use Rattle.cp_frame.specs.declared.status.Status.{Status}
 use Rattle.cp_frame.specs.declared.status.Status.TheVariants as statuses
@@ -29,3 +31,9 @@ abbrev pub KeepsUp : Mode → Bounds → Status → Rest → Type 0
 KeepsUp mode limits statuses.Reading r = IsRest mode limits r
 KeepsUp mode limits statuses.Failed r = IsBlank r
 KeepsUp mode limits (statuses.Refusing fault) r = IsBlank r
+
+-- a fault is told whatever comes: it was told before, or kept
+abbrev pub IsToldBy : Status → FrameFault → Type 0
+IsToldBy statuses.Failed fault = fault ≡ faults.Failed
+IsToldBy (statuses.Refusing kept) fault = fault ≡ kept
+IsToldBy statuses.Reading fault = ⊥

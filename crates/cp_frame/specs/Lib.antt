@@ -14,3 +14,4 @@ pub mod Parts
 pub mod Rest
 pub mod Kept
 pub mod Single
+pub mod Following

@@ -64,6 +64,18 @@ pub record Gives (old : Reader) (piece : List ℕ) (new : Reader) (given : List 
   pub frames : (b : List ℕ) → StandsFor old b → (rest : List ℕ) × Frames old.mode old.limits (b ++ piece) given rest × StandsFor new rest
   pub kept : IsRefusing new.state → given ≢ []
 
+-- The piece was read up to the end of a frame: what stood for b was ended by the front of the piece up to there, and nothing of another frame has come.
+pub record GivesNext (old : Reader) (piece : List ℕ) (taken : ℕ) (segments : List (List ℕ)) (new : Reader) (back : List ℕ) : Type 0 where
+  pub was_reading : IsReading old.state
+  pub same_mode : new.mode ≡ old.mode
+  pub same_limits : new.limits ≡ old.limits
+  pub front : List ℕ
+  pub whole : piece ≡ front ++ back
+  pub shorter : length back < length piece
+  pub count : (b : List ℕ) → StandsFor old b → taken ≡ length (b ++ front)
+  pub frame : (b : List ℕ) → StandsFor old b → Frame old.mode old.limits segments (b ++ front)
+  pub fresh : StandsFor new []
+
 -- why a fault is told for a piece: it was told before or kept, memory ran out, or the rest has it
 abbrev pub IsToldFor : Reader → List ℕ → State → FrameFault → Type 0
 IsToldFor r piece failed fault = fault ≡ faults.Failed

@@ -58,19 +58,31 @@ fn new_segment(alloc: Global, table: &[u64], segment: usize) -> Result<Vec<u64>,
     Vec::with_capacity(alloc, room)
 }
 
-/// The first segment, of so many words, of which nothing has come. It takes the spare room, where that
-/// is neither less than it would begin with nor far more than it needs.
-fn first_segment(alloc: Global, size: usize, spare: &mut Vec<u64>) -> Result<Vec<u64>, AllocError>
+/// A list for so many words: in the spare room, where that is neither less than so much nor far more than the words
+/// need, or else with so much room.
+pub fn take_room(
+    alloc: Global,
+    room: usize,
+    size: usize,
+    spare: &mut Vec<u64>,
+) -> Result<Vec<u64>, AllocError>
     ensures items { IfOk result (λ v. v.items ≡ []) }
-    ensures room { IfOk result (λ v. (vec_capacity v ≤ FIRST_ROOM) ⊎ (vec_capacity v ≡ vec_capacity spare.old)) }
+    ensures room { IfOk result (λ v. (vec_capacity v ≤ room) ⊎ (vec_capacity v ≡ vec_capacity spare.old)) }
 {
-    let room = size.min(FIRST_ROOM);
     if spare.capacity() < room || size < spare.capacity() / MOST_SPARE {
         return Vec::with_capacity(alloc, room);
     }
     let mut words = mem::replace(spare, Vec::new(alloc));
     words.clear();
     Ok(words)
+}
+
+/// The first segment, of so many words, of which nothing has come.
+fn first_segment(alloc: Global, size: usize, spare: &mut Vec<u64>) -> Result<Vec<u64>, AllocError>
+    ensures items { IfOk result (λ v. v.items ≡ []) }
+    ensures room { IfOk result (λ v. (vec_capacity v ≤ FIRST_ROOM) ⊎ (vec_capacity v ≡ vec_capacity spare.old)) }
+{
+    take_room(alloc, size.min(FIRST_ROOM), size, spare)
 }
 
 /// Moves a segment that will have so many words, and of which little has come, into the spare room, where it

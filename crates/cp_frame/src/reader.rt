@@ -1,14 +1,17 @@
 //! Reading the frames of a stream.
 
-ghost use Rattle.std.specs.Prelude.{◌≡◌, ◌⊎◌, ◌++◌, ◌<◌, ◌≤◌, ◌^◌, ℕ, List, [], IsOk, OnOk, IfErr, IfOk, length};
-ghost use Rattle.cp_frame.specs.Stream.{Frames, HasFault, numbers};
-ghost use Rattle.cp_frame.specs.Kept.{KeepsUp, seen};
-ghost use Rattle.cp_frame.specs.Parts.{IsOpen, IsFaultOf, rest_of, kept_words};
+ghost use Rattle.std.specs.Prelude.{◌≡◌, ◌⊎◌, ◌++◌, ◌<◌, ◌≤◌, ◌^◌, ℕ, List, [], IsOk, OnOk, IfErr, IfNone, IfOk, IfSome, length};
+ghost use Rattle.cp_frame.specs.Stream.{HasFault};
+ghost use Rattle.cp_frame.specs.Kept.{IsToldBy, KeepsUp, seen};
+ghost use Rattle.cp_frame.specs.Parts.{IsOpen, rest_of};
 ghost use Rattle.cp_frame.specs.Rest.{InPacked, IsRest, IsSound, Reads, Refuses};
-ghost use Rattle.cp_frame.specs.Bulk.{GivesWhole, GoesOn, RefusesThere};
-ghost use Rattle.cp_frame.specs.Reader.{Gives, Tells};
+ghost use Rattle.cp_frame.specs.Bulk.{GivesWhole, TakesFront};
+ghost use Rattle.cp_frame.specs.Single.{IsStillOpen};
+ghost use Rattle.cp_frame.specs.Following.{EndsFrame, GoesThrough, HasThere, StopsAt};
+ghost use Rattle.cp_frame.specs.Reader.{Gives, GivesNext, Tells};
 ghost use Rattle.cp_frame.specs.declared.fault.FrameFault.TheVariants.{OutOfMemory};
 ghost use Rattle.cp_frame.specs.declared.mode.Mode.TheVariants.{Plain, Packed};
+ghost use Rattle.cp_frame.specs.declared.status.Status.TheVariants as statuses;
 
 use crate::fault::FrameFault;
 use crate::frame::OpenFrame;
@@ -20,120 +23,158 @@ use cp_words::{Limits, Segments};
 use std::alloc::{AllocError, Global};
 use std::marker::Model;
 
-/// Reads the frames of a plain piece that follows what has come. At an `Err` those before the fault
-/// were read.
-fn read_plain(
+/// Goes on reading, unless a fault was told, or is kept and told now.
+fn go_on(status: &mut Status) -> Result<(), FrameFault>
+    ensures ok { OnOk result ((status.old ≡ statuses.Reading) × (status.new ≡ statuses.Reading)) }
+    ensures told { IfErr result (IsToldBy status.old) }
+    ensures failed { IfErr result (λ fault. status.new ≡ statuses.Failed) }
+{
+    match *status {
+        Status::Reading => Ok(()),
+        Status::Refusing(fault) => {
+            *status = Status::Failed;
+            Err(fault)
+        }
+        Status::Failed => Err(FrameFault::Failed),
+    }
+}
+
+/// Reads a plain piece up to the end of a frame, and gives the frame with what follows it.
+fn next_plain<'a>(
     alloc: Global,
     limits: Limits,
     frame: &mut OpenFrame,
-    frames: &mut Vec<(u64, Segments)>,
-    piece: &[u8],
-) -> Result<(), FrameFault>
-    requires begun { IsOpen limits frame.old }
-    requires none { frames.old.items ≡ [] }
-    ensures frames { OnOk result (Frames Plain limits (rest_of frame.old ++ piece.now) frames.new.items (rest_of frame.new)) }
-    ensures begun { OnOk result (IsOpen limits frame.new) }
-    ensures fault { IfErr result (λ fault. (fault ≡ OutOfMemory) ⊎ ((rest : List ℕ) × Frames Plain limits (rest_of frame.old ++ piece.now) frames.new.items rest × HasFault Plain limits rest fault)) }
+    piece: &'a [u8],
+) -> Result<Option<(u64, Segments, &'a [u8])>, FrameFault>
+    requires { IsOpen limits frame.old }
+    ensures given { IfOk result (λ next. IfSome next (λ t. EndsFrame limits frame.old piece.now t.0 t.1 frame.new t.2.now)) }
+    ensures none { IfOk result (λ next. IfNone next (IsOpen limits frame.new × (rest_of frame.new ≡ rest_of frame.old ++ piece.now))) }
+    ensures fault { IfErr result (λ fault. (fault ≡ OutOfMemory) ⊎ HasFault Plain limits (rest_of frame.old ++ piece.now) fault) }
 {
+    if frame.is_empty() {
+        if let Some(whole) = take_whole(alloc, limits, &mut frame.room, piece)? {
+            return Ok(Some(whole));
+        }
+    }
     let mut left = piece;
     'reading: while !left.is_empty() {
-        if frame.is_empty() {
-            if let Some((taken, segments, back)) = take_whole(alloc, limits, left)? {
-                frames.push((taken, segments))?;
-                left = back;
-                continue;
-            }
-        }
         left = frame.take(alloc, limits, left)?;
-        if !frame.is_complete() {
-            continue;
+        if frame.is_complete() {
+            let (taken, segments) = frame.finish(alloc);
+            return Ok(Some((taken, segments, left)));
         }
-        frames.push(frame.finish(alloc))?;
     }
-    Ok(())
+    Ok(None)
 }
 
-/// Gives the packed frame, if it is whole.
-fn give(
-    alloc: Global,
-    limits: Limits,
-    rest: &mut Rest,
-    frames: &mut Vec<(u64, Segments)>,
-) -> Result<(), AllocError>
+/// Gives the packed frame with the number of its bytes, if it is whole.
+fn give(alloc: Global, limits: Limits, rest: &mut Rest) -> Option<(u64, Segments)>
     requires { IsSound limits rest.old }
-    ensures { OnOk result (GivesWhole limits rest.old frames.old.items rest.new frames.new.items) }
+    ensures given { IfSome result (λ frame. GivesWhole limits rest.old frame.0 frame.1 rest.new) }
+    ensures none { IfNone result (IsStillOpen limits rest.old × (rest.new ≡ rest.old)) }
 {
     if rest.frame.is_complete() {
-        frames.push(rest.finish(alloc))?;
+        Some(rest.finish(alloc))
+    } else {
+        None
     }
-    Ok(())
 }
 
-/// Takes the group of a segment table and whole groups, as far as they are there, and gives the frame
-/// if that ends it. What is left comes back.
-fn read_groups<'a>(
+/// Takes the group of a segment table and whole groups, as far as they are there. What is left comes
+/// back.
+fn take_groups<'a>(
     alloc: Global,
     limits: Limits,
     rest: &mut Rest,
-    frames: &mut Vec<(u64, Segments)>,
     left: &'a [u8],
 ) -> Result<&'a [u8], AllocError>
     requires { InPacked limits rest.old }
-    ensures begun { OnOk result (InPacked limits rest.new) }
-    ensures reads { IfOk result (λ back. GoesOn limits frames.old.items rest.old left.now frames.new.items rest.new back.now) }
-    ensures back { IfOk result (λ back. length back.now ≤ length left.now) }
+    ensures takes { IfOk result (λ back. TakesFront limits rest.old left.now rest.new back.now) }
+    ensures sound { OnOk result (IsSound limits rest.new) }
 {
     let begun = rest.take_table(alloc, limits, left)?;
-    let back = rest.take_groups(alloc, limits, begun)?;
-    give(alloc, limits, rest, frames)?;
-    Ok(back)
+    rest.take_groups(alloc, limits, begun)
 }
 
-/// Takes a byte, and gives the frame if that ends it. What is behind the byte comes back.
-fn read_byte<'a>(
+/// Takes a byte. What is behind it comes back.
+fn take_byte<'a>(
     alloc: Global,
     limits: Limits,
     rest: &mut Rest,
-    frames: &mut Vec<(u64, Segments)>,
     left: &'a [u8],
 ) -> Result<&'a [u8], FrameFault>
     requires begun { InPacked limits rest.old }
     requires some { 0 < length left.now }
-    ensures begun { OnOk result (InPacked limits rest.new) }
-    ensures reads { IfOk result (λ back. GoesOn limits frames.old.items rest.old left.now frames.new.items rest.new back.now) }
-    ensures back { IfOk result (λ back. length back.now < length left.now) }
-    ensures fault { IfErr result (λ fault. (fault ≡ OutOfMemory) ⊎ RefusesThere limits frames.old.items rest.old left.now frames.new.items fault) }
+    ensures takes { IfOk result (λ back. TakesFront limits rest.old left.now rest.new back.now) }
+    ensures sound { OnOk result (IsSound limits rest.new) }
+    ensures shorter { IfOk result (λ back. length back.now < length left.now) }
+    ensures fault { IfErr result (λ fault. (fault ≡ OutOfMemory) ⊎ HasThere Packed limits rest.old left.now fault) }
 {
     rest.take_byte(alloc, limits, left[0])?;
-    give(alloc, limits, rest, frames)?;
     Ok(left.split_at(1).1)
 }
 
-/// Reads the frames of a packed piece likewise: groups at once, and a byte where they end, or where the
-/// segment table or what goes past the frame may show.
-fn read_packed(
+/// Takes groups at once, or a byte where they end, or where the segment table or what goes past the
+/// frame may show.
+fn take_some<'a>(
     alloc: Global,
     limits: Limits,
     rest: &mut Rest,
-    frames: &mut Vec<(u64, Segments)>,
-    piece: &[u8],
-) -> Result<(), FrameFault>
+    left: &'a [u8],
+) -> Result<&'a [u8], FrameFault>
     requires begun { InPacked limits rest.old }
-    requires none { frames.old.items ≡ [] }
-    ensures reads { OnOk result (Reads Packed limits rest.old piece.now frames.new.items rest.new) }
-    ensures begun { OnOk result (InPacked limits rest.new) }
-    ensures fault { IfErr result (λ fault. (fault ≡ OutOfMemory) ⊎ Refuses Packed limits rest.old piece.now frames.new.items fault) }
+    requires some { 0 < length left.now }
+    ensures takes { IfOk result (λ back. TakesFront limits rest.old left.now rest.new back.now) }
+    ensures sound { OnOk result (IsSound limits rest.new) }
+    ensures shorter { IfOk result (λ back. length back.now < length left.now) }
+    ensures fault { IfErr result (λ fault. (fault ≡ OutOfMemory) ⊎ HasThere Packed limits rest.old left.now fault) }
+{
+    let back = take_groups(alloc, limits, rest, left)?;
+    if back.len() < left.len() {
+        return Ok(back);
+    }
+    take_byte(alloc, limits, rest, back)
+}
+
+/// Reads a packed piece likewise.
+fn next_packed<'a>(
+    alloc: Global,
+    limits: Limits,
+    rest: &mut Rest,
+    piece: &'a [u8],
+) -> Result<Option<(u64, Segments, &'a [u8])>, FrameFault>
+    requires { InPacked limits rest.old }
+    ensures given { IfOk result (λ next. IfSome next (λ t. StopsAt Packed limits rest.old piece.now t.0 t.1 rest.new t.2.now)) }
+    ensures none { IfOk result (λ next. IfNone next (GoesThrough Packed limits rest.old piece.now rest.new)) }
+    ensures fault { IfErr result (λ fault. (fault ≡ OutOfMemory) ⊎ HasThere Packed limits rest.old piece.now fault) }
 {
     let mut left = piece;
     'reading: while !left.is_empty() {
-        let back = read_groups(alloc, limits, rest, frames, left)?;
-        left = if back.len() < left.len() {
-            back
-        } else {
-            read_byte(alloc, limits, rest, frames, back)?
-        };
+        left = take_some(alloc, limits, rest, left)?;
+        if let Some((taken, segments)) = give(alloc, limits, rest) {
+            return Ok(Some((taken, segments, left)));
+        }
     }
-    Ok(())
+    Ok(None)
+}
+
+/// Reads a piece up to the end of a frame, and gives the frame with what follows it.
+fn next_frame<'a>(
+    alloc: Global,
+    mode: Mode,
+    limits: Limits,
+    rest: &mut Rest,
+    piece: &'a [u8],
+) -> Result<Option<(u64, Segments, &'a [u8])>, FrameFault>
+    requires { IsRest mode limits rest.old }
+    ensures given { IfOk result (λ next. IfSome next (λ t. StopsAt mode limits rest.old piece.now t.0 t.1 rest.new t.2.now)) }
+    ensures none { IfOk result (λ next. IfNone next (GoesThrough mode limits rest.old piece.now rest.new)) }
+    ensures fault { IfErr result (λ fault. (fault ≡ OutOfMemory) ⊎ HasThere mode limits rest.old piece.now fault) }
+{
+    match mode {
+        Mode::Plain => next_plain(alloc, limits, &mut rest.frame, piece),
+        Mode::Packed => next_packed(alloc, limits, rest, piece),
+    }
 }
 
 /// Reads the frames of a piece that follows what has come. At an `Err` those before the fault were
@@ -152,10 +193,15 @@ fn read_frames(
     ensures begun { OnOk result (IsRest mode limits rest.new) }
     ensures fault { IfErr result (λ fault. (fault ≡ OutOfMemory) ⊎ Refuses mode limits rest.old piece.now frames.new.items fault) }
 {
-    match mode {
-        Mode::Plain => read_plain(alloc, limits, &mut rest.frame, frames, piece),
-        Mode::Packed => read_packed(alloc, limits, rest, frames, piece),
+    let mut left = piece;
+    'reading: while !left.is_empty() {
+        let Some((taken, segments, back)) = next_frame(alloc, mode, limits, rest, left)? else {
+            return Ok(());
+        };
+        frames.push((taken, segments))?;
+        left = back;
     }
+    Ok(())
 }
 
 /// Reads a piece.
@@ -172,14 +218,7 @@ fn read_piece(
     ensures given { IfOk result (λ frames. Gives (seen mode limits status.old rest.old) piece.now (seen mode limits status.new rest.new) frames.items) }
     ensures told { IfErr result (Tells (seen mode limits status.old rest.old) piece.now (seen mode limits status.new rest.new)) }
 {
-    match *status {
-        Status::Failed => return Err(FrameFault::Failed),
-        Status::Refusing(fault) => {
-            *status = Status::Failed;
-            return Err(fault);
-        }
-        Status::Reading => {}
-    }
+    go_on(status)?;
     let mut frames = Vec::new(alloc);
     match read_frames(alloc, mode, limits, rest, &mut frames, piece) {
         Ok(()) => Ok(frames),
@@ -191,6 +230,32 @@ fn read_piece(
             }
             *status = Status::Refusing(fault);
             Ok(frames)
+        }
+    }
+}
+
+/// Reads a piece up to the end of a frame, and gives the frame with what follows it.
+fn read_next<'a>(
+    alloc: Global,
+    mode: Mode,
+    limits: Limits,
+    status: &mut Status,
+    rest: &mut Rest,
+    piece: &'a [u8],
+) -> Result<Option<(u64, Segments, &'a [u8])>, FrameFault>
+    requires { KeepsUp mode limits status.old rest.old }
+    ensures keeps { KeepsUp mode limits status.new rest.new }
+    ensures given { IfOk result (λ next. IfSome next (λ t. GivesNext (seen mode limits status.old rest.old) piece.now t.0 t.1 (seen mode limits status.new rest.new) t.2.now)) }
+    ensures none { IfOk result (λ next. IfNone next (Gives (seen mode limits status.old rest.old) piece.now (seen mode limits status.new rest.new) [])) }
+    ensures told { IfErr result (Tells (seen mode limits status.old rest.old) piece.now (seen mode limits status.new rest.new)) }
+{
+    go_on(status)?;
+    match next_frame(alloc, mode, limits, rest, piece) {
+        Ok(next) => Ok(next),
+        Err(fault) => {
+            rest.clear(alloc);
+            *status = Status::Failed;
+            Err(fault)
         }
     }
 }
@@ -222,8 +287,8 @@ impl Model for FrameReader {
 }
 
 impl FrameReader {
-    ghost use Rattle.std.specs.Prelude.{◌≡◌, [], IfOk, IfErr, ◌<◌, ◌^◌};
-    ghost use Rattle.cp_frame.specs.Reader.{taken_of, StandsFor, Gives, Tells, EndsWell, TellsAtEnd, KeepsLittle, Needs, new_reader, failed};
+    ghost use Rattle.std.specs.Prelude.{◌≡◌, [], IfNone, IfOk, IfErr, IfSome, ◌<◌, ◌^◌};
+    ghost use Rattle.cp_frame.specs.Reader.{taken_of, StandsFor, Gives, GivesNext, Tells, EndsWell, TellsAtEnd, KeepsLittle, Needs, new_reader, failed};
 
     /// A reader of a stream in this form, of which nothing has come.
     fn new(alloc: Global, mode: Mode, limits: Limits) -> FrameReader
@@ -278,6 +343,29 @@ impl FrameReader {
         )
     }
 
+    /// Reads the next piece of the stream up to the end of a frame. Gives the frame whose last byte it brings, with the
+    /// number of the frame's bytes and what of the piece follows it, which comes next. `None` says that
+    /// the piece was read to its end.
+    ///
+    /// Faults come as `feed` tells them, but each frame is given before a fault behind it is met; so none is kept.
+    pub fn next<'a>(
+        &mut self,
+        piece: &'a [u8],
+    ) -> Result<Option<(u64, Segments, &'a [u8])>, FrameFault>
+        ensures given { IfOk result (λ next. IfSome next (λ t. GivesNext self.old piece.now t.0 t.1 self.new t.2.now)) }
+        ensures none { IfOk result (λ next. IfNone next (Gives self.old piece.now self.new [])) }
+        ensures told { IfErr result (Tells self.old piece.now self.new) }
+    {
+        read_next(
+            self.alloc,
+            self.mode,
+            self.limits,
+            &mut self.status,
+            &mut self.rest,
+            piece,
+        )
+    }
+
     /// Takes back a message that isn't needed any more, for the room of its first segment, in which the reader
     /// may make a later frame. It keeps one such room, the largest. What has come of the stream stays as it is.
     pub fn reuse(&mut self, segments: Segments)
@@ -294,21 +382,13 @@ impl FrameReader {
         ensures ok { OnOk result (EndsWell self.old self.new) }
         ensures told { IfErr result (TellsAtEnd self.old self.new) }
     {
-        match self.status {
-            Status::Reading => {
-                if self.rest.is_blank(self.mode) {
-                    return Ok(());
-                }
-                self.rest.clear(self.alloc);
-                self.status = Status::Failed;
-                Err(FrameFault::Truncated)
-            }
-            Status::Refusing(fault) => {
-                self.status = Status::Failed;
-                Err(fault)
-            }
-            Status::Failed => Err(FrameFault::Failed),
+        go_on(&mut self.status)?;
+        if self.rest.is_blank(self.mode) {
+            return Ok(());
         }
+        self.rest.clear(self.alloc);
+        self.status = Status::Failed;
+        Err(FrameFault::Truncated)
     }
 
     /// How many bytes the open frame, or else the next, still needs at the least, however the stream

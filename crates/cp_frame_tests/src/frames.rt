@@ -66,6 +66,18 @@ fn expect_frame(rt: &impl Abort, frame: &(u64, Segments), taken: usize, segments
     }
 }
 
+/// The lists, one after another, are these words.
+pub fn expect_joined(rt: &impl Abort, lists: &[Vec<u64>], words: &[u64]) {
+    let mut rest = words;
+    for list in lists {
+        assert!(rt; list.len() <= rest.len());
+        let (front, behind) = rest.split_at(list.len());
+        expect_words(rt, list, front);
+        rest = behind;
+    }
+    assert!(rt; rest.is_empty());
+}
+
 /// A reader within the standard limits.
 fn new_reader(alloc: Global) -> FrameReader {
     FrameReader::plain(alloc, Limits::standard())
@@ -291,6 +303,72 @@ fn a_fault_behind_a_frame_is_told_at_the_end(rt: HostRuntime) {
     expect_end(&rt, &mut reader, Err(FrameFault::TooManySegments));
     expect_end(&rt, &mut reader, Err(FrameFault::Failed));
     drop(reader);
+}
+
+/// The next frame of a piece took so many bytes, and its segments hold these words, one after another. It is
+/// given back, and what follows it comes back.
+pub fn expect_next<'a>(
+    rt: &impl Abort,
+    reader: &mut FrameReader,
+    piece: &'a [u8],
+    taken: usize,
+    words: &[u64],
+) -> &'a [u8] {
+    let next = reader.next(piece).expect(rt, "a piece");
+    let (count, segments, back) = next.expect(rt, "a frame");
+    assert!(rt; count == taken as u64);
+    expect_joined(rt, segments.lists(), words);
+    reader.reuse(segments);
+    back
+}
+
+/// No frame ends in the piece.
+pub fn expect_none(rt: &impl Abort, reader: &mut FrameReader, piece: &[u8]) {
+    let next = reader.next(piece).expect(rt, "a piece");
+    assert!(rt; next.is_none());
+    drop(next);
+}
+
+/// The piece brings the fault.
+pub fn expect_next_fault(
+    rt: &impl Abort,
+    reader: &mut FrameReader,
+    piece: &[u8],
+    fault: FrameFault,
+) {
+    let told = reader.next(piece).err();
+    assert!(rt; told == Some(fault));
+}
+
+#[test]
+fn frames_are_taken_one_by_one(rt: HostRuntime) {
+    let stream = joined(&rt, rt.alloc(), &[&FINISH, &KEEPING, &TWO_SEGMENTS]);
+    let (front, back) = stream.split_at(90);
+    let mut reader = new_reader(rt.alloc());
+    let left = expect_next(&rt, &mut reader, front, 40, &FINISH_WORDS);
+    let left = expect_next(&rt, &mut reader, left, 40, &KEEPING_WORDS);
+    expect_number(&rt, left.len(), 10);
+    expect_none(&rt, &mut reader, left);
+    expect_held(&rt, &reader, (2, 1));
+    let words = [2 + (1 << 32), 0x1_0001_0000_0000, 4, 0x1_0000_0000, 7];
+    let left = expect_next(&rt, &mut reader, back, 56, &words);
+    expect_none(&rt, &mut reader, left);
+    expect_end(&rt, &mut reader, Ok(()));
+    drop((reader, stream));
+}
+
+#[test]
+fn a_fault_behind_a_frame_is_told_where_it_comes(rt: HostRuntime) {
+    let fault = FrameFault::TooManySegments;
+    let mut reader = new_reader(rt.alloc());
+    let stream = faulty_stream();
+    let left = expect_next(&rt, &mut reader, &stream, 40, &FINISH_WORDS);
+    expect_next_fault(&rt, &mut reader, left, fault);
+    expect_next_fault(&rt, &mut reader, &FINISH, FrameFault::Failed);
+    let mut keeping = new_reader(rt.alloc());
+    expect_fed(&rt, &mut keeping, &stream, Ok(1));
+    expect_next_fault(&rt, &mut keeping, &[], fault);
+    drop((reader, keeping));
 }
 
 #[test]

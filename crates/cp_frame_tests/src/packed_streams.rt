@@ -1,8 +1,8 @@
 //! Packed frames from outside, whole and in pieces.
 
 use crate::frames::{
-    expect_end, expect_failed, expect_fault_in, expect_fed, expect_held, expect_short,
-    expect_words, fed, joined,
+    expect_end, expect_failed, expect_fault_in, expect_fed, expect_held, expect_joined,
+    expect_next, expect_next_fault, expect_none, expect_short, fed, joined,
 };
 use crate::packed::{BOOTSTRAP, FINISH, RELEASE, TWO};
 use cp_frame::*;
@@ -28,18 +28,6 @@ fn expect_frame(
     assert!(rt; frames[0].0 == taken as u64);
     expect_joined(rt, frames[0].1.lists(), words);
     drop(frames);
-}
-
-/// The lists, one after another, are these words.
-fn expect_joined(rt: &impl Abort, lists: &[Vec<u64>], words: &[u64]) {
-    let mut rest = words;
-    for list in lists {
-        assert!(rt; list.len() <= rest.len());
-        let (front, behind) = rest.split_at(list.len());
-        expect_words(rt, list, front);
-        rest = behind;
-    }
-    assert!(rt; rest.is_empty());
 }
 
 /// Packed bytes in two parts are a frame of these words, and the front ends inside it.
@@ -97,6 +85,21 @@ fn packed_frames_come_however_they_are_cut(rt: HostRuntime) {
         expect_cuts(&rt, rt.alloc(), bytes, &words);
         drop(words);
     }
+}
+
+#[test]
+fn packed_frames_are_taken_one_by_one(rt: HostRuntime) {
+    let stream = joined(&rt, rt.alloc(), &[&FINISH, &RELEASE, &[0, 1]]);
+    let finish = words_behind(&rt, rt.alloc(), &FINISH, 1);
+    let release = words_behind(&rt, rt.alloc(), &RELEASE, 1);
+    let (front, back) = stream.split_at(FINISH.len() + 3);
+    let mut reader = new_reader(rt.alloc());
+    let left = expect_next(&rt, &mut reader, front, FINISH.len(), &finish);
+    expect_none(&rt, &mut reader, left);
+    let left = expect_next(&rt, &mut reader, back, RELEASE.len(), &release);
+    expect_next_fault(&rt, &mut reader, left, FrameFault::RunPastFrame);
+    expect_next_fault(&rt, &mut reader, &FINISH, FrameFault::Failed);
+    drop((reader, stream, finish, release));
 }
 
 /// Packed words behind the table of a frame of one segment.
