@@ -9,6 +9,7 @@ ghost use Rattle.cp_frame.specs.Single.{IsOne};
 
 use crate::fault::FrameFault;
 use byteorder::{ByteOrder, LittleEndian};
+use cp_packed::word_of;
 use cp_words::Limits;
 
 /// How many segments there are.
@@ -125,14 +126,6 @@ pub fn check_part(table: &[u64], total: u64, limits: Limits, part: &[u8]) -> Res
         judge(table, total, limits, LittleEndian::read_u32(part) as u64)?;
     }
     Ok(())
-}
-
-/// The word that eight bytes are.
-pub fn word_of(bytes: &[u8]) -> u64
-    requires { length bytes.now ≡ 8 }
-    ensures { to_le_bytes w64 result ≡ bytes.now }
-{
-    LittleEndian::read_u64(bytes)
 }
 
 /// Tells the fault that the table has with the bytes of its next word that are known.

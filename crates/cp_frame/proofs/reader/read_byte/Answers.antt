@@ -2,7 +2,7 @@ use Rattle.std.proofs.Common.{◌≡◌, ◌++◌, ◌∷◌, [], ℕ, List, get
 use Rattle.std.proofs.lemmas.Result.{err_from_is_err_and}
 use Rattle.cp_frame.specs.Framed.{AreBytes}
 use Rattle.cp_frame.proofs.Certain.{are_front}
-use Rattle.cp_frame.proofs.Limited.{bytes_by}
+use Rattle.cp_packed.proofs.Bytes.{bytes_by}
 use Rattle.cp_frame.proofs.Fronts.{byte_front, given_packed, read_more, first_left, refuses_there}
 use Rattle.cp_frame.proofs.reader.read_byte.Goals as goal
 

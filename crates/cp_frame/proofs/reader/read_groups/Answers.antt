@@ -2,7 +2,7 @@ use Rattle.std.proofs.Common.{inr, ℕ, List, length, length-append, refl, ap, s
 use Rattle.cp_frame.specs.Framed.{AreBytes}
 use Rattle.cp_frame.specs.Bulk.{GivesWhole}
 use Rattle.cp_frame.proofs.Certain.{are_front, are_back}
-use Rattle.cp_frame.proofs.Limited.{bytes_by}
+use Rattle.cp_packed.proofs.Bytes.{bytes_by}
 use Rattle.cp_frame.proofs.Fronts.{given_packed, read_more}
 use Rattle.cp_frame.proofs.reader.read_groups.Goals as goal
 

@@ -1,7 +1,7 @@
 use Rattle.std.proofs.Common.{arith}
 use Rattle.std.proofs.lemmas.Result.{err_from_is_err_and}
 use Rattle.std.proofs.lemmas.Bool.Decides.{nat_tests}
-use Rattle.cp_frame.proofs.Limited.{bytes_by}
+use Rattle.cp_packed.proofs.Bytes.{bytes_by}
 use Rattle.cp_frame.proofs.Fronts.{read_all, refuses_now}
 use Rattle.cp_frame.proofs.reader.read_packed.Goals as goal
 
