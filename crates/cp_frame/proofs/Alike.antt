@@ -1,8 +1,8 @@
 -- Packed rests that go on alike, and the words and the open group that a rest may be put for.
-use Rattle.std.proofs.Common.{◌≡◌, ◌⊎◌, inl, inr, ℕ, zero, suc, ◌+◌, ◌^◌, ◌<◌, List, [], ◌∷◌, ◌++◌, length, refl, sym, ◌∙◌, ap, subst, append_assoc, length-append, arith}
+use Rattle.std.proofs.Common.{◌≡◌, ◌⊎◌, inl, inr, ℕ, zero, suc, ◌^◌, ◌<◌, List, [], ◌∷◌, ◌++◌, length, refl, sym, ◌∙◌, ap, subst, append_assoc, arith}
 use Rattle.std.specs.Int.{to_le_bytes, w64}
 use Rattle.std.proofs.lemmas.Nat.{from_le_bytes-to_le_bytes_8}
-use Rattle.std.proofs.lemmas.List.{append-nil, append_cancel_left}
+use Rattle.std.proofs.lemmas.List.{append_cancel_left}
 use Rattle.cp_words.specs.Limits.{Bounds}
 use Rattle.cp_frame.specs.declared.fault.FrameFault.{FrameFault}
 use Rattle.cp_frame.specs.declared.fault.FrameFault.TheVariants as faults
@@ -12,8 +12,8 @@ use Rattle.cp_frame.specs.Packed.{Packed}
 use Rattle.cp_frame.specs.Stream.{Laid, HasFault, NoFront, Open}
 use Rattle.cp_frame.specs.Reader.{GoesOnAs}
 use Rattle.cp_frame.specs.Rest.{heads}
-use Rattle.cp_frame.specs.Unpacking.{Pending, nothing, after, given, IsPending, next, laid_by}
-use Rattle.cp_packed.proofs.Opens.{Brings, brings_both, after-append, given-append, feeds_part, raw_more, raw_none}
+use Rattle.cp_frame.specs.Unpacking.{Pending, nothing, after, given, IsPending, laid_by}
+use Rattle.cp_packed.proofs.Opens.{Brings, brings_both, after-append, given-append, feeds_part, feeds_run}
 use Rattle.cp_packed.proofs.Unpacks.{packed_brings, brings_tag, brings_header}
 use Rattle.cp_packed.proofs.Laying.{brings_these}
 use Rattle.cp_frame.proofs.Certain.{are-append, are_back, packed_are, laid_is}

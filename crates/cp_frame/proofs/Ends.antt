@@ -13,6 +13,7 @@ use Rattle.cp_frame.specs.Framed.{AreWords, bytes_of, spelled, sizes_of, table, 
 use Rattle.cp_frame.specs.Frame.{Frame}
 use Rattle.cp_frame.specs.Stream.{numbers, named_sizes, Frames, Open}
 use Rattle.cp_frame.specs.Parts.{halves, count_of, lists, body, rest_of, InSegments, IsComplete, IsOpen, IsBegun, IsEmpty, NamesLittle, IsWholeTable}
+use Rattle.cp_packed.proofs.Bytes.{all-take}
 use Rattle.cp_frame.proofs.Numbers.{length_halves, length_spelled, spelled_halves, halves_small}
 use Rattle.cp_frame.proofs.Tables.{length_named}
 use Rattle.cp_frame.proofs.Filling.{length_lists}

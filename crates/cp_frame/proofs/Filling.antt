@@ -1,16 +1,13 @@
 -- Segments that are filled, one after another.
-use Rattle.std.proofs.Common.{◌≡◌, ℕ, zero, suc, ◌+◌, ◌*◌, ◌/◌, ◌^◌, ◌<◌, ◌≤◌, List, [], ◌∷◌, ◌++◌, length, map, take, drop, get_or, refl, sym, ◌∙◌, ap, subst, append_assoc, length-append, length-drop, arith}
-use Rattle.std.specs.List.{AllByRecursion, flat_map}
-use Rattle.std.specs.Int.{from_le_bytes, to_le_bytes, w64}
+use Rattle.std.proofs.Common.{◌≡◌, ℕ, ◌+◌, ◌^◌, ◌<◌, ◌≤◌, List, [], ◌∷◌, ◌++◌, length, take, get_or, refl, sym, ◌∙◌, ap, append_assoc, length-append, arith}
+use Rattle.std.specs.List.{flat_map}
+use Rattle.std.specs.Int.{to_le_bytes, w64}
 use Rattle.std.specs.Global.{Vec}
-use Rattle.std.specs.Simd.{first_chunks}
-use Rattle.std.proofs.lemmas.List.{append-nil, map-append, take_all, take_more, length-take-le, get_or-drop}
-use Rattle.std.proofs.Math.Seq.{take-add}
-use Rattle.std.proofs.lemmas.Nat.{le_bytes_8}
+use Rattle.std.proofs.lemmas.List.{append-nil, map-append, take_more}
 use Rattle.std.proofs.lemmas.Grind.{flat_map-append}
 use Rattle.cp_frame.specs.Framed.{AreWords, bytes_of, sizes_of}
 use Rattle.cp_frame.specs.Parts.{Fills, body, lists}
-use Rattle.cp_packed.specs.Words.{words_in}
+use Rattle.cp_packed.proofs.Bytes.{all-push, all-append}
 
 pub length_lists : (vs : List (Vec ℕ)) → length (lists vs) ≡ length vs
 length_lists [] = refl

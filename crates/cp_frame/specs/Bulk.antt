@@ -1,5 +1,5 @@
 -- Groups of the packed form taken at once. No public clause names these.
-use Rattle.std.specs.Prelude.{◌≡◌, ◌⊎◌, ℕ, ◌+◌, ◌-◌, ◌<◌, ◌≤◌, List, [], ◌∷◌, ◌++◌, length, replicate}
+use Rattle.std.specs.Prelude.{◌≡◌, ◌⊎◌, ℕ, ◌+◌, ◌≤◌, List, [], ◌∷◌, ◌++◌, length}
 use Rattle.cp_words.specs.Limits.{Bounds}
 use Rattle.cp_frame.specs.declared.fault.FrameFault.{FrameFault}
 use Rattle.cp_frame.specs.declared.mode.Mode.TheVariants as modes

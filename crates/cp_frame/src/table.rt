@@ -2,7 +2,6 @@
 //! is the number of segments less one, then come their sizes in words.
 
 ghost use Rattle.std.specs.Prelude.{◌≡◌, ◌+◌, ◌/◌, ◌^◌, ◌<◌, ◌≤◌, ◌++◌, ◌∷◌, [], ◌↔◌, IsTrue, IfOk, OnOk, IfErr, length, sum, slice_index};
-ghost use Rattle.std.specs.Int.{to_le_bytes, w64};
 ghost use Rattle.cp_frame.specs.Parts.{halves, count_of, IsWholeTable, IsTable, IsFaultOf, NamesLittle};
 ghost use Rattle.cp_frame.specs.Stream.{numbers, named_sizes, NamesFault};
 ghost use Rattle.cp_frame.specs.Single.{IsOne};

@@ -1,4 +1,4 @@
--- Words written as packed bytes behind others. No public clause names these.
+-- Words written as packed bytes behind others.
 use Rattle.std.specs.Prelude.{◌≡◌, ℕ, ◌==◌, if◌then◌else◌, List, ◌++◌, map, Option, Some, None}
 use Rattle.cp_packed.specs.Packed.{Group, IsGroup, IsSparing, IsLongest, spelling, words_of, Spelt}
 

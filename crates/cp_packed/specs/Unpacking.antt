@@ -1,4 +1,4 @@
--- The packed form byte by byte: what bytes have brought, and what is left open. No public clause names these.
+-- The packed form byte by byte: what bytes have brought, and what is left open.
 use Rattle.std.specs.Prelude.{ℕ, zero, suc, ◌-◌, ◌*◌, ◌/◌, ◌%◌, ◌==◌, ◌<◌, if◌then◌else◌, List, [], ◌∷◌, ◌++◌, length, replicate, drop, slice_index}
 use Rattle.std.specs.Int.{from_le_bytes, w64}
 use Rattle.std.specs.Int.RustNames.{count_ones}

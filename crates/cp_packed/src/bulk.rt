@@ -154,7 +154,9 @@ fn take_some<'a>(
     take_header(words, run, most, left)
 }
 
-/// Takes words of a raw run, of which so many are to come, and groups, up to so many words.
+/// Takes words of a raw run, of which `run` are to come, and groups, while `words` has fewer than `most`: none that
+/// would bring more, or leave a raw run open there. Gives back the bytes that follow; a group that begins less than ten
+/// bytes before their end is among these. The error is want of memory.
 pub fn take_groups<'a>(
     words: &mut Vec<u64>,
     run: &mut usize,

@@ -13,7 +13,9 @@ const WORD: usize = 8;
 /// So many words that are all the same.
 #[derive(Clone, Copy)]
 pub struct Run {
+    /// The word that all are.
     pub word: u64,
+    /// How many words there are, perhaps none.
     pub count: usize,
 }
 
@@ -93,7 +95,7 @@ impl OpenGroup {
         }
     }
 
-    /// Takes one byte, and gives the words that it brings.
+    /// Takes one byte, and gives the words that it brings. The error is want of memory.
     pub fn take(&mut self, byte: u8) -> Result<Run, AllocError>
         requires { IsPending (pending_of self.old) }
         ensures state { OnOk result (pending_of self.new ≡ next (pending_of self.old) byte) }

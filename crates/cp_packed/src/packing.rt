@@ -1,6 +1,6 @@
 //! Packing words.
 
-ghost use Rattle.std.specs.Prelude.{◌≡◌, ◌≤◌, ◌<◌, ◌++◌, ◌∷◌, ◌⊎◌, IfOk, IfErr, OnOk, length, take, drop, replicate};
+ghost use Rattle.std.specs.Prelude.{◌≡◌, ◌≤◌, ◌<◌, ◌++◌, ◌∷◌, ◌⊎◌, IfOk, OnOk, length, take, drop, replicate};
 ghost use Rattle.std.specs.List.{AllByRecursion};
 ghost use Rattle.std.specs.Int.{to_le_bytes, w64};
 ghost use Rattle.cp_packed.specs.Words.{bytes_of};
@@ -12,7 +12,7 @@ use byteorder::{ByteOrder, LittleEndian};
 use std::alloc::{AllocError, Global};
 use std::simd::prelude::*;
 
-/// How many bytes a word takes at most.
+/// How many bytes a packed word takes at most: a tag, eight bytes, and how many words a raw run has behind it.
 pub const LONGEST: usize = 10;
 
 /// How many words a run has at most behind its first.
@@ -83,7 +83,7 @@ fn push_sparse(out: &mut Vec<u8>, mask: u8, bytes: &[u8; 8]) -> Result<(), Alloc
     Ok(())
 }
 
-/// Writes words as they are.
+/// Writes words behind what stands there, as they are: eight bytes each, the lowest first. The error is want of memory.
 pub fn push_plain(out: &mut Vec<u8>, words: &[u64]) -> Result<(), AllocError>
     ensures { OnOk result (out.new.items ≡ out.old.items ++ bytes_of words.now) }
 {
@@ -126,7 +126,8 @@ fn push_group<'a>(out: &mut Vec<u8>, words: &'a [u64]) -> Result<&'a [u64], Allo
     Ok(back)
 }
 
-/// Writes groups that words begin with, until no more than so many words are left, and gives these back.
+/// Writes groups that words begin with behind what stands there, until no more than so many words are left, and gives
+/// these back. The error is want of memory.
 pub fn push_groups<'a>(
     out: &mut Vec<u8>,
     words: &'a [u64],
@@ -142,7 +143,7 @@ pub fn push_groups<'a>(
     Ok(left)
 }
 
-/// Writes words, packed as one piece.
+/// Writes words behind what stands there, packed as one piece. The error is want of memory.
 pub fn push_packed(out: &mut Vec<u8>, words: &[u64]) -> Result<(), AllocError>
     ensures { OnOk result (PutsSpelt out.old.items out.new.items words.now) }
 {

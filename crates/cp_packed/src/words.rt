@@ -15,8 +15,8 @@ pub fn word_of(bytes: &[u8]) -> u64
     LittleEndian::read_u64(bytes)
 }
 
-/// Makes room for so many words that have come, where so many are missing of the segment: for all that
-/// are missing, but for no more than have come.
+/// Makes room for `taken` words that have come, where `missing` words are missing in all: for all that are missing, but
+/// for no more than have come. The error is want of memory.
 pub fn make_room(words: &mut Vec<u64>, taken: usize, missing: usize) -> Result<(), AllocError>
     ensures { OnOk result (words.new.items ≡ words.old.items) }
 {
@@ -27,7 +27,8 @@ pub fn make_room(words: &mut Vec<u64>, taken: usize, missing: usize) -> Result<(
     Ok(())
 }
 
-/// Takes the words of these bytes.
+/// Takes the words of these bytes behind others, eight bytes each, the lowest first; bytes behind the last whole word
+/// are left out. The error is want of memory.
 pub fn take_in(words: &mut Vec<u64>, bytes: &[u8]) -> Result<(), AllocError>
     ensures { OnOk result (words.new.items ≡ words.old.items ++ words_in bytes.now) }
 {
