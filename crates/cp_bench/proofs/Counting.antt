@@ -8,7 +8,7 @@ use Rattle.cp_frame.specs.Frame.{Frame}
 use Rattle.cp_frame.specs.Stream.{Frames}
 use Rattle.cp_frame.specs.Reader.{Reader, StandsFor, GivesNext, new_reader}
 use Rattle.cp_frame.proofs.Streams.{cut}
-use Rattle.cp_frame.proofs.Filling.{all-append}
+use Rattle.cp_packed.proofs.Bytes.{all-append}
 use Rattle.cp_bench.specs.Read.{IsOfKind, CountsWithin}
 use Rattle.cp_bench.specs.Kept.{IsCounted}
 

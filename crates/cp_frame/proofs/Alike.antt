@@ -1,8 +1,8 @@
 -- Packed rests that go on alike, and the words and the open group that a rest may be put for.
-use Rattle.std.proofs.Common.{◌≡◌, ◌⊎◌, inl, inr, ℕ, zero, suc, ◌+◌, ◌^◌, ◌<◌, List, [], ◌∷◌, ◌++◌, length, refl, sym, ◌∙◌, ap, subst, append_assoc, length-append, arith}
+use Rattle.std.proofs.Common.{◌≡◌, ◌⊎◌, inl, inr, ℕ, zero, suc, ◌^◌, ◌<◌, List, [], ◌∷◌, ◌++◌, length, refl, sym, ◌∙◌, ap, subst, append_assoc, arith}
 use Rattle.std.specs.Int.{to_le_bytes, w64}
 use Rattle.std.proofs.lemmas.Nat.{from_le_bytes-to_le_bytes_8}
-use Rattle.std.proofs.lemmas.List.{append-nil, append_cancel_left}
+use Rattle.std.proofs.lemmas.List.{append_cancel_left}
 use Rattle.cp_words.specs.Limits.{Bounds}
 use Rattle.cp_frame.specs.declared.fault.FrameFault.{FrameFault}
 use Rattle.cp_frame.specs.declared.fault.FrameFault.TheVariants as faults
@@ -12,10 +12,10 @@ use Rattle.cp_frame.specs.Packed.{Packed}
 use Rattle.cp_frame.specs.Stream.{Laid, HasFault, NoFront, Open}
 use Rattle.cp_frame.specs.Reader.{GoesOnAs}
 use Rattle.cp_frame.specs.Rest.{heads}
-use Rattle.cp_frame.specs.Unpacking.{Pending, nothing, after, given, IsPending, next, laid_by}
-use Rattle.cp_frame.proofs.Opens.{Brings, brings_both, after-append, given-append, feeds_part, raw_more, raw_none}
-use Rattle.cp_frame.proofs.Unpacks.{packed_brings, brings_tag, brings_header}
-use Rattle.cp_frame.proofs.Laying.{brings_these}
+use Rattle.cp_frame.specs.Unpacking.{Pending, nothing, after, given, IsPending, laid_by}
+use Rattle.cp_packed.proofs.Opens.{Brings, brings_both, after-append, given-append, feeds_part, feeds_run}
+use Rattle.cp_packed.proofs.Unpacks.{packed_brings, brings_tag, brings_header}
+use Rattle.cp_packed.proofs.Laying.{brings_these}
 use Rattle.cp_frame.proofs.Certain.{are-append, are_back, packed_are, laid_is}
 use Rattle.cp_frame.proofs.Rests.{laid_are, two_fronts}
 
@@ -91,16 +91,6 @@ brings_heads [] (suc n) h k = absurd (omega (arith, k (omega arith)))
 brings_heads (w ∷ []) run h k = brings_single w run h.0
 brings_heads (w ∷ v ∷ ws) run h k =
     brings_both nothing nothing (record { run = run; part = [] }) (255 ∷ (to_le_bytes w64 w ++ 0 ∷ [])) (heads (v ∷ ws) run) (w ∷ []) (v ∷ ws) (brings_single w 0 h.0) (brings_heads (v ∷ ws) run h.1 (λ l. omega arith))
-
-pub feeds_run : (n : ℕ) (p q : List ℕ) → length p + length q < 8 → Brings (record { run = suc n; part = p }) q [] (record { run = suc n; part = p ++ q })
-feeds_run n p [] h = record { words = refl; open_then = ap (λ (r : List ℕ). let s : Pending = record { run = suc n; part = r } in s) (sym (append-nil p)) }
-feeds_run n p (x ∷ q) h =
-    let short : length (p ++ x ∷ []) < 8 = omega (arith, h, length-append p (x ∷ [])) in
-    let later = feeds_run n (p ++ x ∷ []) q (omega (arith, h, length-append p (x ∷ []))) in
-    record {
-      words = ap (λ (ws : List ℕ). ws ++ given (next (record { run = suc n; part = p }) x) q) (raw_none n x p short) ∙ ap (λ (s : Pending). given s q) (raw_more n x p short) ∙ later.words;
-      open_then = ap (λ (s : Pending). after s q) (raw_more n x p short) ∙ later.open_then ∙ ap (λ (r : List ℕ). let s : Pending = record { run = suc n; part = r } in s) (append_assoc p (x ∷ []) q);
-    }
 
 pub brings_part : (run : ℕ) (part : List ℕ) → IsPending (record { run = run; part = part }) → Brings (record { run = run; part = [] }) part [] (record { run = run; part = part })
 brings_part zero [] h = record { words = refl; open_then = refl }

@@ -11,10 +11,10 @@ use Rattle.cp_frame.specs.Framed.{AreBytes, bytes_of}
 use Rattle.cp_frame.specs.Packed.{Group, sparse, zeros, raw, IsGroup, spelling, Packed}
 use Rattle.cp_frame.specs.Stream.{Lays, Laid}
 use Rattle.cp_frame.specs.Unpacking.{Pending, nothing, header_of, run_of, first_words, next, brought, after, given, IsPending, laid, laid_in, laid_by, all_laid}
-use Rattle.cp_frame.proofs.Opens.{test_false, brings_first, step_more, step_last, raw_more, raw_last, after-append, given-append}
-use Rattle.cp_frame.proofs.Unpacks.{packed_brings, pending_step}
-use Rattle.cp_frame.proofs.Laying.{pending_nothing, pending_after, brings_packed, word_step, any_step, step_of_count, IsInWord}
-use Rattle.cp_frame.proofs.Filling.{all-append}
+use Rattle.cp_packed.proofs.Opens.{test_false, brings_first, step_more, step_last, raw_more, raw_last, after-append, given-append}
+use Rattle.cp_packed.proofs.Unpacks.{packed_brings, pending_step}
+use Rattle.cp_packed.proofs.Laying.{pending_nothing, pending_after, brings_packed, word_step, any_step, step_of_count, IsInWord}
+use Rattle.cp_packed.proofs.Bytes.{all-append}
 use Rattle.cp_frame.proofs.Framing.{same_parts}
 
 -- the parts of bytes are bytes

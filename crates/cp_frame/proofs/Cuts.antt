@@ -12,7 +12,7 @@ use Rattle.cp_frame.specs.Runs.{joined, Fed, AreAlike, ReadsAnyCut}
 use Rattle.cp_frame.specs.Unpacking.{Pending, nothing, after, given, laid, all_laid}
 use Rattle.cp_frame.proofs.Streams.{OneFront, one_reading, one_front_plain}
 use Rattle.cp_frame.proofs.Groups.{one_front_packed}
-use Rattle.cp_frame.proofs.Unpacks.{packed_brings}
+use Rattle.cp_packed.proofs.Unpacks.{packed_brings}
 use Rattle.cp_frame.proofs.Certain.{are_front, are_back}
 use Rattle.cp_frame.proofs.Rests.{IsPackedFault, packed_fault, frame_names_none, laid_longer, one_fault_packed}
 use Rattle.cp_frame.proofs.Whole.{fault_no_front, one_fault_plain, reads_all, same_form}

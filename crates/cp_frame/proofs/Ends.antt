@@ -13,6 +13,7 @@ use Rattle.cp_frame.specs.Framed.{AreWords, bytes_of, spelled, sizes_of, table, 
 use Rattle.cp_frame.specs.Frame.{Frame}
 use Rattle.cp_frame.specs.Stream.{numbers, named_sizes, Frames, Open}
 use Rattle.cp_frame.specs.Parts.{halves, count_of, lists, body, rest_of, InSegments, IsComplete, IsOpen, IsBegun, IsEmpty, NamesLittle, IsWholeTable}
+use Rattle.cp_packed.proofs.Bytes.{all-take}
 use Rattle.cp_frame.proofs.Numbers.{length_halves, length_spelled, spelled_halves, halves_small}
 use Rattle.cp_frame.proofs.Tables.{length_named}
 use Rattle.cp_frame.proofs.Filling.{length_lists}
@@ -107,11 +108,6 @@ pub frames_push : (mode : Mode) (limits : Bounds) (b : List ℕ) (given : List (
     → Frames mode limits b given (front ++ back) → n ≡ length front → Frame mode limits S front → Frames mode limits b (given ++ (n, S) ∷ []) back
 frames_push mode limits b [] n S front back h e k = (front, back, h, e, k, refl)
 frames_push mode limits b (g ∷ given) n S front back h e k = (h.0, h.1, h.2, h.3, h.4, frames_push mode limits h.1 given n S front back h.5 e k)
-
-pub all-take : {X : Type 0} (P : X → Type 0) (n : ℕ) (xs : List X) → AllByRecursion P xs → AllByRecursion P (take n xs)
-all-take P zero xs h = tt
-all-take P (suc n) [] h = tt
-all-take P (suc n) (x ∷ xs) h = (h.0, all-take P n xs h.1)
 
 -- a frame that has come, by the words of its table
 pub framed_by : (table_words : List ℕ) (S : List (List ℕ)) → AreWords table_words → IsWholeTable table_words → length table_words ≤ count_of table_words / 2 + 1

@@ -19,9 +19,9 @@ use Rattle.cp_frame.specs.Bulk.{TakesBytes, TakesFront, GivesWhole}
 use Rattle.cp_frame.specs.Single.{IsStillOpen, TakesWhole}
 use Rattle.cp_frame.specs.Following.{EndsFrame, StopsAt, GoesThrough, HasThere, HasRead}
 use Rattle.cp_frame.specs.Unpacking.{Pending, nothing, after, given, pending_of}
-use Rattle.cp_frame.proofs.Filling.{all-append}
+use Rattle.cp_packed.proofs.Bytes.{all-append}
 use Rattle.cp_frame.proofs.Ends.{complete_frame, empty_open, empty_rest, frames_push, open_rest}
-use Rattle.cp_frame.proofs.Opens.{after-append, given-append}
+use Rattle.cp_packed.proofs.Opens.{after-append, given-append}
 use Rattle.cp_frame.proofs.Certain.{are_back}
 use Rattle.cp_frame.proofs.Rests.{fault_stays_packed}
 use Rattle.cp_frame.proofs.Taken.{blank_packed, ends_fault, keeps_blank}

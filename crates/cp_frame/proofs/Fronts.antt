@@ -20,13 +20,13 @@ use Rattle.cp_frame.specs.Rest.{words_in_order, bytes_for, InPacked, TakesByte, 
 use Rattle.cp_frame.specs.Bulk.{TakesBytes}
 use Rattle.cp_frame.specs.Unpacking.{Pending, nothing, next, brought, after, given, laid, IsPending, pending_of}
 use Rattle.cp_frame.proofs.Numbers.{length_bytes_of}
-use Rattle.cp_frame.proofs.Filling.{all-append}
+use Rattle.cp_packed.proofs.Bytes.{all-append}
 use Rattle.cp_frame.proofs.Framing.{same_words}
 use Rattle.cp_frame.proofs.Ends.{complete_frame, frames_push}
 use Rattle.cp_frame.proofs.Streams.{cut}
-use Rattle.cp_frame.proofs.Opens.{Brings, brings_both}
-use Rattle.cp_frame.proofs.Unpacks.{pending_step}
-use Rattle.cp_frame.proofs.Laying.{brings_packed, pending_after}
+use Rattle.cp_packed.proofs.Opens.{Brings, brings_both}
+use Rattle.cp_packed.proofs.Unpacks.{pending_step}
+use Rattle.cp_packed.proofs.Laying.{brings_packed, pending_after}
 use Rattle.cp_frame.proofs.Certain.{are-append, are_back}
 use Rattle.cp_frame.proofs.Rests.{fault_stays_packed}
 use Rattle.cp_frame.proofs.Alike.{alike_both, alike_more, alike_state, alike_open}

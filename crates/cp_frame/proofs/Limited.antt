@@ -1,6 +1,6 @@
 -- Packed bytes that are unpacked within a limit.
-use Rattle.std.proofs.Common.{◌≡◌, ◌⊎◌, inl, inr, ℕ, zero, suc, ◌+◌, ◌-◌, ◌*◌, ◌/◌, ◌<◌, ◌≤◌, List, [], ◌∷◌, ◌++◌, length, replicate, take, get_or, sym, ◌∙◌, ap, subst, append_assoc, length-append, arith}
-use Rattle.std.proofs.lemmas.List.{append-nil, take_all, nil_from_length}
+use Rattle.std.proofs.Common.{◌≡◌, ◌⊎◌, inl, inr, ℕ, zero, ◌+◌, ◌*◌, ◌/◌, ◌<◌, ◌≤◌, List, [], ◌∷◌, ◌++◌, length, sym, ◌∙◌, ap, subst, append_assoc, length-append, arith}
+use Rattle.std.proofs.lemmas.List.{append-nil, nil_from_length}
 use Rattle.std.proofs.lemmas.Bool.{cases_eq}
 use Rattle.cp_frame.specs.declared.fault.FrameFault.{FrameFault}
 use Rattle.cp_frame.specs.declared.fault.FrameFault.TheVariants as faults
@@ -9,15 +9,10 @@ use Rattle.cp_frame.specs.Stream.{IsNotUnpackedFor}
 use Rattle.cp_frame.specs.Unpacking.{Pending, IsPending, nothing, next, brought, after, given, laid, all_laid}
 use Rattle.cp_frame.specs.Bulk.{TakesWithin}
 use Rattle.cp_frame.proofs.Numbers.{length_bytes_of}
-use Rattle.cp_frame.proofs.Opens.{Brings, after-append, given-append}
-use Rattle.cp_frame.proofs.Unpacks.{packed_brings}
-use Rattle.cp_frame.proofs.Laying.{pending_nothing, pending_after, laid_at_most}
+use Rattle.cp_packed.proofs.Opens.{Brings, after-append, given-append}
+use Rattle.cp_packed.proofs.Unpacks.{packed_brings}
+use Rattle.cp_packed.proofs.Laying.{pending_nothing, pending_after, laid_at_most}
 use Rattle.cp_frame.proofs.Certain.{are_front, laid_is}
-
--- bytes by their places
-pub bytes_by : (b : List ℕ) → ((i : ℕ) → get_or b i 0 < 256) → AreBytes b
-bytes_by [] h = tt
-bytes_by (x ∷ b) h = (h 0, bytes_by b (λ i. h (suc i)))
 
 -- a front, and one behind it
 pub within_both : (limit : ℕ) (old mid new left middle back : List ℕ) (p q r : Pending) → TakesWithin limit old p left mid q middle → TakesWithin limit mid q middle new r back → TakesWithin limit old p left new r back
@@ -95,7 +90,3 @@ cut_short b limit h open_then k few =
     within s (inr e) f = omega (arith, length_laid b, e, k, s)
 
 -- a vector that is filled up
-pub filled_up : (xs : List ℕ) (n count w : ℕ) → n ≡ length xs + count → take n xs ++ replicate (n - length xs) w ≡ xs ++ replicate count w
-filled_up xs n count w h =
-    let more : n - length xs ≡ count = omega (arith, h) in
-    ap (λ (c : List ℕ). c ++ replicate (n - length xs) w) (take_all n xs (omega (arith, h))) ∙ ap (λ (m : ℕ). xs ++ replicate m w) more

@@ -24,8 +24,8 @@ use Rattle.cp_frame.proofs.Framing.{numbers_framed, length_framed, length_sizes}
 use Rattle.cp_frame.proofs.Filling.{length_lists}
 use Rattle.cp_frame.proofs.Opened.{last_of, length_rest}
 use Rattle.cp_frame.proofs.Ends.{sizes_named, sum_inside}
-use Rattle.cp_frame.proofs.Opens.{test_true, test_false, after-append, step_more, raw_more, raw_last}
-use Rattle.cp_frame.proofs.Unpacks.{packed_brings, brings_tag, pending_step}
+use Rattle.cp_packed.proofs.Opens.{test_true, test_false, after-append, step_more, raw_more, raw_last}
+use Rattle.cp_packed.proofs.Unpacks.{packed_brings, brings_tag, pending_step}
 use Rattle.cp_frame.proofs.Certain.{missing, missing_run, are_back, packed_are}
 use Rattle.cp_frame.proofs.Texts.{brings_kept}
 

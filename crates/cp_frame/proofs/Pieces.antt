@@ -10,13 +10,14 @@ use Rattle.cp_frame.specs.Framed.{AreBytes, bytes_of, spelled, sizes_of, table}
 use Rattle.cp_frame.specs.Frame.{IsWritten, padded_table}
 use Rattle.cp_frame.specs.Packed.{Spelt}
 use Rattle.cp_frame.specs.Packing.{PutsSpelt}
-use Rattle.cp_frame.specs.Parts.{lists, words_in}
+use Rattle.cp_frame.specs.Parts.{lists}
+use Rattle.cp_packed.specs.Words.{words_in}
 use Rattle.cp_frame.proofs.Numbers.{length_spelled, bytes_of_word}
-use Rattle.cp_frame.proofs.Filling.{words_in_is}
+use Rattle.cp_packed.proofs.Bytes.{words_in_is}
 use Rattle.cp_frame.proofs.Framing.{length_sizes}
 use Rattle.cp_frame.proofs.Opened.{next_list}
 use Rattle.cp_frame.proofs.Whole.{length_padding}
-use Rattle.cp_frame.proofs.Unpacks.{byte_at}
+use Rattle.cp_packed.proofs.Unpacks.{byte_at}
 use Rattle.cp_frame.proofs.Certain.{are-append}
 
 all_zip-push : (S : List (List ℕ)) (T : List (List ℕ)) (s t : List ℕ) → AllZip Spelt S T → Spelt s t → AllZip Spelt (S ++ s ∷ []) (T ++ t ∷ [])

@@ -1,12 +1,12 @@
 -- Words of a run taken one by one.
-use Rattle.std.proofs.Common.{◌≡◌, inl, inr, ℕ, zero, suc, ◌-◌, ◌^◌, ◌<◌, List, ◌++◌, replicate, refl, sym, ◌∙◌, ap, subst, append_assoc, arith}
+use Rattle.std.proofs.Common.{◌≡◌, inl, inr, ℕ, zero, suc, ◌-◌, ◌<◌, List, ◌++◌, replicate, refl, sym, ◌∙◌, ap, subst, append_assoc, arith}
 use Rattle.std.specs.Int.{to_le_bytes, w64}
 use Rattle.std.proofs.lemmas.List.{length-replicate}
 use Rattle.cp_words.specs.Limits.{Bounds}
 use Rattle.cp_frame.specs.declared.fault.FrameFault.{FrameFault}
 use Rattle.cp_frame.specs.declared.fault.FrameFault.TheVariants as faults
 use Rattle.cp_frame.specs.declared.frame.OpenFrame.{OpenFrame}
-use Rattle.cp_frame.specs.Framed.{AreWords, bytes_of}
+use Rattle.cp_frame.specs.Framed.{bytes_of}
 use Rattle.cp_frame.specs.Stream.{numbers}
 use Rattle.cp_frame.specs.Parts.{lists, rest_of, IsComplete, IsFaultOf}
 use Rattle.cp_frame.specs.Rest.{IsFaultOfWords}
@@ -37,7 +37,3 @@ pub run_goes_on : (f g : OpenFrame) (b : List ℕ) (left word : ℕ) → 0 < lef
 run_goes_on f g b left word k e h =
     let more = bytes_of (replicate (left - 1) word) in
     ap (λ (c : List ℕ). c ++ more) h ∙ append_assoc (rest_of f) (to_le_bytes w64 word) more ∙ ap (λ (c : List ℕ). rest_of f ++ c) (sym (run_left left word k)) ∙ e
-
-pub words_repeat : (n word : ℕ) → word < 2 ^ 64 → AreWords (replicate n word)
-words_repeat zero word h = tt
-words_repeat (suc n) word h = (h, words_repeat n word h)

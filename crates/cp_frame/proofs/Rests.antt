@@ -19,9 +19,9 @@ use Rattle.cp_frame.proofs.Numbers.{numbers_more}
 use Rattle.cp_frame.proofs.Framing.{numbers_framed, one_framed}
 use Rattle.cp_frame.proofs.Streams.{names_more}
 use Rattle.cp_frame.proofs.Whole.{kinds, not_both, too_many_front, too_much_front, read_back_plain}
-use Rattle.cp_frame.proofs.Filling.{all-append}
-use Rattle.cp_frame.proofs.Opens.{after-append, given-append}
-use Rattle.cp_frame.proofs.Laying.{pending_nothing, pending_after}
+use Rattle.cp_packed.proofs.Bytes.{all-append}
+use Rattle.cp_packed.proofs.Opens.{after-append, given-append}
+use Rattle.cp_packed.proofs.Laying.{pending_nothing, pending_after}
 use Rattle.cp_frame.proofs.Certain.{are-append, are_front, packed_are, laid_prefix, laid_is, laid_one}
 
 -- packed bytes one after another

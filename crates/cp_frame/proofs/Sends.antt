@@ -13,7 +13,7 @@ use Rattle.cp_frame.specs.Packing.{PutsFront, PutsSpelt}
 use Rattle.cp_frame.specs.Parts.{lists}
 use Rattle.cp_frame.specs.Sending.{Moves, Sends, SendsForm, SendsSpelt}
 use Rattle.cp_frame.proofs.Pieces.{WritesPieces, pieces_none, pieces_more, pieces_all}
-use Rattle.cp_frame.proofs.Sparing.{front_none, front_all}
+use Rattle.cp_packed.proofs.Sparing.{front_none, front_all}
 
 pub appends_none : (held : Option (List ℕ)) → Appends held held []
 appends_none None = tt

@@ -7,10 +7,9 @@ use Rattle.std.proofs.lemmas.List.{append-nil, take_all, take-append-drop, lengt
 use Rattle.cp_words.specs.Limits.{Bounds}
 use Rattle.cp_frame.specs.declared.frame.OpenFrame.{OpenFrame}
 use Rattle.cp_frame.specs.Framed.{AreWords, bytes_of, sizes_of, Framed}
-use Rattle.cp_frame.specs.Parts.{halves, lists, count_of, words_in, rest_of, IsOpen, IsComplete, InSegments}
-use Rattle.cp_frame.specs.Stream.{named_sizes}
-use Rattle.cp_frame.specs.Parts.{body, IsEmpty, IsTable, IsWholeTable, NamesLittle}
-use Rattle.cp_frame.specs.Stream.{numbers}
+use Rattle.cp_frame.specs.Parts.{halves, lists, count_of, rest_of, IsOpen, IsComplete, InSegments, body, IsEmpty, IsTable, IsWholeTable, NamesLittle}
+use Rattle.cp_packed.specs.Words.{words_in}
+use Rattle.cp_frame.specs.Stream.{named_sizes, numbers}
 use Rattle.cp_frame.specs.Unpacking.{Pending, nothing, after, given, laid, pending_of}
 use Rattle.cp_frame.specs.declared.rest.Rest.{Rest}
 use Rattle.cp_frame.specs.Rest.{InPacked, IsSound}
@@ -18,7 +17,8 @@ use Rattle.cp_frame.specs.Bulk.{running, TakesGroups, TakesFront}
 use Rattle.cp_frame.specs.Single.{BeginsWithOne, TakesWhole, IsOne, TakesTable, IsStillOpen}
 use Rattle.cp_frame.proofs.Opened.{little_in_segments}
 use Rattle.cp_frame.proofs.Tables.{length_named}
-use Rattle.cp_frame.proofs.Filling.{length_lists, words_in_is, take_small}
+use Rattle.cp_frame.proofs.Filling.{length_lists}
+use Rattle.cp_packed.proofs.Bytes.{words_in_is, take_small}
 use Rattle.cp_frame.proofs.Ends.{inside, framed_by, empty_open, empty_rest}
 
 -- a segment behind the word that is its table

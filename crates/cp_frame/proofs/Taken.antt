@@ -20,14 +20,14 @@ use Rattle.cp_frame.proofs.Numbers.{numbers_more}
 use Rattle.cp_frame.proofs.Streams.{names_more}
 use Rattle.cp_frame.proofs.Opened.{length_rest}
 use Rattle.cp_frame.proofs.Ends.{open_rest, complete_frame, empty_open, empty_rest}
-use Rattle.cp_frame.proofs.Opens.{is_by, Brings, brings_both}
-use Rattle.cp_frame.proofs.Unpacks.{lowest, ones_step, pending_step}
-use Rattle.cp_frame.proofs.Laying.{half_small, pending_nothing}
+use Rattle.cp_packed.proofs.Opens.{is_by, Brings, brings_both}
+use Rattle.cp_packed.proofs.Unpacks.{lowest, ones_step, pending_step}
+use Rattle.cp_packed.proofs.Laying.{half_small, pending_nothing}
 use Rattle.cp_frame.proofs.Certain.{are-append}
 use Rattle.cp_frame.proofs.Rests.{fault_packed}
 use Rattle.cp_frame.proofs.Cuts.{no_front_of}
 use Rattle.cp_frame.proofs.Alike.{alike_more, alike_fault, no_front_behind}
-use Rattle.cp_frame.proofs.Pushes.{words_repeat}
+use Rattle.cp_packed.proofs.Bytes.{words_repeat}
 use Rattle.cp_frame.proofs.Texts.{bytes_words, text_are, brings_kept, laid_words, open_packed, past_next}
 
 -- a group brings no more words than its bytes allow, and its count only with a word

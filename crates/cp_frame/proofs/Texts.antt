@@ -20,12 +20,12 @@ use Rattle.cp_frame.specs.Stream.{NoFront, NamesFault, RunsPast, HasFault, Open,
 use Rattle.cp_frame.specs.Rest.{words_in_order, heads, bytes_for, InPacked}
 use Rattle.cp_frame.specs.Unpacking.{Pending, nothing, after, given, laid, laid_in, laid_by, all_laid, IsPending, pending_of}
 use Rattle.cp_frame.proofs.Numbers.{length_bytes_of}
-use Rattle.cp_frame.proofs.Filling.{all-append}
+use Rattle.cp_packed.proofs.Bytes.{all-append}
 use Rattle.cp_frame.proofs.Framing.{length_framed, one_framed}
 use Rattle.cp_frame.proofs.Opened.{length_rest, little_no_fault}
-use Rattle.cp_frame.proofs.Opens.{Brings, after-append, given-append}
-use Rattle.cp_frame.proofs.Unpacks.{packed_brings}
-use Rattle.cp_frame.proofs.Laying.{IsInWord, laid_more, laid_few, laid_at_most, follows, pending_nothing, pending_after}
+use Rattle.cp_packed.proofs.Opens.{Brings, after-append, given-append}
+use Rattle.cp_packed.proofs.Unpacks.{packed_brings}
+use Rattle.cp_packed.proofs.Laying.{IsInWord, laid_more, laid_few, laid_at_most, follows, pending_nothing, pending_after}
 use Rattle.cp_frame.proofs.Certain.{are-append, are_back, le_are, packed_are, in_word, goes_no_further, laid_is, laid_one}
 use Rattle.cp_frame.proofs.Rests.{bytes_joined, packed_fault, IsPackedFault, two_fronts}
 use Rattle.cp_frame.proofs.Alike.{brings_text}

@@ -1,5 +1,5 @@
 -- Groups of the packed form taken at once. No public clause names these.
-use Rattle.std.specs.Prelude.{◌≡◌, ◌⊎◌, ℕ, ◌+◌, ◌-◌, ◌<◌, ◌≤◌, List, [], ◌∷◌, ◌++◌, length, replicate}
+use Rattle.std.specs.Prelude.{◌≡◌, ◌⊎◌, ℕ, ◌+◌, ◌≤◌, List, [], ◌∷◌, ◌++◌, length}
 use Rattle.cp_words.specs.Limits.{Bounds}
 use Rattle.cp_frame.specs.declared.fault.FrameFault.{FrameFault}
 use Rattle.cp_frame.specs.declared.mode.Mode.TheVariants as modes
@@ -10,30 +10,9 @@ use Rattle.cp_frame.specs.Parts.{IsOpen, InSegments, IsComplete, NamesLittle, li
 use Rattle.cp_frame.specs.Stream.{numbers}
 use Rattle.cp_frame.specs.Unpacking.{Pending, nothing, after, given, laid, pending_of}
 use Rattle.cp_frame.specs.Rest.{IsBlank, InPacked, Reads, Refuses}
+pub use Rattle.cp_packed.specs.Groups.{running, TakesGroups}
 
--- nothing of a group, and so many words of a raw run still to come
-abbrev pub running : ℕ → Pending
-running run = record { run = run; part = [] }
-
--- A front of the bytes was taken, with the words that it brings: no more than there is room for, and as many only where no run goes on.
-pub record TakesGroups (most : ℕ) (old : List ℕ) (run : ℕ) (left new : List ℕ) (next : ℕ) (back : List ℕ) : Type 0 where
-  pub front : List ℕ
-  pub whole : left ≡ front ++ back
-  pub are_words : AreWords (given (running run) front)
-  pub puts : new ≡ old ++ given (running run) front
-  pub open_then : after (running run) front ≡ running next
-  pub few : next < 256
-  pub within : length new ≤ most
-  pub ends : length new ≡ most → next ≡ 0
-
--- A front of the bytes was taken, and the words that it brings were put over the first of so many zeros. No run goes on.
-pub record FillsFront (most : ℕ) (left new : List ℕ) (filled : ℕ) (back : List ℕ) : Type 0 where
-  pub words : List ℕ
-  pub takes : TakesGroups most [] 0 left words 0 back
-  pub count : length words ≡ filled
-  pub puts : new ≡ words ++ replicate (most - filled) 0
-
--- Likewise, whatever is open of a group: a front of the bytes was taken, with the words that it brings, and there are no more than there may be.
+-- Whatever is open of a group: a front of the bytes was taken, with the words that it brings, and there are no more than there may be.
 pub record TakesWithin (limit : ℕ) (old : List ℕ) (p : Pending) (left new : List ℕ) (q : Pending) (back : List ℕ) : Type 0 where
   pub front : List ℕ
   pub whole : left ≡ front ++ back

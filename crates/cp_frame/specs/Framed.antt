@@ -1,21 +1,10 @@
 -- A message's segments as bytes. (Encoding specification, "Serialization Over a Stream".)
 use Rattle.std.specs.Prelude.{◌≡◌, ℕ, ◌-◌, ◌%◌, ◌^◌, ◌<◌, ◌≤◌, List, ◌∷◌, ◌++◌, length, map}
 use Rattle.std.specs.List.{AllByRecursion, flat_map}
-use Rattle.std.specs.Int.{to_le_bytes, w32, w64}
+use Rattle.std.specs.Int.{to_le_bytes, w32}
+pub use Rattle.cp_packed.specs.Words.{AreWords, AreBytes, bytes_of}
 
--- numbers of 64 bits
-abbrev pub AreWords : List ℕ → Type 0
-AreWords ws = AllByRecursion (λ w. w < 2 ^ 64) ws
-
--- numbers of 8 bits
-abbrev pub AreBytes : List ℕ → Type 0
-AreBytes b = AllByRecursion (λ x. x < 2 ^ 8) b
-
--- words as bytes, the lowest byte of each first
-abbrev pub bytes_of : List ℕ → List ℕ
-bytes_of ws = flat_map (to_le_bytes w64) ws
-
--- numbers of 32 bits as bytes, likewise
+-- numbers of 32 bits as bytes, the lowest byte of each first
 abbrev pub spelled : List ℕ → List ℕ
 spelled ns = flat_map (to_le_bytes w32) ns
 

@@ -1,10 +1,12 @@
 pub use Rattle.cp_words.specs.Limits
+pub use Rattle.cp_packed.specs.Words
+pub use Rattle.cp_packed.specs.Packed
+pub use Rattle.cp_packed.specs.Unpacking
+pub use Rattle.cp_packed.specs.Groups
+pub use Rattle.cp_packed.specs.Decoding
+pub use Rattle.cp_packed.specs.Packing
 pub mod Framed
-pub mod Packed
-pub mod Unpacking
 pub mod Bulk
-pub mod Decoding
-pub mod Packing
 pub mod Frame
 pub mod Sending
 pub mod Stream

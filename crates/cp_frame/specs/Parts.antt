@@ -8,8 +8,7 @@ use Rattle.cp_frame.specs.declared.frame.OpenFrame.{OpenFrame}
 use Rattle.cp_frame.specs.Framed.{AreWords, bytes_of, sizes_of}
 use Rattle.cp_frame.specs.Stream.{numbers, named_sizes, NamesFault}
 use Rattle.std.specs.Global.{Vec}
-use Rattle.std.specs.Int.{from_le_bytes, to_le_bytes, w64}
-use Rattle.std.specs.Simd.{first_chunks}
+use Rattle.std.specs.Int.{to_le_bytes, w64}
 
 -- the halves of words, the lower of each first
 abbrev pub halves : List ℕ → List ℕ
@@ -57,10 +56,6 @@ lists vs = map (λ v. v.items) vs
 abbrev pub IsFaultOf : Bounds → List ℕ → FrameFault → Type 0
 IsFaultOf limits ns faults.OutOfMemory = Unit {0}
 IsFaultOf limits ns fault = NamesFault limits ns fault
-
--- the words that bytes are, eight to each
-abbrev pub words_in : List ℕ → List ℕ
-words_in b = map (from_le_bytes w64) (first_chunks 8 (length b / 8) b)
 
 -- all that has come of a frame
 abbrev pub rest_of : OpenFrame → List ℕ

@@ -3,7 +3,8 @@ use Rattle.std.specs.Prelude.{◌≡◌, ℕ, List, ◌++◌, Option}
 use Rattle.std.specs.Io.KnownBytes.{Appends}
 use Rattle.cp_words.specs.Limits.{Bounds}
 use Rattle.cp_frame.specs.declared.mode.Mode.{Mode}
-use Rattle.cp_frame.specs.Frame.{IsWritten, Written}
+use Rattle.cp_frame.specs.Framed.{bytes_of}
+use Rattle.cp_frame.specs.Frame.{padded_table, IsWritten, Written}
 use Rattle.cp_frame.specs.Packing.{PutsSpelt}
 
 -- The segments' frame in this form went out, behind what the writer held.
@@ -17,6 +18,10 @@ Moves old new before after = (sent : List ℕ) × Appends old new sent × (befor
 -- the words were written packed behind what stood in the room, and of both together this went out, and that stands there now
 abbrev pub SendsSpelt : Option (List ℕ) → Option (List ℕ) → List ℕ → List ℕ → List ℕ → Type 0
 SendsSpelt old new before after words = (sent : List ℕ) × Appends old new sent × PutsSpelt before (sent ++ after) words
+
+-- the table of these segments was written packed behind what stood there
+abbrev pub PutsTable : List (List ℕ) → List ℕ → List ℕ → Type 0
+PutsTable S old new = (head : List ℕ) × (padded_table S ≡ bytes_of head) × PutsSpelt old new head
 
 -- what is written of these segments went out, behind what the writer held
 abbrev pub Sends : Mode → Bounds → List (List ℕ) → Option (List ℕ) → Option (List ℕ) → Type 0

@@ -3,16 +3,15 @@
 ghost use Rattle.std.specs.Prelude.{◌≡◌, ◌⊎◌, ◌^◌, ◌+◌, ◌*◌, ◌/◌, ◌%◌, ◌<◌, ◌≤◌, ◌++◌, ◌∷◌, [], ◌↔◌, IsTrue, IfOk, OnOk, IfErr, length, sum, replicate, slice_index, vec_capacity};
 ghost use Rattle.cp_frame.specs.Framed.{bytes_of, sizes_of};
 ghost use Rattle.std.specs.Int.{to_le_bytes, w64};
-ghost use Rattle.cp_frame.specs.Parts.{Takes, IsBegun, InTable, InSegments, halves, count_of, IsWholeTable, IsTable, IsFaultOf, Fills, body, lists, words_in, rest_of, IsOpen, IsComplete, IsEmpty, least_words, kept_words, roomed};
+ghost use Rattle.cp_frame.specs.Parts.{Takes, IsBegun, InTable, InSegments, halves, count_of, IsWholeTable, IsTable, IsFaultOf, Fills, body, lists, rest_of, IsOpen, IsComplete, IsEmpty, least_words, kept_words, roomed};
 ghost use Rattle.cp_frame.specs.Stream.{numbers, named_sizes};
 ghost use Rattle.cp_frame.specs.Rest.{IsFaultOfWords};
 ghost use Rattle.cp_frame.specs.Bulk.{TakesPart};
 ghost use Rattle.cp_frame.specs.Single.{TakesTable};
 
-use crate::bulk::take_groups;
 use crate::fault::FrameFault;
-use crate::group::Run;
 use crate::table;
+use cp_packed::{Run, make_room, take_groups, take_in, word_of};
 use cp_words::{Limits, Segments};
 use std::alloc::{AllocError, Global};
 use std::mem;
@@ -120,31 +119,6 @@ fn close(
     Ok(())
 }
 
-/// Makes room for so many words that have come, where so many are missing of the segment: for all that
-/// are missing, but for no more than have come.
-pub fn make_room(words: &mut Vec<u64>, taken: usize, missing: usize) -> Result<(), AllocError>
-    ensures { OnOk result (words.new.items ≡ words.old.items) }
-{
-    let room = words.capacity() - words.len();
-    if room < taken {
-        words.reserve_exact(missing.min(words.len().max(taken)))?;
-    }
-    Ok(())
-}
-
-/// Takes the words of these bytes.
-pub fn take_in(words: &mut Vec<u64>, bytes: &[u8]) -> Result<(), AllocError>
-    ensures { OnOk result (words.new.items ≡ words.old.items ++ words_in bytes.now) }
-{
-    words.extend(
-        bytes
-            .as_chunks::<8>()
-            .0
-            .iter()
-            .map(|bytes| u64::from_le_bytes(*bytes)),
-    )
-}
-
 /// Takes whole words of the open segment, and gives back what follows them.
 fn take_words<'a>(
     alloc: Global,
@@ -180,14 +154,14 @@ fn take_word<'a>(part: &mut Vec<u8>, left: &'a [u8]) -> Result<(Option<u64>, &'a
 {
     if part.is_empty() && 8 <= left.len() {
         let (front, back) = left.split_at(8);
-        return Ok((Some(table::word_of(front)), back));
+        return Ok((Some(word_of(front)), back));
     }
     let (front, back) = left.split_at((8 - part.len()).min(left.len()));
     part.extend_from_slice(front)?;
     if part.len() < 8 {
         return Ok((None, back));
     }
-    let word = table::word_of(part);
+    let word = word_of(part);
     part.clear();
     Ok((Some(word), back))
 }

@@ -3,18 +3,13 @@
 //! that brings their last byte.
 #![tactic(auto)]
 
-mod bulk;
-mod decoding;
 mod fault;
 mod frame;
-mod gather;
-mod group;
 mod laws;
 mod mode;
 mod packing;
 mod reader;
 mod rest;
-mod scatter;
 mod send;
 mod single;
 mod status;
@@ -22,8 +17,8 @@ mod table;
 mod unpacking;
 mod write;
 
+pub use cp_packed::decode;
 pub use cp_words::Limits;
-pub use decoding::decode;
 pub use fault::FrameFault;
 pub use laws::{any_cut, one_fault, one_reading, read_back};
 pub use mode::Mode;

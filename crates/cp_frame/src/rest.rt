@@ -13,9 +13,9 @@ ghost use Rattle.cp_frame.specs.declared.fault.FrameFault.TheVariants.{OutOfMemo
 
 use crate::fault::FrameFault;
 use crate::frame::OpenFrame;
-use crate::group::OpenGroup;
 use crate::mode::Mode;
 use crate::table;
+use cp_packed::OpenGroup;
 use cp_words::{Limits, Segments};
 use std::alloc::{AllocError, Global};
 

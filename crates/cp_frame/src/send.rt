@@ -6,15 +6,14 @@ ghost use Rattle.std.specs.Io.KnownBytes.{Appends};
 ghost use Rattle.cp_frame.specs.Framed.{bytes_of, sizes_of};
 ghost use Rattle.cp_frame.specs.Frame.{IsRefusedFor, padded_table};
 ghost use Rattle.cp_frame.specs.Parts.{lists};
-ghost use Rattle.cp_frame.specs.Packing.{PutsTable};
-ghost use Rattle.cp_frame.specs.Sending.{Moves, Sends, SendsForm, SendsSpelt};
+ghost use Rattle.cp_frame.specs.Sending.{PutsTable, Moves, Sends, SendsForm, SendsSpelt};
 ghost use Rattle.cp_frame.specs.declared.mode.Mode.TheVariants.{Plain, Packed};
 
 use crate::fault::FrameFault;
 use crate::mode::Mode;
-use crate::packing::{LONGEST, push_groups};
 use crate::write::{count_words, push_packed_table, push_table};
 use byteorder::{ByteOrder, LittleEndian};
+use cp_packed::{LONGEST, push_groups};
 use cp_words::{Limits, Segments};
 use std::alloc::{AllocError, Global};
 use std::io::{self, Write};

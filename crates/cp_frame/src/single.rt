@@ -3,8 +3,8 @@
 ghost use Rattle.std.specs.Prelude.{IfOk, IfSome};
 ghost use Rattle.cp_frame.specs.Single.{BeginsWithOne, TakesWhole};
 
-use crate::frame::{take_in, take_room};
-use crate::table;
+use crate::frame::take_room;
+use cp_packed::{take_in, word_of};
 use cp_words::{Limits, Segments};
 use std::alloc::{AllocError, Global};
 
@@ -20,7 +20,7 @@ fn size_of_one(limits: Limits, bytes: &[u8]) -> Option<usize>
         return None;
     }
     let (first, body) = bytes.split_at(WORD);
-    let table = table::word_of(first);
+    let table = word_of(first);
     let size = (table / 0x1_0000_0000) as usize;
     let is_one = table % 0x1_0000_0000 == 0;
     if is_one && size <= limits.frame_words() as usize && size <= body.len() / WORD {

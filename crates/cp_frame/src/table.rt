@@ -2,13 +2,13 @@
 //! is the number of segments less one, then come their sizes in words.
 
 ghost use Rattle.std.specs.Prelude.{◌≡◌, ◌+◌, ◌/◌, ◌^◌, ◌<◌, ◌≤◌, ◌++◌, ◌∷◌, [], ◌↔◌, IsTrue, IfOk, OnOk, IfErr, length, sum, slice_index};
-ghost use Rattle.std.specs.Int.{to_le_bytes, w64};
 ghost use Rattle.cp_frame.specs.Parts.{halves, count_of, IsWholeTable, IsTable, IsFaultOf, NamesLittle};
 ghost use Rattle.cp_frame.specs.Stream.{numbers, named_sizes, NamesFault};
 ghost use Rattle.cp_frame.specs.Single.{IsOne};
 
 use crate::fault::FrameFault;
 use byteorder::{ByteOrder, LittleEndian};
+use cp_packed::word_of;
 use cp_words::Limits;
 
 /// How many segments there are.
@@ -125,14 +125,6 @@ pub fn check_part(table: &[u64], total: u64, limits: Limits, part: &[u8]) -> Res
         judge(table, total, limits, LittleEndian::read_u32(part) as u64)?;
     }
     Ok(())
-}
-
-/// The word that eight bytes are.
-pub fn word_of(bytes: &[u8]) -> u64
-    requires { length bytes.now ≡ 8 }
-    ensures { to_le_bytes w64 result ≡ bytes.now }
-{
-    LittleEndian::read_u64(bytes)
 }
 
 /// Tells the fault that the table has with the bytes of its next word that are known.

@@ -7,9 +7,8 @@ ghost use Rattle.cp_frame.specs.Unpacking.{IsPending, brought, pending_of};
 ghost use Rattle.cp_frame.specs.Bulk.{TakesWithin};
 ghost use Rattle.cp_frame.specs.declared.fault.FrameFault.TheVariants.{OutOfMemory, FrameTooLarge};
 
-use crate::bulk::take_groups;
 use crate::fault::FrameFault;
-use crate::group::OpenGroup;
+use cp_packed::{OpenGroup, take_groups};
 use std::alloc::{AllocError, Global};
 
 /// Takes groups at once, where none has come in part and there is room for a word.

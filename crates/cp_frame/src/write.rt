@@ -3,14 +3,13 @@
 ghost use Rattle.std.specs.Prelude.{◌≡◌, [], ◌+◌, ◌^◌, ◌<◌, ◌≤◌, ◌++◌, IfOk, OnOk, IfErr, IfSome, IfNone, length, sum};
 ghost use Rattle.cp_frame.specs.Framed.{bytes_of, sizes_of};
 ghost use Rattle.cp_frame.specs.Frame.{IsWithin, Written, WrittenBehind, IsWritten, IsWrittenBehind, IsRefusedFor, padded_table};
-ghost use Rattle.cp_frame.specs.Packing.{PutsTable};
+ghost use Rattle.cp_frame.specs.Sending.{PutsTable};
 ghost use Rattle.cp_frame.specs.Parts.{lists};
 ghost use Rattle.cp_frame.specs.declared.mode.Mode.TheVariants.{Plain, Packed};
 
 use crate::fault::FrameFault;
-use crate::frame::take_in;
 use crate::mode::Mode;
-use crate::packing::{LONGEST, push_packed, push_plain};
+use cp_packed::{LONGEST, push_packed, push_plain, take_in};
 use cp_words::{Limits, Segments};
 use std::alloc::{AllocError, Global};
 

@@ -1,7 +1,9 @@
 use Rattle.std.proofs.Common.{◌≡◌, ◌≤◌, ◌<◌, ◌+◌, ◌*◌, ℕ, length, ◌++◌, ◌∙◌, List, ap, sym, subst, get_or, arith, append_assoc}
 use Rattle.std.proofs.lemmas.List.{take-append-drop}
-use Rattle.cp_frame.proofs.Filling.{fills_more, body_more, length_lists, words_in_is, take_small}
-use Rattle.cp_frame.specs.Parts.{lists, halves, words_in, body}
+use Rattle.cp_frame.proofs.Filling.{fills_more, body_more, length_lists}
+use Rattle.cp_packed.proofs.Bytes.{words_in_is, take_small}
+use Rattle.cp_frame.specs.Parts.{lists, halves, body}
+use Rattle.cp_packed.specs.Words.{words_in}
 use Rattle.cp_frame.specs.Stream.{named_sizes}
 use Rattle.cp_frame.proofs.frame.take_words.Goals as goal
 

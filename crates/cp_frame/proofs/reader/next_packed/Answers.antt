@@ -4,7 +4,7 @@ use Rattle.std.proofs.lemmas.Result.{err_from_is_err_and}
 use Rattle.cp_frame.specs.declared.rest.Rest.{Rest}
 use Rattle.cp_frame.specs.Rest.{InPacked}
 use Rattle.cp_frame.specs.Bulk.{TakesFront}
-use Rattle.cp_frame.proofs.Limited.{bytes_by}
+use Rattle.cp_packed.proofs.Bytes.{bytes_by}
 use Rattle.cp_frame.proofs.Following.{front_both, fault_behind, still_packed, stops_packed, through_packed}
 use Rattle.cp_frame.proofs.reader.next_packed.Goals as goal
 

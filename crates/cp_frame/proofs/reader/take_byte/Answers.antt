@@ -1,6 +1,6 @@
 use Rattle.std.proofs.Common.{arith}
 use Rattle.std.proofs.lemmas.Result.{err_from_is_err_and}
-use Rattle.cp_frame.proofs.Limited.{bytes_by}
+use Rattle.cp_packed.proofs.Bytes.{bytes_by}
 use Rattle.cp_frame.proofs.Following.{fault_there}
 use Rattle.cp_frame.proofs.reader.take_byte.Goals as goal
 

@@ -1,7 +1,7 @@
 use Rattle.std.proofs.Common.{arith}
 use Rattle.std.proofs.lemmas.Result.{IfOk-weaker}
 use Rattle.cp_frame.specs.Bulk.{TakesFront}
-use Rattle.cp_frame.proofs.Limited.{bytes_by}
+use Rattle.cp_packed.proofs.Bytes.{bytes_by}
 use Rattle.cp_frame.proofs.Following.{front_both, still_packed}
 use Rattle.cp_frame.proofs.reader.take_groups.Goals as goal
 

@@ -6,7 +6,7 @@ use Rattle.cp_frame.specs.declared.mode.Mode.TheVariants.{Packed}
 use Rattle.cp_frame.specs.Rest.{InPacked}
 use Rattle.cp_frame.specs.Bulk.{TakesFront}
 use Rattle.cp_frame.specs.Following.{HasThere}
-use Rattle.cp_frame.proofs.Limited.{bytes_by}
+use Rattle.cp_packed.proofs.Bytes.{bytes_by}
 use Rattle.cp_frame.proofs.Following.{front_both, none_packed, fault_behind}
 use Rattle.cp_frame.proofs.reader.take_some.Goals as goal
 

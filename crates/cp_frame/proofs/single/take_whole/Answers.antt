@@ -1,5 +1,5 @@
 use Rattle.std.proofs.Common.{◌≡◌, ◌+◌, ◌*◌, ℕ, List, ◌∷◌, ◌++◌, [], sym, ◌∙◌, ap, subst, arith}
-use Rattle.cp_frame.specs.Parts.{words_in}
+use Rattle.cp_packed.specs.Words.{words_in}
 use Rattle.cp_frame.specs.Single.{TakesWhole}
 use Rattle.cp_frame.proofs.Singles.{takes_single}
 use Rattle.cp_frame.proofs.single.take_whole.Goals as goal

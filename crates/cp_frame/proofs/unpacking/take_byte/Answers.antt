@@ -2,7 +2,7 @@ use Rattle.std.proofs.Common.{◌≡◌, ◌+◌, ◌-◌, ◌++◌, ◌∷◌, 
 use Rattle.std.specs.Vec.{vec_len}
 use Rattle.std.proofs.lemmas.List.{append-nil}
 use Rattle.cp_frame.specs.Unpacking.{brought, pending_of}
-use Rattle.cp_frame.proofs.Limited.{filled_up}
+use Rattle.cp_packed.proofs.Bytes.{filled_up}
 use Rattle.cp_frame.proofs.unpacking.take_byte.Goals as goal
 
 pub returns-clause-takes : goal.returns-clause-takes

@@ -3,8 +3,9 @@ use Rattle.std.proofs.lemmas.Result.{err_from_is_err_and}
 use Rattle.std.proofs.lemmas.Bool.Decides.{nat_tests}
 use Rattle.cp_frame.specs.Unpacking.{Pending, nothing, given, after, laid, pending_of}
 use Rattle.cp_frame.specs.Bulk.{TakesWithin}
-use Rattle.cp_frame.proofs.Laying.{brings_these}
-use Rattle.cp_frame.proofs.Limited.{bytes_by, within_byte, within_both, within_pending, within_whole, stops, past_at_end, cut_short}
+use Rattle.cp_packed.proofs.Laying.{brings_these}
+use Rattle.cp_packed.proofs.Bytes.{bytes_by}
+use Rattle.cp_frame.proofs.Limited.{within_byte, within_both, within_pending, within_whole, stops, past_at_end, cut_short}
 use Rattle.cp_frame.proofs.Fronts.{first_left}
 use Rattle.cp_frame.proofs.unpacking.unpack.Goals as goal
 use Rattle.cp_frame.proofs.unpacking.unpack.Goals.{else-len-limit-via-then-len-limit+else-known-eq8, else-len-limit-via-else-len-limit}

@@ -1,7 +1,7 @@
 use Rattle.std.proofs.Common.{◌≡◌, ◌+◌, ◌-◌, ◌*◌, List, ℕ, length, sym, ap, arith}
 use Rattle.std.specs.Vec.{vec_len}
 use Rattle.cp_frame.specs.Parts.{count_of, least_words}
-use Rattle.cp_frame.proofs.Opens.{is_by}
+use Rattle.cp_packed.proofs.Opens.{is_by}
 use Rattle.cp_frame.proofs.Needed.{needs_by, least_none, least_more}
 use Rattle.cp_frame.proofs.frame.OpenFrame.needs.Goals as goal
 use Rattle.cp_frame.proofs.frame.OpenFrame.needs.Goals.{then-is_empty, else-is_empty}

@@ -1,6 +1,5 @@
-use Rattle.std.proofs.Common.{subst}
+use Rattle.std.proofs.Common.{subst, List, ℕ, sym}
 use Rattle.std.proofs.lemmas.Result.{IfErr-weaker}
-use Rattle.std.proofs.Common.{List, ℕ, sym}
 use Rattle.cp_frame.specs.Parts.{IsWholeTable}
 use Rattle.cp_frame.proofs.Opened.{fault_pushed, table_goes_on}
 use Rattle.cp_frame.proofs.frame.OpenFrame.push.Goals as goal

@@ -1,9 +1,0 @@
-use Rattle.std.proofs.Common.{length}
-use Rattle.cp_frame.specs.Packing.{PutsFront}
-use Rattle.cp_frame.proofs.packing.push_groups.Given as goal
-
-abbrev pub invariant-packing : goal.invariant-packing
-invariant-packing l = PutsFront l.fn.out.items l.out.items l.words l.left
-
-abbrev pub decreases-packing : goal.decreases-packing
-decreases-packing l = length l.left

@@ -1,0 +1,13 @@
+pub mod Bytes
+pub mod Opens
+pub mod Unpacks
+pub mod Laying
+pub mod Headers
+pub mod Spreading
+pub mod Places
+pub mod Sources
+pub mod Masks
+pub mod Sparing
+pub mod Decoded
+pub mod Bulks
+pub mod Blocks

@@ -1,0 +1,67 @@
+use Rattle.std.proofs.Common.{◌≡◌, ◌⊎◌, ◌<◌, ◌≤◌, ◌^◌, ◌+◌, ◌++◌, ◌∷◌, [], ℕ, List, length, take, get_or, ap, sym, subst, ◌∙◌, arith}
+use Rattle.std.specs.Int.{to_le_bytes, w64}
+use Rattle.std.proofs.lemmas.List.{get_or-drop}
+use Rattle.cp_packed.specs.Words.{AreWords, bytes_of}
+use Rattle.cp_packed.specs.Packed.{StartsWithout, zero_bytes, tag, written}
+use Rattle.cp_packed.specs.Packing.{bytes_that_count}
+use Rattle.cp_packed.proofs.Sparing.{puts_zeros, puts_sparse, puts_raw, two_bytes, raw_bytes, words_by, first_word}
+use Rattle.cp_packed.proofs.packing.push_group.Goals as goal
+use Rattle.cp_packed.proofs.packing.push_group.Goals.{else-tag-gt0-via-then-tag-gt0+else-tag-lt255, else-tag-gt0-via-else-tag-gt0}
+
+pub returns-then-tag-lt255-clause-group : goal.returns-then-tag-lt255-clause-group
+returns-then-tag-lt255-clause-group c =
+    let words = c.args.words.now in
+    let w = get_or words 0 0 in
+    let b : c.to_le_bytes-bytes.result ≡ to_le_bytes w64 w = c.to_le_bytes-bytes.ensures in
+    let t : c.tag_of-tag.result ≡ tag (bytes_that_count (to_le_bytes w64 w)) = c.tag_of-tag.ensures ∙ ap (λ (d : List ℕ). tag (bytes_that_count d)) b in
+    let small : w < 2 ^ 64 = omega (arith, c.type_inv.words 0) in
+    let whole = first_word words c.requires ∙ ap (λ (vs : List ℕ). w ∷ vs) (sym c.split_at.ensures.back) in
+    let text = c.in_ok-push_sparse.ensures ∙ ap (λ (n : ℕ). c.args.out.now.items ++ n ∷ written (bytes_that_count c.to_le_bytes-bytes.result)) t
+    ∙ ap (λ (d : List ℕ). c.args.out.now.items ++ tag (bytes_that_count (to_le_bytes w64 w)) ∷ written (bytes_that_count d)) b in
+    puts_sparse c.args.out.now.items c.push_sparse.new.out.items words c.split_at.result.1.now w small (omega (arith, t, c.if-tag-gt0.true)) (omega (arith, t, c.if-tag-lt255.true)) whole text
+
+pub returns-then-tag-eq0-clause-group : goal.returns-then-tag-eq0-clause-group
+returns-then-tag-eq0-clause-group c =
+    let words = c.args.words.now in
+    let w = get_or words 0 0 in
+    let behind = c.split_at.result.1.now in
+    let n = c.zero_run.result in
+    let out = c.args.out.now.items in
+    let b : c.to_le_bytes-bytes.result ≡ to_le_bytes w64 w = c.to_le_bytes-bytes.ensures in
+    let t : c.tag_of-tag.result ≡ tag (bytes_that_count (to_le_bytes w64 w)) = c.tag_of-tag.ensures ∙ ap (λ (d : List ℕ). tag (bytes_that_count d)) b in
+    let small : w < 2 ^ 64 = omega (arith, c.type_inv.words 0) in
+    let none : tag (bytes_that_count (to_le_bytes w64 w)) ≡ 0 = omega (arith, t, c.if-tag-eq0.true) in
+    let whole = first_word words c.requires ∙ ap (λ (vs : List ℕ). w ∷ vs) (sym c.split_at.ensures.back) in
+    let ends = subst (λ (vs : List ℕ). (n ≡ 255) ⊎ StartsWithout (λ v. v ≡ 0) vs) (sym c.split_at-then-tag-eq0.ensures.back) c.zero_run.ensures.ends in
+    let count : length c.split_at-then-tag-eq0.result.0.now ≡ n = c.split_at-then-tag-eq0.ensures.front_len in
+    let text : c.push-then-tag-eq0.new.self.items ≡ out ++ 0 ∷ n ∷ [] =
+    two_bytes out c.push.new.self.items c.push-then-tag-eq0.new.self.items c.tag_of-tag.result (length c.split_at-then-tag-eq0.result.0.now) c.in_ok-push.ensures.items c.in_ok-push-2.ensures.items
+    ∙ ap (λ (m : ℕ). out ++ m ∷ length c.split_at-then-tag-eq0.result.0.now ∷ []) c.if-tag-eq0.true ∙ ap (λ (m : ℕ). out ++ 0 ∷ m ∷ []) count in
+    puts_zeros out c.push-then-tag-eq0.new.self.items words behind c.split_at-then-tag-eq0.result.1.now w n small none whole c.zero_run.ensures.few c.zero_run.ensures.zeros c.split_at-then-tag-eq0.ensures.back ends text
+
+pub returns-clause-group : goal.returns-clause-group
+returns-clause-group c =
+    let words = c.args.words.now in
+    let w = get_or words 0 0 in
+    let behind = c.split_at.result.1.now in
+    let n = c.raw_run.result in
+    let out = c.args.out.now.items in
+    let b : c.to_le_bytes-bytes.result ≡ to_le_bytes w64 w = c.to_le_bytes-bytes.ensures in
+    let t : c.tag_of-tag.result ≡ tag (bytes_that_count (to_le_bytes w64 w)) = c.tag_of-tag.ensures ∙ ap (λ (d : List ℕ). tag (bytes_that_count d)) b in
+    let small : w < 2 ^ 64 = omega (arith, c.type_inv.words 0) in
+    let tag_full : c.tag_of-tag.result ≡ 255 =
+    elim c.else-tag-gt0.branch [
+      | else-tag-gt0-via-then-tag-gt0+else-tag-lt255 x ↦ omega (arith, x.if-tag-lt255.false, c.tag_of-tag.type_inv)
+      | else-tag-gt0-via-else-tag-gt0 x ↦ absurd (omega (arith, x.if-tag-gt0.false, c.if-tag-eq0.false))
+    ] in
+    let whole = first_word words c.requires ∙ ap (λ (vs : List ℕ). w ∷ vs) (sym c.split_at.ensures.back) in
+    let are : AreWords behind = words_by behind (λ i. subst (λ (vs : List ℕ). get_or vs i 0 < 2 ^ 64) (sym c.split_at.ensures.back) (subst (λ m. m < 2 ^ 64) (sym (get_or-drop 1 words i 0)) (omega (arith, c.type_inv.words (1 + i))))) in
+    let ends = subst (λ (vs : List ℕ). (n ≡ 255) ⊎ StartsWithout (λ v. zero_bytes v ≤ 1) vs) (sym c.split_at-2.ensures.back) c.raw_run.ensures.ends in
+    let text : c.push_plain.new.out.items ≡ out ++ 255 ∷ (to_le_bytes w64 w ++ (n ∷ bytes_of (take n behind))) =
+    raw_bytes out c.push.new.self.items c.extend_from_slice.new.self.items c.push-2.new.self.items c.push_plain.new.out.items c.to_le_bytes-bytes.result (bytes_of c.split_at-2.result.0.now) c.tag_of-tag.result (length c.split_at-2.result.0.now)
+    c.in_ok-push.ensures.items c.in_ok-extend_from_slice.ensures.items c.in_ok-push-3.ensures.items c.in_ok-push_plain.ensures
+    ∙ ap (λ (m : ℕ). out ++ m ∷ (c.to_le_bytes-bytes.result ++ (length c.split_at-2.result.0.now ∷ bytes_of c.split_at-2.result.0.now))) tag_full
+    ∙ ap (λ (d : List ℕ). out ++ 255 ∷ (d ++ (length c.split_at-2.result.0.now ∷ bytes_of c.split_at-2.result.0.now))) b
+    ∙ ap (λ (m : ℕ). out ++ 255 ∷ (to_le_bytes w64 w ++ (m ∷ bytes_of c.split_at-2.result.0.now))) c.split_at-2.ensures.front_len
+    ∙ ap (λ (vs : List ℕ). out ++ 255 ∷ (to_le_bytes w64 w ++ (n ∷ bytes_of vs))) c.split_at-2.ensures.front in
+    puts_raw out c.push_plain.new.out.items words behind c.split_at-2.result.1.now w n small are (sym t ∙ tag_full) whole c.raw_run.ensures.few c.raw_run.ensures.within c.raw_run.ensures.full c.split_at-2.ensures.back ends text

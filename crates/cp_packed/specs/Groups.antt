@@ -1,0 +1,26 @@
+-- Groups of the packed form taken at once.
+use Rattle.std.specs.Prelude.{◌≡◌, ℕ, ◌-◌, ◌<◌, ◌≤◌, List, [], ◌++◌, length, replicate}
+use Rattle.cp_packed.specs.Words.{AreWords}
+use Rattle.cp_packed.specs.Unpacking.{Pending, after, given}
+
+-- nothing of a group, and so many words of a raw run still to come
+abbrev pub running : ℕ → Pending
+running run = record { run = run; part = [] }
+
+-- A front of the bytes was taken, with the words that it brings: no more than there is room for, and as many only where no run goes on.
+pub record TakesGroups (most : ℕ) (old : List ℕ) (run : ℕ) (left new : List ℕ) (next : ℕ) (back : List ℕ) : Type 0 where
+  pub front : List ℕ
+  pub whole : left ≡ front ++ back
+  pub are_words : AreWords (given (running run) front)
+  pub puts : new ≡ old ++ given (running run) front
+  pub open_then : after (running run) front ≡ running next
+  pub few : next < 256
+  pub within : length new ≤ most
+  pub ends : length new ≡ most → next ≡ 0
+
+-- A front of the bytes was taken, and the words that it brings were put over the first of so many zeros. No run goes on.
+pub record FillsFront (most : ℕ) (left new : List ℕ) (filled : ℕ) (back : List ℕ) : Type 0 where
+  pub words : List ℕ
+  pub takes : TakesGroups most [] 0 left words 0 back
+  pub count : length words ≡ filled
+  pub puts : new ≡ words ++ replicate (most - filled) 0

@@ -1,0 +1,26 @@
+-- Words written as packed bytes behind others.
+use Rattle.std.specs.Prelude.{◌≡◌, ℕ, ◌==◌, if◌then◌else◌, List, ◌++◌, map, Option, Some, None}
+use Rattle.cp_packed.specs.Packed.{Group, IsGroup, IsSparing, IsLongest, spelling, words_of, Spelt}
+
+-- a word's bytes, of which those that aren't zero are written
+abbrev pub bytes_that_count : List ℕ → List (Option ℕ)
+bytes_that_count bytes = map (λ b. if b == 0 then None else Some b) bytes
+
+-- A group was written behind what stood there: words begin with those that it gives, and it is as the writer makes it.
+pub record PutsGroup (old new words back : List ℕ) : Type 0 where
+  pub group : Group
+  pub is : IsGroup group
+  pub sparing : IsSparing group
+  pub longest : IsLongest group back
+  pub spells : new ≡ old ++ spelling group
+  pub gives : words ≡ words_of group ++ back
+
+-- What was written of words, where some are left: whatever these are packed as goes on what all are packed as.
+pub record PutsFront (old out words left : List ℕ) : Type 0 where
+  pub front : List ℕ
+  pub text : out ≡ old ++ front
+  pub goes : (b : List ℕ) → Spelt left b → Spelt words (front ++ b)
+
+-- the words were written packed behind what stood there
+abbrev pub PutsSpelt : List ℕ → List ℕ → List ℕ → Type 0
+PutsSpelt old new words = (bytes : List ℕ) × Spelt words bytes × (new ≡ old ++ bytes)

@@ -1,0 +1,17 @@
+//! The packed form of words (encoding specification, "Packing"): groups written and taken, at once and
+//! byte by byte; and words of 64 bits as bytes.
+#![tactic(auto)]
+
+mod bulk;
+mod decoding;
+mod gather;
+mod group;
+mod packing;
+mod scatter;
+mod words;
+
+pub use bulk::take_groups;
+pub use decoding::decode;
+pub use group::{OpenGroup, Run};
+pub use packing::{LONGEST, push_groups, push_packed, push_plain};
+pub use words::{make_room, take_in, word_of};

@@ -1,0 +1,42 @@
+//! Words of 64 bits made of bytes.
+
+ghost use Rattle.std.specs.Prelude.{◌≡◌, ◌++◌, OnOk, length};
+ghost use Rattle.std.specs.Int.{to_le_bytes, w64};
+ghost use Rattle.cp_packed.specs.Words.{words_in};
+
+use byteorder::{ByteOrder, LittleEndian};
+use std::alloc::AllocError;
+
+/// The word of 64 bits that eight bytes are, the lowest first.
+pub fn word_of(bytes: &[u8]) -> u64
+    requires { length bytes.now ≡ 8 }
+    ensures { to_le_bytes w64 result ≡ bytes.now }
+{
+    LittleEndian::read_u64(bytes)
+}
+
+/// Makes room for `taken` words that have come, where `missing` words are missing in all: for all that are missing, but
+/// for no more than have come. The error is want of memory.
+pub fn make_room(words: &mut Vec<u64>, taken: usize, missing: usize) -> Result<(), AllocError>
+    ensures { OnOk result (words.new.items ≡ words.old.items) }
+{
+    let room = words.capacity() - words.len();
+    if room < taken {
+        words.reserve_exact(missing.min(words.len().max(taken)))?;
+    }
+    Ok(())
+}
+
+/// Takes the words of these bytes behind others, eight bytes each, the lowest first; bytes behind the last whole word
+/// are left out. The error is want of memory.
+pub fn take_in(words: &mut Vec<u64>, bytes: &[u8]) -> Result<(), AllocError>
+    ensures { OnOk result (words.new.items ≡ words.old.items ++ words_in bytes.now) }
+{
+    words.extend(
+        bytes
+            .as_chunks::<8>()
+            .0
+            .iter()
+            .map(|bytes| u64::from_le_bytes(*bytes)),
+    )
+}
