@@ -1,6 +1,6 @@
 -- Packed words hold the elements that they were packed from.
 use Rattle.std.proofs.Common.{◌≡◌, ℕ, zero, suc, ◌+◌, ◌-◌, ◌*◌, ◌/◌, ◌%◌, ◌^◌, ◌<◌, ◌≤◌, Bool, true, false, List, [], ◌∷◌, length, map, drop, take, get_or, sym, refl, ap, ◌∙◌, ⊎_elim, arith}
-use Rattle.std.proofs.Math.Nat.{add-mul, mul_assoc, mul_comm, mul-zero, mul-suc, mul-lt-mul_of_pos_right, mul-le-mul_right, mul-le-mul_left, pow-zero, pow-suc, pow-le-pow_right, pos_of_ne-zero, div-one, zero-div, zero-mod, div-eq_of_lt, div-div-eq-div-mul, lt-mul-div-succ, div-add-mod'}
+use Rattle.std.proofs.Math.Nat.{add-mul, mul_assoc, mul_comm, mul-zero, mul-suc, mul-le-mul_right, mul-le-mul_left, pow-zero, pow-suc, pow-le-pow_right, div-one, zero-div, zero-mod, div-eq_of_lt, div-div-eq-div-mul, lt-mul-div-succ, div-add-mod'}
 use Rattle.std.proofs.lemmas.Nat.{pow-add, div-mul-add, mod-mul-add, mod_below}
 use Rattle.std.proofs.lemmas.Bool.{cases_lt}
 use Rattle.std.proofs.lemmas.List.{get_or-drop, get_or-take, get_or-map, get_or_past, get_or_default, length-take, length-drop, drop_all, take_all}

@@ -14,8 +14,10 @@ mod pack;
 mod sheet;
 mod write;
 
-pub use cp_reading::{Body, Object, Place, Shape, Tree, TreeFault, View, Visits, Whole};
-pub use cp_reading::{read_counted, read_root, root_denotes};
+pub use cp_reading::{
+    Body, Object, Place, Shape, Tree, TreeFault, View, Visits, Whole, read_counted, read_root,
+    root_denotes,
+};
 pub use cp_words::Limits;
 pub use draft::{Draft, DraftBody};
 pub use fault::WriteFault;
