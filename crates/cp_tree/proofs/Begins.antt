@@ -3,17 +3,17 @@ use Rattle.std.proofs.Common.{◌≡◌, ℕ, ◌+◌, ◌*◌, ◌<◌, ◌≤�
 use Rattle.std.proofs.lemmas.Bool.{ne_eqb, eq-eqb}
 use Rattle.std.proofs.lemmas.List.{append_assoc, length-append, length-map, length-replicate}
 use Rattle.cp_words.specs.declared.pointer.ElementSize.TheVariants as sizes
-use Rattle.cp_tree.specs.declared.aim.Kind.TheVariants as kinds
-use Rattle.cp_tree.specs.declared.fault.Place.{Place}
+use Rattle.cp_reading.specs.declared.aim.Kind.TheVariants as kinds
+use Rattle.cp_reading.specs.declared.fault.Place.{Place}
 use Rattle.cp_tree.specs.declared.fault.WriteFault.{WriteFault}
 use Rattle.cp_tree.specs.declared.fault.WriteFault.TheVariants as faults
 use Rattle.cp_tree.specs.declared.sheet.Room.{Room}
-use Rattle.cp_tree.specs.Node.{Node, struct, ptrs, structs, Nodes, no_nodes, node, Bodies, no_bodies, body, count, number_of}
-use Rattle.cp_tree.specs.NodeOf.{bodies_of, nodes_of}
-use Rattle.cp_tree.specs.Shaped.{Shaped, EachEven}
+use Rattle.cp_reading.specs.Node.{Node, struct, ptrs, structs, Nodes, no_nodes, node, Bodies, no_bodies, body, count, number_of}
+use Rattle.cp_reading.specs.NodeOf.{bodies_of, nodes_of}
+use Rattle.cp_reading.specs.Shaped.{Shaped, EachEven}
 use Rattle.cp_tree.specs.Sheets.{Written, Placed, put, append, IsPlace, IsRun, KeepsTo, Writes, Refuses}
 use Rattle.cp_tree.specs.Writing.{body_blank, bodies_blank, tag_word, struct_placed, ptrs_placed, structs_placed, struct_begun, ptrs_begun, structs_begun, Begins, BeginsBodies, tree_by, row_by, bodies_by}
-use Rattle.cp_tree.proofs.Decided.{count-nodes, number-bodies}
+use Rattle.cp_reading.proofs.Decided.{count-nodes, number-bodies}
 use Rattle.cp_tree.proofs.Sheets.{put-keeps, full-put, end-put}
 use Rattle.cp_tree.proofs.Keeps.{Spot, spot, Lies, lies, length-blank, length-bodies, keeps_row, keeps_bodies}
 

@@ -8,11 +8,11 @@ use Rattle.cp_words.specs.Word.{word_of, size_code}
 use Rattle.cp_words.specs.declared.pointer.ElementSize.{ElementSize}
 use Rattle.cp_words.specs.declared.pointer.ElementSize.TheVariants as sizes
 use Rattle.cp_words.specs.declared.pointer.Pointer.TheVariants as pointers
-use Rattle.cp_tree.specs.declared.aim.Kind.{Kind}
-use Rattle.cp_tree.specs.declared.aim.Kind.TheVariants as kinds
-use Rattle.cp_tree.specs.Node.{Elements, Bodies, no_bodies, body, count}
+use Rattle.cp_reading.specs.declared.aim.Kind.{Kind}
+use Rattle.cp_reading.specs.declared.aim.Kind.TheVariants as kinds
+use Rattle.cp_reading.specs.Node.{Elements, Bodies, no_bodies, body, count}
 use Rattle.cp_tree.specs.Packed.{packed}
-use Rattle.cp_tree.specs.Shaped.{AllFit, ElementsFit, EachEven}
+use Rattle.cp_reading.specs.Shaped.{AllFit, ElementsFit, EachEven}
 use Rattle.cp_tree.specs.Sheets.{Written, put, append, begin, end_of, body_word, IsNamed}
 use Rattle.cp_tree.specs.Writing.{body_blank, bodies_blank, tag_word}
 use Rattle.cp_tree.proofs.Sheets.{seg, seg-last, seg-put_same, seg-put_other, seg-append_last, seg-append_other, seg-begin, end-put, end-last, end-begin, full-put, full-begin, words-put}

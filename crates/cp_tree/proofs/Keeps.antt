@@ -5,15 +5,15 @@ use Rattle.std.proofs.Math.Nat.{suc-mul}
 use Rattle.cp_words.specs.Word.{word_of}
 use Rattle.cp_words.specs.declared.pointer.ElementSize.TheVariants as sizes
 use Rattle.cp_words.specs.declared.pointer.Pointer.TheVariants as pointers
-use Rattle.cp_tree.specs.declared.aim.Kind.TheVariants as kinds
+use Rattle.cp_reading.specs.declared.aim.Kind.TheVariants as kinds
 use Rattle.std.proofs.lemmas.Bool.{cases_eq, ne_eqb}
 use Rattle.std.proofs.lemmas.List.{length-append, length-replicate, get_or_append_left, get_or-set_other}
 use Rattle.cp_words.specs.Word.{words_for}
-use Rattle.cp_tree.specs.declared.aim.Kind.{Kind}
+use Rattle.cp_reading.specs.declared.aim.Kind.{Kind}
 use Rattle.cp_tree.specs.declared.sheet.Room.{Room}
-use Rattle.cp_tree.specs.Node.{Node, null, cap, struct, list, ptrs, structs, Nodes, no_nodes, node, Bodies, no_bodies, body, count, number_of, element_size, element_count}
+use Rattle.cp_reading.specs.Node.{Node, null, cap, struct, list, ptrs, structs, Nodes, no_nodes, node, Bodies, no_bodies, body, count, number_of, element_size, element_count}
 use Rattle.cp_tree.specs.Packed.{packed}
-use Rattle.cp_tree.specs.Shaped.{Shaped, EachShaped, EachEven}
+use Rattle.cp_reading.specs.Shaped.{Shaped, EachShaped, EachEven}
 use Rattle.cp_tree.specs.Sheets.{Written, Placed, put, append, begin, end_of, here, behind_pad, with_room, place_by, body_word}
 use Rattle.cp_tree.specs.Writing.{body_blank, bodies_blank, struct_placed, ptrs_placed, structs_placed, tag_word, tree_by, row_by, bodies_by}
 use Rattle.cp_tree.proofs.Sheets.{seg, seg-last, seg-put_same, seg-put_other, seg-append_last, seg-append_other, seg-begin, end-put, end-last, end-begin, full-put, full-begin, words-put, last-put, with_room_keeps, room-goes, place-cases}

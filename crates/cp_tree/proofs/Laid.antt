@@ -8,15 +8,15 @@ use Rattle.cp_words.specs.Word.{pointer_of, word_of, tag_of, words_for}
 use Rattle.cp_words.specs.declared.pointer.ElementSize.TheVariants as sizes
 use Rattle.cp_words.specs.declared.pointer.Pointer.{Pointer}
 use Rattle.cp_words.specs.declared.pointer.Pointer.TheVariants as pointers
-use Rattle.cp_tree.specs.declared.aim.Kind.{Kind}
-use Rattle.cp_tree.specs.declared.aim.Kind.TheVariants as kinds
+use Rattle.cp_reading.specs.declared.aim.Kind.{Kind}
+use Rattle.cp_reading.specs.declared.aim.Kind.TheVariants as kinds
 use Rattle.cp_tree.specs.declared.sheet.Room.{Room}
-use Rattle.cp_tree.specs.Node.{Elements, voids, bits, bytes, halves, quads, words, element_size, element_count, Node, null, cap, struct, list, ptrs, structs, Nodes, no_nodes, node, Bodies, no_bodies, body, count, number_of}
-use Rattle.cp_tree.specs.Aims.{segment, Holds}
-use Rattle.cp_tree.specs.Denotes.{words_at}
+use Rattle.cp_reading.specs.Node.{Elements, voids, bits, bytes, halves, quads, words, element_size, element_count, Node, null, cap, struct, list, ptrs, structs, Nodes, no_nodes, node, Bodies, no_bodies, body, count, number_of}
+use Rattle.cp_reading.specs.Aims.{segment, Holds}
+use Rattle.cp_reading.specs.Denotes.{words_at}
 use Rattle.cp_tree.specs.Layout.{Filled, Places, HoldElements, Lays, LaysRow, LaysBodies}
 use Rattle.cp_tree.specs.Packed.{packed}
-use Rattle.cp_tree.specs.Shaped.{ElementsFit, Shaped, EachShaped, EachEven}
+use Rattle.cp_reading.specs.Shaped.{ElementsFit, Shaped, EachShaped, EachEven}
 use Rattle.cp_tree.specs.Sheets.{Written, Placed, put, append, end_of, place_by, IsNamed}
 use Rattle.cp_tree.specs.Writing.{body_blank, bodies_blank, struct_placed, ptrs_placed, structs_placed, tag_word, tree_by, row_by, bodies_by}
 use Rattle.cp_tree.proofs.PointerWords.{says_null, says_empty, says_cap, says_tag}

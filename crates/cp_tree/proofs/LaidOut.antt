@@ -4,10 +4,10 @@ use Rattle.std.proofs.lemmas.List.{length_push}
 use Rattle.std.proofs.lemmas.List.Elements.{All-from_get_or}
 use Rattle.cp_words.specs.Limits.{Bounds}
 use Rattle.cp_tree.specs.declared.sheet.Room.{Room}
-use Rattle.cp_tree.specs.Node.{Node}
-use Rattle.cp_tree.specs.Aims.{segment}
+use Rattle.cp_reading.specs.Node.{Node}
+use Rattle.cp_reading.specs.Aims.{segment}
 use Rattle.cp_tree.specs.Layout.{Layout, Built}
-use Rattle.cp_tree.specs.Shaped.{AllFit, Shaped}
+use Rattle.cp_reading.specs.Shaped.{AllFit, Shaped}
 use Rattle.cp_tree.specs.Sheets.{Written, lists}
 use Rattle.cp_tree.specs.Writes.{room_for, laid_out}
 use Rattle.cp_tree.proofs.Sheets.{end-last, one_blank}

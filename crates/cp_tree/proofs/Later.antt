@@ -2,8 +2,8 @@
 use Rattle.std.proofs.Common.{◌≡◌, ℕ, ◌+◌, ◌<◌, ◌≤◌, ◌⊎◌, List, length, drop, get_or, refl, sym, ap, ◌∙◌, arith}
 use Rattle.std.specs.Prelude.{slice_index}
 use Rattle.std.proofs.lemmas.List.{ext_get_or, length-drop, length-take-le, get_or-take, get_or-drop, get_or-set_same, get_or-append-add}
-use Rattle.cp_tree.specs.Aims.{segment}
-use Rattle.cp_tree.specs.Denotes.{words_at}
+use Rattle.cp_reading.specs.Aims.{segment}
+use Rattle.cp_reading.specs.Denotes.{words_at}
 use Rattle.cp_tree.specs.Layout.{Filled}
 use Rattle.cp_tree.specs.Sheets.{Written, Placed, put, append, end_of}
 use Rattle.cp_tree.proofs.Sheets.{seg, seg-put_same, seg-append_last, end-last, full-put, last-put}

@@ -1,22 +1,4 @@
-pub mod Nears
-pub mod Checks
-pub mod Entries
-pub mod Fills
-pub mod Sound
-pub mod Complete
-pub mod Decided
-pub mod Views
-pub mod Roots
-pub mod Builds
-pub mod Built
-pub mod Pointees
-pub mod Shapes
 pub mod Spending
-pub mod Fitting
-pub mod Blank
-pub mod Faulted
-pub mod Misaimed
-pub mod RootFaults
 pub mod Sheets
 pub mod Packing
 pub mod Keeps
@@ -26,7 +8,6 @@ pub mod PointerWords
 pub mod Alone
 pub mod OneSegment
 pub mod PackedHolds
-pub mod Numbers
 pub mod LayoutDenotes
 pub mod SheetWords
 pub mod ReadBack
@@ -38,5 +19,3 @@ pub mod BoundedTrees
 pub mod AnyWidth
 pub mod LaidOut
 pub mod Drafts
-pub mod Lists
-pub mod Deeper

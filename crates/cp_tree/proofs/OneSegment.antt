@@ -6,12 +6,12 @@ use Rattle.cp_words.specs.Limits.{Bounds}
 use Rattle.cp_words.specs.Word.{word_of, words_for}
 use Rattle.cp_words.specs.declared.pointer.ElementSize.TheVariants as sizes
 use Rattle.cp_words.specs.declared.pointer.Pointer.TheVariants as pointers
-use Rattle.cp_tree.specs.declared.aim.Kind.{Kind}
-use Rattle.cp_tree.specs.declared.aim.Kind.TheVariants as kinds
+use Rattle.cp_reading.specs.declared.aim.Kind.{Kind}
+use Rattle.cp_reading.specs.declared.aim.Kind.TheVariants as kinds
 use Rattle.cp_tree.specs.declared.sheet.Room.{Room}
-use Rattle.cp_tree.specs.Node.{Elements, element_size, element_count, voids, bits, bytes, halves, quads, words, Node, null, cap, struct, list, ptrs, structs, Nodes, no_nodes, node, Bodies, no_bodies, body, count, number_of}
+use Rattle.cp_reading.specs.Node.{Elements, element_size, element_count, voids, bits, bytes, halves, quads, words, Node, null, cap, struct, list, ptrs, structs, Nodes, no_nodes, node, Bodies, no_bodies, body, count, number_of}
 use Rattle.cp_tree.specs.Packed.{packed, bit_of}
-use Rattle.cp_tree.specs.Shaped.{Shaped, EachShaped, EachEven}
+use Rattle.cp_reading.specs.Shaped.{Shaped, EachShaped, EachEven}
 use Rattle.cp_tree.specs.Sheets.{Written, put, append, begin, end_of, body_word, pad_for, Placed, here, with_room, place_in, place_by}
 use Rattle.cp_tree.specs.Writing.{body_blank, bodies_blank, tag_word, begun, struct_begun, ptrs_begun, structs_begun, tree_by, row_by, bodies_by}
 use Rattle.cp_tree.specs.Writes.{room_for, laid_out}

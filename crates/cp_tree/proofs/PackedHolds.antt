@@ -1,17 +1,18 @@
 -- Packed words hold the elements that they were packed from.
 use Rattle.std.proofs.Common.{◌≡◌, ℕ, zero, suc, ◌+◌, ◌-◌, ◌*◌, ◌/◌, ◌%◌, ◌^◌, ◌<◌, ◌≤◌, Bool, true, false, List, [], ◌∷◌, length, map, drop, take, get_or, sym, refl, ap, ◌∙◌, ⊎_elim, arith}
-use Rattle.std.proofs.Math.Nat.{add-mul, mul_assoc, mul_comm, mul-zero, mul-suc, mul-lt-mul_of_pos_right, mul-le-mul_right, mul-le-mul_left, pow-zero, pow-suc, pow-le-pow_right, pos_of_ne-zero, div-one, zero-div, zero-mod, div-eq_of_lt, div-div-eq-div-mul, lt-mul-div-succ, div-add-mod'}
+use Rattle.std.proofs.Math.Nat.{add-mul, mul_assoc, mul_comm, mul-zero, mul-suc, mul-le-mul_right, mul-le-mul_left, pow-zero, pow-suc, pow-le-pow_right, div-one, zero-div, zero-mod, div-eq_of_lt, div-div-eq-div-mul, lt-mul-div-succ, div-add-mod'}
 use Rattle.std.proofs.lemmas.Nat.{pow-add, div-mul-add, mod-mul-add, mod_below}
 use Rattle.std.proofs.lemmas.Bool.{cases_lt}
 use Rattle.std.proofs.lemmas.List.{get_or-drop, get_or-take, get_or-map, get_or_past, get_or_default, length-take, length-drop, drop_all, take_all}
 use Rattle.std.proofs.lemmas.List.FromFn.{fill_by_all, get_or-map-range_with_len}
 use Rattle.std.specs.Prelude.{All, slice_index, ◌==◌}
 use Rattle.cp_words.specs.Word.{words_for}
-use Rattle.cp_tree.specs.Denotes.{element, numbers, flags}
+use Rattle.cp_reading.specs.Denotes.{element, numbers, flags}
 use Rattle.cp_tree.specs.Layout.{HoldElements}
-use Rattle.cp_tree.specs.Node.{Elements, voids, bits, bytes, halves, quads, words, element_size, element_count}
+use Rattle.cp_reading.specs.Node.{Elements, voids, bits, bytes, halves, quads, words, element_size, element_count}
 use Rattle.cp_tree.specs.Packed.{value, groups, bit_of, packed}
-use Rattle.cp_tree.specs.Shaped.{ElementsFit}
+use Rattle.cp_reading.specs.Shaped.{ElementsFit}
+use Rattle.cp_reading.proofs.Numbers.{place}
 use Rattle.cp_tree.proofs.Packing.{value_below, bit_below, length_groups, length_bits}
 
 -- each digit is below the base
@@ -60,16 +61,6 @@ groups_are base per ns some g =
     let empty : take per (drop (per * g) ns) ≡ [] = ap (take per) none ∙ take_all per [] (omega arith) in
     get_or_past (groups base per ns) g 0 (omega (arith, length_groups base per ns, le)) ∙ sym (ap (value base) empty))
     (cases_lt g n)
-
--- where a digit of w bits stands, of those that a word has
-pub place : (w per k : ℕ) → per * w ≡ 64 → 0 < per → (k * w / 64 ≡ k / per) × (k * w % 64 ≡ k % per * w)
-place w per k e some =
-    let wide : 0 < w = pos_of_ne-zero (λ none. omega (arith, sym e ∙ ap (λ n. per * n) none ∙ mul-zero per)) in
-    let small : k % per * w < per * w = mul-lt-mul_of_pos_right (mod_below k per some) wide in
-    let inside : k % per * w < 64 = omega (arith, small, e) in
-    let whole : k * w ≡ k / per * 64 + k % per * w =
-    ap (λ n. n * w) (sym (div-add-mod' k per)) ∙ add-mul (k / per * per) (k % per) w ∙ ap (λ n. n + k % per * w) (mul_assoc (k / per) per w ∙ ap (λ n. k / per * n) e) in
-    (rw whole (div-mul-add (k / per) 64 (k % per * w) inside), rw whole (mod-mul-add (k / per) 64 (k % per * w) inside))
 
 module _ (w per : ℕ) (ns ws : List ℕ) (whole : per * w ≡ 64) (some : 0 < per) (all : Digits (2 ^ w) ns) (are : AreGroups (2 ^ w) per ns ws) where
   based : 0 < 2 ^ w

@@ -5,10 +5,10 @@ use Rattle.std.proofs.lemmas.Bool.{cases_eq, cases_lt, eq-eqb, ne_eqb, le-leb, l
 use Rattle.std.proofs.lemmas.List.{length-append}
 use Rattle.cp_words.specs.Word.{pointer_of, word_of}
 use Rattle.cp_words.specs.declared.pointer.Pointer.TheVariants as pointers
-use Rattle.cp_tree.specs.declared.aim.Kind.{Kind}
-use Rattle.cp_tree.specs.declared.aim.Kind.TheVariants as kinds
+use Rattle.cp_reading.specs.declared.aim.Kind.{Kind}
+use Rattle.cp_reading.specs.declared.aim.Kind.TheVariants as kinds
 use Rattle.cp_tree.specs.declared.sheet.Room.{Room}
-use Rattle.cp_tree.specs.Aims.{segment, AimsHere, AimsByPad}
+use Rattle.cp_reading.specs.Aims.{segment, AimsHere, AimsByPad}
 use Rattle.cp_tree.specs.Layout.{Filled, FitsHere, FitsBehindPad, Follows, FollowsPad, Begins, IsEnd, Places, without_words, here as placed_here, behind_pad as placed_behind, in_new, last_here, last_behind_pad}
 use Rattle.cp_tree.specs.Layout as layout
 use Rattle.cp_tree.specs.Sheets.{Written, Placed, put, append, begin, end_of, here, behind_pad, with_room, place_in, place_by, body_word, IsNamed, pad_for}

@@ -1,13 +1,13 @@
 -- What a tree is laid into is read as that tree.
 use Rattle.std.proofs.Common.{◌≡◌, ℕ, ◌≤◌, max, List, sym, ap, ◌∙◌, arith}
 use Rattle.cp_words.specs.Limits.{Bounds}
-use Rattle.cp_tree.specs.Denotes.{Denotes, Root}
+use Rattle.cp_reading.specs.Denotes.{Denotes, Root}
 use Rattle.cp_tree.specs.Layout.{Room, Layout}
-use Rattle.cp_tree.specs.Node.{Node, depth, cost, IsStruct}
-use Rattle.cp_tree.specs.Shaped.{Shaped}
-use Rattle.cp_tree.proofs.Complete.{complete}
+use Rattle.cp_reading.specs.Node.{Node, depth, cost, IsStruct}
+use Rattle.cp_reading.specs.Shaped.{Shaped}
+use Rattle.cp_reading.proofs.Complete.{complete}
 use Rattle.cp_tree.proofs.LayoutDenotes.{layout_denotes}
-use Rattle.cp_tree.proofs.Sound.{ok_is}
+use Rattle.cp_reading.proofs.Sound.{ok_is}
 
 -- a word denotes one tree
 pub denotes_one : (S : List (List ℕ)) (s p : ℕ) (t u : Node) → Denotes S s p t → Denotes S s p u → t ≡ u

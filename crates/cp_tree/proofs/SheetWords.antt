@@ -7,10 +7,10 @@ use Rattle.std.proofs.lemmas.List.Sums.{sum_by_push}
 use Rattle.cp_words.specs.Word.{word_of, words_for}
 use Rattle.cp_words.specs.declared.pointer.ElementSize.TheVariants as sizes
 use Rattle.cp_words.specs.declared.pointer.Pointer.TheVariants as pointers
-use Rattle.cp_tree.specs.declared.aim.Kind.{Kind}
-use Rattle.cp_tree.specs.declared.aim.Kind.TheVariants as kinds
+use Rattle.cp_reading.specs.declared.aim.Kind.{Kind}
+use Rattle.cp_reading.specs.declared.aim.Kind.TheVariants as kinds
 use Rattle.cp_tree.specs.declared.sheet.Room.{Room}
-use Rattle.cp_tree.specs.Node.{Node, null, cap, struct, list, ptrs, structs, Nodes, no_nodes, node, Bodies, no_bodies, body, count, number_of, element_size, element_count}
+use Rattle.cp_reading.specs.Node.{Node, null, cap, struct, list, ptrs, structs, Nodes, no_nodes, node, Bodies, no_bodies, body, count, number_of, element_size, element_count}
 use Rattle.cp_tree.specs.Packed.{packed}
 use Rattle.cp_tree.specs.Sheets.{Written, lists, put, append, begin, with_room, place_by, body_word}
 use Rattle.cp_tree.specs.Writes.{laid_out}

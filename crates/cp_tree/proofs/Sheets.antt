@@ -6,10 +6,10 @@ use Rattle.std.proofs.lemmas.List.{length-set, length-map, map-set, get_or-map, 
 use Rattle.std.specs.Prelude.{Vec}
 use Rattle.std.specs.Vec.{with_item}
 use Rattle.std.specs.declared.alloc.Global.{Global}
-use Rattle.cp_tree.specs.NodeOf.{words_of}
-use Rattle.cp_tree.specs.Aims.{segment}
+use Rattle.cp_reading.specs.NodeOf.{words_of}
+use Rattle.cp_reading.specs.Aims.{segment}
 use Rattle.cp_tree.specs.declared.sheet.Room.{Room}
-use Rattle.cp_tree.specs.declared.aim.Kind.{Kind}
+use Rattle.cp_reading.specs.declared.aim.Kind.{Kind}
 use Rattle.cp_tree.specs.Sheets.{Placed, here, behind_pad, place_in, with_room, KeepsTo, Written, lists, end_of, put, append, begin}
 
 -- a segment of those that are written

@@ -1,25 +1,17 @@
 -- What loops keep while rows of trees are written.
-use Rattle.std.proofs.Common.{◌≡◌, ℕ, zero, suc, [], ◌+◌, ◌*◌, ◌<◌, ◌≤◌, List, length, map, get_or, sym, ap, subst, ◌∙◌, arith, rules}
+use Rattle.std.proofs.Common.{◌≡◌, ℕ, zero, suc, [], ◌+◌, ◌*◌, ◌<◌, ◌≤◌, List, length, map, get_or, sym, ap, subst, ◌∙◌, arith}
 use Rattle.std.specs.Prelude.{◌∷◌}
 use Rattle.std.proofs.Math.Nat.{suc-mul}
-use Rattle.cp_tree.specs.declared.fault.Place.{Place}
+use Rattle.cp_reading.specs.declared.fault.Place.{Place}
 use Rattle.cp_tree.specs.declared.fault.WriteFault.{WriteFault}
 use Rattle.cp_tree.specs.declared.sheet.Room.{Room}
-use Rattle.cp_tree.specs.declared.tree.Tree.{the_lemmas}
-use Rattle.cp_tree.specs.declared.tree.Tree.TheVariants as trees
-use Rattle.cp_tree.specs.Node.{Node, Nodes, node, Bodies, body, null, cap, count, number_of, depth, greatest_depth, deepest_body}
-use Rattle.cp_tree.specs.NodeOf.{node_of, nodes_of, bodies_of}
-use Rattle.cp_tree.specs.Shaped.{Shaped, EachShaped, EachEven}
+use Rattle.cp_reading.specs.Node.{Node, Nodes, node, Bodies, body, count, number_of, depth, greatest_depth, deepest_body}
+use Rattle.cp_reading.specs.NodeOf.{nodes_of, bodies_of}
+use Rattle.cp_reading.specs.Shaped.{Shaped, EachShaped, EachEven}
 use Rattle.cp_tree.specs.Sheets.{Written, end_of, KeepsTo, IsRun, IsPlace, Refuses}
 use Rattle.cp_tree.specs.Writing.{tree_by, row_by, bodies_by}
 use Rattle.cp_tree.proofs.Begins.{writes_err}
 use Rattle.cp_tree.proofs.Keeps.{keeps_tree, keeps_row, keeps_bodies}
-
-pub node-Null : node_of trees.Null ≡ null
-node-Null = search (rules, the_lemmas)
-
-pub node-Cap : (i : ℕ) → node_of (trees.Cap i) ≡ cap i
-node-Cap i = search (rules, the_lemmas)
 
 -- These trees are still to be written, whose pointers stand from a place on, and then all is as it is to be.
 abbrev pub RowKept : Room → ℕ → Place → Nodes → Written → Written → Type 0

@@ -3,12 +3,12 @@ use Rattle.std.specs.Prelude.{◌≡◌, ◌≢◌, ◌⊎◌, ℕ, ◌+◌, ◌
 use Rattle.cp_words.specs.Word.{bits_of, words_for, tag_of}
 use Rattle.cp_words.specs.declared.pointer.ElementSize.TheVariants as sizes
 use Rattle.cp_words.specs.declared.pointer.Pointer.TheVariants as pointers
-use Rattle.cp_tree.specs.declared.aim.Kind.{Kind}
-use Rattle.cp_tree.specs.declared.aim.Kind.TheVariants as kinds
-use Rattle.cp_tree.specs.Node.{Elements, element_size, element_count, Node, null, cap, struct, list, ptrs, structs, Nodes, no_nodes, node, Bodies, no_bodies, body, count, number_of}
-use Rattle.cp_tree.specs.Aims.{segment, Holds, AimsHere, AimsByPad}
-use Rattle.cp_tree.specs.Denotes.{words_at, element, elements_of}
-use Rattle.cp_tree.specs.Shaped.{AllFit}
+use Rattle.cp_reading.specs.declared.aim.Kind.{Kind}
+use Rattle.cp_reading.specs.declared.aim.Kind.TheVariants as kinds
+use Rattle.cp_reading.specs.Node.{Elements, element_size, element_count, Node, null, cap, struct, list, ptrs, structs, Nodes, no_nodes, node, Bodies, no_bodies, body, count, number_of}
+use Rattle.cp_reading.specs.Aims.{segment, Holds, AimsHere, AimsByPad}
+use Rattle.cp_reading.specs.Denotes.{words_at, element, elements_of}
+use Rattle.cp_reading.specs.Shaped.{AllFit}
 
 -- how far the segments are filled: the last one begun, and how many words it has
 pub record Filled : Type 0 where

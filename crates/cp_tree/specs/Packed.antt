@@ -1,7 +1,7 @@
 -- The words that hold the elements of a list without pointers.
 use Rattle.std.specs.Prelude.{ℕ, ◌+◌, ◌-◌, ◌*◌, ◌/◌, Bool, true, false, List, [], ◌∷◌, length, take, drop, map}
 use Rattle.std.specs.List.{range_with_len}
-use Rattle.cp_tree.specs.Node.{Elements, voids, bits, bytes, halves, quads, words}
+use Rattle.cp_reading.specs.Node.{Elements, voids, bits, bytes, halves, quads, words}
 
 -- the number that these digits are, the lowest first
 abbrev pub value : ℕ → List ℕ → ℕ

@@ -2,15 +2,15 @@
 use Rattle.std.specs.Prelude.{◌≡◌, ℕ, ◌+◌, ◌-◌, ◌^◌, ◌<◌, ◌≤◌, pos, false, List, [], ◌∷◌, ◌++◌, length, set, slice_index_or, if◌then◌else◌, ◌==◌, nat_le, Result, Ok, Err, IfOk}
 use Rattle.cp_words.specs.Word.{word_of}
 use Rattle.cp_words.specs.declared.pointer.Pointer.TheVariants as pointers
-use Rattle.cp_tree.specs.declared.aim.Kind.{Kind}
-use Rattle.cp_tree.specs.declared.aim.Kind.TheVariants as kinds
-use Rattle.cp_tree.specs.declared.fault.Place.{Place}
+use Rattle.cp_reading.specs.declared.aim.Kind.{Kind}
+use Rattle.cp_reading.specs.declared.aim.Kind.TheVariants as kinds
+use Rattle.cp_reading.specs.declared.fault.Place.{Place}
 use Rattle.cp_tree.specs.declared.fault.WriteFault.{WriteFault}
 use Rattle.cp_tree.specs.declared.fault.WriteFault.TheVariants as faults
 use Rattle.cp_tree.specs.declared.sheet.Sheet.{Sheet}
 use Rattle.cp_tree.specs.declared.sheet.Room.{Room}
-use Rattle.cp_tree.specs.NodeOf.{words_of}
-use Rattle.cp_tree.specs.Aims.{segment}
+use Rattle.cp_reading.specs.NodeOf.{words_of}
+use Rattle.cp_reading.specs.Aims.{segment}
 
 -- the segments that are full, the last one, and how many words were counted
 pub record Written : Type 0 where

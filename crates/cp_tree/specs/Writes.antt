@@ -1,7 +1,7 @@
 -- What a tree is written as, and why it isn't written.
 use Rattle.std.specs.Prelude.{ℕ, ◌<◌, ◌≤◌, max, List, [], ◌∷◌}
 use Rattle.cp_words.specs.Limits.{Bounds}
-use Rattle.cp_tree.specs.Node.{Node, depth, cost}
+use Rattle.cp_reading.specs.Node.{Node, depth, cost}
 use Rattle.cp_tree.specs.declared.fault.WriteFault.{WriteFault}
 use Rattle.cp_tree.specs.declared.fault.WriteFault.TheVariants as faults
 use Rattle.cp_tree.specs.declared.sheet.Room.{Room}

@@ -1,14 +1,12 @@
 //! Owned copies of trees with lent parts.
 
 ghost use Rattle.std.specs.Prelude.{◌≡◌, map, IfOk};
-ghost use Rattle.cp_tree.specs.NodeOf.{node_of, body_of};
+ghost use Rattle.cp_reading.specs.NodeOf.{node_of, body_of};
 ghost use Rattle.cp_tree.specs.DraftOf.{draft_of, draft_body_of};
-ghost use Rattle.cp_tree.specs.Shaped.{Shaped};
+ghost use Rattle.cp_reading.specs.Shaped.{Shaped};
 
-use crate::copy::tree_copy;
 use crate::draft::{Draft, DraftBody};
-use crate::tree::{Body, Tree};
-use crate::whole::Whole;
+use cp_reading::{Body, Tree, Whole, tree_copy};
 use std::alloc::{AllocError, Global};
 
 /// The tree that a draft stands for.
@@ -70,8 +68,6 @@ impl<'a> Draft<'a> {
         requires { Shaped (draft_of self.now) }
         ensures { IfOk result (λ w. w ≡ draft_of self.now) }
     {
-        Ok(Whole {
-            tree: draft_copy(alloc, self)?,
-        })
+        Ok(Whole::from_shaped(draft_copy(alloc, self)?))
     }
 }

@@ -2,16 +2,17 @@
 
 ghost use Rattle.std.specs.Prelude.{◌+◌, ◌*◌, map};
 ghost use Rattle.cp_tree.specs.DraftOf.{draft_of, draft_body_of};
-ghost use Rattle.cp_tree.specs.Node.{count, number_of, structs};
-ghost use Rattle.cp_tree.specs.NodeOf.{nodes_of, bodies_of};
-ghost use Rattle.cp_tree.specs.Shaped.{Shaped, EachShaped, EachEven};
+ghost use Rattle.cp_reading.specs.Node.{count, number_of, structs};
+ghost use Rattle.cp_reading.specs.NodeOf.{nodes_of, bodies_of};
+ghost use Rattle.cp_reading.specs.Shaped.{Shaped, EachShaped, EachEven};
 ghost use Rattle.cp_tree.specs.Sheets.{written, append, KeepsTo, IsPlace, IsRun, Writes};
 ghost use Rattle.cp_tree.specs.Writing.{bodies_blank, BeginsBodies, tree_by, row_by, bodies_by};
 
 use crate::draft::{Draft, DraftBody};
-use crate::fault::{Place, WriteFault};
+use crate::fault::WriteFault;
 use crate::lay::{append_body, begin_elements, begin_ptrs, begin_struct, lay};
 use crate::sheet::{Room, Sheet};
+use cp_reading::Place;
 
 /// The elements of a composite list, each with blank words for its pointers.
 fn append_draft_bodies(

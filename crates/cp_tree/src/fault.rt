@@ -1,62 +1,6 @@
-//! What can be wrong with a message's words.
+//! Why a tree isn't written.
 
 use std::alloc::{AllocError, AllocFailed};
-
-/// A word of a message: its segment, and its number in that segment, each from 0.
-#[derive(Clone, Copy, PartialEq, Eq, Debug)]
-pub struct Place {
-    pub segment: usize,
-    pub word: usize,
-}
-
-/// What is wrong with a message's words, and the pointer word that is to blame: one that stands in
-/// a body, or segment 0 word 0 for the root.
-#[derive(Clone, Copy, PartialEq, Eq, Debug)]
-pub enum TreeFault {
-    /// G1: there is no root pointer, or it is null.
-    NoRoot(Place),
-    /// G2: the root is no struct.
-    RootKind(Place),
-    /// G3: a body or a far pointer's pad isn't wholly inside its segment, or a composite list's
-    /// elements overrun its words.
-    OutOfBounds(Place),
-    /// G4: a far pointer names a segment that isn't there.
-    NoSegment(Place),
-    /// G5: a far pointer's pad has no pad's form.
-    BadPad(Place),
-    /// G6: a composite list's tag isn't laid out as a struct pointer.
-    BadTag(Place),
-    /// G7: a capability word has one of bits 2 to 31 set.
-    BadCapability(Place),
-    /// G8: structs and lists nest deeper than the limit.
-    NestingLimit(Place),
-    /// G9: the tree costs more than the limit.
-    TraversalLimit(Place),
-    /// G10: memory ran out.
-    OutOfMemory,
-}
-
-impl From<AllocError> for TreeFault {
-    ghost use Rattle.std.specs.Prelude.{◌≡◌};
-    ghost use Rattle.cp_tree.specs.declared.fault.TreeFault.TheVariants.{OutOfMemory};
-
-    ghost from_gives = { λ _ e. e ≡ OutOfMemory };
-
-    fn from(_: AllocError) -> TreeFault {
-        TreeFault::OutOfMemory
-    }
-}
-
-impl<T: Drop> From<AllocFailed<T>> for TreeFault {
-    ghost use Rattle.std.specs.Prelude.{◌≡◌};
-    ghost use Rattle.cp_tree.specs.declared.fault.TreeFault.TheVariants.{OutOfMemory};
-
-    ghost from_gives = { λ _ e. e ≡ OutOfMemory };
-
-    fn from(_: AllocFailed<T>) -> TreeFault {
-        TreeFault::OutOfMemory
-    }
-}
 
 /// Why a tree isn't written.
 #[derive(Clone, Copy, PartialEq, Eq, Debug)]

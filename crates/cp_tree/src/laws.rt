@@ -2,10 +2,10 @@
 
 ghost use Rattle.std.specs.Prelude.{◌≡◌, ◌≤◌, ℕ, List};
 ghost use Rattle.cp_words.specs.Limits.{Bounds};
-ghost use Rattle.cp_tree.specs.Denotes.{Denotes, Root};
+ghost use Rattle.cp_reading.specs.Denotes.{Denotes, Root};
 ghost use Rattle.cp_tree.specs.Layout.{Layout, Room};
-ghost use Rattle.cp_tree.specs.Node.{Node, IsStruct, depth, cost};
-ghost use Rattle.cp_tree.specs.Shaped.{Shaped};
+ghost use Rattle.cp_reading.specs.Node.{Node, IsStruct, depth, cost};
+ghost use Rattle.cp_reading.specs.Shaped.{Shaped};
 
 /// The segments that a tree is laid into denote it.
 pub fn layout_denotes()

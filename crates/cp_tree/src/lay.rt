@@ -2,20 +2,19 @@
 
 ghost use Rattle.std.specs.Prelude.{◌≡◌, ◌<◌, ◌≤◌, ◌+◌, ◌*◌, ◌^◌, ◌∷◌, [], length, map, IfOk};
 ghost use Rattle.cp_words.specs.Word.{words_for};
-ghost use Rattle.cp_tree.specs.declared.aim.Kind.TheVariants as kinds;
-ghost use Rattle.cp_tree.specs.Node.{count, number_of, struct, structs, ptrs as pointers};
-ghost use Rattle.cp_tree.specs.NodeOf.{node_of, body_of, nodes_of, bodies_of};
-ghost use Rattle.cp_tree.specs.Shaped.{Shaped, EachShaped, EachEven, HasSizes};
+ghost use Rattle.cp_reading.specs.declared.aim.Kind.TheVariants as kinds;
+ghost use Rattle.cp_reading.specs.Node.{count, number_of, struct, structs, ptrs as pointers};
+ghost use Rattle.cp_reading.specs.NodeOf.{node_of, body_of, nodes_of, bodies_of};
+ghost use Rattle.cp_reading.specs.Shaped.{Shaped, EachShaped, EachEven, HasSizes};
 ghost use Rattle.cp_tree.specs.Sheets.{written, append, place_by, KeepsTo, IsPlace, IsRun, Writes, Places};
 ghost use Rattle.cp_tree.specs.Writing.{body_blank, bodies_blank, tag_word, structs_begun, Begins, BeginsBodies, tree_by, row_by, bodies_by};
 
-use crate::aim::Kind;
-use crate::fault::{Place, WriteFault};
+use crate::fault::WriteFault;
 use crate::lay_list::{
     lay_bits, lay_bytes, lay_halves, lay_quads, lay_voids, lay_words, place_list,
 };
 use crate::sheet::{Room, Sheet};
-use crate::tree::{Body, Tree};
+use cp_reading::{Body, Kind, Place, Tree};
 use cp_words::{ElementSize, Pointer, encode};
 
 /// A struct's data words, and blank words for its pointers.

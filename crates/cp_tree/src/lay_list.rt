@@ -1,14 +1,14 @@
 //! How lists without pointers are laid out in segments.
 
 ghost use Rattle.std.specs.Prelude.{◌<◌, ◌^◌, length};
-ghost use Rattle.cp_tree.specs.declared.aim.Kind.TheVariants as kinds;
-ghost use Rattle.cp_tree.specs.Node.{list, voids, bits, bytes, halves, quads, words as words_list};
+ghost use Rattle.cp_reading.specs.declared.aim.Kind.TheVariants as kinds;
+ghost use Rattle.cp_reading.specs.Node.{list, voids, bits, bytes, halves, quads, words as words_list};
 ghost use Rattle.cp_tree.specs.Sheets.{written, place_by, KeepsTo, IsPlace, Writes, Places};
 ghost use Rattle.cp_tree.specs.Writing.{tree_by};
 
-use crate::aim::Kind;
-use crate::fault::{Place, WriteFault};
+use crate::fault::WriteFault;
 use crate::sheet::{Room, Sheet};
+use cp_reading::{Kind, Place};
 use cp_words::ElementSize;
 
 /// Lays out a list's body, and gives where its elements are to be written.

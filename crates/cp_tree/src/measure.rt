@@ -3,12 +3,12 @@
 ghost use Rattle.std.specs.Prelude.{◌≡◌, ◌≤◌, ◌+◌, ◌*◌, map, Decides};
 ghost use Rattle.std.specs.Bool.{OnTrue};
 ghost use Rattle.cp_tree.specs.DraftOf.{draft_of, draft_body_of};
-ghost use Rattle.cp_tree.specs.Node.{depth, greatest_depth, deepest_body, cost, total_cost, body_cost, number_of};
-ghost use Rattle.cp_tree.specs.NodeOf.{node_of, body_of, nodes_of, bodies_of};
+ghost use Rattle.cp_reading.specs.Node.{depth, greatest_depth, deepest_body, cost, total_cost, body_cost, number_of};
+ghost use Rattle.cp_reading.specs.NodeOf.{node_of, body_of, nodes_of, bodies_of};
 ghost use Rattle.cp_tree.specs.Spent.{spent};
 
 use crate::draft::{Draft, DraftBody};
-use crate::tree::{Body, Tree};
+use cp_reading::{Body, Tree};
 
 /// Takes so much from what is left of a limit. Nothing is left any more where it passes that.
 #[tactic(auto, unfolding(crate::specs::Spent::spent))]

@@ -1,15 +1,15 @@
 //! Segments while they are written.
 
 ghost use Rattle.std.specs.Prelude.{ℕ, ◌≡◌, ◌<◌, ◌≤◌, ◌++◌, IfErr, ◌+◌, ◌∷◌, ◌^◌, [], length, replicate, OnOk, IfOk};
-ghost use Rattle.cp_tree.specs.NodeOf.{words_of};
-ghost use Rattle.cp_tree.specs.Node.{bits, bytes, halves, quads};
+ghost use Rattle.cp_reading.specs.NodeOf.{words_of};
+ghost use Rattle.cp_reading.specs.Node.{bits, bytes, halves, quads};
 ghost use Rattle.cp_tree.specs.Packed.{packed};
 ghost use Rattle.cp_tree.specs.Sheets.{written, lists, end_of, put, append, begin, place_by, body_word, IsNamed, with_room, here, behind_pad, IsRoom, KeepsTo, IsPlace, Writes, Places};
 ghost use Rattle.cp_tree.specs.declared.fault.WriteFault.TheVariants.{TooManyWords};
 
-use crate::aim::Kind;
-use crate::fault::{Place, WriteFault};
+use crate::fault::WriteFault;
 use crate::pack::{push_bits, push_bytes, push_halves, push_quads};
+use cp_reading::{Kind, Place};
 use cp_words::{Pointer, Segments, encode};
 use std::alloc::{AllocError, Global};
 use std::mem;

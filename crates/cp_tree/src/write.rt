@@ -2,18 +2,18 @@
 
 ghost use Rattle.std.specs.Prelude.{◌≡◌, ◌≤◌, ◌<◌, ◌∷◌, [], max, sum, length, map, IfOk, IfErr};
 ghost use Rattle.cp_tree.specs.Layout.{Layout, Built};
-ghost use Rattle.cp_tree.specs.Node.{depth, cost};
+ghost use Rattle.cp_reading.specs.Node.{depth, cost};
 ghost use Rattle.cp_tree.specs.DraftOf.{draft_of};
-ghost use Rattle.cp_tree.specs.Shaped.{Shaped};
+ghost use Rattle.cp_reading.specs.Shaped.{Shaped};
 ghost use Rattle.cp_tree.specs.Sheets.{lists, written};
 ghost use Rattle.cp_tree.specs.Writes.{IsCostFaultOf, IsWriteFaultOf, FitsIn, room_for, segments_for, laid_out};
 
 use crate::draft::Draft;
 use crate::draft_lay::lay_draft;
-use crate::fault::{Place, WriteFault};
+use crate::fault::WriteFault;
 use crate::measure::draft_nests;
 use crate::sheet::{Room, Sheet};
-use crate::whole::Object;
+use cp_reading::{Object, Place};
 use cp_words::{Limits, Segments};
 use std::alloc::Global;
 

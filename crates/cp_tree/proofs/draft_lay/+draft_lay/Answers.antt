@@ -1,12 +1,12 @@
 use Rattle.std.proofs.Common.{length, map, sym, ap, subst, ◌∙◌, arith}
 use Rattle.std.proofs.lemmas.Result.{err_from_is_err_and}
 use Rattle.std.specs.Prelude.{List, ℕ}
-use Rattle.cp_tree.specs.Node.{Nodes, depth, greatest_depth, struct, ptrs, count}
-use Rattle.cp_tree.specs.Shaped.{Shaped}
+use Rattle.cp_reading.specs.Node.{Nodes, depth, greatest_depth, struct, ptrs, count}
+use Rattle.cp_reading.specs.Shaped.{Shaped}
 use Rattle.cp_tree.proofs.Begins.{count_in, hung, not_begun}
 use Rattle.cp_tree.proofs.Steps.{tree_needs, tree_refused, row_next, body_needs, body_refused, bodies_next, item_depth, body_depth}
 use Rattle.cp_tree.specs.DraftOf.{draft_of, draft_body_of}
-use Rattle.cp_tree.specs.NodeOf.{nodes_of}
+use Rattle.cp_reading.specs.NodeOf.{nodes_of}
 use Rattle.cp_tree.specs.Sheets.{written}
 use Rattle.cp_tree.proofs.Drafts.{draft_body_of-is, draft-Struct, draft-Ptrs, next_draft_body}
 use Rattle.cp_tree.proofs.Spending.{next_of}

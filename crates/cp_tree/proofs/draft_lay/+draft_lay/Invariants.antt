@@ -1,7 +1,7 @@
 use Rattle.std.proofs.Common.{◌+◌, ◌*◌, map, drop}
-use Rattle.cp_tree.specs.Node.{depth, greatest_depth, deepest_body}
+use Rattle.cp_reading.specs.Node.{depth, greatest_depth, deepest_body}
 use Rattle.cp_tree.specs.DraftOf.{draft_of, draft_body_of}
-use Rattle.cp_tree.specs.NodeOf.{nodes_of, bodies_of}
+use Rattle.cp_reading.specs.NodeOf.{nodes_of, bodies_of}
 use Rattle.cp_tree.specs.Sheets.{written}
 use Rattle.cp_tree.specs.Writing.{row_by, bodies_by}
 use Rattle.cp_tree.proofs.Steps.{RowKept, BodiesKept}

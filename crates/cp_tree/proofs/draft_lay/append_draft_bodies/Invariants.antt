@@ -1,6 +1,6 @@
 use Rattle.std.proofs.Common.{◌≡◌, map, drop}
 use Rattle.cp_tree.specs.DraftOf.{draft_body_of}
-use Rattle.cp_tree.specs.NodeOf.{bodies_of}
+use Rattle.cp_reading.specs.NodeOf.{bodies_of}
 use Rattle.cp_tree.specs.Sheets.{written, append, KeepsTo}
 use Rattle.cp_tree.specs.Writing.{bodies_blank}
 use Rattle.cp_tree.proofs.draft_lay.append_draft_bodies.Given as goal

@@ -1,7 +1,7 @@
 use Rattle.std.proofs.Common.{length, map, sym, arith}
 use Rattle.std.proofs.lemmas.Result.{err_from_is_err_and}
 use Rattle.cp_tree.specs.DraftOf.{draft_body_of}
-use Rattle.cp_tree.specs.NodeOf.{bodies_of}
+use Rattle.cp_reading.specs.NodeOf.{bodies_of}
 use Rattle.cp_tree.specs.Sheets.{written}
 use Rattle.cp_tree.proofs.Begins.{number_in, tag_refused, elements_refused, elements_begun}
 use Rattle.cp_tree.proofs.draft_lay.begin_draft_structs.Goals as goal

@@ -1,20 +1,19 @@
 use Rattle.std.proofs.Common.{length, map, sym, ap, subst, ◌∙◌, arith}
 use Rattle.std.proofs.lemmas.Result.{err_from_is_err_and}
 use Rattle.std.specs.Prelude.{List, ℕ}
-use Rattle.cp_tree.specs.Node.{Nodes, depth, greatest_depth, struct, ptrs, count}
-use Rattle.cp_tree.specs.Shaped.{Shaped}
+use Rattle.cp_reading.specs.Node.{Nodes, depth, greatest_depth, struct, ptrs, count}
+use Rattle.cp_reading.specs.Shaped.{Shaped}
 use Rattle.cp_tree.proofs.Begins.{count_in, hung, not_begun, nothing_hangs_on}
 use Rattle.cp_tree.proofs.Steps.{tree_needs, tree_refused, row_next, body_needs, body_refused, bodies_next, item_depth, body_depth}
 use Rattle.cp_words.specs.declared.pointer.Pointer.TheVariants as pointers
 use Rattle.cp_words.specs.Word.{word_of}
-use Rattle.cp_tree.specs.NodeOf.{node_of, body_of, nodes_of, bodies_of}
+use Rattle.cp_reading.specs.NodeOf.{node_of, body_of, nodes_of, bodies_of}
 use Rattle.cp_tree.specs.Sheets.{written, put, KeepsTo}
-use Rattle.cp_tree.proofs.Decided.{body_of-is, node-Bits, node-Ptrs}
-use Rattle.cp_tree.proofs.Lists.{node-Voids, node-Bytes, node-Halves, node-Quads, node-Words}
-use Rattle.cp_tree.proofs.Shapes.{node-Struct}
+use Rattle.cp_reading.proofs.Decided.{body_of-is, node-Null, node-Cap, node-Bits, node-Ptrs}
+use Rattle.cp_reading.proofs.Lists.{node-Voids, node-Bytes, node-Halves, node-Quads, node-Words}
+use Rattle.cp_reading.proofs.Shapes.{node-Struct}
 use Rattle.cp_tree.proofs.Sheets.{put-keeps}
 use Rattle.cp_tree.proofs.Spending.{next_tree, next_body}
-use Rattle.cp_tree.proofs.Steps.{node-Null, node-Cap}
 use Rattle.cp_tree.proofs.lay.+lay.Goals as goal
 
 pub lay-begin_struct-requires-clause-sizes : goal.lay-begin_struct-requires-clause-sizes

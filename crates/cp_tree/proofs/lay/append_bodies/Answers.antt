@@ -1,6 +1,6 @@
 use Rattle.std.proofs.Common.{sym, ◌∙◌}
 use Rattle.std.proofs.lemmas.Result.{err_from_is_err_and}
-use Rattle.cp_tree.specs.NodeOf.{node_of}
+use Rattle.cp_reading.specs.NodeOf.{node_of}
 use Rattle.cp_tree.specs.Sheets.{written}
 use Rattle.cp_tree.proofs.Begins.{next_blank, first_blank, count_in, writes_err}
 use Rattle.cp_tree.proofs.Spending.{next_body}

@@ -1,5 +1,5 @@
 use Rattle.std.proofs.Common.{◌≡◌, map, drop}
-use Rattle.cp_tree.specs.NodeOf.{body_of, bodies_of}
+use Rattle.cp_reading.specs.NodeOf.{body_of, bodies_of}
 use Rattle.cp_tree.specs.Sheets.{written, append, KeepsTo}
 use Rattle.cp_tree.specs.Writing.{bodies_blank}
 use Rattle.cp_tree.proofs.lay.append_bodies.Given as goal

@@ -1,7 +1,7 @@
 use Rattle.std.proofs.Common.{◌<◌, ◌+◌, length, ap, ◌∙◌, arith}
 use Rattle.std.proofs.lemmas.Result.{err_from_is_err_and}
-use Rattle.cp_tree.specs.declared.aim.Kind.TheVariants as kinds
-use Rattle.cp_tree.specs.declared.fault.Place.{Place}
+use Rattle.cp_reading.specs.declared.aim.Kind.TheVariants as kinds
+use Rattle.cp_reading.specs.declared.fault.Place.{Place}
 use Rattle.cp_tree.specs.Sheets.{written, put, append}
 use Rattle.cp_tree.specs.Writing.{body_blank, struct_placed}
 use Rattle.cp_tree.proofs.Begins.{run_of, empty_begins, struct_hangs, struct_refuses}

@@ -1,6 +1,6 @@
 use Rattle.std.proofs.Common.{length, map, sym, arith}
 use Rattle.std.proofs.lemmas.Result.{err_from_is_err_and}
-use Rattle.cp_tree.specs.NodeOf.{body_of, bodies_of}
+use Rattle.cp_reading.specs.NodeOf.{body_of, bodies_of}
 use Rattle.cp_tree.specs.Sheets.{written}
 use Rattle.cp_tree.proofs.Begins.{number_in, tag_refused, elements_refused, elements_begun}
 use Rattle.cp_tree.proofs.lay.begin_structs.Goals as goal

@@ -1,5 +1,5 @@
 use Rattle.std.proofs.Common.{refl, arith}
-use Rattle.cp_tree.specs.Node.{cost}
+use Rattle.cp_reading.specs.Node.{cost}
 use Rattle.cp_tree.specs.DraftOf.{draft_of}
 use Rattle.cp_tree.proofs.Spending.{spent-some, spent-none}
 use Rattle.cp_tree.proofs.write.cost_of.Goals as goal

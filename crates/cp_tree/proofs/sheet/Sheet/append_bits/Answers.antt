@@ -1,7 +1,7 @@
 use Rattle.std.proofs.Common.{◌≡◌, ◌+◌, ◌/◌, ◌++◌, length, map, ◌∙◌, ap, arith}
 use Rattle.std.proofs.lemmas.Result.{err_from_is_err_and}
-use Rattle.cp_tree.specs.Node.{bits}
-use Rattle.cp_tree.specs.NodeOf.{words_of}
+use Rattle.cp_reading.specs.Node.{bits}
+use Rattle.cp_reading.specs.NodeOf.{words_of}
 use Rattle.cp_tree.specs.Packed.{packed, bit_of}
 use Rattle.cp_tree.specs.Sheets.{written}
 use Rattle.cp_tree.specs.declared.sheet.Sheet.{Sheet}

@@ -1,5 +1,5 @@
 use Rattle.std.proofs.Common.{◌≡◌, length, ap, ◌∷◌, ◌++◌, ◌∙◌, [], arith}
-use Rattle.cp_tree.specs.NodeOf.{words_of}
+use Rattle.cp_reading.specs.NodeOf.{words_of}
 use Rattle.cp_tree.proofs.Sheets.{one_blank}
 use Rattle.cp_tree.proofs.sheet.Sheet.new.Goals as goal
 

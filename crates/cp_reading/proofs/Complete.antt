@@ -1,0 +1,211 @@
+-- What is denoted within the limits is read.
+use Rattle.std.proofs.Common.{◌≡◌, ◌==◌, ℕ, ◌+◌, ◌-◌, ◌*◌, ◌/◌, ◌<◌, ◌≤◌, ℤ, pos, negsuc, ◌+ℤ◌, List, [], length, Some, Ok, Bool, true, false, nat_lt, nat_le, slice_index, refl, sym, ap, ◌∙◌, subst, inl, inr, arith}
+use Rattle.std.proofs.lemmas.Bool.Decides.{nat_tests}
+use Rattle.std.proofs.lemmas.Int.{ints}
+use Rattle.std.proofs.lemmas.List.{get_or_past}
+use Rattle.cp_words.specs.Word.{pointer_of, words_for}
+use Rattle.cp_words.specs.declared.pointer.Pointer.{Pointer}
+use Rattle.cp_words.specs.declared.pointer.Pointer.TheVariants as pointers
+use Rattle.cp_words.specs.declared.pointer.ElementSize.TheVariants as sizes
+use Rattle.cp_reading.specs.Node.{Elements, voids, Node, null, cap, struct, list, ptrs, structs, Nodes, no_nodes, node, Bodies, no_bodies, body, count, number_of, depth, greatest_depth, deepest_body, cost, total_cost, body_cost}
+use Rattle.cp_reading.specs.Aims.{segment, IsBodyPointer, IsPadTag, AimsHere, AimsByPad, AimsByTwo, Aims, Locates}
+use Rattle.cp_reading.specs.Denotes.{Denotes, EachDenotes, EachBody}
+use Rattle.cp_reading.specs.Reading.{◌>>=◌, Kids, row_by, bodies_by, start_of, in_segment, area_by, aim_here, tag_kind_of, aim_by, pad_or, filled, price, IsWhole, body_by, toll, pointer_by, kids_at, tree_at, rows_at}
+use Rattle.cp_reading.specs.declared.aim.Aim.{Aim}
+use Rattle.cp_reading.specs.declared.aim.Kind.{Kind}
+use Rattle.cp_reading.specs.declared.aim.Kind.TheVariants as kinds
+use Rattle.cp_reading.specs.declared.area.Form.{Form}
+use Rattle.cp_reading.specs.declared.area.Form.TheVariants as forms
+use Rattle.cp_reading.specs.declared.fault.Place.{Place}
+use Rattle.cp_reading.proofs.Checks.{aimed}
+use Rattle.cp_reading.proofs.Entries.{entered_ok}
+use Rattle.cp_reading.specs.Fills.{IsBody, form_of, Fills}
+use Rattle.cp_reading.proofs.Fills.{form_of-whole, inner_depth, inner_cost, depth-body, cost-body}
+
+begins_start : (p : ℕ) (offset : ℤ) (start : ℕ) → pos start ≡ pos (p + 1) +ℤ offset → start_of p offset ≡ Some start
+begins_start p (pos n) start b = let is : p + 1 + n ≡ start = omega (arith, ints, b) in rw is
+begins_start p (negsuc n) start b =
+    let is : p - n ≡ start = omega (arith, ints, b) in
+    let low : n ≤ p = omega (arith, ints, b) in
+    let below : nat_le n p ≡ true = grind (arith, nat_tests) in
+    rw (below, is)
+
+pub fits : (ws : List ℕ) (size start : ℕ) → start + size ≤ length ws → in_segment ws size (Some start) ≡ Some start
+fits ws size start room = let t : nat_le (start + size) (length ws) ≡ true = grind (arith, nat_tests) in rw t
+
+-- a segment with a word exists
+pub exists_if : (S : List (List ℕ)) (s place : ℕ) → place < length (segment S s) → s < length S
+exists_if S s place h = go (nat_lt s (length S)) refl
+  where
+    go : (b : Bool) → nat_lt s (length S) ≡ b → s < length S
+    go true t = grind (arith, nat_tests)
+    go false t =
+        let past : length S ≤ s = grind (arith, nat_tests) in
+        let none : segment S s ≡ [] = get_or_past S s [] past in
+        let h' : place < length {A = ℕ} [] = rw none at h in
+        absurd (omega arith)
+
+-- what a pointer that aims at a body says
+says_kind : (s p : ℕ) (r : Pointer) (offset : ℤ) (k : Kind) (start : ℕ) → IsBodyPointer r offset k → start_of p offset ≡ Some start → aim_here s p r ≡ Some (record { kind = k; segment = s; start = Some start })
+says_kind s p (pointers.Struct o d n) offset k start h b = rw (h.0, h.1, b)
+says_kind s p (pointers.List o size n) offset k start h b = rw (h.0, h.1, b)
+says_kind s p pointers.Null offset k start h b = absurd h
+says_kind s p (pointers.Cap i) offset k start h b = absurd h
+says_kind s p (pointers.Far double place other) offset k start h b = absurd h
+
+says_tag : (r : Pointer) (k : Kind) → IsPadTag r k → tag_kind_of (Some r) ≡ Some k
+says_tag pointers.Null k h = rw h
+says_tag (pointers.Struct o d n) k h = rw (h.0, h.1)
+says_tag (pointers.List o size n) k h = rw (h.0, h.1)
+says_tag (pointers.Cap i) k h = absurd h
+says_tag (pointers.Far double x z) k h = absurd h
+
+module _ (S : List (List ℕ)) (s p : ℕ) where
+  abbrev at : Place
+  at = record { segment = s; word = p }
+
+  -- the word holds a pointer that aims there
+  unfoldable pub Found : Kind → ℕ → ℕ → Type 0
+  Found k s' start = (r : Pointer) × (pointer_of (slice_index (segment S s) p) ≡ Some r) × (aim_by at S r ≡ Ok (record { kind = k; segment = s'; start = Some start }))
+
+  found_here : (k : Kind) (start : ℕ) → AimsHere S s p k start → Found k s start
+  unfolding Found
+  found_here k start a = go a.pointer a.stands.1 (says_kind s p a.pointer a.offset k start a.says (begins_start p a.offset start a.begins)) a.says
+    where
+      go : (r : Pointer) → pointer_of (slice_index (segment S s) p) ≡ Some r → aim_here s p r ≡ Some (record { kind = k; segment = s; start = Some start }) → IsBodyPointer r a.offset k
+          → (r : Pointer) × (pointer_of (slice_index (segment S s) p) ≡ Some r) × (aim_by at S r ≡ Ok (record { kind = k; segment = s; start = Some start }))
+      go (pointers.Struct o d n) is e says = (pointers.Struct o d n, is, ap (pad_or at) e)
+      go (pointers.List o size n) is e says = (pointers.List o size n, is, ap (pad_or at) e)
+      go pointers.Null is e says = absurd says
+      go (pointers.Cap i) is e says = absurd says
+      go (pointers.Far double place other) is e says = absurd says
+
+  found_by_pad : (k : Kind) (s' start : ℕ) → AimsByPad S s p k s' start → Found k s' start
+  unfolding Found
+  found_by_pad k s' start a =
+      let place = a.place in
+      let pad = a.pad in
+      let within : place < length (segment S s') = pad.stands.0 in
+      let w : nat_lt place (length (segment S s')) ≡ true = grind (arith, nat_tests) in
+      let x : nat_lt s' (length S) ≡ true = grind (arith, nat_tests, exists_if S s' place within) in
+      let e = says_kind s' place pad.pointer pad.offset k start pad.says (begins_start place pad.offset start pad.begins) in
+      (pointers.Far false place s', a.stands.1, rw (x, w, pad.stands.1, e))
+
+  found_by_two : (k : Kind) (s' start : ℕ) → AimsByTwo S s p k s' start → Found k s' start
+  unfolding Found
+  found_by_two k s' start a =
+      let place = a.place in
+      let w : nat_lt (place + 1) (length (segment S a.other)) ≡ true = grind (arith, nat_tests, a.second.0) in
+      let x : nat_lt a.other (length S) ≡ true = grind (arith, nat_tests, exists_if S a.other (place + 1) a.second.0) in
+      let y : nat_lt s' (length S) ≡ true = grind (arith, nat_tests, a.exists) in
+      (pointers.Far true place a.other, a.stands.1, rw (x, w, a.first.1, a.second.1, says_tag a.pointer k a.says, y))
+
+  pub aims_found : (k : Kind) (s' start : ℕ) → Aims S s p k s' start → Found k s' start
+  aims_found k s' start (inl a) = subst (λ x. Found k x start) (sym a.1) (found_here k start a.0)
+  aims_found k s' start (inr (inl a)) = found_by_pad k s' start a
+  aims_found k s' start (inr (inr a)) = found_by_two k s' start a
+
+  -- the word holds a pointer that leads to this body
+  pub record Led (f : Form) (s' start : ℕ) : Type 0 where
+    pub pointer : Pointer
+    pub aim : Aim
+    pub says : pointer_of (slice_index (segment S s) p) ≡ Some pointer
+    pub aims : aim_by at S pointer ≡ Ok aim
+    pub area : area_by at S aim ≡ Ok (record { form = f; segment = s'; start = start })
+
+  pub led : (f : Form) (s' start : ℕ) → IsWhole f → Locates S s p f s' start → Led f s' start
+  unfolding Found
+  led (forms.Struct d n) s' start w l =
+      let a = aims_found (kinds.Struct d n) s' start l.aims in
+      record { pointer = a.0; aim = record { kind = kinds.Struct d n; segment = s'; start = Some start }; says = a.1; aims = a.2; area = rw (fits (segment S s') (d + n) start l.inside) refl }
+  led (forms.Structs d n k) s' start w l =
+      let a = aims_found (kinds.List sizes.Composite l.0) s' l.1 l.2.aims in
+      let room : nat_lt l.0 (k * (d + n)) ≡ false = grind (arith, nat_tests, l.4) in
+      record {
+        pointer = a.0;
+        aim = record { kind = kinds.List sizes.Composite l.0; segment = s'; start = Some l.1 };
+        says = a.1;
+        aims = a.2;
+        area = rw (fits (segment S s') (l.0 + 1) l.1 l.2.inside, l.3, room, l.5) refl;
+      }
+  led (forms.List sizes.Composite n) s' start w l = absurd w
+  led (forms.List size n) s' start w l =
+      let a = aims_found (kinds.List size n) s' start l.aims in
+      record { pointer = a.0; aim = record { kind = kinds.List size n; segment = s'; start = Some start }; says = a.1; aims = a.2; area = rw (fits (segment S s') (words_for size n) start l.inside) refl }
+
+toll_taken : (at : Place) (n price left : ℕ) → 0 < n → price ≤ left → toll at n price left ≡ Ok (left - price)
+toll_taken at n price left deep room =
+    let a : (n == 0) ≡ false = grind (arith, nat_tests) in
+    let b : nat_lt left price ≡ false = grind (arith, nat_tests) in
+    rw (a, b)
+
+-- A word leads to a body, and the body is read where one level less and its price less are left.
+body_read : (S : List (List ℕ)) (s p n left : ℕ) (t : Node) (s' q : ℕ) → IsBody t → Locates S s p (form_of t) s' q → depth t ≤ n → cost t ≤ left
+    → filled (rows_at (n - 1) S) S (form_of t) s' q (left - price (form_of t)) ≡ Ok (t, left - price (form_of t) - inner_cost t)
+    → tree_at n S s p left ≡ Ok (t, left - cost t)
+body_read S s p n left t s' q b l deep dear e =
+    let h = led S s p (form_of t) s' q (form_of-whole t) l in
+    let d = depth-body t b in
+    let c = cost-body t b in
+    let paid = toll_taken (at S s p) n (price (form_of t)) left (omega arith) (omega arith) in
+    let rest : left - price (form_of t) - inner_cost t ≡ left - cost t = omega arith in
+    ap (pointer_by (at S s p) (kids_at n S) S left) h.says
+    ∙ aimed (at S s p) (kids_at n S) S left h.pointer h.aim h.aims
+    ∙ ap (λ r. r >>= body_by (at S s p) (kids_at n S) S left) h.area
+    ∙ rw (entered_ok (at S s p) S (price (form_of t)) left n _ paid) (e ∙ ap (λ m. Ok (t, m)) rest)
+
+-- a list without pointers
+list_filled : (es : Elements) (kids : Kids) (S : List (List ℕ)) (s q left : ℕ) → Fills S s q (list es) → filled kids S (form_of (list es)) s q left ≡ Ok (list es, left - 0)
+list_filled (voids n) kids S s q left h = let none : left - 0 ≡ left = omega arith in rw none refl
+list_filled es kids S s q left h = let none : left - 0 ≡ left = omega arith in rw none (ap (λ e. Ok (list e, left)) (sym h))
+
+mutual
+  unfolding row_by bodies_by
+
+  -- a tree that is denoted within the limits is read, and its cost is taken
+  pub complete : (t : Node) (n : ℕ) (S : List (List ℕ)) (s p left : ℕ) → Denotes S s p t → depth t ≤ n → cost t ≤ left → tree_at n S s p left ≡ Ok (t, left - cost t)
+  complete null n S s p left h deep dear = let e : left - 0 ≡ left = omega arith in rw (h.1, e)
+  complete (cap i) n S s p left h deep dear = let e : left - 0 ≡ left = omega arith in rw (h.1, e)
+  complete (struct ws ts) n S s p left h deep dear =
+      let rest = left - (1 + length ws + count ts) in
+      let row = complete_row ts (n - 1) S h.0 (h.1 + length ws) rest h.3.1 (omega (arith, deep)) (omega (arith, dear)) in
+      body_read S s p n left (struct ws ts) h.0 h.1 tt h.2 deep dear (rw row (ap (λ w. Ok (struct w ts, rest - total_cost ts)) (sym h.3.0)))
+  complete (list es) n S s p left h deep dear = body_read S s p n left (list es) h.0 h.1 tt h.2 deep dear (list_filled es (rows_at (n - 1) S) S h.0 h.1 (left - price (form_of (list es))) h.3)
+  complete (ptrs ts) n S s p left h deep dear =
+      let size : (count ts * 64 + 63) / 64 ≡ count ts = omega arith in
+      let rest = left - (1 + (count ts * 64 + 63) / 64) in
+      let row = complete_row ts (n - 1) S h.0 h.1 rest h.3 (omega (arith, deep)) (omega (arith, dear)) in
+      body_read S s p n left (ptrs ts) h.0 h.1 tt h.2 deep dear (rw row)
+  complete (structs d c bs) n S s p left h deep dear =
+      let rest = left - (2 + number_of bs * (1 + d + c)) in
+      let rows = complete_bodies bs d c (n - 1) S h.0 h.1 rest h.3 (omega (arith, deep)) (omega (arith, dear)) in
+      body_read S s p n left (structs d c bs) h.0 h.1 tt h.2 deep dear (rw rows)
+
+  pub complete_row : (ts : Nodes) (n : ℕ) (S : List (List ℕ)) (s p left : ℕ) → EachDenotes S s p ts → greatest_depth ts ≤ n → total_cost ts ≤ left → rows_at n S s (count ts) p left ≡ Ok (ts, left - total_cost ts)
+  complete_row no_nodes n S s p left h deep dear = let e : left - 0 ≡ left = omega arith in rw e
+  complete_row (node t ts) n S s p left h deep dear =
+      let one = complete t n S s p left h.0 (omega (arith, deep)) (omega (arith, dear)) in
+      let others = complete_row ts n S s (p + 1) (left - cost t) h.1 (omega (arith, deep)) (omega (arith, dear)) in
+      let e : left - cost t - total_cost ts ≡ left - (cost t + total_cost ts) = omega arith in
+      rw (one, others, e)
+
+  pub complete_bodies : (bs : Bodies) (d c n : ℕ) (S : List (List ℕ)) (s q left : ℕ) → EachBody S s q d c bs → deepest_body bs ≤ n → body_cost bs ≤ left
+      → bodies_by (rows_at n S s) S s d c (number_of bs) q left ≡ Ok (bs, left - body_cost bs)
+  complete_bodies no_bodies d c n S s q left h deep dear = let e : left - 0 ≡ left = omega arith in rw e
+  complete_bodies (body ws ts bs) d c n S s q left h deep dear =
+      let row = complete_row ts n S s (q + d) left h.3 (omega (arith, deep)) (omega (arith, dear)) in
+      let row' : rows_at n S s c (q + d) left ≡ Ok (ts, left - total_cost ts) = rw h.1 at row in
+      let others = complete_bodies bs d c n S s (q + d + c) (left - total_cost ts) h.4 (omega (arith, deep)) (omega (arith, dear)) in
+      let e : left - total_cost ts - body_cost bs ≡ left - (total_cost ts + body_cost bs) = omega arith in
+      rw (row', others, e) (ap (λ w. Ok (body w ts bs, left - (total_cost ts + body_cost bs))) (sym h.2))
+
+-- a body that stands there is read
+pub fills_read : (t : Node) (n : ℕ) (S : List (List ℕ)) (s q left : ℕ) → Fills S s q t → inner_depth t ≤ n → inner_cost t ≤ left → filled (rows_at n S) S (form_of t) s q left ≡ Ok (t, left - inner_cost t)
+fills_read null n S s q left h deep dear = absurd h
+fills_read (cap i) n S s q left h deep dear = absurd h
+fills_read (struct ws ts) n S s q left h deep dear =
+    let row = complete_row ts n S s (q + length ws) left h.1 deep dear in
+    rw row (ap (λ w. Ok (struct w ts, left - total_cost ts)) (sym h.0))
+fills_read (list es) n S s q left h deep dear = list_filled es (rows_at n S) S s q left h
+fills_read (ptrs ts) n S s q left h deep dear = let row = complete_row ts n S s q left h deep dear in rw row refl
+fills_read (structs d c bs) n S s q left h deep dear = let rows = complete_bodies bs d c n S s q left h deep dear in rw rows refl

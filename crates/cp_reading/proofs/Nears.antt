@@ -1,0 +1,58 @@
+-- Words whose bodies lie in their own segments.
+use Rattle.std.proofs.Common.{◌≡◌, ℕ, ◌/◌, ◌%◌, ◌^◌, ◌<◌, ◌==◌, List, Option, Some, Ok, Err, false, slice_index, refl, ap, ◌∙◌, add-zero, arith}
+use Rattle.std.proofs.lemmas.Bool.Decides.{nat_tests}
+use Rattle.cp_words.specs.Word.{pointer_of, offset_of, high_of, size_of}
+use Rattle.cp_words.specs.declared.pointer.Pointer.TheVariants as pointers
+use Rattle.cp_reading.specs.Aims.{segment}
+use Rattle.cp_reading.specs.Near.{Near}
+use Rattle.cp_reading.specs.Reading.{◌>>=◌, Kids, start_of, area_by, body_by, pointer_by, word_by}
+use Rattle.cp_reading.specs.Visited.{passed, pointers}
+use Rattle.cp_reading.specs.declared.aim.Aim.{Aim}
+use Rattle.cp_reading.specs.declared.aim.Kind.TheVariants as kinds
+use Rattle.cp_reading.specs.declared.area.Area.{Area}
+use Rattle.cp_reading.specs.declared.fault.Place.{Place}
+use Rattle.cp_reading.specs.declared.fault.TreeFault.{TreeFault}
+use Rattle.cp_reading.proofs.Checks.{aimed}
+
+pub says_null : (w : ℕ) → w ≡ 0 → pointer_of w ≡ Some pointers.Null
+unfolding pointer_of
+says_null w none = rw none refl
+
+says_struct : (w : ℕ) → 0 < w → w % 4 ≡ 0 → pointer_of w ≡ Some (pointers.Struct (offset_of w) (high_of w % 2 ^ 16) (high_of w / 2 ^ 16))
+unfolding pointer_of
+says_struct w some kind =
+    let other : (w == 0) ≡ false = grind (arith, nat_tests) in
+    rw (other, kind) refl
+
+says_list : (w : ℕ) → w % 4 ≡ 1 → pointer_of w ≡ Some (pointers.List (offset_of w) (size_of (high_of w % 8)) (high_of w / 8))
+unfolding pointer_of
+says_list w kind =
+    let other : (w == 0) ≡ false = grind (arith, nat_tests) in
+    rw (other, kind) refl
+
+pub near_struct : (at : Place) (w : ℕ) → 0 < w → w % 4 ≡ 0
+    → Near at w (record { kind = kinds.Struct (high_of w % 2 ^ 16) (high_of w / 2 ^ 16); segment = at.segment; start = start_of at.word (offset_of w) })
+near_struct at w some kind = record { pointer = pointers.Struct (offset_of w) (high_of w % 2 ^ 16) (high_of w / 2 ^ 16); says = says_struct w some kind; aims = λ S. refl }
+
+pub near_list : (at : Place) (w : ℕ) → w % 4 ≡ 1
+    → Near at w (record { kind = kinds.List (size_of (high_of w % 8)) (high_of w / 8); segment = at.segment; start = start_of at.word (offset_of w) })
+near_list at w kind = record { pointer = pointers.List (offset_of w) (size_of (high_of w % 8)) (high_of w / 8); says = says_list w kind; aims = λ S. refl }
+
+-- what is read of such a word
+pub near_read : (at : Place) (w : ℕ) (aim : Aim) → Near at w aim → (kids : Option Kids) (S : List (List ℕ)) (left : ℕ) → pointer_by at kids S left (pointer_of w) ≡ (area_by at S aim >>= body_by at kids S left)
+near_read at w aim n kids S left = rw n.says (aimed at kids S left n.pointer aim (n.aims S))
+
+module _ (at : Place) (w : ℕ) (kids : Option Kids) (S : List (List ℕ)) (left before : ℕ) (stands : slice_index (segment S at.segment) at.word ≡ w) where
+  -- a word of zero bits leaves all
+  pub null_left : w ≡ 0 → passed pointers before (word_by kids S at.segment at.word left) ≡ Ok (left, before)
+  null_left none = ap (λ x. passed pointers before (pointer_by at kids S left (pointer_of x))) stands ∙ ap (λ o. passed pointers before (pointer_by at kids S left o)) (says_null w none) ∙ rw add-zero refl
+
+  module _ (aim : Aim) (near : Near at w aim) where
+    word_is : word_by kids S at.segment at.word left ≡ (area_by at S aim >>= body_by at kids S left)
+    word_is = ap (λ x. pointer_by at kids S left (pointer_of x)) stands ∙ near_read at w aim near kids S left
+
+    pub near_fails : (e : TreeFault) → area_by at S aim ≡ Err e → passed pointers before (word_by kids S at.segment at.word left) ≡ Err e
+    near_fails e h = ap (passed pointers before) (word_is ∙ ap (λ o. o >>= body_by at kids S left) h)
+
+    pub near_body : (a : Area) → area_by at S aim ≡ Ok a → passed pointers before (word_by kids S at.segment at.word left) ≡ passed pointers before (body_by at kids S left a)
+    near_body a h = ap (passed pointers before) (word_is ∙ ap (λ o. o >>= body_by at kids S left) h)

@@ -1,0 +1,17 @@
+use Rattle.std.proofs.Common.{sym, subst}
+use Rattle.cp_reading.specs.NodeOf.{words_of}
+use Rattle.cp_reading.specs.Parts.{part_node}
+use Rattle.cp_reading.specs.Shaped.{Shaped}
+use Rattle.cp_reading.proofs.Fitting.{part_of-shaped}
+use Rattle.cp_reading.proofs.view.View.child.Goals.{in-Body, in-Null}
+use Rattle.cp_reading.proofs.view.View.child.Goals as goal
+
+pub invariant_of-result : goal.invariant_of-result
+invariant_of-result c =
+    let S = words_of c.self.inside.lists.now in
+    elim c.match-self.branch [
+      | in-Body w ↦
+          let whole = part_of-shaped _ c.args.i (subst (λ p. Shaped (part_node S p)) w.in-Body.is c.self.invariant.1) in
+          rw w.result-is (w.part_in.ensures.part, subst Shaped (sym w.part_in.ensures.node) whole)
+      | in-Null w ↦ rw w.result-is (tt, tt)
+    ]

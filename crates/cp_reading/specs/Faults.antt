@@ -1,0 +1,91 @@
+-- What a fault of reading says.
+use Rattle.std.specs.Prelude.{◌≡◌, ◌⊎◌, ℕ, ◌+◌, ◌*◌, ◌≤◌, ◌<◌, ℤ, pos, ◌+ℤ◌, ◌<ℤ◌, List, length, Bool, Some, None, true, false, slice_index}
+use Rattle.cp_words.specs.Limits.{Bounds}
+use Rattle.cp_words.specs.Word.{pointer_of, tag_of, words_for}
+use Rattle.cp_words.specs.declared.pointer.ElementSize.{ElementSize}
+use Rattle.cp_words.specs.declared.pointer.ElementSize.TheVariants as sizes
+use Rattle.cp_words.specs.declared.pointer.Pointer.{Pointer}
+use Rattle.cp_words.specs.declared.pointer.Pointer.TheVariants as pointers
+use Rattle.cp_words.specs.declared.pointer.Tag.{Tag}
+use Rattle.cp_reading.specs.declared.aim.Kind.{Kind}
+use Rattle.cp_reading.specs.declared.aim.Kind.TheVariants as kinds
+use Rattle.cp_reading.specs.declared.fault.TreeFault.{TreeFault}
+use Rattle.cp_reading.specs.declared.fault.TreeFault.TheVariants as faults
+use Rattle.cp_reading.specs.Node.{Node, depth, cost}
+use Rattle.cp_reading.specs.Aims.{segment, Holds, IsBodyPointer, IsPadTag, Aims}
+use Rattle.cp_reading.specs.Pruned.{Pruned, IsReachable}
+
+-- the words that a body of this kind takes, a composite list's tag included
+abbrev pub kind_words : Kind → ℕ
+kind_words (kinds.Struct d n) = d + n
+kind_words (kinds.List size n) = words_for size n
+
+-- word p of segment s is inside, and says nothing that a body has
+abbrev pub IsNoBody : List (List ℕ) → ℕ → ℕ → Type 0
+IsNoBody S s p = (p < length (segment S s)) × ((r : Pointer) (o : ℤ) (k : Kind) → pointer_of (slice_index (segment S s) p) ≡ Some r → IsBodyPointer r o k → ⊥)
+
+-- G7: the word is a capability word with a bit that should be zero
+abbrev pub HasBadCapability : List (List ℕ) → ℕ → ℕ → Type 0
+HasBadCapability S s p = pointer_of (slice_index (segment S s) p) ≡ None
+
+-- G4: the word is a far pointer to a segment that isn't there, or its pad of two words names one
+abbrev pub NamesNoSegment : List (List ℕ) → ℕ → ℕ → Type 0
+NamesNoSegment S s p =
+    (double : Bool) × (place : ℕ) × (other : ℕ) × Holds S s p (pointers.Far double place other)
+    × ((length S ≤ other) ⊎ ((double ≡ true) × (start : ℕ) × (s' : ℕ) × Holds S other place (pointers.Far false start s') × (length S ≤ s')))
+
+-- G5: the word is a far pointer whose pad is inside, and has no pad's form
+abbrev pub HasBadPad : List (List ℕ) → ℕ → ℕ → Type 0
+HasBadPad S s p =
+    ((place : ℕ) × (other : ℕ) × Holds S s p (pointers.Far false place other) × IsNoBody S other place)
+    ⊎ ((place : ℕ) × (other : ℕ) × Holds S s p (pointers.Far true place other) × (place + 1 < length (segment S other))
+    × ((start s' : ℕ) (r : Pointer) (k : Kind) → pointer_of (slice_index (segment S other) place) ≡ Some (pointers.Far false start s') → pointer_of (slice_index (segment S other) (place + 1)) ≡ Some r → IsPadTag r k → ⊥))
+
+-- the word is a struct or list pointer whose body would begin before its segment
+abbrev pub StartsBefore : List (List ℕ) → ℕ → ℕ → Type 0
+StartsBefore S s p = (r : Pointer) × (o : ℤ) × (k : Kind) × Holds S s p r × IsBodyPointer r o k × ((pos (p + 1) +ℤ o) <ℤ pos 0)
+
+-- G3: the pad of a far pointer isn't inside its segment; or the body begins before its segment, or ends behind it; or a
+-- composite list's elements take more words than it has.
+abbrev pub HasNoRoom : List (List ℕ) → ℕ → ℕ → Type 0
+HasNoRoom S s p =
+    ((place : ℕ) × (other : ℕ) × Holds S s p (pointers.Far false place other) × (length (segment S other) ≤ place))
+    ⊎ (((place : ℕ) × (other : ℕ) × Holds S s p (pointers.Far true place other) × (length (segment S other) ≤ place + 1))
+    ⊎ ((StartsBefore S s p ⊎ ((place : ℕ) × (other : ℕ) × Holds S s p (pointers.Far false place other) × StartsBefore S other place))
+    ⊎ (((k : Kind) × (s' : ℕ) × (start : ℕ) × Aims S s p k s' start × (length (segment S s') < start + kind_words k))
+    ⊎ ((size : ℕ) × (s' : ℕ) × (tag : ℕ) × (g : Tag) × Aims S s p (kinds.List sizes.Composite size) s' tag
+    × (tag_of (slice_index (segment S s') tag) ≡ Some g) × (size < g.count * (g.words + g.ptrs))))))
+
+-- G6: the word has a composite list whose tag isn't laid out as a struct pointer
+abbrev pub HasBadTag : List (List ℕ) → ℕ → ℕ → Type 0
+HasBadTag S s p = (size : ℕ) × (s' : ℕ) × (tag : ℕ) × Aims S s p (kinds.List sizes.Composite size) s' tag × (tag_of (slice_index (segment S s') tag) ≡ None)
+
+-- A fault with a place names a reachable word that has it. One of a limit says that something is too deep, or too dear.
+abbrev pub FaultBy : List (List ℕ) → Type 0 → Type 0 → TreeFault → Type 0
+FaultBy S deep dear (faults.OutOfBounds at) = IsReachable S at.segment at.word × HasNoRoom S at.segment at.word
+FaultBy S deep dear (faults.NoSegment at) = IsReachable S at.segment at.word × NamesNoSegment S at.segment at.word
+FaultBy S deep dear (faults.BadPad at) = IsReachable S at.segment at.word × HasBadPad S at.segment at.word
+FaultBy S deep dear (faults.BadTag at) = IsReachable S at.segment at.word × HasBadTag S at.segment at.word
+FaultBy S deep dear (faults.BadCapability at) = IsReachable S at.segment at.word × HasBadCapability S at.segment at.word
+FaultBy S deep dear (faults.NestingLimit at) = IsReachable S at.segment at.word × deep
+FaultBy S deep dear (faults.TraversalLimit at) = IsReachable S at.segment at.word × dear
+FaultBy S deep dear other = ⊥
+
+-- the root is none, or null
+abbrev pub HasNoRoot : List (List ℕ) → Type 0
+HasNoRoot S = (length (segment S 0) ≡ 0) ⊎ Holds S 0 0 pointers.Null
+
+-- the root is a capability; or its word, or the word of its pad that says what the body is, is a list pointer
+abbrev pub RootIsNoStruct : List (List ℕ) → Type 0
+RootIsNoStruct S =
+    ((i : ℕ) × Holds S 0 0 (pointers.Cap i))
+    ⊎ ((o : ℤ) × (size : ElementSize) × (n : ℕ) × (Holds S 0 0 (pointers.List o size n)
+    ⊎ (((place : ℕ) × (other : ℕ) × Holds S 0 0 (pointers.Far false place other) × Holds S other place (pointers.List o size n))
+    ⊎ ((place : ℕ) × (other : ℕ) × Holds S 0 0 (pointers.Far true place other) × Holds S other (place + 1) (pointers.List o size n)))))
+
+-- What a fault of reading a message says: G1 and G2 of its root, G3 to G7 of a reachable word, G8 that a pruned tree is
+-- deeper than the limit, G9 that one costs more.
+abbrev pub IsFaultOf : List (List ℕ) → Bounds → TreeFault → Type 0
+IsFaultOf S limits (faults.NoRoot at) = HasNoRoot S
+IsFaultOf S limits (faults.RootKind at) = RootIsNoStruct S
+IsFaultOf S limits e = FaultBy S ((t : Node) × Pruned S t × (limits.nesting < depth t)) ((t : Node) × Pruned S t × (limits.traversal < cost t)) e

@@ -1,0 +1,39 @@
+-- The parts of a tree that hang on pointers, and the elements of a composite list.
+use Rattle.std.specs.Prelude.{ℕ, List}
+use Rattle.cp_words.specs.declared.pointer.ElementSize.{ElementSize}
+use Rattle.cp_words.specs.declared.pointer.ElementSize.TheVariants as sizes
+use Rattle.cp_reading.specs.Node.{Node, struct, ptrs, structs, Nodes, no_nodes, Bodies, no_bodies}
+use Rattle.cp_reading.specs.Parts.{part_node}
+use Rattle.cp_reading.specs.declared.area.Area.{Area}
+use Rattle.cp_reading.specs.declared.area.Form.TheVariants as forms
+use Rattle.cp_reading.specs.declared.fault.Place.{Place}
+use Rattle.cp_reading.specs.declared.view.Part.TheVariants as parts
+
+-- the pointers of a struct or of a list of pointers
+abbrev pub row_of : Node → Nodes
+row_of (struct ws ts) = ts
+row_of (ptrs ts) = ts
+row_of other = no_nodes
+
+-- the elements of a composite list
+abbrev pub bodies_in : Node → Bodies
+bodies_in (structs d n bs) = bs
+bodies_in other = no_bodies
+
+-- the size of elements that hold no pointers
+abbrev pub IsData : ElementSize → Type 0
+IsData sizes.Pointer = ⊥
+IsData sizes.Composite = ⊥
+IsData other = Unit {0}
+
+-- a struct's body, of d data words and n pointers, that begins at a place
+abbrev pub struct_at : Place → ℕ → ℕ → Area
+struct_at at d n = record { form = forms.Struct d n; segment = at.segment; start = at.word }
+
+-- the k elements of a composite list, the first of which begins at a place
+abbrev pub structs_at : Place → ℕ → ℕ → ℕ → Area
+structs_at at d n k = record { form = forms.Structs d n k; segment = at.segment; start = at.word }
+
+-- the trees that n pointer words from a place on stand for
+abbrev pub trees_from : List (List ℕ) → Place → ℕ → Nodes
+trees_from S at n = row_of (part_node S (parts.Body (struct_at at 0 n)))

@@ -1,4 +1,0 @@
-use Rattle.cp_tree.proofs.read.read_root.Given as goal
-
-abbrev pub ghosts-read_uncounted : goal.ghosts-read_uncounted
-ghosts-read_uncounted a = record { name = a.blank.name; parts = a.blank.parts }

@@ -1,4 +1,0 @@
-use Rattle.cp_tree.proofs.view.View.root.Given as goal
-
-abbrev pub ghosts-root_uncounted : goal.ghosts-root_uncounted
-ghosts-root_uncounted a = record { name = a.blank.name; parts = a.blank.parts }
