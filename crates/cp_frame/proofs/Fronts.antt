@@ -2,11 +2,9 @@
 use Rattle.std.proofs.Common.{◌≡◌, ◌⊎◌, inl, inr, ℕ, ◌+◌, ◌*◌, ◌^◌, ◌<◌, ◌≤◌, List, [], ◌∷◌, ◌++◌, length, drop, get_or, refl, sym, ◌∙◌, ap, subst, append_assoc, length-append, arith}
 use Rattle.std.specs.Int.{to_le_bytes, w64}
 use Rattle.std.proofs.lemmas.Bool.{cases_eq}
-use Rattle.std.proofs.lemmas.List.{append-nil, nil_from_length}
+use Rattle.std.proofs.lemmas.List.{append-nil}
 use Rattle.std.proofs.lemmas.Grind.{flat_map-append}
 use Rattle.cp_words.specs.Limits.{Bounds}
-use Rattle.cp_frame.specs.declared.fault.FrameFault.{FrameFault}
-use Rattle.cp_frame.specs.declared.fault.FrameFault.TheVariants as faults
 use Rattle.cp_frame.specs.declared.mode.Mode.{Mode}
 use Rattle.cp_frame.specs.declared.mode.Mode.TheVariants as modes
 use Rattle.cp_frame.specs.declared.rest.Rest.{Rest}
@@ -22,16 +20,15 @@ use Rattle.cp_frame.specs.Unpacking.{Pending, nothing, next, brought, after, giv
 use Rattle.cp_frame.proofs.Numbers.{length_bytes_of}
 use Rattle.cp_packed.proofs.Bytes.{all-append}
 use Rattle.cp_frame.proofs.Framing.{same_words}
-use Rattle.cp_frame.proofs.Ends.{complete_frame, frames_push}
+use Rattle.cp_frame.proofs.Ends.{complete_frame}
 use Rattle.cp_frame.proofs.Streams.{cut}
 use Rattle.cp_packed.proofs.Opens.{Brings, brings_both}
 use Rattle.cp_packed.proofs.Unpacks.{pending_step}
 use Rattle.cp_packed.proofs.Laying.{brings_packed, pending_after}
-use Rattle.cp_frame.proofs.Certain.{are-append, are_back}
-use Rattle.cp_frame.proofs.Rests.{fault_stays_packed}
+use Rattle.cp_frame.proofs.Certain.{are-append}
 use Rattle.cp_frame.proofs.Alike.{alike_both, alike_more, alike_state, alike_open}
 use Rattle.cp_frame.proofs.Texts.{bytes_words, words_are, text_are, brings_kept, open_packed}
-use Rattle.cp_frame.proofs.Taken.{bytes_count, run_words, bytes_long, first_kept, no_front_kept, blank_packed, keeps_blank, ends_fault}
+use Rattle.cp_frame.proofs.Taken.{bytes_count, run_words, bytes_long, first_kept, no_front_kept}
 
 -- bytes bring no more words than they allow, and a run only with a word
 runs_with : (b : List ℕ) (p : Pending) → 0 < (after p b).run → 0 < p.run + length (given p b)

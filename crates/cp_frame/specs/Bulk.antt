@@ -1,15 +1,12 @@
 -- Groups of the packed form taken at once. No public clause names these.
-use Rattle.std.specs.Prelude.{◌≡◌, ◌⊎◌, ℕ, ◌+◌, ◌≤◌, List, [], ◌∷◌, ◌++◌, length}
+use Rattle.std.specs.Prelude.{◌≡◌, ◌⊎◌, ℕ, ◌+◌, ◌≤◌, List, [], ◌++◌, length}
 use Rattle.cp_words.specs.Limits.{Bounds}
-use Rattle.cp_frame.specs.declared.fault.FrameFault.{FrameFault}
-use Rattle.cp_frame.specs.declared.mode.Mode.TheVariants as modes
 use Rattle.cp_frame.specs.declared.frame.OpenFrame.{OpenFrame}
 use Rattle.cp_frame.specs.declared.rest.Rest.{Rest}
-use Rattle.cp_frame.specs.Framed.{AreBytes, AreWords, bytes_of}
-use Rattle.cp_frame.specs.Parts.{IsOpen, InSegments, IsComplete, NamesLittle, lists, rest_of}
-use Rattle.cp_frame.specs.Stream.{numbers}
-use Rattle.cp_frame.specs.Unpacking.{Pending, nothing, after, given, laid, pending_of}
-use Rattle.cp_frame.specs.Rest.{IsBlank, InPacked, Reads, Refuses}
+use Rattle.cp_frame.specs.Framed.{AreWords, bytes_of}
+use Rattle.cp_frame.specs.Parts.{InSegments, IsComplete, lists, rest_of}
+use Rattle.cp_frame.specs.Unpacking.{Pending, nothing, after, given, pending_of}
+use Rattle.cp_frame.specs.Rest.{IsBlank}
 pub use Rattle.cp_packed.specs.Groups.{running, TakesGroups}
 
 -- Whatever is open of a group: a front of the bytes was taken, with the words that it brings, and there are no more than there may be.

@@ -1,5 +1,4 @@
-use Rattle.std.proofs.Common.{◌++◌, ◌≡◌, ◌∙◌, arith}
-use Rattle.cp_frame.specs.Parts.{rest_of}
+use Rattle.std.proofs.Common.{◌∙◌, arith}
 use Rattle.cp_frame.proofs.Ends.{complete_of}
 use Rattle.cp_frame.proofs.Following.{ends_plain}
 use Rattle.cp_frame.proofs.reader.next_plain.Goals as goal

@@ -1,8 +1,8 @@
-use Rattle.std.proofs.Common.{◌≡◌, ℕ, List, sym, subst, arith, rules}
+use Rattle.std.proofs.Common.{ℕ, List, sym, subst, arith, rules}
 use Rattle.std.proofs.lemmas.Bool.Decides.{nat_tests}
 use Rattle.std.proofs.lemmas.Result.{err_from_is_err_and}
 use Rattle.cp_frame.specs.Following.{GoesThrough, HasRead, StopsAt}
-use Rattle.cp_frame.proofs.Following.{read_all, read_fault, read_frame, read_none, read_through}
+use Rattle.cp_frame.proofs.Following.{read_all, read_fault, read_frame, read_through}
 use Rattle.cp_frame.proofs.reader.read_frames.Goals as goal
 
 pub reading-preserved : goal.reading-preserved

@@ -3,7 +3,6 @@ use Rattle.std.proofs.lemmas.Bool.Decides.{nat_tests}
 use Rattle.std.proofs.lemmas.Result.{IfOk-weaker, IfErr-weaker}
 use Rattle.cp_frame.specs.declared.fault.FrameFault.TheVariants.{OutOfMemory}
 use Rattle.cp_frame.specs.declared.mode.Mode.TheVariants.{Packed}
-use Rattle.cp_frame.specs.Rest.{InPacked}
 use Rattle.cp_frame.specs.Bulk.{TakesFront}
 use Rattle.cp_frame.specs.Following.{HasThere}
 use Rattle.cp_packed.proofs.Bytes.{bytes_by}
