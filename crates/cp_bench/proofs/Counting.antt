@@ -7,7 +7,7 @@ use Rattle.cp_frame.specs.declared.mode.Mode.{Mode}
 use Rattle.cp_frame.specs.Stream.{Frames}
 use Rattle.cp_frame.specs.Reader.{Reader, StandsFor, Gives, EndsWell, new_reader}
 use Rattle.cp_frame.proofs.Streams.{cut}
-use Rattle.cp_frame.proofs.Filling.{all-append, all-push}
+use Rattle.cp_packed.proofs.Bytes.{all-append, all-push}
 use Rattle.cp_bench.specs.Read.{IsOfKind, CountsWithin}
 use Rattle.cp_bench.specs.Kept.{IsCounted, GiveFirst}
 
