@@ -16,7 +16,7 @@ use Rattle.cp_frame.specs.Frame.{Frame}
 use Rattle.cp_frame.specs.Stream as streams
 use Rattle.cp_frame.specs.Unpacking.{nothing}
 use Rattle.cp_frame.proofs.Framing.{length_framed}
-use Rattle.cp_frame.proofs.Laying.{pending_nothing}
+use Rattle.cp_packed.proofs.Laying.{pending_nothing}
 use Rattle.cp_frame.proofs.Streams.{OneFront, one_front_plain, plain_fault, fault_stays_plain}
 use Rattle.cp_frame.proofs.Groups.{one_front_packed}
 use Rattle.cp_frame.proofs.Rests.{one_fault_packed, fault_stays_packed, two_fronts}
