@@ -343,7 +343,7 @@ pub fn expect_next_fault(
 #[test]
 fn frames_are_taken_one_by_one(rt: HostRuntime) {
     let stream = joined(&rt, rt.alloc(), &[&FINISH, &KEEPING, &TWO_SEGMENTS]);
-    let (front, back) = stream.split_at(90);
+    let (front, back) = stream.split_at(stream.len().min(90));
     let mut reader = new_reader(rt.alloc());
     let left = expect_next(&rt, &mut reader, front, 40, &FINISH_WORDS);
     let left = expect_next(&rt, &mut reader, left, 40, &KEEPING_WORDS);

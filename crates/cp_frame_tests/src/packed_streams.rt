@@ -92,7 +92,7 @@ fn packed_frames_are_taken_one_by_one(rt: HostRuntime) {
     let stream = joined(&rt, rt.alloc(), &[&FINISH, &RELEASE, &[0, 1]]);
     let finish = words_behind(&rt, rt.alloc(), &FINISH, 1);
     let release = words_behind(&rt, rt.alloc(), &RELEASE, 1);
-    let (front, back) = stream.split_at(FINISH.len() + 3);
+    let (front, back) = stream.split_at(stream.len().min(FINISH.len() + 3));
     let mut reader = new_reader(rt.alloc());
     let left = expect_next(&rt, &mut reader, front, FINISH.len(), &finish);
     expect_none(&rt, &mut reader, left);

@@ -1,4 +1,4 @@
-//! Tests of cp_words and cp_tree, over their libraries.
+//! Tests of cp_words, cp_reading and cp_tree, over their libraries.
 #![tactic(auto)]
 
 #[cfg(test)]
