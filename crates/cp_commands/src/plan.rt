@@ -136,7 +136,7 @@ impl Plan {
         progress: &mut Progress,
     ) -> Result<bool, Stop> {
         let mut left = piece;
-        while !left.is_empty() {
+        'taking: while !left.is_empty() {
             let Some((taken, segments, back)) = reader.next(left)? else {
                 break;
             };
