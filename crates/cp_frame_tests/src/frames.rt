@@ -616,3 +616,34 @@ fn want_of_memory_is_told_and_then_failed(rt: HostRuntime) {
     expect_end(&rt, &mut reader, Ok(()));
     drop(reader);
 }
+
+/// Takes the frames that end in a piece one by one, and gives each back.
+fn take_and_reuse(reader: &mut FrameReader, piece: &[u8]) -> Result<(), FrameFault> {
+    let mut left = piece;
+    for _ in 0..piece.len() {
+        let Some((_, segments, back)) = reader.next(left)? else {
+            break;
+        };
+        reader.reuse(segments);
+        left = back;
+    }
+    Ok(())
+}
+
+#[test]
+fn want_of_memory_is_told_where_frames_are_taken_one_by_one(rt: HostRuntime) {
+    let mut reader = new_reader(rt.alloc());
+    for piece in [
+        &FINISH[..],
+        &TWO_SEGMENTS[..13],
+        &TWO_SEGMENTS[13..],
+        &KEEPING[..],
+    ] {
+        if let Err(fault) = take_and_reuse(&mut reader, piece) {
+            assert!(rt; fault == FrameFault::OutOfMemory);
+            return expect_failed(&rt, &mut reader);
+        }
+    }
+    expect_end(&rt, &mut reader, Ok(()));
+    drop(reader);
+}
