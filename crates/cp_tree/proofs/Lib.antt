@@ -4,6 +4,7 @@ pub mod Packing
 pub mod Keeps
 pub mod Begins
 pub mod Steps
+pub mod Hanging
 pub mod PointerWords
 pub mod Alone
 pub mod OneSegment

@@ -21,5 +21,6 @@ pub mod Spent
 pub mod Layout
 pub mod Packed
 pub mod Sheets
+pub mod Allowed
 pub mod Writing
 pub mod Writes

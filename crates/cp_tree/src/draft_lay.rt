@@ -2,12 +2,14 @@
 
 ghost use Rattle.std.specs.Prelude.{◌+◌, ◌*◌, map};
 ghost use Rattle.cp_tree.specs.DraftOf.{draft_of, draft_body_of};
-ghost use Rattle.cp_reading.specs.Node.{count, number_of, structs};
+ghost use Rattle.cp_reading.specs.Node.{count, number_of, structs, depth, greatest_depth, deepest_body, cost, total_cost, body_cost};
 ghost use Rattle.cp_reading.specs.NodeOf.{nodes_of, bodies_of};
 ghost use Rattle.cp_reading.specs.Shaped.{Shaped, EachShaped, EachEven};
+ghost use Rattle.cp_tree.specs.Allowed.{Lays};
 ghost use Rattle.cp_tree.specs.Sheets.{written, append, KeepsTo, IsPlace, IsRun, Writes};
 ghost use Rattle.cp_tree.specs.Writing.{bodies_blank, BeginsBodies, tree_by, row_by, bodies_by};
 
+use crate::allowed::enter;
 use crate::draft::{Draft, DraftBody};
 use crate::fault::WriteFault;
 use crate::lay::{append_body, begin_elements, begin_ptrs, begin_struct, lay};
@@ -49,33 +51,42 @@ fn begin_draft_structs(
     Ok(first)
 }
 
-/// Lays out a tree whose pointer stands at a place.
+/// Lays out a tree whose pointer stands at a place, if it nests no deeper than so many levels and costs
+/// no more than is left.
 #[cycle(draft_lay)]
 pub(crate) fn lay_draft(
     sheet: &mut Sheet,
     room: Room,
     at: Place,
     draft: &Draft,
+    levels: u32,
+    left: &mut u64,
 ) -> Result<(), WriteFault>
     requires keeps { KeepsTo room (written sheet.old) }
     requires there { IsPlace (written sheet.old) at }
     requires shaped { Shaped (draft_of draft.now) }
-    ensures { Writes room result (tree_by room at.segment at.word (draft_of draft.now) (written sheet.old)) (written sheet.new) }
+    ensures { Lays room levels left.old result left.new (depth (draft_of draft.now)) (cost (draft_of draft.now)) (tree_by room at.segment at.word (draft_of draft.now) (written sheet.old)) (written sheet.new) }
 {
     match draft {
-        Draft::Own(tree) => lay(sheet, room, at, tree),
-        Draft::Lent(tree) => lay(sheet, room, at, tree),
+        Draft::Own(tree) => lay(sheet, room, at, tree, levels, left),
+        Draft::Lent(tree) => lay(sheet, room, at, tree, levels, left),
         Draft::Struct(body) => {
-            let first = begin_struct(sheet, room, at, &body.words, body.ptrs.len())?;
-            lay_drafts(sheet, room, first, &body.ptrs)
+            let count = body.ptrs.len();
+            let below = enter(levels, left, 1 + body.words.len() as u64 + count as u64)?;
+            let first = begin_struct(sheet, room, at, &body.words, count)?;
+            lay_drafts(sheet, room, first, &body.ptrs, below, left)
         }
         Draft::Ptrs(items) => {
-            let first = begin_ptrs(sheet, room, at, items.len())?;
-            lay_drafts(sheet, room, first, items)
+            let count = items.len();
+            let below = enter(levels, left, 1 + count as u64)?;
+            let first = begin_ptrs(sheet, room, at, count)?;
+            lay_drafts(sheet, room, first, items, below, left)
         }
         Draft::Structs { words, ptrs, items } => {
+            let price = 1 + *words as u64 + *ptrs as u64;
+            let below = enter(levels, left, 2 + items.len() as u64 * price)?;
             let first = begin_draft_structs(sheet, room, at, *words, *ptrs, items)?;
-            lay_draft_bodies(sheet, room, first, *words, *ptrs, items)
+            lay_draft_bodies(sheet, room, first, *words, *ptrs, items, below, left)
         }
     }
 }
@@ -87,15 +98,17 @@ fn lay_drafts(
     room: Room,
     first: Place,
     drafts: &[Draft],
+    levels: u32,
+    left: &mut u64,
 ) -> Result<(), WriteFault>
     requires keeps { KeepsTo room (written sheet.old) }
     requires run { IsRun (written sheet.old) first (count (nodes_of (map draft_of drafts.now))) }
     requires shaped { EachShaped (nodes_of (map draft_of drafts.now)) }
-    ensures { Writes room result (row_by room first.segment first.word (nodes_of (map draft_of drafts.now)) (written sheet.old)) (written sheet.new) }
+    ensures { Lays room levels left.old result left.new (greatest_depth (nodes_of (map draft_of drafts.now))) (total_cost (nodes_of (map draft_of drafts.now))) (row_by room first.segment first.word (nodes_of (map draft_of drafts.now)) (written sheet.old)) (written sheet.new) }
 {
     let mut at = first;
     for draft in drafts {
-        lay_draft(sheet, room, at, draft)?;
+        lay_draft(sheet, room, at, draft, levels, left)?;
         at.word += 1;
     }
     Ok(())
@@ -110,11 +123,13 @@ fn lay_draft_bodies(
     words: u16,
     ptrs: u16,
     bodies: &[DraftBody],
+    levels: u32,
+    left: &mut u64,
 ) -> Result<(), WriteFault>
     requires keeps { KeepsTo room (written sheet.old) }
     requires run { IsRun (written sheet.old) first (number_of (bodies_of (map draft_body_of bodies.now)) * (words + ptrs)) }
     requires even { EachEven words ptrs (bodies_of (map draft_body_of bodies.now)) }
-    ensures { Writes room result (bodies_by room first.segment first.word words ptrs (bodies_of (map draft_body_of bodies.now)) (written sheet.old)) (written sheet.new) }
+    ensures { Lays room levels left.old result left.new (deepest_body (bodies_of (map draft_body_of bodies.now))) (body_cost (bodies_of (map draft_body_of bodies.now))) (bodies_by room first.segment first.word words ptrs (bodies_of (map draft_body_of bodies.now)) (written sheet.old)) (written sheet.new) }
 {
     let mut at = first;
     for body in bodies {
@@ -122,7 +137,7 @@ fn lay_draft_bodies(
             segment: at.segment,
             word: at.word + words as usize,
         };
-        lay_drafts(sheet, room, pointers, &body.ptrs)?;
+        lay_drafts(sheet, room, pointers, &body.ptrs, levels, left)?;
         at.word = pointers.word + ptrs as usize;
     }
     Ok(())

@@ -3,12 +3,14 @@
 ghost use Rattle.std.specs.Prelude.{◌≡◌, ◌<◌, ◌≤◌, ◌+◌, ◌*◌, ◌^◌, ◌∷◌, [], length, map, IfOk};
 ghost use Rattle.cp_words.specs.Word.{words_for};
 ghost use Rattle.cp_reading.specs.declared.aim.Kind.TheVariants as kinds;
-ghost use Rattle.cp_reading.specs.Node.{count, number_of, struct, structs, ptrs as pointers};
+ghost use Rattle.cp_reading.specs.Node.{count, number_of, struct, structs, ptrs as pointers, depth, greatest_depth, deepest_body, cost, total_cost, body_cost};
 ghost use Rattle.cp_reading.specs.NodeOf.{node_of, body_of, nodes_of, bodies_of};
 ghost use Rattle.cp_reading.specs.Shaped.{Shaped, EachShaped, EachEven, HasSizes};
+ghost use Rattle.cp_tree.specs.Allowed.{Lays};
 ghost use Rattle.cp_tree.specs.Sheets.{written, append, place_by, KeepsTo, IsPlace, IsRun, Writes, Places};
 ghost use Rattle.cp_tree.specs.Writing.{body_blank, bodies_blank, tag_word, structs_begun, Begins, BeginsBodies, tree_by, row_by, bodies_by};
 
+use crate::allowed::enter;
 use crate::fault::WriteFault;
 use crate::lay_list::{
     lay_bits, lay_bytes, lay_halves, lay_quads, lay_voids, lay_words, place_list,
@@ -152,13 +154,21 @@ fn begin_structs(
     Ok(first)
 }
 
-/// Lays out a tree whose pointer stands at a place.
+/// Lays out a tree whose pointer stands at a place, if it nests no deeper than so many levels and costs
+/// no more than is left.
 #[cycle(lay)]
-pub(crate) fn lay(sheet: &mut Sheet, room: Room, at: Place, tree: &Tree) -> Result<(), WriteFault>
+pub(crate) fn lay(
+    sheet: &mut Sheet,
+    room: Room,
+    at: Place,
+    tree: &Tree,
+    levels: u32,
+    left: &mut u64,
+) -> Result<(), WriteFault>
     requires keeps { KeepsTo room (written sheet.old) }
     requires there { IsPlace (written sheet.old) at }
     requires shaped { Shaped (node_of tree.now) }
-    ensures { Writes room result (tree_by room at.segment at.word (node_of tree.now) (written sheet.old)) (written sheet.new) }
+    ensures { Lays room levels left.old result left.new (depth (node_of tree.now)) (cost (node_of tree.now)) (tree_by room at.segment at.word (node_of tree.now) (written sheet.old)) (written sheet.new) }
 {
     match tree {
         Tree::Null => {
@@ -170,37 +180,50 @@ pub(crate) fn lay(sheet: &mut Sheet, room: Room, at: Place, tree: &Tree) -> Resu
             Ok(())
         }
         Tree::Struct(body) => {
-            let first = begin_struct(sheet, room, at, &body.words, body.ptrs.len())?;
-            lay_row(sheet, room, first, &body.ptrs)
+            let count = body.ptrs.len();
+            let below = enter(levels, left, 1 + body.words.len() as u64 + count as u64)?;
+            let first = begin_struct(sheet, room, at, &body.words, count)?;
+            lay_row(sheet, room, first, &body.ptrs, below, left)
         }
-        Tree::Voids(count) => lay_voids(sheet, room, at, *count),
-        Tree::Bits(items) => lay_bits(sheet, room, at, items),
-        Tree::Bytes(items) => lay_bytes(sheet, room, at, items),
-        Tree::Halves(items) => lay_halves(sheet, room, at, items),
-        Tree::Quads(items) => lay_quads(sheet, room, at, items),
-        Tree::Words(items) => lay_words(sheet, room, at, items),
+        Tree::Voids(count) => lay_voids(sheet, room, at, *count, levels, left),
+        Tree::Bits(items) => lay_bits(sheet, room, at, items, levels, left),
+        Tree::Bytes(items) => lay_bytes(sheet, room, at, items, levels, left),
+        Tree::Halves(items) => lay_halves(sheet, room, at, items, levels, left),
+        Tree::Quads(items) => lay_quads(sheet, room, at, items, levels, left),
+        Tree::Words(items) => lay_words(sheet, room, at, items, levels, left),
         Tree::Ptrs(items) => {
-            let first = begin_ptrs(sheet, room, at, items.len())?;
-            lay_row(sheet, room, first, items)
+            let count = items.len();
+            let below = enter(levels, left, 1 + count as u64)?;
+            let first = begin_ptrs(sheet, room, at, count)?;
+            lay_row(sheet, room, first, items, below, left)
         }
         Tree::Structs { words, ptrs, items } => {
+            let price = 1 + *words as u64 + *ptrs as u64;
+            let below = enter(levels, left, 2 + items.len() as u64 * price)?;
             let first = begin_structs(sheet, room, at, *words, *ptrs, items)?;
-            lay_bodies(sheet, room, first, *words, *ptrs, items)
+            lay_bodies(sheet, room, first, *words, *ptrs, items, below, left)
         }
     }
 }
 
 /// Lays out the trees whose pointers stand from a place on.
 #[cycle(lay)]
-fn lay_row(sheet: &mut Sheet, room: Room, first: Place, trees: &[Tree]) -> Result<(), WriteFault>
+fn lay_row(
+    sheet: &mut Sheet,
+    room: Room,
+    first: Place,
+    trees: &[Tree],
+    levels: u32,
+    left: &mut u64,
+) -> Result<(), WriteFault>
     requires keeps { KeepsTo room (written sheet.old) }
     requires run { IsRun (written sheet.old) first (count (nodes_of (map node_of trees.now))) }
     requires shaped { EachShaped (nodes_of (map node_of trees.now)) }
-    ensures { Writes room result (row_by room first.segment first.word (nodes_of (map node_of trees.now)) (written sheet.old)) (written sheet.new) }
+    ensures { Lays room levels left.old result left.new (greatest_depth (nodes_of (map node_of trees.now))) (total_cost (nodes_of (map node_of trees.now))) (row_by room first.segment first.word (nodes_of (map node_of trees.now)) (written sheet.old)) (written sheet.new) }
 {
     let mut at = first;
     for tree in trees {
-        lay(sheet, room, at, tree)?;
+        lay(sheet, room, at, tree, levels, left)?;
         at.word += 1;
     }
     Ok(())
@@ -215,11 +238,13 @@ fn lay_bodies(
     words: u16,
     ptrs: u16,
     bodies: &[Body],
+    levels: u32,
+    left: &mut u64,
 ) -> Result<(), WriteFault>
     requires keeps { KeepsTo room (written sheet.old) }
     requires run { IsRun (written sheet.old) first (number_of (bodies_of (map body_of bodies.now)) * (words + ptrs)) }
     requires even { EachEven words ptrs (bodies_of (map body_of bodies.now)) }
-    ensures { Writes room result (bodies_by room first.segment first.word words ptrs (bodies_of (map body_of bodies.now)) (written sheet.old)) (written sheet.new) }
+    ensures { Lays room levels left.old result left.new (deepest_body (bodies_of (map body_of bodies.now))) (body_cost (bodies_of (map body_of bodies.now))) (bodies_by room first.segment first.word words ptrs (bodies_of (map body_of bodies.now)) (written sheet.old)) (written sheet.new) }
 {
     if ptrs == 0 {
         return Ok(());
@@ -230,7 +255,7 @@ fn lay_bodies(
             segment: at.segment,
             word: at.word + words as usize,
         };
-        lay_row(sheet, room, pointers, &body.ptrs)?;
+        lay_row(sheet, room, pointers, &body.ptrs, levels, left)?;
         at.word = pointers.word + ptrs as usize;
     }
     Ok(())

@@ -2,10 +2,12 @@
 
 ghost use Rattle.std.specs.Prelude.{◌<◌, ◌^◌, length};
 ghost use Rattle.cp_reading.specs.declared.aim.Kind.TheVariants as kinds;
-ghost use Rattle.cp_reading.specs.Node.{list, voids, bits, bytes, halves, quads, words as words_list};
-ghost use Rattle.cp_tree.specs.Sheets.{written, place_by, KeepsTo, IsPlace, Writes, Places};
+ghost use Rattle.cp_reading.specs.Node.{depth, cost, list, voids, bits, bytes, halves, quads, words as words_list};
+ghost use Rattle.cp_tree.specs.Allowed.{Lays};
+ghost use Rattle.cp_tree.specs.Sheets.{written, place_by, KeepsTo, IsPlace, Places};
 ghost use Rattle.cp_tree.specs.Writing.{tree_by};
 
+use crate::allowed::enter;
 use crate::fault::WriteFault;
 use crate::sheet::{Room, Sheet};
 use cp_reading::{Kind, Place};
@@ -39,12 +41,15 @@ pub(crate) fn lay_voids(
     room: Room,
     at: Place,
     count: u32,
+    levels: u32,
+    left: &mut u64,
 ) -> Result<(), WriteFault>
     requires keeps { KeepsTo room (written sheet.old) }
     requires there { IsPlace (written sheet.old) at }
     requires few { count < 2 ^ 29 }
-    ensures { Writes room result (tree_by room at.segment at.word (list (voids count)) (written sheet.old)) (written sheet.new) }
+    ensures { Lays room levels left.old result left.new (depth (list (voids count))) (cost (list (voids count))) (tree_by room at.segment at.word (list (voids count)) (written sheet.old)) (written sheet.new) }
 {
+    enter(levels, left, 1)?;
     place_list(sheet, room, at, ElementSize::Void, count as usize, 0)?;
     Ok(())
 }
@@ -55,14 +60,18 @@ pub(crate) fn lay_bits(
     room: Room,
     at: Place,
     items: &[bool],
+    levels: u32,
+    left: &mut u64,
 ) -> Result<(), WriteFault>
     requires keeps { KeepsTo room (written sheet.old) }
     requires there { IsPlace (written sheet.old) at }
     requires few { length items.now < 2 ^ 29 }
-    ensures { Writes room result (tree_by room at.segment at.word (list (bits items.now)) (written sheet.old)) (written sheet.new) }
+    ensures { Lays room levels left.old result left.new (depth (list (bits items.now))) (cost (list (bits items.now))) (tree_by room at.segment at.word (list (bits items.now)) (written sheet.old)) (written sheet.new) }
 {
     let count = items.len();
-    place_list(sheet, room, at, ElementSize::Bit, count, (count + 63) / 64)?;
+    let words = (count + 63) / 64;
+    enter(levels, left, 1 + words as u64)?;
+    place_list(sheet, room, at, ElementSize::Bit, count, words)?;
     sheet.append_bits(room, items)
 }
 
@@ -72,14 +81,18 @@ pub(crate) fn lay_bytes(
     room: Room,
     at: Place,
     items: &[u8],
+    levels: u32,
+    left: &mut u64,
 ) -> Result<(), WriteFault>
     requires keeps { KeepsTo room (written sheet.old) }
     requires there { IsPlace (written sheet.old) at }
     requires few { length items.now < 2 ^ 29 }
-    ensures { Writes room result (tree_by room at.segment at.word (list (bytes items.now)) (written sheet.old)) (written sheet.new) }
+    ensures { Lays room levels left.old result left.new (depth (list (bytes items.now))) (cost (list (bytes items.now))) (tree_by room at.segment at.word (list (bytes items.now)) (written sheet.old)) (written sheet.new) }
 {
     let count = items.len();
-    place_list(sheet, room, at, ElementSize::Byte, count, (count + 7) / 8)?;
+    let words = (count + 7) / 8;
+    enter(levels, left, 1 + words as u64)?;
+    place_list(sheet, room, at, ElementSize::Byte, count, words)?;
     sheet.append_bytes(room, items)
 }
 
@@ -89,21 +102,18 @@ pub(crate) fn lay_halves(
     room: Room,
     at: Place,
     items: &[u16],
+    levels: u32,
+    left: &mut u64,
 ) -> Result<(), WriteFault>
     requires keeps { KeepsTo room (written sheet.old) }
     requires there { IsPlace (written sheet.old) at }
     requires few { length items.now < 2 ^ 29 }
-    ensures { Writes room result (tree_by room at.segment at.word (list (halves items.now)) (written sheet.old)) (written sheet.new) }
+    ensures { Lays room levels left.old result left.new (depth (list (halves items.now))) (cost (list (halves items.now))) (tree_by room at.segment at.word (list (halves items.now)) (written sheet.old)) (written sheet.new) }
 {
     let count = items.len();
-    place_list(
-        sheet,
-        room,
-        at,
-        ElementSize::TwoBytes,
-        count,
-        (count + 3) / 4,
-    )?;
+    let words = (count + 3) / 4;
+    enter(levels, left, 1 + words as u64)?;
+    place_list(sheet, room, at, ElementSize::TwoBytes, count, words)?;
     sheet.append_halves(room, items)
 }
 
@@ -113,21 +123,18 @@ pub(crate) fn lay_quads(
     room: Room,
     at: Place,
     items: &[u32],
+    levels: u32,
+    left: &mut u64,
 ) -> Result<(), WriteFault>
     requires keeps { KeepsTo room (written sheet.old) }
     requires there { IsPlace (written sheet.old) at }
     requires few { length items.now < 2 ^ 29 }
-    ensures { Writes room result (tree_by room at.segment at.word (list (quads items.now)) (written sheet.old)) (written sheet.new) }
+    ensures { Lays room levels left.old result left.new (depth (list (quads items.now))) (cost (list (quads items.now))) (tree_by room at.segment at.word (list (quads items.now)) (written sheet.old)) (written sheet.new) }
 {
     let count = items.len();
-    place_list(
-        sheet,
-        room,
-        at,
-        ElementSize::FourBytes,
-        count,
-        (count + 1) / 2,
-    )?;
+    let words = (count + 1) / 2;
+    enter(levels, left, 1 + words as u64)?;
+    place_list(sheet, room, at, ElementSize::FourBytes, count, words)?;
     sheet.append_quads(room, items)
 }
 
@@ -137,13 +144,16 @@ pub(crate) fn lay_words(
     room: Room,
     at: Place,
     items: &[u64],
+    levels: u32,
+    left: &mut u64,
 ) -> Result<(), WriteFault>
     requires keeps { KeepsTo room (written sheet.old) }
     requires there { IsPlace (written sheet.old) at }
     requires few { length items.now < 2 ^ 29 }
-    ensures { Writes room result (tree_by room at.segment at.word (list (words_list items.now)) (written sheet.old)) (written sheet.new) }
+    ensures { Lays room levels left.old result left.new (depth (list (words_list items.now))) (cost (list (words_list items.now))) (tree_by room at.segment at.word (list (words_list items.now)) (written sheet.old)) (written sheet.new) }
 {
     let count = items.len();
+    enter(levels, left, 1 + count as u64)?;
     place_list(sheet, room, at, ElementSize::EightBytes, count, count)?;
     sheet.append(room, items)
 }

@@ -2,6 +2,7 @@
 //! what holds of every layout. Reading it is cp_reading's, whose public items stand here too.
 #![tactic(auto)]
 
+mod allowed;
 mod draft;
 mod draft_copy;
 mod draft_lay;

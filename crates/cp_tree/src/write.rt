@@ -17,18 +17,21 @@ use cp_reading::{Object, Place};
 use cp_words::{Limits, Segments};
 use std::alloc::Global;
 
-/// What the tree costs, if it keeps to the limits.
-fn cost_of(draft: &Draft, limits: Limits) -> Result<u64, WriteFault>
-    ensures fits { IfOk result (λ n. (depth (draft_of draft.now) ≤ limits.nesting) × (cost (draft_of draft.now) ≤ limits.traversal) × (n ≤ limits.traversal)) }
+/// The first segment begins with room for so many words, if it may have them.
+const FIRST_WORDS: usize = 128;
+
+/// Whether the tree keeps to the limits on nesting and on cost.
+#[cold]
+fn keeps_to(draft: &Draft, limits: Limits) -> Result<(), WriteFault>
+    ensures fits { IfOk result (λ u. (depth (draft_of draft.now) ≤ limits.nesting) × (cost (draft_of draft.now) ≤ limits.traversal)) }
     ensures refused { IfErr result (IsCostFaultOf limits (draft_of draft.now)) }
 {
-    let traversal = limits.traversal() as u64;
-    let mut left = Some(traversal);
+    let mut left = Some(limits.traversal() as u64);
     if !draft_nests(draft, limits.nesting(), &mut left) {
         return Err(WriteFault::TooDeep);
     }
     match left {
-        Some(left) => Ok(traversal - left),
+        Some(_) => Ok(()),
         None => Err(WriteFault::TooCostly),
     }
 }
@@ -48,19 +51,25 @@ fn lay_out(
     ensures small { IfOk result (λ w. (written w).words ≤ 67108864) }
     ensures refused { IfErr result (IsWriteFaultOf limits (room_for words segments limits) (draft_of draft.now)) }
 {
-    let cost = cost_of(draft, limits)?;
     let room = Room {
         words: words as usize,
         segments: segments as usize,
         whole: limits.frame_words() as usize,
     };
-    let mut sheet = Sheet::new(alloc, room, room.words.min(cost as usize + 1))?;
+    let mut sheet = Sheet::new(alloc, room, room.words.min(FIRST_WORDS))?;
     let root = Place {
         segment: 0,
         word: 0,
     };
-    lay_draft(&mut sheet, room, root, draft)?;
-    Ok(sheet)
+    let mut left = limits.traversal() as u64;
+    match lay_draft(&mut sheet, room, root, draft, limits.nesting(), &mut left) {
+        Ok(()) => Ok(sheet),
+        Err(WriteFault::OutOfMemory) => Err(WriteFault::OutOfMemory),
+        Err(fault) => {
+            keeps_to(draft, limits)?;
+            Err(fault)
+        }
+    }
 }
 
 /// Writes a tree with lent parts, of one that a message can hold, into segments of at most so many
