@@ -1,5 +1,5 @@
 -- Groups of the packed form taken at once.
-use Rattle.std.specs.Prelude.{◌≡◌, ℕ, ◌-◌, ◌<◌, ◌≤◌, List, [], ◌++◌, length, replicate}
+use Rattle.std.specs.Prelude.{◌≡◌, ◌⊎◌, ℕ, ◌+◌, ◌-◌, ◌<◌, ◌≤◌, List, [], ◌++◌, length, replicate, slice_index}
 use Rattle.cp_packed.specs.Words.{AreWords}
 use Rattle.cp_packed.specs.Unpacking.{Pending, after, given}
 
@@ -17,6 +17,21 @@ pub record TakesGroups (most : ℕ) (old : List ℕ) (run : ℕ) (left new : Lis
   pub few : next < 256
   pub within : length new ≤ most
   pub ends : length new ≡ most → next ≡ 0
+
+-- The group that these bytes begin with brings more words than there is room for: a run of zero words, or the last word
+-- that there is room for and a raw run behind it.
+abbrev pub IsTooMuch : ℕ → List ℕ → Type 0
+IsTooMuch room back =
+    ((slice_index back 0 ≡ 0) × (room < slice_index back 1 + 1))
+    ⊎ ((slice_index back 0 ≡ 255) × (room ≡ 1) × (0 < slice_index back 9))
+
+-- Nothing more is taken at once: there is no room; or of a raw run the next word isn't there, or it would be the last that
+-- there is room for and the run goes on; or of a group ten bytes aren't there, or it brings too much.
+abbrev pub IsAtEnd : ℕ → ℕ → List ℕ → Type 0
+IsAtEnd room run back =
+    (room ≡ 0)
+    ⊎ ((0 < run) × ((length back < 8) ⊎ ((room ≡ 1) × (1 < run))))
+    ⊎ ((run ≡ 0) × ((length back < 10) ⊎ IsTooMuch room back))
 
 -- A front of the bytes was taken, and the words that it brings were put over the first of so many zeros. No run goes on.
 pub record FillsFront (most : ℕ) (left new : List ℕ) (filled : ℕ) (back : List ℕ) : Type 0 where

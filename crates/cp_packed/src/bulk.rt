@@ -1,7 +1,7 @@
 //! Groups of the packed form taken at once, as far as they are there and their words find room.
 
-ghost use Rattle.std.specs.Prelude.{◌≡◌, ◌<◌, IfOk, length, replicate};
-ghost use Rattle.cp_packed.specs.Groups.{TakesGroups, FillsFront};
+ghost use Rattle.std.specs.Prelude.{◌≡◌, ◌<◌, ◌-◌, IfOk, length, replicate};
+ghost use Rattle.cp_packed.specs.Groups.{TakesGroups, IsAtEnd, FillsFront};
 
 use crate::group::header;
 use crate::scatter::scattered;
@@ -14,7 +14,8 @@ const LONGEST: usize = 10;
 /// How many words are made at once for groups that are taken one after another.
 const BLOCK: usize = 512;
 
-/// Takes words of a raw run: one less than there is room for, where the run goes on behind them.
+/// Takes words of a raw run, one of them at the least where it is there and finds room: one less than there is room for,
+/// where the run goes on behind them.
 fn take_run<'a>(
     words: &mut Vec<u64>,
     run: &mut usize,
@@ -22,8 +23,10 @@ fn take_run<'a>(
     left: &'a [u8],
 ) -> Result<&'a [u8], AllocError>
     requires room { length words.old.items < most }
+    requires some { 0 < run.old }
     requires few { run.old < 256 }
-    ensures { IfOk result (λ back. TakesGroups most words.old.items run.old left.now words.new.items run.new back.now) }
+    ensures takes { IfOk result (λ back. TakesGroups most words.old.items run.old left.now words.new.items run.new back.now) }
+    ensures ends { IfOk result (λ back. length back.now ≡ length left.now → IsAtEnd (most - length words.new.items) run.new back.now) }
 {
     let wanted = *run;
     let room = most - words.len();
@@ -36,7 +39,7 @@ fn take_run<'a>(
     Ok(back)
 }
 
-/// Takes a group, up to the further words of a raw run.
+/// Takes a group, up to the further words of a raw run, if it is there and finds room.
 fn take_header<'a>(
     words: &mut Vec<u64>,
     run: &mut usize,
@@ -45,7 +48,8 @@ fn take_header<'a>(
 ) -> Result<&'a [u8], AllocError>
     requires room { length words.old.items < most }
     requires none { run.old ≡ 0 }
-    ensures { IfOk result (λ back. TakesGroups most words.old.items run.old left.now words.new.items run.new back.now) }
+    ensures takes { IfOk result (λ back. TakesGroups most words.old.items run.old left.now words.new.items run.new back.now) }
+    ensures ends { IfOk result (λ back. length back.now ≡ length left.now → IsAtEnd (most - length words.new.items) run.new back.now) }
 {
     if left.len() < LONGEST {
         return Ok(left);
@@ -145,7 +149,8 @@ fn take_some<'a>(
 ) -> Result<&'a [u8], AllocError>
     requires room { length words.old.items < most }
     requires none { run.old ≡ 0 }
-    ensures { IfOk result (λ back. TakesGroups most words.old.items run.old left.now words.new.items run.new back.now) }
+    ensures takes { IfOk result (λ back. TakesGroups most words.old.items run.old left.now words.new.items run.new back.now) }
+    ensures ends { IfOk result (λ back. length back.now ≡ length left.now → IsAtEnd (most - length words.new.items) run.new back.now) }
 {
     let back = take_block(words, most, left)?;
     if back.len() < left.len() {
@@ -165,7 +170,8 @@ pub fn take_groups<'a>(
 ) -> Result<&'a [u8], AllocError>
     requires room { length words.old.items < most }
     requires few { run.old < 256 }
-    ensures { IfOk result (λ back. TakesGroups most words.old.items run.old left.now words.new.items run.new back.now) }
+    ensures takes { IfOk result (λ back. TakesGroups most words.old.items run.old left.now words.new.items run.new back.now) }
+    ensures ends { IfOk result (λ back. IsAtEnd (most - length words.new.items) run.new back.now) }
 {
     let mut left = left;
     'taking: while words.len() < most {

@@ -11,8 +11,8 @@ use Rattle.cp_packed.proofs.Bulks.{takes_header}
 use Rattle.cp_packed.proofs.bulk.take_header.Goals as goal
 use Rattle.cp_packed.proofs.bulk.take_header.Goals.{then-tag, else-tag, else-room-eq1-via-then-room-eq1+else-count-gt0, else-room-eq1-via-else-room-eq1}
 
-pub returns-then-tag-eq0 : goal.returns-then-tag-eq0
-returns-then-tag-eq0 c =
+pub returns-then-tag-eq0-clause-takes : goal.returns-then-tag-eq0-clause-takes
+returns-then-tag-eq0-clause-takes c =
     let left = c.args.left.now in
     let old = c.args.words.now.items in
     let tag = get_or left 0 0 in
@@ -35,8 +35,8 @@ returns-then-tag-eq0 c =
     takes_header c.args.most old c.resize.new.self.items (replicate count 0) left back c.args.run.now c.args.run.now c.requires.none there new (words_repeat count 0 (omega arith)) (omega (arith, c.requires.none))
     (omega (arith, length-replicate {A = ℕ} count 0, c.if-room-count.false, c.len.ensures)) (λ e. c.requires.none)
 
-pub returns : goal.returns
-returns c =
+pub returns-clause-takes : goal.returns-clause-takes
+returns-clause-takes c =
     let left = c.args.left.now in
     let old = c.args.words.now.items in
     let tag = get_or left 0 0 in

@@ -6,8 +6,8 @@ use Rattle.cp_packed.proofs.Bulks.{takes_run}
 use Rattle.cp_packed.proofs.bulk.take_run.Goals as goal
 use Rattle.cp_packed.proofs.bulk.take_run.Goals.{then-wanted-room, else-wanted-room}
 
-pub returns : goal.returns
-returns c =
+pub returns-clause-takes : goal.returns-clause-takes
+returns-clause-takes c =
     let left = c.args.left.now in
     let old = c.args.words.now.items in
     let run = c.args.run.now in

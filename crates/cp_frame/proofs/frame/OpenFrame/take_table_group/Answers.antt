@@ -18,6 +18,6 @@ returns c =
     let back = c.in_ok-back.back.now in
     let some : 0 < size = omega (arith, c.if-size-eq0.false) in
     let one = subst (λ (T : List ℕ). IsOne c.args.limits T size) c.deref.ensures.value (c.size_of_one-size.ensures some) in
-    let taken = subst (λ (old : List ℕ). TakesGroups 1 old 0 c.args.left.now table.items c.take_groups.new.run back) c.requires.table c.in_ok-back.ensures in
+    let taken = subst (λ (old : List ℕ). TakesGroups 1 old 0 c.args.left.now table.items c.take_groups.new.run back) c.requires.table c.in_ok-back.ensures.takes in
     takes_table c.args.limits (record { table = table; total = size; segments = f.segments; words = c.in_ok-self.field-0; part = f.part; room = c.first_segment.new.spare }) c.args.left.now back table.items size c.take_groups.new.run
     taken one some refl refl c.requires.segments c.in_ok-self.ensures.items c.requires.part
