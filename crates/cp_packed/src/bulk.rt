@@ -4,12 +4,10 @@ ghost use Rattle.std.specs.Prelude.{◌≡◌, ◌<◌, ◌-◌, IfOk, length, r
 ghost use Rattle.cp_packed.specs.Groups.{TakesGroups, IsAtEnd, FillsFront};
 
 use crate::group::header;
+use crate::packing::LONGEST;
 use crate::scatter::scattered;
 use crate::words::{make_room, take_in};
 use std::alloc::AllocError;
-
-/// How many bytes a group has at most, before the further words of a raw run.
-const LONGEST: usize = 10;
 
 /// How many words are made at once for groups that are taken one after another.
 const BLOCK: usize = 512;

@@ -1,6 +1,7 @@
 //! Words of 64 bits made of bytes.
 
-ghost use Rattle.std.specs.Prelude.{◌≡◌, ◌++◌, OnOk, length};
+ghost use Rattle.std.specs.Prelude.{◌≡◌, ◌≤◌, ◌+◌, ◌++◌, min, max, OnOk, length};
+ghost use Rattle.std.specs.Vec.{vec_len, vec_capacity};
 ghost use Rattle.std.specs.Int.{to_le_bytes, w64};
 ghost use Rattle.cp_packed.specs.Words.{words_in};
 
@@ -15,10 +16,12 @@ pub fn word_of(bytes: &[u8]) -> u64
     LittleEndian::read_u64(bytes)
 }
 
-/// Makes room for `taken` words that have come, where `missing` words are missing in all: for all that are missing, but
-/// for no more than have come. The error is want of memory.
+/// Makes room for `taken` words that have come, where `missing` words are missing in all: for as many as have come before, but
+/// for no more than are missing. The error is want of memory.
 pub fn make_room(words: &mut Vec<u64>, taken: usize, missing: usize) -> Result<(), AllocError>
-    ensures { OnOk result (words.new.items ≡ words.old.items) }
+    ensures items { OnOk result (words.new.items ≡ words.old.items) }
+    ensures room { OnOk result (vec_len words.new + min taken missing ≤ vec_capacity words.new) }
+    ensures few { OnOk result (vec_capacity words.new ≤ max (vec_capacity words.old) (vec_len words.old + min missing (max (vec_len words.old) taken))) }
 {
     let room = words.capacity() - words.len();
     if room < taken {

@@ -13,7 +13,7 @@ close-requires-clause-fills c =
     let S = lists c.args.segments.now.items in
     let front = c.split_at.result.0.now in
     let some = words_in_is c.min-taken.result front c.split_at.ensures.front_len (subst (λ (b : List ℕ). (i : ℕ) → get_or b i 0 < 256) (sym c.split_at.ensures.front) (take_small (8 * c.min-taken.result) c.args.left.now (λ i. omega (arith, c.type_inv.left i)))) in
-    let taken = c.in_ok-take_in.ensures ∙ ap (λ (ws : List ℕ). ws ++ words_in front) c.in_ok-make_room.ensures in
+    let taken = c.in_ok-take_in.ensures ∙ ap (λ (ws : List ℕ). ws ++ words_in front) c.in_ok-make_room.ensures.items in
     let room : length c.args.words.now.items + length (words_in front) ≤ get_or sizes (length S) 0 =
     let next : length S ≡ c.len.result = omega (arith, length_lists c.args.segments.now.items, c.len.ensures) in
     let size : c.size.result ≡ get_or sizes (length S) 0 = c.size.ensures.value ∙ ap (λ i. get_or sizes i 0) (sym next) in
@@ -26,7 +26,7 @@ returns-clause-body c =
     let front = c.split_at.result.0.now in
     let back = c.split_at.result.1.now in
     let some = words_in_is c.min-taken.result front c.split_at.ensures.front_len (subst (λ (b : List ℕ). (i : ℕ) → get_or b i 0 < 256) (sym c.split_at.ensures.front) (take_small (8 * c.min-taken.result) c.args.left.now (λ i. omega (arith, c.type_inv.left i)))) in
-    let taken = c.in_ok-take_in.ensures ∙ ap (λ (ws : List ℕ). ws ++ words_in front) c.in_ok-make_room.ensures in
+    let taken = c.in_ok-take_in.ensures ∙ ap (λ (ws : List ℕ). ws ++ words_in front) c.in_ok-make_room.ensures.items in
     let new = c.in_ok-close.ensures.body ∙ ap (λ (ws : List ℕ). body S ws) taken ∙ body_more S c.args.words.now.items (words_in front) ∙ ap (λ (b : List ℕ). body S c.args.words.now.items ++ b) some.2 in
     let whole : front ++ back ≡ c.args.left.now = rw (c.split_at.ensures.front, c.split_at.ensures.back) (take-append-drop (8 * c.min-taken.result) c.args.left.now) in
     ap (λ (b : List ℕ). b ++ back) new ∙ append_assoc (body S c.args.words.now.items) front back ∙ ap (λ (b : List ℕ). body S c.args.words.now.items ++ b) whole

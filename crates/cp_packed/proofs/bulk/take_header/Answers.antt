@@ -22,7 +22,7 @@ returns-then-tag-eq0-clause-takes c =
     let count = get_or bytes 0 0 + 1 in
     let some : 0 < length left = omega (arith, c.if-left-lt-LONGEST.false) in
     let split : behind ≡ bytes ++ back = rw (c.split_at-2.ensures.front, c.split_at-2.ensures.back) (sym (take-append-drop (c.header.result - 1) behind)) in
-    let stay = c.in_ok-make_room.ensures in
+    let stay = c.in_ok-make_room.ensures.items in
     let n = c.len-then-tag-eq0.result + count in
     let same : vec_len c.make_room.new.words ≡ length c.make_room.new.words.items = omega arith in
     let resized = c.in_ok-resize.ensures.items ∙ ap (λ (m : ℕ). take n c.make_room.new.words.items ++ replicate (n - m) 0) same ∙ ap (λ (ws : List ℕ). take n ws ++ replicate (n - length ws) 0) stay in
@@ -46,7 +46,7 @@ returns-clause-takes c =
     let word = c.from_le_bytes.result in
     let some : 0 < length left = omega (arith, c.if-left-lt-LONGEST.false) in
     let split : behind ≡ bytes ++ back = rw (c.split_at-2.ensures.front, c.split_at-2.ensures.back) (sym (take-append-drop (c.header.result - 1) behind)) in
-    let pushed : c.push.new.self.items ≡ old ++ word ∷ [] = c.in_ok-push.ensures.items ∙ ap (λ (ws : List ℕ). ws ++ word ∷ []) c.in_ok-make_room-2.ensures in
+    let pushed : c.push.new.self.items ≡ old ++ word ∷ [] = c.in_ok-push.ensures.items ∙ ap (λ (ws : List ℕ). ws ++ word ∷ []) c.in_ok-make_room-2.ensures.items in
     let sparse : 0 < tag = omega (arith, c.if-tag-eq0.false) in
     let run : c.if-tag.count ≡ run_of tag bytes = elim c.if-tag.branch [
       | then-tag w ↦ w.count-is ∙ run_raw bytes tag (omega (arith, w.if-tag.true))

@@ -28,4 +28,4 @@ returns-clause-takes c =
       | then-wanted-room w ↦ omega (arith, e, w.if-wanted-room.true, w.fitting-is, c.min-count.ensures, c.len.ensures, c.requires.room)
       | else-wanted-room w ↦ omega (arith, e, w.if-wanted-room.false, w.fitting-is, c.min-count.ensures, c.len.ensures, c.requires.room)
     ] in
-    takes_run c.args.most old c.take_in.new.words.items left front back run count (run - count) c.split_at.ensures.front_len small whole (c.in_ok-take_in.ensures ∙ ap (λ (ws : List ℕ). ws ++ words_in front) c.in_ok-make_room.ensures) (omega (arith, fits)) c.requires.few room last
+    takes_run c.args.most old c.take_in.new.words.items left front back run count (run - count) c.split_at.ensures.front_len small whole (c.in_ok-take_in.ensures ∙ ap (λ (ws : List ℕ). ws ++ words_in front) c.in_ok-make_room.ensures.items) (omega (arith, fits)) c.requires.few room last
