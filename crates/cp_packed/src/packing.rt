@@ -135,6 +135,7 @@ pub fn push_groups<'a>(
 ) -> Result<&'a [u64], AllocError>
     ensures front { IfOk result (λ back. PutsFront out.old.items out.new.items words.now back.now) }
     ensures few { IfOk result (λ back. length back.now ≤ most) }
+    ensures none { IfOk result (λ back. length words.now ≤ most → back.now ≡ words.now) }
 {
     let mut left = words;
     'packing: while most < left.len() {

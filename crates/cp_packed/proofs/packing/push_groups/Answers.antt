@@ -1,9 +1,14 @@
+use Rattle.std.proofs.Common.{refl, arith}
 use Rattle.cp_packed.proofs.Sparing.{front_none, front_more}
 use Rattle.cp_packed.proofs.packing.push_groups.Goals as goal
 
 pub packing-init : goal.packing-init
-packing-init c = front_none c.args.out.now.items c.args.words.now
+packing-init c = (front_none c.args.out.now.items c.args.words.now, omega arith, λ e. refl)
 
 pub packing-preserved : goal.packing-preserved
 packing-preserved c =
-    front_more c.args.out.now.items c.packing.out.items c.push_group.new.out.items c.args.words.now c.packing.left.now c.in_ok-left.left.now c.packing.invariant c.in_ok-left.ensures.group
+    let l = c.packing in (
+      front_more c.args.out.now.items l.out.items c.push_group.new.out.items c.args.words.now l.left.now c.in_ok-left.left.now l.invariant.0 c.in_ok-left.ensures.group,
+      omega (arith, l.invariant.1, c.in_ok-left.ensures.shorter),
+      λ e. absurd (omega (arith, e, l.invariant.1, c.packing-test.true)),
+    )
