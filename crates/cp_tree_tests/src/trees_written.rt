@@ -368,6 +368,23 @@ fn want_of_memory_while_one_segment_is_written(rt: HostRuntime) {
     drop(object);
 }
 
+/// A struct of more words than a segment begins with room for. A growth that is refused once is asked for again.
+fn object_of_many_words(rt: &impl Abort, alloc: Global) -> Object {
+    let words = match Vec::from_slice(alloc, &[7; 300]) {
+        Ok(words) => words,
+        Err(_) => Vec::from_slice(alloc, &[7; 300]).expect(rt, "memory"),
+    };
+    let ptrs = Vec::new(alloc);
+    object(rt, Tree::Struct(Body { words, ptrs }))
+}
+
+#[test]
+fn want_of_memory_while_a_segment_grows(rt: HostRuntime) {
+    let object = object_of_many_words(&rt, rt.alloc());
+    assert!(rt; writes_words_again(rt.alloc(), &object));
+    drop(object);
+}
+
 /// Whether the draft is copied twice as the same, or once that memory ran out.
 fn copies_again(alloc: Global, draft: &Draft) -> bool
     requires { Shaped (draft_of draft.now) }
