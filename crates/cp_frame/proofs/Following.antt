@@ -12,8 +12,8 @@ use Rattle.cp_frame.specs.declared.frame.OpenFrame.{OpenFrame}
 use Rattle.cp_frame.specs.declared.rest.Rest.{Rest}
 use Rattle.cp_frame.specs.Framed.{AreBytes, AreWords, bytes_of}
 use Rattle.cp_frame.specs.Frame.{Frame}
-use Rattle.cp_frame.specs.Parts.{IsOpen, IsComplete, IsEmpty, lists, rest_of}
-use Rattle.cp_frame.specs.Stream.{Frames, HasFault}
+use Rattle.cp_frame.specs.Parts.{IsOpen, IsComplete, IsEmpty, IsFaultOf, lists, rest_of}
+use Rattle.cp_frame.specs.Stream.{Frames, HasFault, NamesFault, numbers}
 use Rattle.cp_frame.specs.Rest.{bytes_for, IsRest, IsSound, InPacked, KeptFor, Reads, Refuses}
 use Rattle.cp_frame.specs.Bulk.{TakesBytes, TakesFront, GivesWhole}
 use Rattle.cp_frame.specs.Single.{IsStillOpen, TakesWhole}
@@ -24,7 +24,8 @@ use Rattle.cp_frame.proofs.Ends.{complete_frame, empty_open, empty_rest, frames_
 use Rattle.cp_packed.proofs.Opens.{after-append, given-append}
 use Rattle.cp_frame.proofs.Certain.{are_back}
 use Rattle.cp_frame.proofs.Rests.{fault_stays_packed}
-use Rattle.cp_frame.proofs.Taken.{blank_packed, ends_fault, keeps_blank}
+use Rattle.cp_frame.proofs.Taken.{blank_packed, ends_fault, keeps_blank, memory_or}
+use Rattle.cp_frame.proofs.Streams.{fault_plain as names_plain}
 use Rattle.cp_frame.proofs.Fronts.{packed_front, keeps_front, ends_front, frames_more, are_front, first_left}
 
 -- bytes that are taken one after another are taken together
@@ -139,6 +140,14 @@ ends_whole limits f h piece back taken S none t empty =
       frame = subst (λ (b : List ℕ). Frame modes.Plain limits S b) same t.frame;
       empty = empty;
     }
+
+-- a fault that was told of the numbers of a plain frame is the stream's, or want of memory
+pub told_plain : (limits : Bounds) (b : List ℕ) (fault : FrameFault) → IsFaultOf limits (numbers b) fault → (fault ≡ faults.OutOfMemory) ⊎ HasFault modes.Plain limits b fault
+told_plain limits b fault h = by (memory_or limits (numbers b) fault h)
+  where
+    by : (fault ≡ faults.OutOfMemory) ⊎ NamesFault limits (numbers b) fault → (fault ≡ faults.OutOfMemory) ⊎ HasFault modes.Plain limits b fault
+    by (inl e) = inl e
+    by (inr k) = inr (names_plain limits b fault k)
 
 -- a plain frame, where what has come is kept as it came
 kept_plain : (limits : Bounds) (r : Rest) (b : List ℕ) → IsOpen limits r.frame → rest_of r.frame ≡ b → KeptFor modes.Plain limits r b

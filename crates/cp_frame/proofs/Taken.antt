@@ -121,7 +121,7 @@ next_bytes limits r x h =
     ap (λ (ws : List ℕ). bytes_of ws) (next_brings limits r x h).words ∙ flat_map-append (to_le_bytes w64) (words_in_order r.frame) more
     ∙ ap (λ (b : List ℕ). b ++ bytes_of more) (bytes_words r.frame h.no_part)
 
-memory_or : (limits : Bounds) (ns : List ℕ) (fault : FrameFault) → IsFaultOf limits ns fault → (fault ≡ faults.OutOfMemory) ⊎ NamesFault limits ns fault
+pub memory_or : (limits : Bounds) (ns : List ℕ) (fault : FrameFault) → IsFaultOf limits ns fault → (fault ≡ faults.OutOfMemory) ⊎ NamesFault limits ns fault
 memory_or limits ns faults.TooManySegments h = inr h
 memory_or limits ns faults.FrameTooLarge h = inr h
 memory_or limits ns faults.Truncated h = inr h

@@ -371,8 +371,7 @@ impl OpenFrame {
         }
         let (word, back) = take_word(&mut self.part, left)?;
         if let Some(word) = word {
-            self.words.push(word)?;
-            close(alloc, &self.table, &mut self.segments, &mut self.words)?;
+            self.push_words(alloc, limits, word)?;
         }
         Ok(back)
     }
