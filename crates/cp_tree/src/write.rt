@@ -17,7 +17,7 @@ use cp_reading::{Object, Place};
 use cp_words::{Limits, Segments};
 use std::alloc::Global;
 
-/// The first segment begins with room for so many words, if it may have them.
+/// A segment begins with room for so many words, if it may have them.
 const FIRST_WORDS: usize = 128;
 
 /// Whether the tree keeps to the limits on nesting and on cost.
