@@ -11,7 +11,7 @@ use Rattle.cp_tree.specs.declared.sheet.Room.{Room}
 use Rattle.cp_reading.specs.Node.{Node, struct, ptrs, structs, Nodes, no_nodes, node, Bodies, no_bodies, body, count, number_of}
 use Rattle.cp_reading.specs.NodeOf.{bodies_of, nodes_of}
 use Rattle.cp_reading.specs.Shaped.{Shaped, EachEven}
-use Rattle.cp_tree.specs.Sheets.{Written, Placed, put, append, IsPlace, IsRun, KeepsTo, Writes, Refuses}
+use Rattle.cp_tree.specs.Sheets.{Written, Placed, put, append, IsPlace, IsRun, KeepsTo, Refuses}
 use Rattle.cp_tree.specs.Writing.{body_blank, bodies_blank, tag_word, struct_placed, ptrs_placed, structs_placed, struct_begun, ptrs_begun, structs_begun, Begins, BeginsBodies, tree_by, row_by, bodies_by}
 use Rattle.cp_reading.proofs.Decided.{count-nodes, number-bodies}
 use Rattle.cp_tree.proofs.Sheets.{put-keeps, full-put, end-put}
@@ -166,11 +166,7 @@ module _ (room : Room) (at : Place) (d n : ℕ) (bs : Bodies) (F : Written) (k :
       let l = structs_lie in
       (keeps, rw (sheet, place) (l.there, omega (arith, l.inside, long)), sym (bodies_at room d n bs first new x place sheet))
 
--- a tree whose body was begun is written once what hangs on it is, or there is no room for it
-pub hung : {X : Type 0} (room : Room) (at first : Place) (n : ℕ) (make : Nodes → Node) (t : Node) (ts : Nodes) (old new W : Written) (r : Result X WriteFault) → t ≡ make ts → count ts ≡ n → Begins room at n make (Ok first) old new
-    → Writes room r (row_by room first.segment first.word ts new) W → Writes room r (tree_by room at.segment at.word t old) W
-hung room at first n make t ts old new W r is many begun row = subst (λ u. Writes room r u W) (sym (begun.2 ts many) ∙ ap (λ u. tree_by room at.segment at.word u old) (sym is)) row
-
+-- where there is no room for a body, there is none for its tree
 pub not_begun : (room : Room) (at : Place) (n : ℕ) (make : Nodes → Node) (t : Node) (ts : Nodes) (old new : Written) (e : WriteFault) → t ≡ make ts → count ts ≡ n → Shaped t → Begins room at n make (Err e) old new
     → Refuses room e (tree_by room at.segment at.word t old)
 not_begun room at n make t ts old new e is many shaped begun = subst (λ u. Refuses room e (tree_by room at.segment at.word u old)) (sym is) (begun ts many (subst Shaped is shaped))
