@@ -158,12 +158,12 @@ fn list_of(alloc: Global, words: &[u64], size: ElementSize, count: u32) -> Resul
 {
     match size {
         ElementSize::Void => Ok(Tree::Voids(count)),
-        ElementSize::Bit => Ok(Tree::Bits(bits_of(alloc, words, count)?)),
-        ElementSize::Byte => Ok(Tree::Bytes(bytes_of(alloc, words, count)?)),
-        ElementSize::TwoBytes => Ok(Tree::Halves(halves_of(alloc, words, count)?)),
-        ElementSize::FourBytes => Ok(Tree::Quads(quads_of(alloc, words, count)?)),
+        ElementSize::Bit => bits_of(alloc, words, count).map(Tree::Bits),
+        ElementSize::Byte => bytes_of(alloc, words, count).map(Tree::Bytes),
+        ElementSize::TwoBytes => halves_of(alloc, words, count).map(Tree::Halves),
+        ElementSize::FourBytes => quads_of(alloc, words, count).map(Tree::Quads),
         ElementSize::EightBytes | ElementSize::Pointer | ElementSize::Composite => {
-            Ok(Tree::Words(words_of(alloc, words, count)?))
+            words_of(alloc, words, count).map(Tree::Words)
         }
     }
 }
