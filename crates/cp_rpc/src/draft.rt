@@ -9,11 +9,34 @@ ghost use Rattle.cp_tree.specs.Shaped.{Shaped};
 use cp_tree::{Draft, DraftBody, Tree, Whole};
 use std::alloc::{AllocError, Global};
 
-/// A struct of these data words and pointers.
-fn joined<'a>(words: Vec<u64>, ptrs: Vec<Draft<'a>>) -> Draft<'a>
-    ensures { draft_of result ≡ struct words.items (nodes_of (map draft_of ptrs.entry.items)) }
+/// A struct's data words, and its pointers.
+fn with_words<'a>(
+    alloc: Global,
+    words: &[u64],
+    ptrs: Vec<Draft<'a>>,
+) -> Result<DraftBody<'a>, AllocError>
+    ensures { IfOk result (λ b. draft_body_of b ≡ (words.now, nodes_of (map draft_of ptrs.entry.items))) }
 {
-    Draft::Struct(DraftBody { words, ptrs })
+    let words = Vec::from_slice(alloc, words)?;
+    Ok(DraftBody { words, ptrs })
+}
+
+/// A struct of these data words and pointers.
+fn struct_with<'a>(
+    alloc: Global,
+    words: &[u64],
+    ptrs: Vec<Draft<'a>>,
+) -> Result<Draft<'a>, AllocError>
+    ensures { IfOk result (λ d. draft_of d ≡ struct words.now (nodes_of (map draft_of ptrs.entry.items))) }
+{
+    Ok(Draft::Struct(with_words(alloc, words, ptrs)?))
+}
+
+/// A struct's data words, where it has no pointers.
+pub(crate) fn words_of<'a>(alloc: Global, words: &[u64]) -> Result<DraftBody<'a>, AllocError>
+    ensures { IfOk result (λ b. draft_body_of b ≡ (words.now, nodes_of [])) }
+{
+    with_words(alloc, words, Vec::new(alloc))
 }
 
 /// A struct's data words and its one pointer.
@@ -24,9 +47,7 @@ pub(crate) fn body_of<'a>(
 ) -> Result<DraftBody<'a>, AllocError>
     ensures { IfOk result (λ b. draft_body_of b ≡ (words.now, nodes_of (draft_of ptr.entry ∷ []))) }
 {
-    let ptrs = vec![in alloc; ptr]?;
-    let words = Vec::from_slice(alloc, words)?;
-    Ok(DraftBody { words, ptrs })
+    with_words(alloc, words, vec![in alloc; ptr]?)
 }
 
 /// A struct of these data words and one pointer.
@@ -37,7 +58,7 @@ pub(crate) fn struct_of<'a>(
 ) -> Result<Draft<'a>, AllocError>
     ensures { IfOk result (λ d. draft_of d ≡ struct words.now (nodes_of (draft_of ptr.entry ∷ []))) }
 {
-    Ok(Draft::Struct(body_of(alloc, words, ptr)?))
+    struct_with(alloc, words, vec![in alloc; ptr]?)
 }
 
 /// A struct of these data words and two pointers.
@@ -49,8 +70,7 @@ pub(crate) fn pair_of<'a>(
 ) -> Result<Draft<'a>, AllocError>
     ensures { IfOk result (λ d. draft_of d ≡ struct words.now (nodes_of (draft_of first.entry ∷ draft_of second.entry ∷ []))) }
 {
-    let ptrs = vec![in alloc; first, second]?;
-    Ok(joined(Vec::from_slice(alloc, words)?, ptrs))
+    struct_with(alloc, words, vec![in alloc; first, second]?)
 }
 
 /// A struct of these data words and three pointers.
@@ -63,17 +83,7 @@ pub(crate) fn triple_of<'a>(
 ) -> Result<Draft<'a>, AllocError>
     ensures { IfOk result (λ d. draft_of d ≡ struct words.now (nodes_of (draft_of first.entry ∷ draft_of second.entry ∷ draft_of third.entry ∷ []))) }
 {
-    let ptrs = vec![in alloc; first, second, third]?;
-    Ok(joined(Vec::from_slice(alloc, words)?, ptrs))
-}
-
-/// A struct's data words, where it has no pointers.
-pub(crate) fn words_of<'a>(alloc: Global, words: &[u64]) -> Result<DraftBody<'a>, AllocError>
-    ensures { IfOk result (λ b. draft_body_of b ≡ (words.now, nodes_of [])) }
-{
-    let words = Vec::from_slice(alloc, words)?;
-    let ptrs = Vec::new(alloc);
-    Ok(DraftBody { words, ptrs })
+    struct_with(alloc, words, vec![in alloc; first, second, third]?)
 }
 
 /// A composite list of these elements, each of so many data words and pointers.

@@ -1,6 +1,6 @@
 //! Texts.
 
-ghost use Rattle.std.specs.Prelude.{◌≡◌, ◌==◌, true, length, IfOk, string_bytes};
+ghost use Rattle.std.specs.Prelude.{◌≡◌, ◌==◌, ◌<◌, ◌^◌, ◌++◌, ◌∷◌, [], true, length, IfOk, string_bytes};
 ghost use Rattle.cp_tree.specs.DraftOf.{draft_of};
 ghost use Rattle.cp_rpc.specs.Fields.{IsTextField, text_of};
 ghost use Rattle.cp_rpc.specs.Fitting.{text_fits};
@@ -73,11 +73,19 @@ impl Text {
         if bytes.is_empty() {
             return Ok(Draft::Own(Tree::Null));
         }
-        let mut ended = Vec::with_capacity(alloc, bytes.len() + 1)?;
-        ended.extend_from_slice(bytes)?;
-        ended.push(0)?;
-        Ok(Draft::Own(Tree::Bytes(ended)))
+        Ok(Draft::Own(Tree::Bytes(with_end(alloc, bytes)?)))
     }
+}
+
+/// The bytes, and the zero byte that ends a text.
+fn with_end(alloc: Global, bytes: &[u8]) -> Result<Vec<u8>, AllocError>
+    requires { length bytes.now < 2 ^ 29 }
+    ensures { IfOk result (λ v. v.items ≡ bytes.now ++ 0 ∷ []) }
+{
+    let mut ended = Vec::with_capacity(alloc, bytes.len() + 1)?;
+    ended.extend_from_slice(bytes)?;
+    ended.push(0)?;
+    Ok(ended)
 }
 
 /// A text that is read in place. Contracts see it as its bytes, without the zero byte that ends it.
