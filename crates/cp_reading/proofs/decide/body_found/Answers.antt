@@ -1,6 +1,5 @@
 use Rattle.std.proofs.Common.{◌≡◌, Option, None, Some, Result, Ok, Err, sym, ap, ◌∙◌}
 use Rattle.cp_reading.specs.NodeOf.{words_of}
-use Rattle.cp_words.specs.declared.pointer.Pointer.{Pointer}
 use Rattle.cp_reading.specs.declared.area.Area.{Area}
 use Rattle.cp_reading.specs.declared.fault.TreeFault.{TreeFault}
 use Rattle.cp_reading.proofs.Complete.{led}
@@ -8,7 +7,7 @@ use Rattle.cp_reading.proofs.Sound.{aim_sound, area_sound, ok_is}
 use Rattle.cp_reading.proofs.Views.{some_is}
 use Rattle.cp_reading.proofs.decide.body_found.Goals as goal
 
-no_body : {X : Type 0} {e : TreeFault} {x : X} {b : Area} → ◌≡◌ {A = Result X TreeFault} (Err e) (Ok x) → ◌≡◌ {A = Option Area} None (Some b)
+no_body : {e : TreeFault} {a b : Area} → ◌≡◌ {A = Result Area TreeFault} (Err e) (Ok a) → ◌≡◌ {A = Option Area} None (Some b)
 no_body e = cc
 
 pub returns-clause-located : goal.returns-clause-located
@@ -34,19 +33,4 @@ returns-in_default-area_of-clause-only c f s' start w l =
     let k = led S at.segment at.word f s' start w l in
     let pointer : c.in_ok-pointer.pointer ≡ k.pointer = some_is (c.in_ok-pointer.ensures.says ∙ k.says) in
     let aim : c.in-Ok.aim ≡ k.aim = ok_is (c.in-Ok.ensures.aim ∙ rw pointer k.aims) in
-    let body : Area = record { form = f; segment = s'; start = start } in
-    no_body {x = body} {b = body} (c.in_default-area_of.ensures.area ∙ rw aim k.area)
-
-pub returns-in_default-clause-only : goal.returns-in_default-clause-only
-returns-in_default-clause-only c f s' start w l =
-    let S = words_of c.args.lists.now in
-    let at = c.args.at in
-    let k = led S at.segment at.word f s' start w l in
-    let pointer : c.in_ok-pointer.pointer ≡ k.pointer = some_is (c.in_ok-pointer.ensures.says ∙ k.says) in
-    no_body {x = k.aim} {b = record { form = f; segment = s'; start = start }} (c.in_default.ensures.aim ∙ rw pointer k.aims)
-
-pub returns-in_err-pointer-clause-only : goal.returns-in_err-pointer-clause-only
-returns-in_err-pointer-clause-only c f s' start w l =
-    let k = led (words_of c.args.lists.now) c.args.at.segment c.args.at.word f s' start w l in
-    let none : ◌≡◌ {A = Option Pointer} None (Some k.pointer) = c.in_err-pointer.ensures.says ∙ k.says in
-    cc
+    no_body {a = record { form = f; segment = s'; start = start }} (c.in_default-area_of.ensures.area ∙ rw aim k.area)
