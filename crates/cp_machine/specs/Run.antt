@@ -1,0 +1,40 @@
+-- Runs of a vat.
+use Rattle.std.specs.Prelude.{◌≡◌, ℕ, List, [], ◌∷◌, Option, Result, Err}
+use Rattle.std.specs.List.{AllByRecursion}
+use Rattle.cp_machine.specs.State.{State, new_state}
+use Rattle.cp_machine.specs.Step.{Step}
+use Rattle.cp_machine.specs.declared.effect.Effect.{Effect}
+use Rattle.cp_machine.specs.declared.effect.Effect.TheVariants as effects
+use Rattle.cp_machine.specs.declared.effect.Reason.TheVariants as reasons
+use Rattle.cp_machine.specs.declared.event.Event.{Event}
+use Rattle.cp_machine.specs.declared.event.Value.{Value}
+use Rattle.cp_machine.specs.declared.fault.VatFault.{VatFault}
+use Rattle.cp_machine.specs.declared.fault.VatFault.TheVariants as refusals
+
+-- an event, what it was answered with, and its effects in order
+pub record Moment : Type 0 where
+  pub event : Event
+  pub result : Result Value VatFault
+  pub effects : List Effect
+
+-- steps one after another
+abbrev pub Steps : State → List Moment → State → Type 0
+Steps old [] new = new ≡ old
+Steps old (moment ∷ more) new = (mid : State) × Step old moment.event moment.result moment.effects mid × Steps mid more new
+
+-- A run of a new vat: the events, each with its answer and its effects.
+abbrev pub Run : Option ℕ → List Moment → Type 0
+Run bootstrap history = (last : State) × Steps (new_state bootstrap) history last
+
+-- an effect that isn't a fault of the peer, and an answer that isn't want of memory
+abbrev pub IsNoFault : Effect → Type 0
+IsNoFault (effects.Closed (reasons.Fault fault)) = ⊥
+IsNoFault other = Unit {0}
+
+abbrev pub IsNoWant : Result Value VatFault → Type 0
+IsNoWant (Err refusals.OutOfMemory) = ⊥
+IsNoWant other = Unit {0}
+
+-- A run is accepted if the peer was at no fault and memory didn't run out.
+abbrev pub IsAccepted : List Moment → Type 0
+IsAccepted history = AllByRecursion (λ moment. IsNoWant moment.result × AllByRecursion IsNoFault moment.effects) history

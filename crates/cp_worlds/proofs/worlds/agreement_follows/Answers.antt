@@ -1,0 +1,5 @@
+use Rattle.cp_worlds.proofs.Telling.{keeps_by}
+use Rattle.cp_worlds.proofs.worlds.agreement_follows.Goals as goal
+
+pub returns : goal.returns
+returns c = keeps_by

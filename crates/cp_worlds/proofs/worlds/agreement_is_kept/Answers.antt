@@ -1,0 +1,5 @@
+use Rattle.cp_worlds.proofs.Agreeing.{keeps}
+use Rattle.cp_worlds.proofs.worlds.agreement_is_kept.Goals as goal
+
+pub returns : goal.returns
+returns c = keeps

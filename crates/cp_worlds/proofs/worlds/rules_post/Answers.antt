@@ -1,0 +1,5 @@
+use Rattle.cp_worlds.proofs.Outgoing.{rules_post}
+use Rattle.cp_worlds.proofs.worlds.rules_post.Goals as goal
+
+pub returns : goal.returns
+returns c = rules_post

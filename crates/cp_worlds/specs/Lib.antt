@@ -1,0 +1,11 @@
+pub mod Ledger
+pub mod World
+pub mod Accounts
+pub mod Owed
+pub mod Lane
+pub mod Laws
+pub mod Lives
+pub mod Naming
+pub mod Phases
+pub mod Posting
+pub mod Turns

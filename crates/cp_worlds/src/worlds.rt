@@ -1,0 +1,58 @@
+//! Laws of two vats and the messages between them.
+
+ghost use Rattle.std.specs.Prelude.{Option, ℕ, []};
+ghost use Rattle.std.specs.FinMap.{empty};
+ghost use Rattle.cp_machine.specs.State.{new_state};
+ghost use Rattle.cp_machine.specs.Local.{Local};
+ghost use Rattle.cp_machine.specs.Waits.{WaitRightly};
+ghost use Rattle.cp_worlds.specs.World.{new_end, new_world};
+ghost use Rattle.cp_worlds.specs.Lane.{Reference};
+ghost use Rattle.cp_worlds.specs.Lives.{AreAgreed, Keeps};
+ghost use Rattle.cp_worlds.specs.Posting.{KeepsBy, RulesPost};
+ghost use Rattle.cp_worlds.specs.Turns.{LeaveKeeps, SettlingKeeps, TiedAreOpen, TurnKeeps};
+ghost use Rattle.cp_worlds.specs.Naming.{NamesHold, ValuesHold};
+ghost use Rattle.cp_worlds.specs.Phases.{LaneHolds, IsQuiet};
+
+/// Two new vats agree on what each export is owed, and their questions fit their answers.
+pub fn new_worlds_agree()
+    ensures { (one other : Option ℕ) → AreAgreed (new_world one other) }
+{}
+
+/// They go on agreeing with each message that one of them sends or takes in.
+pub fn agreement_is_kept()
+    ensures { Keeps }
+{}
+
+/// So they do behind all that one of them sends at once.
+pub fn agreement_follows()
+    ensures { KeepsBy }
+{}
+
+/// What these rules of a vat send, and what comes to them, is as its accounts see it.
+pub fn rules_post()
+    ensures { RulesPost }
+{}
+
+/// What holds of each vat and of the way between two holds of new ones.
+pub fn new_vats_hold()
+    ensures local { (one : Option ℕ) → Local (new_state one) }
+    ensures waiting { (one : Option ℕ) → WaitRightly (new_state one) empty }
+    ensures names { (one other : Option ℕ) → NamesHold (new_end one) (new_end other) }
+    ensures values { (one other : Option ℕ) → ValuesHold (new_end one) (new_end other) }
+    ensures lanes { (one other : Option ℕ) (ref : Reference) → LaneHolds (new_end one) (new_end other) ref [] [] }
+    ensures quiet { (one : Option ℕ) → IsQuiet (new_end one) }
+{}
+
+/// A promise that is settled, and each turn of waiting calls, leave the others waiting for what their
+/// ports lead to, also where the call fails and its exception goes on to the promises tied to its answer.
+pub fn turns_keep()
+    ensures settling { SettlingKeeps }
+    ensures tied { TiedAreOpen }
+    ensures turns { TurnKeeps }
+{}
+
+/// So do waiting calls that leave: where they rest no gate is over, and each call that is left waits for
+/// what its port leads to.
+pub fn leave_keeps()
+    ensures { LeaveKeeps }
+{}
