@@ -1,5 +1,5 @@
 // Our library beside the reference library in one process: inprocess FOLDER [MEGABYTES]. The inputs are generate's.
-#include "cp_bench.h"
+#include "bench_c.h"
 #include "owned.hpp"
 #include "whole.hpp"
 #include <algorithm>

@@ -1,10 +1,10 @@
-// Reading, writing and unpacking of bytes that nobody vouches for, over the static library cp_bench.
+// Reading, writing and unpacking of bytes that nobody vouches for, over the static library bench_c.
 //
 // An input is one byte and the rest. The byte says of what form the rest is (plain frames, packed ones, or words), within
 // which limits it is looked at, and in segments of how many words it is written again. Besides cutting and joining, as
 // libFuzzer does, inputs are changed by words: a pointer's offset, size or kind, a table's number, a bit. Packed inputs
 // are unpacked for that and packed again, so that the change arrives at the reader.
-#include "../cp_bench.h"
+#include "../bench_c.h"
 #include <chrono>
 #include <cstddef>
 #include <cstdint>

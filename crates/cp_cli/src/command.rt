@@ -3,7 +3,7 @@
 use clap::{Arg, ArgAction, ArgMatches, Command, value_parser};
 use cp_commands::Plan;
 use cp_frame::Mode;
-use cp_tree::Limits;
+use cp_words::Limits;
 use std::alloc::{AllocError, Global};
 
 /// The greatest limit on nesting.

@@ -1,9 +1,11 @@
 //! What stops a command.
 
 use cp_frame::FrameFault;
+use cp_reading::TreeFault;
 use cp_rpc::{Field, SchemaFault};
 use cp_stream::{Refusal, StreamFault};
-use cp_tree::{Place, TreeFault, WriteFault};
+use cp_tree::WriteFault;
+use cp_words::Place;
 use std::alloc::{AllocError, AllocFailed};
 use std::io;
 use thiserror::Error;

@@ -3,9 +3,10 @@
 use crate::fault::Stop;
 use cp_frame::{FrameReader, Mode, send_frame};
 use cp_lines::push_line;
+use cp_reading::read_root;
 use cp_stream::{check_of, view_of};
-use cp_tree::{Limits, read_root, write_segments};
-use cp_words::Segments;
+use cp_words::{Limits, Segments};
+use cp_writing::write_segments;
 use std::alloc::Global;
 use std::io::{ErrorKind, Read, Write};
 

@@ -7,12 +7,12 @@ use Rattle.cp_words.specs.Limits.{Bounds}
 use Rattle.cp_frame.specs.declared.fault.FrameFault.{FrameFault}
 use Rattle.cp_frame.specs.declared.fault.FrameFault.TheVariants as faults
 use Rattle.cp_frame.specs.declared.mode.Mode.TheVariants as modes
-use Rattle.cp_frame.specs.Framed.{AreBytes, AreWords}
-use Rattle.cp_frame.specs.Packed.{Packed}
+use Rattle.cp_packed.specs.Words.{AreBytes, AreWords}
+use Rattle.cp_packed.specs.Packed.{Packed}
 use Rattle.cp_frame.specs.Stream.{Laid, HasFault, NoFront, Open}
 use Rattle.cp_frame.specs.Reader.{GoesOnAs}
 use Rattle.cp_frame.specs.Rest.{heads}
-use Rattle.cp_frame.specs.Unpacking.{Pending, nothing, after, given, IsPending, laid_by}
+use Rattle.cp_packed.specs.Unpacking.{Pending, nothing, after, given, IsPending, laid_by}
 use Rattle.cp_packed.proofs.Opens.{Brings, brings_both, after-append, given-append, feeds_part, feeds_run}
 use Rattle.cp_packed.proofs.Unpacks.{packed_brings, brings_tag, brings_header}
 use Rattle.cp_packed.proofs.Laying.{brings_these}

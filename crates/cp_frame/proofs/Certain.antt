@@ -7,10 +7,10 @@ use Rattle.std.proofs.lemmas.Bool.{cases_eq, cases_lt}
 use Rattle.std.proofs.lemmas.Grind.{flat_map-append}
 use lib.Count.{ones}
 use Rattle.cp_frame.specs.declared.mode.Mode.TheVariants as modes
-use Rattle.cp_frame.specs.Framed.{AreBytes, bytes_of}
-use Rattle.cp_frame.specs.Packed.{Group, sparse, zeros, raw, IsGroup, spelling, Packed}
+use Rattle.cp_packed.specs.Words.{AreBytes, bytes_of}
+use Rattle.cp_packed.specs.Packed.{Group, sparse, zeros, raw, IsGroup, spelling, Packed}
 use Rattle.cp_frame.specs.Stream.{Lays, Laid}
-use Rattle.cp_frame.specs.Unpacking.{Pending, nothing, header_of, run_of, first_words, next, brought, after, given, IsPending, laid, laid_in, laid_by, all_laid}
+use Rattle.cp_packed.specs.Unpacking.{Pending, nothing, header_of, run_of, first_words, next, brought, after, given, IsPending, laid, laid_in, laid_by, all_laid}
 use Rattle.cp_packed.proofs.Opens.{test_false, brings_first, step_more, step_last, raw_more, raw_last, after-append, given-append}
 use Rattle.cp_packed.proofs.Unpacks.{packed_brings, pending_step}
 use Rattle.cp_packed.proofs.Laying.{pending_nothing, pending_after, brings_packed, word_step, any_step, step_of_count, IsInWord}

@@ -5,11 +5,11 @@ use Rattle.cp_words.specs.Limits.{Bounds}
 use Rattle.cp_frame.specs.declared.fault.FrameFault.{FrameFault}
 use Rattle.cp_frame.specs.declared.mode.Mode.{Mode}
 use Rattle.cp_frame.specs.declared.mode.Mode.TheVariants as modes
-use Rattle.cp_frame.specs.Framed.{AreBytes, bytes_of}
+use Rattle.cp_packed.specs.Words.{AreBytes, bytes_of}
 use Rattle.cp_frame.specs.Stream.{Frames, HasFault, NoFront, HasOneFault}
 use Rattle.cp_frame.specs.Reader.{Reader, State, failed, refusing, reading, GoesOnAs, Stands, StandsFor}
 use Rattle.cp_frame.specs.Runs.{joined, Fed, AreAlike, ReadsAnyCut}
-use Rattle.cp_frame.specs.Unpacking.{Pending, nothing, after, given, laid, all_laid}
+use Rattle.cp_packed.specs.Unpacking.{Pending, nothing, after, given, laid, all_laid}
 use Rattle.cp_frame.proofs.Streams.{OneFront, one_reading, one_front_plain}
 use Rattle.cp_frame.proofs.Groups.{one_front_packed}
 use Rattle.cp_packed.proofs.Unpacks.{packed_brings}

@@ -5,7 +5,8 @@ use Rattle.std.specs.Int.{to_le_bytes, w64}
 use Rattle.std.specs.Global.{Vec}
 use Rattle.std.proofs.lemmas.List.{append-nil, map-append, take_more}
 use Rattle.std.proofs.lemmas.Grind.{flat_map-append}
-use Rattle.cp_frame.specs.Framed.{AreWords, bytes_of, sizes_of}
+use Rattle.cp_frame.specs.Framed.{sizes_of}
+use Rattle.cp_packed.specs.Words.{AreWords, bytes_of}
 use Rattle.cp_frame.specs.Parts.{Fills, body, lists}
 use Rattle.cp_packed.proofs.Bytes.{all-push, all-append}
 

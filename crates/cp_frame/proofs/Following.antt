@@ -10,7 +10,7 @@ use Rattle.cp_frame.specs.declared.mode.Mode.{Mode}
 use Rattle.cp_frame.specs.declared.mode.Mode.TheVariants as modes
 use Rattle.cp_frame.specs.declared.frame.OpenFrame.{OpenFrame}
 use Rattle.cp_frame.specs.declared.rest.Rest.{Rest}
-use Rattle.cp_frame.specs.Framed.{AreBytes, AreWords, bytes_of}
+use Rattle.cp_packed.specs.Words.{AreBytes, AreWords, bytes_of}
 use Rattle.cp_frame.specs.Frame.{Frame}
 use Rattle.cp_frame.specs.Parts.{IsOpen, IsComplete, IsEmpty, IsFaultOf, lists, rest_of}
 use Rattle.cp_frame.specs.Stream.{Frames, HasFault, NamesFault, numbers}
@@ -18,7 +18,7 @@ use Rattle.cp_frame.specs.Rest.{bytes_for, IsRest, IsSound, InPacked, KeptFor, R
 use Rattle.cp_frame.specs.Bulk.{TakesBytes, TakesFront, GivesWhole}
 use Rattle.cp_frame.specs.Single.{IsStillOpen, TakesWhole}
 use Rattle.cp_frame.specs.Following.{EndsFrame, StopsAt, GoesThrough, HasThere, HasRead}
-use Rattle.cp_frame.specs.Unpacking.{Pending, nothing, after, given, pending_of}
+use Rattle.cp_packed.specs.Unpacking.{Pending, nothing, after, given, pending_of}
 use Rattle.cp_packed.proofs.Bytes.{all-append}
 use Rattle.cp_frame.proofs.Ends.{complete_frame, empty_open, empty_rest, frames_push, open_rest}
 use Rattle.cp_packed.proofs.Opens.{after-append, given-append}

@@ -4,7 +4,8 @@ use Rattle.std.specs.List.{AllByRecursion, flat_map}
 use Rattle.std.specs.Int.{to_le_bytes, from_le_bytes, w64}
 use Rattle.std.proofs.lemmas.Nat.{from_le_bytes-to_le_bytes_8}
 use Rattle.std.proofs.lemmas.List.Sums.{sum_by-cons}
-use Rattle.cp_frame.specs.Framed.{AreWords, bytes_of, sizes_of, table, Framed}
+use Rattle.cp_frame.specs.Framed.{sizes_of, table, Framed}
+use Rattle.cp_packed.specs.Words.{AreWords, bytes_of}
 use Rattle.cp_frame.specs.Stream.{numbers}
 use Rattle.cp_frame.proofs.Numbers.{numbers_spelled, length_bytes_of, length_spelled}
 

@@ -8,15 +8,16 @@ use Rattle.cp_words.specs.Limits.{Bounds}
 use Rattle.cp_frame.specs.declared.mode.Mode.{Mode}
 use Rattle.cp_frame.specs.declared.mode.Mode.TheVariants as modes
 use Rattle.cp_frame.specs.declared.rest.Rest.{Rest}
-use Rattle.cp_frame.specs.Framed.{AreBytes, AreWords, bytes_of, Framed}
+use Rattle.cp_frame.specs.Framed.{Framed}
+use Rattle.cp_packed.specs.Words.{AreBytes, AreWords, bytes_of}
 use Rattle.cp_frame.specs.Frame.{Frame}
-use Rattle.cp_frame.specs.Packed.{Packed}
+use Rattle.cp_packed.specs.Packed.{Packed}
 use Rattle.cp_frame.specs.Parts.{lists, rest_of, kept_words, IsOpen, IsComplete, NamesLittle}
 use Rattle.cp_frame.specs.Stream.{Frames, Open, numbers}
 use Rattle.cp_frame.specs.Reader.{GoesOnAs}
 use Rattle.cp_frame.specs.Rest.{words_in_order, bytes_for, InPacked, TakesByte, KeptFor}
 use Rattle.cp_frame.specs.Bulk.{TakesBytes}
-use Rattle.cp_frame.specs.Unpacking.{Pending, nothing, next, brought, after, given, laid, IsPending, pending_of}
+use Rattle.cp_packed.specs.Unpacking.{Pending, nothing, next, brought, after, given, laid, IsPending, pending_of}
 use Rattle.cp_frame.proofs.Numbers.{length_bytes_of}
 use Rattle.cp_packed.proofs.Bytes.{all-append}
 use Rattle.cp_frame.proofs.Framing.{same_words}

@@ -6,8 +6,9 @@ use Rattle.std.proofs.lemmas.Nat.{from_le_bytes-to_le_bytes_8}
 use Rattle.std.proofs.lemmas.Grind.{flat_map-append}
 use Rattle.std.proofs.lemmas.List.{append-nil, append_cancel_left}
 use Rattle.cp_frame.specs.declared.mode.Mode.TheVariants as modes
-use Rattle.cp_frame.specs.Framed.{AreWords, bytes_of, Framed}
-use Rattle.cp_frame.specs.Packed.{Group, sparse, zeros, raw, tag, written, IsGroup, spelling, words_of}
+use Rattle.cp_frame.specs.Framed.{Framed}
+use Rattle.cp_packed.specs.Words.{AreWords, bytes_of}
+use Rattle.cp_packed.specs.Packed.{Group, sparse, zeros, raw, tag, written, IsGroup, spelling, words_of}
 use Rattle.cp_frame.proofs.Numbers.{length_bytes_of}
 use Rattle.cp_frame.proofs.Framing.{same_parts, same_words, one_framed}
 use Rattle.cp_frame.proofs.Streams.{OneFront}

@@ -4,9 +4,9 @@ use Rattle.std.proofs.lemmas.List.{append-nil, nil_from_length}
 use Rattle.std.proofs.lemmas.Bool.{cases_eq}
 use Rattle.cp_frame.specs.declared.fault.FrameFault.{FrameFault}
 use Rattle.cp_frame.specs.declared.fault.FrameFault.TheVariants as faults
-use Rattle.cp_frame.specs.Framed.{AreBytes, bytes_of}
+use Rattle.cp_packed.specs.Words.{AreBytes, bytes_of}
 use Rattle.cp_frame.specs.Stream.{IsNotUnpackedFor}
-use Rattle.cp_frame.specs.Unpacking.{Pending, IsPending, nothing, next, brought, after, given, laid, all_laid}
+use Rattle.cp_packed.specs.Unpacking.{Pending, IsPending, nothing, next, brought, after, given, laid, all_laid}
 use Rattle.cp_frame.specs.Bulk.{TakesWithin}
 use Rattle.cp_frame.proofs.Numbers.{length_bytes_of}
 use Rattle.cp_packed.proofs.Opens.{Brings, after-append, given-append}

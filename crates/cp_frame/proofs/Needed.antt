@@ -7,7 +7,8 @@ use Rattle.cp_words.specs.Limits.{Bounds}
 use Rattle.cp_frame.specs.declared.mode.Mode.TheVariants as modes
 use Rattle.cp_frame.specs.declared.frame.OpenFrame.{OpenFrame}
 use Rattle.cp_frame.specs.declared.rest.Rest.{Rest}
-use Rattle.cp_frame.specs.Framed.{AreBytes, AreWords, bytes_of, sizes_of, Framed}
+use Rattle.cp_frame.specs.Framed.{sizes_of, Framed}
+use Rattle.cp_packed.specs.Words.{AreBytes, AreWords, bytes_of}
 use Rattle.cp_frame.specs.Frame.{Frame}
 use Rattle.cp_frame.specs.Stream.{numbers, named_sizes}
 use Rattle.cp_frame.specs.declared.mode.Mode.{Mode}
@@ -17,7 +18,7 @@ use Rattle.cp_frame.specs.Kept.{seen, KeepsUp}
 use Rattle.cp_frame.specs.Reader.{IsNeeded, Needs}
 use Rattle.cp_frame.specs.Parts.{halves, count_of, body, lists, rest_of, least_words, kept_words, IsOpen, IsTable}
 use Rattle.cp_frame.specs.Rest.{InPacked, KeptFor, bytes_for}
-use Rattle.cp_frame.specs.Unpacking.{Pending, nothing, next, after, still, header_of, IsPending}
+use Rattle.cp_packed.specs.Unpacking.{Pending, nothing, next, after, still, header_of, IsPending}
 use Rattle.cp_frame.proofs.Numbers.{numbers_words}
 use Rattle.cp_frame.proofs.Streams.{sum_more}
 use Rattle.cp_frame.proofs.Framing.{numbers_framed, length_framed, length_sizes}

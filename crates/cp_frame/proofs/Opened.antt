@@ -7,7 +7,8 @@ use Rattle.cp_words.specs.Limits.{Bounds}
 use Rattle.cp_frame.specs.declared.fault.FrameFault.{FrameFault}
 use Rattle.cp_frame.specs.declared.fault.FrameFault.TheVariants as faults
 use Rattle.cp_frame.specs.declared.frame.OpenFrame.{OpenFrame}
-use Rattle.cp_frame.specs.Framed.{bytes_of, spelled, sizes_of, table, Framed}
+use Rattle.cp_frame.specs.Framed.{spelled, sizes_of, table, Framed}
+use Rattle.cp_packed.specs.Words.{bytes_of}
 use Rattle.cp_frame.specs.Frame.{padded_table}
 use Rattle.cp_frame.specs.Stream.{numbers, named_sizes, NamesFault}
 use Rattle.cp_frame.specs.Parts.{halves, count_of, lists, body, rest_of, InTable, InSegments, IsOpen, IsFaultOf, NamesLittle, IsWholeTable, kept_words}

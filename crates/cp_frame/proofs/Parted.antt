@@ -5,12 +5,13 @@ use Rattle.std.proofs.lemmas.List.{append-nil}
 use Rattle.cp_words.specs.Limits.{Bounds}
 use Rattle.cp_frame.specs.declared.frame.OpenFrame.{OpenFrame}
 use Rattle.cp_frame.specs.declared.rest.Rest.{Rest}
-use Rattle.cp_frame.specs.Framed.{bytes_of}
+use Rattle.cp_packed.specs.Words.{bytes_of}
 use Rattle.cp_frame.specs.Stream.{named_sizes}
 use Rattle.cp_frame.specs.Parts.{halves, count_of, lists, body, rest_of, Fills, InSegments, IsComplete}
-use Rattle.cp_frame.specs.Unpacking.{Pending, nothing, given, laid, pending_of}
+use Rattle.cp_packed.specs.Unpacking.{Pending, nothing, given, laid, pending_of}
 use Rattle.cp_frame.specs.Rest.{InPacked, IsSound}
-use Rattle.cp_frame.specs.Bulk.{running, TakesGroups, TakesPart}
+use Rattle.cp_frame.specs.Bulk.{TakesPart}
+use Rattle.cp_packed.specs.Groups.{running, TakesGroups}
 use Rattle.cp_frame.proofs.Filling.{fills_more, body_more, length_lists}
 use Rattle.cp_frame.proofs.Opened.{little_in_segments}
 use Rattle.cp_frame.proofs.Needed.{less_kept, small_least}

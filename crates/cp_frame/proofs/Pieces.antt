@@ -6,12 +6,12 @@ use Rattle.std.specs.Global.{Vec}
 use Rattle.std.proofs.lemmas.List.{append-nil, take_all}
 use Rattle.std.proofs.lemmas.Grind.{flat_map-append}
 use Rattle.cp_frame.specs.declared.mode.Mode.TheVariants as modes
-use Rattle.cp_frame.specs.Framed.{AreBytes, bytes_of, spelled, sizes_of, table}
+use Rattle.cp_frame.specs.Framed.{spelled, sizes_of, table}
 use Rattle.cp_frame.specs.Frame.{IsWritten, padded_table}
-use Rattle.cp_frame.specs.Packed.{Spelt}
-use Rattle.cp_frame.specs.Packing.{PutsSpelt}
+use Rattle.cp_packed.specs.Packed.{Spelt}
+use Rattle.cp_packed.specs.Packing.{PutsSpelt}
 use Rattle.cp_frame.specs.Parts.{lists}
-use Rattle.cp_packed.specs.Words.{words_in}
+use Rattle.cp_packed.specs.Words.{words_in, AreBytes, bytes_of}
 use Rattle.cp_frame.proofs.Numbers.{length_spelled, bytes_of_word}
 use Rattle.cp_packed.proofs.Bytes.{words_in_is}
 use Rattle.cp_frame.proofs.Framing.{length_sizes}

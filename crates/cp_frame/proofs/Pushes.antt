@@ -6,7 +6,7 @@ use Rattle.cp_words.specs.Limits.{Bounds}
 use Rattle.cp_frame.specs.declared.fault.FrameFault.{FrameFault}
 use Rattle.cp_frame.specs.declared.fault.FrameFault.TheVariants as faults
 use Rattle.cp_frame.specs.declared.frame.OpenFrame.{OpenFrame}
-use Rattle.cp_frame.specs.Framed.{bytes_of}
+use Rattle.cp_packed.specs.Words.{bytes_of}
 use Rattle.cp_frame.specs.Stream.{numbers}
 use Rattle.cp_frame.specs.Parts.{lists, rest_of, IsComplete, IsFaultOf}
 use Rattle.cp_frame.specs.Rest.{IsFaultOfWords}

@@ -13,7 +13,7 @@ use Rattle.cp_frame.specs.Framed.{sizes_of}
 use Rattle.cp_frame.specs.Stream.{Frames, HasFault, Laid, Open, numbers, named_sizes}
 use Rattle.cp_frame.specs.Parts.{rest_of, IsOpen, IsEmpty, InTable, InSegments, kept_words, lists, halves}
 use Rattle.cp_frame.specs.Reader.{Gives, Tells, KeepsLittle}
-use Rattle.cp_frame.specs.Unpacking.{Pending, IsPending, laid, pending_of}
+use Rattle.cp_packed.specs.Unpacking.{Pending, IsPending, laid, pending_of}
 use Rattle.cp_frame.specs.Rest.{InPacked, IsRest, IsBlank, KeptFor, Reads, Refuses, bytes_for, words_in_order}
 use Rattle.cp_frame.specs.Kept.{seen, KeepsUp}
 use Rattle.cp_frame.proofs.Numbers.{numbers_more}

@@ -9,12 +9,13 @@ use Rattle.cp_words.specs.Limits.{Bounds}
 use Rattle.cp_frame.specs.declared.fault.FrameFault.{FrameFault}
 use Rattle.cp_frame.specs.declared.fault.FrameFault.TheVariants as faults
 use Rattle.cp_frame.specs.declared.mode.Mode.TheVariants as modes
-use Rattle.cp_frame.specs.Framed.{AreBytes, bytes_of, sizes_of, Framed}
+use Rattle.cp_frame.specs.Framed.{sizes_of, Framed}
+use Rattle.cp_packed.specs.Words.{AreBytes, bytes_of}
 use Rattle.cp_frame.specs.Frame.{padded_table, Frame}
-use Rattle.cp_frame.specs.Packed.{Packed, Spelt, spelling, words_of, IsGroup}
+use Rattle.cp_packed.specs.Packed.{Packed, Spelt, spelling, words_of, IsGroup}
 use Rattle.cp_frame.specs.Stream.{Lays, Laid, NamesFault, NamesTooMany, NamesTooMuch, HasFault, NoFront, RunsPast, numbers, HasOneFault, FaultStays}
 use Rattle.cp_frame.specs.Runs.{IsReadBack}
-use Rattle.cp_frame.specs.Unpacking.{Pending, nothing, after, given, laid, all_laid}
+use Rattle.cp_packed.specs.Unpacking.{Pending, nothing, after, given, laid, all_laid}
 use Rattle.cp_frame.proofs.Numbers.{numbers_more}
 use Rattle.cp_frame.proofs.Framing.{numbers_framed, one_framed}
 use Rattle.cp_frame.proofs.Streams.{names_more}

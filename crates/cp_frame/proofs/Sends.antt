@@ -6,10 +6,10 @@ use Rattle.std.specs.Io.KnownBytes.{Appends}
 use Rattle.cp_words.specs.Limits.{Bounds}
 use Rattle.cp_frame.specs.declared.mode.Mode.{Mode}
 use Rattle.cp_frame.specs.declared.mode.Mode.TheVariants as modes
-use Rattle.cp_frame.specs.Framed.{bytes_of}
+use Rattle.cp_packed.specs.Words.{bytes_of}
 use Rattle.cp_frame.specs.Frame.{IsWithin, Written, padded_table}
-use Rattle.cp_frame.specs.Packed.{Spelt}
-use Rattle.cp_frame.specs.Packing.{PutsFront, PutsSpelt}
+use Rattle.cp_packed.specs.Packed.{Spelt}
+use Rattle.cp_packed.specs.Packing.{PutsFront, PutsSpelt}
 use Rattle.cp_frame.specs.Parts.{lists}
 use Rattle.cp_frame.specs.Sending.{Moves, Sends, SendsForm, SendsSpelt}
 use Rattle.cp_frame.proofs.Pieces.{WritesPieces, pieces_none, pieces_more, pieces_all}

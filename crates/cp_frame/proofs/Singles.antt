@@ -6,14 +6,15 @@ use Rattle.std.specs.Int.{to_le_bytes, w64}
 use Rattle.std.proofs.lemmas.List.{append-nil, take_all, take-append-drop, length-take-le, nil_from_length, get_or_past}
 use Rattle.cp_words.specs.Limits.{Bounds}
 use Rattle.cp_frame.specs.declared.frame.OpenFrame.{OpenFrame}
-use Rattle.cp_frame.specs.Framed.{AreWords, bytes_of, sizes_of, Framed}
+use Rattle.cp_frame.specs.Framed.{sizes_of, Framed}
 use Rattle.cp_frame.specs.Parts.{halves, lists, count_of, rest_of, IsOpen, IsComplete, InSegments, body, IsEmpty, IsTable, IsWholeTable, NamesLittle}
-use Rattle.cp_packed.specs.Words.{words_in}
+use Rattle.cp_packed.specs.Words.{words_in, AreWords, bytes_of}
 use Rattle.cp_frame.specs.Stream.{named_sizes, numbers}
-use Rattle.cp_frame.specs.Unpacking.{Pending, nothing, after, given, laid, pending_of}
+use Rattle.cp_packed.specs.Unpacking.{Pending, nothing, after, given, laid, pending_of}
 use Rattle.cp_frame.specs.declared.rest.Rest.{Rest}
 use Rattle.cp_frame.specs.Rest.{InPacked, IsSound}
-use Rattle.cp_frame.specs.Bulk.{running, TakesGroups, TakesFront}
+use Rattle.cp_frame.specs.Bulk.{TakesFront}
+use Rattle.cp_packed.specs.Groups.{running, TakesGroups}
 use Rattle.cp_frame.specs.Single.{BeginsWithOne, TakesWhole, IsOne, TakesTable, IsStillOpen}
 use Rattle.cp_frame.proofs.Opened.{little_in_segments}
 use Rattle.cp_frame.proofs.Tables.{length_named}

@@ -10,12 +10,12 @@ use Rattle.cp_frame.specs.declared.fault.FrameFault.TheVariants as faults
 use Rattle.cp_frame.specs.declared.mode.Mode.TheVariants as modes
 use Rattle.cp_frame.specs.declared.frame.OpenFrame.{OpenFrame}
 use Rattle.cp_frame.specs.declared.rest.Rest.{Rest}
-use Rattle.cp_frame.specs.Framed.{AreBytes, AreWords, bytes_of}
+use Rattle.cp_packed.specs.Words.{AreBytes, AreWords, bytes_of}
 use Rattle.cp_frame.specs.Parts.{lists, rest_of, kept_words, IsOpen, IsBegun, IsComplete, IsFaultOf, NamesLittle}
 use Rattle.cp_frame.specs.Stream.{NoFront, NamesFault, HasFault, Open, numbers}
 use Rattle.cp_frame.specs.Reader.{GoesOnAs}
 use Rattle.cp_frame.specs.Rest.{words_in_order, heads, bytes_for, InPacked, IsBlank, TakesByte, IsFaultOfWords, EndsInside, KeptFor}
-use Rattle.cp_frame.specs.Unpacking.{Pending, nothing, next, brought, after, given, laid, all_laid, header_of, laid_by, run_of, first_words, settled, given_by, IsPending, pending_of}
+use Rattle.cp_packed.specs.Unpacking.{Pending, nothing, next, brought, after, given, laid, all_laid, header_of, laid_by, run_of, first_words, settled, given_by, IsPending, pending_of}
 use Rattle.cp_frame.proofs.Numbers.{numbers_more}
 use Rattle.cp_frame.proofs.Streams.{names_more}
 use Rattle.cp_frame.proofs.Opened.{length_rest}

@@ -12,13 +12,13 @@ use Rattle.cp_frame.specs.declared.fault.FrameFault.TheVariants as faults
 use Rattle.cp_frame.specs.declared.mode.Mode.TheVariants as modes
 use Rattle.cp_frame.specs.declared.frame.OpenFrame.{OpenFrame}
 use Rattle.cp_frame.specs.declared.rest.Rest.{Rest}
-use Rattle.cp_frame.specs.Framed.{AreBytes, AreWords, bytes_of}
+use Rattle.cp_packed.specs.Words.{AreBytes, AreWords, bytes_of}
 use Rattle.cp_frame.specs.Frame.{Frame}
-use Rattle.cp_frame.specs.Packed.{Packed}
+use Rattle.cp_packed.specs.Packed.{Packed}
 use Rattle.cp_frame.specs.Parts.{lists, body, rest_of, kept_words, IsOpen, NamesLittle}
 use Rattle.cp_frame.specs.Stream.{NoFront, NamesFault, RunsPast, HasFault, Open, numbers}
 use Rattle.cp_frame.specs.Rest.{words_in_order, heads, bytes_for, InPacked}
-use Rattle.cp_frame.specs.Unpacking.{Pending, nothing, after, given, laid, laid_in, laid_by, all_laid, IsPending, pending_of}
+use Rattle.cp_packed.specs.Unpacking.{Pending, nothing, after, given, laid, laid_in, laid_by, all_laid, IsPending, pending_of}
 use Rattle.cp_frame.proofs.Numbers.{length_bytes_of}
 use Rattle.cp_packed.proofs.Bytes.{all-append}
 use Rattle.cp_frame.proofs.Framing.{length_framed, one_framed}

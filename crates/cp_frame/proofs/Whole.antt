@@ -9,7 +9,8 @@ use Rattle.cp_frame.specs.declared.fault.FrameFault.{FrameFault}
 use Rattle.cp_frame.specs.declared.fault.FrameFault.TheVariants as faults
 use Rattle.cp_frame.specs.declared.mode.Mode.{Mode}
 use Rattle.cp_frame.specs.declared.mode.Mode.TheVariants as modes
-use Rattle.cp_frame.specs.Framed.{bytes_of, spelled, sizes_of, table}
+use Rattle.cp_frame.specs.Framed.{spelled, sizes_of, table}
+use Rattle.cp_packed.specs.Words.{bytes_of}
 use Rattle.cp_frame.specs.Stream.{Frames, NoFront, NamesFault, NamesTooMany, NamesTooMuch, HasFault, numbers, HasOneFault}
 use Rattle.cp_frame.specs.Reader.{Reader, State, failed, refusing, reading, StandsFor, IsReading, IsToldFor}
 use Rattle.cp_frame.specs.Runs.{joined, Fed, ReadsAll, TellsAll, IsReadBack}

@@ -3,11 +3,11 @@ use Rattle.std.specs.Prelude.{◌≡◌, ◌⊎◌, ℕ, ◌+◌, ◌≤◌, Lis
 use Rattle.cp_words.specs.Limits.{Bounds}
 use Rattle.cp_frame.specs.declared.frame.OpenFrame.{OpenFrame}
 use Rattle.cp_frame.specs.declared.rest.Rest.{Rest}
-use Rattle.cp_frame.specs.Framed.{AreWords, bytes_of}
+use Rattle.cp_packed.specs.Words.{AreWords, bytes_of}
 use Rattle.cp_frame.specs.Parts.{InSegments, IsComplete, lists, rest_of}
-use Rattle.cp_frame.specs.Unpacking.{Pending, nothing, after, given, pending_of}
+use Rattle.cp_packed.specs.Unpacking.{Pending, nothing, after, given, pending_of}
 use Rattle.cp_frame.specs.Rest.{IsBlank}
-pub use Rattle.cp_packed.specs.Groups.{running, TakesGroups}
+use Rattle.cp_packed.specs.Groups.{running, TakesGroups}
 
 -- Whatever is open of a group: a front of the bytes was taken, with the words that it brings, and there are no more than there may be.
 pub record TakesWithin (limit : ℕ) (old : List ℕ) (p : Pending) (left new : List ℕ) (q : Pending) (back : List ℕ) : Type 0 where

@@ -7,8 +7,9 @@ use Rattle.cp_frame.specs.declared.fault.FrameFault.{FrameFault}
 use Rattle.cp_frame.specs.declared.fault.FrameFault.TheVariants as faults
 use Rattle.cp_frame.specs.declared.mode.Mode.{Mode}
 use Rattle.cp_frame.specs.declared.mode.Mode.TheVariants as modes
-use Rattle.cp_frame.specs.Framed.{bytes_of, sizes_of, spelled, table, Framed}
-use Rattle.cp_frame.specs.Packed.{Packed, Spelt}
+use Rattle.cp_frame.specs.Framed.{sizes_of, spelled, table, Framed}
+use Rattle.cp_packed.specs.Words.{bytes_of}
+use Rattle.cp_packed.specs.Packed.{Packed, Spelt}
 
 -- The segments are no more, and have together no more words, than the limits allow.
 pub record IsWithin (limits : Bounds) (S : List (List ℕ)) : Type 0 where

@@ -1,10 +1,3 @@
-pub use Rattle.cp_words.specs.Limits
-pub use Rattle.cp_packed.specs.Words
-pub use Rattle.cp_packed.specs.Packed
-pub use Rattle.cp_packed.specs.Unpacking
-pub use Rattle.cp_packed.specs.Groups
-pub use Rattle.cp_packed.specs.Decoding
-pub use Rattle.cp_packed.specs.Packing
 pub mod Framed
 pub mod Bulk
 pub mod Frame

@@ -5,7 +5,8 @@ use Rattle.cp_words.specs.Limits.{Bounds}
 use Rattle.cp_frame.specs.declared.fault.FrameFault.{FrameFault}
 use Rattle.cp_frame.specs.declared.fault.FrameFault.TheVariants as faults
 use Rattle.cp_frame.specs.declared.frame.OpenFrame.{OpenFrame}
-use Rattle.cp_frame.specs.Framed.{AreWords, bytes_of, sizes_of}
+use Rattle.cp_frame.specs.Framed.{sizes_of}
+use Rattle.cp_packed.specs.Words.{AreWords, bytes_of}
 use Rattle.cp_frame.specs.Stream.{numbers, named_sizes, NamesFault}
 use Rattle.std.specs.Global.{Vec}
 use Rattle.std.specs.Int.{to_le_bytes, w64}

@@ -6,7 +6,7 @@ use Rattle.cp_frame.specs.declared.fault.FrameFault.TheVariants as faults
 use Rattle.cp_frame.specs.declared.mode.Mode.{Mode}
 use Rattle.cp_frame.specs.declared.mode.Mode.TheVariants as modes
 use Rattle.cp_frame.specs.Stream.{Frames, HasFault, Open, Laid, numbers, named_sizes}
-use Rattle.cp_frame.specs.Packed.{Packed}
+use Rattle.cp_packed.specs.Packed.{Packed}
 use Rattle.cp_frame.specs.Frame.{Frame}
 
 -- A fault was told; or one was met behind frames and is told next; or the stream is read on, of which a rest of so many bytes goes on as these do.

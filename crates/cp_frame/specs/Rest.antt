@@ -9,12 +9,12 @@ use Rattle.cp_frame.specs.declared.mode.Mode.{Mode}
 use Rattle.cp_frame.specs.declared.mode.Mode.TheVariants as modes
 use Rattle.cp_frame.specs.declared.frame.OpenFrame.{OpenFrame}
 use Rattle.cp_frame.specs.declared.rest.Rest.{Rest}
-use Rattle.cp_frame.specs.Framed.{AreWords, bytes_of}
+use Rattle.cp_packed.specs.Words.{AreWords, bytes_of}
 use Rattle.cp_frame.specs.Frame.{Frame}
 use Rattle.cp_frame.specs.Stream.{Frames, HasFault, numbers}
 use Rattle.cp_frame.specs.Reader.{Stands, reading}
 use Rattle.cp_frame.specs.Parts.{IsOpen, IsBegun, IsComplete, IsEmpty, IsFaultOf, NamesLittle, lists, rest_of, kept_words}
-use Rattle.cp_frame.specs.Unpacking.{IsPending, nothing, next, brought, laid, pending_of}
+use Rattle.cp_packed.specs.Unpacking.{IsPending, nothing, next, brought, laid, pending_of}
 
 -- the words that have come
 abbrev pub words_in_order : OpenFrame → List ℕ

@@ -5,7 +5,7 @@ use Rattle.cp_words.specs.Limits.{Bounds, IsAllowed}
 use Rattle.cp_frame.specs.declared.fault.FrameFault.{FrameFault}
 use Rattle.cp_frame.specs.declared.fault.FrameFault.TheVariants as faults
 use Rattle.cp_frame.specs.declared.mode.Mode.{Mode}
-use Rattle.cp_frame.specs.Framed.{AreWords}
+use Rattle.cp_packed.specs.Words.{AreWords}
 use Rattle.cp_frame.specs.Frame.{Frame, Written}
 use Rattle.cp_frame.specs.Stream.{Frames, HasFault}
 use Rattle.cp_frame.specs.Reader.{Reader, State, reading, GoesOnAs, StandsFor, IsReading, Gives, Tells}

@@ -3,9 +3,9 @@ use Rattle.std.specs.Prelude.{◌≡◌, ℕ, List, ◌++◌, Option}
 use Rattle.std.specs.Io.KnownBytes.{Appends}
 use Rattle.cp_words.specs.Limits.{Bounds}
 use Rattle.cp_frame.specs.declared.mode.Mode.{Mode}
-use Rattle.cp_frame.specs.Framed.{bytes_of}
+use Rattle.cp_packed.specs.Words.{bytes_of}
 use Rattle.cp_frame.specs.Frame.{padded_table, IsWritten, Written}
-use Rattle.cp_frame.specs.Packing.{PutsSpelt}
+use Rattle.cp_packed.specs.Packing.{PutsSpelt}
 
 -- The segments' frame in this form went out, behind what the writer held.
 abbrev pub SendsForm : Mode → List (List ℕ) → Option (List ℕ) → Option (List ℕ) → Type 0

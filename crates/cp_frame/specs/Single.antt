@@ -4,12 +4,12 @@ use Rattle.std.specs.Int.{to_le_bytes, w64}
 use Rattle.cp_words.specs.Limits.{Bounds}
 use Rattle.cp_frame.specs.declared.mode.Mode.TheVariants as modes
 use Rattle.cp_frame.specs.declared.frame.OpenFrame.{OpenFrame}
-use Rattle.cp_frame.specs.Framed.{AreWords, bytes_of}
+use Rattle.cp_packed.specs.Words.{AreWords, bytes_of}
 use Rattle.cp_frame.specs.Frame.{Frame}
 use Rattle.cp_frame.specs.Parts.{IsOpen, NamesLittle, rest_of}
 use Rattle.cp_frame.specs.Stream.{numbers}
 use Rattle.cp_frame.specs.declared.rest.Rest.{Rest}
-use Rattle.cp_frame.specs.Unpacking.{nothing, after, given, laid, pending_of}
+use Rattle.cp_packed.specs.Unpacking.{nothing, after, given, laid, pending_of}
 
 -- The bytes begin with a table of one segment, of a size within the limits, and its words are there.
 pub record BeginsWithOne (limits : Bounds) (bytes : List ℕ) (size : ℕ) : Type 0 where

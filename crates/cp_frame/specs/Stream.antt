@@ -7,9 +7,9 @@ use Rattle.cp_frame.specs.declared.fault.FrameFault.{FrameFault}
 use Rattle.cp_frame.specs.declared.fault.FrameFault.TheVariants as faults
 use Rattle.cp_frame.specs.declared.mode.Mode.{Mode}
 use Rattle.cp_frame.specs.declared.mode.Mode.TheVariants as modes
-use Rattle.cp_frame.specs.Framed.{AreBytes, bytes_of}
+use Rattle.cp_packed.specs.Words.{AreBytes, bytes_of}
 use Rattle.cp_frame.specs.Frame.{Frame}
-use Rattle.cp_frame.specs.Packed.{Packed}
+use Rattle.cp_packed.specs.Packed.{Packed}
 
 -- The stream is these frames, each with the number of its bytes, one after another, and then the rest.
 abbrev pub Frames : Mode → Bounds → List ℕ → List (ℕ × List (List ℕ)) → List ℕ → Type 0

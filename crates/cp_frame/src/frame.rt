@@ -1,7 +1,8 @@
 //! The frame of which a part has come.
 
 ghost use Rattle.std.specs.Prelude.{◌≡◌, ◌⊎◌, ◌^◌, ◌+◌, ◌*◌, ◌/◌, ◌%◌, ◌<◌, ◌≤◌, ◌++◌, ◌∷◌, [], ◌↔◌, IsTrue, IfOk, OnOk, IfErr, length, sum, replicate, slice_index, vec_capacity};
-ghost use Rattle.cp_frame.specs.Framed.{bytes_of, sizes_of};
+ghost use Rattle.cp_frame.specs.Framed.{sizes_of};
+ghost use Rattle.cp_packed.specs.Words.{bytes_of};
 ghost use Rattle.std.specs.Int.{to_le_bytes, w64};
 ghost use Rattle.cp_frame.specs.Parts.{Takes, IsBegun, InTable, InSegments, halves, count_of, IsWholeTable, IsTable, IsFaultOf, Fills, body, lists, rest_of, IsOpen, IsComplete, IsEmpty, least_words, kept_words, roomed};
 ghost use Rattle.cp_frame.specs.Stream.{numbers, named_sizes};

@@ -17,8 +17,6 @@ mod table;
 mod unpacking;
 mod write;
 
-pub use cp_packed::decode;
-pub use cp_words::Limits;
 pub use fault::FrameFault;
 pub use laws::{any_cut, one_fault, one_reading, read_back};
 pub use mode::Mode;

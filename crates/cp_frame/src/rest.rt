@@ -1,10 +1,11 @@
 //! The rest of a stream: what has come of the frame behind those that were given.
 
 ghost use Rattle.std.specs.Prelude.{◌≡◌, ◌⊎◌, ◌+◌, ◌<◌, ◌^◌, ◌++◌, ◌∷◌, ◌↔◌, [], IfOk, IsTrue, OnOk, IfErr, length, sum};
-ghost use Rattle.cp_frame.specs.Framed.{bytes_of, sizes_of};
+ghost use Rattle.cp_frame.specs.Framed.{sizes_of};
+ghost use Rattle.cp_packed.specs.Words.{bytes_of};
 ghost use Rattle.cp_frame.specs.Stream.{numbers, NamesFault, HasFault};
 ghost use Rattle.cp_frame.specs.Parts.{IsOpen, IsBegun, IsComplete, lists, rest_of, kept_words};
-ghost use Rattle.cp_frame.specs.Unpacking.{IsPending, nothing, brought, laid, pending_of};
+ghost use Rattle.cp_packed.specs.Unpacking.{IsPending, nothing, brought, laid, pending_of};
 ghost use Rattle.cp_frame.specs.Rest.{InPacked, IsBlank, IsRest, bytes_for, count_for, TakesByte, IsSound, IsFaultOfWords};
 ghost use Rattle.cp_frame.specs.Bulk.{TakesFront};
 ghost use Rattle.cp_frame.specs.Single.{IsStillOpen};

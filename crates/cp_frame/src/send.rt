@@ -3,7 +3,8 @@
 ghost use Rattle.std.specs.Prelude.{◌≡◌, [], ◌+◌, ◌^◌, ◌<◌, ◌≤◌, IfOk, OnOk, OnErr, IfErr, length, sum};
 ghost use Rattle.std.specs.List.{flat_map};
 ghost use Rattle.std.specs.Io.KnownBytes.{Appends};
-ghost use Rattle.cp_frame.specs.Framed.{bytes_of, sizes_of};
+ghost use Rattle.cp_frame.specs.Framed.{sizes_of};
+ghost use Rattle.cp_packed.specs.Words.{bytes_of};
 ghost use Rattle.cp_frame.specs.Frame.{IsRefusedFor, padded_table};
 ghost use Rattle.cp_frame.specs.Parts.{lists};
 ghost use Rattle.cp_frame.specs.Sending.{PutsTable, Moves, Sends, SendsForm, SendsSpelt};

@@ -1,9 +1,9 @@
 //! Unpacking words.
 
 ghost use Rattle.std.specs.Prelude.{◌≡◌, ◌≤◌, ◌<◌, ◌+◌, ◌⊎◌, ◌∷◌, [], IfOk, IfErr, OnOk, length};
-ghost use Rattle.cp_frame.specs.Packed.{Packed};
+ghost use Rattle.cp_packed.specs.Packed.{Packed};
 ghost use Rattle.cp_frame.specs.Stream.{IsNotUnpackedFor};
-ghost use Rattle.cp_frame.specs.Unpacking.{IsPending, brought, pending_of};
+ghost use Rattle.cp_packed.specs.Unpacking.{IsPending, brought, pending_of};
 ghost use Rattle.cp_frame.specs.Bulk.{TakesWithin};
 ghost use Rattle.cp_frame.specs.declared.fault.FrameFault.TheVariants.{OutOfMemory, FrameTooLarge};
 

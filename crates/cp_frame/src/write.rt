@@ -1,7 +1,8 @@
 //! Writing frames.
 
 ghost use Rattle.std.specs.Prelude.{◌≡◌, [], ◌+◌, ◌^◌, ◌<◌, ◌≤◌, ◌++◌, IfOk, OnOk, IfErr, IfSome, IfNone, length, sum};
-ghost use Rattle.cp_frame.specs.Framed.{bytes_of, sizes_of};
+ghost use Rattle.cp_frame.specs.Framed.{sizes_of};
+ghost use Rattle.cp_packed.specs.Words.{bytes_of};
 ghost use Rattle.cp_frame.specs.Frame.{IsWithin, Written, WrittenBehind, IsWritten, IsWrittenBehind, IsRefusedFor, padded_table};
 ghost use Rattle.cp_frame.specs.Sending.{PutsTable};
 ghost use Rattle.cp_frame.specs.Parts.{lists};

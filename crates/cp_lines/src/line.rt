@@ -1,12 +1,12 @@
 //! The lines of `show`, one for each message.
 
 use crate::notation::{separate, tree};
+use cp_reading::View;
 use cp_rpc::{
     CallView, Context, DescriptorView, DisembargoView, ExceptionKind, ExceptionView, MessageIn,
     MessageView, Op, PayloadView, PromisedAnswerView, ResolutionView, ResolveView, ReturnView,
     ReturnedView, SendResultsToView, TargetView, TextView,
 };
-use cp_tree::View;
 use std::alloc::{AllocError, Global};
 
 /// Adds the line of a message, with its line feed.

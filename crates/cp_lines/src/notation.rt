@@ -2,9 +2,10 @@
 
 ghost use Rattle.std.specs.Prelude.{◌≡◌};
 ghost use Rattle.cp_tree.specs.Node.{IsStruct, count, number_of};
-ghost use Rattle.cp_tree.specs.Rows.{row_of, bodies_in};
+ghost use Rattle.cp_reading.specs.Rows.{row_of, bodies_in};
 
-use cp_tree::{Shape, View};
+use cp_reading::View;
+use cp_tree::Shape;
 use cp_words::ElementSize;
 use std::alloc::{AllocError, Global};
 

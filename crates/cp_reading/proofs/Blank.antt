@@ -4,9 +4,11 @@ use Rattle.cp_words.specs.Word.{words_for}
 use Rattle.cp_words.specs.declared.pointer.ElementSize.TheVariants as sizes
 use Rattle.cp_reading.specs.declared.area.Form.{Form}
 use Rattle.cp_reading.specs.declared.area.Form.TheVariants as forms
-use Rattle.cp_reading.specs.Node.{element_size, element_count, Node, null, cap, struct, list, ptrs, structs, Nodes, no_nodes, node, Bodies, no_bodies, body, count, number_of}
-use Rattle.cp_reading.specs.Aims.{segment, Locates}
-use Rattle.cp_reading.specs.Denotes.{words_at, elements_of, Denotes, EachDenotes, EachBody}
+use Rattle.cp_tree.specs.Node.{element_size, element_count, Node, null, cap, struct, list, ptrs, structs, Nodes, no_nodes, node, Bodies, no_bodies, body, count, number_of}
+use Rattle.cp_words.specs.Aims.{segment, words_at}
+use Rattle.cp_reading.specs.Locates.{Locates}
+use Rattle.cp_tree.specs.Elements.{elements_of}
+use Rattle.cp_reading.specs.Denotes.{Denotes, EachDenotes, EachBody}
 use Rattle.cp_reading.specs.Pruned.{Prunes, EachPrunes, EachPrunesBody}
 use Rattle.cp_reading.specs.Reading.{body_words, IsWhole}
 use Rattle.cp_reading.specs.Fills.{IsBody, form_of}

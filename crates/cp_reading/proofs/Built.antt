@@ -1,13 +1,13 @@
 -- Bodies that trees are built from.
 use Rattle.std.proofs.Common.{◌≡◌, ℕ, ◌+◌, ◌*◌, ◌<◌, ◌≤◌, List, Ok, Err, true, is_ok, refl, sym, ap, ◌∙◌, arith}
-use Rattle.cp_reading.specs.Node.{Node, struct, structs, Nodes, no_nodes, node, Bodies, count, number_of, depth}
-use Rattle.cp_reading.specs.Denotes.{words_at}
+use Rattle.cp_tree.specs.Node.{Node, struct, structs, Nodes, no_nodes, node, Bodies, count, number_of, depth}
+use Rattle.cp_words.specs.Aims.{words_at}
 use Rattle.cp_reading.specs.Parts.{part_node, IsPart}
 use Rattle.cp_reading.specs.Reading.{◌>>=◌, Read, tree_read, rows_at, most_nesting, most_traversal, bodies_by, node_in}
 use Rattle.cp_reading.specs.Rows.{row_of, bodies_in, struct_at, structs_at, trees_from}
-use Rattle.cp_reading.specs.Seen.{shape_of, node_at, body_at, part_of}
-use Rattle.cp_reading.specs.declared.fault.Place.{Place}
-use Rattle.cp_reading.specs.declared.view.Shape.TheVariants as shapes
+use Rattle.cp_tree.specs.Seen.{shape_of, node_at, body_at, part_of}
+use Rattle.cp_words.specs.declared.place.Place.{Place}
+use Rattle.cp_tree.specs.declared.shape.Shape.TheVariants as shapes
 use Rattle.cp_reading.specs.declared.view.Part.TheVariants as parts
 use Rattle.cp_reading.proofs.Builds.{part-row, part-body, row_nests, element_nests}
 use Rattle.cp_reading.proofs.Views.{ok_is_ok, read-node, part-shape, part-struct, part-element, element-inside}

@@ -1,10 +1,10 @@
 -- What going over the words leaves, step by step.
 use Rattle.std.proofs.Common.{◌≡◌, ℕ, zero, suc, ◌+◌, ◌-◌, ◌*◌, ◌<◌, List, Result, Ok, Err, Option, Some, refl, sym, ap, ◌∙◌, add-zero, arith}
-use Rattle.cp_reading.specs.Node.{Node, Nodes, node}
+use Rattle.cp_tree.specs.Node.{Node, Nodes, node}
 use Rattle.cp_reading.specs.Visited.{passed, pointers, pointers_of_row, pointers_of_bodies}
 use Rattle.cp_reading.specs.Reading.{◌>>=◌, Read, Kids, row_by, bodies_by, aim_by, area_by, body_by, pointer_by}
 use Rattle.cp_reading.specs.declared.aim.Aim.{Aim}
-use Rattle.cp_reading.specs.declared.fault.Place.{Place}
+use Rattle.cp_words.specs.declared.place.Place.{Place}
 use Rattle.cp_words.specs.declared.pointer.Pointer.{Pointer}
 use Rattle.cp_words.specs.declared.pointer.Pointer.TheVariants as pointers
 use Rattle.cp_reading.specs.declared.fault.TreeFault.{TreeFault}

@@ -7,16 +7,17 @@ use Rattle.cp_words.specs.Word.{pointer_of, words_for}
 use Rattle.cp_words.specs.declared.pointer.Pointer.{Pointer}
 use Rattle.cp_words.specs.declared.pointer.Pointer.TheVariants as pointers
 use Rattle.cp_words.specs.declared.pointer.ElementSize.TheVariants as sizes
-use Rattle.cp_reading.specs.Node.{Elements, voids, Node, null, cap, struct, list, ptrs, structs, Nodes, no_nodes, node, Bodies, no_bodies, body, count, number_of, depth, greatest_depth, deepest_body, cost, total_cost, body_cost}
-use Rattle.cp_reading.specs.Aims.{segment, IsBodyPointer, IsPadTag, AimsHere, AimsByPad, AimsByTwo, Aims, Locates}
+use Rattle.cp_tree.specs.Node.{Elements, voids, Node, null, cap, struct, list, ptrs, structs, Nodes, no_nodes, node, Bodies, no_bodies, body, count, number_of, depth, greatest_depth, deepest_body, cost, total_cost, body_cost}
+use Rattle.cp_words.specs.Aims.{segment, IsBodyPointer, IsPadTag, AimsHere, AimsByPad, AimsByTwo, Aims}
+use Rattle.cp_reading.specs.Locates.{Locates}
 use Rattle.cp_reading.specs.Denotes.{Denotes, EachDenotes, EachBody}
 use Rattle.cp_reading.specs.Reading.{◌>>=◌, Kids, row_by, bodies_by, start_of, in_segment, area_by, aim_here, tag_kind_of, aim_by, pad_or, filled, price, IsWhole, body_by, toll, pointer_by, kids_at, tree_at, rows_at}
 use Rattle.cp_reading.specs.declared.aim.Aim.{Aim}
-use Rattle.cp_reading.specs.declared.aim.Kind.{Kind}
-use Rattle.cp_reading.specs.declared.aim.Kind.TheVariants as kinds
+use Rattle.cp_words.specs.declared.kind.Kind.{Kind}
+use Rattle.cp_words.specs.declared.kind.Kind.TheVariants as kinds
 use Rattle.cp_reading.specs.declared.area.Form.{Form}
 use Rattle.cp_reading.specs.declared.area.Form.TheVariants as forms
-use Rattle.cp_reading.specs.declared.fault.Place.{Place}
+use Rattle.cp_words.specs.declared.place.Place.{Place}
 use Rattle.cp_reading.proofs.Checks.{aimed}
 use Rattle.cp_reading.proofs.Entries.{entered_ok}
 use Rattle.cp_reading.specs.Fills.{IsBody, form_of, Fills}

@@ -1,46 +1,20 @@
 -- Whether a word denotes a tree, told part by part.
-use Rattle.std.proofs.Common.{◌≡◌, ℕ, Vec, Global, suc, List, [], ◌∷◌, length, map, Bool, true, false, not, Option, Some, None, Result, Ok, Err, IfOk, Decides, refl, sym, ap, subst, rules}
+use Rattle.std.proofs.Common.{◌≡◌, ℕ, List, Bool, true, false, not, Option, Some, None, Result, Ok, Err, IfOk, Decides, refl, sym, subst, rules}
 use Rattle.std.specs.declared.alloc.AllocError.{AllocError}
-use Rattle.cp_reading.specs.Aims.{Locates}
+use Rattle.cp_reading.specs.Locates.{Locates}
 use Rattle.cp_reading.specs.Denotes.{Denotes}
 use Rattle.cp_reading.specs.Fills.{IsBody, form_of, Fills}
-use Rattle.cp_reading.specs.Node.{bits, Node, null, cap, list, ptrs, structs, count, number_of, Nodes}
-use Rattle.cp_reading.specs.NodeOf.{node_of, body_of, nodes_of, bodies_of}
+use Rattle.cp_tree.specs.Node.{bits, Node}
+use Rattle.cp_tree.specs.NodeOf.{node_of}
 use Rattle.cp_reading.specs.Reading.{IsWhole}
 use Rattle.cp_reading.specs.declared.area.Area.{Area}
 use Rattle.cp_reading.specs.declared.area.Form.{Form}
 use Rattle.cp_reading.specs.declared.area.Form.TheVariants as forms
-use Rattle.cp_reading.specs.declared.tree.Body.{Body, the_lemmas}
-use Rattle.cp_reading.specs.declared.tree.Tree.{Tree, Bits, Ptrs, Structs}
-use Rattle.cp_reading.specs.declared.tree.Tree.TheVariants as trees
+use Rattle.cp_tree.specs.declared.tree.Body.{the_lemmas}
+use Rattle.cp_tree.specs.declared.tree.Tree.{Tree}
+use Rattle.cp_tree.specs.declared.tree.Tree.TheVariants as trees
 use Rattle.cp_reading.proofs.Fills.{form_of-whole, denotes_body, has_body}
 use Rattle.cp_reading.proofs.Views.{some_is}
-
-pub count-nodes : (ts : List Node) → count (nodes_of ts) ≡ length ts
-count-nodes [] = refl
-count-nodes (t ∷ ts) = ap suc (count-nodes ts)
-
-pub number-bodies : (bs : List (List ℕ × Nodes)) → number_of (bodies_of bs) ≡ length bs
-number-bodies [] = refl
-number-bodies (b ∷ bs) = ap suc (number-bodies bs)
-
-pub body_of-is : (b : Body) → body_of b ≡ (b.words.items, nodes_of (map node_of b.ptrs.items))
-body_of-is b = search (rules, the_lemmas)
-
-pub node-Null : node_of trees.Null ≡ null
-node-Null = search (rules, the_lemmas)
-
-pub node-Cap : (i : ℕ) → node_of (trees.Cap i) ≡ cap i
-node-Cap i = search (rules, the_lemmas)
-
-pub node-Structs : (d k : ℕ) (v : Vec Body Global) → node_of (Structs d k v) ≡ structs d k (bodies_of (map body_of v.items))
-node-Structs d k v = search (rules, the_lemmas)
-
-pub node-Ptrs : (v : Vec Tree Global) → node_of (Ptrs v) ≡ ptrs (nodes_of (map node_of v.items))
-node-Ptrs v = search (rules, the_lemmas)
-
-pub node-Bits : (v : Vec Bool Global) → node_of (Bits v) ≡ list (bits v.items)
-node-Bits v = search (rules, the_lemmas)
 
 pub same_bits : {a b : List Bool} → bits a ≡ bits b → a ≡ b
 same_bits e = cc

@@ -2,7 +2,7 @@
 use Rattle.std.proofs.Common.{◌≡◌, ℕ, zero, suc, ◌-◌, List, Result, Ok, Err, Bool, true, false, nat_lt, ◌==◌, cond, arith}
 use Rattle.std.proofs.lemmas.Bool.Decides.{nat_tests}
 use Rattle.cp_reading.specs.Reading.{entered, toll, Kids, kids_at, rows_at}
-use Rattle.cp_reading.specs.declared.fault.Place.{Place}
+use Rattle.cp_words.specs.declared.place.Place.{Place}
 use Rattle.cp_reading.specs.declared.fault.TreeFault.{TreeFault}
 use Rattle.cp_reading.specs.declared.fault.TreeFault.TheVariants as faults
 

@@ -5,9 +5,9 @@ use Rattle.cp_words.specs.Word.{pointer_of}
 use Rattle.cp_words.specs.declared.pointer.Pointer.{Pointer}
 use Rattle.cp_words.specs.declared.pointer.Pointer.TheVariants as pointers
 use Rattle.cp_words.specs.declared.pointer.ElementSize.TheVariants as sizes
-use Rattle.cp_reading.specs.Node.{Node, struct, ptrs, structs, Nodes, node, Bodies, body, count, number_of, depth, greatest_depth, deepest_body, cost, total_cost, body_cost}
-use Rattle.cp_reading.specs.Aims.{segment, Holds, Locates}
-use Rattle.cp_reading.specs.Denotes.{words_at}
+use Rattle.cp_tree.specs.Node.{Node, struct, ptrs, structs, Nodes, node, Bodies, body, count, number_of, depth, greatest_depth, deepest_body, cost, total_cost, body_cost}
+use Rattle.cp_words.specs.Aims.{segment, Holds, words_at}
+use Rattle.cp_reading.specs.Locates.{Locates}
 use Rattle.cp_reading.specs.Faults.{FaultBy}
 use Rattle.cp_reading.specs.Pruned.{Prunes, EachPrunes, EachPrunesBody, IsPointerOf, IsReachable, below}
 use Rattle.cp_reading.specs.Reading.{◌>>=◌, Read, Kids, row_by, bodies_by, aim_by, area_by, entered, filled, price, body_words, IsWhole, body_by, pointer_by, word_by, kids_at, tree_at, rows_at}
@@ -15,7 +15,7 @@ use Rattle.cp_reading.specs.declared.aim.Aim.{Aim}
 use Rattle.cp_reading.specs.declared.area.Area.{Area}
 use Rattle.cp_reading.specs.declared.area.Form.{Form}
 use Rattle.cp_reading.specs.declared.area.Form.TheVariants as forms
-use Rattle.cp_reading.specs.declared.fault.Place.{Place}
+use Rattle.cp_words.specs.declared.place.Place.{Place}
 use Rattle.cp_reading.specs.declared.fault.TreeFault.{TreeFault}
 use Rattle.cp_reading.specs.declared.fault.TreeFault.TheVariants as faults
 use Rattle.cp_reading.proofs.Blank.{denotes_prunes, each_prunes, PrunesBody, prunes_body, nulls, count-nulls, nulls_prune, blank_bodies, number_of-blank, blank_bodies_prune, blank, blank_stands}

@@ -1,7 +1,7 @@
 -- A body's tree, apart from the pointer word that has the body.
 use Rattle.std.proofs.Common.{◌≡◌, ℕ, ◌+◌, ◌*◌, ◌/◌, List, refl, arith}
-use Rattle.cp_reading.specs.Node.{voids, bits, bytes, halves, quads, words, Node, null, cap, struct, list, ptrs, structs, count, greatest_depth, deepest_body, depth, total_cost, body_cost, cost}
-use Rattle.cp_reading.specs.Aims.{Locates}
+use Rattle.cp_tree.specs.Node.{voids, bits, bytes, halves, quads, words, Node, null, cap, struct, list, ptrs, structs, count, greatest_depth, deepest_body, depth, total_cost, body_cost, cost}
+use Rattle.cp_reading.specs.Locates.{Locates}
 use Rattle.cp_reading.specs.Denotes.{Denotes}
 use Rattle.cp_reading.specs.Fills.{IsBody, form_of, Fills}
 use Rattle.cp_reading.specs.Reading.{price, IsWhole}

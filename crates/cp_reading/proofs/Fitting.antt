@@ -7,13 +7,13 @@ use Rattle.cp_words.specs.declared.pointer.ElementSize.TheVariants as sizes
 use Rattle.cp_words.specs.declared.pointer.Pointer.{Pointer}
 use Rattle.cp_words.specs.declared.pointer.Pointer.TheVariants as pointers
 use Rattle.cp_words.specs.declared.pointer.Tag.{Tag}
-use Rattle.cp_reading.specs.declared.aim.Kind.{Kind}
-use Rattle.cp_reading.specs.declared.aim.Kind.TheVariants as kinds
-use Rattle.cp_reading.specs.Aims.{segment, Holds, IsBodyPointer, IsPadTag, AimsHere, Aims}
-use Rattle.cp_reading.specs.Denotes.{words_at, element, elements_of, numbers, Denotes, EachDenotes, EachBody}
-use Rattle.cp_reading.specs.Node.{Elements, voids, bits, bytes, halves, quads, words, element_size, element_count, Node, null, cap, struct, list, ptrs, structs, Nodes, no_nodes, node, Bodies, no_bodies, body, count}
-use Rattle.cp_reading.specs.Shaped.{AllFit, HasSizes, ElementsFit, Shaped, EachShaped, EachEven}
-use Rattle.cp_reading.specs.Seen.{node_at, body_at, part_of, pointee_of}
+use Rattle.cp_words.specs.declared.kind.Kind.{Kind}
+use Rattle.cp_words.specs.declared.kind.Kind.TheVariants as kinds
+use Rattle.cp_words.specs.Aims.{segment, Holds, IsBodyPointer, IsPadTag, AimsHere, Aims, words_at}
+use Rattle.cp_tree.specs.Elements.{element, elements_of, numbers}
+use Rattle.cp_reading.specs.Denotes.{Denotes, EachDenotes, EachBody}
+use Rattle.cp_tree.specs.Node.{Elements, voids, bits, bytes, halves, quads, words, element_size, element_count, Node, null, cap, struct, list, ptrs, structs, Nodes, no_nodes, node, Bodies, no_bodies, body, count}
+use Rattle.cp_tree.specs.Shaped.{AllFit, HasSizes, ElementsFit, Shaped, EachShaped, EachEven}
 use Rattle.cp_reading.proofs.Views.{some_is}
 
 -- the parts of a pointer fit their bits
@@ -127,30 +127,3 @@ module _ (S : List (List ℕ)) (fit : All (AllFit 64) S) where
     pub each_even : (bs : Bodies) (s q d n : ℕ) → EachBody S s q d n bs → EachEven d n bs
     each_even no_bodies s q d n h = tt
     each_even (body ws ts bs) s q d n h = (h.0, h.1, All-same (λ x. x < 2 ^ 64) _ _ h.2 (words_fit S fit s q d), each_shaped ts s (q + d) h.3, each_even bs s (q + d + n) d n h.4)
-
--- So is a tree's part.
-pub node_at-shaped : (ts : Nodes) (i : ℕ) → EachShaped ts → Shaped (node_at ts i)
-node_at-shaped no_nodes i h = tt
-node_at-shaped (node t ts) zero h = h.0
-node_at-shaped (node t ts) (suc i) h = node_at-shaped ts i h.1
-
-body_at-shaped : (d n : ℕ) → HasSizes d n → (bs : Bodies) (i : ℕ) → EachEven d n bs → Shaped (body_at bs i)
-body_at-shaped d n sizes no_bodies i h = tt
-body_at-shaped d n sizes (body ws ts bs) zero h = (rw (h.0, h.1) sizes, h.2, h.3)
-body_at-shaped d n sizes (body ws ts bs) (suc i) h = body_at-shaped d n sizes bs i h.4
-
-pub part_of-shaped : (t : Node) (i : ℕ) → Shaped t → Shaped (part_of t i)
-part_of-shaped null i h = tt
-part_of-shaped (cap k) i h = tt
-part_of-shaped (struct ws ts) i h = node_at-shaped ts i h.2
-part_of-shaped (list es) i h = tt
-part_of-shaped (ptrs ts) i h = node_at-shaped ts i h.1
-part_of-shaped (structs d n bs) i h = body_at-shaped d n h.0 bs i h.3
-
-pub pointee_of-shaped : (t : Node) (i : ℕ) → Shaped t → Shaped (pointee_of t i)
-pointee_of-shaped null i h = tt
-pointee_of-shaped (cap k) i h = tt
-pointee_of-shaped (struct ws ts) i h = node_at-shaped ts i h.2
-pointee_of-shaped (list es) i h = tt
-pointee_of-shaped (ptrs ts) i h = tt
-pointee_of-shaped (structs d n bs) i h = tt

@@ -7,16 +7,16 @@ use Rattle.cp_words.specs.declared.pointer.Pointer.{Pointer}
 use Rattle.cp_words.specs.declared.pointer.Pointer.TheVariants as pointers
 use Rattle.cp_words.specs.declared.pointer.Tag.{Tag}
 use Rattle.cp_words.specs.declared.pointer.ElementSize.TheVariants as sizes
-use Rattle.cp_reading.specs.Aims.{segment, Holds, IsBodyPointer, IsPadTag, Aims}
+use Rattle.cp_words.specs.Aims.{segment, Holds, IsBodyPointer, IsPadTag, Aims}
 use Rattle.cp_reading.specs.Faults.{kind_words, StartsBefore, HasNoRoom, FaultBy}
 use Rattle.cp_reading.specs.Pruned.{IsReachable}
 use Rattle.cp_reading.specs.Reading.{◌>>=◌, start_of, in_segment, placed, tagged, aim_here, tag_kind_of, aim_second, aim_two, pad_or, pad_one, aim_far, aim_by, area_by_kind, area_by}
 use Rattle.cp_reading.specs.declared.aim.Aim.{Aim}
-use Rattle.cp_reading.specs.declared.aim.Kind.{Kind}
-use Rattle.cp_reading.specs.declared.aim.Kind.TheVariants as kinds
+use Rattle.cp_words.specs.declared.kind.Kind.{Kind}
+use Rattle.cp_words.specs.declared.kind.Kind.TheVariants as kinds
 use Rattle.cp_reading.specs.declared.area.Area.{Area}
 use Rattle.cp_reading.specs.declared.area.Form.TheVariants as forms
-use Rattle.cp_reading.specs.declared.fault.Place.{Place}
+use Rattle.cp_words.specs.declared.place.Place.{Place}
 use Rattle.cp_reading.specs.declared.fault.TreeFault.{TreeFault}
 use Rattle.cp_reading.specs.declared.fault.TreeFault.TheVariants as faults
 use Rattle.cp_reading.proofs.Sound.{ok_is, passed, inside_is, placed_is, aim_sound}

@@ -6,14 +6,14 @@ use Rattle.cp_words.specs.Word.{pointer_of}
 use Rattle.cp_words.specs.declared.pointer.ElementSize.{ElementSize}
 use Rattle.cp_words.specs.declared.pointer.Pointer.{Pointer}
 use Rattle.cp_words.specs.declared.pointer.Pointer.TheVariants as pointers
-use Rattle.cp_reading.specs.Node.{Node, null, cap, struct, list, ptrs, structs, depth, cost}
-use Rattle.cp_reading.specs.Aims.{segment, Holds}
+use Rattle.cp_tree.specs.Node.{Node, null, cap, struct, list, ptrs, structs, depth, cost}
+use Rattle.cp_words.specs.Aims.{segment, Holds}
 use Rattle.cp_reading.specs.Faults.{FaultBy, RootIsNoStruct, IsFaultOf}
 use Rattle.cp_reading.specs.Pruned.{Prunes, Pruned, root}
 use Rattle.cp_reading.specs.Reading.{◌>>=◌, Read, tag_kind_of, aim_here, aim_second, aim_two, pad_or, pad_one, aim_by, area_by, body_by, kids_at, tree_at, rooted, root_by, root_of, top}
 use Rattle.cp_reading.specs.declared.aim.Aim.{Aim}
-use Rattle.cp_reading.specs.declared.aim.Kind.{Kind}
-use Rattle.cp_reading.specs.declared.aim.Kind.TheVariants as kinds
+use Rattle.cp_words.specs.declared.kind.Kind.{Kind}
+use Rattle.cp_words.specs.declared.kind.Kind.TheVariants as kinds
 use Rattle.cp_reading.specs.declared.fault.TreeFault.{TreeFault}
 use Rattle.cp_reading.specs.declared.fault.TreeFault.TheVariants as faults
 use Rattle.cp_reading.proofs.Checks.{aimed}

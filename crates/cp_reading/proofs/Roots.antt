@@ -5,15 +5,15 @@ use Rattle.cp_words.specs.Limits.{Bounds}
 use Rattle.cp_words.specs.Word.{pointer_of}
 use Rattle.cp_words.specs.declared.pointer.Pointer.{Pointer}
 use Rattle.cp_words.specs.declared.pointer.Pointer.TheVariants as pointers
-use Rattle.cp_reading.specs.Node.{Node, null, cap, struct, list, ptrs, structs, count, IsStruct}
-use Rattle.cp_reading.specs.Aims.{segment, Aims}
+use Rattle.cp_tree.specs.Node.{Node, null, cap, struct, list, ptrs, structs, count, IsStruct}
+use Rattle.cp_words.specs.Aims.{segment, Aims}
 use Rattle.cp_reading.specs.Denotes.{Root}
 use Rattle.cp_reading.specs.Near.{Near}
 use Rattle.cp_reading.specs.Reading.{◌>>=◌, Read, Kids, aim_by, area_by, area_by_kind, placed, in_segment, entered, filled, body_by, tree_at, kids_at, rooted, root_by, root_of, top}
 use Rattle.cp_reading.specs.Visited.{passed}
 use Rattle.cp_reading.specs.declared.aim.Aim.{Aim}
-use Rattle.cp_reading.specs.declared.aim.Kind.{Kind}
-use Rattle.cp_reading.specs.declared.aim.Kind.TheVariants as kinds
+use Rattle.cp_words.specs.declared.kind.Kind.{Kind}
+use Rattle.cp_words.specs.declared.kind.Kind.TheVariants as kinds
 use Rattle.cp_reading.specs.declared.area.Area.{Area}
 use Rattle.cp_reading.specs.declared.area.Form.TheVariants as forms
 use Rattle.cp_reading.specs.declared.fault.TreeFault.{TreeFault}

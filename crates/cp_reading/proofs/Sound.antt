@@ -9,17 +9,19 @@ use Rattle.cp_words.specs.declared.pointer.Pointer.TheVariants as pointers
 use Rattle.cp_words.specs.declared.pointer.Tag.{Tag}
 use Rattle.cp_words.specs.declared.pointer.ElementSize.{ElementSize}
 use Rattle.cp_words.specs.declared.pointer.ElementSize.TheVariants as sizes
-use Rattle.cp_reading.specs.Node.{Node, Nodes, Bodies, element_count, count, number_of, depth, greatest_depth, deepest_body, cost, total_cost, body_cost}
-use Rattle.cp_reading.specs.Aims.{segment, Holds, IsPadTag, AimsHere, Aims, Locates}
-use Rattle.cp_reading.specs.Denotes.{words_at, elements_of, Denotes, EachDenotes, EachBody}
+use Rattle.cp_tree.specs.Node.{Node, Nodes, Bodies, element_count, count, number_of, depth, greatest_depth, deepest_body, cost, total_cost, body_cost}
+use Rattle.cp_words.specs.Aims.{segment, Holds, IsPadTag, AimsHere, Aims, words_at}
+use Rattle.cp_reading.specs.Locates.{Locates}
+use Rattle.cp_tree.specs.Elements.{elements_of}
+use Rattle.cp_reading.specs.Denotes.{Denotes, EachDenotes, EachBody}
 use Rattle.cp_reading.specs.Reading.{◌>>=◌, Read, Kids, row_by, bodies_by, start_of, in_segment, placed, tagged, aim_here, tag_kind_of, aim_second, aim_two, pad_or, pad_one, aim_by, area_by_kind, area_by, entered, filled, price, body_words, IsWhole, body_by, pointer_by, word_by, kids_at, tree_at, rows_at}
 use Rattle.cp_reading.specs.declared.aim.Aim.{Aim}
-use Rattle.cp_reading.specs.declared.aim.Kind.{Kind}
-use Rattle.cp_reading.specs.declared.aim.Kind.TheVariants as kinds
+use Rattle.cp_words.specs.declared.kind.Kind.{Kind}
+use Rattle.cp_words.specs.declared.kind.Kind.TheVariants as kinds
 use Rattle.cp_reading.specs.declared.area.Area.{Area}
 use Rattle.cp_reading.specs.declared.area.Form.{Form}
 use Rattle.cp_reading.specs.declared.area.Form.TheVariants as forms
-use Rattle.cp_reading.specs.declared.fault.Place.{Place}
+use Rattle.cp_words.specs.declared.place.Place.{Place}
 use Rattle.cp_reading.specs.declared.fault.TreeFault.{TreeFault}
 use Rattle.cp_reading.specs.Fills.{IsBody, form_of, Fills}
 use Rattle.cp_reading.proofs.Fills.{inner_depth, inner_cost, depth-body, cost-body, denotes_body}

@@ -4,16 +4,16 @@ use Rattle.std.proofs.Math.Nat.{mul-le-mul_left}
 use Rattle.cp_words.specs.Word.{words_for}
 use Rattle.cp_words.specs.declared.pointer.ElementSize.TheVariants as sizes
 use Rattle.cp_words.specs.declared.pointer.Pointer.{Pointer}
-use Rattle.cp_reading.specs.Node.{voids, Node, null, cap, struct, list, ptrs, structs, Nodes, no_nodes, node, Bodies, no_bodies, body, count, number_of, greatest_depth, deepest_body, cost, total_cost, body_cost}
-use Rattle.cp_reading.specs.Aims.{segment}
-use Rattle.cp_reading.specs.Denotes.{words_at, EachDenotes, EachBody}
+use Rattle.cp_tree.specs.Node.{voids, Node, null, cap, struct, list, ptrs, structs, Nodes, no_nodes, node, Bodies, no_bodies, body, count, number_of, greatest_depth, deepest_body, cost, total_cost, body_cost}
+use Rattle.cp_words.specs.Aims.{segment, words_at}
+use Rattle.cp_reading.specs.Denotes.{EachDenotes, EachBody}
 use Rattle.cp_reading.specs.Parts.{form_shape_of, part_node, IsPart}
 use Rattle.cp_reading.specs.Reading.{◌>>=◌, pointer_read, area_here, Read, Kids, entered, filled, bodies_by, price, body_words, lent_words, IsWhole, IsWithin, IsRootArea, top, body_by, kids_at, rows_at, most_nesting, most_traversal, node_in, tree_read, area_read}
-use Rattle.cp_reading.specs.Seen.{shape_of, node_at, body_at, part_of, AreWordsOf}
+use Rattle.cp_tree.specs.Seen.{shape_of, node_at, body_at, part_of, AreWordsOf}
 use Rattle.cp_reading.specs.declared.area.Area.{Area}
 use Rattle.cp_reading.specs.declared.area.Form.{Form}
 use Rattle.cp_reading.specs.declared.area.Form.TheVariants as forms
-use Rattle.cp_reading.specs.declared.fault.Place.{Place}
+use Rattle.cp_words.specs.declared.place.Place.{Place}
 use Rattle.cp_reading.specs.declared.fault.TreeFault.{TreeFault}
 use Rattle.cp_reading.specs.declared.view.Part.{Part}
 use Rattle.cp_reading.specs.declared.view.Part.TheVariants as parts

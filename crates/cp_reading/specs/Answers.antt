@@ -2,7 +2,7 @@
 use Rattle.std.specs.Prelude.{◌≡◌, ℕ, List, Result, Ok, Err}
 use Rattle.cp_words.specs.Limits.{Bounds}
 use Rattle.cp_reading.specs.Faults.{IsFaultOf}
-use Rattle.cp_reading.specs.Node.{Node}
+use Rattle.cp_tree.specs.Node.{Node}
 use Rattle.cp_reading.specs.declared.fault.TreeFault.{TreeFault}
 use Rattle.cp_reading.specs.declared.fault.TreeFault.TheVariants as faults
 

@@ -1,39 +1,14 @@
 -- What the words of a message denote. (Encoding specification: "Messages", "Structs", "Lists".)
-use Rattle.std.specs.Prelude.{◌≡◌, ℕ, ◌+◌, ◌*◌, ◌/◌, ◌%◌, ◌^◌, ◌≤◌, ◌==◌, Bool, List, length, take, drop, map, slice_index}
-use Rattle.std.specs.List.{range_with_len}
+use Rattle.std.specs.Prelude.{◌≡◌, ℕ, ◌+◌, ◌≤◌, List, length}
 use Rattle.cp_words.specs.Limits.{Bounds}
 use Rattle.cp_words.specs.Word.{words_for}
-use Rattle.cp_words.specs.declared.pointer.ElementSize.{ElementSize}
 use Rattle.cp_words.specs.declared.pointer.ElementSize.TheVariants as sizes
 use Rattle.cp_words.specs.declared.pointer.Pointer.TheVariants as pointers
 use Rattle.cp_reading.specs.declared.area.Form.TheVariants as forms
-use Rattle.cp_reading.specs.Node.{Elements, voids, bits, bytes, halves, quads, words, element_size, element_count, Node, null, cap, struct, list, ptrs, structs, Nodes, no_nodes, node, Bodies, no_bodies, body, count, number_of, depth, cost, IsStruct}
-use Rattle.cp_reading.specs.Aims.{segment, Holds, Locates}
-
--- so many words of a segment, from word q on
-abbrev pub words_at : List (List ℕ) → ℕ → ℕ → ℕ → List ℕ
-words_at S s q n = take n (drop q (segment S s))
-
--- Element k of w bits each: the elements lie one after another, the first in the lowest bits of the first word.
-abbrev pub element : List ℕ → ℕ → ℕ → ℕ
-element ws w k = slice_index ws (k * w / 64) / 2 ^ (k * w % 64) % 2 ^ w
-
--- the first n elements of w bits each
-abbrev pub numbers : List ℕ → ℕ → ℕ → List ℕ
-numbers ws w n = map (element ws w) (range_with_len 0 n)
-
--- the first n bits
-abbrev pub flags : List ℕ → ℕ → List Bool
-flags ws n = map (λ k. element ws 1 k == 1) (range_with_len 0 n)
-
--- the n elements of a size that the words of a body hold
-abbrev pub elements_of : List ℕ → ElementSize → ℕ → Elements
-elements_of ws sizes.Void n = voids n
-elements_of ws sizes.Bit n = bits (flags ws n)
-elements_of ws sizes.Byte n = bytes (numbers ws 8 n)
-elements_of ws sizes.TwoBytes n = halves (numbers ws 16 n)
-elements_of ws sizes.FourBytes n = quads (numbers ws 32 n)
-elements_of ws other n = words (numbers ws 64 n)
+use Rattle.cp_tree.specs.Node.{element_size, element_count, Node, null, cap, struct, list, ptrs, structs, Nodes, no_nodes, node, Bodies, no_bodies, body, count, number_of, depth, cost, IsStruct}
+use Rattle.cp_words.specs.Aims.{words_at, Holds}
+use Rattle.cp_tree.specs.Elements.{elements_of}
+use Rattle.cp_reading.specs.Locates.{Locates}
 
 -- Word p of segment s denotes the tree. A word of zero bits denotes null, and a capability word its index. Any other
 -- word has a body of the tree's form: a struct's data words come first, then its pointers; a list has its elements, one

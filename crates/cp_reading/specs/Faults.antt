@@ -7,12 +7,12 @@ use Rattle.cp_words.specs.declared.pointer.ElementSize.TheVariants as sizes
 use Rattle.cp_words.specs.declared.pointer.Pointer.{Pointer}
 use Rattle.cp_words.specs.declared.pointer.Pointer.TheVariants as pointers
 use Rattle.cp_words.specs.declared.pointer.Tag.{Tag}
-use Rattle.cp_reading.specs.declared.aim.Kind.{Kind}
-use Rattle.cp_reading.specs.declared.aim.Kind.TheVariants as kinds
+use Rattle.cp_words.specs.declared.kind.Kind.{Kind}
+use Rattle.cp_words.specs.declared.kind.Kind.TheVariants as kinds
 use Rattle.cp_reading.specs.declared.fault.TreeFault.{TreeFault}
 use Rattle.cp_reading.specs.declared.fault.TreeFault.TheVariants as faults
-use Rattle.cp_reading.specs.Node.{Node, depth, cost}
-use Rattle.cp_reading.specs.Aims.{segment, Holds, IsBodyPointer, IsPadTag, Aims}
+use Rattle.cp_tree.specs.Node.{Node, depth, cost}
+use Rattle.cp_words.specs.Aims.{segment, Holds, IsBodyPointer, IsPadTag, Aims}
 use Rattle.cp_reading.specs.Pruned.{Pruned, IsReachable}
 
 -- the words that a body of this kind takes, a composite list's tag included

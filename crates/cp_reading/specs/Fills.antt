@@ -4,8 +4,10 @@ use Rattle.cp_words.specs.Word.{words_for}
 use Rattle.cp_words.specs.declared.pointer.ElementSize.TheVariants as sizes
 use Rattle.cp_reading.specs.declared.area.Form.{Form}
 use Rattle.cp_reading.specs.declared.area.Form.TheVariants as forms
-use Rattle.cp_reading.specs.Node.{element_size, element_count, Node, null, cap, struct, list, ptrs, structs, Nodes, count, number_of}
-use Rattle.cp_reading.specs.Denotes.{words_at, elements_of, EachDenotes, EachBody}
+use Rattle.cp_tree.specs.Node.{element_size, element_count, Node, null, cap, struct, list, ptrs, structs, Nodes, count, number_of}
+use Rattle.cp_words.specs.Aims.{words_at}
+use Rattle.cp_tree.specs.Elements.{elements_of}
+use Rattle.cp_reading.specs.Denotes.{EachDenotes, EachBody}
 
 -- a tree that has a body
 abbrev pub IsBody : Node → Type 0

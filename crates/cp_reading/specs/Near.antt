@@ -2,11 +2,11 @@
 use Rattle.std.specs.Prelude.{◌≡◌, ℕ, List, Some, Result, Ok}
 use Rattle.cp_words.specs.Word.{pointer_of}
 use Rattle.cp_words.specs.declared.pointer.Pointer.{Pointer}
-use Rattle.cp_reading.specs.Node.{Node}
+use Rattle.cp_tree.specs.Node.{Node}
 use Rattle.cp_reading.specs.Reading.{◌>>=◌, aim_by, body_by, kids_at, top}
 use Rattle.cp_reading.specs.declared.aim.Aim.{Aim}
 use Rattle.cp_reading.specs.declared.area.Area.{Area}
-use Rattle.cp_reading.specs.declared.fault.Place.{Place}
+use Rattle.cp_words.specs.declared.place.Place.{Place}
 use Rattle.cp_reading.specs.declared.fault.TreeFault.{TreeFault}
 
 -- The word at this place aims at this body, whatever else the segments hold.

@@ -1,11 +1,11 @@
 -- What a view holds, and the tree that it stands for.
 use Rattle.std.specs.Prelude.{◌≡◌, ℕ, ◌+◌, ◌^◌, ◌<◌, List, true, is_ok}
-use Rattle.cp_reading.specs.Node.{Node, null, cap}
+use Rattle.cp_tree.specs.Node.{Node, null, cap}
 use Rattle.cp_reading.specs.Reading.{area_read, node_in, body_words, IsWithin}
 use Rattle.cp_reading.specs.declared.area.Form.{Form}
 use Rattle.cp_reading.specs.declared.area.Form.TheVariants as forms
-use Rattle.cp_reading.specs.declared.view.Shape.{Shape}
-use Rattle.cp_reading.specs.declared.view.Shape.TheVariants as shapes
+use Rattle.cp_tree.specs.declared.shape.Shape.{Shape}
+use Rattle.cp_tree.specs.declared.shape.Shape.TheVariants as shapes
 use Rattle.cp_reading.specs.declared.view.Part.{Part}
 use Rattle.cp_reading.specs.declared.view.Part.TheVariants as parts
 

@@ -3,9 +3,10 @@ use Rattle.std.specs.Prelude.{◌≡◌, ℕ, ◌+◌, ◌*◌, ◌<◌, List, l
 use Rattle.cp_words.specs.declared.pointer.ElementSize.TheVariants as sizes
 use Rattle.cp_reading.specs.declared.area.Form.{Form}
 use Rattle.cp_reading.specs.declared.area.Form.TheVariants as forms
-use Rattle.cp_reading.specs.Node.{Node, null, cap, struct, list, ptrs, structs, Nodes, no_nodes, node, Bodies, no_bodies, body, count, number_of}
-use Rattle.cp_reading.specs.Aims.{segment, Locates}
-use Rattle.cp_reading.specs.Denotes.{words_at, Denotes}
+use Rattle.cp_tree.specs.Node.{Node, null, cap, struct, list, ptrs, structs, Nodes, no_nodes, node, Bodies, no_bodies, body, count, number_of}
+use Rattle.cp_words.specs.Aims.{segment, words_at}
+use Rattle.cp_reading.specs.Locates.{Locates}
+use Rattle.cp_reading.specs.Denotes.{Denotes}
 
 -- As the word denotes, but null may stand for any word below it, and for the word itself.
 abbrev mutual

@@ -2,11 +2,11 @@
 use Rattle.std.specs.Prelude.{ℕ, List}
 use Rattle.cp_words.specs.declared.pointer.ElementSize.{ElementSize}
 use Rattle.cp_words.specs.declared.pointer.ElementSize.TheVariants as sizes
-use Rattle.cp_reading.specs.Node.{Node, struct, ptrs, structs, Nodes, no_nodes, Bodies, no_bodies}
+use Rattle.cp_tree.specs.Node.{Node, struct, ptrs, structs, Nodes, no_nodes, Bodies, no_bodies}
 use Rattle.cp_reading.specs.Parts.{part_node}
 use Rattle.cp_reading.specs.declared.area.Area.{Area}
 use Rattle.cp_reading.specs.declared.area.Form.TheVariants as forms
-use Rattle.cp_reading.specs.declared.fault.Place.{Place}
+use Rattle.cp_words.specs.declared.place.Place.{Place}
 use Rattle.cp_reading.specs.declared.view.Part.TheVariants as parts
 
 -- the pointers of a struct or of a list of pointers

@@ -1,6 +1,6 @@
 -- How many pointer words are visited.
 use Rattle.std.specs.Prelude.{ℕ, ◌+◌, Result, Ok, Err}
-use Rattle.cp_reading.specs.Node.{Node, null, cap, struct, list, ptrs, structs, Nodes, no_nodes, node, Bodies, no_bodies, body}
+use Rattle.cp_tree.specs.Node.{Node, null, cap, struct, list, ptrs, structs, Nodes, no_nodes, node, Bodies, no_bodies, body}
 use Rattle.cp_reading.specs.Reading.{Read}
 use Rattle.cp_reading.specs.declared.fault.TreeFault.{TreeFault}
 

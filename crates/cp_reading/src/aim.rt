@@ -2,21 +2,12 @@
 
 ghost use Rattle.std.specs.Prelude.{◌≡◌, ◌<◌, ◌^◌, length, slice_index, IfOk, IfSome};
 ghost use Rattle.cp_words.specs.Word.{pointer_of};
-ghost use Rattle.cp_reading.specs.Aims.{segment};
-ghost use Rattle.cp_reading.specs.NodeOf.{words_of};
+ghost use Rattle.cp_words.specs.Aims.{segment};
+ghost use Rattle.cp_tree.specs.NodeOf.{words_of};
 ghost use Rattle.cp_reading.specs.Reading.{start_of, aim_here, aim_two, pad_one, aim_far, aim_by, tag_kind_of};
 
-use crate::fault::{Place, TreeFault};
-use cp_words::{ElementSize, Pointer, decode};
-
-/// What a struct or list pointer says that its body is (encoding specification, "Structs", "Lists").
-#[derive(Clone, Copy)]
-pub enum Kind {
-    /// A struct of so many data words and so many pointers.
-    Struct { words: u16, ptrs: u16 },
-    /// A list of so many elements; of a composite one the count is of words, its tag aside.
-    List { size: ElementSize, count: u32 },
-}
+use crate::fault::TreeFault;
+use cp_words::{Kind, Place, Pointer, decode};
 
 /// The body at which a pointer aims. `None` starts before its segment.
 #[derive(Clone, Copy)]

@@ -2,13 +2,13 @@
 
 ghost use Rattle.std.specs.Prelude.{◌≡◌, ◌<◌, ◌≤◌, ◌+◌, ◌*◌, ◌^◌, length, true, Some, is_some, is_ok, IfSome, IfOk, IfErr, OnOk, OnErr, Ok, Err, slice_index};
 ghost use Rattle.cp_words.specs.Word.{tag_of, words_for};
-ghost use Rattle.cp_reading.specs.Aims.{segment};
-ghost use Rattle.cp_reading.specs.NodeOf.{words_of};
+ghost use Rattle.cp_words.specs.Aims.{segment};
+ghost use Rattle.cp_tree.specs.NodeOf.{words_of};
 ghost use Rattle.cp_reading.specs.Reading.{in_segment, start_of, placed, tagged, area_by, area_here, price, body_words, lent_words, toll, IsWhole, IsWithin};
 
-use crate::aim::{Aim, Kind, segment_at};
-use crate::fault::{Place, TreeFault};
-use cp_words::{ElementSize, Pointer, decode_tag, list_words};
+use crate::aim::{Aim, segment_at};
+use crate::fault::TreeFault;
+use cp_words::{ElementSize, Kind, Place, Pointer, decode_tag, list_words};
 
 /// What a body is.
 #[derive(Clone, Copy)]

@@ -1,19 +1,19 @@
 //! Going over a message's words once, without taking memory.
 
 ghost use Rattle.std.specs.Prelude.{◌≡◌, ◌<◌, ◌==◌, false, ◌≤◌, ◌+◌, ◌*◌, ◌^◌, List, ℕ, length, Some, Ok, Err, IfOk, IfErr, slice_index};
-ghost use Rattle.cp_reading.specs.Aims.{segment};
+ghost use Rattle.cp_words.specs.Aims.{segment};
 ghost use Rattle.cp_reading.specs.Near.{root_read};
-ghost use Rattle.cp_reading.specs.Node.{Node};
-ghost use Rattle.cp_reading.specs.NodeOf.{words_of};
+ghost use Rattle.cp_tree.specs.Node.{Node};
+ghost use Rattle.cp_tree.specs.NodeOf.{words_of};
 ghost use Rattle.cp_reading.specs.Reading.{body_by, filled, price, bodies_by, kids_at, tree_at, rows_at, root_of, body_words, IsRootArea, IsWithin};
 ghost use Rattle.cp_reading.specs.Visited.{passed, answered, pointers, pointers_of_row, pointers_of_bodies};
 
-use crate::aim::{Kind, aim_of, pointer_at, pointer_in, segment_at};
+use crate::aim::{aim_of, pointer_at, pointer_in, segment_at};
 use crate::area::{Area, Form, area_of, pay};
-use crate::fault::{Place, TreeFault};
+use crate::fault::TreeFault;
 use crate::near::{list_aim, struct_aim};
 use crate::visits::Visits;
-use cp_words::{ElementSize, Pointer};
+use cp_words::{ElementSize, Kind, Place, Pointer};
 use std::sync::ledger::Ledger;
 
 /// Checks what hangs on one pointer word.

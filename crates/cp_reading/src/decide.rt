@@ -1,20 +1,20 @@
 //! Whether a word denotes a given tree, told part by part: slow, for comparing with the reader.
 
 ghost use Rattle.std.specs.Prelude.{◌≡◌, ◌<◌, ◌≤◌, ◌+◌, ◌*◌, ◌^◌, ℕ, List, length, map, Some, IfOk, IfSome, Decides};
-ghost use Rattle.cp_reading.specs.Aims.{segment, Locates};
+ghost use Rattle.cp_words.specs.Aims.{segment};
+ghost use Rattle.cp_reading.specs.Locates.{Locates};
 ghost use Rattle.cp_reading.specs.Denotes.{Denotes, EachDenotes, EachBody};
 ghost use Rattle.cp_reading.specs.Fills.{form_of, Fills, IsBodyAt};
-ghost use Rattle.cp_reading.specs.NodeOf.{node_of, body_of, nodes_of, bodies_of, words_of};
+ghost use Rattle.cp_tree.specs.NodeOf.{node_of, body_of, nodes_of, bodies_of, words_of};
 ghost use Rattle.cp_reading.specs.Reading.{body_words, IsWhole, IsWithin};
 ghost use Rattle.cp_reading.specs.declared.area.Form.{Form};
 
 use crate::aim::{aim_of, pointer_at, segment_at};
 use crate::area::{Area, Form, area_of};
 use crate::decide_list::{list_count, list_holds};
-use crate::fault::Place;
-use crate::tree::{Body, Tree};
 use crate::view::words_at;
-use cp_words::{ElementSize, Pointer, Segments};
+use cp_tree::{Body, Tree};
+use cp_words::{ElementSize, Place, Pointer, Segments};
 use std::alloc::{AllocError, Global};
 
 /// The body that a pointer word has.

@@ -2,14 +2,14 @@
 
 ghost use Rattle.std.specs.Prelude.{◌≡◌, length, is_some, IfOk, IfSome, IsTrue, Decides};
 ghost use Rattle.cp_reading.specs.Fills.{IsListIn};
-ghost use Rattle.cp_reading.specs.Node.{list, bits, bytes, halves, quads, words as words_list};
-ghost use Rattle.cp_reading.specs.NodeOf.{node_of};
+ghost use Rattle.cp_tree.specs.Node.{list, bits, bytes, halves, quads, words as words_list};
+ghost use Rattle.cp_tree.specs.NodeOf.{node_of};
 ghost use Rattle.cp_reading.specs.Reading.{lent_words};
 ghost use Rattle.cp_reading.specs.declared.area.Form.TheVariants as forms;
 
 use crate::area::Form;
 use crate::read::{bits_of, bytes_of, halves_of, quads_of, words_of};
-use crate::tree::Tree;
+use cp_tree::Tree;
 use cp_words::ElementSize;
 use std::alloc::{AllocError, Global};
 

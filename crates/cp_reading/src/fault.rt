@@ -1,13 +1,7 @@
 //! What can be wrong with a message's words.
 
+use cp_words::Place;
 use std::alloc::{AllocError, AllocFailed};
-
-/// A word of a message: its segment, and its number in that segment, each from 0.
-#[derive(Clone, Copy, PartialEq, Eq, Debug)]
-pub struct Place {
-    pub segment: usize,
-    pub word: usize,
-}
 
 /// What is wrong with a message's words, and the pointer word that is to blame: one that stands in
 /// a body, or segment 0 word 0 for the root.

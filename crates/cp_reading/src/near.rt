@@ -4,11 +4,10 @@ ghost use Rattle.std.specs.Prelude.{◌≡◌, ◌<◌, ◌%◌, ◌/◌, ◌^�
 ghost use Rattle.cp_words.specs.Word.{high_of, offset_of, size_of};
 ghost use Rattle.cp_reading.specs.Near.{Near};
 ghost use Rattle.cp_reading.specs.Reading.{start_of};
-ghost use Rattle.cp_reading.specs.declared.aim.Kind.TheVariants.{Struct};
+ghost use Rattle.cp_words.specs.declared.kind.Kind.TheVariants.{Struct};
 
-use crate::aim::{Aim, Kind, start_from};
-use crate::fault::Place;
-use cp_words::{offset_of, size_of};
+use crate::aim::{Aim, start_from};
+use cp_words::{Kind, Place, offset_of, size_of};
 
 /// Where the body of a struct or list word begins, unless that is before its segment.
 #[inline(always)]

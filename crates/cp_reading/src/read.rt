@@ -6,9 +6,10 @@ ghost use Rattle.std.specs.List.{range_with_len};
 ghost use Rattle.cp_words.specs.Word.{words_for};
 ghost use Rattle.cp_words.specs.declared.pointer.ElementSize.TheVariants as sizes;
 ghost use Rattle.cp_reading.specs.Answers.{Answers, IsRefusalOf};
-ghost use Rattle.cp_reading.specs.Denotes.{element, numbers, flags, elements_of, Root};
-ghost use Rattle.cp_reading.specs.Node.{Node, struct, list};
-ghost use Rattle.cp_reading.specs.NodeOf.{node_of, body_of, nodes_of, bodies_of, words_of};
+ghost use Rattle.cp_tree.specs.Elements.{element, numbers, flags, elements_of};
+ghost use Rattle.cp_reading.specs.Denotes.{Root};
+ghost use Rattle.cp_tree.specs.Node.{Node, struct, list};
+ghost use Rattle.cp_tree.specs.NodeOf.{node_of, body_of, nodes_of, bodies_of, words_of};
 ghost use Rattle.cp_reading.specs.Parts.{part_node, IsPart};
 ghost use Rattle.cp_reading.specs.Rows.{bodies_in, struct_at, structs_at, trees_from, IsData};
 ghost use Rattle.cp_reading.specs.Visited.{pointers, pointers_of_row, pointers_of_bodies};
@@ -16,12 +17,11 @@ ghost use Rattle.cp_reading.specs.declared.fault.TreeFault.TheVariants.{OutOfMem
 ghost use Rattle.cp_reading.specs.declared.view.Part.TheVariants as parts;
 
 use crate::area::{Area, Form};
-use crate::fault::{Place, TreeFault};
-use crate::tree::{Body, Tree};
+use crate::fault::TreeFault;
 use crate::view::{Part, View, part_at, root_counted, words_at};
 use crate::visits::Visits;
-use crate::whole::{Object, Whole};
-use cp_words::{ElementSize, Limits, Segments, list_words};
+use cp_tree::{Body, Object, Tree, Whole};
+use cp_words::{ElementSize, Limits, Place, Segments, list_words};
 use std::alloc::{AllocError, Global};
 use std::marker::Brand;
 use std::sync::ledger::{Blank, Ledger};
@@ -349,9 +349,7 @@ pub(crate) fn whole_of<L: Ledger>(
 {
     view.holds_a_shaped_tree();
     let (lists, part) = view.place();
-    Ok(Whole {
-        tree: build(alloc, lists, part, visits)?,
-    })
+    Ok(Whole::from_shaped(build(alloc, lists, part, visits)?))
 }
 
 /// The message's tree, owned: what word 0 of segment 0 stands for (encoding specification,

@@ -1,43 +1,29 @@
 //! Trees that are read in place.
 
 ghost use Rattle.std.specs.Prelude.{◌≡◌, ◌<◌, ◌≤◌, ◌+◌, ◌*◌, ◌^◌, length, true, is_ok, IfOk, IfErr, Ok};
-ghost use Rattle.cp_reading.specs.Aims.{segment};
-ghost use Rattle.cp_reading.specs.Denotes.{words_at, Root};
+ghost use Rattle.cp_words.specs.Aims.{segment, words_at};
+ghost use Rattle.cp_reading.specs.Denotes.{Root};
 ghost use Rattle.cp_reading.specs.Faults.{IsFaultOf};
-ghost use Rattle.cp_reading.specs.Node.{Node};
+ghost use Rattle.cp_tree.specs.Node.{Node};
 ghost use Rattle.cp_reading.specs.Visited.{pointers};
-ghost use Rattle.cp_reading.specs.NodeOf.{words_of};
+ghost use Rattle.cp_tree.specs.NodeOf.{words_of};
 ghost use Rattle.cp_reading.specs.Reading.{tree_read, pointer_read, area_read, node_in, body_words, IsWithin};
 ghost use Rattle.cp_reading.specs.Parts.{form_shape_of, part_node, IsPart};
-ghost use Rattle.cp_reading.specs.Seen.{part_of};
+ghost use Rattle.cp_tree.specs.Seen.{part_of};
 ghost use Rattle.cp_reading.specs.declared.view.Part.TheVariants.{Body};
 
 use crate::aim::{aim_of, pointer_at, segment_at};
 use crate::area::{Area, Form, area_again, area_of};
 use crate::check::check_root;
-use crate::fault::{Place, TreeFault};
+use crate::fault::TreeFault;
+use crate::fit::lists_fit;
 use crate::read::whole_of;
-use crate::shape::lists_fit;
 use crate::visits::Visits;
-use crate::whole::Whole;
-use cp_words::{ElementSize, Limits, Pointer, Segments};
+use cp_tree::{Shape, Whole};
+use cp_words::{ElementSize, Limits, Place, Pointer, Segments};
 use std::alloc::{AllocError, Global};
 use std::marker::{Brand, Model};
 use std::sync::ledger::{Blank, Ledger};
-
-/// A tree's kind and sizes.
-#[derive(Clone, Copy, PartialEq, Eq, Debug)]
-pub enum Shape {
-    Null,
-    /// A capability: its index in the message's capability table.
-    Cap(u32),
-    /// A struct of so many data words and pointers.
-    Struct { words: u16, ptrs: u16 },
-    /// A list of so many elements.
-    List { size: ElementSize, count: u32 },
-    /// A composite list: so many elements, each of `words` data words and `ptrs` pointers.
-    Structs { words: u16, ptrs: u16, count: u32 },
-}
 
 /// What a view shows: a tree without a body, or one with a body.
 #[derive(Clone, Copy)]
@@ -55,16 +41,16 @@ pub struct View<'a> {
 }
 
 impl<'a> Model for View<'a> {
-    ghost use Rattle.cp_reading.specs.Node.{Node};
-    ghost use Rattle.cp_reading.specs.Code.{tree_code};
+    ghost use Rattle.cp_tree.specs.Node.{Node};
+    ghost use Rattle.cp_tree.specs.Code.{tree_code};
 
     ghost Value = { Node };
 
     ghost coded = { tree_code };
 
-    ghost use Rattle.cp_reading.specs.NodeOf.{words_of};
+    ghost use Rattle.cp_tree.specs.NodeOf.{words_of};
     ghost use Rattle.cp_reading.specs.Parts.{part_node, IsPart};
-    ghost use Rattle.cp_reading.specs.Shaped.{Shaped};
+    ghost use Rattle.cp_tree.specs.Shaped.{Shaped};
 
     ghost view = { λ v. part_node (words_of v.lists.now) v.part };
 
@@ -75,11 +61,11 @@ impl<'a> View<'a> {
     ghost use Rattle.std.specs.Prelude.{◌≡◌, IfOk, IfErr, Ok};
     ghost use Rattle.cp_reading.specs.Denotes.{Root};
     ghost use Rattle.cp_reading.specs.Faults.{IsFaultOf};
-    ghost use Rattle.cp_reading.specs.Node.{Node};
-    ghost use Rattle.cp_reading.specs.NodeOf.{words_of};
+    ghost use Rattle.cp_tree.specs.Node.{Node};
+    ghost use Rattle.cp_tree.specs.NodeOf.{words_of};
     ghost use Rattle.cp_reading.specs.Parts.{part_node, IsPart};
-    ghost use Rattle.cp_reading.specs.Seen.{shape_of, part_of, AreWordsOf};
-    ghost use Rattle.cp_reading.specs.Shaped.{Shaped};
+    ghost use Rattle.cp_tree.specs.Seen.{shape_of, part_of, AreWordsOf};
+    ghost use Rattle.cp_tree.specs.Shaped.{Shaped};
 
     /// The message's tree: what word 0 of segment 0 stands for (encoding specification,
     /// "Messages"). All that is reachable is gone over once and checked against the limits, without

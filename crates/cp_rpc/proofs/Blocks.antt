@@ -7,7 +7,7 @@ use Rattle.std.proofs.lemmas.List.FromFn.{take-map-range_with_len, length-map-ra
 use Rattle.std.proofs.lemmas.Str.{IsUtf8-append, IsUtf8-take, IsUtf8-from_ascii, IsUtf8-from_is_utf8, is_utf8-from_IsUtf8}
 use Rattle.std.specs.List.{range_with_len}
 use Rattle.std.specs.Str.{IsAscii, IsCharBoundary, is_utf8}
-use Rattle.cp_tree.specs.Denotes.{numbers, element}
+use Rattle.cp_tree.specs.Elements.{numbers, element}
 use Rattle.cp_rpc.specs.Blocks.{byte_before}
 use Rattle.cp_rpc.specs.Fields.{is_text}
 

@@ -3,12 +3,12 @@ use Rattle.std.proofs.lemmas.Str.{IsUtf8-from_is_utf8}
 use Rattle.std.proofs.lemmas.List.{length-take-le}
 use Rattle.std.proofs.Common.{◌≡◌, Bool, true, false, ◌&&◌, [], ◌∷◌, take, ℕ, zero, suc, ◌-◌, ◌<◌, List, length, get_or, IsUtf8, refl, ap, ◌∙◌, sym, arith}
 use Rattle.cp_words.specs.declared.pointer.ElementSize.{ElementSize}
-use Rattle.cp_tree.specs.Denotes.{numbers}
+use Rattle.cp_tree.specs.Elements.{numbers}
 use Rattle.cp_rpc.proofs.Blocks.{but_last, text-numbers}
 use Rattle.cp_tree.specs.Node.{voids, bits, bytes, halves, quads, words, Node, null, cap, struct, list, ptrs, structs, Bodies, no_bodies, body, number_of}
 use Rattle.cp_tree.specs.Seen.{shape_of, part_of, body_at, AreWordsOf}
-use Rattle.cp_reading.specs.declared.view.Shape.{Shape}
-use Rattle.cp_reading.specs.declared.view.Shape.TheVariants as shapes
+use Rattle.cp_tree.specs.declared.shape.Shape.{Shape}
+use Rattle.cp_tree.specs.declared.shape.Shape.TheVariants as shapes
 use Rattle.cp_rpc.specs.Fields.{items_of, structs_in, bytes_of, text_of, is_text, look_of, IsTextField, IsStructField}
 use Rattle.cp_rpc.specs.declared.source.Look.{Look}
 use Rattle.cp_rpc.specs.declared.source.Look.TheVariants as looks

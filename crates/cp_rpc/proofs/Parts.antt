@@ -4,8 +4,8 @@ use Rattle.cp_tree.specs.Node.{Node, null, cap, struct, list, ptrs, structs, Nod
 use Rattle.cp_tree.specs.Seen.{pointee_of, node_at}
 use Rattle.cp_tree.specs.Shaped.{Shaped, EachShaped, EachEven, HasSizes}
 use Rattle.cp_tree.specs.NodeOf.{node_of, body_of, bodies_of}
-use Rattle.cp_reading.specs.declared.tree.Tree.{Structs}
-use Rattle.cp_reading.specs.declared.tree.Body.{Body, the_lemmas}
+use Rattle.cp_tree.specs.declared.tree.Tree.{Structs}
+use Rattle.cp_tree.specs.declared.tree.Body.{Body, the_lemmas}
 use Rattle.cp_rpc.specs.Fields.{items_of, structs_in, look_of}
 use Rattle.cp_rpc.specs.OwnedNode.{body_node}
 use Rattle.cp_rpc.specs.declared.source.Look.TheVariants as looks

@@ -8,7 +8,7 @@ use Rattle.std.proofs.lemmas.Str.{is_utf8-from_IsUtf8}
 use Rattle.std.proofs.Math.Seq.{take-append_seam, get_or-append_seam}
 use Rattle.cp_tree.specs.Node.{Node, struct, data_of}
 use Rattle.cp_tree.specs.NodeOf.{bodies_of}
-use Rattle.cp_tree.specs.Rows.{row_of}
+use Rattle.cp_reading.specs.Rows.{row_of}
 use Rattle.cp_rpc.specs.Fields.{u16_of, is_text, text_of, items_of, structs_in, list_faults, text_faults}
 use Rattle.cp_rpc.specs.Held.{IsU16, IsPast, IsText, IsKind, IsOp}
 use Rattle.cp_rpc.specs.Made.{text_made, body_made, list_made, kind_number, op_number, op_field, op_made, transform_made}

@@ -6,7 +6,7 @@ use Rattle.std.proofs.lemmas.Bool.Decides.{nat_tests}
 use Rattle.std.proofs.lemmas.List.Elements.{All-head, All-tail, All-nil, All-cons, All-push}
 use Rattle.cp_tree.specs.Node.{Node, null, struct, no_nodes, node, count, number_of, data_of}
 use Rattle.cp_tree.specs.NodeOf.{bodies_of}
-use Rattle.cp_tree.specs.Rows.{row_of}
+use Rattle.cp_reading.specs.Rows.{row_of}
 use Rattle.cp_tree.specs.Shaped.{AllFit, HasSizes, Shaped, EachShaped, EachEven}
 use Rattle.cp_rpc.specs.Held.{IsU16, IsU32, IsText, IsException, IsOp, IsPromisedAnswer, IsTarget, IsDescriptor, IsPayload, IsSendResultsTo, IsCall, IsReturned, IsReturn, IsResolution, IsResolve, IsDisembargo, IsMessage}
 use Rattle.cp_rpc.specs.Fitting.{text_fits, exception_fits, promised_answer_fits, target_fits, descriptor_fits, payload_fits, call_fits, returned_fits, resolution_fits, message_fits}

@@ -1,6 +1,6 @@
 -- Bytes of words, tested block by block.
 use Rattle.std.specs.Prelude.{ℕ, if◌then◌else◌, nat_lt, List}
-use Rattle.cp_tree.specs.Denotes.{element}
+use Rattle.cp_tree.specs.Elements.{element}
 
 -- byte k of the words, and zero from a number on
 abbrev pub byte_before : List ℕ → ℕ → ℕ → ℕ

@@ -1,7 +1,7 @@
 -- The fields of a struct. (Encoding specification: "Structs", "Lists", "Default Values".)
 use Rattle.std.specs.Prelude.{◌≡◌, ℕ, true, ◌-◌, ◌==◌, ◌&&◌, Bool, if◌then◌else◌, List, [], ◌∷◌, length, take, slice_index_or}
 use Rattle.std.specs.Str.{is_utf8}
-use Rattle.cp_tree.specs.Denotes.{element}
+use Rattle.cp_tree.specs.Elements.{element}
 use Rattle.cp_tree.specs.Node.{bytes, Node, null, struct, list, structs, Bodies, no_bodies, body, number_of}
 use Rattle.cp_rpc.specs.declared.source.Look.{Look}
 use Rattle.cp_rpc.specs.declared.source.Look.TheVariants as looks

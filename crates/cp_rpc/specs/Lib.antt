@@ -1,4 +1,3 @@
-pub use Rattle.cp_tree.specs.Node
 pub mod Answers
 pub mod Told
 pub mod Names

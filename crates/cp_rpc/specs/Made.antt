@@ -3,7 +3,7 @@
 use Rattle.std.specs.Prelude.{ℕ, ◌+◌, ◌*◌, ◌%◌, ◌^◌, Bool, not, if◌then◌else◌, List, [], ◌∷◌, ◌++◌, map}
 use Rattle.cp_tree.specs.Node.{bytes, Node, null, struct, list, structs, Nodes, data_of}
 use Rattle.cp_tree.specs.NodeOf.{nodes_of, bodies_of}
-use Rattle.cp_tree.specs.Rows.{row_of}
+use Rattle.cp_reading.specs.Rows.{row_of}
 use Rattle.cp_rpc.specs.declared.exception.ExceptionKind.{ExceptionKind}
 use Rattle.cp_rpc.specs.declared.exception.ExceptionKind.TheVariants as kinds
 use Rattle.cp_rpc.specs.declared.exception.Exception.{Exception}

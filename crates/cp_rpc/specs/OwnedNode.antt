@@ -1,7 +1,7 @@
 -- The tree that a part of an owned tree is.
 use Rattle.cp_tree.specs.Node.{Node, null, struct}
 use Rattle.cp_tree.specs.NodeOf.{node_of, body_of}
-use Rattle.cp_reading.specs.declared.tree.Body.{Body}
+use Rattle.cp_tree.specs.declared.tree.Body.{Body}
 use Rattle.cp_rpc.specs.declared.owned.Part.{Part}
 use Rattle.cp_rpc.specs.declared.owned.Part.TheVariants as parts
 

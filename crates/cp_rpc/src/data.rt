@@ -1,7 +1,7 @@
 //! The fields of a struct's data section (encoding specification, "Structs").
 
 ghost use Rattle.std.specs.Prelude.{◌≡◌, ◌==◌, ◌<◌, ◌≤◌, ◌^◌};
-ghost use Rattle.cp_tree.specs.Denotes.{element};
+ghost use Rattle.cp_tree.specs.Elements.{element};
 ghost use Rattle.cp_rpc.specs.Made.{u16_part as u16_made, u32_part as u32_made, bit_part as bit_made};
 
 /// The `index`-th number of so many bits, counted from the section's start. What lies past its end

@@ -24,7 +24,8 @@ use crate::resolve::{Resolve, ResolveView};
 use crate::returned::{Return, ReturnView};
 use crate::small::{Bootstrap, Finish, Release};
 use crate::source::Source;
-use cp_tree::{Draft, View, Whole};
+use cp_reading::View;
+use cp_tree::{Draft, Whole};
 use std::alloc::{AllocError, Global};
 use std::marker::Model;
 

@@ -11,7 +11,8 @@ ghost use Rattle.cp_rpc.specs.declared.message.Message.{Message};
 use crate::fault::SchemaFault;
 use crate::message::{Message, MessageIn, MessageView};
 use crate::owned::Owned;
-use cp_tree::{Object, View};
+use cp_reading::View;
+use cp_tree::Object;
 use std::alloc::Global;
 
 /// The message that the root struct of a frame says, read in place. A fault is the first in the

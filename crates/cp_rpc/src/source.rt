@@ -7,7 +7,8 @@ ghost use Rattle.cp_rpc.specs.Fields.{IsStructField, IsTextField, items_of, look
 
 use crate::text::Text;
 use crate::utf8;
-use cp_tree::{Shape, View, Whole};
+use cp_reading::View;
+use cp_tree::{Shape, Whole};
 use cp_words::ElementSize;
 use std::alloc::{AllocError, Global};
 

@@ -2,7 +2,7 @@
 
 ghost use Rattle.std.specs.Prelude.{◌≡◌, ◌+◌, ◌-◌, ◌<◌, ◌≤◌, ◌^◌, ◌↔◌, IfOk, IsTrue, IsUtf8, map, take, length, true};
 ghost use Rattle.std.specs.List.{range_with_len};
-ghost use Rattle.cp_tree.specs.Denotes.{numbers};
+ghost use Rattle.cp_tree.specs.Elements.{numbers};
 ghost use Rattle.cp_rpc.specs.Fields.{is_text};
 ghost use Rattle.cp_rpc.specs.Blocks.{byte_before};
 

@@ -3,3 +3,5 @@ pub mod Readers
 pub mod Taking
 pub mod Writing
 pub mod Only
+pub mod LayoutDenotes
+pub mod ReadBack

@@ -6,15 +6,15 @@ use Rattle.std.proofs.lemmas.Option.{none-some}
 use Rattle.std.specs.Io.KnownBytes.{Consumes, IsAtEnd}
 use Rattle.cp_words.specs.Limits.{Bounds}
 use Rattle.cp_tree.specs.Node.{Node}
-use Rattle.cp_tree.proofs.ReadBack.{denotes_one}
+use Rattle.cp_reading.proofs.OneTree.{denotes_one}
 use Rattle.cp_frame.specs.declared.mode.Mode.{Mode}
 use Rattle.cp_frame.specs.declared.mode.Mode.TheVariants as modes
 use Rattle.cp_frame.specs.declared.fault.FrameFault.{FrameFault}
 use Rattle.cp_frame.specs.declared.fault.FrameFault.TheVariants as frames
-use Rattle.cp_frame.specs.Framed.{AreBytes}
+use Rattle.cp_packed.specs.Words.{AreBytes}
 use Rattle.cp_frame.specs.Frame.{Frame}
 use Rattle.cp_frame.specs.Stream as streams
-use Rattle.cp_frame.specs.Unpacking.{nothing}
+use Rattle.cp_packed.specs.Unpacking.{nothing}
 use Rattle.cp_frame.proofs.Framing.{length_framed}
 use Rattle.cp_packed.proofs.Laying.{pending_nothing}
 use Rattle.cp_frame.proofs.Streams.{OneFront, one_front_plain, plain_fault, fault_stays_plain}

@@ -8,16 +8,16 @@ use Rattle.std.specs.Io.KnownBytes.{Appends}
 use Rattle.std.proofs.KnownBytes.{Appends-nil, Appends-trans}
 use Rattle.cp_words.specs.Limits.{Bounds, IsAllowed}
 use Rattle.cp_tree.specs.Shaped.{Shaped, AllFit}
-use Rattle.cp_tree.specs.Sheets.{lists}
-use Rattle.cp_tree.specs.Writes.{IsWriteFaultOf, room_for, laid_out}
+use Rattle.cp_writing.specs.Sheets.{lists}
+use Rattle.cp_writing.specs.Writes.{IsWriteFaultOf, room_for, laid_out}
 use Rattle.cp_tree.specs.declared.fault.WriteFault.{WriteFault}
 use Rattle.cp_tree.specs.declared.fault.WriteFault.TheVariants as writes
-use Rattle.cp_tree.proofs.OneSegment.{one_segment, one_segment_alone}
-use Rattle.cp_tree.proofs.LaidOut.{laid_out_is_layout}
-use Rattle.cp_tree.proofs.ReadBack.{laid_root}
+use Rattle.cp_writing.proofs.OneSegment.{one_segment, one_segment_alone}
+use Rattle.cp_writing.proofs.LaidOut.{laid_out_is_layout}
+use Rattle.cp_stream.proofs.ReadBack.{laid_root}
 use Rattle.cp_frame.specs.declared.mode.Mode.{Mode}
 use Rattle.cp_frame.specs.declared.mode.Mode.TheVariants as modes
-use Rattle.cp_frame.specs.Framed.{AreWords}
+use Rattle.cp_packed.specs.Words.{AreWords}
 use Rattle.cp_frame.specs.Runs.{IsReadBack}
 use Rattle.cp_frame.proofs.Whole.{read_back_plain}
 use Rattle.cp_frame.proofs.Rests.{read_back_packed}

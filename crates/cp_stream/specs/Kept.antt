@@ -8,12 +8,11 @@ use Rattle.cp_frame.specs.Reader as frames
 use Rattle.cp_frame.specs.Stream.{Frames}
 use Rattle.cp_rpc.specs.declared.message.Message.{Message}
 use Rattle.cp_stream.specs.Stream.{HasFault}
-use Rattle.cp_stream.specs.Reader.{Reads, IsMemory}
+use Rattle.cp_stream.specs.Reader.{Reads, IsMemory, Reader, State, failed, refusing, reading}
 use Rattle.cp_stream.specs.declared.fault.Refusal.{Refusal}
 use Rattle.cp_stream.specs.declared.fault.Refusal.TheVariants as refusals
 use Rattle.cp_stream.specs.declared.status.Status.{Status}
 use Rattle.cp_stream.specs.declared.status.Status.TheVariants as statuses
-use Rattle.cp_stream.specs.Reader.{Reader, State, failed, refusing, reading}
 use Rattle.cp_stream.specs.declared.tap.Tap.{Tap}
 use Rattle.cp_stream.specs.Write.{Sends}
 

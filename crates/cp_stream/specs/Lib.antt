@@ -1,4 +1,3 @@
-pub use Rattle.cp_words.specs.Limits
 pub mod Tap
 pub mod Stream
 pub mod Reader

@@ -3,8 +3,8 @@
 use Rattle.std.specs.Prelude.{◌≡◌, ℕ, List, [], ◌∷◌, ◌++◌, length, Some}
 use Rattle.cp_words.specs.Limits.{Bounds}
 use Rattle.cp_tree.specs.Node.{Node}
-use Rattle.cp_tree.specs.Denotes.{Root}
-use Rattle.cp_tree.specs.Faults.{IsFaultOf}
+use Rattle.cp_reading.specs.Denotes.{Root}
+use Rattle.cp_reading.specs.Faults.{IsFaultOf}
 use Rattle.cp_frame.specs.declared.mode.Mode.{Mode}
 use Rattle.cp_frame.specs.Frame.{Frame}
 use Rattle.cp_frame.specs.Stream as frames

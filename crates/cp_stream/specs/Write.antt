@@ -2,11 +2,11 @@
 use Rattle.std.specs.Prelude.{◌≡◌, ◌≢◌, ◌⊎◌, ℕ, ◌+◌, ◌%◌, ◌^◌, ◌≤◌, List, [], ◌++◌, Option, length, map, max, sum}
 use Rattle.std.specs.Io.KnownBytes.{Appends}
 use Rattle.cp_words.specs.Limits.{Bounds}
-use Rattle.cp_tree.specs.Layout.{Layout}
+use Rattle.cp_writing.specs.Layout.{Layout}
 use Rattle.cp_tree.specs.Shaped.{Shaped}
-use Rattle.cp_tree.specs.Sheets.{lists}
+use Rattle.cp_writing.specs.Sheets.{lists}
 use Rattle.cp_tree.specs.declared.fault.WriteFault.{WriteFault}
-use Rattle.cp_tree.specs.Writes.{FitsIn, IsWriteFaultOf, room_for, laid_out}
+use Rattle.cp_writing.specs.Writes.{FitsIn, IsWriteFaultOf, room_for, laid_out}
 use Rattle.cp_frame.specs.declared.mode.Mode.{Mode}
 use Rattle.cp_frame.specs.declared.fault.FrameFault.TheVariants as frames
 use Rattle.cp_frame.specs.Frame.{Written}

@@ -6,8 +6,9 @@ ghost use Rattle.cp_stream.specs.declared.fault.Refusal.TheVariants.{Frame, Tree
 ghost use Rattle.cp_stream.specs.declared.fault.StreamFault.TheVariants.{Refused};
 
 use cp_frame::FrameFault;
+use cp_reading::TreeFault;
 use cp_rpc::SchemaFault;
-use cp_tree::{TreeFault, WriteFault};
+use cp_tree::WriteFault;
 use std::alloc::{AllocError, AllocFailed};
 
 /// What is wrong with bytes that were read, or with a message that was to be written.

@@ -11,10 +11,8 @@ mod tap;
 mod view;
 mod write;
 
-pub use cp_frame::Mode;
-pub use cp_words::Limits;
 pub use fault::{Refusal, StreamFault};
-pub use laws::read_back;
+pub use laws::{layout_denotes, read_back, written_is_read};
 pub use read::{read_message, read_segments};
 pub use reader::MessageReader;
 pub use tap::Tap;

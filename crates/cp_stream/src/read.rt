@@ -2,7 +2,7 @@
 
 ghost use Rattle.std.specs.Prelude.{◌≡◌, ◌≢◌, ◌<◌, ◌≤◌, ℕ, List, [], IfOk, IfErr, OnOk, OnErr, Some, None, length, take};
 ghost use Rattle.std.specs.Io.KnownBytes.{Consumes, IsAtEnd};
-ghost use Rattle.cp_frame.specs.Framed.{AreBytes};
+ghost use Rattle.cp_packed.specs.Words.{AreBytes};
 ghost use Rattle.cp_frame.specs.Reader.{StandsFor, IsReading, new_reader as fresh_reader};
 ghost use Rattle.cp_frame.specs.declared.fault.FrameFault.TheVariants.{Truncated};
 ghost use Rattle.cp_stream.specs.declared.fault.Refusal.TheVariants as refusals;

@@ -8,8 +8,8 @@ ghost use Rattle.cp_stream.specs.Reader.{IsAt, IsMemory};
 ghost use Rattle.cp_stream.specs.Answers.{AnswersView};
 
 use crate::fault::{Refusal, StreamFault, refused};
+use cp_reading::View;
 use cp_rpc::{Message, MessageView, SchemaFault, check_message, message_view};
-use cp_tree::View;
 use cp_words::{Limits, Segments};
 use std::alloc::Global;
 

@@ -8,8 +8,9 @@ use crate::fault::{Refusal, StreamFault, refused};
 use crate::tap::Tap;
 use cp_frame::{Mode, write_frame};
 use cp_rpc::{Message, draft_of};
-use cp_tree::{WriteFault, write_draft};
+use cp_tree::WriteFault;
 use cp_words::{Limits, Segments};
+use cp_writing::write_draft;
 use std::alloc::Global;
 use std::io::Write;
 
@@ -61,7 +62,7 @@ fn frame_of(
 }
 
 /// Writes a message as one frame, in segments of at most so many words as by
-/// `cp_tree::write_segments` (encoding specification, "Serialization Over a Stream", "Packing").
+/// `cp_writing::write_segments` (encoding specification, "Serialization Over a Stream", "Packing").
 ///
 /// B2 if a list of it has 2^29 elements or words or more; else B1 if it nests deeper than the limit;
 /// else B2 if it costs more; else B4 if its segments have more words together than a frame may have;
@@ -84,7 +85,7 @@ pub fn write_message_in<W: Write>(
     }
 }
 
-/// Writes a message as one frame of one segment, as by `cp_tree::write_root`. Faults are those of
+/// Writes a message as one frame of one segment, as by `cp_writing::write_root`. Faults are those of
 /// `write_message_in`.
 pub fn write_message<W: Write>(
     alloc: Global,

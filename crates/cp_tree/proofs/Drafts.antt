@@ -2,12 +2,11 @@
 use Rattle.std.proofs.Common.{◌≡◌, ℕ, ◌+◌, ◌<◌, List, Vec, Global, Bor, length, map, drop, get_or, rules}
 use Rattle.cp_tree.specs.declared.draft.Draft.{Draft, the_lemmas}
 use Rattle.cp_tree.specs.declared.draft.Draft.TheVariants as drafts
-use Rattle.cp_tree.specs.declared.draft.DraftBody.{DraftBody}
-use Rattle.cp_tree.specs.declared.draft.DraftBody.{the_lemmas as body_lemmas}
+use Rattle.cp_tree.specs.declared.draft.DraftBody.{DraftBody, the_lemmas as body_lemmas}
 use Rattle.cp_tree.specs.DraftOf.{draft_of, draft_body_of}
-use Rattle.cp_reading.specs.Node.{body, struct, ptrs, structs}
-use Rattle.cp_reading.specs.NodeOf.{node_of, nodes_of, bodies_of}
-use Rattle.cp_reading.specs.declared.tree.Tree.{Tree}
+use Rattle.cp_tree.specs.Node.{body, struct, ptrs, structs}
+use Rattle.cp_tree.specs.NodeOf.{node_of, nodes_of, bodies_of}
+use Rattle.cp_tree.specs.declared.tree.Tree.{Tree}
 use Rattle.cp_tree.proofs.Spending.{next_body_of}
 
 pub draft_body_of-is : (b : DraftBody) → draft_body_of b ≡ (b.words.items, nodes_of (map draft_of b.ptrs.items))

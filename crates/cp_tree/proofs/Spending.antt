@@ -3,12 +3,12 @@ use Rattle.std.proofs.Common.{◌≡◌, ℕ, ◌+◌, ◌*◌, ◌-◌, ◌<◌
 use Rattle.std.specs.Bool.{OnTrue}
 use Rattle.std.proofs.lemmas.List.{at_drop_more}
 use Rattle.std.proofs.lemmas.Bool.Decides.{nat_tests}
-use Rattle.cp_reading.specs.Node.{Node, Nodes, node, Bodies, body, depth, greatest_depth, deepest_body, cost, total_cost, body_cost, number_of}
-use Rattle.cp_reading.specs.NodeOf.{node_of, body_of, nodes_of, bodies_of}
+use Rattle.cp_tree.specs.Node.{Node, Nodes, node, Bodies, body, depth, greatest_depth, deepest_body, cost, total_cost, body_cost, number_of}
+use Rattle.cp_tree.specs.NodeOf.{node_of, body_of, nodes_of, bodies_of}
 use Rattle.cp_tree.specs.Spent.{spent}
-use Rattle.cp_reading.specs.declared.tree.Tree.{Tree}
-use Rattle.cp_reading.specs.declared.tree.Body.{Body}
-use Rattle.cp_reading.proofs.Decided.{body_of-is}
+use Rattle.cp_tree.specs.declared.tree.Tree.{Tree}
+use Rattle.cp_tree.specs.declared.tree.Body.{Body}
+use Rattle.cp_tree.proofs.Trees.{body_of-is}
 
 pub spent-0 : (left : Option ℕ) → spent left 0 ≡ left
 unfolding spent

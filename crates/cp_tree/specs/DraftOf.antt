@@ -1,7 +1,7 @@
 -- The tree that a `Draft` of the program stands for.
 use Rattle.std.specs.Prelude.{ℕ, List}
-use Rattle.cp_reading.specs.Node.{Node, struct, ptrs, structs, Nodes}
-use Rattle.cp_reading.specs.NodeOf.{nodes_of, bodies_of, node_of}
+use Rattle.cp_tree.specs.Node.{Node, struct, ptrs, structs, Nodes}
+use Rattle.cp_tree.specs.NodeOf.{nodes_of, bodies_of, node_of}
 use Rattle.cp_tree.specs.declared.draft.Draft.{Draft, fold-Draft}
 use Rattle.cp_tree.specs.declared.draft.Draft.TheOpen.{Draft-F, DraftBody-F}
 use Rattle.cp_tree.specs.declared.draft.DraftBody.{DraftBody, fold-DraftBody}

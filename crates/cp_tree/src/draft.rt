@@ -1,6 +1,6 @@
 //! Trees with lent parts, for writing.
 
-use cp_reading::Tree;
+use crate::tree::Tree;
 
 /// A tree to be written, of small nodes of its own and trees that are lent.
 #[cycle(draft)]

@@ -1,12 +1,14 @@
 //! Owned copies of trees with lent parts.
 
 ghost use Rattle.std.specs.Prelude.{◌≡◌, map, IfOk};
-ghost use Rattle.cp_reading.specs.NodeOf.{node_of, body_of};
+ghost use Rattle.cp_tree.specs.NodeOf.{node_of, body_of};
 ghost use Rattle.cp_tree.specs.DraftOf.{draft_of, draft_body_of};
-ghost use Rattle.cp_reading.specs.Shaped.{Shaped};
+ghost use Rattle.cp_tree.specs.Shaped.{Shaped};
 
+use crate::copy::tree_copy;
 use crate::draft::{Draft, DraftBody};
-use cp_reading::{Body, Tree, Whole, tree_copy};
+use crate::tree::{Body, Tree};
+use crate::whole::Whole;
 use std::alloc::{AllocError, Global};
 
 /// The tree that a draft stands for.

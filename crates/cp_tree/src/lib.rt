@@ -1,27 +1,20 @@
-//! The tree that hangs on the root pointer of a Cap'n Proto message: writing it into segments, and
-//! what holds of every layout. Reading it is cp_reading's, whose public items stand here too.
+//! The trees that Cap'n Proto messages hold: as a program owns them, or as it lends their parts.
 #![tactic(auto)]
 
-mod allowed;
+mod copy;
 mod draft;
 mod draft_copy;
-mod draft_lay;
 mod fault;
-mod laws;
-mod lay;
-mod lay_list;
 mod measure;
-mod pack;
-mod sheet;
-mod write;
+mod shape;
+mod shaped;
+mod tree;
+mod whole;
 
-pub use cp_reading::{
-    Body, Object, Place, Shape, Tree, TreeFault, View, Visits, Whole, read_counted, read_root,
-    root_denotes,
-};
-pub use cp_words::Limits;
+pub use copy::tree_copy;
 pub use draft::{Draft, DraftBody};
 pub use fault::WriteFault;
-pub use laws::{layout_denotes, written_is_read};
-pub use measure::fits;
-pub use write::{write_draft, write_root, write_segments};
+pub use measure::{draft_nests, fits};
+pub use shape::Shape;
+pub use tree::{Body, Tree};
+pub use whole::{Object, Whole};

@@ -3,12 +3,12 @@
 ghost use Rattle.std.specs.Prelude.{◌≡◌, ◌≤◌, ◌+◌, ◌*◌, map, Decides};
 ghost use Rattle.std.specs.Bool.{OnTrue};
 ghost use Rattle.cp_tree.specs.DraftOf.{draft_of, draft_body_of};
-ghost use Rattle.cp_reading.specs.Node.{depth, greatest_depth, deepest_body, cost, total_cost, body_cost, number_of};
-ghost use Rattle.cp_reading.specs.NodeOf.{node_of, body_of, nodes_of, bodies_of};
+ghost use Rattle.cp_tree.specs.Node.{depth, greatest_depth, deepest_body, cost, total_cost, body_cost, number_of};
+ghost use Rattle.cp_tree.specs.NodeOf.{node_of, body_of, nodes_of, bodies_of};
 ghost use Rattle.cp_tree.specs.Spent.{spent};
 
 use crate::draft::{Draft, DraftBody};
-use cp_reading::{Body, Tree};
+use crate::tree::{Body, Tree};
 
 /// Takes so much from what is left of a limit. Nothing is left any more where it passes that.
 #[tactic(auto, unfolding(crate::specs::Spent::spent))]
@@ -29,7 +29,7 @@ fn spend(left: &mut Option<u64>, price: u64)
 /// cost.
 #[cycle(measure)]
 #[inline(always)]
-pub(crate) fn nests(tree: &Tree, levels: u32, left: &mut Option<u64>) -> bool
+fn nests(tree: &Tree, levels: u32, left: &mut Option<u64>) -> bool
     ensures deep { Decides result (depth (node_of tree.now) ≤ levels) }
     ensures left { OnTrue result (left.new ≡ spent left.old (cost (node_of tree.now))) }
 {
@@ -94,7 +94,7 @@ fn bodies_nest(bodies: &[Body], price: u64, levels: u32, left: &mut Option<u64>)
 /// Whether bodies nest no deeper than so many levels, and then what the tree leaves of a limit on
 /// cost.
 #[cycle(draft_measure)]
-pub(crate) fn draft_nests(draft: &Draft, levels: u32, left: &mut Option<u64>) -> bool
+pub fn draft_nests(draft: &Draft, levels: u32, left: &mut Option<u64>) -> bool
     ensures deep { Decides result (depth (draft_of draft.now) ≤ levels) }
     ensures left { OnTrue result (left.new ≡ spent left.old (cost (draft_of draft.now))) }
 {

@@ -1,7 +1,7 @@
 use Rattle.std.proofs.Common.{◌≡◌, length, take}
 use Rattle.std.specs.List.{flat_map}
 use Rattle.std.specs.Io.KnownBytes.{Appends}
-use Rattle.cp_frame.specs.Framed.{bytes_of}
+use Rattle.cp_packed.specs.Words.{bytes_of}
 use Rattle.cp_frame.specs.Parts.{lists}
 use Rattle.cp_frame.proofs.send.send_lists.Given as goal
 

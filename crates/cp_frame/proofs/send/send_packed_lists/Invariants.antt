@@ -1,6 +1,6 @@
 use Rattle.std.proofs.Common.{◌≡◌, ℕ, List, take}
 use Rattle.cp_frame.specs.Frame.{padded_table}
-use Rattle.cp_frame.specs.Framed.{bytes_of}
+use Rattle.cp_packed.specs.Words.{bytes_of}
 use Rattle.cp_frame.specs.Parts.{lists}
 use Rattle.cp_frame.proofs.Sends.{SendsPieces}
 use Rattle.cp_frame.proofs.send.send_packed_lists.Given as goal

@@ -1,7 +1,7 @@
 use Rattle.std.proofs.Common.{◌≡◌, ◌+◌, ◌-◌, ◌++◌, ◌∷◌, [], ℕ, List, length, take, replicate, refl, sym, ◌∙◌, ap, arith}
 use Rattle.std.specs.Vec.{vec_len}
 use Rattle.std.proofs.lemmas.List.{append-nil}
-use Rattle.cp_frame.specs.Unpacking.{brought, pending_of}
+use Rattle.cp_packed.specs.Unpacking.{brought, pending_of}
 use Rattle.cp_packed.proofs.Bytes.{filled_up}
 use Rattle.cp_frame.proofs.unpacking.take_byte.Goals as goal
 

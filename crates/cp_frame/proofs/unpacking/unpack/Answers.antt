@@ -1,7 +1,7 @@
 use Rattle.std.proofs.Common.{◌≡◌, ◌∷◌, ◌<◌, ◌≤◌, [], ℕ, List, length, drop, get_or, sym, subst, ◌∙◌, ap, arith}
 use Rattle.std.proofs.lemmas.Result.{err_from_is_err_and}
 use Rattle.std.proofs.lemmas.Bool.Decides.{nat_tests}
-use Rattle.cp_frame.specs.Unpacking.{Pending, nothing, given, after, laid, pending_of}
+use Rattle.cp_packed.specs.Unpacking.{Pending, nothing, given, after, laid, pending_of}
 use Rattle.cp_frame.specs.Bulk.{TakesWithin}
 use Rattle.cp_packed.proofs.Laying.{brings_these}
 use Rattle.cp_packed.proofs.Bytes.{bytes_by}

@@ -1,5 +1,5 @@
 use Rattle.std.proofs.Common.{[], length}
-use Rattle.cp_frame.specs.Unpacking.{nothing, pending_of}
+use Rattle.cp_packed.specs.Unpacking.{nothing, pending_of}
 use Rattle.cp_frame.specs.Bulk.{TakesWithin}
 use Rattle.cp_frame.proofs.unpacking.unpack.Given as goal
 

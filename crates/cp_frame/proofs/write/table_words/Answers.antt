@@ -1,8 +1,7 @@
 use Rattle.std.proofs.Common.{◌≡◌, ◌∙◌, ◌<◌, ◌++◌, ap, sym, subst, get_or, List, ℕ, arith}
-use Rattle.cp_frame.specs.Framed.{bytes_of}
 use Rattle.cp_frame.specs.Frame.{padded_table}
 use Rattle.cp_frame.specs.Parts.{lists}
-use Rattle.cp_packed.specs.Words.{words_in}
+use Rattle.cp_packed.specs.Words.{words_in, bytes_of}
 use Rattle.cp_frame.proofs.Filling.{length_lists}
 use Rattle.cp_frame.proofs.Pieces.{table_in_words, padded_small}
 use Rattle.cp_frame.proofs.write.table_words.Goals as goal

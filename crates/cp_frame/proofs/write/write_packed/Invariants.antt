@@ -1,6 +1,6 @@
 use Rattle.std.proofs.Common.{◌≡◌, ℕ, List, take}
 use Rattle.cp_frame.specs.Frame.{padded_table}
-use Rattle.cp_frame.specs.Framed.{bytes_of}
+use Rattle.cp_packed.specs.Words.{bytes_of}
 use Rattle.cp_frame.specs.Parts.{lists}
 use Rattle.cp_frame.proofs.Pieces.{WritesPieces}
 use Rattle.cp_frame.proofs.write.write_packed.Given as goal

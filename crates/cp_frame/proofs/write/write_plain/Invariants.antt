@@ -1,6 +1,6 @@
 use Rattle.std.proofs.Common.{◌≡◌, ◌++◌, take}
 use Rattle.std.specs.List.{flat_map}
-use Rattle.cp_frame.specs.Framed.{bytes_of}
+use Rattle.cp_packed.specs.Words.{bytes_of}
 use Rattle.cp_frame.specs.Frame.{padded_table}
 use Rattle.cp_frame.specs.Parts.{lists}
 use Rattle.cp_frame.proofs.write.write_plain.Given as goal

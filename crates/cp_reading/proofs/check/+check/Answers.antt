@@ -1,7 +1,7 @@
 use Rattle.std.proofs.Common.{◌≡◌, ◌∙◌, ◌<◌, ◌+◌, Some, ◌-◌, arith, add-zero, sym, refl}
 use Rattle.std.proofs.lemmas.Result.{err_from_is_err_and}
 use Rattle.cp_words.specs.Word.{pointer_of}
-use Rattle.cp_reading.specs.NodeOf.{words_of}
+use Rattle.cp_tree.specs.NodeOf.{words_of}
 use Rattle.cp_reading.specs.Reading.{kids_at}
 use Rattle.cp_reading.proofs.Nears.{null_left, near_fails, near_body}
 use Rattle.cp_reading.proofs.Checks.{row_fails, row_goes_on, row_ends, bodies_fail, bodies_go_on, bodies_end, passed-flat, aimed, one_fewer}

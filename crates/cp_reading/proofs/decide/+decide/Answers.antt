@@ -2,10 +2,11 @@ use Rattle.std.proofs.Common.{◌≡◌, map, length, refl, sym, ap, ◌∙◌, 
 use Rattle.std.proofs.lemmas.List.{length-map}
 use Rattle.std.proofs.lemmas.Slice.Eq.{bytes_eq-Decides}
 use Rattle.cp_words.specs.declared.pointer.ElementSize.TheVariants as sizes
-use Rattle.cp_reading.specs.Node.{structs, count, number_of}
-use Rattle.cp_reading.specs.NodeOf.{node_of, body_of, nodes_of, bodies_of, words_of}
+use Rattle.cp_tree.specs.Node.{structs, count, number_of}
+use Rattle.cp_tree.specs.NodeOf.{node_of, body_of, nodes_of, bodies_of, words_of}
 use Rattle.cp_reading.specs.declared.area.Form.TheVariants as forms
-use Rattle.cp_reading.proofs.Decided.{body_of-is, node-Ptrs, node-Structs, same_sizes, not_false, count-nodes, number-bodies, carried, never, has_parts, body_decides, no_body_decides}
+use Rattle.cp_tree.proofs.Trees.{body_of-is, node-Ptrs, node-Structs, count-nodes, number-bodies}
+use Rattle.cp_reading.proofs.Decided.{same_sizes, not_false, carried, never, has_parts, body_decides, no_body_decides}
 use Rattle.cp_reading.proofs.decide.+decide.Goals.{body_holds-then-len-words-via-then-len-words, body_holds-then-len-words-via-else-len-words+then-len-ptrs, fills-then-words-d-via-then-words-d, fills-then-words-d-via-else-words-d+then-ptrs-n, fills-then-words-d-via-else-words-d+else-ptrs-n+then-len-count}
 use Rattle.cp_reading.proofs.decide.+decide.Goals as goal
 

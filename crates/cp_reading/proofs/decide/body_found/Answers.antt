@@ -1,5 +1,5 @@
 use Rattle.std.proofs.Common.{◌≡◌, Option, None, Some, Result, Ok, Err, sym, ap, ◌∙◌}
-use Rattle.cp_reading.specs.NodeOf.{words_of}
+use Rattle.cp_tree.specs.NodeOf.{words_of}
 use Rattle.cp_reading.specs.declared.area.Area.{Area}
 use Rattle.cp_reading.specs.declared.fault.TreeFault.{TreeFault}
 use Rattle.cp_reading.proofs.Complete.{led}

@@ -2,8 +2,8 @@ use Rattle.std.proofs.Common.{◌≡◌, length, sym, ap, ◌∙◌}
 use Rattle.std.proofs.lemmas.Slice.Eq.{slice_eq-Decides}
 use Rattle.std.specs.Cmp.{booleans_Decides}
 use Rattle.cp_words.specs.declared.pointer.ElementSize.TheVariants as sizes
-use Rattle.cp_reading.specs.Denotes.{flags}
-use Rattle.cp_reading.specs.Node.{bits}
+use Rattle.cp_tree.specs.Elements.{flags}
+use Rattle.cp_tree.specs.Node.{bits}
 use Rattle.cp_reading.specs.declared.area.Form.TheVariants as forms
 use Rattle.cp_reading.proofs.Decided.{same_bits}
 use Rattle.cp_reading.proofs.decide_list.bits_hold.Goals as goal

@@ -1,17 +1,17 @@
 use Rattle.std.proofs.Common.{rules, ◌≡◌, ◌+◌, ◌<◌, ◌≤◌, arith, ap, sym, ◌∙◌}
 use Rattle.std.specs.Prelude.{ℕ, List}
 use Rattle.std.proofs.lemmas.List.{map_push}
-use Rattle.cp_reading.specs.Node.{Nodes, struct, count, number_of, depth}
-use Rattle.cp_reading.specs.NodeOf.{node_of, body_of, words_of}
+use Rattle.cp_tree.specs.Node.{Nodes, struct, count, number_of, depth}
+use Rattle.cp_tree.specs.NodeOf.{node_of, body_of, words_of}
 use Rattle.cp_reading.specs.Parts.{part_node}
 use Rattle.cp_reading.specs.Rows.{struct_at, trees_from}
-use Rattle.cp_reading.specs.Seen.{node_at, body_at}
+use Rattle.cp_tree.specs.Seen.{node_at, body_at}
 use Rattle.cp_reading.specs.Visited.{pointers, pointers_of_row}
 use Rattle.cp_reading.specs.declared.view.Part.TheVariants as parts
 use Rattle.cp_reading.proofs.Builds.{one_more_tree, all_trees, one_more_body, all_bodies, no_pointers, no_elements, more_pointers, all_pointers, few_pointers, more_elements, all_elements, few_elements}
 use Rattle.cp_reading.proofs.Built.{row_count, row_word, row_deep, no_row, structs_count, the_elements, element_part, element_node, element_depth}
-use Rattle.cp_reading.proofs.Decided.{body_of-is, node-Null}
-use Rattle.cp_reading.proofs.Shapes.{node-Struct}
+use Rattle.cp_tree.proofs.Trees.{body_of-is, node-Null}
+use Rattle.cp_tree.proofs.Shapes.{node-Struct}
 use Rattle.cp_reading.proofs.Views.{ok_is_ok, read-node}
 use Rattle.cp_reading.proofs.read.+build.Goals as goal
 

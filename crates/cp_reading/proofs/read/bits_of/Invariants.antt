@@ -1,5 +1,5 @@
 use Rattle.std.proofs.Common.{◌≡◌}
-use Rattle.cp_reading.specs.Denotes.{flags}
+use Rattle.cp_tree.specs.Elements.{flags}
 use Rattle.cp_reading.proofs.read.bits_of.Given as goal
 
 abbrev pub invariant-loop-i : goal.invariant-loop-i

@@ -1,7 +1,7 @@
 use Rattle.std.proofs.Common.{◌*◌, ◌≤◌, ◌++◌, List, ℕ, flat_map, take, refl, ap, ◌∙◌, arith}
 use Rattle.std.proofs.lemmas.List.FromFn.{take-map-range_with_len}
-use Rattle.cp_reading.specs.Denotes.{element}
-use Rattle.cp_reading.proofs.Numbers.{one_more_word, eight_words, bytes_in}
+use Rattle.cp_tree.specs.Elements.{element}
+use Rattle.cp_tree.proofs.Numbers.{one_more_word, eight_words, bytes_in}
 use Rattle.cp_reading.proofs.read.bytes_of.Goals as goal
 
 pub eights-preserved : goal.eights-preserved

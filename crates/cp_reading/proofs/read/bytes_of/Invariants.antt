@@ -1,5 +1,5 @@
 use Rattle.std.proofs.Common.{◌≡◌, ◌*◌, ◌-◌, ◌≤◌}
-use Rattle.cp_reading.specs.Denotes.{numbers}
+use Rattle.cp_tree.specs.Elements.{numbers}
 use Rattle.cp_reading.proofs.read.bytes_of.Given as goal
 
 abbrev pub invariant-eights : goal.invariant-eights

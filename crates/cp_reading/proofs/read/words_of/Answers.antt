@@ -1,5 +1,5 @@
 use Rattle.std.proofs.Common.{◌≡◌, IfOk, subst, arith}
-use Rattle.cp_reading.proofs.Numbers.{first_words}
+use Rattle.cp_tree.proofs.Numbers.{first_words}
 use Rattle.cp_reading.proofs.read.words_of.Goals as goal
 
 pub returns : goal.returns

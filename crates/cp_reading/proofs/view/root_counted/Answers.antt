@@ -1,9 +1,9 @@
 use Rattle.std.proofs.Common.{◌≡◌, Ok, Err, sym, ap, subst, ◌∙◌}
 use Rattle.std.proofs.lemmas.Result.{err_from_is_err_and}
 use Rattle.cp_reading.specs.Denotes.{Root}
-use Rattle.cp_reading.specs.NodeOf.{words_of}
+use Rattle.cp_tree.specs.NodeOf.{words_of}
 use Rattle.cp_reading.specs.Reading.{root_of}
-use Rattle.cp_reading.specs.Shaped.{Shaped}
+use Rattle.cp_tree.specs.Shaped.{Shaped}
 use Rattle.cp_reading.proofs.Fitting.{denotes_shaped}
 use Rattle.cp_reading.proofs.Roots.{root_found, root_given}
 use Rattle.cp_reading.proofs.RootFaults.{root_faulted}

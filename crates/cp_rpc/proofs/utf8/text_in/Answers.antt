@@ -1,6 +1,6 @@
 use Rattle.std.proofs.Common.{arith}
 use Rattle.std.proofs.lemmas.List.FromFn.{map-range_with_len_more}
-use Rattle.cp_tree.specs.Denotes.{element}
+use Rattle.cp_tree.specs.Elements.{element}
 use Rattle.cp_rpc.proofs.utf8.text_in.Goals as goal
 
 pub loop-i-preserved : goal.loop-i-preserved

@@ -1,5 +1,5 @@
 use Rattle.std.proofs.Common.{◌≡◌}
-use Rattle.cp_tree.specs.Denotes.{numbers}
+use Rattle.cp_tree.specs.Elements.{numbers}
 use Rattle.cp_rpc.proofs.utf8.text_in.Given as goal
 
 abbrev pub invariant-loop-i : goal.invariant-loop-i

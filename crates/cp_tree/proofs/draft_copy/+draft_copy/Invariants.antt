@@ -1,5 +1,5 @@
 use Rattle.std.proofs.Common.{◌≡◌, map, take}
-use Rattle.cp_reading.specs.NodeOf.{node_of, body_of}
+use Rattle.cp_tree.specs.NodeOf.{node_of, body_of}
 use Rattle.cp_tree.specs.DraftOf.{draft_of, draft_body_of}
 use Rattle.cp_tree.proofs.draft_copy.+draft_copy.Given as goal
 

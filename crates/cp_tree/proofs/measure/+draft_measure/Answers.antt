@@ -1,10 +1,10 @@
 use Rattle.std.proofs.Common.{◌+◌, ◌*◌, ◌<◌, map, ap, ◌∙◌, refl, arith}
 use Rattle.std.proofs.lemmas.List.{at_drop_all}
 use Rattle.cp_tree.specs.DraftOf.{draft_of, draft_body_of}
-use Rattle.cp_reading.specs.Node.{total_cost, body_cost, number_of}
-use Rattle.cp_reading.specs.NodeOf.{nodes_of, bodies_of}
-use Rattle.cp_tree.proofs.Begins.{count_in}
-use Rattle.cp_reading.proofs.Deeper.{deeper}
+use Rattle.cp_tree.specs.Node.{total_cost, body_cost, number_of}
+use Rattle.cp_tree.specs.NodeOf.{nodes_of, bodies_of}
+use Rattle.cp_tree.proofs.Trees.{count_in}
+use Rattle.cp_tree.proofs.Deeper.{deeper}
 use Rattle.cp_tree.proofs.Drafts.{draft-Lent, draft-Struct, draft-Ptrs, draft-Structs, next_draft_body}
 use Rattle.cp_tree.proofs.Spending.{next_of, along, step_left, no_more, row_nests_on, bodies_nest_on}
 use Rattle.cp_tree.proofs.measure.+draft_measure.Goals as goal

@@ -1,6 +1,6 @@
 use Rattle.std.proofs.Common.{map, drop}
 use Rattle.cp_tree.specs.DraftOf.{draft_of, draft_body_of}
-use Rattle.cp_reading.specs.NodeOf.{nodes_of, bodies_of}
+use Rattle.cp_tree.specs.NodeOf.{nodes_of, bodies_of}
 use Rattle.cp_tree.proofs.Spending.{RowNests, BodiesNest}
 use Rattle.cp_tree.proofs.measure.+draft_measure.Given as goal
 

@@ -1,14 +1,14 @@
 use Rattle.std.proofs.Common.{◌≡◌, ◌⊎◌, inl, inr, ◌+◌, ◌*◌, ◌/◌, ◌<◌, ℕ, map, true, false, sym, ap, ◌∙◌, refl, arith, rules}
 use Rattle.std.proofs.lemmas.List.{at_drop_all}
-use Rattle.cp_reading.specs.declared.tree.Tree.{Tree, the_lemmas}
-use Rattle.cp_reading.specs.declared.tree.Tree.TheVariants as trees
-use Rattle.cp_reading.specs.Node.{bits, bytes, halves, quads, words, list, cost, total_cost, body_cost, count, number_of}
-use Rattle.cp_reading.specs.NodeOf.{node_of, body_of, nodes_of, bodies_of}
+use Rattle.cp_tree.specs.declared.tree.Tree.{Tree, the_lemmas}
+use Rattle.cp_tree.specs.declared.tree.Tree.TheVariants as trees
+use Rattle.cp_tree.specs.Node.{bits, bytes, halves, quads, words, list, cost, total_cost, body_cost, count, number_of}
+use Rattle.cp_tree.specs.NodeOf.{node_of, body_of, nodes_of, bodies_of}
 use Rattle.cp_tree.specs.Spent.{spent}
-use Rattle.cp_reading.proofs.Decided.{node-Structs, node-Bits, node-Ptrs}
-use Rattle.cp_reading.proofs.Deeper.{deeper}
-use Rattle.cp_reading.proofs.Lists.{node-Bytes, node-Halves, node-Quads, node-Words}
-use Rattle.cp_reading.proofs.Shapes.{node-Struct, count-row}
+use Rattle.cp_tree.proofs.Trees.{node-Structs, node-Bits, node-Ptrs}
+use Rattle.cp_tree.proofs.Deeper.{deeper}
+use Rattle.cp_tree.proofs.Lists.{node-Bytes, node-Halves, node-Quads, node-Words}
+use Rattle.cp_tree.proofs.Shapes.{node-Struct, count-row}
 use Rattle.cp_tree.proofs.Spending.{spent-0, next_tree, next_body, along, step_left, no_more, row_nests_on, bodies_nest_on}
 use Rattle.cp_tree.proofs.measure.+measure.Goals.{nests-in_default, nests-in-Null, nests-in-Null-2}
 use Rattle.cp_tree.proofs.measure.+measure.Goals as goal

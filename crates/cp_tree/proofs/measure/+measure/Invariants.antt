@@ -1,5 +1,5 @@
 use Rattle.std.proofs.Common.{map, drop}
-use Rattle.cp_reading.specs.NodeOf.{node_of, body_of, nodes_of, bodies_of}
+use Rattle.cp_tree.specs.NodeOf.{node_of, body_of, nodes_of, bodies_of}
 use Rattle.cp_tree.proofs.Spending.{RowNests, BodiesNest}
 use Rattle.cp_tree.proofs.measure.+measure.Given as goal
 

@@ -1,5 +1,5 @@
-use Rattle.cp_reading.specs.Node.{cost}
-use Rattle.cp_reading.specs.NodeOf.{node_of}
+use Rattle.cp_tree.specs.Node.{cost}
+use Rattle.cp_tree.specs.NodeOf.{node_of}
 use Rattle.cp_tree.proofs.Spending.{spent-fits}
 use Rattle.cp_tree.proofs.measure.fits.Goals as goal
 

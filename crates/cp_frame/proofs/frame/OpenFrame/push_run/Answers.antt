@@ -1,6 +1,6 @@
 use Rattle.std.proofs.Common.{◌++◌, replicate}
 use Rattle.std.proofs.lemmas.Result.{err_from_is_err_and}
-use Rattle.cp_frame.specs.Framed.{bytes_of}
+use Rattle.cp_packed.specs.Words.{bytes_of}
 use Rattle.cp_frame.specs.Parts.{rest_of}
 use Rattle.cp_frame.proofs.Ends.{complete_of}
 use Rattle.cp_frame.proofs.Pushes.{run_past, run_fault, run_goes_on}

@@ -1,5 +1,5 @@
 use Rattle.std.proofs.Common.{◌≡◌, ◌++◌, [], replicate}
-use Rattle.cp_frame.specs.Framed.{bytes_of}
+use Rattle.cp_packed.specs.Words.{bytes_of}
 use Rattle.cp_frame.specs.Parts.{rest_of, IsBegun}
 use Rattle.cp_frame.proofs.frame.OpenFrame.push_run.Given as goal
 

@@ -1,7 +1,7 @@
 use Rattle.std.proofs.Common.{◌≡◌, ◌<◌, ◌⊎◌, ℕ, List, length, get_or, refl, ◌∙◌, ap, subst, arith}
 use Rattle.cp_frame.specs.Parts.{halves, count_of, lists, Fills}
 use Rattle.cp_frame.specs.Stream.{named_sizes}
-use Rattle.cp_frame.specs.Bulk.{TakesGroups}
+use Rattle.cp_packed.specs.Groups.{TakesGroups}
 use Rattle.cp_frame.proofs.Parted.{part_open, part_full}
 use Rattle.cp_frame.proofs.frame.OpenFrame.take_groups.Goals as goal
 use Rattle.cp_frame.proofs.frame.OpenFrame.take_groups.Goals.{then-len-most+in_ok-close, else-len-most}

@@ -1,5 +1,5 @@
 use Rattle.std.proofs.Common.{◌<◌, ℕ, List, refl, subst, arith}
-use Rattle.cp_frame.specs.Bulk.{TakesGroups}
+use Rattle.cp_packed.specs.Groups.{TakesGroups}
 use Rattle.cp_frame.specs.Single.{IsOne}
 use Rattle.cp_frame.proofs.Singles.{takes_table, takes_none}
 use Rattle.cp_frame.proofs.frame.OpenFrame.take_table_group.Goals as goal

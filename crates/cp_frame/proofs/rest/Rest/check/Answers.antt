@@ -4,7 +4,7 @@ use Rattle.cp_frame.specs.Parts.{IsWholeTable, halves, NamesLittle}
 use Rattle.cp_frame.specs.Stream.{numbers, NamesFault}
 use Rattle.cp_frame.proofs.Ends.{open_of}
 use Rattle.cp_frame.proofs.Opened.{table_goes_on, segments_go_on, little_in_table, little_in_segments}
-use Rattle.cp_frame.specs.Unpacking.{laid, pending_of}
+use Rattle.cp_packed.specs.Unpacking.{laid, pending_of}
 use Rattle.cp_frame.proofs.rest.Rest.check.Goals as goal
 
 pub returns-then-is_whole-clause-sound : goal.returns-then-is_whole-clause-sound

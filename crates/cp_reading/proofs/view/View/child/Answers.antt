@@ -1,8 +1,8 @@
 use Rattle.std.proofs.Common.{sym, subst}
-use Rattle.cp_reading.specs.NodeOf.{words_of}
+use Rattle.cp_tree.specs.NodeOf.{words_of}
 use Rattle.cp_reading.specs.Parts.{part_node}
-use Rattle.cp_reading.specs.Shaped.{Shaped}
-use Rattle.cp_reading.proofs.Fitting.{part_of-shaped}
+use Rattle.cp_tree.specs.Shaped.{Shaped}
+use Rattle.cp_tree.proofs.PartsShaped.{part_of-shaped}
 use Rattle.cp_reading.proofs.view.View.child.Goals.{in-Body, in-Null}
 use Rattle.cp_reading.proofs.view.View.child.Goals as goal
 

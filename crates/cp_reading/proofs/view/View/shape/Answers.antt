@@ -1,5 +1,5 @@
 use Rattle.std.proofs.Common.{◌∙◌, ap}
-use Rattle.cp_reading.specs.Seen.{shape_of}
+use Rattle.cp_tree.specs.Seen.{shape_of}
 use Rattle.cp_reading.proofs.Views.{part-shape}
 use Rattle.cp_reading.proofs.view.View.shape.Goals as goal
 

@@ -1,0 +1,22 @@
+// The exports of bench_c. Nothing checks these lines against its source.
+// A slice is a pointer and a length, an allocator is nothing. An answer of 0 says that there was nothing, a fault, or no memory.
+#pragma once
+#include <cstddef>
+#include <cstdint>
+
+extern "C" {
+// Gives the number of bytes, and puts what fits of them into the room.
+size_t cpb_pack(const uint64_t* words, size_t count, uint8_t* room, size_t size);
+// The same of words, at most `limit`.
+size_t cpb_unpack(const uint8_t* bytes, size_t length, size_t limit, uint64_t* room, size_t size);
+// How many frames a stream has, each of which gives what is asked for: at 0 its words, at 1 a view of its message, at 2 an owned tree.
+uint64_t cpb_read_frames(const uint8_t* bytes, size_t length, uint8_t kind);
+uint64_t cpb_packed_frames(const uint8_t* bytes, size_t length, uint8_t kind);
+// Reads a plain stream's frames into owned trees and writes these `turns` times. Gives the number of bytes of a turn, and puts
+// what fits of the last into the room.
+size_t cpb_write_frames(const uint8_t* bytes, size_t length, uint32_t turns, uint8_t* room, size_t size);
+// The same three within limits on nesting and traversal; what is written is in segments of at most `words` words.
+uint64_t cpb_read_frames_within(const uint8_t* bytes, size_t length, uint8_t kind, uint32_t nesting, uint32_t traversal);
+uint64_t cpb_packed_frames_within(const uint8_t* bytes, size_t length, uint8_t kind, uint32_t nesting, uint32_t traversal);
+size_t cpb_write_frames_within(const uint8_t* bytes, size_t length, uint32_t turns, uint32_t words, uint32_t nesting, uint32_t traversal, uint8_t* room, size_t size);
+}

@@ -1,9 +1,0 @@
-use Rattle.std.proofs.Common.{◌≡◌, ◌≤◌, length, drop}
-use Rattle.cp_tree.specs.Packed.{value}
-use Rattle.cp_tree.proofs.pack.bytes_word.Given as goal
-
-abbrev pub invariant-loop-i : goal.invariant-loop-i
-invariant-loop-i l = (l.i ≤ length l.items) × (l.word ≡ value 256 (drop l.i l.items))
-
-abbrev pub decreases-loop-i : goal.decreases-loop-i
-decreases-loop-i l = l.i

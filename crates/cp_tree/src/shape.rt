@@ -1,0 +1,17 @@
+//! What a tree is at its top.
+
+use cp_words::ElementSize;
+
+/// A tree's kind and sizes.
+#[derive(Clone, Copy, PartialEq, Eq, Debug)]
+pub enum Shape {
+    Null,
+    /// A capability: its index in the message's capability table.
+    Cap(u32),
+    /// A struct of so many data words and pointers.
+    Struct { words: u16, ptrs: u16 },
+    /// A list of so many elements.
+    List { size: ElementSize, count: u32 },
+    /// A composite list: so many elements, each of `words` data words and `ptrs` pointers.
+    Structs { words: u16, ptrs: u16, count: u32 },
+}

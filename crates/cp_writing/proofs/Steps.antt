@@ -1,0 +1,90 @@
+-- What loops keep while rows of trees are written.
+use Rattle.std.proofs.Common.{◌≡◌, ℕ, zero, suc, [], ◌+◌, ◌*◌, ◌<◌, ◌≤◌, List, length, map, get_or, sym, ap, subst, ◌∙◌, arith}
+use Rattle.std.specs.Prelude.{◌∷◌}
+use Rattle.std.proofs.Math.Nat.{suc-mul}
+use Rattle.cp_words.specs.declared.place.Place.{Place}
+use Rattle.cp_tree.specs.declared.fault.WriteFault.{WriteFault}
+use Rattle.cp_writing.specs.declared.sheet.Room.{Room}
+use Rattle.cp_tree.specs.Node.{Node, Nodes, node, Bodies, body, count, number_of, depth, greatest_depth, deepest_body}
+use Rattle.cp_tree.specs.NodeOf.{nodes_of, bodies_of}
+use Rattle.cp_tree.specs.Shaped.{Shaped, EachShaped, EachEven}
+use Rattle.cp_writing.specs.Sheets.{Written, end_of, KeepsTo, IsRun, IsPlace, Refuses}
+use Rattle.cp_writing.specs.Writing.{tree_by, row_by, bodies_by}
+use Rattle.cp_writing.proofs.Begins.{writes_err}
+use Rattle.cp_writing.proofs.Keeps.{keeps_tree, keeps_row, keeps_bodies}
+
+-- These trees are still to be written, whose pointers stand from a place on, and then all is as it is to be.
+abbrev pub RowKept : Room → ℕ → Place → Nodes → Written → Written → Type 0
+RowKept room s at here cur all = (at.segment ≡ s) × KeepsTo room cur × IsRun cur at (count here) × EachShaped here × (row_by room s at.word here cur ≡ all)
+
+module _ (room : Room) (s : ℕ) (at : Place) (here rest : Nodes) (t : Node) (cur all : Written) (e : here ≡ node t rest) (kept : RowKept room s at here cur all) where
+  tree_shaped : Shaped t × EachShaped rest
+  tree_shaped = subst EachShaped e kept.3
+
+  pub tree_needs : KeepsTo room cur × IsPlace cur at × Shaped t
+  tree_needs = let c = ap count e in (kept.1, (kept.2.0, omega (arith, kept.2.1, c)), tree_shaped.0)
+
+  row_is : row_by room s (at.word + 1) rest (tree_by room at.segment at.word t cur) ≡ all
+  row_is = ap (λ q. row_by room s (at.word + 1) rest (tree_by room q at.word t cur)) kept.0 ∙ sym (ap (λ r. row_by room s at.word r cur) e) ∙ kept.4
+
+  run_is : IsRun (tree_by room at.segment at.word t cur) (record { segment = at.segment; word = at.word + 1 }) (count rest)
+  run_is =
+      let k = keeps_tree room t at.segment at.word cur tree_shaped.0 kept.2.0 in
+      let c = ap count e in
+      (omega (arith, kept.2.0, k.goes), omega (arith, kept.2.1, c, k.ends at.segment))
+
+  pub tree_refused : (fault : WriteFault) → Refuses room fault (tree_by room at.segment at.word t cur) → Refuses room fault all
+  tree_refused fault h =
+      let G = tree_by room at.segment at.word t cur in
+      let k = keeps_row room rest s (at.word + 1) G tree_shaped.1 (omega (arith, run_is.0, kept.0)) (omega (arith, run_is.1, ap (end_of G) kept.0)) in
+      writes_err room fault G all (omega (arith, k.counts, ap (λ (W : Written). W.words) row_is)) h
+
+  pub row_next : (new : Written) → new ≡ tree_by room at.segment at.word t cur → KeepsTo room new → RowKept room s (record { segment = at.segment; word = at.word + 1 }) rest new all
+  row_next new step keeps = let k = subst (λ W. IsRun W (record { segment = at.segment; word = at.word + 1 }) (count rest) × (row_by room s (at.word + 1) rest W ≡ all)) (sym step) (run_is, row_is) in (kept.0, keeps, k.0, tree_shaped.1, k.1)
+
+-- The same of elements of a composite list.
+abbrev pub BodiesKept : Room → ℕ → Place → ℕ → ℕ → Bodies → Written → Written → Type 0
+BodiesKept room s at d n here cur all = (at.segment ≡ s) × KeepsTo room cur × IsRun cur at (number_of here * (d + n)) × EachEven d n here × (bodies_by room s at.word d n here cur ≡ all)
+
+module _ (room : Room) (s : ℕ) (at : Place) (d n : ℕ) (here rest : Bodies) (ws : List ℕ) (ts : Nodes) (cur all : Written) (e : here ≡ body ws ts rest) (kept : BodiesKept room s at d n here cur all) where
+  body_even : EachEven d n (body ws ts rest)
+  body_even = subst (EachEven d n) e kept.3
+
+  number_next : number_of here * (d + n) ≡ number_of rest * (d + n) + (d + n)
+  number_next = ap (λ k. number_of k * (d + n)) e ∙ suc-mul (number_of rest) (d + n)
+
+  body_run : IsRun cur (record { segment = at.segment; word = at.word + d }) (count ts)
+  body_run = (kept.2.0, omega (arith, kept.2.1, number_next, body_even.1))
+
+  pub body_needs : KeepsTo room cur × IsRun cur (record { segment = at.segment; word = at.word + d }) (count ts) × EachShaped ts
+  body_needs = (kept.1, body_run, body_even.3)
+
+  bodies_are : bodies_by room s (at.word + d + n) d n rest (row_by room at.segment (at.word + d) ts cur) ≡ all
+  bodies_are = ap (λ q. bodies_by room s (at.word + d + n) d n rest (row_by room q (at.word + d) ts cur)) kept.0 ∙ sym (ap (λ r. bodies_by room s at.word d n r cur) e) ∙ kept.4
+
+  bodies_run : IsRun (row_by room at.segment (at.word + d) ts cur) (record { segment = at.segment; word = at.word + d + n }) (number_of rest * (d + n))
+  bodies_run =
+      let k = keeps_row room ts at.segment (at.word + d) cur body_even.3 kept.2.0 body_run.1 in
+      (omega (arith, kept.2.0, k.goes), omega (arith, kept.2.1, number_next, k.ends at.segment))
+
+  pub body_refused : (fault : WriteFault) → Refuses room fault (row_by room at.segment (at.word + d) ts cur) → Refuses room fault all
+  body_refused fault h =
+      let G = row_by room at.segment (at.word + d) ts cur in
+      let k = keeps_bodies room rest s (at.word + d + n) d n G body_even.4 (omega (arith, bodies_run.0, kept.0)) (omega (arith, bodies_run.1, ap (end_of G) kept.0)) in
+      writes_err room fault G all (omega (arith, k.counts, ap (λ (W : Written). W.words) bodies_are)) h
+
+  pub bodies_next : (new : Written) → new ≡ row_by room at.segment (at.word + d) ts cur → KeepsTo room new → BodiesKept room s (record { segment = at.segment; word = at.word + d + n }) d n rest new all
+  bodies_next new step keeps =
+      let k = subst (λ W. IsRun W (record { segment = at.segment; word = at.word + d + n }) (number_of rest * (d + n)) × (bodies_by room s (at.word + d + n) d n rest W ≡ all)) (sym step) (bodies_run, bodies_are) in
+      (kept.0, keeps, k.0, body_even.4, k.1)
+
+-- a tree of a row nests no deeper than the row, and an element no deeper than the list's
+pub item_depth : {X : Type 0} (f : X → Node) (xs : List X) (i : ℕ) (x : X) → i < length xs → x ≡ get_or xs i x → depth (f x) ≤ greatest_depth (nodes_of (map f xs))
+item_depth f [] i x within is = absurd (omega (arith, within))
+item_depth f (y ∷ xs) zero x within is = omega (arith, ap (λ z. depth (f z)) is)
+item_depth f (y ∷ xs) (suc i) x within is = omega (arith, item_depth f xs i x (omega (arith, within)) is)
+
+pub body_depth : {X : Type 0} (f : X → List ℕ × Nodes) (xs : List X) (i : ℕ) (x : X) → i < length xs → x ≡ get_or xs i x → greatest_depth (f x).1 ≤ deepest_body (bodies_of (map f xs))
+body_depth f [] i x within is = absurd (omega (arith, within))
+body_depth f (y ∷ xs) zero x within is = omega (arith, ap (λ z. greatest_depth (f z).1) is)
+body_depth f (y ∷ xs) (suc i) x within is = omega (arith, body_depth f xs i x (omega (arith, within)) is)

@@ -1,0 +1,11 @@
+use Rattle.std.proofs.Common.{◌≡◌, map, drop}
+use Rattle.cp_tree.specs.DraftOf.{draft_body_of}
+use Rattle.cp_tree.specs.NodeOf.{bodies_of}
+use Rattle.cp_writing.specs.Sheets.{written, append, KeepsTo}
+use Rattle.cp_writing.specs.Writing.{bodies_blank}
+use Rattle.cp_writing.proofs.draft_lay.append_draft_bodies.Given as goal
+
+abbrev pub invariant-loop-body : goal.invariant-loop-body
+invariant-loop-body l =
+    KeepsTo l.room (written l.sheet)
+    × (append (bodies_blank (bodies_of (map draft_body_of (drop l.body-index l.bodies)))) (written l.sheet) ≡ append (bodies_blank (bodies_of (map draft_body_of l.bodies))) (written l.initial.sheet))

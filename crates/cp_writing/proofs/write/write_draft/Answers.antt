@@ -1,0 +1,35 @@
+use Rattle.std.proofs.Common.{◌≡◌, ◌≤◌, ℕ, List, length, map, max, sym, ap, subst, ◌∙◌, arith}
+use Rattle.std.specs.Prelude.{sum}
+use Rattle.cp_tree.specs.DraftOf.{draft_of}
+use Rattle.cp_writing.specs.Layout.{Layout}
+use Rattle.cp_writing.specs.Sheets.{written, lists}
+use Rattle.cp_writing.specs.Writes.{room_for, laid_out}
+use Rattle.cp_writing.proofs.LaidOut.{written_is_layout}
+use Rattle.cp_writing.proofs.SheetWords.{laid_words, laid_within}
+use Rattle.cp_writing.proofs.write.write_draft.Goals.{then-max_words-eq0, else-max_words-eq0}
+use Rattle.cp_writing.proofs.write.write_draft.Goals as goal
+
+pub returns-clause-layout : goal.returns-clause-layout
+returns-clause-layout c =
+    let limits = c.args.limits in
+    let t = draft_of c.args.draft.now in
+    let F = written c.in_ok-sheet.sheet in
+    let words : c.if-max_words-eq0.words ≡ max 1 c.args.max_words = elim c.if-max_words-eq0.branch [
+      | then-max_words-eq0 w ↦ omega (arith, w.words-is, w.if-max_words-eq0.true)
+      | else-max_words-eq0 w ↦ omega (arith, w.words-is, w.if-max_words-eq0.false)
+    ] in
+    let is : F ≡ laid_out (room_for (max 1 c.args.max_words) limits.segments limits) t =
+    c.in_ok-sheet.ensures.written
+    ∙ ap (λ n. laid_out (room_for n c.segments.result limits) t) words
+    ∙ ap (λ n. laid_out (room_for (max 1 c.args.max_words) n limits) t) c.segments.ensures.value in
+    subst (λ S. Layout S (record { words = c.args.max_words; segments = limits.segments }) t) (sym (c.in_ok-into_segments.ensures))
+    (written_is_layout c.args.max_words limits t F (omega (arith, c.segments.ensures.value, c.segments.ensures.range)) c.requires.shaped is c.in_ok-sheet.ensures.small)
+
+pub returns-clause-small : goal.returns-clause-small
+returns-clause-small c =
+    let limits = c.args.limits in
+    let t = draft_of c.args.draft.now in
+    let room = room_for c.if-max_words-eq0.words c.segments.result limits in
+    let is = c.in_ok-into_segments.ensures ∙ ap lists c.in_ok-sheet.ensures.written in
+    subst (λ (s : List (List ℕ)). (length s ≤ limits.segments) × (sum (map length s) ≤ limits.frame_words)) (sym is)
+    (omega (arith, laid_within room t (omega (arith, c.segments.ensures.range)), c.segments.ensures.value), omega (arith, laid_words room t, c.in_ok-sheet.ensures.fits.2))

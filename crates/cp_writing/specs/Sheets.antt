@@ -1,0 +1,119 @@
+-- Segments while a tree is written into them, and how each step of writing changes them.
+use Rattle.std.specs.Prelude.{◌≡◌, ℕ, ◌+◌, ◌-◌, ◌^◌, ◌<◌, ◌≤◌, pos, false, List, [], ◌∷◌, ◌++◌, length, set, slice_index_or, if◌then◌else◌, ◌==◌, nat_le, Result, Ok, Err, IfOk}
+use Rattle.cp_words.specs.Word.{word_of}
+use Rattle.cp_words.specs.declared.pointer.Pointer.TheVariants as pointers
+use Rattle.cp_words.specs.declared.kind.Kind.{Kind}
+use Rattle.cp_words.specs.declared.kind.Kind.TheVariants as kinds
+use Rattle.cp_words.specs.declared.place.Place.{Place}
+use Rattle.cp_tree.specs.declared.fault.WriteFault.{WriteFault}
+use Rattle.cp_tree.specs.declared.fault.WriteFault.TheVariants as faults
+use Rattle.cp_writing.specs.declared.sheet.Sheet.{Sheet}
+use Rattle.cp_writing.specs.declared.sheet.Room.{Room}
+use Rattle.cp_tree.specs.NodeOf.{words_of}
+use Rattle.cp_words.specs.Aims.{segment}
+
+-- the segments that are full, the last one, and how many words were counted
+pub record Written : Type 0 where
+  pub full : List (List ℕ)
+  pub last : List ℕ
+  pub words : ℕ
+
+abbrev pub written : Sheet → Written
+written w = record { full = words_of w.full.items; last = w.last.items; words = w.words }
+
+abbrev pub lists : Written → List (List ℕ)
+lists F = F.full ++ F.last ∷ []
+
+-- where a segment ends
+abbrev pub end_of : Written → ℕ → ℕ
+end_of F s = length (segment (lists F) s)
+
+-- a word is written at a place
+abbrev pub put : ℕ → ℕ → ℕ → Written → Written
+put s p w F =
+    if s == length F.full then record { full = F.full; last = set F.last p w; words = F.words }
+    else record { full = set F.full s (set (slice_index_or F.full s []) p w); last = F.last; words = F.words }
+
+-- words are appended to the last segment
+abbrev pub append : List ℕ → Written → Written
+append ws F = record { full = F.full; last = F.last ++ ws; words = F.words + length ws }
+
+-- a new segment is begun
+abbrev pub begin : Written → Written
+begin F = record { full = F.full ++ F.last ∷ []; last = []; words = F.words }
+
+-- the word of a pointer to a body that begins so many words behind it
+abbrev pub body_word : Kind → ℕ → ℕ
+body_word (kinds.Struct d n) o = word_of (pointers.Struct (pos o) d n)
+body_word (kinds.List size n) o = word_of (pointers.List (pos o) size n)
+
+-- a body that a pointer word can name
+abbrev pub IsNamed : Kind → Type 0
+IsNamed (kinds.Struct d n) = (d < 2 ^ 16) × (n < 2 ^ 16) × (0 < d + n)
+IsNamed (kinds.List size n) = n < 2 ^ 29
+
+-- what is written, and where a body goes
+pub record Placed : Type 0 where
+  pub sheet : Written
+  pub at : Place
+
+-- directly, at the end of its pointer's segment
+abbrev pub here : ℕ → ℕ → Kind → Written → Placed
+here s p k F = record { sheet = put s p (body_word k (end_of F s - (p + 1))) F; at = record { segment = s; word = end_of F s } }
+
+-- behind a pad, at the end of the last segment
+abbrev pub behind_pad : ℕ → ℕ → Kind → Written → Placed
+behind_pad s p k F =
+    record { sheet = append (body_word k 0 ∷ []) (put s p (word_of (pointers.Far false (length F.last) (length F.full))) F); at = record { segment = length F.full; word = length F.last + 1 } }
+
+-- how many words a pad takes before a body whose pointer stands in a segment
+abbrev pub pad_for : ℕ → Written → ℕ
+pad_for s F = if s == length F.full then 0 else 1
+
+-- what doesn't fit into the last segment begins a new one, where one may be begun
+abbrev pub with_room : Room → ℕ → ℕ → Written → Written
+with_room room s size F =
+    if size == 0 then F
+    else (if nat_le (length F.last + pad_for s F + size) room.words then F
+    else (if nat_le room.segments (length F.full + 1) then F
+    else begin F))
+
+abbrev pub place_in : ℕ → ℕ → Kind → ℕ → Written → Placed
+place_in s p k size F =
+    if size == 0 then here s p k F
+    else (if s == length F.full then here s p k F
+    else behind_pad s p k F)
+
+abbrev pub place_by : Room → ℕ → ℕ → Kind → ℕ → Written → Placed
+place_by room s p k size F = place_in s p k size (with_room room s size F)
+
+-- no more than limits can allow
+abbrev pub IsRoom : Room → Type 0
+IsRoom room = (0 < room.whole) × (room.whole ≤ 67108864) × (room.words < 2 ^ 32) × (room.segments ≤ 512)
+
+-- no more words are counted than may be written, and none that a segment has isn't counted
+abbrev pub KeepsTo : Room → Written → Type 0
+KeepsTo room F = IsRoom room × (F.words ≤ room.whole) × (length F.full < 512) × ((s : ℕ) → end_of F s ≤ F.words)
+
+-- a word is there
+abbrev pub IsPlace : Written → Place → Type 0
+IsPlace F at = (at.segment ≤ length F.full) × (at.word < end_of F at.segment)
+
+-- why no more is written: the words are too many, or memory ran out
+abbrev pub Refuses : Room → WriteFault → Written → Type 0
+Refuses room faults.TooManyWords wanted = room.whole < wanted.words
+Refuses room faults.OutOfMemory wanted = Unit {0}
+Refuses room other wanted = ⊥
+
+-- the words were written and counted, or not
+abbrev pub Writes : {X : Type 0} → Room → Result X WriteFault → Written → Written → Type 0
+Writes room (Ok x) wanted new = (new ≡ wanted) × KeepsTo room new
+Writes room (Err e) wanted new = Refuses room e wanted
+
+-- a body was placed, or its pad is one word too many
+abbrev pub Places : Room → Result Place WriteFault → Placed → Written → Type 0
+Places room result wanted new = Writes room result wanted.sheet new × IfOk result (λ at. at ≡ wanted.at)
+
+-- so many words are there from a place on
+abbrev pub IsRun : Written → Place → ℕ → Type 0
+IsRun F at n = (at.segment ≤ length F.full) × (at.word + n ≤ end_of F at.segment)

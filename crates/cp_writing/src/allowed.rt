@@ -1,0 +1,21 @@
+//! What the limits on nesting and on cost leave while a tree is written.
+
+ghost use Rattle.cp_writing.specs.Allowed.{Enters};
+
+use cp_tree::WriteFault;
+
+/// Goes one level down, to a body or a list that costs so much without what hangs on it. Gives how
+/// many levels are left below it.
+#[inline(always)]
+pub(crate) fn enter(levels: u32, left: &mut u64, price: u64) -> Result<u32, WriteFault>
+    ensures { Enters levels left.old price result left.new }
+{
+    if levels == 0 {
+        return Err(WriteFault::TooDeep);
+    }
+    if price > *left {
+        return Err(WriteFault::TooCostly);
+    }
+    *left -= price;
+    Ok(levels - 1)
+}

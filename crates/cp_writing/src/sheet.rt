@@ -1,0 +1,288 @@
+//! Segments while they are written.
+
+ghost use Rattle.std.specs.Prelude.{ℕ, ◌≡◌, ◌<◌, ◌≤◌, ◌++◌, IfErr, ◌+◌, ◌∷◌, ◌^◌, [], length, replicate, OnOk, IfOk};
+ghost use Rattle.cp_tree.specs.NodeOf.{words_of};
+ghost use Rattle.cp_tree.specs.Node.{bits, bytes, halves, quads};
+ghost use Rattle.cp_writing.specs.Packed.{packed};
+ghost use Rattle.cp_writing.specs.Sheets.{written, lists, end_of, put, append, begin, place_by, body_word, IsNamed, with_room, here, behind_pad, IsRoom, KeepsTo, IsPlace, Writes, Places};
+ghost use Rattle.cp_tree.specs.declared.fault.WriteFault.TheVariants.{TooManyWords};
+
+use crate::pack::{push_bits, push_bytes, push_halves, push_quads};
+use cp_tree::WriteFault;
+use cp_words::{Kind, Place, Pointer, Segments, encode};
+use std::alloc::{AllocError, Global};
+use std::mem;
+
+/// How much may be written: at most so many words in a segment, so many segments, and so many words
+/// in all of them together.
+#[derive(Clone, Copy)]
+pub(crate) struct Room {
+    pub words: usize,
+    pub segments: usize,
+    pub whole: usize,
+}
+
+/// What is written so far: the segments that are full, the last one, and the number of words of all.
+/// A segment is made with capacity for so many words.
+#[derive(Drop)]
+pub(crate) struct Sheet {
+    alloc: Global,
+    capacity: usize,
+    full: Vec<Vec<u64>>,
+    last: Vec<u64>,
+    words: usize,
+}
+
+/// The word of a pointer to a body that begins so many words behind it.
+fn body_word(kind: Kind, offset: usize) -> u64
+    requires named { IsNamed kind }
+    requires near { offset < 2 ^ 29 }
+    ensures { result ≡ body_word kind offset }
+{
+    let offset = offset as i32;
+    encode(match kind {
+        Kind::Struct { words, ptrs } => Pointer::Struct {
+            offset,
+            words,
+            ptrs,
+        },
+        Kind::List { size, count } => Pointer::List {
+            offset,
+            size,
+            count,
+        },
+    })
+}
+
+impl Sheet {
+    /// One segment with a blank word, the root's pointer.
+    pub fn new(alloc: Global, room: Room, capacity: usize) -> Result<Sheet, AllocError>
+        requires { IsRoom room }
+        ensures written { IfOk result (λ w. written w ≡ record { full = []; last = 0 ∷ []; words = 1 }) }
+        ensures keeps { IfOk result (λ w. KeepsTo room (written w)) }
+    {
+        let mut last = Vec::with_capacity(alloc, capacity)?;
+        last.push(0)?;
+        Ok(Sheet {
+            alloc,
+            capacity,
+            full: Vec::new(alloc),
+            last,
+            words: 1,
+        })
+    }
+
+    /// The segments. Most messages have one, which needs no vector around it.
+    pub fn into_segments(self) -> Result<Segments, AllocError>
+        ensures { IfOk result (λ s. s ≡ lists (written self)) }
+    {
+        let mut lists = self.full;
+        if lists.is_empty() {
+            return Ok(Segments::one(self.last));
+        }
+        lists.push(self.last)?;
+        match Segments::new(lists) {
+            Ok(segments) => Ok(segments),
+            Err(_) => Err(AllocError),
+        }
+    }
+
+    /// The last segment.
+    pub fn into_last(self) -> Vec<u64>
+        ensures { result.items ≡ (written self).last }
+    {
+        self.last
+    }
+
+    /// How many words a segment has.
+    fn end(&self, segment: usize) -> usize
+        requires { segment ≤ length (written self.now).full }
+        ensures { result ≡ end_of (written self.now) segment }
+    {
+        if segment == self.full.len() {
+            self.last.len()
+        } else {
+            self.full[segment].len()
+        }
+    }
+
+    /// Writes a word at a place that is there.
+    #[inline]
+    pub fn put(&mut self, at: Place, word: u64)
+        requires { IsPlace (written self.old) at }
+        ensures { written self.new ≡ put at.segment at.word word (written self.old) }
+    {
+        if at.segment == self.full.len() {
+            self.last[at.word] = word;
+        } else {
+            self.full[at.segment][at.word] = word;
+        }
+    }
+
+    /// Counts so many more words.
+    #[inline(always)]
+    fn count(&mut self, room: Room, words: usize) -> Result<(), WriteFault>
+        requires within { self.old.words ≤ room.whole }
+        requires small { room.whole ≤ 67108864 }
+        ensures counted { OnOk result (self.new ≡ record self.old { words = self.old.words + words }) }
+        ensures within { OnOk result (self.old.words + words ≤ room.whole) }
+        ensures past { IfErr result (λ e. (e ≡ TooManyWords) × (room.whole < self.old.words + words)) }
+    {
+        if words > room.whole - self.words {
+            return Err(WriteFault::TooManyWords);
+        }
+        self.words += words;
+        Ok(())
+    }
+
+    /// Appends the words to the last segment.
+    #[inline(always)]
+    pub fn append(&mut self, room: Room, words: &[u64]) -> Result<(), WriteFault>
+        requires { KeepsTo room (written self.old) }
+        ensures { Writes room result (append words.now (written self.old)) (written self.new) }
+    {
+        self.count(room, words.len())?;
+        self.last.extend_from_slice(words)?;
+        Ok(())
+    }
+
+    /// Appends so many blank words to the last segment.
+    #[inline(always)]
+    pub fn append_blank(&mut self, room: Room, words: usize) -> Result<(), WriteFault>
+        requires { KeepsTo room (written self.old) }
+        ensures { Writes room result (append (replicate words 0) (written self.old)) (written self.new) }
+    {
+        self.count(room, words)?;
+        self.last.resize(self.last.len() + words, 0)?;
+        Ok(())
+    }
+
+    pub fn append_bits(&mut self, room: Room, items: &[bool]) -> Result<(), WriteFault>
+        requires { KeepsTo room (written self.old) }
+        ensures { Writes room result (append (packed (bits items.now)) (written self.old)) (written self.new) }
+    {
+        self.count(room, (items.len() + 63) / 64)?;
+        push_bits(&mut self.last, items)?;
+        Ok(())
+    }
+
+    pub fn append_bytes(&mut self, room: Room, items: &[u8]) -> Result<(), WriteFault>
+        requires { KeepsTo room (written self.old) }
+        ensures { Writes room result (append (packed (bytes items.now)) (written self.old)) (written self.new) }
+    {
+        self.count(room, (items.len() + 7) / 8)?;
+        push_bytes(&mut self.last, items)?;
+        Ok(())
+    }
+
+    pub fn append_halves(&mut self, room: Room, items: &[u16]) -> Result<(), WriteFault>
+        requires { KeepsTo room (written self.old) }
+        ensures { Writes room result (append (packed (halves items.now)) (written self.old)) (written self.new) }
+    {
+        self.count(room, (items.len() + 3) / 4)?;
+        push_halves(&mut self.last, items)?;
+        Ok(())
+    }
+
+    pub fn append_quads(&mut self, room: Room, items: &[u32]) -> Result<(), WriteFault>
+        requires { KeepsTo room (written self.old) }
+        ensures { Writes room result (append (packed (quads items.now)) (written self.old)) (written self.new) }
+    {
+        self.count(room, (items.len() + 1) / 2)?;
+        push_quads(&mut self.last, items)?;
+        Ok(())
+    }
+
+    /// Ends the last segment and begins a new one, with room for a pad and a body of so many words.
+    #[cold]
+    fn begin(&mut self, size: usize) -> Result<(), AllocError>
+        requires { size < 2 ^ 60 }
+        ensures { OnOk result (written self.new ≡ begin (written self.old)) }
+    {
+        let next = Vec::with_capacity(self.alloc, self.capacity.max(size + 1))?;
+        self.full.push(mem::replace(&mut self.last, next))?;
+        Ok(())
+    }
+
+    /// Begins a new segment, if a body of so many words, whose pointer stands in a segment, doesn't fit
+    /// into the last one and a new one may be begun.
+    #[inline(always)]
+    fn make_room(&mut self, room: Room, segment: usize, size: usize) -> Result<(), AllocError>
+        requires keeps { KeepsTo room (written self.old) }
+        requires sized { size < 2 ^ 60 }
+        ensures { OnOk result (written self.new ≡ with_room room segment size (written self.old)) }
+    {
+        let pad = if segment == self.full.len() { 0 } else { 1 };
+        if size == 0 || self.last.len() + pad + size <= room.words {
+            return Ok(());
+        }
+        if self.full.len() + 1 >= room.segments {
+            return Ok(());
+        }
+        self.begin(size)
+    }
+
+    /// Names a body directly, and gives where it is to be written: at the end of its pointer's segment.
+    #[inline(always)]
+    fn place_here(&mut self, at: Place, kind: Kind) -> Place
+        requires small { (s : ℕ) → end_of (written self.old) s ≤ 67108864 }
+        requires there { IsPlace (written self.old) at }
+        requires named { IsNamed kind }
+        ensures written { written self.new ≡ (here at.segment at.word kind (written self.old)).sheet }
+        ensures at { result ≡ (here at.segment at.word kind (written self.old)).at }
+    {
+        let start = self.end(at.segment);
+        self.put(at, body_word(kind, start - (at.word + 1)));
+        Place {
+            segment: at.segment,
+            word: start,
+        }
+    }
+
+    /// Names a body by a pad, and gives where it is to be written: behind the pad, which is at the end
+    /// of the last segment.
+    #[cold]
+    fn place_behind_pad(&mut self, room: Room, at: Place, kind: Kind) -> Result<Place, WriteFault>
+        requires keeps { KeepsTo room (written self.old) }
+        requires there { IsPlace (written self.old) at }
+        requires named { IsNamed kind }
+        ensures { Places room result (behind_pad at.segment at.word kind (written self.old)) (written self.new) }
+    {
+        let place = self.last.len();
+        let segment = self.full.len();
+        let far = Pointer::Far {
+            double: false,
+            place: place as u32,
+            segment: segment as u32,
+        };
+        self.put(at, encode(far));
+        self.append(room, &[body_word(kind, 0)])?;
+        Ok(Place {
+            segment,
+            word: place + 1,
+        })
+    }
+
+    /// Places a body of so many words, whose pointer stands at a place: directly, or behind a pad.
+    /// Gives where it is to be written.
+    #[inline(always)]
+    pub fn place(
+        &mut self,
+        room: Room,
+        at: Place,
+        kind: Kind,
+        size: usize,
+    ) -> Result<Place, WriteFault>
+        requires keeps { KeepsTo room (written self.old) }
+        requires there { IsPlace (written self.old) at }
+        requires named { IsNamed kind }
+        requires sized { size < 2 ^ 60 }
+        ensures { Places room result (place_by room at.segment at.word kind size (written self.old)) (written self.new) }
+    {
+        self.make_room(room, at.segment, size)?;
+        if size == 0 || at.segment == self.full.len() {
+            return Ok(self.place_here(at, kind));
+        }
+        self.place_behind_pad(room, at, kind)
+    }
+}

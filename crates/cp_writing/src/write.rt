@@ -1,0 +1,125 @@
+//! Trees, written into segments.
+
+ghost use Rattle.std.specs.Prelude.{◌≡◌, ◌≤◌, ◌<◌, ◌∷◌, [], max, sum, length, map, IfOk, IfErr};
+ghost use Rattle.cp_writing.specs.Layout.{Layout, Built};
+ghost use Rattle.cp_tree.specs.Node.{depth, cost};
+ghost use Rattle.cp_tree.specs.DraftOf.{draft_of};
+ghost use Rattle.cp_tree.specs.Shaped.{Shaped};
+ghost use Rattle.cp_writing.specs.Sheets.{lists, written};
+ghost use Rattle.cp_writing.specs.Writes.{IsCostFaultOf, IsWriteFaultOf, FitsIn, room_for, segments_for, laid_out};
+
+use crate::draft_lay::lay_draft;
+use crate::sheet::{Room, Sheet};
+use cp_tree::{Draft, Object, WriteFault, draft_nests};
+use cp_words::{Limits, Place, Segments};
+use std::alloc::Global;
+
+/// A segment begins with room for so many words, if it may have them.
+const FIRST_WORDS: usize = 128;
+
+/// Whether the tree keeps to the limits on nesting and on cost.
+#[cold]
+fn keeps_to(draft: &Draft, limits: Limits) -> Result<(), WriteFault>
+    ensures fits { IfOk result (λ u. (depth (draft_of draft.now) ≤ limits.nesting) × (cost (draft_of draft.now) ≤ limits.traversal)) }
+    ensures refused { IfErr result (IsCostFaultOf limits (draft_of draft.now)) }
+{
+    let mut left = Some(limits.traversal() as u64);
+    if !draft_nests(draft, limits.nesting(), &mut left) {
+        return Err(WriteFault::TooDeep);
+    }
+    match left {
+        Some(_) => Ok(()),
+        None => Err(WriteFault::TooCostly),
+    }
+}
+
+/// The tree written into segments of at most so many words each, at most so many.
+fn lay_out(
+    alloc: Global,
+    draft: &Draft,
+    words: u32,
+    segments: u32,
+    limits: Limits,
+) -> Result<Sheet, WriteFault>
+    requires shaped { Shaped (draft_of draft.now) }
+    requires few { segments ≤ 512 }
+    ensures written { IfOk result (λ w. written w ≡ laid_out (room_for words segments limits) (draft_of draft.now)) }
+    ensures fits { IfOk result (λ w. FitsIn limits (room_for words segments limits) (draft_of draft.now)) }
+    ensures small { IfOk result (λ w. (written w).words ≤ 67108864) }
+    ensures refused { IfErr result (IsWriteFaultOf limits (room_for words segments limits) (draft_of draft.now)) }
+{
+    let room = Room {
+        words: words as usize,
+        segments: segments as usize,
+        whole: limits.frame_words() as usize,
+    };
+    let mut sheet = Sheet::new(alloc, room, room.words.min(FIRST_WORDS))?;
+    let root = Place {
+        segment: 0,
+        word: 0,
+    };
+    let mut left = limits.traversal() as u64;
+    match lay_draft(&mut sheet, room, root, draft, limits.nesting(), &mut left) {
+        Ok(()) => Ok(sheet),
+        Err(WriteFault::OutOfMemory) => Err(WriteFault::OutOfMemory),
+        Err(fault) => {
+            keeps_to(draft, limits)?;
+            Err(fault)
+        }
+    }
+}
+
+/// Writes a tree with lent parts, of one that a message can hold, into segments of at most so many
+/// words, in the order of its pointers (encoding specification, "Messages", "Inter-Segment
+/// Pointers"). 0 counts as 1. What doesn't fit where its pointer stands goes behind a pad of one word;
+/// a body that is larger than a segment has a segment of its own. B1 if the tree nests deeper than the
+/// limit, else B2 if it costs more, else B4 if its segments have more words together than a frame may
+/// have; B3 if memory runs out.
+pub fn write_draft(
+    alloc: Global,
+    draft: &Draft,
+    max_words: u32,
+    limits: Limits,
+) -> Result<Segments, WriteFault>
+    requires shaped { Shaped (draft_of draft.now) }
+    ensures written { IfOk result (λ s. s ≡ segments_for max_words limits (draft_of draft.now)) }
+    ensures layout { IfOk result (λ s. Layout s (record { words = max_words; segments = limits.segments }) (draft_of draft.now)) }
+    ensures fits { IfOk result (λ s. FitsIn limits (room_for (max 1 max_words) limits.segments limits) (draft_of draft.now)) }
+    ensures small { IfOk result (λ s. (length s ≤ limits.segments) × (sum (map length s) ≤ limits.frame_words)) }
+    ensures refused { IfErr result (IsWriteFaultOf limits (room_for (max 1 max_words) limits.segments limits) (draft_of draft.now)) }
+{
+    let words = if max_words == 0 { 1 } else { max_words };
+    let sheet = lay_out(alloc, draft, words, limits.segments(), limits)?;
+    Ok(sheet.into_segments()?)
+}
+
+/// Writes the tree into segments of at most so many words, as `write_draft` writes it lent.
+pub fn write_segments(
+    alloc: Global,
+    object: &Object,
+    max_words: u32,
+    limits: Limits,
+) -> Result<Segments, WriteFault>
+    ensures written { IfOk result (λ s. s ≡ segments_for max_words limits object.now) }
+    ensures layout { IfOk result (λ s. Layout s (record { words = max_words; segments = limits.segments }) object.now) }
+    ensures fits { IfOk result (λ s. FitsIn limits (room_for (max 1 max_words) limits.segments limits) object.now) }
+    ensures small { IfOk result (λ s. (length s ≤ limits.segments) × (sum (map length s) ≤ limits.frame_words)) }
+    ensures refused { IfErr result (IsWriteFaultOf limits (room_for (max 1 max_words) limits.segments limits) object.now) }
+{
+    let draft = Draft::Lent(object.tree());
+    write_draft(alloc, &draft, max_words, limits)
+}
+
+/// Writes the tree into one segment, in the order of its pointers (encoding specification,
+/// "Messages"). B1 if the tree nests deeper than the limit, else B2 if it costs more, else B4 if its
+/// words are more than a frame may have; B3 if memory runs out.
+pub fn write_root(alloc: Global, object: &Object, limits: Limits) -> Result<Vec<u64>, WriteFault>
+    ensures written { IfOk result (λ v. v.items ∷ [] ≡ lists (laid_out (room_for limits.frame_words 1 limits) object.now)) }
+    ensures built { IfOk result (λ v. Built object.now v.items) }
+    ensures fits { IfOk result (λ v. FitsIn limits (room_for limits.frame_words 1 limits) object.now) }
+    ensures refused { IfErr result (IsWriteFaultOf limits (room_for limits.frame_words 1 limits) object.now) }
+{
+    let draft = Draft::Lent(object.tree());
+    let sheet = lay_out(alloc, &draft, limits.frame_words(), 1, limits)?;
+    Ok(sheet.into_last())
+}
