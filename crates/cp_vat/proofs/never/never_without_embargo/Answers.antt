@@ -1,5 +1,0 @@
-use Rattle.cp_vat.proofs.Embargoed.{not_without_embargo}
-use Rattle.cp_vat.proofs.never.never_without_embargo.Goals as goal
-
-pub returns : goal.returns
-returns c = not_without_embargo

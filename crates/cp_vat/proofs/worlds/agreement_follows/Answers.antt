@@ -1,5 +1,0 @@
-use Rattle.cp_vat.proofs.Telling.{keeps_by}
-use Rattle.cp_vat.proofs.worlds.agreement_follows.Goals as goal
-
-pub returns : goal.returns
-returns c = keeps_by
