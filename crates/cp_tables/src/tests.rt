@@ -1,8 +1,8 @@
 //! Each call on its happy path, each refusal, numbers used again, and the limits.
 
+use super::*;
 use TableFault::{Full, OutOfMemory, Taken, TooMany, Unknown};
 use std::process::Abort;
-use super::*;
 
 const LAST: u32 = 65_535;
 

@@ -67,4 +67,3 @@ Aims S s p k s' start = (AimsHere S s p k start × (s' ≡ s)) ⊎ (AimsByPad S 
 pub record HasBody (S : List (List ℕ)) (s p : ℕ) (k : Kind) (size s' start : ℕ) : Type 0 where
   pub aims : Aims S s p k s' start
   pub inside : start + size ≤ length (segment S s')
-

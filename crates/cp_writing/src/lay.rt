@@ -11,7 +11,9 @@ ghost use Rattle.cp_writing.specs.Sheets.{written, append, place_by, KeepsTo, Is
 ghost use Rattle.cp_writing.specs.Writing.{body_blank, bodies_blank, tag_word, structs_begun, Begins, BeginsBodies, tree_by, row_by, bodies_by};
 
 use crate::allowed::enter;
-use crate::lay_list::{lay_bits, lay_bytes, lay_halves, lay_quads, lay_voids, lay_words, place_list};
+use crate::lay_list::{
+    lay_bits, lay_bytes, lay_halves, lay_quads, lay_voids, lay_words, place_list,
+};
 use crate::sheet::{Room, Sheet};
 use cp_tree::{Body, Tree, WriteFault};
 use cp_words::{ElementSize, Kind, Place, Pointer, encode};

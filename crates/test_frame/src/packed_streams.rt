@@ -1,6 +1,9 @@
 //! Packed frames from outside, whole and in pieces.
 
-use crate::frames::{expect_end, expect_failed, expect_fault_in, expect_fed, expect_held, expect_joined, expect_next, expect_next_fault, expect_none, expect_short, fed, joined};
+use crate::frames::{
+    expect_end, expect_failed, expect_fault_in, expect_fed, expect_held, expect_joined,
+    expect_next, expect_next_fault, expect_none, expect_short, fed, joined,
+};
 use crate::packed::{BOOTSTRAP, FINISH, RELEASE, TWO};
 use cp_frame::*;
 use cp_words::Limits;

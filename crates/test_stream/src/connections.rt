@@ -1,6 +1,9 @@
 //! Messages of a connection, read and written back, and devices that fail on the way.
 
-use crate::streams::{FINISH, PACKED, Source, TWO_SEGMENTS, at, expect_bytes, expect_cut_short, expect_end, expect_failed, expect_read, is_memory, read, tap_of};
+use crate::streams::{
+    FINISH, PACKED, Source, TWO_SEGMENTS, at, expect_bytes, expect_cut_short, expect_end,
+    expect_failed, expect_read, is_memory, read, tap_of,
+};
 use cp_frame::Mode;
 use cp_rpc::{Message, Op, Returned, Target};
 use cp_stream::*;

@@ -2,9 +2,9 @@
 
 ghost use Rattle.std.specs.Prelude.{◌<◌};
 
+use super::*;
 use TableFault::Full;
 use std::test::Fail;
-use super::*;
 
 fn at_count(alloc: Global, count: u32) -> Result<Exports<()>, TableFault>
     requires { 0 < count }

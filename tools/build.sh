@@ -1,0 +1,156 @@
+#!/usr/bin/env bash
+# tools/build.sh CRATE..    proves these crates and those that they stand on, as far as they aren't up to date, and builds
+#                           the programs and static libraries among them. It says on standard error what it does.
+#
+# `rt lib` holds the locks of all libraries below a crate until it ends, and nearly all crates share one. So that crates are
+# proved side by side, each is in a room of its own: a copy of the sources, and links to what the libraries below came to.
+# The crate's out/, where rt keeps what it proved, is moved there and back.
+set -eu
+. "$(dirname "${BASH_SOURCE[0]}")/crates.sh"
+room=$root/.git/build-room # rt ci wants no second crates.txt elsewhere
+[ -d "$root/.git" ] || room=$root/out/build-room
+declare -A behind state jobs pid since
+
+put_back() { # CRATE
+    local out=$room/$1/crates/$1/out
+    [ ! -d "$out" ] || { rm -rf "$root/crates/$1/out"; mv "$out" "$root/crates/$1/out"; }
+}
+
+leave() {
+    local name
+    trap '' INT TERM HUP
+    end_all $(jobs -p)
+    for name in "${!state[@]}"; do [ "${state[$name]}" != runs ] || put_back "$name"; done
+    [ -z "${is_mine-}" ] || rm -rf "$room"
+    state=() is_mine=''
+    unlock
+    trap - INT TERM HUP EXIT
+}
+
+interrupted() { say "stopped: what is proved is kept, and the next run goes on from there"; exit "$1"; }
+
+take_room() { # and puts back what a run that was killed left
+    local out name
+    for out in "$room"/*/crates/*/out; do
+        name=$(basename "${out%/out}")
+        [ ! -d "$room/$name/crates/$name/out" ] || [ -e "$root/crates/$name/out" ] || put_back "$name"
+    done
+    rm -rf "$room"
+    mkdir -p "$room"
+    is_mine=yes
+    : >"$room/began"
+}
+
+measure() { # processors, and free memory in MB, within the limits of the control group too
+    local most held
+    processors=$(nproc)
+    memory=$(awk '/^MemAvailable:/ { print int($2 / 1024) }' /proc/meminfo)
+    if read -r most held 2>/dev/null </sys/fs/cgroup/cpu.max && [ "$most" != max ] && [ $((most / held)) -lt "$processors" ]; then
+        processors=$((most < held ? 1 : most / held))
+    fi
+    if read -r most 2>/dev/null </sys/fs/cgroup/memory.max && [ "$most" != max ]; then
+        held=$(awk '$1 == "anon" { print $2 }' /sys/fs/cgroup/memory.stat)
+        [ $(((most - held) >> 20)) -ge "$memory" ] || memory=$(((most - held) >> 20))
+    fi
+}
+
+look() { # which crates wait to be proved, and for each the lines of the longest chain of crates that begins with it
+    local at name it kit_of lines
+    for ((at = ${#order[@]} - 1; at >= 0; at--)); do
+        name=${order[at]} kit_of=''
+        lines=$(find "$room/sources/$name/src" -name '*.rt' -exec cat {} + | wc -l)
+        behind[$name]=$((${behind[$name]-0} + lines))
+        for it in ${uses[$name]}; do [ "${behind[$it]-0}" -ge "${behind[$name]}" ] || behind[$it]=${behind[$name]}; done
+        read -r kit_of 2>/dev/null <"$root/crates/$name/out/kit" || :
+        if [ "$kit_of" != "$kit" ] || ! is_fresh "$name"; then
+            state[$name]=waits count=$((count + 1))
+            [ -d "$root/crates/$name/out/incremental" ] || new=$((new + lines))
+        fi
+    done
+    mapfile -t by_chain < <(for name in "${!state[@]}"; do printf '%s %s\n' "${behind[$name]}" "$name"; done | sort -rn | cut -d' ' -f2)
+}
+
+begin() { # CRATE JOBS
+    local name=$1 words=(rt lib --jobs "$2") verb=proving
+    [ ! -d "$root/crates/$name/out/incremental" ] || verb=checking
+    [ ! -f "$root/crates/$name/src/main.rt" ] || words=(rt run --jobs "$2" -- --help)
+    lay_out "$name" "$room/sources" "$room/$name"
+    state[$name]=runs jobs[$name]=$2 since[$name]=$SECONDS number=$((number + 1))
+    [ ! -d "$root/crates/$name/out" ] || mv "$root/crates/$name/out" "$room/$name/crates/$name/out"
+    # (rt inherits the locks, and so holds them if this script alone is killed)
+    (cd "$room/$name/crates/$name" && exec setsid "${words[@]}" </dev/null >"$room/$name.log" 2>&1) &
+    pid[$name]=$!
+    say "$verb $name ($number of $count)"
+}
+
+finish() { # CRATE
+    local name=$1 status=0
+    wait "${pid[$name]}" || status=$?
+    end_all "${pid[$name]}"
+    put_back "$name"
+    unset "pid[$name]"
+    if [ "$status" -ne 0 ] || [ ! -e "${made[$name]}" ]; then
+        tail -n 40 "$room/$name.log" >&2
+        mkdir -p "$root/crates/$name/out"
+        cp "$room/$name.log" "$root/crates/$name/out/build.log"
+        fail "$name is not proved and built (status $status): all that rt said is in crates/$name/out/build.log"
+    fi
+    # (an edit that came meanwhile is newer)
+    touch -r "$room/began" "${made[$name]}"
+    printf '%s\n' "$kit" >"$root/crates/$name/out/kit"
+    rm -rf "${room:?}/$name"
+    ended=$((ended + 1))
+    state[$name]=built
+    say "$name took $((SECONDS - since[$name])) s; $((count - ended)) to go"
+}
+
+begin_ready() { # those that wait for no other, the longest chain first, with processors in proportion to their chains
+    local name it n ready=() all=0 idle=$processors free=$memory
+    for name in "${!pid[@]}"; do idle=$((idle - jobs[$name])) free=$((free - 1500 - 1000 * jobs[$name])); done
+    for name in "${by_chain[@]}"; do
+        [ "${state[$name]}" = waits ] || continue
+        for it in ${uses[$name]}; do [ "${state[$it]-built}" = built ] || continue 2; done
+        ready+=("$name") all=$((all + behind[$name]))
+    done
+    for name in ${ready[@]+"${ready[@]}"}; do
+        [ "$idle" -gt 0 ] || break
+        n=$(((2 * idle * behind[$name] + all) / (2 * all))) all=$((all - behind[$name]))
+        n=$((n < 1 ? 1 : n > 4 ? 4 : n))
+        while [ "$n" -gt 1 ] && [ $((1500 + 1000 * n)) -gt "$free" ]; do n=$((n - 1)); done
+        [ $((1500 + 1000 * n)) -le "$free" ] || [ ${#pid[@]} -eq 0 ] || break
+        begin "$name" "$n"
+        idle=$((idle - n)) free=$((free - 1500 - 1000 * n))
+    done
+}
+
+are_fresh() { local it; for it; do is_fresh "$it" || return 1; done; }
+
+build() { # CRATE..
+    local name kit processors memory by_chain=() new=0 count=0 number=0 ended=0 started=$SECONDS is_mine=''
+    read_crates
+    closure "$@"
+    are_fresh "$@" && return
+    command -v rt >/dev/null || fail "rt isn't in PATH: proving needs the Rattle toolchain"
+    trap leave EXIT
+    on_signals interrupted
+    lock "${order[@]}"
+    are_fresh "$@" && { leave; return; }
+    take_room
+    copy_sources "$room/sources" "${order[@]}"
+    kit=$(rt version)
+    look
+    measure
+    [ "$new" -lt 2000 ] || say "$count crates are to be proved first, once, which takes some $((new / 1000)) to $((new / 500)) minutes"
+    while [ "$ended" -lt "$count" ]; do
+        begin_ready
+        sleep 0.3
+        for name in "${!pid[@]}"; do kill -0 "${pid[$name]}" 2>/dev/null || finish "$name"; done
+    done
+    leave
+    say "built in $(((SECONDS - started) / 60)) min $(((SECONDS - started) % 60)) s"
+}
+
+if [ "${BASH_SOURCE[0]}" = "$0" ]; then
+    [ $# -gt 0 ] || fail "usage: tools/build.sh CRATE.."
+    build "$@"
+fi

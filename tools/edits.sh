@@ -1,0 +1,42 @@
+#!/usr/bin/env bash
+# tools/edits.sh CRATE [PATTERN]    tries the edits of crates/CRATE/must-fail-more/, or those whose names have PATTERN in them.
+#
+# They are edits as those of must-fail/, which the prover must refuse, but no part of the gate. (They can't lie in a folder
+# below must-fail/, where rt ci takes each file for an edit in the wrong place.) The libraries below the crate are built
+# first, where they aren't up to date. Then `rt must-fail` tries the edits in a copy, in the place of those of must-fail/.
+set -eu
+. "$(dirname "${BASH_SOURCE[0]}")/build.sh"
+copy=''
+
+remove_copy() {
+    trap '' INT TERM HUP
+    end_all $(jobs -p)
+    [ -z "$copy" ] || rm -rf "$copy"
+    unlock
+}
+
+[ $# -eq 1 ] || [ $# -eq 2 ] || fail "usage: tools/edits.sh CRATE [PATTERN]
+tries the edits of crates/CRATE/must-fail-more/, or those whose names have PATTERN in them: the prover must refuse each"
+crate=$1 edits=()
+for it in "$root/crates/$crate/must-fail-more"/*.edit; do
+    [[ ! -f $it || $(basename "$it" .edit) != *"${2-}"* ]] || edits+=("$it")
+done
+[ ${#edits[@]} -gt 0 ] || fail "crates/$crate/must-fail-more/ has no edit${2+ with $2 in its name}"
+read_crates
+closure "$crate"
+read -ra whole <<<"${stands[$crate]}"
+[ ${#whole[@]} -eq 1 ] || build "${whole[@]:0:${#whole[@]}-1}"
+
+trap remove_copy EXIT
+on_signals exit
+copy=$(mktemp -d "${TMPDIR:-/tmp}/edits.XXXXXX")
+lock "${whole[@]}"
+copy_sources "$copy/sources" "${whole[@]}"
+lay_out "$crate" "$copy/sources" "$copy/repository"
+unlock
+mkdir "$copy/repository/crates/$crate/must-fail" "$copy/tmp"
+cp "${edits[@]}" "$copy/repository/crates/$crate/must-fail/"
+say "trying ${#edits[@]} edits of $crate, the first of which takes as long as a proof of the whole crate"
+(cd "$copy/repository" && TMPDIR=$copy/tmp exec setsid rt must-fail "$crate" </dev/null) &
+wait "$!" && status=0 || status=$?
+exit "$status"
