@@ -47,8 +47,7 @@
 //! ```
 //! let message = call(alloc, 5, 1)?;
 //! let mut out = Tap::new(io::writer(&rt));
-//! write_message(alloc, &mut out, &message, Mode::Packed, Limits::standard())
-//!     .map_err(|fault| anyhow!("{fault:?}"))
+//! let written = write_message(alloc, &mut out, &message, Mode::Packed, Limits::standard());
 //! ```
 //!
 //! # The layers
