@@ -1,0 +1,31 @@
+//! Looks at each message of a stream in place: the first number that a Return has as its results.
+#![tactic(auto)]
+
+use anyhow::anyhow;
+use jamdrosek::message::ReturnedView;
+use jamdrosek::{FrameReader, Limits, MessageIn, MessageView, view_of};
+use std::fs;
+
+/// The question that a Return answers, and the first word of its results. Nothing is copied.
+fn answer(message: &MessageView<'_>) -> Option<(u32, u64)> {
+    let MessageIn::Return(answer) = message else {
+        return None;
+    };
+    let ReturnedView::Results(results) = &answer.returned else {
+        return None;
+    };
+    Some((answer.answer_id, *results.content.words().first()?))
+}
+
+fn main(rt: HostRuntime) -> anyhow::Result<()> {
+    let limits = Limits::standard();
+    let bytes = fs::read(&rt, "server.bin")?;
+    let mut reader = FrameReader::plain(rt.alloc(), limits);
+    for (_, segments) in &reader.feed(&bytes).map_err(|fault| anyhow!("{fault:?}"))? {
+        let message = view_of(segments, limits).map_err(|fault| anyhow!("{fault:?}"))?;
+        if let Some((question, number)) = answer(&message) {
+            println!(rt; "question {question}: {number}")?;
+        }
+    }
+    reader.finish().map_err(|fault| anyhow!("{fault:?}"))
+}
