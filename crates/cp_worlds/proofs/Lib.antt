@@ -18,3 +18,16 @@ pub mod Settling
 pub mod Failing
 pub mod Leaving
 pub mod Tying
+pub mod Mailing
+pub mod Holding
+pub mod Plainly
+pub mod Resolved
+pub mod Giving
+pub mod Going
+pub mod Calls
+pub mod Owning
+pub mod Taking
+pub mod Heeding
+pub mod Returned
+pub mod Stepping
+pub mod Wholly

@@ -192,7 +192,7 @@ peer_call_sent old call target a done to goes =
     to)
 
 -- what a Return names is taken in
-record TakenBy (old : State) (returned : Returned) (new : State) : Type 0 where
+pub record TakenBy (old : State) (returned : Returned) (new : State) : Type 0 where
   exports : new.counts.exports ≡ old.counts.exports
   entries : new.entries ≡ old.entries
   counted : (i : ℕ) → count_of new.counts.imports i ≡ count_of old.counts.imports i + times i (returned_mentions returned)
@@ -213,7 +213,7 @@ taken_returned old (returns.TakeFromOtherQuestion q) taken settled is = absurd i
 taken_returned old (returns.AcceptFromThirdParty t) taken settled is = absurd is
 taken_returned old (returns.Unknown n) taken settled is = absurd is
 
-returned_step : (table : Table (Exchange QuestionEntry)) (q p : ℕ) (kept : QuestionEntry) (b : Bool) → (q == p) ≡ b → get table q ≡ Some (new_exchange kept) → kept.is_sent ≡ true
+pub returned_step : (table : Table (Exchange QuestionEntry)) (q p : ℕ) (kept : QuestionEntry) (b : Bool) → (q == p) ≡ b → get table q ≡ Some (new_exchange kept) → kept.is_sent ≡ true
     → asked_account (get (insert table q (record { stage = stages.Returned; kept = kept })) p)
     ≡ (if b then question_returned (asked_account (get table p)) else asked_account (get table p))
 returned_step table q p kept true t is is_sent = rw (put_at table q p (record { stage = stages.Returned; kept = kept }) true t, ← is_equal q p t, is, is_sent) refl
@@ -224,7 +224,7 @@ left_step : (table : Table (Exchange QuestionEntry)) (q p : ℕ) (kept : Questio
 left_step table q p kept true t is is_sent = rw (gone_at table q p true t, ← is_equal q p t, is, is_sent) refl
 left_step table q p kept false t is is_sent = rw (gone_at table q p false t) refl
 
-settles_own : (old mid : State) (r : Return) (kept : QuestionEntry) (outcome : Outcome) (done : Done) → TakenBy old r.returned mid → r.release_param_caps ≡ false
+pub settles_own : (old mid : State) (r : Return) (kept : QuestionEntry) (outcome : Outcome) (done : Done) → TakenBy old r.returned mid → r.release_param_caps ≡ false
     → get old.entries.questions r.answer_id ≡ Some (new_exchange kept) → kept.is_sent ≡ true
     → done.1 ≡ question_settled mid r.answer_id outcome → done.0 ≡ effects.Settled r.answer_id outcome ∷ [] → Hears old (messages.Return r) done.0 done.1
 settles_own old mid r kept outcome done taken keeps_params is is_sent state told =
@@ -243,7 +243,7 @@ settles_own old mid r kept outcome done taken keeps_params is is_sent state told
       posts = refl;
     })
 
-gives_own : (old mid : State) (r : Return) (kept : QuestionEntry) (outcome : Outcome) (entry : Exchange QuestionEntry) (done : Done) → TakenBy old r.returned mid
+pub gives_own : (old mid : State) (r : Return) (kept : QuestionEntry) (outcome : Outcome) (entry : Exchange QuestionEntry) (done : Done) → TakenBy old r.returned mid
     → r.release_param_caps ≡ false → get old.entries.questions r.answer_id ≡ Some (new_exchange kept) → kept.is_sent ≡ true
     → entry ≡ new_exchange kept → GiveOwnBy mid r.answer_id outcome entry.stage (Ok done) → Hears old (messages.Return r) done.0 done.1
 gives_own old mid r kept outcome entry done taken keeps_params is is_sent same gives =
@@ -255,7 +255,7 @@ gives_own old mid r kept outcome entry done taken keeps_params is is_sent same g
         → ◌≡◌ {A = Result Done PeerFault} (Ok done) (Ok (effects.Settled q outcome ∷ [], question_settled mid q outcome))
     open_gives mid q outcome stage done is gives = rw is at gives
 
-leaves_own : (old : State) (r : Return) (kept : QuestionEntry) → r.release_param_caps ≡ false
+pub leaves_own : (old : State) (r : Return) (kept : QuestionEntry) → r.release_param_caps ≡ false
     → get old.entries.questions r.answer_id ≡ Some (record { stage = stages.Finished; kept = kept }) → kept.is_sent ≡ true
     → Hears old (messages.Return r) [] (without_question old r.answer_id)
 leaves_own old r kept keeps_params is is_sent =

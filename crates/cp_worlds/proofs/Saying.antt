@@ -62,11 +62,11 @@ said_end old (caps.Broken x) said is = rw (ok_in _ _ is) (said_as_it_is old desc
 pub both_true : (a b : Bool) → a ≡ true → b ≡ true → (a && b) ≡ true
 both_true a b is at = rw (is, at) refl
 
-first_true : (a b : Bool) → (a && b) ≡ true → a ≡ true
+pub first_true : (a b : Bool) → (a && b) ≡ true → a ≡ true
 first_true true b h = refl
 first_true false b h = h
 
-second_true : (a b : Bool) → (a && b) ≡ true → b ≡ true
+pub second_true : (a b : Bool) → (a && b) ≡ true → b ≡ true
 second_true true b h = h
 second_true false b h = absurd (true≢false (sym h))
 
@@ -99,7 +99,7 @@ pub record Taken (old : State) (ds : List Descriptor) (new : State) : Type 0 whe
   pub entries : new.entries ≡ old.entries
   pub counted : (i : ℕ) → count_of new.counts.imports i ≡ count_of old.counts.imports i + times i (mentions_of ds)
 
-held_by : (old : State) (i : ℕ) (kind : ImportKind) (o : Option (Counted ImportKind)) (new : State) → get old.counts.imports i ≡ o → Ok new ≡ held_once_more old i kind o
+pub held_by : (old : State) (i : ℕ) (kind : ImportKind) (o : Option (Counted ImportKind)) (new : State) → get old.counts.imports i ≡ o → Ok new ≡ held_once_more old i kind o
     → (new.counts.exports ≡ old.counts.exports) × (new.entries ≡ old.entries)
     × ((f : ℕ) → count_of new.counts.imports f ≡ count_of old.counts.imports f + times f (i ∷ []))
 held_by old i kind (Some entry) new there is = by (ltb entry.count 4294967295) is

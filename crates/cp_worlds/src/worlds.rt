@@ -9,6 +9,7 @@ ghost use Rattle.cp_worlds.specs.World.{new_end, new_world};
 ghost use Rattle.cp_worlds.specs.Lane.{Reference};
 ghost use Rattle.cp_worlds.specs.Lives.{AreAgreed, Keeps};
 ghost use Rattle.cp_worlds.specs.Posting.{KeepsBy, RulesPost};
+ghost use Rattle.cp_worlds.specs.Laws.{CountsAgree};
 ghost use Rattle.cp_worlds.specs.Turns.{LeaveKeeps, SettlingKeeps, TiedAreOpen, TurnKeeps};
 ghost use Rattle.cp_worlds.specs.Naming.{NamesHold, ValuesHold};
 ghost use Rattle.cp_worlds.specs.Phases.{LaneHolds, IsQuiet};
@@ -55,4 +56,9 @@ pub fn turns_keep()
 /// what its port leads to.
 pub fn leave_keeps()
     ensures { LeaveKeeps }
+{}
+
+/// Each export's count is what it is owed, whatever the applications do, while neither vat is closed.
+pub fn counts_agree()
+    ensures { CountsAgree }
 {}
