@@ -42,7 +42,6 @@ use Rattle.cp_worlds.specs.Orderly.{ArePlainExports, IsPlainExport, IsOrderly, M
 use Rattle.cp_worlds.proofs.Countings.{ok_in, ok_out}
 use Rattle.cp_worlds.proofs.Rules.{then_out, unless_out, put_at}
 use Rattle.cp_worlds.proofs.Posted.{finish_heard, release_heard}
-use Rattle.cp_worlds.proofs.Bootstrapped.{bootstrap_heard}
 use Rattle.cp_worlds.proofs.Mailing.{hears_both}
 use Rattle.cp_worlds.proofs.Plainly.{IsPlainTable, put_plain, gone_plain}
 use Rattle.cp_worlds.proofs.Giving.{answer_goes}
@@ -109,15 +108,29 @@ bootstrap_plain : (o : Option ℕ) → IsPlainTable (caps_of (bootstrap_outcome 
 bootstrap_plain (Some k) = refl
 bootstrap_plain None = refl
 
+bootstrap_enters : (old : State) (a : ℕ) → IsOrderly old → Heeds old (messages.Bootstrap (record { question_id = a })) [] (with_answer old a None)
+bootstrap_enters old a orderly =
+    (record {
+      mid = accounts_of (with_answer old a None);
+      came =
+          record {
+            exports = λ e. omega arith;
+            imports = λ i. omega arith;
+            questions = λ q. refl;
+            answers = λ p. opened_at old.entries.answers old.entries.answers a p (record { ticket = None; is_delivered = false; mentions = []; tied = [] }) (a == p) refl refl refl;
+          };
+      usual = tt;
+      posts = refl;
+    }, record { held = orderly.held; values = orderly.values; exports = orderly.exports })
+
 pub bootstrap_heeds : (old : State) (a : ℕ) (done : Done) → IsOrderly old → OnBootstrap old a (Ok done) → Heeds old (messages.Bootstrap (record { question_id = a })) done.0 done.1
 bootstrap_heeds old a done orderly does =
     let gives : GiveAnswer (with_answer old a None) a (bootstrap_outcome old.bootstrap) (Ok done)
     = unless_out {A = Done} {F = PeerFault} (fault_if (is_answering old a) faults.QuestionInUse ++ fault_if (not (has_room old.entries.answers)) faults.TableFull)
-    (GiveAnswer (with_answer old a None) a (bootstrap_outcome old.bootstrap)) done does in (
-      bootstrap_heard old a done does,
-      (answer_goes (with_answer old a None) a (bootstrap_outcome old.bootstrap) done
-          (record { held = orderly.held; values = orderly.values; exports = orderly.exports }) (bootstrap_plain old.bootstrap) gives).1,
-    )
+    (GiveAnswer (with_answer old a None) a (bootstrap_outcome old.bootstrap)) done does in
+    let enters = bootstrap_enters old a orderly in
+    let goes = answer_goes (with_answer old a None) a (bootstrap_outcome old.bootstrap) done enters.1 (bootstrap_plain old.bootstrap) gives in
+    (hears_both old (with_answer old a None) done.1 (messages.Bootstrap (record { question_id = a })) [] done.0 enters.0 goes.0, goes.1)
 
 -- exports that are lowered
 less_plain : (exports : Table (Counted Cap)) (e n f : ℕ) (o : Option (Counted Cap)) → IsPlainExport o → ArePlainExports exports → IsPlainExport (get (less_by exports e n o) f)

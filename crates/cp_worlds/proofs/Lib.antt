@@ -11,7 +11,6 @@ pub mod Saying
 pub mod Telling
 pub mod Outgoing
 pub mod Turning
-pub mod Bootstrapped
 pub mod Releasing
 pub mod Moving
 pub mod Settling

@@ -26,18 +26,31 @@ use Rattle.cp_machine.specs.Asking.{TakeReturned, Settles, ReturnBy, is_asked, R
 use Rattle.cp_machine.specs.declared.effect.Effect.TheVariants as effects
 use Rattle.cp_machine.specs.declared.entry.QuestionEntry.{QuestionEntry}
 use Rattle.cp_machine.specs.declared.fault.PeerFault.TheVariants as faults
-use Rattle.cp_worlds.specs.Accounts.{accounts_of, asked_account, question_finished, Came}
+use Rattle.cp_worlds.specs.Accounts.{accounts_of, asked_account, question_finished, Came, question_returned}
 use Rattle.cp_worlds.specs.Lives.{IsUsual, is_settled_returned}
+use Rattle.cp_worlds.specs.Posting.{Hears}
 use Rattle.cp_worlds.specs.Orderly.{NoneWaits, IsOrderly, Heeds}
 use Rattle.cp_worlds.proofs.LivesKept.{some_out}
+use Rattle.cp_worlds.proofs.OnWay.{is_equal}
 use Rattle.cp_worlds.proofs.Countings.{ok_in, ok_out}
 use Rattle.cp_worlds.proofs.Rules.{then_out, put_at, gone_at}
-use Rattle.cp_worlds.proofs.Outgoing.{returned_step, leaves_own}
 use Rattle.cp_worlds.proofs.Mailing.{hears_both}
 use Rattle.cp_worlds.proofs.Holding.{sent_not, none_waits, put_question, gone_question}
 use Rattle.cp_worlds.proofs.Plainly.{IsPlainTable}
 use Rattle.cp_worlds.proofs.Giving.{answer_goes}
 use Rattle.cp_worlds.proofs.Taking.{TakenIn, taken_none, take_all_in, take_all_plain}
+
+-- A Return is noted, and behind a Finish the question is gone.
+returned_step : (table : Table (Exchange QuestionEntry)) (q p : ℕ) (kept : QuestionEntry) (b : Bool) → (q == p) ≡ b → get table q ≡ Some (new_exchange kept) → kept.is_sent ≡ true
+    → asked_account (get (insert table q (record { stage = stages.Returned; kept = kept })) p)
+    ≡ (if b then question_returned (asked_account (get table p)) else asked_account (get table p))
+returned_step table q p kept true t is is_sent = rw (put_at table q p (record { stage = stages.Returned; kept = kept }) true t, ← is_equal q p t, is, is_sent) refl
+returned_step table q p kept false t is is_sent = rw (put_at table q p (record { stage = stages.Returned; kept = kept }) false t) refl
+
+left_step : (table : Table (Exchange QuestionEntry)) (q p : ℕ) (kept : QuestionEntry) (b : Bool) → (q == p) ≡ b → get table q ≡ Some (record { stage = stages.Finished; kept = kept })
+    → kept.is_sent ≡ true → asked_account (get (remove table q) p) ≡ (if b then question_returned (asked_account (get table p)) else asked_account (get table p))
+left_step table q p kept true t is is_sent = rw (gone_at table q p true t, ← is_equal q p t, is, is_sent) refl
+left_step table q p kept false t is is_sent = rw (gone_at table q p false t) refl
 
 -- what was returned is taken in, and names no path of a question
 abbrev table_of : Returned → List Descriptor
@@ -161,6 +174,24 @@ open_heeds old r kept done usual orderly is is_sent does =
     let taking = then_out {A = Outcome × State} {B = Done} (TakeReturned old r.returned) _ done does in
     let taken = returned_in old r.returned taking.0 orderly usual.1.1 taking.1 in
     settles_heed old taking.0.1 r kept usual.1.0 taken.0 orderly is is_sent kept.forwards taking.0.0 done taken.1 taking.2
+
+-- one that was finished only ends
+leaves_own : (old : State) (r : Return) (kept : QuestionEntry) → r.release_param_caps ≡ false
+    → get old.entries.questions r.answer_id ≡ Some (record { stage = stages.Finished; kept = kept }) → kept.is_sent ≡ true
+    → Hears old (messages.Return r) [] (without_question old r.answer_id)
+leaves_own old r kept keeps_params is is_sent =
+    record {
+      mid = accounts_of (without_question old r.answer_id);
+      came =
+          record {
+            exports = λ e. rw (keeps_params) (omega arith);
+            imports = λ i. rw (is, is_sent) (omega arith);
+            questions = λ p. left_step old.entries.questions r.answer_id p kept (r.answer_id == p) refl is is_sent;
+            answers = λ a. refl;
+          };
+      usual = tt;
+      posts = refl;
+    }
 
 left_heeds : (old : State) (r : Return) (kept : QuestionEntry) (done : Done) → IsUsual (messages.Return r) → IsOrderly old
     → get old.entries.questions r.answer_id ≡ Some (record { stage = stages.Finished; kept = kept }) → kept.is_sent ≡ true → ReturnBy old r kept stages.Finished (Ok done)

@@ -27,12 +27,14 @@ use Rattle.cp_worlds.specs.Accounts.{Accounts, accounts_of}
 use Rattle.cp_worlds.specs.World.{messages_sent}
 use Rattle.cp_worlds.specs.Lives.{IsUsual, AreUsual}
 use Rattle.cp_worlds.specs.Posting.{Posts}
-use Rattle.cp_worlds.specs.Orderly.{IsOrderly, Goes, Heeds}
+use Rattle.cp_worlds.specs.Orderly.{IsOrderly, Goes, Heeds, RulesPost}
 use Rattle.cp_worlds.proofs.Countings.{times_more, one_of, ok_in}
 use Rattle.cp_worlds.proofs.Rules.{then_out, unless_out, same_accounts}
 use Rattle.cp_worlds.proofs.Saying.{times_append}
-use Rattle.cp_worlds.proofs.Going.{leave_goes}
+use Rattle.cp_worlds.proofs.Going.{go_goes, leave_goes}
 use Rattle.cp_worlds.proofs.Taking.{TakenIn, taken_none, take_in}
+use Rattle.cp_worlds.proofs.Owning.{does_goes}
+use Rattle.cp_worlds.proofs.NewWorlds.{new_orderly}
 use Rattle.cp_worlds.proofs.Heeding.{call_heeds, bootstrap_heeds, release_heeds, finish_heeds, disembargo_heeds}
 use Rattle.cp_worlds.proofs.Returned.{return_heeds}
 
@@ -140,3 +142,13 @@ receives_heeds old m done usual orderly does = on_heeds old m done usual orderly
 pub follows_goes : (mid new : State) (rest : List Effect) → new.is_closed ≡ false → IsOrderly mid → Follows mid rest new → Goes mid rest new
 follows_goes mid new rest open_ orderly (all_left leave) = leave_goes orderly leave
 follows_goes mid new rest open_ orderly (found_full leave all closed) = absurd (true≢false (sym closed ∙ open_))
+
+pub rules_post : RulesPost
+rules_post =
+    record {
+      starts = new_orderly;
+      does = does_goes;
+      receives = receives_heeds;
+      goes = go_goes;
+      leaves = λ old last all orderly leave. leave_goes orderly leave;
+    }

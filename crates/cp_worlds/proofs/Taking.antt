@@ -1,5 +1,5 @@
 -- What is taken in of any capability table.
-use Rattle.std.specs.Prelude.{◌≡◌, refl, ℕ, ◌+◌, ltb, if◌then◌else◌, Bool, true, false, List, [], ◌∷◌, Option, Some, None, Ok, Err}
+use Rattle.std.specs.Prelude.{◌≡◌, refl, ℕ, ◌+◌, ◌==◌, ltb, if◌then◌else◌, Bool, true, false, List, [], ◌∷◌, Option, Some, None, Ok, Err}
 use Rattle.std.specs.List.{list_all}
 use Rattle.std.specs.FinMap.{get, insert}
 use Rattle.std.proofs.Common.{arith, ap, sym, ◌∙◌, true≢false}
@@ -19,9 +19,9 @@ use Rattle.cp_machine.specs.declared.fault.PeerFault.TheVariants as faults
 use Rattle.cp_worlds.specs.Accounts.{kept_account}
 use Rattle.cp_worlds.specs.Lives.{is_settled_descriptor}
 use Rattle.cp_worlds.specs.Orderly.{IsPlainExport, ArePlainValues, ArePlainExports}
-use Rattle.cp_worlds.proofs.Countings.{ok_in, ok_out}
+use Rattle.cp_worlds.proofs.Countings.{raised_one, opened_one, ok_in, ok_out}
 use Rattle.cp_worlds.proofs.Rules.{then_out}
-use Rattle.cp_worlds.proofs.Saying.{times_append, first_true, second_true, held_by}
+use Rattle.cp_worlds.proofs.Saying.{times_append, first_true, second_true}
 use Rattle.cp_worlds.proofs.Plainly.{IsPlain, IsPlainTable, plain_both}
 use Rattle.cp_worlds.proofs.Resolved.{values_put}
 use Rattle.cp_worlds.proofs.Going.{changed_account}
@@ -38,18 +38,25 @@ pub record TakenIn (old : State) (ds : List Descriptor) (new : State) : Type 0 w
 pub taken_none : (old : State) → TakenIn old [] old
 taken_none old = record { exports = refl; questions = refl; answers = λ a. refl; calls = refl; values = λ all. all; counted = λ i. omega arith }
 
-held_rest : (old : State) (i : ℕ) (kind : ImportKind) (o : Option (Counted ImportKind)) (new : State) → Ok new ≡ held_once_more old i kind o
-    → (new.waiting.calls ≡ old.waiting.calls) × (new.values.promises ≡ old.values.promises)
-held_rest old i kind (Some entry) new is = by (ltb entry.count 4294967295) is
+-- an import is held once more
+abbrev HeldMore : State → ℕ → State → Type 0
+HeldMore old i new =
+    (new.counts.exports ≡ old.counts.exports) × (new.entries ≡ old.entries) × (new.waiting.calls ≡ old.waiting.calls)
+    × (new.values.promises ≡ old.values.promises)
+    × ((f : ℕ) → count_of new.counts.imports f ≡ count_of old.counts.imports f + times f (i ∷ []))
+
+held_by : (old : State) (i : ℕ) (kind : ImportKind) (o : Option (Counted ImportKind)) (new : State) → get old.counts.imports i ≡ o → Ok new ≡ held_once_more old i kind o
+    → HeldMore old i new
+held_by old i kind (Some entry) new there is = by (ltb entry.count 4294967295) is
   where
     by : (b : Bool)
         → Ok new
         ≡ (if b then Ok (record old { counts = record old.counts { imports = insert old.counts.imports i (record entry { count = entry.count + 1 }) } })
         else Err faults.TableFull)
-        → (new.waiting.calls ≡ old.waiting.calls) × (new.values.promises ≡ old.values.promises)
-    by true is = rw (ok_in _ _ is) (refl, refl)
+        → HeldMore old i new
+    by true is = rw (ok_in _ _ is) (refl, refl, refl, refl, λ f. raised_one old.counts.imports i f entry.count entry.kept (i == f) refl (rw (there) refl))
     by false is = ok_out is
-held_rest old i kind None new is = by (has_room old.counts.imports) is
+held_by old i kind None new there is = by (has_room old.counts.imports) is
   where
     by : (b : Bool)
         → Ok new
@@ -59,8 +66,8 @@ held_rest old i kind None new is = by (has_room old.counts.imports) is
           values = record old.values { imports = insert old.values.imports i None };
         }
         ) else Err faults.TableFull)
-        → (new.waiting.calls ≡ old.waiting.calls) × (new.values.promises ≡ old.values.promises)
-    by true is = rw (ok_in _ _ is) (refl, refl)
+        → HeldMore old i new
+    by true is = rw (ok_in _ _ is) (refl, refl, refl, refl, λ f. opened_one old.counts.imports i f kind (i == f) refl (rw (there) refl))
     by false is = ok_out is
 
 same_in : (old : State) (d : Descriptor) (new : State) → mentioned_by d ≡ [] → new ≡ old → TakenIn old (d ∷ []) new
@@ -72,14 +79,13 @@ same_in old d new none is =
 held_in : (old : State) (i : ℕ) (kind : ImportKind) (d : Descriptor) (new : State) → mentioned_by d ≡ i ∷ [] → Ok new ≡ held_import old i kind → TakenIn old (d ∷ []) new
 held_in old i kind d new named is =
     let held = held_by old i kind (get old.counts.imports i) new refl is in
-    let rest = held_rest old i kind (get old.counts.imports i) new is in
     record {
       exports = held.0;
       questions = ap (λ entries. entries.questions) held.1;
       answers = λ a. ap (λ entries. kept_account (get entries.answers a)) held.1;
-      calls = rest.0;
-      values = λ all. rw (rest.1) all;
-      counted = λ f. rw (named) (held.2 f);
+      calls = held.2;
+      values = λ all. rw (held.3) all;
+      counted = λ f. rw (named) (held.4 f);
     }
 
 tied_in : (old : State) (a p : ℕ) (path : List ℕ) (d : Descriptor) → mentioned_by d ≡ [] → TakenIn old (d ∷ []) (tied old a path p)

@@ -1,20 +1,13 @@
 -- Two vats agree behind each list of moves.
 use Rattle.std.specs.Prelude.{◌≡◌, refl, ℕ, Bool, true, false, List, [], ◌∷◌, ◌++◌, Option, Result, Ok, Err}
-use Rattle.std.specs.Ordering.{nat_cmp}
-use Rattle.std.specs.FinMap.{get-empty}
 use Rattle.std.proofs.Common.{ap, sym, ◌∙◌, true≢false}
 use Rattle.cp_tables.specs.Counted.{count_of}
-use Rattle.cp_tables.specs.declared.counted.Counted.{Counted}
-use Rattle.cp_tables.specs.declared.exchange.Exchange.{Exchange}
 use Rattle.cp_rpc.specs.declared.message.Message.{Message}
-use Rattle.cp_refs.specs.declared.cap.Cap.{Cap}
-use Rattle.cp_refs.specs.declared.call.Held.{Held}
-use Rattle.cp_machine.specs.State.{State, new_state}
+use Rattle.cp_machine.specs.State.{State}
 use Rattle.cp_machine.specs.Run.{Moment}
 use Rattle.cp_machine.specs.Step.{Does, Step, was_closed, ran_out, refused, did, received, faulted}
 use Rattle.cp_machine.specs.Calling.{OwnDone}
 use Rattle.cp_machine.specs.declared.effect.Effect.{Effect}
-use Rattle.cp_machine.specs.declared.entry.QuestionEntry.{QuestionEntry}
 use Rattle.cp_machine.specs.declared.event.Event.{Event}
 use Rattle.cp_machine.specs.declared.event.Event.TheVariants as events
 use Rattle.cp_machine.specs.declared.event.Value.{Value}
@@ -25,9 +18,8 @@ use Rattle.cp_worlds.specs.Owed.{owed}
 use Rattle.cp_worlds.specs.Lives.{Agree, AreAgreed}
 use Rattle.cp_worlds.specs.Laws.{CountsAgree}
 use Rattle.cp_worlds.specs.Orderly.{IsOrderly}
-use Rattle.cp_worlds.proofs.LivesKept.{none_out}
 use Rattle.cp_worlds.proofs.Telling.{keeps_by}
-use Rattle.cp_worlds.proofs.NewWorlds.{new_agree}
+use Rattle.cp_worlds.proofs.NewWorlds.{new_agree, new_orderly}
 use Rattle.cp_worlds.proofs.Mailing.{sends_both, sends_none, hears_both}
 use Rattle.cp_worlds.proofs.Owning.{does_goes}
 use Rattle.cp_worlds.proofs.Stepping.{receives_heeds, follows_goes}
@@ -131,20 +123,7 @@ all_hold (move ∷ more) w holds made open_ =
     all_hold more move.behind
     (move_keeps move.side w move.behind move.moment holds (first_open more move.behind made.1 open_) made.0.steps made.0.takes made.0.sends) made.1 open_
 
--- new vats are orderly
-new_orderly : (one : Option ℕ) → IsOrderly (new_state one)
-new_orderly one =
-    record {
-      held =
-          record {
-            back = λ ticket call q is own. none_out (sym (get-empty {X = Held} nat_cmp ticket) ∙ is);
-            once = λ u v call more q is there own also. none_out (sym (get-empty {X = Held} nat_cmp u) ∙ is);
-            here = λ q entry is given. none_out (sym (get-empty {X = Exchange QuestionEntry} nat_cmp q) ∙ is);
-          };
-      values = λ p. rw (get-empty {X = Option Cap} nat_cmp p) tt;
-      exports = λ e. rw (get-empty {X = Counted Cap} nat_cmp e) tt;
-    }
-
+-- behind all moves of two new vats
 holds_of : (one other : Option ℕ) (moves : List Move) → Moves (new_world one other) moves → AreOpen (last_of (new_world one other) moves) → Holds (last_of (new_world one other) moves)
 holds_of one other moves made open_ =
     all_hold moves (new_world one other) (record { agreed = new_agree one other; first = new_orderly one; second = new_orderly other }) made open_

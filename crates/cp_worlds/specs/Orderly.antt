@@ -1,5 +1,5 @@
 -- What a vat keeps to, so that what it sends is as its accounts see it. (rpc.capnp: "Four Tables", "CapDescriptor.receiverAnswer".)
-use Rattle.std.specs.Prelude.{◌≡◌, ℕ, true, false, List, Option, Some, None}
+use Rattle.std.specs.Prelude.{◌≡◌, ℕ, true, false, List, Option, Some, None, Ok}
 use Rattle.std.specs.FinMap.{get}
 use Rattle.cp_tables.specs.Table.{Table}
 use Rattle.cp_tables.specs.declared.counted.Counted.{Counted}
@@ -9,7 +9,14 @@ use Rattle.cp_refs.specs.declared.cap.Cap.{Cap}
 use Rattle.cp_refs.specs.declared.call.Held.{Held}
 use Rattle.cp_refs.specs.declared.call.Origin.{Origin}
 use Rattle.cp_refs.specs.declared.call.Origin.TheVariants as origins
-use Rattle.cp_machine.specs.State.{State}
+use Rattle.cp_refs.specs.declared.route.Route.{Route}
+use Rattle.cp_machine.specs.State.{State, new_state}
+use Rattle.cp_machine.specs.Then.{Done}
+use Rattle.cp_machine.specs.Go.{Underway, Go, Leave}
+use Rattle.cp_machine.specs.Calling.{OwnDone}
+use Rattle.cp_machine.specs.Step.{Does, Receives}
+use Rattle.cp_machine.specs.declared.event.Event.{Event}
+use Rattle.cp_worlds.specs.Lives.{IsUsual}
 use Rattle.cp_machine.specs.InUse.{is_pipelined}
 use Rattle.cp_machine.specs.declared.entry.QuestionEntry.{QuestionEntry}
 use Rattle.cp_machine.specs.declared.effect.Effect.{Effect}
@@ -64,3 +71,15 @@ Goes old effects new = Sends old effects new × IsOrderly new
 -- what came and was sent then is as the accounts see it, and the state behind is orderly
 abbrev pub Heeds : State → Message → List Effect → State → Type 0
 Heeds old m effects new = Hears old m effects new × IsOrderly new
+
+-- What a new vat is, and what each rule leaves: what it sends, and what comes to it, is as its accounts see it.
+pub record RulesPost : Type 0 where
+  pub starts : (one : Option ℕ) → IsOrderly (new_state one)
+  -- any call of the application
+  pub does : (old : State) (event : Event) (done : OwnDone) → IsOrderly old → Does old event (Ok done) → Goes old done.1 done.2
+  -- any message that another vat sends
+  pub receives : (old : State) (m : Message) (done : Done) → IsUsual m → IsOrderly old → Receives old m (Ok done) → Heeds old m done.0 done.1
+  -- a call by each route, and waiting calls that leave
+  pub goes : (old : State) (call : Underway) (route : Route) (done : Done) → IsOrderly old → MayGo old call.origin → Go old call route (Ok done)
+      → Goes old done.0 done.1
+  pub leaves : (old last : State) (all : List Effect) → IsOrderly old → Leave old all (Ok last) → Goes old all last

@@ -8,7 +8,8 @@ ghost use Rattle.cp_machine.specs.Waits.{WaitRightly};
 ghost use Rattle.cp_worlds.specs.World.{new_end, new_world};
 ghost use Rattle.cp_worlds.specs.Lane.{Reference};
 ghost use Rattle.cp_worlds.specs.Lives.{AreAgreed, Keeps};
-ghost use Rattle.cp_worlds.specs.Posting.{KeepsBy, RulesPost};
+ghost use Rattle.cp_worlds.specs.Posting.{KeepsBy};
+ghost use Rattle.cp_worlds.specs.Orderly.{RulesPost};
 ghost use Rattle.cp_worlds.specs.Laws.{CountsAgree};
 ghost use Rattle.cp_worlds.specs.Turns.{LeaveKeeps, SettlingKeeps, TiedAreOpen, TurnKeeps};
 ghost use Rattle.cp_worlds.specs.Naming.{NamesHold, ValuesHold};
@@ -29,7 +30,7 @@ pub fn agreement_follows()
     ensures { KeepsBy }
 {}
 
-/// What these rules of a vat send, and what comes to them, is as its accounts see it.
+/// What each rule of a vat sends, and what comes to it, is as its accounts see it.
 pub fn rules_post()
     ensures { RulesPost }
 {}
