@@ -27,7 +27,7 @@ use Rattle.cp_machine.specs.declared.entry.QuestionEntry.{QuestionEntry}
 use Rattle.cp_machine.specs.declared.fault.PeerFault.TheVariants as faults
 use Rattle.cp_machine.specs.declared.fault.VatFault.{VatFault}
 use Rattle.cp_worlds.specs.Accounts.{accounts_of, asked_account}
-use Rattle.cp_worlds.specs.Orderly.{IsOrderly, MayGo, Goes}
+use Rattle.cp_worlds.specs.Orderly.{IsOrderly, IsHeldAlone, Goes}
 use Rattle.cp_worlds.proofs.OnWay.{is_equal}
 use Rattle.cp_worlds.proofs.Countings.{ok_in, ok_out}
 use Rattle.cp_worlds.proofs.Rules.{then_out, unless_out, or_full_out, put_at, same_accounts}
@@ -62,7 +62,7 @@ asked_orderly old q kind ticket is_sent orderly fresh =
 record MayStart (old : State) (q : ℕ) (from : State) : Type 0 where
   same : accounts_of from ≡ accounts_of old
   orderly : IsOrderly from
-  may : MayGo from (origins.Own q)
+  may : IsHeldAlone from (origins.Own q)
 
 called_starts : (old : State) (q : ℕ) (kind : QuestionKind) → IsOrderly old → get old.entries.questions q ≡ None → MayStart old q (called old q kind)
 called_starts old q kind orderly fresh =

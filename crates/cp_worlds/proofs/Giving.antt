@@ -28,7 +28,7 @@ use Rattle.cp_machine.specs.declared.entry.AnswerEntry.{AnswerEntry}
 use Rattle.cp_machine.specs.declared.entry.QuestionEntry.{QuestionEntry}
 use Rattle.cp_worlds.specs.Accounts.{kept_account, answer_given}
 use Rattle.cp_worlds.specs.Lives.{is_settled_returned}
-use Rattle.cp_worlds.specs.Orderly.{IsHeldBack, NoneWaits, ArePlainExports, IsOrderly, MayGo, Goes}
+use Rattle.cp_worlds.specs.Orderly.{IsHeldBack, NoneWaits, ArePlainExports, IsOrderly, IsHeldAlone, Goes}
 use Rattle.cp_worlds.proofs.OnWay.{is_equal}
 use Rattle.cp_worlds.proofs.Countings.{ok_in}
 use Rattle.cp_worlds.proofs.Rules.{then_out, put_at, gone_at, same_accounts}
@@ -191,7 +191,7 @@ own_goes old q outcome done orderly none unsent does =
 held_unsent : (o : Option (Exchange QuestionEntry)) (entry : Exchange QuestionEntry) → o ≡ Some entry → IsHeldBack o → entry.kept.is_sent ≡ false
 held_unsent o entry is back = (rw is at back).0.0
 
-pub give_goes : (old : State) (origin : Origin) (outcome : Outcome) (done : Done) → IsOrderly old → IsPlainTable (caps_of outcome) → MayGo old origin
+pub give_goes : (old : State) (origin : Origin) (outcome : Outcome) (done : Done) → IsOrderly old → IsPlainTable (caps_of outcome) → IsHeldAlone old origin
     → Give old origin outcome (Ok done) → Goes old done.0 done.1
 give_goes old (origins.Answer a) outcome done orderly plain may does = answer_goes old a outcome done orderly plain does
 give_goes old (origins.Own q) outcome done orderly plain may does =

@@ -31,7 +31,7 @@ use Rattle.cp_machine.specs.declared.fault.PeerFault.{PeerFault}
 use Rattle.cp_worlds.specs.Accounts.{kept_account}
 use Rattle.cp_worlds.specs.World.{messages_sent}
 use Rattle.cp_worlds.specs.Posting.{IsUnsent}
-use Rattle.cp_worlds.specs.Orderly.{IsHeldBack, NoneWaits, ArePlainExports, IsOrderly, MayGo, Goes}
+use Rattle.cp_worlds.specs.Orderly.{IsHeldBack, NoneWaits, ArePlainExports, IsOrderly, IsHeldAlone, Goes}
 use Rattle.cp_worlds.proofs.OnWay.{is_equal}
 use Rattle.cp_worlds.proofs.Countings.{ok_in}
 use Rattle.cp_worlds.proofs.Rules.{then_out, put_at, same_accounts}
@@ -82,7 +82,7 @@ deliver_own old effect q (Some entry) silent orderly is back none =
       },
     )
 
-deliver_goes : (old : State) (origin : Origin) (effect : Effect) → messages_sent (effect ∷ []) ≡ [] → IsOrderly old → MayGo old origin
+deliver_goes : (old : State) (origin : Origin) (effect : Effect) → messages_sent (effect ∷ []) ≡ [] → IsOrderly old → IsHeldAlone old origin
     → Goes old (effect ∷ []) (delivered old origin)
 deliver_goes old (origins.Answer a) effect silent orderly may = (
   sends_none
@@ -133,7 +133,7 @@ own_orderly old mid X q entry ds only plain orderly is none undelivered =
 back_of : (o : Option (Exchange QuestionEntry)) (entry : Exchange QuestionEntry) → o ≡ Some entry → IsHeldBack o → IsUnsent entry × (entry.kept.is_delivered ≡ false)
 back_of o entry is back = rw is at back
 
-pub out_goes : (old : State) (call : Underway) (target : Target) (origin : Origin) (done : Done) → IsOrderly old → MayGo old origin → is_supported_target target ≡ true
+pub out_goes : (old : State) (call : Underway) (target : Target) (origin : Origin) (done : Done) → IsOrderly old → IsHeldAlone old origin → is_supported_target target ≡ true
     → GoOut old call target origin (Ok done) → Goes old done.0 done.1
 out_goes old call target (origins.Answer a) done orderly may to goes =
     let first = then_out {A = ℕ} {B = Done} (Fresh old.entries.questions) _ done goes in
@@ -156,10 +156,10 @@ out_goes old call target (origins.Own q) done orderly may to goes =
     )
 
 -- a call stays at a gate
-pub may_wait : (old : State) (origin : Origin) (q : ℕ) → origin ≡ origins.Own q → MayGo old origin → IsHeldBack (get old.entries.questions q) × NoneWaits old.waiting.calls q
+pub may_wait : (old : State) (origin : Origin) (q : ℕ) → origin ≡ origins.Own q → IsHeldAlone old origin → IsHeldBack (get old.entries.questions q) × NoneWaits old.waiting.calls q
 may_wait old origin q is may = rw is at may
 
-pub go_goes : (old : State) (call : Underway) (route : Route) (done : Done) → IsOrderly old → MayGo old call.origin → Go old call route (Ok done) → Goes old done.0 done.1
+pub go_goes : (old : State) (call : Underway) (route : Route) (done : Done) → IsOrderly old → IsHeldAlone old call.origin → Go old call route (Ok done) → Goes old done.0 done.1
 go_goes old call (routes.Deliver k) done orderly may goes =
     rw (ok_in _ _ goes) (deliver_goes old call.origin (effects.Deliver k call.origin call.ticket call.request) refl orderly may)
 go_goes old call (routes.Import i) done orderly may goes = out_goes old call (targets.ImportedCap i) call.origin done orderly may refl goes
@@ -180,11 +180,11 @@ go_goes old call (routes.Wait gate) done orderly may goes =
     )
 go_goes old call (routes.Fail x) done orderly may goes = give_goes old call.origin (outcomes.Failed x) done orderly refl may goes
 
-pub goto_goes : (old : State) (call : Underway) (cap : Cap) (done : Done) → IsOrderly old → MayGo old call.origin → GoTo old call cap (Ok done) → Goes old done.0 done.1
+pub goto_goes : (old : State) (call : Underway) (cap : Cap) (done : Done) → IsOrderly old → IsHeldAlone old call.origin → GoTo old call cap (Ok done) → Goes old done.0 done.1
 goto_goes old call cap done orderly may goes = go_goes old call goes.0 done orderly may goes.2
 
 -- waiting calls leave
-may_leave : (s : State) (call : Held) (cap : Cap) (origin : Origin) → IsOrderly s → IsNext s call cap → call.origin ≡ origin → MayGo (without_call s call) origin
+may_leave : (s : State) (call : Held) (cap : Cap) (origin : Origin) → IsOrderly s → IsNext s call cap → call.origin ≡ origin → IsHeldAlone (without_call s call) origin
 may_leave s call cap (origins.Answer a) orderly next is = tt
 may_leave s call cap (origins.Own q) orderly next is =
     (orderly.held.back call.ticket call q next.waits is, none_is_left s.waiting.calls s.entries.questions orderly.held call.ticket call q next.waits is)

@@ -38,7 +38,7 @@ use Rattle.cp_machine.specs.declared.entry.AnswerEntry.{AnswerEntry}
 use Rattle.cp_machine.specs.declared.fault.PeerFault.{PeerFault}
 use Rattle.cp_machine.specs.declared.fault.PeerFault.TheVariants as faults
 use Rattle.cp_worlds.specs.Accounts.{accounts_of, kept_account, new_account}
-use Rattle.cp_worlds.specs.Orderly.{ArePlainExports, IsPlainExport, IsOrderly, MayGo, Goes, Heeds}
+use Rattle.cp_worlds.specs.Orderly.{ArePlainExports, IsPlainExport, IsOrderly, IsHeldAlone, Goes, Heeds}
 use Rattle.cp_worlds.proofs.Countings.{ok_in, ok_out}
 use Rattle.cp_worlds.proofs.Rules.{then_out, unless_out, put_at}
 use Rattle.cp_worlds.proofs.Posted.{finish_heard, release_heard}
@@ -49,17 +49,17 @@ use Rattle.cp_worlds.proofs.Going.{go_goes, goto_goes}
 use Rattle.cp_worlds.proofs.Taking.{TakenIn, take_all_in}
 
 -- a call goes to its target
-export_goes : (s : State) (call : Underway) (o : Option (Counted Cap)) (done : Done) → IsOrderly s → MayGo s call.origin → GoToExport s call o (Ok done) → Goes s done.0 done.1
+export_goes : (s : State) (call : Underway) (o : Option (Counted Cap)) (done : Done) → IsOrderly s → IsHeldAlone s call.origin → GoToExport s call o (Ok done) → Goes s done.0 done.1
 export_goes s call None done orderly may goes = absurd goes
 export_goes s call (Some entry) done orderly may goes = goto_goes s call entry.kept done orderly may goes
 
-asked_goes : (s : State) (call : Underway) (a : ℕ) (path : List ℕ) (o : Option (Option Outcome)) (done : Done) → IsOrderly s → MayGo s call.origin
+asked_goes : (s : State) (call : Underway) (a : ℕ) (path : List ℕ) (o : Option (Option Outcome)) (done : Done) → IsOrderly s → IsHeldAlone s call.origin
     → GoToAnswer s call a path o (Ok done) → Goes s done.0 done.1
 asked_goes s call a path None done orderly may goes = absurd goes
 asked_goes s call a path (Some None) done orderly may goes = go_goes s call (routes.Wait (gates.Answer a path)) done orderly may goes
 asked_goes s call a path (Some (Some outcome)) done orderly may goes = goto_goes s call (cap_at outcome path) done orderly may goes
 
-target_goes : (s : State) (call : Underway) (target : Target) (done : Done) → IsOrderly s → MayGo s call.origin → GoToTarget s call target (Ok done) → Goes s done.0 done.1
+target_goes : (s : State) (call : Underway) (target : Target) (done : Done) → IsOrderly s → IsHeldAlone s call.origin → GoToTarget s call target (Ok done) → Goes s done.0 done.1
 target_goes s call (targets.ImportedCap e) done orderly may goes = export_goes s call (get s.counts.exports e) done orderly may goes
 target_goes s call (targets.PromisedAnswer answer) done orderly may goes =
     asked_goes s call answer.question_id (path_of answer.transform) (answer_of s answer.question_id) done orderly may goes
@@ -109,19 +109,21 @@ bootstrap_plain (Some k) = refl
 bootstrap_plain None = refl
 
 bootstrap_enters : (old : State) (a : ℕ) → IsOrderly old → Heeds old (messages.Bootstrap (record { question_id = a })) [] (with_answer old a None)
-bootstrap_enters old a orderly =
-    (record {
-      mid = accounts_of (with_answer old a None);
-      came =
-          record {
-            exports = λ e. omega arith;
-            imports = λ i. omega arith;
-            questions = λ q. refl;
-            answers = λ p. opened_at old.entries.answers old.entries.answers a p (record { ticket = None; is_delivered = false; mentions = []; tied = [] }) (a == p) refl refl refl;
-          };
-      usual = tt;
-      posts = refl;
-    }, record { held = orderly.held; values = orderly.values; exports = orderly.exports })
+bootstrap_enters old a orderly = (
+  record {
+    mid = accounts_of (with_answer old a None);
+    came =
+        record {
+          exports = λ e. omega arith;
+          imports = λ i. omega arith;
+          questions = λ q. refl;
+          answers = λ p. opened_at old.entries.answers old.entries.answers a p (record { ticket = None; is_delivered = false; mentions = []; tied = [] }) (a == p) refl refl refl;
+        };
+    usual = tt;
+    posts = refl;
+  },
+  record { held = orderly.held; values = orderly.values; exports = orderly.exports },
+)
 
 pub bootstrap_heeds : (old : State) (a : ℕ) (done : Done) → IsOrderly old → OnBootstrap old a (Ok done) → Heeds old (messages.Bootstrap (record { question_id = a })) done.0 done.1
 bootstrap_heeds old a done orderly does =

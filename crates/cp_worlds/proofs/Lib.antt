@@ -30,3 +30,4 @@ pub mod Heeding
 pub mod Returned
 pub mod Stepping
 pub mod Wholly
+pub mod Expecting

@@ -1,4 +1,4 @@
--- Calls that are sent, and Returns that come, as the accounts see them.
+-- Calls that are sent, as the accounts see them.
 use Rattle.std.specs.Prelude.{◌≡◌, refl, ℕ, ◌+◌, ◌==◌, if◌then◌else◌, Bool, true, false, List, [], ◌∷◌, Some, None, Ok}
 use Rattle.std.specs.FinMap.{get, insert}
 use Rattle.std.specs.List.{list_all}

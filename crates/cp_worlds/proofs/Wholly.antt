@@ -79,12 +79,12 @@ step_open open_ (received m first more mid was does follows all) = was
 step_open open_ (faulted m was does closed) = was
 
 -- what holds of a world
-record Holds (w : World) : Type 0 where
-  agreed : AreAgreed w
-  first : IsOrderly w.first.vat
-  second : IsOrderly w.second.vat
+pub record Holds (w : World) : Type 0 where
+  pub agreed : AreAgreed w
+  pub first : IsOrderly w.first.vat
+  pub second : IsOrderly w.second.vat
 
-agree_back : {one other : Accounts} {to_one to_other : List Message} → Agree one to_one other to_other → Agree other to_other one to_one
+pub agree_back : {one other : Accounts} {to_one to_other : List Message} → Agree one to_one other to_other → Agree other to_other one to_one
 agree_back agree =
     record {
       usual = agree.usual_back;
@@ -124,7 +124,7 @@ all_hold (move ∷ more) w holds made open_ =
     (move_keeps move.side w move.behind move.moment holds (first_open more move.behind made.1 open_) made.0.steps made.0.takes made.0.sends) made.1 open_
 
 -- behind all moves of two new vats
-holds_of : (one other : Option ℕ) (moves : List Move) → Moves (new_world one other) moves → AreOpen (last_of (new_world one other) moves) → Holds (last_of (new_world one other) moves)
+pub holds_of : (one other : Option ℕ) (moves : List Move) → Moves (new_world one other) moves → AreOpen (last_of (new_world one other) moves) → Holds (last_of (new_world one other) moves)
 holds_of one other moves made open_ =
     all_hold moves (new_world one other) (record { agreed = new_agree one other; first = new_orderly one; second = new_orderly other }) made open_
 

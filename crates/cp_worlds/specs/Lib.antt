@@ -10,3 +10,4 @@ pub mod Phases
 pub mod Posting
 pub mod Turns
 pub mod Orderly
+pub mod Expected

@@ -60,9 +60,9 @@ pub record IsOrderly (s : State) : Type 0 where
   pub exports : ArePlainExports s.counts.exports
 
 -- a call that goes is of the peer's, or of a question that is held back and of which no other call waits
-abbrev pub MayGo : State → Origin → Type 0
-MayGo s (origins.Answer a) = Unit {0}
-MayGo s (origins.Own q) = IsHeldBack (get s.entries.questions q) × NoneWaits s.waiting.calls q
+abbrev pub IsHeldAlone : State → Origin → Type 0
+IsHeldAlone s (origins.Answer a) = Unit {0}
+IsHeldAlone s (origins.Own q) = IsHeldBack (get s.entries.questions q) × NoneWaits s.waiting.calls q
 
 -- what was sent from state to state is as the accounts see it, and the state behind is orderly
 abbrev pub Goes : State → List Effect → State → Type 0
@@ -80,6 +80,6 @@ pub record RulesPost : Type 0 where
   -- any message that another vat sends
   pub receives : (old : State) (m : Message) (done : Done) → IsUsual m → IsOrderly old → Receives old m (Ok done) → Heeds old m done.0 done.1
   -- a call by each route, and waiting calls that leave
-  pub goes : (old : State) (call : Underway) (route : Route) (done : Done) → IsOrderly old → MayGo old call.origin → Go old call route (Ok done)
+  pub goes : (old : State) (call : Underway) (route : Route) (done : Done) → IsOrderly old → IsHeldAlone old call.origin → Go old call route (Ok done)
       → Goes old done.0 done.1
   pub leaves : (old last : State) (all : List Effect) → IsOrderly old → Leave old all (Ok last) → Goes old all last

@@ -11,6 +11,7 @@ ghost use Rattle.cp_worlds.specs.Lives.{AreAgreed, Keeps};
 ghost use Rattle.cp_worlds.specs.Posting.{KeepsBy};
 ghost use Rattle.cp_worlds.specs.Orderly.{RulesPost};
 ghost use Rattle.cp_worlds.specs.Laws.{CountsAgree};
+ghost use Rattle.cp_worlds.specs.Expected.{AllIsExpected, HeldIsAll, HeldIsThere, HoldsAlways, LowersFit, StagesMatch};
 ghost use Rattle.cp_worlds.specs.Turns.{LeaveKeeps, SettlingKeeps, TiedAreOpen, TurnKeeps};
 ghost use Rattle.cp_worlds.specs.Naming.{NamesHold, ValuesHold};
 ghost use Rattle.cp_worlds.specs.Phases.{LaneHolds, IsQuiet};
@@ -62,4 +63,19 @@ pub fn leave_keeps()
 /// Each export's count is what it is owed, whatever the applications do, while neither vat is closed.
 pub fn counts_agree()
     ensures { CountsAgree }
+{}
+
+/// So no message on the way lowers an export past its count, and what a vat holds is an export of the
+/// other one.
+pub fn counts_hold()
+    ensures lowers { HoldsAlways LowersFit }
+    ensures there { HoldsAlways HeldIsThere }
+    ensures quiet { HoldsAlways HeldIsAll }
+{}
+
+/// The next message to a vat opens, returns to or finishes what is there for it; where no message is on
+/// the way, each question is at the stage of its answer.
+pub fn messages_are_expected()
+    ensures next { HoldsAlways AllIsExpected }
+    ensures quiet { HoldsAlways StagesMatch }
 {}
