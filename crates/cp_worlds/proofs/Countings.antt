@@ -105,7 +105,7 @@ less_of table e n f None is fits = none_of (e == f) (omega (arith, fits, count_n
 pub less : (table : Table (Counted Cap)) (e n f : ℕ) → n ≤ count_of table e → count_of table f ≡ count_of (lowered_by table e n) f + (if e == f then n else 0)
 less table e n f fits = less_of table e n f (get table e) refl fits
 
-one_of : (f e : ℕ) → times f (e ∷ []) ≡ (if e == f then 1 else 0)
+pub one_of : (f e : ℕ) → times f (e ∷ []) ≡ (if e == f then 1 else 0)
 one_of f e = times_one f e (e == f) refl
 
 pub lowered_all : (ids : List ℕ) (table : Table (Counted Cap)) → ((f : ℕ) → times f ids ≤ count_of table f)
@@ -126,11 +126,11 @@ fits_here table all part e f true t fit rest = inr (rw (← is_equal e f t) (gri
 fits_here table all part e f false t fit (inl none) = inl (omega (arith, none, times_more f e part, times_one f e false t))
 fits_here table all part e f false t fit (inr fits) = inr fits
 
-or_first : (b c : Bool) → (b || c) ≡ false → b ≡ false
+pub or_first : (b c : Bool) → (b || c) ≡ false → b ≡ false
 or_first true c h = h
 or_first false c h = refl
 
-or_second : (b c : Bool) → (b || c) ≡ false → c ≡ false
+pub or_second : (b c : Bool) → (b || c) ≡ false → c ≡ false
 or_second true c h = absurd (true≢false h)
 or_second false c h = h
 

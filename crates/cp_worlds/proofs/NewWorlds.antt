@@ -1,10 +1,12 @@
--- Two new vats agree.
+-- Two new vats agree, and are orderly.
 use Rattle.std.specs.Prelude.{refl, ℕ, [], Option}
 use Rattle.std.specs.Ordering.{nat_cmp}
 use Rattle.std.specs.FinMap.{get-empty}
+use Rattle.std.proofs.Common.{sym, ◌∙◌}
 use Rattle.cp_tables.specs.declared.counted.Counted.{Counted}
 use Rattle.cp_tables.specs.declared.exchange.Exchange.{Exchange}
 use Rattle.cp_refs.specs.declared.cap.Cap.{Cap}
+use Rattle.cp_refs.specs.declared.call.Held.{Held}
 use Rattle.cp_machine.specs.State.{new_state}
 use Rattle.cp_machine.specs.declared.entry.AnswerEntry.{AnswerEntry}
 use Rattle.cp_machine.specs.declared.entry.ImportKind.{ImportKind}
@@ -12,6 +14,8 @@ use Rattle.cp_machine.specs.declared.entry.QuestionEntry.{QuestionEntry}
 use Rattle.cp_worlds.specs.Accounts.{accounts_of}
 use Rattle.cp_worlds.specs.World.{new_world}
 use Rattle.cp_worlds.specs.Lives.{LivesFit, AreOwed, AreAgreed}
+use Rattle.cp_worlds.specs.Orderly.{IsOrderly}
+use Rattle.cp_worlds.proofs.LivesKept.{none_out}
 
 lives_fit : (one other : Option ℕ) → LivesFit (accounts_of (new_state one)) [] (accounts_of (new_state other)) []
 lives_fit one other q = rw (get-empty {X = Exchange QuestionEntry} nat_cmp q, get-empty {X = Exchange AnswerEntry} nat_cmp q) tt
@@ -28,4 +32,18 @@ new_agree one other =
       lives_back = lives_fit other one;
       counts = are_owed other one;
       counts_back = are_owed one other;
+    }
+
+-- new vats are orderly
+pub new_orderly : (one : Option ℕ) → IsOrderly (new_state one)
+new_orderly one =
+    record {
+      held =
+          record {
+            back = λ ticket call q is own. none_out (sym (get-empty {X = Held} nat_cmp ticket) ∙ is);
+            once = λ u v call more q is there own also. none_out (sym (get-empty {X = Held} nat_cmp u) ∙ is);
+            here = λ q entry is given. none_out (sym (get-empty {X = Exchange QuestionEntry} nat_cmp q) ∙ is);
+          };
+      values = λ p. rw (get-empty {X = Option Cap} nat_cmp p) tt;
+      exports = λ e. rw (get-empty {X = Counted Cap} nat_cmp e) tt;
     }

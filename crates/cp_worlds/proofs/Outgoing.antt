@@ -1,8 +1,8 @@
--- Calls that are sent, and Returns that come, as the accounts see them.
-use Rattle.std.specs.Prelude.{◌≡◌, refl, ℕ, ◌+◌, ◌==◌, not, if◌then◌else◌, Bool, true, false, List, [], ◌∷◌, Option, Some, None, Result, Ok}
-use Rattle.std.specs.FinMap.{get, insert, remove}
+-- Calls that are sent, as the accounts see them.
+use Rattle.std.specs.Prelude.{◌≡◌, refl, ℕ, ◌+◌, ◌==◌, if◌then◌else◌, Bool, true, false, List, [], ◌∷◌, Some, None, Ok}
+use Rattle.std.specs.FinMap.{get, insert}
 use Rattle.std.specs.List.{list_all}
-use Rattle.std.proofs.Common.{arith, ap, sym, ◌∙◌}
+use Rattle.std.proofs.Common.{arith}
 use Rattle.cp_tables.specs.Table.{Table}
 use Rattle.cp_tables.specs.Counted.{count_of}
 use Rattle.cp_tables.specs.Exchange.{new_exchange}
@@ -14,39 +14,27 @@ use Rattle.cp_rpc.specs.declared.call.Call.{Call}
 use Rattle.cp_rpc.specs.declared.call.SendResultsTo.TheVariants as results_to
 use Rattle.cp_rpc.specs.declared.descriptor.Descriptor.{Descriptor}
 use Rattle.cp_rpc.specs.declared.target.Target.{Target}
-use Rattle.cp_rpc.specs.declared.returned.Return.{Return}
-use Rattle.cp_rpc.specs.declared.returned.Returned.{Returned}
-use Rattle.cp_rpc.specs.declared.returned.Returned.TheVariants as returns
 use Rattle.cp_rpc.specs.declared.message.Message.TheVariants as messages
 use Rattle.cp_refs.specs.declared.cap.Cap.{Cap}
 use Rattle.cp_refs.specs.declared.call.Origin.TheVariants as origins
 use Rattle.cp_refs.specs.declared.call.Request.{Request}
-use Rattle.cp_refs.specs.declared.outcome.Outcome.{Outcome}
 use Rattle.cp_machine.specs.State.{State, with_exports, with_questions}
-use Rattle.cp_machine.specs.Then.{Done, Then, Unless, fault_if}
-use Rattle.cp_machine.specs.Take.{times, TakeAll, lower}
+use Rattle.cp_machine.specs.Then.{Done}
+use Rattle.cp_machine.specs.Take.{times}
 use Rattle.cp_machine.specs.Say.{SayAll, mentions_of}
-use Rattle.cp_machine.specs.Give.{returned_mentions, GiveOwn, GiveOwnBy, question_settled, without_question}
 use Rattle.cp_machine.specs.Go.{Underway, GoOut, call_of, forwarding, sent, finish_behind}
 use Rattle.cp_machine.specs.Room.{Fresh}
 use Rattle.cp_machine.specs.Supported.{is_supported_target, is_supported_descriptor}
-use Rattle.cp_machine.specs.Asking.{TakeReturned, Settles, ReturnBy, is_asked, ReturnOf, OnReturn}
-use Rattle.cp_machine.specs.declared.effect.Effect.TheVariants as effects
 use Rattle.cp_machine.specs.declared.entry.QuestionEntry.{QuestionEntry}
-use Rattle.cp_machine.specs.declared.fault.PeerFault.{PeerFault}
-use Rattle.cp_machine.specs.declared.fault.PeerFault.TheVariants as faults
 use Rattle.cp_worlds.specs.Accounts.{Account, accounts_of, asked_account, taken_in, question_finished, question_returned, question_heard, Sent, Came}
 use Rattle.cp_worlds.specs.Accounts as accounts
-use Rattle.cp_worlds.specs.Lives.{IsUsual, is_settled_returned}
-use Rattle.cp_worlds.specs.Posting.{Sends, Hears, IsUnsent, RulesPost}
-use Rattle.cp_worlds.proofs.LivesKept.{some_out}
+use Rattle.cp_worlds.specs.Lives.{IsUsual}
+use Rattle.cp_worlds.specs.Posting.{Sends, IsUnsent}
 use Rattle.cp_worlds.proofs.OnWay.{is_equal}
-use Rattle.cp_worlds.proofs.Countings.{ok_out, ok_in}
-use Rattle.cp_worlds.proofs.Rules.{then_out, put_at, gone_at}
-use Rattle.cp_worlds.proofs.Posted.{free_out, bootstraps, finishes_sent, finish_heard, release_heard}
-use Rattle.cp_worlds.proofs.Bootstrapped.{bootstrap_heard}
-use Rattle.cp_worlds.proofs.Releasing.{releases_sent}
-use Rattle.cp_worlds.proofs.Saying.{both_true, said_all, taken_all}
+use Rattle.cp_worlds.proofs.Countings.{ok_in}
+use Rattle.cp_worlds.proofs.Rules.{then_out, put_at}
+use Rattle.cp_worlds.proofs.Posted.{free_out}
+use Rattle.cp_worlds.proofs.Saying.{both_true, said_all}
 
 -- the Call of an own question that wasn't sent yet
 unsent_step : (table : Table (Exchange QuestionEntry)) (q p : ℕ) (kept : QuestionEntry) (b : Bool) → (q == p) ≡ b → asked_account (get table q) ≡ None → kept.is_sent ≡ true
@@ -190,147 +178,3 @@ peer_call_sent old call target a done to goes =
     said.supported
     (free_out _ first.0 first.1)
     to)
-
--- what a Return names is taken in
-record TakenBy (old : State) (returned : Returned) (new : State) : Type 0 where
-  exports : new.counts.exports ≡ old.counts.exports
-  entries : new.entries ≡ old.entries
-  counted : (i : ℕ) → count_of new.counts.imports i ≡ count_of old.counts.imports i + times i (returned_mentions returned)
-
-untaken : (old : State) (returned : Returned) (new : State) → returned_mentions returned ≡ [] → new ≡ old → TakenBy old returned new
-untaken old returned new none is = rw (is) (record { exports = refl; entries = refl; counted = λ i. rw (none) (omega arith) })
-
-taken_returned : (old : State) (returned : Returned) (taken : Outcome × State) → is_settled_returned returned ≡ true → TakeReturned old returned (Ok taken)
-    → TakenBy old returned taken.1
-taken_returned old (returns.Results p) taken settled is =
-    let parts = then_out {A = List Cap × State} {B = Outcome × State} (TakeAll old p.cap_table) _ taken is in
-    let all = taken_all p.cap_table old parts.0 settled parts.1 in
-    rw (ok_in _ _ parts.2) (record { exports = all.exports; entries = all.entries; counted = all.counted })
-taken_returned old (returns.Exception x) taken settled is = untaken old (returns.Exception x) taken.1 refl (ap (λ t. t.1) (ok_in _ _ is))
-taken_returned old returns.Canceled taken settled is = untaken old returns.Canceled taken.1 refl (ap (λ t. t.1) (ok_in _ _ is))
-taken_returned old returns.ResultsSentElsewhere taken settled is = absurd is
-taken_returned old (returns.TakeFromOtherQuestion q) taken settled is = absurd is
-taken_returned old (returns.AcceptFromThirdParty t) taken settled is = absurd is
-taken_returned old (returns.Unknown n) taken settled is = absurd is
-
-returned_step : (table : Table (Exchange QuestionEntry)) (q p : ℕ) (kept : QuestionEntry) (b : Bool) → (q == p) ≡ b → get table q ≡ Some (new_exchange kept) → kept.is_sent ≡ true
-    → asked_account (get (insert table q (record { stage = stages.Returned; kept = kept })) p)
-    ≡ (if b then question_returned (asked_account (get table p)) else asked_account (get table p))
-returned_step table q p kept true t is is_sent = rw (put_at table q p (record { stage = stages.Returned; kept = kept }) true t, ← is_equal q p t, is, is_sent) refl
-returned_step table q p kept false t is is_sent = rw (put_at table q p (record { stage = stages.Returned; kept = kept }) false t) refl
-
-left_step : (table : Table (Exchange QuestionEntry)) (q p : ℕ) (kept : QuestionEntry) (b : Bool) → (q == p) ≡ b → get table q ≡ Some (record { stage = stages.Finished; kept = kept })
-    → kept.is_sent ≡ true → asked_account (get (remove table q) p) ≡ (if b then question_returned (asked_account (get table p)) else asked_account (get table p))
-left_step table q p kept true t is is_sent = rw (gone_at table q p true t, ← is_equal q p t, is, is_sent) refl
-left_step table q p kept false t is is_sent = rw (gone_at table q p false t) refl
-
-settles_own : (old mid : State) (r : Return) (kept : QuestionEntry) (outcome : Outcome) (done : Done) → TakenBy old r.returned mid → r.release_param_caps ≡ false
-    → get old.entries.questions r.answer_id ≡ Some (new_exchange kept) → kept.is_sent ≡ true
-    → done.1 ≡ question_settled mid r.answer_id outcome → done.0 ≡ effects.Settled r.answer_id outcome ∷ [] → Hears old (messages.Return r) done.0 done.1
-settles_own old mid r kept outcome done taken keeps_params is is_sent state told =
-    rw
-    (state, told)
-    (record {
-      mid = accounts_of (question_settled mid r.answer_id outcome);
-      came =
-          record {
-            exports = λ e. rw (keeps_params, taken.exports) (omega arith);
-            imports = λ i. rw (is, is_sent) (taken.counted i);
-            questions = λ p. rw (taken.entries, is) (returned_step old.entries.questions r.answer_id p kept (r.answer_id == p) refl is is_sent);
-            answers = λ a. rw (taken.entries) refl;
-          };
-      usual = tt;
-      posts = refl;
-    })
-
-gives_own : (old mid : State) (r : Return) (kept : QuestionEntry) (outcome : Outcome) (entry : Exchange QuestionEntry) (done : Done) → TakenBy old r.returned mid
-    → r.release_param_caps ≡ false → get old.entries.questions r.answer_id ≡ Some (new_exchange kept) → kept.is_sent ≡ true
-    → entry ≡ new_exchange kept → GiveOwnBy mid r.answer_id outcome entry.stage (Ok done) → Hears old (messages.Return r) done.0 done.1
-gives_own old mid r kept outcome entry done taken keeps_params is is_sent same gives =
-    let settled : done ≡ (effects.Settled r.answer_id outcome ∷ [], question_settled mid r.answer_id outcome)
-    = ok_in _ _ (open_gives mid r.answer_id outcome entry.stage done (ap (λ x. x.stage) same) gives) in
-    settles_own old mid r kept outcome done taken keeps_params is is_sent (ap (λ d. d.1) settled) (ap (λ d. d.0) settled)
-  where
-    open_gives : (mid : State) (q : ℕ) (outcome : Outcome) (stage : Stage) (done : Done) → stage ≡ stages.Open → GiveOwnBy mid q outcome stage (Ok done)
-        → ◌≡◌ {A = Result Done PeerFault} (Ok done) (Ok (effects.Settled q outcome ∷ [], question_settled mid q outcome))
-    open_gives mid q outcome stage done is gives = rw is at gives
-
-leaves_own : (old : State) (r : Return) (kept : QuestionEntry) → r.release_param_caps ≡ false
-    → get old.entries.questions r.answer_id ≡ Some (record { stage = stages.Finished; kept = kept }) → kept.is_sent ≡ true
-    → Hears old (messages.Return r) [] (without_question old r.answer_id)
-leaves_own old r kept keeps_params is is_sent =
-    record {
-      mid = accounts_of (without_question old r.answer_id);
-      came =
-          record {
-            exports = λ e. rw (keeps_params) (omega arith);
-            imports = λ i. rw (is, is_sent) (omega arith);
-            questions = λ p. left_step old.entries.questions r.answer_id p kept (r.answer_id == p) refl is is_sent;
-            answers = λ a. refl;
-          };
-      usual = tt;
-      posts = refl;
-    }
-
-return_at : (old : State) (r : Return) (kept : QuestionEntry) (stage : Stage) (is_sent : Bool) (done : Done) → IsUsual (messages.Return r)
-    → get old.entries.questions r.answer_id ≡ Some (record { stage = stage; kept = kept }) → kept.is_sent ≡ is_sent → kept.forwards ≡ None
-    → Unless
-    (fault_if (not (is_asked is_sent stage)) faults.UnknownQuestion)
-    (Then
-    (λ exports. exports ≡ (if r.release_param_caps then lower old.counts.exports kept.mentions else Ok old.counts.exports))
-    (λ exports. ReturnBy (with_exports old exports) r kept stage))
-    (Ok done)
-    → Hears old (messages.Return r) done.0 done.1
-return_at old r kept stages.Open false done usual is sends own does = ok_out does
-return_at old r kept stages.Finished false done usual is sends own does = ok_out does
-return_at old r kept stages.Returned b done usual is sends own does = ok_out does
-return_at old r kept stages.Open true done usual is sends own does =
-    let lowers = then_out {A = Table (Counted Cap)} {B = Done} _ _ done does in
-    let same : lowers.0 ≡ old.counts.exports = unlowered r.release_param_caps old kept.mentions lowers.0 usual.1.0 lowers.1 in
-    let taking = then_out {A = Outcome × State} {B = Done} _ _ done lowers.2 in
-    let taken = taken_returned (with_exports old lowers.0) r.returned taking.0 usual.1.1 taking.1 in
-    let now : TakenBy old r.returned taking.0.1 = record { exports = taken.exports ∙ same; entries = taken.entries; counted = taken.counted } in
-    let gives = settles_none taking.0.1 r.answer_id kept.forwards taking.0.0 done own taking.2 in
-    gives_own old taking.0.1 r kept taking.0.0 gives.0 done now usual.1.0 is sends (some_out (sym gives.1 ∙ ap (λ entries. get entries.questions r.answer_id) taken.entries ∙ is)) gives.2
-  where
-    unlowered : (b : Bool) (old : State) (ids : List ℕ) (X : Table (Counted Cap)) → b ≡ false → Ok X ≡ (if b then lower old.counts.exports ids else Ok old.counts.exports)
-        → X ≡ old.counts.exports
-    unlowered b old ids X none is = ok_in _ _ (is ∙ ap (λ c. if c then lower old.counts.exports ids else Ok old.counts.exports) none)
-
-    settles_none : (mid : State) (q : ℕ) (forwards : Option ℕ) (outcome : Outcome) (done : Done) → forwards ≡ None → Settles mid q forwards outcome (Ok done)
-        → GiveOwn mid q outcome (Ok done)
-    settles_none mid q forwards outcome done own does = rw own at does
-return_at old r kept stages.Finished true done usual is sends own does =
-    let lowers = then_out {A = Table (Counted Cap)} {B = Done} _ _ done does in
-    let same : lowers.0 ≡ old.counts.exports = unlowered r.release_param_caps old kept.mentions lowers.0 usual.1.0 lowers.1 in
-    rw (ok_in _ _ lowers.2, same) (leaves_own old r kept usual.1.0 is sends)
-  where
-    unlowered : (b : Bool) (old : State) (ids : List ℕ) (X : Table (Counted Cap)) → b ≡ false → Ok X ≡ (if b then lower old.counts.exports ids else Ok old.counts.exports)
-        → X ≡ old.counts.exports
-    unlowered b old ids X none is = ok_in _ _ (is ∙ ap (λ c. if c then lower old.counts.exports ids else Ok old.counts.exports) none)
-
-return_of : (old : State) (r : Return) (o : Option (Exchange QuestionEntry)) (done : Done) → IsUsual (messages.Return r)
-    → get old.entries.questions r.answer_id ≡ o → ((entry : Exchange QuestionEntry) → o ≡ Some entry → entry.kept.forwards ≡ None) → ReturnOf old r o (Ok done)
-    → Hears old (messages.Return r) done.0 done.1
-return_of old r None done usual is own does = ok_out does
-return_of old r (Some entry) done usual is own does = return_at old r entry.kept entry.stage entry.kept.is_sent done usual is refl (own entry refl) does
-
--- the Return of an own question comes
-pub return_heard : (old : State) (r : Return) (done : Done) → IsUsual (messages.Return r)
-    → ((entry : Exchange QuestionEntry) → get old.entries.questions r.answer_id ≡ Some entry → entry.kept.forwards ≡ None) → OnReturn old r (Ok done)
-    → Hears old (messages.Return r) done.0 done.1
-return_heard old r done usual own does = return_of old r (get old.entries.questions r.answer_id) done usual refl own does
-
-pub rules_post : RulesPost
-rules_post =
-    record {
-      bootstrap = bootstraps;
-      own_call = own_call_sent;
-      peer_call = peer_call_sent;
-      finish = finishes_sent;
-      release = releases_sent;
-      bootstrapped = bootstrap_heard;
-      returned = return_heard;
-      finished = finish_heard;
-      released = release_heard;
-    }

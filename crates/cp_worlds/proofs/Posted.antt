@@ -74,12 +74,12 @@ ended_step : (table : Table (Exchange QuestionEntry)) (q p : ℕ) (entry : Excha
 ended_step table q p entry true t is sent stage = rw (gone_at table q p true t, ← is_equal q p t, is, sent, stage) refl
 ended_step table q p entry false t is sent stage = rw (gone_at table q p false t) refl
 
-unsent_put : (table : Table (Exchange QuestionEntry)) (q p : ℕ) (entry other : Exchange QuestionEntry) (b : Bool) → (q == p) ≡ b → get table q ≡ Some entry
+pub unsent_put : (table : Table (Exchange QuestionEntry)) (q p : ℕ) (entry other : Exchange QuestionEntry) (b : Bool) → (q == p) ≡ b → get table q ≡ Some entry
     → entry.kept.is_sent ≡ false → other.kept.is_sent ≡ false → asked_account (get (insert table q other) p) ≡ asked_account (get table p)
 unsent_put table q p entry other true t is sent now = rw (put_at table q p other true t, ← is_equal q p t, is, sent, now) refl
 unsent_put table q p entry other false t is sent now = rw (put_at table q p other false t) refl
 
-unsent_gone : (table : Table (Exchange QuestionEntry)) (q p : ℕ) (entry : Exchange QuestionEntry) (b : Bool) → (q == p) ≡ b → get table q ≡ Some entry
+pub unsent_gone : (table : Table (Exchange QuestionEntry)) (q p : ℕ) (entry : Exchange QuestionEntry) (b : Bool) → (q == p) ≡ b → get table q ≡ Some entry
     → entry.kept.is_sent ≡ false → asked_account (get (remove table q) p) ≡ asked_account (get table p)
 unsent_gone table q p entry true t is sent = rw (gone_at table q p true t, ← is_equal q p t, is, sent) refl
 unsent_gone table q p entry false t is sent = rw (gone_at table q p false t) refl

@@ -1,25 +1,18 @@
--- What capability tables are sent as, and how they are taken in.
-use Rattle.std.specs.Prelude.{◌≡◌, refl, ℕ, ◌+◌, ◌==◌, ◌&&◌, ltb, if◌then◌else◌, Bool, true, false, List, [], ◌∷◌, ◌++◌, map, Option, Some, None, Ok, Err}
+-- What capability tables are sent as.
+use Rattle.std.specs.Prelude.{◌≡◌, refl, ℕ, ◌+◌, ◌&&◌, Bool, true, false, List, [], ◌∷◌, ◌++◌, map, Ok}
 use Rattle.std.specs.List.{list_all}
-use Rattle.std.specs.FinMap.{get, insert}
 use Rattle.std.proofs.Common.{arith, ap, sym, ◌∙◌, true≢false}
-use Rattle.cp_tables.specs.Counted.{new_counted, count_of}
-use Rattle.cp_tables.specs.declared.counted.Counted.{Counted}
+use Rattle.cp_tables.specs.Counted.{count_of}
 use Rattle.cp_rpc.specs.declared.promised_answer.Op.TheVariants as ops
 use Rattle.cp_rpc.specs.declared.descriptor.Descriptor.{Descriptor}
 use Rattle.cp_rpc.specs.declared.descriptor.Descriptor.TheVariants as descriptors
 use Rattle.cp_refs.specs.declared.cap.Cap.{Cap}
 use Rattle.cp_refs.specs.declared.cap.Cap.TheVariants as caps
 use Rattle.cp_machine.specs.State.{State, with_exports}
-use Rattle.cp_machine.specs.Take.{times, Take, TakeAll, taken_export, held_import, held_once_more}
+use Rattle.cp_machine.specs.Take.{times}
 use Rattle.cp_machine.specs.Say.{SayEnd, Say, SayAll, promised, mentioned_by, mentions_of}
-use Rattle.cp_machine.specs.Room.{has_room}
 use Rattle.cp_machine.specs.Supported.{is_known_op, is_supported_descriptor}
-use Rattle.cp_machine.specs.declared.entry.ImportKind.{ImportKind}
-use Rattle.cp_machine.specs.declared.entry.ImportKind.TheVariants as kinds
-use Rattle.cp_machine.specs.declared.fault.PeerFault.TheVariants as faults
-use Rattle.cp_worlds.specs.Lives.{is_settled_descriptor}
-use Rattle.cp_worlds.proofs.Countings.{times_more, raised_one, opened_one, raised_as, ok_out, ok_in}
+use Rattle.cp_worlds.proofs.Countings.{times_more, raised_as, ok_in}
 use Rattle.cp_worlds.proofs.Rules.{then_out}
 
 pub times_append : (f : ℕ) (xs ys : List ℕ) → times f (xs ++ ys) ≡ times f xs + times f ys
@@ -62,11 +55,11 @@ said_end old (caps.Broken x) said is = rw (ok_in _ _ is) (said_as_it_is old desc
 pub both_true : (a b : Bool) → a ≡ true → b ≡ true → (a && b) ≡ true
 both_true a b is at = rw (is, at) refl
 
-first_true : (a b : Bool) → (a && b) ≡ true → a ≡ true
+pub first_true : (a b : Bool) → (a && b) ≡ true → a ≡ true
 first_true true b h = refl
 first_true false b h = h
 
-second_true : (a b : Bool) → (a && b) ≡ true → b ≡ true
+pub second_true : (a b : Bool) → (a && b) ≡ true → b ≡ true
 second_true true b h = h
 second_true false b h = absurd (true≢false (sym h))
 
@@ -92,91 +85,3 @@ said_all (cap ∷ table) old said is =
     rw
     (ok_in _ _ rest.2)
     (said_both old first.0.1 rest.0.1 first.0.0 rest.0.0 (said_end old first.1.0 first.0 first.1.2) (said_all table first.0.1 rest.0 rest.1))
-
--- what was taken in of a table without receiverAnswers: its imports are counted, and no export, question or answer changed
-pub record Taken (old : State) (ds : List Descriptor) (new : State) : Type 0 where
-  pub exports : new.counts.exports ≡ old.counts.exports
-  pub entries : new.entries ≡ old.entries
-  pub counted : (i : ℕ) → count_of new.counts.imports i ≡ count_of old.counts.imports i + times i (mentions_of ds)
-
-held_by : (old : State) (i : ℕ) (kind : ImportKind) (o : Option (Counted ImportKind)) (new : State) → get old.counts.imports i ≡ o → Ok new ≡ held_once_more old i kind o
-    → (new.counts.exports ≡ old.counts.exports) × (new.entries ≡ old.entries)
-    × ((f : ℕ) → count_of new.counts.imports f ≡ count_of old.counts.imports f + times f (i ∷ []))
-held_by old i kind (Some entry) new there is = by (ltb entry.count 4294967295) is
-  where
-    by : (b : Bool)
-        → Ok new
-        ≡ (if b then Ok (record old { counts = record old.counts { imports = insert old.counts.imports i (record entry { count = entry.count + 1 }) } })
-        else Err faults.TableFull)
-        → (new.counts.exports ≡ old.counts.exports) × (new.entries ≡ old.entries)
-        × ((f : ℕ) → count_of new.counts.imports f ≡ count_of old.counts.imports f + times f (i ∷ []))
-    by true is = rw (ok_in _ _ is) (refl, refl, λ f. raised_one old.counts.imports i f entry.count entry.kept (i == f) refl (rw (there) refl))
-    by false is = ok_out is
-held_by old i kind None new there is = by (has_room old.counts.imports) is
-  where
-    by : (b : Bool)
-        → Ok new
-        ≡ (if b then Ok (
-        record old {
-          counts = record old.counts { imports = insert old.counts.imports i (new_counted kind) };
-          values = record old.values { imports = insert old.values.imports i None };
-        }
-        ) else Err faults.TableFull)
-        → (new.counts.exports ≡ old.counts.exports) × (new.entries ≡ old.entries)
-        × ((f : ℕ) → count_of new.counts.imports f ≡ count_of old.counts.imports f + times f (i ∷ []))
-    by true is = rw (ok_in _ _ is) (refl, refl, λ f. opened_one old.counts.imports i f kind (i == f) refl (rw (there) refl))
-    by false is = ok_out is
-
-taken_export_out : (old : State) (o : Option (Counted Cap)) (taken : Cap × State) → Ok taken ≡ taken_export old o → taken.1 ≡ old
-taken_export_out old None taken is = ok_out is
-taken_export_out old (Some entry) taken is = ap (λ t. t.1) (ok_in _ _ is)
-
-taken_same : (old : State) (d : Descriptor) (new : State) → mentioned_by d ≡ [] → new ≡ old → Taken old (d ∷ []) new
-taken_same old d new none is = rw (is) (record { exports = refl; entries = refl; counted = λ i. rw (none) (omega arith) })
-
-taken_one : (old : State) (d : Descriptor) (taken : Cap × State) → is_settled_descriptor d ≡ true → Take old d (Ok taken) → Taken old (d ∷ []) taken.1
-taken_one old descriptors.None taken settled is = taken_same old descriptors.None taken.1 refl (ap (λ t. t.1) (ok_in _ _ is))
-taken_one old (descriptors.SenderHosted i) taken settled is =
-    let parts = then_out {A = State} {B = Cap × State} (λ held. held ≡ held_import old i kinds.Hosted) _ taken is in
-    let held = held_by old i kinds.Hosted (get old.counts.imports i) parts.0 refl parts.1 in
-    rw (ok_in _ _ parts.2) (record { exports = held.0; entries = held.1; counted = held.2 })
-taken_one old (descriptors.SenderPromise i) taken settled is =
-    let parts = then_out {A = State} {B = Cap × State} (λ held. held ≡ held_import old i kinds.Promise) _ taken is in
-    let held = held_by old i kinds.Promise (get old.counts.imports i) parts.0 refl parts.1 in
-    rw (ok_in _ _ parts.2) (record { exports = held.0; entries = held.1; counted = held.2 })
-taken_one old (descriptors.ReceiverHosted e) taken settled is =
-    taken_same old (descriptors.ReceiverHosted e) taken.1 refl (taken_export_out old (get old.counts.exports e) taken is)
-taken_one old (descriptors.ReceiverAnswer answer) taken settled is = absurd (true≢false (sym settled))
-taken_one old (descriptors.ThirdPartyHosted t) taken settled is = absurd is
-taken_one old (descriptors.Unknown n) taken settled is = absurd is
-
-taken_both : (old mid new : State) (d : Descriptor) (ds : List Descriptor) → Taken old (d ∷ []) mid → Taken mid ds new → Taken old (d ∷ ds) new
-taken_both old mid new d ds one more =
-    record {
-      exports = more.exports ∙ one.exports;
-      entries = more.entries ∙ one.entries;
-      counted = λ i. omega (
-        arith,
-        one.counted i,
-        more.counted i,
-        times_append i (mentioned_by d) (mentions_of ds),
-        times_append i (mentioned_by d) [],
-      );
-    }
-
-pub taken_all : (table : List Descriptor) (old : State) (taken : List Cap × State) → list_all is_settled_descriptor table ≡ true → TakeAll old table (Ok taken)
-    → Taken old table taken.1
-taken_all [] old taken settled is = rw (ok_in _ _ is) (record { exports = refl; entries = refl; counted = λ i. omega arith })
-taken_all (d ∷ table) old taken settled is =
-    let first = then_out {A = Cap × State} {B = List Cap × State} (Take old d) _ taken is in
-    let rest = then_out {A = List Cap × State} {B = List Cap × State} (TakeAll first.0.1 table) _ taken first.2 in
-    rw
-    (ok_in _ _ rest.2)
-    (taken_both
-    old
-    first.0.1
-    rest.0.1
-    d
-    table
-    (taken_one old d first.0 (first_true (is_settled_descriptor d) _ settled) first.1)
-    (taken_all table first.0.1 rest.0 (second_true (is_settled_descriptor d) _ settled) rest.1))

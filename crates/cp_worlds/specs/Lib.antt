@@ -9,3 +9,5 @@ pub mod Naming
 pub mod Phases
 pub mod Posting
 pub mod Turns
+pub mod Orderly
+pub mod Expected

@@ -8,7 +8,10 @@ ghost use Rattle.cp_machine.specs.Waits.{WaitRightly};
 ghost use Rattle.cp_worlds.specs.World.{new_end, new_world};
 ghost use Rattle.cp_worlds.specs.Lane.{Reference};
 ghost use Rattle.cp_worlds.specs.Lives.{AreAgreed, Keeps};
-ghost use Rattle.cp_worlds.specs.Posting.{KeepsBy, RulesPost};
+ghost use Rattle.cp_worlds.specs.Posting.{KeepsBy};
+ghost use Rattle.cp_worlds.specs.Orderly.{RulesPost};
+ghost use Rattle.cp_worlds.specs.Laws.{CountsAgree};
+ghost use Rattle.cp_worlds.specs.Expected.{AllIsExpected, HeldIsAll, HeldIsThere, HoldsAlways, LowersFit, StagesMatch};
 ghost use Rattle.cp_worlds.specs.Turns.{LeaveKeeps, SettlingKeeps, TiedAreOpen, TurnKeeps};
 ghost use Rattle.cp_worlds.specs.Naming.{NamesHold, ValuesHold};
 ghost use Rattle.cp_worlds.specs.Phases.{LaneHolds, IsQuiet};
@@ -28,7 +31,7 @@ pub fn agreement_follows()
     ensures { KeepsBy }
 {}
 
-/// What these rules of a vat send, and what comes to them, is as its accounts see it.
+/// What each rule of a vat sends, and what comes to it, is as its accounts see it.
 pub fn rules_post()
     ensures { RulesPost }
 {}
@@ -55,4 +58,24 @@ pub fn turns_keep()
 /// what its port leads to.
 pub fn leave_keeps()
     ensures { LeaveKeeps }
+{}
+
+/// Each export's count is what it is owed, whatever the applications do, while neither vat is closed.
+pub fn counts_agree()
+    ensures { CountsAgree }
+{}
+
+/// So no message on the way lowers an export past its count, and what a vat holds is an export of the
+/// other one.
+pub fn counts_hold()
+    ensures lowers { HoldsAlways LowersFit }
+    ensures there { HoldsAlways HeldIsThere }
+    ensures quiet { HoldsAlways HeldIsAll }
+{}
+
+/// The next message to a vat opens, returns to or finishes what is there for it; where no message is on
+/// the way, each question is at the stage of its answer.
+pub fn messages_are_expected()
+    ensures next { HoldsAlways AllIsExpected }
+    ensures quiet { HoldsAlways StagesMatch }
 {}
