@@ -88,13 +88,13 @@ marks_start old from mid q M is start =
     })
 
 -- what goes from there goes from the state before
-from_start : (old from new : State) (q : ℕ) (done : Done) → MayStart old q from → Goes from done.0 done.1 → Goes old done.0 done.1
-from_start old from new q done start goes = (sends_both old from done.1 [] done.0 (sends_none old from [] refl start.same) goes.0, goes.1)
+from_start : (old from : State) (q : ℕ) (done : Done) → MayStart old q from → Goes from done.0 done.1 → Goes old done.0 done.1
+from_start old from q done start goes = (sends_both old from done.1 [] done.0 (sends_none old from [] refl start.same) goes.0, goes.1)
 
 to_start : (old from : State) (q : ℕ) (request : Request) (cap : Cap) (done : Done) (ticket : ℕ) → MayStart old q from
     → GoTo from (record { ticket = ticket; origin = origins.Own q; request = request }) cap (Ok done) → Goes old done.0 done.1
 to_start old from q request cap done ticket start goes =
-    from_start old from done.1 q done start
+    from_start old from q done start
     (goto_goes from (record { ticket = ticket; origin = origins.Own q; request = request }) cap done start.orderly start.may goes)
 
 -- marks change nothing else
@@ -165,15 +165,15 @@ value_goes : (old : State) (q : ℕ) (request : Request) (cap value : Cap) (done
     → GoByValue old q request cap value (Ok done) → Goes old done.0 done.1
 value_goes old q request cap (caps.Import j) done orderly fresh does =
     let start = called_starts old q kinds.Wire orderly fresh in
-    from_start old (called old q kinds.Wire) done.1 q done start
+    from_start old (called old q kinds.Wire) q done start
     (go_goes (called old q kinds.Wire) (own_call old q request) (routes.Import j) done start.orderly start.may does)
 value_goes old q request cap (caps.Object k) done orderly fresh does =
     let start = called_starts old q kinds.Local orderly fresh in
-    from_start old (called old q kinds.Local) done.1 q done start
+    from_start old (called old q kinds.Local) q done start
     (back_goes old (called old q kinds.Local) q (own_call old q request) cap (caps.Object k) (mark_of old cap) done start refl does)
 value_goes old q request cap (caps.Promise p) done orderly fresh does =
     let start = called_starts old q kinds.Local orderly fresh in
-    from_start old (called old q kinds.Local) done.1 q done start
+    from_start old (called old q kinds.Local) q done start
     (back_goes old (called old q kinds.Local) q (own_call old q request) cap (caps.Promise p) (mark_of old cap) done start refl does)
 value_goes old q request cap caps.None done orderly fresh does =
     to_start old (called old q kinds.Local) q request caps.None done old.next_ticket (called_starts old q kinds.Local orderly fresh) does

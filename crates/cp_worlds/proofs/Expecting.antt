@@ -158,21 +158,23 @@ stages_at one other to_one to_other q none none_back agree = stages_same (one.qu
     by (m ∷ ms) more e f h = not_none e
 
 -- from either side
-abbrev own : World → Side → Accounts
+abbrev pub own : World → Side → Accounts
 own w side = accounts_of (end_of w side).vat
 
-abbrev AgreeAt : World → Side → Type 0
+abbrev pub AgreeAt : World → Side → Type 0
 AgreeAt w side = Agree (own w side) (end_of w side).inbox (own w (across side)) (end_of w (across side)).inbox
 
 agree_at : (w : World) (side : Side) → Holds w → AgreeAt w side
 agree_at w at_first holds = holds.agreed
 agree_at w at_second holds = agree_back holds.agreed
 
-always_at : (Holding : World → Type 0) → ((w : World) → ((side : Side) → AgreeAt w side) → Holding w) → HoldsAlways Holding
+pub always_at : (Holding : World → Type 0) → ((w : World) → ((side : Side) → AgreeAt w side) → Holding w) → HoldsAlways Holding
 always_at Holding by one other moves made open_ = by _ (λ side. agree_at _ side (holds_of one other moves made open_))
 
-next_by : (w : World) (side : Side) (m : Message) (rest : List Message) → Agree (own w side) (m ∷ rest) (own w (across side)) (end_of w (across side)).inbox
-    → NextIsExpected w side m
+abbrev pub NextAgrees : World → Side → Message → List Message → Type 0
+NextAgrees w side m rest = Agree (own w side) (m ∷ rest) (own w (across side)) (end_of w (across side)).inbox
+
+pub next_by : (w : World) (side : Side) (m : Message) (rest : List Message) → NextAgrees w side m rest → NextIsExpected w side m
 next_by w side m rest agree =
     record {
       expected = expected_by m (own w side) (own w (across side)) rest (end_of w (across side)).inbox agree;

@@ -31,3 +31,5 @@ pub mod Returned
 pub mod Stepping
 pub mod Wholly
 pub mod Expecting
+pub mod Sparing
+pub mod Faultless

@@ -11,3 +11,4 @@ pub mod Posting
 pub mod Turns
 pub mod Orderly
 pub mod Expected
+pub mod Spared

@@ -11,6 +11,7 @@ ghost use Rattle.cp_worlds.specs.Lives.{AreAgreed, Keeps};
 ghost use Rattle.cp_worlds.specs.Posting.{KeepsBy};
 ghost use Rattle.cp_worlds.specs.Orderly.{RulesPost};
 ghost use Rattle.cp_worlds.specs.Laws.{CountsAgree};
+ghost use Rattle.cp_worlds.specs.Spared.{AreSpared};
 ghost use Rattle.cp_worlds.specs.Expected.{AllIsExpected, HeldIsAll, HeldIsThere, HoldsAlways, LowersFit, StagesMatch};
 ghost use Rattle.cp_worlds.specs.Turns.{LeaveKeeps, SettlingKeeps, TiedAreOpen, TurnKeeps};
 ghost use Rattle.cp_worlds.specs.Naming.{NamesHold, ValuesHold};
@@ -78,4 +79,10 @@ pub fn counts_hold()
 pub fn messages_are_expected()
     ensures next { HoldsAlways AllIsExpected }
     ensures quiet { HoldsAlways StagesMatch }
+{}
+
+/// So a vat never finds another one at fault for a number in use, a question that doesn't wait, an export
+/// that is lowered past its count, or a message that isn't supported or isn't known.
+pub fn faults_are_spared()
+    ensures { HoldsAlways AreSpared }
 {}
