@@ -172,11 +172,16 @@ loops_of inbox_there inbox_back n = count_by (is_loop n) inbox_there + count_by 
 abbrev pub AreLooped : State → List Message → List Message → Type 0
 AreLooped s inbox_there inbox_back = (n : ℕ) → loops_of inbox_there inbox_back n ≡ (if is_some (get s.marks.embargoes n) then 1 else 0)
 
+-- The descriptors that are looked at when a message comes. Those of a Return are only where its question wasn't given up.
+abbrev pub looked_at : State → Message → List Descriptor
+looked_at receiver (messages.Return r) = if is_given_up ((accounts_of receiver).questions r.answer_id) then [] else returned_table r.returned
+looked_at receiver other = table_of other
+
 -- What the messages to one end name is there when they come.
 pub record NamesHold (sender receiver : End) : Type 0 where
   pub exports : EachOnWay receiver.inbox (λ before m behind. AllByRecursion (IsHeldBehind sender.vat behind) (exports_named m))
   pub answers : EachOnWay receiver.inbox (λ before m behind. AllByRecursion (IsKeptThen receiver.vat before) (answers_named m))
-  pub kinds : EachOnWay receiver.inbox (λ before m behind. AllByRecursion (IsOfKindBehind sender.vat behind) (table_of m))
+  pub kinds : EachOnWay receiver.inbox (λ before m behind. AllByRecursion (IsOfKindBehind sender.vat behind) (looked_at receiver.vat m))
   pub loops : AreLooped sender.vat receiver.inbox sender.inbox
   pub targets : AllByRecursion (LoopEnds receiver.vat) receiver.inbox
 

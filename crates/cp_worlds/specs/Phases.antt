@@ -3,6 +3,7 @@ use Rattle.std.specs.Prelude.{◌≡◌, ◌⊎◌, ℕ, Bool, true, false, List
 use Rattle.std.specs.List.{list_any, AllByRecursion}
 use Rattle.std.specs.FinMap.{get}
 use Rattle.cp_rpc.specs.declared.target.Target.TheVariants as targets
+use Rattle.cp_rpc.specs.declared.descriptor.Descriptor.{Descriptor}
 use Rattle.cp_rpc.specs.declared.message.Message.{Message}
 use Rattle.cp_rpc.specs.declared.message.Message.TheVariants as messages
 use Rattle.cp_refs.specs.declared.cap.Cap.{Cap}
@@ -20,7 +21,7 @@ use Rattle.cp_worlds.specs.Ledger.{opens}
 use Rattle.cp_worlds.specs.Accounts.{accounts_of, is_given_up}
 use Rattle.cp_worlds.specs.World.{End}
 use Rattle.cp_worlds.specs.Lane.{Reference, import_, path_to, cap_of, CameTo, own_ticket, stands_for, is_among, Delivery, tickets_of}
-use Rattle.cp_worlds.specs.Naming.{EachOnWay, IsTold, Tells, place_of, is_loop, is_echo}
+use Rattle.cp_worlds.specs.Naming.{EachOnWay, IsHosted, path_returned, resolved_as, IsTold, Tells, place_of, is_loop, is_echo}
 
 -- the made tickets among these
 abbrev pub of_lane : List ℕ → List ℕ → List ℕ
@@ -128,7 +129,7 @@ pub data Phase (here there : End) (ref : Reference) (made : List ℕ) : Type 0 w
       → AllWaitHereAt here made (gates.Question q path) → back here there made ≡ [] → waits here there made ≡ [] → on_way here there made ≡ []
       → Phase here there ref made
 
--- It came to something else than an object of its vat, or its place isn't open and did, and that stays so.
+-- It came to something else than an object of its vat; or its place isn't open and did.
 abbrev pub IsObject : Cap → Type 0
 IsObject (caps.Object k) = Unit {0}
 IsObject other = ⊥
@@ -138,10 +139,28 @@ IsAway here there None = ⊥
 IsAway here there (Some place) =
     (last : Cap) × ComesTo there.values place last × ((i k : ℕ) → last ≡ caps.Import i → IsExport here i (caps.Object k) → ⊥)
 
-abbrev pub IsElsewhere : End → End → Reference → Type 0
-IsElsewhere here there ref =
+abbrev pub HasGone : End → End → Reference → Type 0
+HasGone here there ref =
     ((value : Cap) × CameTo here.vat ref value × (IsObject value → ⊥))
     ⊎ (((gate : Gate) → IsOpenPlace there.vat ref gate → ⊥) × IsAway here.vat there.vat (place_of there.vat ref))
+
+-- It is open, and a message on the way tells for it something else than an object of its vat.
+abbrev pub IsNoObject : State → Option Descriptor → Type 0
+IsNoObject s d = (k : ℕ) → IsHosted s (caps.Object k) d → ⊥
+
+abbrev pub TellsAnother : State → Reference → Message → Type 0
+TellsAnother s (import_ i) (messages.Resolve r) = (r.promise_id ≡ i) × IsNoObject s (resolved_as r.resolution)
+TellsAnother s (path_to q path) (messages.Return r) = (r.answer_id ≡ q) × IsNoObject s (path_returned path r.returned)
+TellsAnother s ref other = ⊥
+
+abbrev pub IsToldAnother : End → Reference → Type 0
+IsToldAnother here ref =
+    (reference_of here.vat.values (cap_of ref) ≡ on_wire)
+    × ((before behind : List Message) × (m : Message) × (here.inbox ≡ before ++ m ∷ behind) × TellsAnother here.vat ref m)
+
+-- Either is so from then on.
+abbrev pub IsElsewhere : End → End → Reference → Type 0
+IsElsewhere here there ref = HasGone here there ref ⊎ IsToldAnother here ref
 
 -- What holds of the calls made and delivered on a reference, where nothing is finished or released: they are whole, each by its phase, or the
 -- reference is elsewhere.

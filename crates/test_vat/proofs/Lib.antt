@@ -25,3 +25,5 @@ pub mod FinishFirst
 pub mod KnownWorlds
 pub mod Delivering
 pub mod Lanes
+pub mod LaneWorlds
+pub mod AheadWorlds

@@ -9,3 +9,4 @@ pub mod RefusalRows
 pub mod OrderRows
 pub mod WorldRows
 pub mod LaneRows
+pub mod LaneWorlds

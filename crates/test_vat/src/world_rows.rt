@@ -2,6 +2,7 @@
 
 ghost use Rattle.test_vat.specs.WorldRows.{EndsWithoutExport};
 ghost use Rattle.test_vat.specs.LaneRows.{LaneOfThreeCalls, LaneWithoutEmbargo, LaneAgain};
+ghost use Rattle.test_vat.specs.LaneWorlds.{NumberAgain, SettledAhead};
 
 /// A question is finished before its Return comes: the Finish lowers what the Return names, and nothing
 /// is given back twice.
@@ -16,4 +17,16 @@ pub fn lane_of_three_calls()
     ensures in_order { LaneOfThreeCalls }
     ensures without_embargo { LaneWithoutEmbargo }
     ensures again { LaneAgain }
+{}
+
+/// The Return of a question that was given up may name an export whose number is another's by now: its
+/// descriptors aren't of the export's kind.
+pub fn number_again()
+    ensures { NumberAgain }
+{}
+
+/// A Return on the way may tell a promise that leads back to an object of the vat already: no phase is
+/// the reference's own then.
+pub fn settled_ahead()
+    ensures { SettledAhead }
 {}
