@@ -16,10 +16,13 @@ use Rattle.cp_refs.specs.declared.call.Held.{Held}
 use Rattle.cp_refs.specs.declared.call.Origin.{Origin}
 use Rattle.cp_refs.specs.declared.call.Origin.TheVariants as origins
 use Rattle.cp_refs.specs.declared.outcome.Outcome.{Outcome}
+use Rattle.cp_refs.specs.declared.route.Gate.{Gate}
 use Rattle.cp_refs.specs.declared.route.Gate.TheVariants as gates
 use Rattle.cp_refs.specs.declared.values.Question.{Question}
+use Rattle.cp_refs.specs.declared.values.QuestionKind.{QuestionKind}
+use Rattle.cp_refs.specs.declared.values.QuestionKind.TheVariants as kinds
 use Rattle.cp_machine.specs.State.{State, none_over}
-use Rattle.cp_machine.specs.InUse.{waiting_calls, kept_caps, caps_given, is_unsettled, is_pipelined, is_question_used}
+use Rattle.cp_machine.specs.InUse.{waiting_calls, kept_caps, caps_given, is_unsettled, is_pipelined, is_question_used, is_local_path}
 use Rattle.cp_machine.specs.declared.entry.AnswerEntry.{AnswerEntry}
 use Rattle.cp_machine.specs.declared.entry.QuestionEntry.{QuestionEntry}
 use Rattle.cp_machine.specs.declared.entry.Tied.{Tied}
@@ -167,9 +170,33 @@ abbrev pub path_value : Option Question → List ℕ → Option Cap
 path_value None path = None
 path_value (Some question) path = given_at question.outcome path
 
+-- a question that the peer knows, since its Call or Bootstrap was sent at once
+abbrev pub is_wire_kind : QuestionKind → Bool
+is_wire_kind kinds.Wire = true
+is_wire_kind kinds.Local = false
+
+abbrev pub is_wire : Option Question → Bool
+is_wire None = false
+is_wire (Some question) = is_wire_kind question.kind
+
+-- Such a question was sent, and its call wasn't delivered here.
+abbrev pub IsSentIf : Bool → QuestionEntry → Type 0
+IsSentIf true kept = (kept.is_sent ≡ true) × (kept.is_delivered ≡ false)
+IsSentIf false kept = Unit {0}
+
+-- A question that forwards was sent, and neither was it finished nor did its Return come.
+abbrev pub IsOpenIf : Option ℕ → Exchange QuestionEntry → Type 0
+IsOpenIf None entry = Unit {0}
+IsOpenIf (Some a) entry = (entry.stage ≡ stages.Open) × (entry.kept.is_sent ≡ true)
+
+-- The answer of a gate is kept, and isn't given.
+abbrev pub IsUngivenAt : State → Gate → Type 0
+IsUngivenAt s (gates.Answer a path) = get s.values.answers a ≡ Some None
+IsUngivenAt s other = Unit {0}
+
 abbrev pub IsPathMark : State → List ℕ → Option ℕ → Type 0
 IsPathMark s [] embargo = ⊥
-IsPathMark s (q ∷ path) embargo = IsTrue (is_some (get s.values.questions q)) × IsEmbargoOf s (path_value (get s.values.questions q) path) embargo
+IsPathMark s (q ∷ path) embargo = IsTrue (is_wire (get s.values.questions q)) × IsEmbargoOf s (path_value (get s.values.questions q) path) embargo
 
 -- how many marks are under an embargo: one, or none where its reference is gone
 abbrev pub is_mark_of : ℕ → Option ℕ → Bool
@@ -190,6 +217,12 @@ pub record Local (s : State) : Type 0 where
   pub questions : (q : ℕ) → IfSome (get s.entries.questions q) (HasQuestionPlace s q)
   pub waiting : (ticket : ℕ) → IfSome (get s.waiting.calls ticket) (IsWaiting s ticket)
   pub forwards : (q : ℕ) → IfSome (get s.entries.questions q) (λ entry. ForwardsRightly s entry.kept.forwards entry.kept.ticket)
+  -- a question on the wire was sent, and so was one that forwards, which is open
+  pub wire : (q : ℕ) → IfSome (get s.entries.questions q) (λ entry. IsSentIf (is_wire (get s.values.questions q)) entry.kept)
+  pub forwarding : (q : ℕ) → IfSome (get s.entries.questions q) (λ entry. IsOpenIf entry.kept.forwards entry)
+  -- calls wait for an answer only while it is kept and not given, and none of their capabilities is a path of an open local question
+  pub gates_kept : (ticket : ℕ) → IfSome (get s.waiting.calls ticket) (λ call. IsUngivenAt s call.gate)
+  pub sendable : (ticket : ℕ) → IfSome (get s.waiting.calls ticket) (λ call. AllByRecursion (λ cap. is_local_path s cap ≡ false) call.request.caps)
   -- open promises are the application's or tied to one answer
   pub tied : (p : ℕ) → IsTiedRightly s p
   pub untied : (a : ℕ) → IfSome (get s.entries.answers a) HasNoTied
@@ -208,7 +241,7 @@ pub record Local (s : State) : Type 0 where
   pub answers_valued : (a : ℕ) → AnswerIs (get s.entries.answers a) (get s.values.answers a)
   pub questions_valued : (q : ℕ) → QuestionIs (get s.entries.questions q) (get s.values.questions q)
   pub imports_valued : (i : ℕ) → is_some (get s.counts.imports i) ≡ is_some (get s.values.imports i)
-  -- a mark and its embargo name each other, and somebody waits there
+  -- a mark and its embargo name each other, and somebody waits there; a marked path is of a question on the wire
   pub import_marks : (i : ℕ) → IfSome (get s.marks.imports i) (λ embargo. IsTrue (is_some (get s.counts.imports i)) × IsEmbargoOf s (import_value (get s.values.imports i)) embargo)
   pub path_marks : (key : List ℕ) → IfSome (get s.marks.paths key) (IsPathMark s key)
   pub one_mark : (n : ℕ) → marks_under s n < 2

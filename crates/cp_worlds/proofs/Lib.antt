@@ -33,3 +33,4 @@ pub mod Wholly
 pub mod Expecting
 pub mod Sparing
 pub mod Faultless
+pub mod Exporting

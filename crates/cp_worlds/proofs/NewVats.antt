@@ -1,5 +1,5 @@
 -- What holds of new vats.
-use Rattle.std.specs.Prelude.{◌≡◌, refl, ℕ, Bool, true, false, List, [], ◌∷◌, length, Option}
+use Rattle.std.specs.Prelude.{◌≡◌, refl, ℕ, Bool, true, false, List, [], ◌∷◌, ◌++◌, length, Option}
 use Rattle.std.specs.Ordering.{nat_cmp}
 use Rattle.std.specs.Cmp.Lexicographic.{slice_cmp}
 use Rattle.std.specs.FinMap.{entries, empty, get-empty, len-empty, len-entries}
@@ -10,6 +10,8 @@ use Rattle.cp_tables.specs.declared.exchange.Exchange.{Exchange}
 use Rattle.cp_rpc.specs.declared.message.Message.{Message}
 use Rattle.cp_refs.specs.declared.cap.Cap.{Cap}
 use Rattle.cp_refs.specs.declared.call.Held.{Held}
+use Rattle.cp_refs.specs.declared.call.Origin.{Origin}
+use Rattle.cp_refs.specs.declared.call.Origin.TheVariants as origins
 use Rattle.cp_refs.specs.declared.outcome.Outcome.{Outcome}
 use Rattle.cp_refs.specs.declared.values.Question.{Question}
 use Rattle.cp_machine.specs.State.{new_state}
@@ -24,6 +26,7 @@ use Rattle.cp_worlds.specs.World.{new_end}
 use Rattle.cp_worlds.specs.Lane.{Reference, import_, path_to, cap_of}
 use Rattle.cp_worlds.specs.Naming.{EachOnWay, NamesHold, AreLooped, ValuesHold}
 use Rattle.cp_worlds.specs.Phases.{LaneHolds, IsWhole, absent, IsQuiet}
+use Rattle.cp_worlds.specs.Tickets.{BearsTicket, TicketsHold}
 use Rattle.cp_worlds.proofs.LivesKept.{none_out}
 
 pub no_entries : {K X : Type 0} (R : K → K → Ordering) → entries (empty {X = X} {R = R}) ≡ []
@@ -57,6 +60,10 @@ new_local one =
       questions = λ q. rw (get-empty {X = Exchange QuestionEntry} nat_cmp q) tt;
       waiting = λ ticket. rw (get-empty {X = Held} nat_cmp ticket) tt;
       forwards = λ q. rw (get-empty {X = Exchange QuestionEntry} nat_cmp q) tt;
+      wire = λ q. rw (get-empty {X = Exchange QuestionEntry} nat_cmp q) tt;
+      forwarding = λ q. rw (get-empty {X = Exchange QuestionEntry} nat_cmp q) tt;
+      gates_kept = λ ticket. rw (get-empty {X = Held} nat_cmp ticket) tt;
+      sendable = λ ticket. rw (get-empty {X = Held} nat_cmp ticket) tt;
       tied = λ p. rw (no_tied one p, get-empty {X = Option Cap} nat_cmp p) refl;
       untied = λ a. rw (get-empty {X = Exchange AnswerEntry} nat_cmp a) tt;
       counts = λ e. rw (get-empty {X = Counted Cap} nat_cmp e) tt;
@@ -79,8 +86,11 @@ new_local one =
 pub new_waiting : (one : Option ℕ) → WaitRightly (new_state one) empty
 new_waiting one ticket = rw (get-empty {X = Held} nat_cmp ticket) tt
 
+nothing_in : (before behind : List Message) (m : Message) → [] ≡ before ++ m ∷ behind → ⊥
+nothing_in before behind m is = omega (arith, ap length is, length-append before (m ∷ behind))
+
 none_on_way : (P : List Message → Message → List Message → Type 0) → EachOnWay [] P
-none_on_way P before behind m is = absurd (omega (arith, ap length is, length-append before (m ∷ behind)))
+none_on_way P before behind m is = absurd (nothing_in before behind m is)
 
 new_looped : (one other : Option ℕ) → AreLooped (new_state one) [] []
 new_looped one other n = rw (get-empty {X = Cap} nat_cmp n) refl
@@ -106,13 +116,29 @@ is_plain (came_to value) = false
 
 pub new_values : (one other : Option ℕ) → ValuesHold (new_end one) (new_end other)
 new_values one other ref value own known (inl came) = absurd (true≢false (ap is_plain (sym (no_reference one ref) ∙ came)))
-new_values one other ref value own known (inr told) = absurd (true≢false (ap is_plain (sym (no_reference one ref) ∙ told.0)))
+new_values one other ref value own known (inr (inl told)) = absurd (true≢false (ap is_plain (sym (no_reference one ref) ∙ told.0)))
+new_values one other ref value own known (inr (inr behind)) =
+    absurd (nothing_in (behind.1.0 ++ behind.1.3 ∷ behind.1.1) behind.1.2 behind.1.4 behind.1.5)
 
 new_whole : (one other : Option ℕ) → IsWhole (new_end one) (new_end other) [] []
 new_whole one other = rw (no_entries {X = Held} nat_cmp) refl
 
 pub new_lanes : (one other : Option ℕ) (ref : Reference) → LaneHolds (new_end one) (new_end other) ref [] []
-new_lanes one other ref = inr (new_whole one other, absent (no_reference one ref) refl)
+new_lanes one other ref =
+    inr (record { whole = new_whole one other; targets = tt; delivered_ = rw (no_reference one ref) refl; phase = absent (no_reference one ref) refl })
 
 pub new_quiet : (one : Option ℕ) → IsQuiet (new_end one)
 new_quiet one = record { questions = λ q. rw (get-empty {X = Exchange QuestionEntry} nat_cmp q) refl; inbox = refl }
+
+no_ticket : (one : Option ℕ) (origin : Origin) (ticket : ℕ) → BearsTicket (new_state one) origin ticket → ⊥
+no_ticket one (origins.Answer a) ticket bears = none_out (sym (get-empty {X = Exchange AnswerEntry} nat_cmp a) ∙ bears.1)
+no_ticket one (origins.Own q) ticket bears = none_out (sym (get-empty {X = Exchange QuestionEntry} nat_cmp q) ∙ bears.1)
+
+pub new_tickets : (one : Option ℕ) → TicketsHold (new_state one) []
+new_tickets one =
+    record {
+      below = λ origin ticket bears. absurd (no_ticket one origin ticket bears);
+      differ = λ origin other ticket bears too. absurd (no_ticket one origin ticket bears);
+      rising = tt;
+      made_below = tt;
+    }

@@ -12,3 +12,5 @@ pub mod Turns
 pub mod Orderly
 pub mod Expected
 pub mod Spared
+pub mod Tickets
+pub mod Keeping

@@ -20,13 +20,11 @@ use Rattle.cp_refs.specs.At.{cap_at, node_along}
 use Rattle.cp_refs.specs.declared.cap.Cap.{Cap}
 use Rattle.cp_refs.specs.declared.cap.Cap.TheVariants as caps
 use Rattle.cp_refs.specs.declared.outcome.Outcome.{Outcome}
-use Rattle.cp_refs.specs.declared.values.Question.{Question}
-use Rattle.cp_refs.specs.declared.values.QuestionKind.{QuestionKind}
-use Rattle.cp_refs.specs.declared.values.QuestionKind.TheVariants as kinds
 use Rattle.cp_machine.specs.State.{State}
 use Rattle.cp_machine.specs.Take.{path_of}
 use Rattle.cp_machine.specs.Say.{ComesTo, IsExport}
-use Rattle.cp_machine.specs.Calling.{on_wire, reference_of}
+use Rattle.cp_machine.specs.Calling.{plain, on_wire, reference_of}
+use Rattle.cp_machine.specs.Local.{is_wire}
 use Rattle.cp_worlds.specs.Accounts.{accounts_of, is_given_up}
 use Rattle.cp_worlds.specs.World.{End}
 use Rattle.cp_worlds.specs.Lives.{Standing, ungiven, given, standing_of, will_stand}
@@ -207,15 +205,7 @@ Tells s (import_ i) value (messages.Resolve r) = (r.promise_id ≡ i) × IsHoste
 Tells s (path_to q path) value (messages.Return r) = (r.answer_id ≡ q) × IsHosted s value (path_returned path r.returned)
 Tells s ref value other = ⊥
 
-abbrev pub is_wire_kind : QuestionKind → Bool
-is_wire_kind kinds.Wire = true
-is_wire_kind kinds.Local = false
-
 -- a reference that the peer knows: an import, or a path of a question that was sent at once and wasn't given up
-abbrev pub is_wire : Option Question → Bool
-is_wire None = false
-is_wire (Some question) = is_wire_kind question.kind
-
 abbrev pub IsKnown : State → Reference → Type 0
 IsKnown s (import_ i) = Unit {0}
 IsKnown s (path_to q path) = IsTrue (is_wire (get s.values.questions q)) × (is_given_up ((accounts_of s).questions q) ≡ false)
@@ -225,6 +215,21 @@ abbrev pub IsTold : End → Reference → Cap → Type 0
 IsTold here ref value =
     (reference_of here.vat.values (cap_of ref) ≡ on_wire)
     × ((before behind : List Message) × (m : Message) × (here.inbox ≡ before ++ m ∷ behind) × Tells here.vat ref value m)
+
+-- An import isn't held. A message on the way will open it as a promise, and one behind that tells what it will come to.
+abbrev pub promises : ℕ → Descriptor → Bool
+promises i (descriptors.SenderPromise e) = e == i
+promises i other = false
+
+abbrev pub OpensImport : State → Reference → Message → Type 0
+OpensImport s (import_ i) m = IsTrue (list_any (promises i) (looked_at s m))
+OpensImport s (path_to q path) m = ⊥
+
+abbrev pub IsToldBehind : End → Reference → Cap → Type 0
+IsToldBehind here ref value =
+    (reference_of here.vat.values (cap_of ref) ≡ plain)
+    × ((before between behind : List Message) × (opening m : Message) × (here.inbox ≡ before ++ opening ∷ between ++ m ∷ behind)
+    × OpensImport here.vat ref opening × Tells here.vat ref value m)
 
 -- what the other vat has in the place of a reference
 abbrev pub place_of : State → Reference → Option Cap
@@ -244,5 +249,5 @@ IsOwn other = ⊥
 -- Where a reference is or will be an object or a promise of its own vat, the other vat's place for it comes back to that very capability.
 abbrev pub ValuesHold : End → End → Type 0
 ValuesHold here there =
-    (ref : Reference) (value : Cap) → IsOwn value → IsKnown here.vat ref → CameTo here.vat ref value ⊎ IsTold here ref value
+    (ref : Reference) (value : Cap) → IsOwn value → IsKnown here.vat ref → CameTo here.vat ref value ⊎ (IsTold here ref value ⊎ IsToldBehind here ref value)
     → ComesBack here.vat there.vat (place_of there.vat ref) value

@@ -16,7 +16,8 @@ use Rattle.cp_refs.specs.declared.route.Gate.TheVariants as gates
 use Rattle.cp_machine.specs.State.{State}
 use Rattle.cp_machine.specs.InUse.{waiting_calls, is_question_here}
 use Rattle.cp_machine.specs.Say.{ComesTo, IsExport}
-use Rattle.cp_machine.specs.Calling.{mark_of, plain, on_wire, reference_of}
+use Rattle.cp_machine.specs.Calling.{mark_of, plain, on_wire, came_to, reference_of, old_target}
+use Rattle.cp_machine.specs.Calling as calling
 use Rattle.cp_worlds.specs.Ledger.{opens}
 use Rattle.cp_worlds.specs.Accounts.{accounts_of, is_given_up}
 use Rattle.cp_worlds.specs.World.{End}
@@ -87,6 +88,30 @@ abbrev pub GoesTo : ℕ → Message → Type 0
 GoesTo e (messages.Call c) = c.target ≡ targets.ImportedCap e
 GoesTo e other = ⊥
 
+-- Calls on the way back go to the export where the other vat's place for the reference ends.
+abbrev pub EndsAt : State → Option Cap → ℕ → Type 0
+EndsAt there None e = ⊥
+EndsAt there (Some place) e = ComesTo there.values place (caps.Import e)
+
+abbrev pub GoBackTo : End → End → List ℕ → ℕ → Type 0
+GoBackTo here there made e = AllByRecursion (λ m. of_lane made (forwarded_for here.vat there.vat m) ≡ [] ⊎ GoesTo e m) here.inbox
+
+abbrev pub GoBackToPlace : End → End → Reference → List ℕ → Type 0
+GoBackToPlace here there ref made = (e : ℕ) × EndsAt there.vat (place_of there.vat ref) e × GoBackTo here there made e
+
+-- Calls on the way there have the reference's own target.
+abbrev pub HasTarget : Reference → Message → Type 0
+HasTarget ref (messages.Call c) = c.target ≡ old_target (cap_of ref)
+HasTarget ref other = ⊥
+
+abbrev pub HaveTarget : End → End → Reference → List ℕ → Type 0
+HaveTarget here there ref made = AllByRecursion (λ m. of_lane made (sent_for here.vat m) ≡ [] ⊎ HasTarget ref m) there.inbox
+
+-- Calls were delivered at the object that the reference came to, and none before it came to one.
+abbrev pub AreDelivered : calling.Reference → List Delivery → Type 0
+AreDelivered (came_to (caps.Object k)) delivered = AllByRecursion (λ delivery. delivery.object ≡ k) delivered
+AreDelivered other delivered = delivered ≡ []
+
 -- Behind a message of this kind there are none of these calls, and none before it.
 abbrev pub NoneBehind : List Message → (Message → Bool) → (Message → List ℕ) → Type 0
 NoneBehind inbox is calls = EachOnWay inbox (λ before m behind. IsTrue (is m) → flat_map calls behind ≡ [])
@@ -108,22 +133,22 @@ pub data Phase (here there : End) (ref : Reference) (made : List ℕ) : Type 0 w
   -- a Return or a Resolve on the way tells an object of its vat: those on the way back are behind it and go to that export
   told : (k e : ℕ) → IsTold here ref (caps.Object k) → IsExport here.vat e (caps.Object k)
       → NoneBefore here.inbox (Tells here.vat ref (caps.Object k)) (λ m. of_lane made (forwarded_for here.vat there.vat m))
-      → AllByRecursion (λ m. of_lane made (forwarded_for here.vat there.vat m) ≡ [] ⊎ GoesTo e m) here.inbox
+      → GoBackTo here there made e
       → IsMarkedIf made (mark_of here.vat (cap_of ref)) → waits here there made ≡ [] → waits_here here made ≡ [] → Phase here there ref made
   -- it came to an object of its vat and isn't marked: nothing is under way
   free : (k : ℕ) → CameTo here.vat ref (caps.Object k) → mark_of here.vat (cap_of ref) ≡ None → back here there made ≡ [] → waits here there made ≡ []
       → on_way here there made ≡ [] → waits_here here made ≡ [] → Phase here there ref made
-  -- it is marked: nothing waits
+  -- it is marked: nothing waits, and those on the way back go where its place ends
   marked : (k : ℕ) → CameTo here.vat ref (caps.Object k) → mark_of here.vat (cap_of ref) ≡ Some None → waits here there made ≡ [] → waits_here here made ≡ []
-      → Phase here there ref made
+      → GoBackToPlace here there ref made → Phase here there ref made
   -- its Disembargo is on the way there: the others wait here, and behind it there is none
   embargoed : (k n : ℕ) → CameTo here.vat ref (caps.Object k) → mark_of here.vat (cap_of ref) ≡ Some (Some n) → IsTrue (list_any (is_loop n) there.inbox)
       → NoneBehind there.inbox (is_loop n) (λ m. of_lane made (sent_for here.vat m)) → AllWaitHereAt here made (gates.Embargo n) → waits here there made ≡ []
-      → Phase here there ref made
+      → GoBackToPlace here there ref made → Phase here there ref made
   -- its echo is on the way back: none is on the way there, and none behind the echo
   echoed : (k n : ℕ) → CameTo here.vat ref (caps.Object k) → mark_of here.vat (cap_of ref) ≡ Some (Some n) → IsTrue (list_any (is_echo n) here.inbox)
       → NoneBehind here.inbox (is_echo n) (λ m. of_lane made (forwarded_for here.vat there.vat m)) → AllWaitHereAt here made (gates.Embargo n)
-      → waits here there made ≡ [] → on_way here there made ≡ [] → Phase here there ref made
+      → waits here there made ≡ [] → on_way here there made ≡ [] → GoBackToPlace here there ref made → Phase here there ref made
   -- a path of a local question that is open: all wait here at the question
   local_open : (q : ℕ) (path : List ℕ) → ref ≡ path_to q path → IsTrue (is_question_here (get here.vat.values.questions q))
       → AllWaitHereAt here made (gates.Question q path) → back here there made ≡ [] → waits here there made ≡ [] → on_way here there made ≡ []
@@ -162,10 +187,17 @@ IsToldAnother here ref =
 abbrev pub IsElsewhere : End → End → Reference → Type 0
 IsElsewhere here there ref = HasGone here there ref ⊎ IsToldAnother here ref
 
+-- The calls made on a reference are whole, under way as its phase says, and delivered where it leads.
+pub record InLane (here there : End) (ref : Reference) (made : List ℕ) (delivered : List Delivery) : Type 0 where
+  pub whole : IsWhole here there made delivered
+  pub targets : HaveTarget here there ref made
+  pub delivered_ : AreDelivered (reference_of here.vat.values (cap_of ref)) delivered
+  pub phase : Phase here there ref made
+
 -- What holds of the calls made and delivered on a reference, where nothing is finished or released: they are whole, each by its phase, or the
 -- reference is elsewhere.
 abbrev pub LaneHolds : End → End → Reference → List ℕ → List Delivery → Type 0
-LaneHolds here there ref made delivered = IsElsewhere here there ref ⊎ (IsWhole here there made delivered × Phase here there ref made)
+LaneHolds here there ref made delivered = IsElsewhere here there ref ⊎ InLane here there ref made delivered
 
 -- What holds of an end where no application finishes, releases or forgets: no question is given up, and no message to it releases or gives up.
 abbrev pub gives_up : Message → Bool

@@ -16,6 +16,7 @@ ghost use Rattle.cp_worlds.specs.Expected.{AllIsExpected, HeldIsAll, HeldIsThere
 ghost use Rattle.cp_worlds.specs.Turns.{LeaveKeeps, SettlingKeeps, TiedAreOpen, TurnKeeps};
 ghost use Rattle.cp_worlds.specs.Naming.{NamesHold, ValuesHold};
 ghost use Rattle.cp_worlds.specs.Phases.{LaneHolds, IsQuiet};
+ghost use Rattle.cp_worlds.specs.Tickets.{TicketsHold};
 
 /// Two new vats agree on what each export is owed, and their questions fit their answers.
 pub fn new_worlds_agree()
@@ -45,6 +46,7 @@ pub fn new_vats_hold()
     ensures values { (one other : Option ℕ) → ValuesHold (new_end one) (new_end other) }
     ensures lanes { (one other : Option ℕ) (ref : Reference) → LaneHolds (new_end one) (new_end other) ref [] [] }
     ensures quiet { (one : Option ℕ) → IsQuiet (new_end one) }
+    ensures tickets { (one : Option ℕ) → TicketsHold (new_state one) [] }
 {}
 
 /// A promise that is settled, and each turn of waiting calls, leave the others waiting for what their

@@ -97,9 +97,9 @@ no_phase (told k e is exported before goes mark waits here) =
     (subst (AllByRecursion (λ m. Tells (world past).first.vat given_reference (caps.Object k) m → ⊥)) is.1.3 (none_tells k))
     is.1.4
 no_phase (free k came mark back waits way here) = not_come (came_to (caps.Object k)) refl came
-no_phase (marked k came mark waits here) = not_come (came_to (caps.Object k)) refl came
-no_phase (embargoed k n came mark loop behind wait waits) = not_come (came_to (caps.Object k)) refl came
-no_phase (echoed k n came mark echo behind wait waits way) = not_come (came_to (caps.Object k)) refl came
+no_phase (marked k came mark waits here goes) = not_come (came_to (caps.Object k)) refl came
+no_phase (embargoed k n came mark loop behind wait waits goes) = not_come (came_to (caps.Object k)) refl came
+no_phase (echoed k n came mark echo behind wait waits way goes) = not_come (came_to (caps.Object k)) refl came
 no_phase (local_open q path same is wait back waits way) =
     true≢false
     (sym (subst (λ p. is_question_here (get (world past).first.vat.values.questions p) ≡ true) (sym (ap question_in same)) is)

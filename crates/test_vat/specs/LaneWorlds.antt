@@ -50,10 +50,13 @@ number_again =
     ∷ (at_second, gives_promise)
     ∷ (at_second, comes (finish_message 1 true) [])
     ∷ (at_second, comes (small_call 2 (on_whole_answer 0)) (effects.Deliver 0 (origins.Answer 2) 1 small_request ∷ []))
-    ∷ (at_second, does
-    (events.Answer (origins.Answer 2) (outcomes.Results one_object (caps.Object 5 ∷ [])))
-    values.Nothing
-    (sends (return_message 2 (results one_object (descriptors.SenderHosted 1 ∷ []))) ∷ [])) ∷ []
+    ∷ (
+      at_second,
+      does
+          (events.Answer (origins.Answer 2) (outcomes.Results one_object (caps.Object 5 ∷ [])))
+          values.Nothing
+          (sends (return_message 2 (results one_object (descriptors.SenderHosted 1 ∷ []))) ∷ []),
+    ) ∷ []
 
 -- The question was given up, and what its Return names isn't of its export's kind.
 pub record IsOfOtherKind (w : World) : Type 0 where
@@ -67,14 +70,20 @@ NumberAgain = (moves : List Move) × Plays two_vats number_again moves × IsOfOt
 abbrev pub settled_ahead : List (Side × Moment)
 settled_ahead =
     (at_first, bootstrap_does)
-    ∷ (at_first, does
-    (events.Call (caps.Pipelined 0 []) (request one_object (caps.Object 5 ∷ [])))
-    (values.Question 1)
-    (sends (call_message 1 (on_whole_answer 0) one_object (descriptors.SenderHosted 0 ∷ [])) ∷ []))
+    ∷ (
+      at_first,
+      does
+          (events.Call (caps.Pipelined 0 []) (request one_object (caps.Object 5 ∷ [])))
+          (values.Question 1)
+          (sends (call_message 1 (on_whole_answer 0) one_object (descriptors.SenderHosted 0 ∷ [])) ∷ []),
+    )
     ∷ (at_second, bootstrap_comes)
-    ∷ (at_second, comes
-    (call_message 1 (on_whole_answer 0) one_object (descriptors.SenderHosted 0 ∷ []))
-    (effects.Deliver 0 (origins.Answer 1) 0 (request one_object (caps.Import 0 ∷ [])) ∷ []))
+    ∷ (
+      at_second,
+      comes
+          (call_message 1 (on_whole_answer 0) one_object (descriptors.SenderHosted 0 ∷ []))
+          (effects.Deliver 0 (origins.Answer 1) 0 (request one_object (caps.Import 0 ∷ [])) ∷ []),
+    )
     ∷ (at_second, makes_promise)
     ∷ (at_second, gives_promise)
     ∷ (at_second, does (events.Resolve 0 (caps.Import 0)) values.Nothing (sends (resolve_message 1 (resolutions.Cap (descriptors.ReceiverHosted 0))) ∷ [])) ∷ []

@@ -1,4 +1,4 @@
-use Rattle.cp_worlds.proofs.NewVats.{new_local, new_waiting, new_names, new_values, new_lanes, new_quiet}
+use Rattle.cp_worlds.proofs.NewVats.{new_local, new_waiting, new_names, new_values, new_lanes, new_quiet, new_tickets}
 use Rattle.cp_worlds.proofs.worlds.new_vats_hold.Goals as goal
 
 pub returns-clause-local : goal.returns-clause-local
@@ -18,3 +18,6 @@ returns-clause-lanes c = new_lanes
 
 pub returns-clause-quiet : goal.returns-clause-quiet
 returns-clause-quiet c = new_quiet
+
+pub returns-clause-tickets : goal.returns-clause-tickets
+returns-clause-tickets c = new_tickets
