@@ -1,0 +1,7 @@
+pub mod Numbering
+pub mod Indexing
+pub mod Ending
+pub mod Sets
+pub mod Fields
+pub mod Joining
+pub mod Under

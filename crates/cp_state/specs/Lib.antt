@@ -1,0 +1,11 @@
+pub mod Halts
+pub mod Index
+pub mod Numbers
+pub mod Queue
+pub mod Overs
+pub mod Paths
+pub mod Joined
+pub mod Under
+pub mod Marking
+pub mod MarksCode
+pub mod StateOf

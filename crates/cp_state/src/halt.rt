@@ -1,0 +1,53 @@
+//! Why a part of an event wasn't done to its end.
+
+use cp_machine::PeerFault;
+use cp_tables::TableFault;
+use std::alloc::{AllocError, AllocFailed};
+
+/// Why a part of an event wasn't done to its end.
+#[derive(Clone, Copy, PartialEq, Eq, Debug)]
+pub enum Halt {
+    /// A rule of the machine answers this fault.
+    Fault(PeerFault),
+    /// A growth was refused. What was changed stays so, and the vat is to be closed.
+    OutOfMemory,
+}
+
+impl From<AllocError> for Halt {
+    ghost use Rattle.std.specs.Prelude.{◌≡◌};
+    ghost use Rattle.cp_state.specs.declared.halt.Halt.TheVariants.{OutOfMemory};
+
+    ghost from_gives = { λ _ halt. halt ≡ OutOfMemory };
+
+    fn from(_: AllocError) -> Halt {
+        Halt::OutOfMemory
+    }
+}
+
+impl<T: Drop> From<AllocFailed<T>> for Halt {
+    ghost use Rattle.std.specs.Prelude.{◌≡◌};
+    ghost use Rattle.cp_state.specs.declared.halt.Halt.TheVariants.{OutOfMemory};
+
+    ghost from_gives = { λ _ halt. halt ≡ OutOfMemory };
+
+    fn from(_: AllocFailed<T>) -> Halt {
+        Halt::OutOfMemory
+    }
+}
+
+impl From<TableFault> for Halt {
+    ghost use Rattle.std.specs.Prelude.{◌≡◌};
+    ghost use Rattle.cp_state.specs.Halts.{halt_of};
+
+    ghost from_gives = { λ fault halt. halt ≡ halt_of fault };
+
+    fn from(fault: TableFault) -> Halt {
+        match fault {
+            TableFault::Taken => Halt::Fault(PeerFault::QuestionInUse),
+            TableFault::Unknown => Halt::Fault(PeerFault::UnknownExport),
+            TableFault::TooMany => Halt::Fault(PeerFault::ReleaseTooLarge),
+            TableFault::Full => Halt::Fault(PeerFault::TableFull),
+            TableFault::OutOfMemory => Halt::OutOfMemory,
+        }
+    }
+}

@@ -1,0 +1,25 @@
+//! What a vat is made of: exports with the way from a capability to them, waiting calls with what the
+//! gates gave that ended, values with the numbers of promises, marks and embargoes. Each part keeps
+//! its own invariant, and `Core` is all of them.
+#![tactic(auto)]
+
+mod entries;
+mod exports;
+mod gates;
+mod halt;
+mod marks;
+mod own_promises;
+mod parts;
+mod path_marks;
+mod paths;
+mod values;
+
+pub use entries::Entries;
+pub use exports::{Exported, Hosted};
+pub use gates::{Gates, Gift, Next};
+pub use halt::Halt;
+pub use marks::Marks;
+pub use own_promises::OwnPromises;
+pub use parts::Core;
+pub use path_marks::PathMarks;
+pub use values::NumberedValues;

@@ -1,0 +1,158 @@
+//! What promises, imports, answers and questions came to, with the numbers of the promises.
+
+ghost use Rattle.std.specs.Prelude.{◌≡◌, Some, None, IsSome, IfOk, OnOk, OnErr};
+ghost use Rattle.std.specs.FinMap as map;
+
+use crate::halt::Halt;
+use cp_machine::PeerFault;
+use cp_refs::{Cap, Outcome, PromiseId, Question, QuestionKind, Values};
+use cp_tables::{Embargoes, LIMIT};
+use std::alloc::{AllocError, Global};
+use std::marker::Model;
+
+/// What promises, imports, answers and questions came to, with the numbers of the promises.
+/// Contracts see the four maps alone.
+#[derive(Drop)]
+pub struct NumberedValues {
+    values: Values,
+    numbers: Embargoes<()>,
+}
+
+impl Model for NumberedValues {
+    ghost use Rattle.cp_refs.specs.Values.{ValueMaps, values_code};
+    ghost use Rattle.cp_state.specs.Numbers.{AreNumbered};
+
+    ghost Value = { ValueMaps };
+
+    ghost coded = { values_code };
+
+    ghost view = { λ n. n.values };
+
+    ghost invariant = { λ n. AreNumbered n.values.promises n.numbers };
+}
+
+impl NumberedValues {
+    ghost use Rattle.cp_tables.specs.Table.{with_change};
+    ghost use Rattle.cp_machine.specs.Room.{Fresh};
+    ghost use Rattle.cp_state.specs.Halts.{Meets};
+
+    /// Nothing is told yet.
+    pub fn new(alloc: Global) -> NumberedValues
+        ensures { result ≡ record { promises = map.empty; imports = map.empty; answers = map.empty; questions = map.empty } }
+    {
+        NumberedValues {
+            values: Values::new(alloc),
+            numbers: Embargoes::new(alloc),
+        }
+    }
+
+    /// What they came to, lent.
+    pub fn values(&self) -> &Values
+        ensures { result.now ≡ self.now }
+    {
+        &self.values
+    }
+
+    /// Opens a promise under a free number.
+    pub fn open_promise(&mut self) -> Result<PromiseId, Halt>
+        ensures fresh { Meets (Fresh self.old.promises) result }
+        ensures opened { IfOk result (λ p. self.new ≡ record self.old { promises = map.insert self.old.promises p None }) }
+        ensures err { OnErr result (self.new ≡ self.old) }
+    {
+        if self.numbers.len() == LIMIT {
+            return Err(Halt::Fault(PeerFault::TableFull));
+        }
+        let id = self.numbers.open(())?;
+        if let Err(error) = self.values.put_promise(id, None) {
+            drop(self.numbers.close(id));
+            return Err(error.into());
+        }
+        Ok(id)
+    }
+
+    /// Settles a promise that is there.
+    pub fn settle_promise(&mut self, id: PromiseId, value: Cap) -> Result<(), AllocError>
+        requires { IsSome (map.get self.old.promises id) }
+        ensures put { OnOk result (self.new ≡ record self.old { promises = map.insert self.old.promises id (Some value) }) }
+        ensures err { OnErr result (self.new ≡ self.old) }
+    {
+        self.values.put_promise(id, Some(value))
+    }
+
+    /// Takes a promise out, whose number is free again.
+    pub fn remove_promise(&mut self, id: PromiseId)
+        ensures { self.new ≡ record self.old { promises = map.remove self.old.promises id } }
+    {
+        drop(self.values.remove_promise(id));
+        drop(self.numbers.close(id));
+    }
+
+    /// Puts what an import came to.
+    pub fn put_import(&mut self, id: u32, value: Option<Cap>) -> Result<(), AllocError>
+        ensures put { OnOk result (self.new ≡ record self.old { imports = map.insert self.old.imports id value }) }
+        ensures err { OnErr result (self.new ≡ self.old) }
+    {
+        self.values.put_import(id, value)
+    }
+
+    /// Takes an import out.
+    pub fn remove_import(&mut self, id: u32)
+        ensures { self.new ≡ record self.old { imports = map.remove self.old.imports id } }
+    {
+        drop(self.values.remove_import(id));
+    }
+
+    /// Puts what an answer came to.
+    pub fn put_answer(&mut self, id: u32, outcome: Option<Outcome>) -> Result<(), AllocError>
+        ensures put { OnOk result (self.new ≡ record self.old { answers = map.insert self.old.answers id outcome }) }
+        ensures err { OnErr result (self.new ≡ self.old) }
+    {
+        self.values.put_answer(id, outcome)
+    }
+
+    /// Takes an answer out.
+    pub fn remove_answer(&mut self, id: u32)
+        ensures { self.new ≡ record self.old { answers = map.remove self.old.answers id } }
+    {
+        drop(self.values.remove_answer(id));
+    }
+
+    /// Puts a question that came to nothing yet.
+    pub fn open_question(&mut self, id: u32, kind: QuestionKind) -> Result<(), AllocError>
+        ensures put { OnOk result (self.new ≡ record self.old { questions = map.insert self.old.questions id (record { kind = kind; outcome = None }) }) }
+        ensures err { OnErr result (self.new ≡ self.old) }
+    {
+        self.values.put_question(
+            id,
+            Question {
+                kind,
+                outcome: None,
+            },
+        )
+    }
+
+    /// Puts what a question came to, if it is there.
+    pub fn settle_question(&mut self, id: u32, outcome: Outcome) -> Result<(), AllocError>
+        ensures put { OnOk result (self.new ≡ record self.old { questions = with_change self.old.questions id (λ question. record question { outcome = Some outcome }) }) }
+        ensures err { OnErr result (self.new ≡ self.old) }
+    {
+        let Some(question) = self.values.question(id) else {
+            return Ok(());
+        };
+        let kind = question.kind;
+        self.values.put_question(
+            id,
+            Question {
+                kind,
+                outcome: Some(outcome),
+            },
+        )
+    }
+
+    /// Takes a question out.
+    pub fn remove_question(&mut self, id: u32)
+        ensures { self.new ≡ record self.old { questions = map.remove self.old.questions id } }
+    {
+        drop(self.values.remove_question(id));
+    }
+}
