@@ -1,0 +1,5 @@
+//! Tests of cp_state.
+#![tactic(auto)]
+
+#[cfg(test)]
+mod tests;
