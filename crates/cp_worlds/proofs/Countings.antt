@@ -139,7 +139,7 @@ fits_of table all [] f h = inl refl
 fits_of table all (e ∷ part) f h =
     fits_here table all part e f (e == f) refl (or_first _ _ h) (fits_of table all part f (or_second (ltb (count_of table e) (times e all)) _ h))
 
-fits_all : (table : Table (Counted Cap)) (ids : List ℕ) → list_any (λ e. ltb (count_of table e) (times e ids)) ids ≡ false
+pub fits_all : (table : Table (Counted Cap)) (ids : List ℕ) → list_any (λ e. ltb (count_of table e) (times e ids)) ids ≡ false
     → (f : ℕ) → times f ids ≤ count_of table f
 fits_all table ids h f = elim (fits_of table ids ids f h) [
   | inl none ↦ omega (arith, none)

@@ -34,3 +34,9 @@ pub mod Expecting
 pub mod Sparing
 pub mod Faultless
 pub mod Exporting
+pub mod Changing
+pub mod Acting
+pub mod Changed
+pub mod Numbers
+pub mod Numbered
+pub mod Left

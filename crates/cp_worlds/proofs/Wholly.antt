@@ -37,7 +37,7 @@ no_message old (events.Release i) out inbox rest does takes = takes
 no_message old (events.Forget p) out inbox rest does takes = takes
 no_message old events.Idle out inbox rest does takes = takes
 
-closed_open : {A : Type 0} {b : Bool} → b ≡ true → b ≡ false → A
+pub closed_open : {A : Type 0} {b : Bool} → b ≡ true → b ≡ false → A
 closed_open closed open_ = absurd (true≢false (sym closed ∙ open_))
 
 -- behind a step of the one, while it is open
@@ -95,7 +95,7 @@ agree_back agree =
       counts_back = agree.counts;
     }
 
-move_keeps : (side : Side) (old behind : World) (moment : Moment) → Holds old → AreOpen behind
+pub move_keeps : (side : Side) (old behind : World) (moment : Moment) → Holds old → AreOpen behind
     → Step (end_of old side).vat moment.event moment.result moment.effects (end_of behind side).vat → Takes (end_of old side).inbox moment.event (end_of behind side).inbox
     → end_of behind (across side) ≡ with_mail (end_of old (across side)) (messages_sent moment.effects) → Holds behind
 move_keeps at_first old behind moment holds open_ steps takes sends =
@@ -112,7 +112,7 @@ move_open at_first old behind moment open_ steps sends = (step_open open_.0 step
 move_open at_second old behind moment open_ steps sends = (sym (ap (λ end. end.vat.is_closed) sends) ∙ open_.0, step_open open_.1 steps)
 
 -- moves one after another
-first_open : (moves : List Move) (w : World) → Moves w moves → AreOpen (last_of w moves) → AreOpen w
+pub first_open : (moves : List Move) (w : World) → Moves w moves → AreOpen (last_of w moves) → AreOpen w
 first_open [] w made open_ = open_
 first_open (move ∷ more) w made open_ =
     move_open move.side w move.behind move.moment (first_open more move.behind made.1 open_) made.0.steps made.0.sends

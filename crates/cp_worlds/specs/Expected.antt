@@ -15,12 +15,12 @@ HoldsAlways Holds =
     (one other : Option ℕ) (moves : List Move) → Moves (new_world one other) moves → AreOpen (last_of (new_world one other) moves)
     → Holds (last_of (new_world one other) moves)
 
--- The messages on the way don't lower an export past its count, all together.
+-- All together, the messages on the way to a vat don't lower an export past its count.
 abbrev pub LowersFit : World → Type 0
 LowersFit w =
     (side : Side) (e : ℕ) → lowered_on_way (lowerable (accounts_of (end_of w side).vat)) (end_of w side).inbox e ≤ count_of (end_of w side).vat.counts.exports e
 
--- What a vat holds is an export of the other one, which counts it as often at least; and where no message is on the way, as often.
+-- What a vat holds is an export of the other one, which counts it as often at least; and where no message is on the way, exactly as often.
 abbrev pub HeldIsThere : World → Type 0
 HeldIsThere w = (side : Side) (e : ℕ) → count_of (end_of w (across side)).vat.counts.imports e ≤ count_of (end_of w side).vat.counts.exports e
 
@@ -54,8 +54,8 @@ abbrev pub IsKept : Option Account → Type 0
 IsKept None = ⊥
 IsKept (Some account) = IsNotFinished account.stage
 
--- A message is expected: it opens an answer where there is none, or returns to a question that waits, or finishes an answer that is kept and wasn't
--- finished.
+-- A message is expected if it opens an answer where there is none, returns to a question that waits for that, or finishes an answer that is kept and
+-- wasn't finished. Any other message always is.
 abbrev pub IsExpected : Accounts → Message → Type 0
 IsExpected here (messages.Call c) = here.answers c.question_id ≡ None
 IsExpected here (messages.Bootstrap b) = here.answers b.question_id ≡ None

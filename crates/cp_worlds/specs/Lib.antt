@@ -10,6 +10,7 @@ pub mod Phases
 pub mod Posting
 pub mod Turns
 pub mod Orderly
+pub mod Numbers
 pub mod Expected
 pub mod Spared
 pub mod Tickets

@@ -38,7 +38,7 @@ pub record AreHeld (calls : Table Held) (questions : Table (Exchange QuestionEnt
       → more.origin ≡ origins.Own q → one ≡ other
   pub here : (q : ℕ) (entry : Exchange QuestionEntry) → get questions q ≡ Some entry → entry.kept.is_delivered ≡ true → entry.kept.is_sent ≡ false
 
--- no promise came to a question's path, and none is exported
+-- no promise came to a question's path, and no such path is exported
 abbrev pub IsPlainValue : Option (Option Cap) → Type 0
 IsPlainValue (Some (Some value)) = is_pipelined value ≡ false
 IsPlainValue other = Unit {0}
@@ -53,7 +53,8 @@ IsPlainExport (Some entry) = is_pipelined entry.kept ≡ false
 abbrev pub ArePlainExports : Table (Counted Cap) → Type 0
 ArePlainExports exports = (e : ℕ) → IsPlainExport (get exports e)
 
--- A vat's state is orderly: its waiting calls are held, and no path of a question can be told in a Return or a Resolve.
+-- A vat's state is orderly: the questions of its waiting calls are held back, and no Return and no Resolve will name a question's path, since none is the
+-- value of a promise or exported.
 pub record IsOrderly (s : State) : Type 0 where
   pub held : AreHeld s.waiting.calls s.entries.questions
   pub values : ArePlainValues s.values.promises

@@ -1,4 +1,4 @@
--- What each export is owed: what the other end holds of it and is on the way. (rpc.capnp: "CapDescriptor", "Release", "Finish.releaseResultCaps".)
+-- What each export is owed: what the other end holds of it, and what of it is on the way. (rpc.capnp: "CapDescriptor", "Release", "Finish.releaseResultCaps".)
 use Rattle.std.specs.Prelude.{ℕ, ◌+◌, List, [], ◌∷◌, Option}
 use Rattle.cp_rpc.specs.declared.message.Message.{Message}
 use Rattle.cp_machine.specs.Take.{times}
@@ -15,7 +15,8 @@ abbrev pub lowered_on_way : Lowerable → List Message → ℕ → ℕ
 lowered_on_way lists [] e = 0
 lowered_on_way lists (m ∷ more) e = lowered_by lists m e + lowered_on_way (lowerable_behind m lists) more e
 
--- An export is owed what the other vat's import counts, what the messages there name it, and what the messages back will lower it by.
+-- An export is owed as much as the other vat's import of its number counts, as often as the messages on the way there name it, and as much as the messages
+-- on the way back will lower it.
 abbrev pub owed_between : Accounts → List Message → Accounts → List Message → ℕ → ℕ
 owed_between there inbox_there here inbox_here e =
     there.imports e + named_on_way there.questions inbox_there e + lowered_on_way (lowerable here) inbox_here e

@@ -16,7 +16,7 @@ IsOther faults.EchoTooLarge = ⊥
 IsOther faults.PeerLacksLevelOne = ⊥
 IsOther other = Unit {0}
 
--- Whatever fault the next message to a vat meets is another one.
+-- Whatever fault the next message to a vat meets, it is none of these.
 abbrev pub AreSpared : World → Type 0
 AreSpared w =
     (side : Side) (m : Message) (rest : List Message) (fault : PeerFault) → (end_of w side).inbox ≡ m ∷ rest → Receives (end_of w side).vat m (Err fault)

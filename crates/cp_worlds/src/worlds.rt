@@ -13,6 +13,7 @@ ghost use Rattle.cp_worlds.specs.Orderly.{RulesPost};
 ghost use Rattle.cp_worlds.specs.Laws.{CountsAgree};
 ghost use Rattle.cp_worlds.specs.Spared.{AreSpared};
 ghost use Rattle.cp_worlds.specs.Expected.{AllIsExpected, HeldIsAll, HeldIsThere, HoldsAlways, LowersFit, StagesMatch};
+ghost use Rattle.cp_worlds.specs.Numbers.{AreCounted, ChangesKeep, ExportedIsHeld, FreeIsFree, LeftIsNamed, NothingIsLeft, NumbersStay, RulesChange};
 ghost use Rattle.cp_worlds.specs.Turns.{LeaveKeeps, SettlingKeeps, TiedAreOpen, TurnKeeps};
 ghost use Rattle.cp_worlds.specs.Naming.{NamesHold, ValuesHold};
 ghost use Rattle.cp_worlds.specs.Phases.{LaneHolds, IsQuiet};
@@ -69,7 +70,7 @@ pub fn counts_agree()
 {}
 
 /// So no message on the way lowers an export past its count, and what a vat holds is an export of the
-/// other one.
+/// other one, which counts it exactly as often where no message is on the way.
 pub fn counts_hold()
     ensures lowers { HoldsAlways LowersFit }
     ensures there { HoldsAlways HeldIsThere }
@@ -87,4 +88,32 @@ pub fn messages_are_expected()
 /// that is lowered past its count, or a message that isn't supported or isn't known.
 pub fn faults_are_spared()
     ensures { HoldsAlways AreSpared }
+{}
+
+/// What each rule does to the exports and the imports of a vat: it counts one more, or gives one back, and
+/// a message lowers exports first. Such changes keep each export's capability, and each count above 0.
+pub fn counts_change()
+    ensures rules { RulesChange }
+    ensures keep { ChangesKeep }
+{}
+
+/// So each count is above 0: there is an export or an import exactly where something is counted.
+pub fn counts_are_above()
+    ensures { HoldsAlways AreCounted }
+{}
+
+/// No number goes to another capability while the other vat holds it or a descriptor of it that counts is
+/// on the way: an export stays until then, and a number without an export is held by nobody.
+pub fn numbers_stay()
+    ensures stay { NumbersStay }
+    ensures free { HoldsAlways FreeIsFree }
+{}
+
+/// Where no message is on the way, a vat exports exactly what the other one holds. So where both
+/// applications released all that they held, both export nothing but what kept answers name, or what an
+/// import came to.
+pub fn nothing_is_left()
+    ensures held { HoldsAlways ExportedIsHeld }
+    ensures empty { HoldsAlways NothingIsLeft }
+    ensures named { HoldsAlways LeftIsNamed }
 {}

@@ -1,0 +1,5 @@
+use Rattle.cp_worlds.proofs.Numbered.{are_counted}
+use Rattle.cp_worlds.proofs.worlds.counts_are_above.Goals as goal
+
+pub returns : goal.returns
+returns c = are_counted
