@@ -27,3 +27,4 @@ pub mod Delivering
 pub mod Lanes
 pub mod LaneWorlds
 pub mod AheadWorlds
+pub mod CountWorlds

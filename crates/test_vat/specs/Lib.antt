@@ -8,5 +8,6 @@ pub mod FaultRows
 pub mod RefusalRows
 pub mod OrderRows
 pub mod WorldRows
+pub mod CountWorlds
 pub mod LaneRows
 pub mod LaneWorlds

@@ -2,6 +2,7 @@
 
 ghost use Rattle.test_vat.specs.WorldRows.{EndsWithoutExport};
 ghost use Rattle.test_vat.specs.LaneRows.{LaneOfThreeCalls, LaneWithoutEmbargo, LaneAgain};
+ghost use Rattle.test_vat.specs.CountWorlds.{AnswerKeepsExport, Crossing, IgnoredIsOwed, WaitingIsOrderly};
 ghost use Rattle.test_vat.specs.LaneWorlds.{NumberAgain, SettledAhead};
 
 /// A question is finished before its Return comes: the Finish lowers what the Return names, and nothing
@@ -29,4 +30,24 @@ pub fn number_again()
 /// the reference's own then.
 pub fn settled_ahead()
     ensures { SettledAhead }
+{}
+
+/// A Finish and the Return that it doesn't wait for are on the way at once. The export is owed what the
+/// Finish lowers and no more, each message is expected where it comes, and a Release beside them would be
+/// too much. Where the Return comes first, nothing is given back for it.
+pub fn crossing()
+    ensures owed { Crossing }
+    ensures ignored { IgnoredIsOwed }
+{}
+
+/// Where no message is on the way and an application released all that it held, an export is left that a
+/// kept answer names.
+pub fn answer_keeps_export()
+    ensures { AnswerKeepsExport }
+{}
+
+/// A vat with a call that waits is orderly; it isn't where its question was sent, nor where a promise came
+/// to a question's path or such a path is exported.
+pub fn waiting_is_orderly()
+    ensures { WaitingIsOrderly }
 {}
