@@ -7,6 +7,7 @@ ghost use Rattle.std.specs.FinMap as map;
 
 use std::alloc::{AllocError, Global};
 use std::collections::BTreeMap;
+use std::collections::btree_map::Iter;
 use std::marker::Model;
 
 /// Entries under numbers. Contracts see them as a finite map.
@@ -48,6 +49,13 @@ impl<V> Entries<V> {
         ensures { IsTrue result ↔ IsSome (map.get self.now id) }
     {
         self.get(id).is_some()
+    }
+
+    /// The entries with their numbers, rising.
+    pub(crate) fn iter(&self) -> Iter<'_, u64, V>
+        ensures { result ≡ map.entries self.now }
+    {
+        self.entries.iter()
     }
 
     /// The entry under a number that has one, for writing.

@@ -6,11 +6,12 @@ ghost use Rattle.cp_refs.specs.Route.{open_way};
 ghost use Rattle.cp_refs.specs.Steps.{IsStepOf};
 
 use crate::cap::{Cap, Path, PromiseId};
-use crate::entries::Entries;
 use crate::outcome::{Outcome, cap_along, failed, null_capability};
 use crate::route::{Gate, Route};
 use crate::walk::{Pace, Walk};
+use cp_tables::Entries;
 use std::alloc::{AllocError, Global};
+use std::collections::btree_map::Iter;
 use std::marker::Model;
 
 /// How a question was asked.
@@ -73,28 +74,56 @@ impl Values {
     pub fn promise(&self, id: PromiseId) -> Option<&Option<Cap>>
         ensures { option_copied result ≡ map.get self.now.promises id }
     {
-        self.promises.get(id as u64)
+        self.promises.get(id)
     }
 
     /// What an import came to.
     pub fn import(&self, id: u32) -> Option<&Option<Cap>>
         ensures { option_copied result ≡ map.get self.now.imports id }
     {
-        self.imports.get(id as u64)
+        self.imports.get(id)
     }
 
     /// What an answer came to.
     pub fn answer(&self, id: u32) -> Option<&Option<Outcome>>
         ensures { option_copied result ≡ map.get self.now.answers id }
     {
-        self.answers.get(id as u64)
+        self.answers.get(id)
     }
 
     /// What a question came to.
     pub fn question(&self, id: u32) -> Option<&Question>
         ensures { option_copied result ≡ map.get self.now.questions id }
     {
-        self.questions.get(id as u64)
+        self.questions.get(id)
+    }
+
+    /// What each promise came to, with its number, rising.
+    pub fn promises(&self) -> Iter<'_, u32, Option<Cap>>
+        ensures { result ≡ map.entries self.now.promises }
+    {
+        self.promises.iter()
+    }
+
+    /// What each import came to, with its number, rising.
+    pub fn imports(&self) -> Iter<'_, u32, Option<Cap>>
+        ensures { result ≡ map.entries self.now.imports }
+    {
+        self.imports.iter()
+    }
+
+    /// What each answer came to, with its number, rising.
+    pub fn answers(&self) -> Iter<'_, u32, Option<Outcome>>
+        ensures { result ≡ map.entries self.now.answers }
+    {
+        self.answers.iter()
+    }
+
+    /// What each question came to, with its number, rising.
+    pub fn questions(&self) -> Iter<'_, u32, Question>
+        ensures { result ≡ map.entries self.now.questions }
+    {
+        self.questions.iter()
     }
 
     /// Puts what a promise came to.
@@ -102,7 +131,7 @@ impl Values {
         ensures put { OnOk result (self.new ≡ record self.old { promises = map.insert self.old.promises id value }) }
         ensures err { OnErr result (self.new ≡ self.old) }
     {
-        self.promises.put(id as u64, value)
+        self.promises.put(id, value)
     }
 
     /// Puts what an import came to.
@@ -110,7 +139,7 @@ impl Values {
         ensures put { OnOk result (self.new ≡ record self.old { imports = map.insert self.old.imports id value }) }
         ensures err { OnErr result (self.new ≡ self.old) }
     {
-        self.imports.put(id as u64, value)
+        self.imports.put(id, value)
     }
 
     /// Puts what an answer came to.
@@ -118,7 +147,7 @@ impl Values {
         ensures put { OnOk result (self.new ≡ record self.old { answers = map.insert self.old.answers id outcome }) }
         ensures err { OnErr result (self.new ≡ self.old) }
     {
-        self.answers.put(id as u64, outcome)
+        self.answers.put(id, outcome)
     }
 
     /// Puts a question and what it came to.
@@ -126,7 +155,7 @@ impl Values {
         ensures put { OnOk result (self.new ≡ record self.old { questions = map.insert self.old.questions id question }) }
         ensures err { OnErr result (self.new ≡ self.old) }
     {
-        self.questions.put(id as u64, question)
+        self.questions.put(id, question)
     }
 
     /// Takes a promise out.
@@ -134,7 +163,7 @@ impl Values {
         ensures value { result ≡ map.get self.old.promises id }
         ensures removed { self.new ≡ record self.old { promises = map.remove self.old.promises id } }
     {
-        self.promises.remove(id as u64)
+        self.promises.remove(id)
     }
 
     /// Takes an import out.
@@ -142,7 +171,7 @@ impl Values {
         ensures value { result ≡ map.get self.old.imports id }
         ensures removed { self.new ≡ record self.old { imports = map.remove self.old.imports id } }
     {
-        self.imports.remove(id as u64)
+        self.imports.remove(id)
     }
 
     /// Takes an answer out.
@@ -150,7 +179,7 @@ impl Values {
         ensures value { result ≡ map.get self.old.answers id }
         ensures removed { self.new ≡ record self.old { answers = map.remove self.old.answers id } }
     {
-        self.answers.remove(id as u64)
+        self.answers.remove(id)
     }
 
     /// Takes a question out.
@@ -158,7 +187,7 @@ impl Values {
         ensures value { result ≡ map.get self.old.questions id }
         ensures removed { self.new ≡ record self.old { questions = map.remove self.old.questions id } }
     {
-        self.questions.remove(id as u64)
+        self.questions.remove(id)
     }
 
     /// Where a call on a capability goes. Promises and questions that came to something are

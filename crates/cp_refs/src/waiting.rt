@@ -10,6 +10,7 @@ use crate::entries::Entries;
 use crate::route::Gate;
 use crate::tickets::Tickets;
 use std::alloc::{AllocError, Global};
+use std::collections::btree_map::Iter;
 use std::marker::Model;
 
 /// The calls that wait, and which of them may leave. Contracts see them as one set of calls, and
@@ -59,6 +60,13 @@ impl Waiting {
         ensures { option_copied result ≡ map.get self.now.calls ticket }
     {
         self.calls.get(ticket)
+    }
+
+    /// The calls with their tickets, rising.
+    pub fn calls(&self) -> Iter<'_, u64, Held>
+        ensures { result ≡ map.entries self.now.calls }
+    {
+        self.calls.iter()
     }
 
     /// Takes in a call, whose ticket no other one has.

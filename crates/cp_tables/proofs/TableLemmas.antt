@@ -231,6 +231,27 @@ module _ {X : Type 0} where
   entries-ordered [] h = no_entries
   entries-ordered (e ∷ es) h = rw (entries-insert nat_cmp_total (from_entries es) e.0 e.1, entries-ordered es h.1) (below e.0 e.1 es h.0)
 
+  -- the table has the map's entries, in their order
+  pub entries-listed : (m : BTreeMap ℕ X) → IsOrdered nat_cmp m → map.entries (listed m) ≡ m.entries
+  entries-listed m h = entries-ordered m.entries h
+
   -- the table has the map's keys, in their order
   pub keys-listed : (m : BTreeMap ℕ X) → IsOrdered nat_cmp m → map.keys (listed m) ≡ tree.keys m
   keys-listed m h = ap keys_of (entries-ordered m.entries h)
+
+  -- the keys from a place on are above all before it
+  entries_from-above : (slots : List (Option X)) (base k : ℕ) → k < base → AllByRecursion (λ y. nat_cmp k y ≡ Less) (keys_of (entries_from base slots))
+  entries_from-above [] base k h = tt
+  entries_from-above (None ∷ rest) base k h = entries_from-above rest (base + 1) k (omega arith)
+  entries_from-above (Some v ∷ rest) base k h = (grind (arith, nat_tests), entries_from-above rest (base + 1) k (omega arith))
+
+  -- a slab's keys rise
+  entries_from-sorted : (slots : List (Option X)) (base : ℕ) → IsStrictlySortedBy nat_cmp (keys_of (entries_from base slots))
+  unfolding IsStrictlySortedBy
+  entries_from-sorted [] base = tt
+  entries_from-sorted (None ∷ rest) base = entries_from-sorted rest (base + 1)
+  entries_from-sorted (Some v ∷ rest) base = (entries_from-above rest (base + 1) base (omega arith), entries_from-sorted rest (base + 1))
+
+  -- the table has the slab's entries, in their order
+  pub entries-seen : (s : Slab X) → map.entries (seen s) ≡ entries s
+  entries-seen s = entries-ordered (entries s) (entries_from-sorted s.slots 0)

@@ -8,6 +8,7 @@ ghost use Rattle.std.specs.FinMap as map;
 use crate::LIMIT;
 use crate::fault::TableFault;
 use crate::slots::Slots;
+use slab::Iter;
 use std::alloc::Global;
 use std::marker::Model;
 
@@ -63,6 +64,13 @@ impl<T: Drop> Embargoes<T> {
         ensures { option_copied result ≡ map.get self.now id }
     {
         self.slots.get(id)
+    }
+
+    /// What is kept with the embargoes, with their numbers, rising.
+    pub fn iter(&self) -> Iter<'_, T>
+        ensures { result ≡ map.entries self.now }
+    {
+        self.slots.iter()
     }
 
     /// What is kept with the embargo under this number, for writing.

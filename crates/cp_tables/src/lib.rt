@@ -10,6 +10,7 @@
 mod answers;
 mod counted;
 mod embargoes;
+mod entries;
 mod exchange;
 mod exports;
 mod fault;
@@ -21,6 +22,7 @@ mod slots;
 pub use answers::Answers;
 pub use counted::Counted;
 pub use embargoes::Embargoes;
+pub use entries::Entries;
 pub use exchange::{Exchange, Stage};
 pub use exports::Exports;
 pub use fault::TableFault;

@@ -7,7 +7,7 @@ ghost use Rattle.std.specs.FinMap as map;
 
 use crate::LIMIT;
 use crate::fault::TableFault;
-use slab::Slab;
+use slab::{Iter, Slab};
 use std::alloc::Global;
 use std::marker::Model;
 
@@ -62,6 +62,13 @@ impl<V> Slots<V> {
         ensures { IsTrue result ↔ IsSome (map.get self.now id) }
     {
         self.slab.contains(id as usize)
+    }
+
+    /// The entries with their numbers, rising.
+    pub(crate) fn iter(&self) -> Iter<'_, V>
+        ensures { result ≡ map.entries self.now }
+    {
+        self.slab.iter()
     }
 
     /// The entry under a number that has one, for writing.
