@@ -22,6 +22,7 @@ use Rattle.cp_refs.specs.declared.values.Question.{Question}
 use Rattle.cp_refs.specs.declared.values.QuestionKind.{QuestionKind}
 use Rattle.cp_refs.specs.declared.values.QuestionKind.TheVariants as kinds
 use Rattle.cp_machine.specs.State.{State, none_over}
+use Rattle.cp_machine.specs.Calling.{mark_of}
 use Rattle.cp_machine.specs.InUse.{waiting_calls, kept_caps, caps_given, is_unsettled, is_pipelined, is_question_used, is_local_path}
 use Rattle.cp_machine.specs.declared.entry.AnswerEntry.{AnswerEntry}
 use Rattle.cp_machine.specs.declared.entry.QuestionEntry.{QuestionEntry}
@@ -194,16 +195,16 @@ abbrev pub IsUngivenAt : State → Gate → Type 0
 IsUngivenAt s (gates.Answer a path) = get s.values.answers a ≡ Some None
 IsUngivenAt s other = Unit {0}
 
+abbrev pub IsImportMark : State → ℕ → Option ℕ → Type 0
+IsImportMark s i embargo = IsTrue (is_some (get s.counts.imports i)) × IsEmbargoOf s (import_value (get s.values.imports i)) embargo
+
 abbrev pub IsPathMark : State → List ℕ → Option ℕ → Type 0
 IsPathMark s [] embargo = ⊥
 IsPathMark s (q ∷ path) embargo = IsTrue (is_wire (get s.values.questions q)) × IsEmbargoOf s (path_value (get s.values.questions q) path) embargo
 
--- how many marks are under an embargo: one, or none where its reference is gone
-abbrev pub is_mark_of : ℕ → Option ℕ → Bool
-is_mark_of n embargo = list_any (λ m. m == n) (option_to_list embargo)
-
-abbrev pub marks_under : State → ℕ → ℕ
-marks_under s n = count_by (is_mark_of n) (values s.marks.imports) + count_by (is_mark_of n) (values s.marks.paths)
+-- No two references are marked under one embargo.
+abbrev pub AreMarkedOnce : State → Type 0
+AreMarkedOnce s = (cap other : Cap) (n : ℕ) → mark_of s cap ≡ Some (Some n) → mark_of s other ≡ Some (Some n) → cap ≡ other
 
 abbrev pub HasWaiting : State → ℕ → Type 0
 HasWaiting s n = (ticket : ℕ) × (call : Held) × (get s.waiting.calls ticket ≡ Some call) × (call.gate ≡ gates.Embargo n)
@@ -226,6 +227,8 @@ pub record Local (s : State) : Type 0 where
   -- open promises are the application's or tied to one answer
   pub tied : (p : ℕ) → IsTiedRightly s p
   pub untied : (a : ℕ) → IfSome (get s.entries.answers a) HasNoTied
+  -- what the application made is there
+  pub owned : (p : ℕ) → set.contains s.entries.own_promises p ≡ true → is_some (get s.values.promises p) ≡ true
   -- exports are counted, each for one capability
   pub counts : AreCounts s.counts.exports
   pub imported : AreCounts s.counts.imports
@@ -234,6 +237,8 @@ pub record Local (s : State) : Type 0 where
   -- what is kept is there, and its way ends
   pub there : AllByRecursion (IsThere s) (all_caps s)
   pub ends : AllByRecursion (HasRoute s.values) (all_caps s)
+  -- an embargo leads to an object or a promise of this end
+  pub embargoed : (n : ℕ) → IfSome (get s.marks.embargoes n) (IsExportable s)
   -- nothing came to a question's path, and no call waits for a finished question
   pub no_paths : AllByRecursion (λ cap. is_pipelined cap ≡ false) (values_kept s)
   pub finished : (q : ℕ) → IfSome (get s.entries.questions q) (λ entry. IsLeft s q entry.stage)
@@ -242,7 +247,7 @@ pub record Local (s : State) : Type 0 where
   pub questions_valued : (q : ℕ) → QuestionIs (get s.entries.questions q) (get s.values.questions q)
   pub imports_valued : (i : ℕ) → is_some (get s.counts.imports i) ≡ is_some (get s.values.imports i)
   -- a mark and its embargo name each other, and somebody waits there; a marked path is of a question on the wire
-  pub import_marks : (i : ℕ) → IfSome (get s.marks.imports i) (λ embargo. IsTrue (is_some (get s.counts.imports i)) × IsEmbargoOf s (import_value (get s.values.imports i)) embargo)
+  pub import_marks : (i : ℕ) → IfSome (get s.marks.imports i) (IsImportMark s i)
   pub path_marks : (key : List ℕ) → IfSome (get s.marks.paths key) (IsPathMark s key)
-  pub one_mark : (n : ℕ) → marks_under s n < 2
+  pub one_mark : AreMarkedOnce s
   pub waited_for : (n : ℕ) → IfSome (get s.marks.embargoes n) (λ value. HasWaiting s n)

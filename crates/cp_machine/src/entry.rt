@@ -1,6 +1,7 @@
 //! What a vat keeps with the entries of its tables.
 
 use cp_refs::{Path, PromiseId};
+use std::alloc::AllocError;
 use std::marker::Model;
 
 /// The exports that a message's capability table names, as often as it names each. Contracts see
@@ -80,7 +81,7 @@ impl Model for TiedPromises {
 }
 
 impl TiedPromises {
-    ghost use Rattle.std.specs.Prelude.{◌≡◌};
+    ghost use Rattle.std.specs.Prelude.{◌≡◌, ◌∷◌, ◌++◌, [], OnOk, OnErr};
 
     /// These promises, in order.
     pub fn new(promises: Vec<Tied>) -> TiedPromises
@@ -94,6 +95,15 @@ impl TiedPromises {
         ensures { result.now ≡ self.now }
     {
         &self.promises
+    }
+
+    /// Ties one more.
+    pub fn push(&mut self, tied: Tied) -> Result<(), AllocError>
+        ensures pushed { OnOk result (self.new ≡ self.old ++ tied ∷ []) }
+        ensures err { OnErr result (self.new ≡ self.old) }
+    {
+        self.promises.push(tied)?;
+        Ok(())
     }
 }
 

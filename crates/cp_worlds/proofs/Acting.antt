@@ -24,10 +24,9 @@ use Rattle.cp_machine.specs.declared.event.Event.TheVariants as events
 use Rattle.cp_machine.specs.declared.event.Value.TheVariants as values
 use Rattle.cp_machine.specs.declared.fault.VatFault.{VatFault}
 use Rattle.cp_machine.specs.declared.fault.VatFault.TheVariants as refusals
+use Rattle.cp_machine.proofs.Basics.{ok_in, ok_out, then_out, unless_out, or_full_out}
 use Rattle.cp_worlds.specs.Numbers.{taken_again, taken_first, Changes, unchanged, changed, lowering, RulesChange}
 use Rattle.cp_worlds.specs.Numbers as numbers
-use Rattle.cp_worlds.proofs.Countings.{ok_in, ok_out}
-use Rattle.cp_worlds.proofs.Rules.{then_out, unless_out, or_full_out}
 use Rattle.cp_worlds.proofs.Changing.{To, settle_to, give_to, call_to}
 
 module _ (start : Counts) where

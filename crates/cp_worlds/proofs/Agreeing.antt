@@ -9,13 +9,14 @@ use Rattle.cp_rpc.specs.declared.message.Message.{Message}
 use Rattle.cp_rpc.specs.declared.message.Message.TheVariants as messages
 use Rattle.cp_machine.specs.Take.{times}
 use Rattle.cp_machine.specs.Give.{returned_mentions}
+use Rattle.cp_machine.proofs.Basics.{some_out, none_out, is_equal, is_itself, other_number}
 use Rattle.cp_worlds.specs.Ledger.{named_by, opens, finishes, given_up}
 use Rattle.cp_worlds.specs.Accounts.{Account, Accounts, new_account, is_finish_noted, is_given_up, taken_in, results_at, results_in, Lowerable, lowerable, lowered_by, lowerable_behind, is_releasing, asked, given_up_at, question_finished, question_behind, gone_by, given_at, answer_given, answer_behind, Sent, return_noted, question_returned, question_heard, finish_noted, answer_finished, Came}
 use Rattle.cp_worlds.specs.Owed.{named_on_way, lowered_on_way}
 use Rattle.cp_worlds.specs.Lives.{IsUsual, AreUsual, Standing, absent, ungiven, left_ungiven, given, mistaken, standing_at, standing_of, opened, finished, stands_behind, will_stand, return_of, returns_of, FitsOpen, FitsAt, Fits, LivesFit, AreOwed, Agree, Keeps}
 use Rattle.cp_worlds.proofs.Standings.{behind_by, will_append, stays_mistaken, never_fits, none_stays, finishing_leaves, Ways, ways}
-use Rattle.cp_worlds.proofs.LivesKept.{some_out, none_out, asking_fits, answering_fits, returning_fits, hearing_fits}
-use Rattle.cp_worlds.proofs.OnWay.{is_equal, is_itself, other_number, named_more, lists_after, lowered_more, Alike, lowered_alike, Apart, lowered_none, lowered_finishing, total, named_alike, named_up}
+use Rattle.cp_worlds.proofs.LivesKept.{asking_fits, answering_fits, returning_fits, hearing_fits}
+use Rattle.cp_worlds.proofs.OnWay.{named_more, lists_after, lowered_more, Alike, lowered_alike, Apart, lowered_none, lowered_finishing, total, named_alike, named_up}
 
 usual_more : (ms : List Message) (m : Message) → AreUsual ms → IsUsual m → AreUsual (ms ++ m ∷ [])
 usual_more [] m all one = (one, tt)

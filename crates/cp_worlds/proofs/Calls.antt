@@ -26,11 +26,10 @@ use Rattle.cp_machine.specs.Calling.{Reference, plain, on_wire, came_to, referen
 use Rattle.cp_machine.specs.declared.entry.QuestionEntry.{QuestionEntry}
 use Rattle.cp_machine.specs.declared.fault.PeerFault.TheVariants as faults
 use Rattle.cp_machine.specs.declared.fault.VatFault.{VatFault}
+use Rattle.cp_machine.proofs.Basics.{is_equal, ok_in, ok_out, then_out, unless_out, or_full_out, put_at}
 use Rattle.cp_worlds.specs.Accounts.{accounts_of, asked_account}
 use Rattle.cp_worlds.specs.Orderly.{IsOrderly, IsHeldAlone, Goes}
-use Rattle.cp_worlds.proofs.OnWay.{is_equal}
-use Rattle.cp_worlds.proofs.Countings.{ok_in, ok_out}
-use Rattle.cp_worlds.proofs.Rules.{then_out, unless_out, or_full_out, put_at, same_accounts}
+use Rattle.cp_worlds.proofs.Rules.{same_accounts}
 use Rattle.cp_worlds.proofs.Posted.{free_out}
 use Rattle.cp_worlds.proofs.Saying.{known_path}
 use Rattle.cp_worlds.proofs.Mailing.{sends_both, sends_none, sends_one}

@@ -48,10 +48,9 @@ use Rattle.cp_machine.specs.declared.entry.ImportKind.TheVariants as kinds
 use Rattle.cp_machine.specs.declared.entry.QuestionEntry.{QuestionEntry}
 use Rattle.cp_machine.specs.declared.fault.PeerFault.{PeerFault}
 use Rattle.cp_machine.specs.declared.fault.PeerFault.TheVariants as faults
+use Rattle.cp_machine.proofs.Basics.{ok_in, ok_out, then_out, unless_out}
 use Rattle.cp_worlds.specs.Lives.{IsUsual}
 use Rattle.cp_worlds.specs.Numbers.{taken_again, taken_first, Changes, unchanged, changed, lowering, RulesChange}
-use Rattle.cp_worlds.proofs.Countings.{ok_in, ok_out}
-use Rattle.cp_worlds.proofs.Rules.{then_out, unless_out}
 use Rattle.cp_worlds.proofs.Changing.{To, answer_to, own_to, go_to, goes_to, leave_to}
 use Rattle.cp_worlds.proofs.Acting.{does_to}
 

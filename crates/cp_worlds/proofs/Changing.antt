@@ -34,9 +34,8 @@ use Rattle.cp_machine.specs.declared.entry.Tied.{Tied}
 use Rattle.cp_machine.specs.declared.fault.PeerFault.{PeerFault}
 use Rattle.cp_machine.specs.declared.fault.PeerFault.TheVariants as faults
 use Rattle.cp_machine.specs.declared.fault.VatFault.{VatFault}
+use Rattle.cp_machine.proofs.Basics.{ok_in, ok_out, then_out, unless_out, or_full_out}
 use Rattle.cp_worlds.specs.Numbers.{named_again, named_first, Changes, changed}
-use Rattle.cp_worlds.proofs.Countings.{ok_in, ok_out}
-use Rattle.cp_worlds.proofs.Rules.{then_out, unless_out, or_full_out}
 
 module _ (start : Counts) where
   -- this was changed to what a state counts

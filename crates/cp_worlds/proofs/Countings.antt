@@ -1,8 +1,8 @@
 -- How exports and imports are counted.
-use Rattle.std.specs.Prelude.{◌≡◌, ◌≢◌, refl, ℕ, ◌+◌, ◌-◌, ◌≤◌, ◌==◌, ltb, if◌then◌else◌, Bool, true, false, List, [], ◌∷◌, Option, Some, None, is_none, Result, Ok, Err, is_ok, ◌⊎◌, ◌||◌}
+use Rattle.std.specs.Prelude.{◌≡◌, refl, ℕ, ◌+◌, ◌-◌, ◌≤◌, ◌==◌, ltb, if◌then◌else◌, Bool, true, false, List, [], ◌∷◌, Option, Some, None, is_none, Result, Ok, Err, ◌⊎◌}
 use Rattle.std.specs.List.{list_any}
 use Rattle.std.specs.FinMap.{get, insert, remove}
-use Rattle.std.proofs.Common.{inl, inr, arith, ap, sym, true≢false}
+use Rattle.std.proofs.Common.{inl, inr, arith, sym}
 use Rattle.std.proofs.lemmas.Bool.Decides.{nat_tests}
 use Rattle.cp_tables.specs.Table.{Table}
 use Rattle.cp_tables.specs.Counted.{new_counted, count_of}
@@ -15,13 +15,7 @@ use Rattle.cp_machine.specs.Say.{Raise, counted, counted_out, opened, has_no_roo
 use Rattle.cp_machine.specs.Room.{free}
 use Rattle.cp_machine.specs.declared.fault.PeerFault.{PeerFault}
 use Rattle.cp_machine.specs.declared.fault.PeerFault.TheVariants as faults
-use Rattle.cp_worlds.proofs.OnWay.{is_equal, is_itself}
-
-pub not_equal : (a b : ℕ) → (a == b) ≡ false → a ≢ b
-not_equal a b n e = absurd (contra e n)
-  where
-    contra : a ≡ b → (a == b) ≡ false → ⊥
-    contra e n = grind (arith, nat_tests)
+use Rattle.cp_machine.proofs.Basics.{not_equal, ok_out, ok_in, or_first, or_second, is_equal, is_itself}
 
 pub times_one : (f e : ℕ) (b : Bool) → (e == f) ≡ b → times f (e ∷ []) ≡ (if b then 1 else 0)
 times_one f e true t = rw (t) refl
@@ -126,14 +120,6 @@ fits_here table all part e f true t fit rest = inr (rw (← is_equal e f t) (gri
 fits_here table all part e f false t fit (inl none) = inl (omega (arith, none, times_more f e part, times_one f e false t))
 fits_here table all part e f false t fit (inr fits) = inr fits
 
-pub or_first : (b c : Bool) → (b || c) ≡ false → b ≡ false
-or_first true c h = h
-or_first false c h = refl
-
-pub or_second : (b c : Bool) → (b || c) ≡ false → c ≡ false
-or_second true c h = absurd (true≢false h)
-or_second false c h = h
-
 fits_of : (table : Table (Counted Cap)) (all part : List ℕ) (f : ℕ) → list_any (λ e. ltb (count_of table e) (times e all)) part ≡ false → FitsPart table all f part
 fits_of table all [] f h = inl refl
 fits_of table all (e ∷ part) f h =
@@ -145,16 +131,6 @@ fits_all table ids h f = elim (fits_of table ids ids f h) [
   | inl none ↦ omega (arith, none)
   | inr fits ↦ fits
 ]
-
-pub ok_out : {X F : Type 0} {fault : F} {Y : Type 0} {x : X} → Ok x ≡ Err fault → Y
-ok_out e = absurd (true≢false (ap is_ok e))
-
-abbrev ok_or_else : {X F : Type 0} → X → Result X F → X
-ok_or_else x (Ok y) = y
-ok_or_else x (Err fault) = x
-
-pub ok_in : {X F : Type 0} (x y : X) → ◌≡◌ {A = Result X F} (Ok x) (Ok y) → x ≡ y
-ok_in x y e = ap (ok_or_else x) e
 
 pub lower_counts : (table new : Table (Counted Cap)) (ids : List ℕ) → Ok new ≡ lower table ids → (f : ℕ) → count_of table f ≡ count_of new f + times f ids
 lower_counts table new ids is f = by (list_any (λ e. is_none (get table e)) ids) (list_any (λ e. ltb (count_of table e) (times e ids)) ids) refl is

@@ -5,6 +5,7 @@ use Rattle.cp_tables.specs.declared.exchange.Stage.{Stage}
 use Rattle.cp_tables.specs.declared.exchange.Stage.TheVariants as stages
 use Rattle.cp_rpc.specs.declared.message.Message.{Message}
 use Rattle.cp_rpc.specs.declared.message.Message.TheVariants as messages
+use Rattle.cp_machine.proofs.Basics.{is_itself}
 use Rattle.cp_worlds.specs.Ledger.{named_by}
 use Rattle.cp_worlds.specs.Accounts.{Account, Accounts, accounts_of, lowerable, lowered_by}
 use Rattle.cp_worlds.specs.Owed.{named_on_way, lowered_on_way}
@@ -12,7 +13,6 @@ use Rattle.cp_worlds.specs.World.{World, Side, at_first, at_second, across, end_
 use Rattle.cp_worlds.specs.Lives.{Standing, absent, mistaken, standing_at, standing_of, opened, finished, will_stand, returns_of, FitsAt, FitsNone, Fits, Agree, AreOwed}
 use Rattle.cp_worlds.specs.Expected.{HoldsAlways, LowersFit, HeldIsThere, HeldIsAll, stage_of, StagesMatch, IsNotReturned, IsAwaited, IsNotFinished, IsKept, IsExpected, NextIsExpected, AllIsExpected}
 use Rattle.cp_worlds.proofs.Standings.{behind_by, stays_mistaken, never_fits}
-use Rattle.cp_worlds.proofs.OnWay.{is_itself}
 use Rattle.cp_worlds.proofs.Wholly.{Holds, holds_of, agree_back}
 
 abbrev is_nothing : {A : Type 0} → List A → Bool

@@ -1,7 +1,6 @@
 -- A vat with other exports holds what it held.
-use Rattle.std.specs.Prelude.{◌≡◌, ℕ, false, List, [], ◌∷◌, ◌++◌, Option, Some, None, is_some, IfSome, IsTrue}
+use Rattle.std.specs.Prelude.{◌≡◌, ℕ, false, List, [], ◌∷◌, Option, Some, None, IfSome}
 use Rattle.std.specs.List.{AllByRecursion}
-use Rattle.std.specs.FinMap.{get}
 use Rattle.cp_tables.specs.Table.{Table}
 use Rattle.cp_tables.specs.declared.counted.Counted.{Counted}
 use Rattle.cp_tables.specs.declared.exchange.Exchange.{Exchange}
@@ -17,8 +16,9 @@ use Rattle.cp_refs.specs.declared.route.Gate.{Gate}
 use Rattle.cp_refs.specs.declared.route.Gate.TheVariants as gates
 use Rattle.cp_machine.specs.State.{State, with_exports}
 use Rattle.cp_machine.specs.InUse.{is_local_path}
-use Rattle.cp_machine.specs.Local.{IsTicketOf, IsWaiting, ForwardsRightly, IsExportable, IsThere, IsLeft, import_value, IsEmbargoOf, IsPathMark, IsUngivenAt}
+use Rattle.cp_machine.specs.Local.{IsTicketOf, IsWaiting, ForwardsRightly, IsExportable, IsThere, IsLeft, IsEmbargoOf, IsImportMark, IsPathMark, IsUngivenAt}
 use Rattle.cp_machine.specs.declared.entry.QuestionEntry.{QuestionEntry}
+use Rattle.cp_machine.proofs.Basics.{all_front, all_both}
 use Rattle.cp_worlds.specs.Keeping.{ExportsKeep}
 
 if_some : {X : Type 0} {P Q : X → Type 0} (o : Option X) → ((v : X) → P v → Q v) → IfSome o P → IfSome o Q
@@ -29,15 +29,6 @@ module _ {X : Type 0} {P Q : X → Type 0} where
   all_of : (xs : List X) → ((x : X) → P x → Q x) → AllByRecursion P xs → AllByRecursion Q xs
   all_of [] f h = tt
   all_of (x ∷ xs) f h = (f x h.0, all_of xs f h.1)
-
-module _ {X : Type 0} (P : X → Type 0) where
-  all_front : (xs ys : List X) → AllByRecursion P (xs ++ ys) → AllByRecursion P xs
-  all_front [] ys h = tt
-  all_front (x ∷ xs) ys h = (h.0, all_front xs ys h.1)
-
-  all_both : (xs ys : List X) → AllByRecursion P xs → AllByRecursion P ys → AllByRecursion P (xs ++ ys)
-  all_both [] ys h k = k
-  all_both (x ∷ xs) ys h k = (h.0, all_both xs ys h.1 k)
 
 module _ (old : State) (exports : Table (Counted Cap)) where
   abbrev new : State
@@ -88,9 +79,6 @@ module _ (old : State) (exports : Table (Counted Cap)) where
   embargo_same value None h = h
   embargo_same value (Some n) h = h
 
-  abbrev IsImportMark : State → ℕ → Option ℕ → Type 0
-  IsImportMark s i embargo = IsTrue (is_some (get s.counts.imports i)) × IsEmbargoOf s (import_value (get s.values.imports i)) embargo
-
   import_same : (i : ℕ) (embargo : Option ℕ) → IsImportMark old i embargo → IsImportMark new i embargo
   import_same i embargo h = (h.0, embargo_same _ embargo h.1)
 
@@ -118,12 +106,14 @@ exports_keep old exports h counted exportable one there ends =
       sendable = λ ticket. if_some _ (λ (call : Held). all_of call.request.caps (local_same old exports)) (h.sendable ticket);
       tied = h.tied;
       untied = h.untied;
+      owned = h.owned;
       counts = counted;
       imported = h.imported;
       exports = λ e. if_some _ (λ (entry : Counted Cap). exportable_same old exports entry.kept) (exportable e);
       one_export = one;
       there = all_of _ (there_same old exports) (all_both (IsThere old) _ _ (all_front (IsThere old) _ _ h.there) there);
       ends = all_both (HasRoute old.values) _ _ (all_front (HasRoute old.values) _ _ h.ends) ends;
+      embargoed = λ n. if_some _ (exportable_same old exports) (h.embargoed n);
       no_paths = h.no_paths;
       finished = λ q. if_some _ (λ (entry : Exchange QuestionEntry). left_same old exports q entry.stage) (h.finished q);
       answers_valued = h.answers_valued;

@@ -34,11 +34,8 @@ use Rattle.cp_machine.specs.InUse.{is_pipelined_of, is_at_question}
 use Rattle.cp_machine.specs.Waits.{Port, on, on_answer, LeadsBy, PortRoutes, WaitsBy, WaitsAt, WaitRightly}
 use Rattle.cp_machine.specs.declared.entry.AnswerEntry.{AnswerEntry}
 use Rattle.cp_machine.specs.declared.entry.QuestionEntry.{QuestionEntry}
+use Rattle.cp_machine.proofs.Basics.{some_out, none_out, is_equal, other_number, ok_in, then_out, put_at, gone_at}
 use Rattle.cp_worlds.specs.Turns.{AreOpen, IsNoPortOf, NobodyWaitsFor, IsOpenQuestion, IsUngiven}
-use Rattle.cp_worlds.proofs.LivesKept.{some_out, none_out}
-use Rattle.cp_worlds.proofs.OnWay.{is_equal, other_number}
-use Rattle.cp_worlds.proofs.Countings.{ok_in}
-use Rattle.cp_worlds.proofs.Rules.{then_out, put_at, gone_at}
 use Rattle.cp_worlds.proofs.Moving.{Moves, moved_rightly, Any, WayMoves, all_move, each_way, move_where, way_off, off_promise, off_question, NoOpenOver}
 use Rattle.cp_worlds.proofs.Settling.{same_back, MovesOn, both_on, tied_keeps}
 

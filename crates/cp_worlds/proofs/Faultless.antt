@@ -43,13 +43,13 @@ use Rattle.cp_machine.specs.declared.entry.ImportKind.{ImportKind}
 use Rattle.cp_machine.specs.declared.entry.QuestionEntry.{QuestionEntry}
 use Rattle.cp_machine.specs.declared.fault.PeerFault.{PeerFault}
 use Rattle.cp_machine.specs.declared.fault.PeerFault.TheVariants as faults
+use Rattle.cp_machine.proofs.Basics.{is_itself}
 use Rattle.cp_worlds.specs.Accounts.{Account, accounts_of, asked_account, kept_account, lowerable, results_in}
 use Rattle.cp_worlds.specs.Accounts as accounts
 use Rattle.cp_worlds.specs.World.{World, Side, end_of}
 use Rattle.cp_worlds.specs.Lives.{IsUsual}
 use Rattle.cp_worlds.specs.Expected.{HoldsAlways, IsAwaited, IsExpected}
 use Rattle.cp_worlds.specs.Spared.{IsOther, AreSpared}
-use Rattle.cp_worlds.proofs.OnWay.{is_itself}
 use Rattle.cp_worlds.proofs.Expecting.{NextAgrees, next_by, always_at}
 use Rattle.cp_worlds.proofs.Sparing.{IsSpared, ok_spared, err_spared, is_spared, unless_spared, then_spared, answer_spared, own_spared, target_spared, take_spared, take_all_spared}
 

@@ -26,12 +26,11 @@ use Rattle.cp_machine.specs.Give.{Returns, returned_mentions, given, gone, GiveB
 use Rattle.cp_machine.specs.Supported.{is_supported_returned}
 use Rattle.cp_machine.specs.declared.entry.AnswerEntry.{AnswerEntry}
 use Rattle.cp_machine.specs.declared.entry.QuestionEntry.{QuestionEntry}
+use Rattle.cp_machine.proofs.Basics.{is_equal, ok_in, then_out, put_at, gone_at}
 use Rattle.cp_worlds.specs.Accounts.{kept_account, answer_given}
 use Rattle.cp_worlds.specs.Lives.{is_settled_returned}
 use Rattle.cp_worlds.specs.Orderly.{IsHeldBack, NoneWaits, ArePlainExports, IsOrderly, IsHeldAlone, Goes}
-use Rattle.cp_worlds.proofs.OnWay.{is_equal}
-use Rattle.cp_worlds.proofs.Countings.{ok_in}
-use Rattle.cp_worlds.proofs.Rules.{then_out, put_at, gone_at, same_accounts}
+use Rattle.cp_worlds.proofs.Rules.{same_accounts}
 use Rattle.cp_worlds.proofs.Posted.{unsent_put, unsent_gone}
 use Rattle.cp_worlds.proofs.Saying.{said_all}
 use Rattle.cp_worlds.proofs.Mailing.{sends_both, sends_one}

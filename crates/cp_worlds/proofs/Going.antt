@@ -28,13 +28,12 @@ use Rattle.cp_machine.specs.declared.effect.Effect.TheVariants as effects
 use Rattle.cp_machine.specs.declared.entry.AnswerEntry.{AnswerEntry}
 use Rattle.cp_machine.specs.declared.entry.QuestionEntry.{QuestionEntry}
 use Rattle.cp_machine.specs.declared.fault.PeerFault.{PeerFault}
+use Rattle.cp_machine.proofs.Basics.{is_equal, ok_in, then_out, put_at}
 use Rattle.cp_worlds.specs.Accounts.{kept_account}
 use Rattle.cp_worlds.specs.World.{messages_sent}
 use Rattle.cp_worlds.specs.Posting.{IsUnsent}
 use Rattle.cp_worlds.specs.Orderly.{IsHeldBack, NoneWaits, ArePlainExports, IsOrderly, IsHeldAlone, Goes}
-use Rattle.cp_worlds.proofs.OnWay.{is_equal}
-use Rattle.cp_worlds.proofs.Countings.{ok_in}
-use Rattle.cp_worlds.proofs.Rules.{then_out, put_at, same_accounts}
+use Rattle.cp_worlds.proofs.Rules.{same_accounts}
 use Rattle.cp_worlds.proofs.Posted.{unsent_put, free_out}
 use Rattle.cp_worlds.proofs.Saying.{known_path, said_all}
 use Rattle.cp_worlds.proofs.Outgoing.{own_call_sent, peer_call_sent}

@@ -37,10 +37,9 @@ use Rattle.cp_machine.specs.Resolving.{OnRelease, echo_to, EchoesExport, EchoesA
 use Rattle.cp_machine.specs.declared.entry.AnswerEntry.{AnswerEntry}
 use Rattle.cp_machine.specs.declared.fault.PeerFault.{PeerFault}
 use Rattle.cp_machine.specs.declared.fault.PeerFault.TheVariants as faults
+use Rattle.cp_machine.proofs.Basics.{ok_in, ok_out, then_out, unless_out, put_at}
 use Rattle.cp_worlds.specs.Accounts.{accounts_of, kept_account, new_account}
 use Rattle.cp_worlds.specs.Orderly.{ArePlainExports, IsPlainExport, IsOrderly, IsHeldAlone, Goes, Heeds}
-use Rattle.cp_worlds.proofs.Countings.{ok_in, ok_out}
-use Rattle.cp_worlds.proofs.Rules.{then_out, unless_out, put_at}
 use Rattle.cp_worlds.proofs.Posted.{finish_heard, release_heard}
 use Rattle.cp_worlds.proofs.Mailing.{hears_both}
 use Rattle.cp_worlds.proofs.Plainly.{IsPlainTable, put_plain, gone_plain}

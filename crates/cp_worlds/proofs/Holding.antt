@@ -9,11 +9,9 @@ use Rattle.cp_tables.specs.declared.exchange.Stage.TheVariants as stages
 use Rattle.cp_refs.specs.declared.call.Held.{Held}
 use Rattle.cp_refs.specs.declared.call.Origin.TheVariants as origins
 use Rattle.cp_machine.specs.declared.entry.QuestionEntry.{QuestionEntry}
+use Rattle.cp_machine.proofs.Basics.{some_out, none_out, is_equal, is_itself, put_at, gone_at}
 use Rattle.cp_worlds.specs.Posting.{IsUngiven}
 use Rattle.cp_worlds.specs.Orderly.{IsHeldBack, NoneWaits, AreHeld}
-use Rattle.cp_worlds.proofs.LivesKept.{some_out, none_out}
-use Rattle.cp_worlds.proofs.OnWay.{is_equal, is_itself}
-use Rattle.cp_worlds.proofs.Rules.{put_at, gone_at}
 
 -- what is known of an entry that isn't held back
 abbrev pub IsNotHeldBack : Option (Exchange QuestionEntry) → Type 0

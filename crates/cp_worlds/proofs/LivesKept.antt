@@ -1,21 +1,15 @@
 -- Questions go on fitting their answers.
-use Rattle.std.specs.Prelude.{◌≡◌, refl, ℕ, ◌⊎◌, if◌then◌else◌, Bool, true, false, List, [], ◌∷◌, ◌++◌, Option, Some, None, is_none}
-use Rattle.std.specs.Option.{option_map_or}
-use Rattle.std.proofs.Common.{inl, inr, ap, true≢false}
+use Rattle.std.specs.Prelude.{◌≡◌, refl, ℕ, ◌⊎◌, if◌then◌else◌, Bool, true, false, List, [], ◌∷◌, ◌++◌, Option, Some, None}
+use Rattle.std.proofs.Common.{inl, inr}
 use Rattle.std.proofs.lemmas.List.{append-nil}
 use Rattle.cp_tables.specs.declared.exchange.Stage.{Stage}
 use Rattle.cp_tables.specs.declared.exchange.Stage.TheVariants as stages
 use Rattle.cp_rpc.specs.declared.message.Message.{Message}
+use Rattle.cp_machine.proofs.Basics.{some_out, none_out}
 use Rattle.cp_worlds.specs.Ledger.{named_by, opens, returns_to, finishes}
 use Rattle.cp_worlds.specs.Accounts.{Account, new_account, is_releasing, asked, given_up_at, question_finished, question_behind, gone_by, given_at, answer_given, answer_behind, question_returned, question_heard, return_noted, answer_finished, finish_noted, answer_heard}
 use Rattle.cp_worlds.specs.Lives.{Standing, absent, ungiven, left_ungiven, given, mistaken, standing_at, standing_of, opened, finished, stands_behind, will_stand, return_of, FitsOpen, FitsFinished, FitsReturned, FitsNone, FitsAt, Fits}
 use Rattle.cp_worlds.proofs.Standings.{behind_by, stays_mistaken, never_fits, none_stays, finishing_leaves, finishing_ends, Ways, ways, WaysLeft, ways_left}
-
-pub some_out : {X : Type 0} {a b : X} → Some a ≡ Some b → a ≡ b
-some_out {a = a} e = ap (λ o. option_map_or (λ x. x) o a) e
-
-pub none_out : {X Y : Type 0} {b : X} → None ≡ Some b → Y
-none_out e = absurd (true≢false (ap is_none e))
 
 -- a question is asked, and given up
 none_opens : (rs : List (List ℕ)) (W : Standing) → FitsNone rs W → FitsOpen rs (opened W)

@@ -20,8 +20,8 @@ use Rattle.cp_refs.specs.declared.values.QuestionKind.{QuestionKind}
 use Rattle.cp_refs.specs.declared.values.QuestionKind.TheVariants as kinds
 use Rattle.cp_machine.specs.State.{State, gave}
 use Rattle.cp_machine.specs.Waits.{Port, on, on_answer, LeadsBy, PortRoutes, WaitsBy, WaitsAt, WaitRightly}
+use Rattle.cp_machine.proofs.Basics.{some_out, none_out}
 use Rattle.cp_worlds.specs.Turns.{NoneLeadsToOver}
-use Rattle.cp_worlds.proofs.LivesKept.{some_out, none_out}
 
 -- Each capability's route moves to another, and what a gate gives by then is what a route to it moves to.
 pub record Moves (old mid : State) (move : Route → Route) : Type 0 where

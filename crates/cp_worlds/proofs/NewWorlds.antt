@@ -11,11 +11,11 @@ use Rattle.cp_machine.specs.State.{new_state}
 use Rattle.cp_machine.specs.declared.entry.AnswerEntry.{AnswerEntry}
 use Rattle.cp_machine.specs.declared.entry.ImportKind.{ImportKind}
 use Rattle.cp_machine.specs.declared.entry.QuestionEntry.{QuestionEntry}
+use Rattle.cp_machine.proofs.Basics.{none_out}
 use Rattle.cp_worlds.specs.Accounts.{accounts_of}
 use Rattle.cp_worlds.specs.World.{new_world}
 use Rattle.cp_worlds.specs.Lives.{LivesFit, AreOwed, AreAgreed}
 use Rattle.cp_worlds.specs.Orderly.{IsOrderly}
-use Rattle.cp_worlds.proofs.LivesKept.{none_out}
 
 lives_fit : (one other : Option ℕ) → LivesFit (accounts_of (new_state one)) [] (accounts_of (new_state other)) []
 lives_fit one other q = rw (get-empty {X = Exchange QuestionEntry} nat_cmp q, get-empty {X = Exchange AnswerEntry} nat_cmp q) tt

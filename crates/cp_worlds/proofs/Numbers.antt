@@ -14,14 +14,12 @@ use Rattle.cp_refs.specs.declared.cap.Cap.{Cap}
 use Rattle.cp_machine.specs.State.{State, Counts}
 use Rattle.cp_machine.specs.Take.{times, less_by, lowered_by, lowered, lower, released}
 use Rattle.cp_machine.specs.declared.fault.PeerFault.TheVariants as faults
+use Rattle.cp_machine.proofs.Basics.{some_out, none_out, is_equal, is_itself, ok_out, ok_in, put_at, gone_at}
 use Rattle.cp_worlds.specs.Accounts.{accounts_of, kept_account, results_in, lowerable}
 use Rattle.cp_worlds.specs.Accounts as accounts
 use Rattle.cp_worlds.specs.Lives.{IsUsual}
 use Rattle.cp_worlds.specs.Numbers.{Change, named_again, named_first, taken_again, taken_first, given_back, IsNumberOf, Changes, unchanged, changed, ChangesKeep, lowering}
-use Rattle.cp_worlds.proofs.LivesKept.{some_out, none_out}
-use Rattle.cp_worlds.proofs.OnWay.{is_equal, is_itself}
-use Rattle.cp_worlds.proofs.Countings.{times_more, times_one, one_of, less, fits_all, ok_out, ok_in, lower_counts, released_counts}
-use Rattle.cp_worlds.proofs.Rules.{put_at, gone_at}
+use Rattle.cp_worlds.proofs.Countings.{times_more, times_one, one_of, less, fits_all, lower_counts, released_counts}
 
 -- counts of exports and of imports
 abbrev pub AreBoth : Counts → Type 0

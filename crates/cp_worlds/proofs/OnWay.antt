@@ -1,25 +1,16 @@
 -- Sums over messages on the way.
 use Rattle.std.specs.Prelude.{◌≡◌, refl, ℕ, ◌+◌, ◌==◌, if◌then◌else◌, Bool, true, false, List, [], ◌∷◌, ◌++◌, Option}
 use Rattle.std.proofs.Common.{arith, sym, true≢false}
-use Rattle.std.proofs.lemmas.Bool.Decides.{nat_tests}
 use Rattle.cp_rpc.specs.declared.message.Message.{Message}
 use Rattle.cp_rpc.specs.declared.message.Message.TheVariants as messages
 use Rattle.cp_machine.specs.Take.{times}
 use Rattle.cp_machine.specs.Give.{returned_mentions}
+use Rattle.cp_machine.proofs.Basics.{is_equal}
 use Rattle.cp_worlds.specs.Ledger.{finishes}
 use Rattle.cp_worlds.specs.Accounts.{Account, is_given_up, taken_in, Lowerable, lowered_by, lowerable_behind, is_releasing}
 use Rattle.cp_worlds.specs.Owed.{named_on_way, lowered_on_way}
 use Rattle.cp_worlds.specs.Lives.{IsUsual, AreUsual, return_of, returns_of}
 use Rattle.cp_worlds.proofs.Standings.{NoneAbout, Finishing, now, later}
-
-pub is_equal : (a b : ℕ) → (a == b) ≡ true → a ≡ b
-is_equal a b e = grind (arith, nat_tests)
-
-pub is_itself : (a : ℕ) → (a == a) ≡ true
-is_itself a = grind (arith, nat_tests)
-
-pub other_number : (a b : ℕ) → (a == b) ≡ false → (b == a) ≡ false
-other_number a b n = grind (arith, nat_tests)
 
 -- one message more
 pub named_more : (Q : ℕ → Option Account) (ms : List Message) (m : Message) (i : ℕ)

@@ -26,13 +26,11 @@ use Rattle.cp_machine.specs.Go.{Underway, GoOut, call_of, forwarding, sent, fini
 use Rattle.cp_machine.specs.Room.{Fresh}
 use Rattle.cp_machine.specs.Supported.{is_supported_target, is_supported_descriptor}
 use Rattle.cp_machine.specs.declared.entry.QuestionEntry.{QuestionEntry}
+use Rattle.cp_machine.proofs.Basics.{is_equal, ok_in, then_out, put_at}
 use Rattle.cp_worlds.specs.Accounts.{Account, accounts_of, asked_account, taken_in, question_finished, question_returned, question_heard, Sent, Came}
 use Rattle.cp_worlds.specs.Accounts as accounts
 use Rattle.cp_worlds.specs.Lives.{IsUsual}
 use Rattle.cp_worlds.specs.Posting.{Sends, IsUnsent}
-use Rattle.cp_worlds.proofs.OnWay.{is_equal}
-use Rattle.cp_worlds.proofs.Countings.{ok_in}
-use Rattle.cp_worlds.proofs.Rules.{then_out, put_at}
 use Rattle.cp_worlds.proofs.Posted.{free_out}
 use Rattle.cp_worlds.proofs.Saying.{both_true, said_all}
 

@@ -28,10 +28,8 @@ use Rattle.cp_machine.specs.declared.event.Event.TheVariants as events
 use Rattle.cp_machine.specs.declared.event.Value.TheVariants as values
 use Rattle.cp_machine.specs.declared.fault.VatFault.{VatFault}
 use Rattle.cp_machine.specs.declared.fault.VatFault.TheVariants as refusals
+use Rattle.cp_machine.proofs.Basics.{some_out, ok_in, ok_out, then_out, unless_out, or_full_out, gone_at}
 use Rattle.cp_worlds.specs.Orderly.{IsPlainValue, ArePlainValues, IsOrderly, Goes}
-use Rattle.cp_worlds.proofs.LivesKept.{some_out}
-use Rattle.cp_worlds.proofs.Countings.{ok_in, ok_out}
-use Rattle.cp_worlds.proofs.Rules.{then_out, unless_out, or_full_out, gone_at}
 use Rattle.cp_worlds.proofs.Posted.{free_out, bootstraps, finishes_sent}
 use Rattle.cp_worlds.proofs.Releasing.{releases_sent}
 use Rattle.cp_worlds.proofs.Mailing.{sends_none}

@@ -21,11 +21,9 @@ use Rattle.cp_machine.specs.InUse.{is_pipelined, caps_of}
 use Rattle.cp_machine.specs.Say.{Raise, counted, counted_out, opened, has_no_room, SayEnd, Say, SayAll, end_by, end_within}
 use Rattle.cp_machine.specs.Room.{free}
 use Rattle.cp_machine.specs.declared.fault.PeerFault.{PeerFault}
+use Rattle.cp_machine.proofs.Basics.{some_out, none_out, ok_in, or_first, or_second, then_out, put_at, gone_at}
 use Rattle.cp_worlds.specs.Lives.{is_settled_descriptor}
 use Rattle.cp_worlds.specs.Orderly.{IsPlainValue, ArePlainValues, IsPlainExport, ArePlainExports}
-use Rattle.cp_worlds.proofs.LivesKept.{some_out, none_out}
-use Rattle.cp_worlds.proofs.Countings.{ok_in, or_first, or_second}
-use Rattle.cp_worlds.proofs.Rules.{then_out, put_at, gone_at}
 use Rattle.cp_worlds.proofs.Saying.{both_true, said_end}
 
 -- no capability of this table is a question's path

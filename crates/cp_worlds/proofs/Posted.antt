@@ -28,12 +28,12 @@ use Rattle.cp_machine.specs.declared.entry.AnswerEntry.{AnswerEntry}
 use Rattle.cp_machine.specs.declared.entry.QuestionEntry.{QuestionEntry}
 use Rattle.cp_machine.specs.declared.fault.VatFault.{VatFault}
 use Rattle.cp_machine.specs.declared.fault.VatFault.TheVariants as refusals
+use Rattle.cp_machine.proofs.Basics.{is_equal, ok_in, ok_out, then_out, unless_out, or_full_out, put_at, gone_at}
 use Rattle.cp_worlds.specs.Accounts.{Account, accounts_of, asked_account, kept_account, new_account, results_in, question_finished, answer_finished, Sent, Came}
 use Rattle.cp_worlds.specs.Accounts as accounts
 use Rattle.cp_worlds.specs.Posting.{Sends, Hears}
-use Rattle.cp_worlds.proofs.OnWay.{is_equal}
-use Rattle.cp_worlds.proofs.Countings.{ok_in, ok_out, lower_counts, released_counts}
-use Rattle.cp_worlds.proofs.Rules.{then_out, unless_out, or_full_out, put_at, gone_at, same_accounts}
+use Rattle.cp_worlds.proofs.Countings.{lower_counts, released_counts}
+use Rattle.cp_worlds.proofs.Rules.{same_accounts}
 
 -- a question is asked
 pub asked_step : (table : Table (Exchange QuestionEntry)) (q p : ℕ) (kept : QuestionEntry) (b : Bool) → (q == p) ≡ b → get table q ≡ None → kept.is_sent ≡ true

@@ -15,11 +15,10 @@ use Rattle.cp_machine.specs.declared.entry.ImportKind.{ImportKind}
 use Rattle.cp_machine.specs.declared.event.Value.TheVariants as values
 use Rattle.cp_machine.specs.declared.fault.VatFault.{VatFault}
 use Rattle.cp_machine.specs.declared.fault.VatFault.TheVariants as refusals
+use Rattle.cp_machine.proofs.Basics.{is_equal, ok_in, unless_out}
 use Rattle.cp_worlds.specs.Accounts.{accounts_of}
 use Rattle.cp_worlds.specs.Posting.{Sends}
-use Rattle.cp_worlds.proofs.OnWay.{is_equal}
-use Rattle.cp_worlds.proofs.Countings.{ok_in, gone_count}
-use Rattle.cp_worlds.proofs.Rules.{unless_out}
+use Rattle.cp_worlds.proofs.Countings.{gone_count}
 
 given_back : (table : Table (Counted ImportKind)) (i f : ℕ) (b : Bool) → (i == f) ≡ b
     → count_of table f ≡ count_of (remove table i) f + (if b then count_of table i else 0)

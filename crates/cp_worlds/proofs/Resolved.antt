@@ -23,10 +23,9 @@ use Rattle.cp_machine.specs.Give.{ResolvesEnd, Tells, settled, value_for, last_f
 use Rattle.cp_machine.specs.Resolving.{given_back}
 use Rattle.cp_machine.specs.Supported.{is_supported_descriptor, is_supported_resolution}
 use Rattle.cp_machine.specs.declared.entry.Tied.{Tied}
+use Rattle.cp_machine.proofs.Basics.{ok_in, then_out, put_at}
 use Rattle.cp_worlds.specs.Lives.{is_settled_resolution}
 use Rattle.cp_worlds.specs.Orderly.{IsPlainValue, ArePlainValues, ArePlainExports, IsOrderly, Goes}
-use Rattle.cp_worlds.proofs.Countings.{ok_in}
-use Rattle.cp_worlds.proofs.Rules.{then_out, put_at}
 use Rattle.cp_worlds.proofs.Saying.{times_append, first_true, said_end}
 use Rattle.cp_worlds.proofs.Mailing.{sends_both, sends_none, sends_one}
 use Rattle.cp_worlds.proofs.Plainly.{IsPlain, IsPlainTable, plain_at, plain_end, said_plain, said_settled}

@@ -26,14 +26,11 @@ use Rattle.cp_machine.specs.Asking.{TakeReturned, Settles, ReturnBy, is_asked, R
 use Rattle.cp_machine.specs.declared.effect.Effect.TheVariants as effects
 use Rattle.cp_machine.specs.declared.entry.QuestionEntry.{QuestionEntry}
 use Rattle.cp_machine.specs.declared.fault.PeerFault.TheVariants as faults
+use Rattle.cp_machine.proofs.Basics.{some_out, is_equal, ok_in, ok_out, then_out, put_at, gone_at}
 use Rattle.cp_worlds.specs.Accounts.{accounts_of, asked_account, question_finished, Came, question_returned}
 use Rattle.cp_worlds.specs.Lives.{IsUsual, is_settled_returned}
 use Rattle.cp_worlds.specs.Posting.{Hears}
 use Rattle.cp_worlds.specs.Orderly.{NoneWaits, IsOrderly, Heeds}
-use Rattle.cp_worlds.proofs.LivesKept.{some_out}
-use Rattle.cp_worlds.proofs.OnWay.{is_equal}
-use Rattle.cp_worlds.proofs.Countings.{ok_in, ok_out}
-use Rattle.cp_worlds.proofs.Rules.{then_out, put_at, gone_at}
 use Rattle.cp_worlds.proofs.Mailing.{hears_both}
 use Rattle.cp_worlds.proofs.Holding.{sent_not, none_waits, put_question, gone_question}
 use Rattle.cp_worlds.proofs.Plainly.{IsPlainTable}

@@ -12,8 +12,8 @@ use Rattle.cp_machine.specs.State.{State, with_exports}
 use Rattle.cp_machine.specs.Take.{times}
 use Rattle.cp_machine.specs.Say.{SayEnd, Say, SayAll, promised, mentioned_by, mentions_of}
 use Rattle.cp_machine.specs.Supported.{is_known_op, is_supported_descriptor}
-use Rattle.cp_worlds.proofs.Countings.{times_more, raised_as, ok_in}
-use Rattle.cp_worlds.proofs.Rules.{then_out}
+use Rattle.cp_machine.proofs.Basics.{ok_in, then_out}
+use Rattle.cp_worlds.proofs.Countings.{times_more, raised_as}
 
 pub times_append : (f : ℕ) (xs ys : List ℕ) → times f (xs ++ ys) ≡ times f xs + times f ys
 times_append f [] ys = omega arith

@@ -23,11 +23,8 @@ use Rattle.cp_machine.specs.Give.{ResolvesEnd, Tells, settled, value_for, Settle
 use Rattle.cp_machine.specs.Waits.{LeadsBy}
 use Rattle.cp_machine.specs.Local.{tied_to}
 use Rattle.cp_machine.specs.declared.entry.Tied.{Tied}
+use Rattle.cp_machine.proofs.Basics.{some_out, none_out, is_equal, other_number, ok_in, then_out, put_at}
 use Rattle.cp_worlds.specs.Turns.{AreOpen, SettlingKeeps}
-use Rattle.cp_worlds.proofs.LivesKept.{some_out, none_out}
-use Rattle.cp_worlds.proofs.OnWay.{is_equal, other_number}
-use Rattle.cp_worlds.proofs.Countings.{ok_in}
-use Rattle.cp_worlds.proofs.Rules.{then_out, put_at}
 use Rattle.cp_worlds.proofs.Saying.{said_end}
 use Rattle.cp_worlds.proofs.Moving.{Moves, moved_rightly, moves_both, same_moves, Any, WayMoves, all_move, each_way, move_where, EndsOff, way_off, off_promise, off_question, NoOpenOver, no_open, none_leads}
 

@@ -23,13 +23,14 @@ use Rattle.cp_machine.specs.declared.effect.Effect.{Effect}
 use Rattle.cp_machine.specs.declared.entry.ImportKind.{ImportKind}
 use Rattle.cp_machine.specs.declared.fault.PeerFault.{PeerFault}
 use Rattle.cp_machine.specs.declared.fault.PeerFault.TheVariants as faults
+use Rattle.cp_machine.proofs.Basics.{ok_in, then_out, unless_out}
 use Rattle.cp_worlds.specs.Accounts.{Accounts, accounts_of}
 use Rattle.cp_worlds.specs.World.{messages_sent}
 use Rattle.cp_worlds.specs.Lives.{IsUsual, AreUsual}
 use Rattle.cp_worlds.specs.Posting.{Posts}
 use Rattle.cp_worlds.specs.Orderly.{IsOrderly, Goes, Heeds, RulesPost}
-use Rattle.cp_worlds.proofs.Countings.{times_more, one_of, ok_in}
-use Rattle.cp_worlds.proofs.Rules.{then_out, unless_out, same_accounts}
+use Rattle.cp_worlds.proofs.Countings.{times_more, one_of}
+use Rattle.cp_worlds.proofs.Rules.{same_accounts}
 use Rattle.cp_worlds.proofs.Saying.{times_append}
 use Rattle.cp_worlds.proofs.Going.{go_goes, leave_goes}
 use Rattle.cp_worlds.proofs.Taking.{TakenIn, taken_none, take_in}

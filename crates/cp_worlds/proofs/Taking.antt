@@ -16,11 +16,11 @@ use Rattle.cp_machine.specs.Take.{times, held_import, held_once_more, answer_of,
 use Rattle.cp_machine.specs.declared.entry.ImportKind.{ImportKind}
 use Rattle.cp_machine.specs.declared.entry.ImportKind.TheVariants as kinds
 use Rattle.cp_machine.specs.declared.fault.PeerFault.TheVariants as faults
+use Rattle.cp_machine.proofs.Basics.{ok_in, ok_out, then_out}
 use Rattle.cp_worlds.specs.Accounts.{kept_account}
 use Rattle.cp_worlds.specs.Lives.{is_settled_descriptor}
 use Rattle.cp_worlds.specs.Orderly.{IsPlainExport, ArePlainValues, ArePlainExports}
-use Rattle.cp_worlds.proofs.Countings.{raised_one, opened_one, ok_in, ok_out}
-use Rattle.cp_worlds.proofs.Rules.{then_out}
+use Rattle.cp_worlds.proofs.Countings.{raised_one, opened_one}
 use Rattle.cp_worlds.proofs.Saying.{times_append, first_true, second_true}
 use Rattle.cp_worlds.proofs.Plainly.{IsPlain, IsPlainTable, plain_both}
 use Rattle.cp_worlds.proofs.Resolved.{values_put}

@@ -23,11 +23,8 @@ use Rattle.cp_machine.specs.Say.{SayAll, promised}
 use Rattle.cp_machine.specs.Go.{Underway, held_at, delivered, GoOut, Go, IsNext, without_call, underway}
 use Rattle.cp_machine.specs.Waits.{Port, on, on_answer, LeadsBy, PortRoutes, WaitsBy, WaitsAt, WaitRightly}
 use Rattle.cp_machine.specs.declared.effect.Effect.{Effect}
+use Rattle.cp_machine.proofs.Basics.{some_out, none_out, is_equal, ok_in, then_out, put_at, gone_at}
 use Rattle.cp_worlds.specs.Turns.{NoneLeadsToOver, MayGo, TurnKeeps}
-use Rattle.cp_worlds.proofs.LivesKept.{some_out, none_out}
-use Rattle.cp_worlds.proofs.OnWay.{is_equal}
-use Rattle.cp_worlds.proofs.Countings.{ok_in}
-use Rattle.cp_worlds.proofs.Rules.{then_out, put_at, gone_at}
 use Rattle.cp_worlds.proofs.Saying.{said_all}
 use Rattle.cp_worlds.proofs.Moving.{open_gate, no_open, none_leads}
 use Rattle.cp_worlds.proofs.Failing.{given_keeps, left_ungiven}

@@ -13,9 +13,8 @@ use Rattle.cp_machine.specs.State.{State}
 use Rattle.cp_machine.specs.InUse.{is_unsettled}
 use Rattle.cp_machine.specs.Local.{one_if, tied_to}
 use Rattle.cp_machine.specs.declared.entry.Tied.{Tied}
+use Rattle.cp_machine.proofs.Basics.{some_out, none_out, is_itself}
 use Rattle.cp_worlds.specs.Turns.{AreOpen, TiedAreOpen}
-use Rattle.cp_worlds.proofs.LivesKept.{some_out, none_out}
-use Rattle.cp_worlds.proofs.OnWay.{is_itself}
 use Rattle.cp_worlds.proofs.Settling.{one_more}
 
 -- one entry is within the sum of all

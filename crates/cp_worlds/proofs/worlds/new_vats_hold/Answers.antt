@@ -1,4 +1,5 @@
-use Rattle.cp_worlds.proofs.NewVats.{new_local, new_waiting, new_names, new_values, new_lanes, new_quiet, new_tickets}
+use Rattle.cp_machine.proofs.NewVats.{new_local}
+use Rattle.cp_worlds.proofs.NewVats.{new_waiting, new_names, new_values, new_lanes, new_quiet, new_tickets}
 use Rattle.cp_worlds.proofs.worlds.new_vats_hold.Goals as goal
 
 pub returns-clause-local : goal.returns-clause-local
