@@ -1,0 +1,5 @@
+use Rattle.cp_order.proofs.OrderTelling.{runs_are_in_order}
+use Rattle.cp_order.proofs.runs.runs_are_in_order.Goals as goal
+
+pub returns : goal.returns
+returns c = runs_are_in_order

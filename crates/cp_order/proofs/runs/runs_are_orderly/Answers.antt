@@ -1,0 +1,5 @@
+use Rattle.cp_order.proofs.OrderLaw.{runs_are_orderly}
+use Rattle.cp_order.proofs.runs.runs_are_orderly.Goals as goal
+
+pub returns : goal.returns
+returns c = runs_are_orderly
