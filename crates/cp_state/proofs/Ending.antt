@@ -1,5 +1,5 @@
 -- Gates that end: what each call of `Gates` keeps.
-use Rattle.std.proofs.Common.{◌≡◌, ◌≢◌, ◌⊎◌, ◌==◌, ◌||◌, ◌&&◌, not, List, [], ◌<◌, Bool, true, false, true≢false, is_some, IfSome, Option, ℕ, Some, None, inl, inr, refl, sym, ap, ◌∙◌, arith}
+use Rattle.std.proofs.Common.{◌≡◌, ◌≢◌, ◌⊎◌, ◌-◌, ◌==◌, ◌||◌, ◌&&◌, not, List, [], ◌<◌, Bool, true, false, true≢false, is_some, IfSome, Option, ℕ, Some, None, inl, inr, refl, sym, ap, ◌∙◌, arith}
 use Rattle.std.specs.Option.{option_map}
 use Rattle.std.proofs.lemmas.Bool.{cases_eq}
 use Rattle.std.proofs.lemmas.Bool.Decides.{nat_tests}
@@ -20,7 +20,7 @@ use Rattle.cp_tables.specs.Table.{Table}
 use Rattle.cp_state.specs.declared.gates.Gift.{Gift}
 use Rattle.cp_state.specs.declared.gates.Gift.TheVariants as gifts
 use Rattle.cp_state.specs.Overs.{gate_of, bare_gate, over_with, ended_at, AreOver, AreBelow, NoneOverIn, IsNextIn}
-use Rattle.cp_state.proofs.Indexing.{every}
+use Rattle.cp_state.proofs.Indexing.{every, if_some, not_some}
 
 -- they are one gate, at whatever paths
 abbrev same_key : Gate → Gate → Type 0
@@ -306,3 +306,10 @@ below-left calls next ticket below other =
       | inl same ↦ rw (same, get-remove_same calls ticket) tt
       | inr apart ↦ rw (get-remove_other calls ticket other apart) (below other)
     ]
+
+-- a ticket that no call has is taken back
+pub below-back : (calls : Table Held) (next : ℕ) → AreBelow calls next → 0 < next → get calls (next - 1) ≡ None → AreBelow calls (next - 1)
+below-back calls next below some free ticket = every _ (get calls ticket) (λ call there.
+    let given = if_some (λ _. ticket < next) (get calls ticket) call there (below ticket) in
+    let other : ticket ≢ next - 1 = λ same. not_some call (sym free ∙ ap (get calls) (sym same) ∙ there) in
+    omega (arith, given, some, other))

@@ -1,5 +1,7 @@
 -- The way from a capability to its export.
-use Rattle.std.proofs.Common.{◌≡◌, ◌≢◌, ◌⊎◌, ◌-◌, Bool, true, false, true≢false, IsSome, IfSome, Option, ℕ, ◌+◌, ◌<◌, ◌^◌, Result, Ok, Err, Some, None, IfOk, IsOk, IsOkAnd, inl, inr, refl, sym, ap, ◌∙◌, arith}
+use Rattle.std.proofs.Common.{◌≡◌, ◌≢◌, ◌⊎◌, ◌-◌, ◌==◌, ltb, cond, is_none, OnErr, Bool, true, false, true≢false, IsSome, IfSome, Option, ℕ, ◌+◌, ◌<◌, ◌^◌, Result, Ok, Err, Some, None, IfOk, IsOk, IsOkAnd, inl, inr, refl, sym, ap, ◌∙◌, arith}
+use Rattle.std.specs.Option.{option_map_or}
+use Rattle.std.proofs.lemmas.Bool.Decides.{nat_tests}
 use Rattle.std.proofs.lemmas.Bool.{cases_eq}
 use Rattle.std.specs.FinMap.{get, insert, remove, empty, get-empty}
 use Rattle.std.specs.Ordering.{nat_cmp}
@@ -7,13 +9,16 @@ use Rattle.cp_tables.specs.Table.{Table}
 use Rattle.cp_tables.specs.Counted.{new_counted, count_of, with_count}
 use Rattle.cp_tables.specs.declared.counted.Counted.{Counted}
 use Rattle.cp_tables.specs.declared.fault.TableFault.{TableFault}
-use Rattle.cp_tables.proofs.TableLemmas.{get-insert_same, get-insert_other, get-remove_same, get-remove_other}
+use Rattle.cp_tables.proofs.TableLemmas.{get-insert_same, get-insert_other, get-remove_same, get-remove_other, insert-same, is_insert}
 use Rattle.cp_refs.specs.declared.cap.Cap.{Cap}
 use Rattle.cp_refs.specs.declared.cap.Cap.TheVariants as caps
 use Rattle.cp_refs.proofs.Queueing.{put-back}
 use Rattle.cp_machine.specs.State.{State, with_exports}
+use Rattle.cp_machine.specs.Take.{less_by, lowered_by, released}
 use Rattle.cp_machine.specs.Say.{HasNoExport, Raise, counted, counted_out}
+use Rattle.cp_machine.specs.declared.fault.PeerFault.{PeerFault}
 use Rattle.cp_machine.specs.declared.fault.PeerFault.TheVariants as faults
+use Rattle.cp_state.specs.Halts.{leaving}
 use Rattle.cp_state.specs.Index.{number_of, with_number, without_number, cap_of, hosted_of, HasCap, AreIndexed}
 use Rattle.cp_state.specs.declared.exports.Hosted.{Hosted}
 use Rattle.cp_state.specs.declared.exports.Hosted.TheVariants as hosted
@@ -48,7 +53,7 @@ abbrev is_promise_cap : Cap → Bool
 is_promise_cap (caps.Promise p) = false
 is_promise_cap other = true
 
-not_some : {X : Type 0} (x : X) → ◌≡◌ {A = Option X} None (Some x) → ⊥
+pub not_some : {X : Type 0} (x : X) → ◌≡◌ {A = Option X} None (Some x) → ⊥
 not_some x e = true≢false (sym (ap is_there e))
   where
     is_there : {X : Type 0} → Option X → Bool
@@ -283,3 +288,44 @@ indexed-empty =
     none_of (caps.Import i) e is = not_some e is
     none_of (caps.Pipelined q path) e is = not_some e is
     none_of (caps.Broken x) e is = not_some e is
+
+insert-insert : {X : Type 0} (table : Table X) (id : ℕ) (x y : X) → insert (insert table id x) id y ≡ insert table id y
+insert-insert table id x y = is_insert table _ id y (get-insert_same (insert table id x) id y) (λ q other. get-insert_other (insert table id x) id q y other ∙ get-insert_other table id q x other)
+
+-- an export that was counted once more is as it was when that is taken back, and so is one that was opened
+pub counted_back : (table : Exports) (e count : ℕ) (c : Cap) → get table e ≡ Some (record { count = count; kept = c }) → 0 < count → lowered_by (insert table e (record { count = count + 1; kept = c })) e 1 ≡ table
+counted_back table e count c there some =
+    let more : Counted Cap = record { count = count + 1; kept = c } in
+    let here : get (insert table e more) e ≡ Some more = get-insert_same table e more in
+    let tested : (count + 1 == 1) ≡ false = grind (arith, nat_tests) in
+    let less : count + 1 - 1 ≡ count = omega arith in
+    ap (less_by (insert table e more) e 1) here
+    ∙ ap (λ b. cond b (remove (insert table e more) e) (insert (insert table e more) e (record { count = count + 1 - 1; kept = c }))) tested
+    ∙ ap (λ n. insert (insert table e more) e (record { count = n; kept = c })) less
+    ∙ insert-insert table e more (record { count = count; kept = c })
+    ∙ insert-same table e (record { count = count; kept = c }) there
+
+pub opened_back : (table : Exports) (e : ℕ) (c : Cap) → get table e ≡ None → lowered_by (insert table e (new_counted c)) e 1 ≡ table
+opened_back table e c none =
+    ap (less_by (insert table e (new_counted c)) e 1) (get-insert_same table e (new_counted c)) ∙ put-back table e (new_counted c) none
+
+-- a release of one lowers the export by one, also where there is none
+pub release_lowers : (old new : Exports) (e : ℕ) (r : Result (Unit {0}) PeerFault) → released old e 1 ≡ leaving r new → OnErr r (new ≡ old) → new ≡ lowered_by old e 1
+release_lowers old new e r is err = by (get old e) refl r is err
+  where
+    lowered_entry : (entry : Counted Cap) (b : Bool) → ltb entry.count 1 ≡ b → get old e ≡ Some entry → (r : Result (Unit {0}) PeerFault) → cond b (Err faults.ReleaseTooLarge) (Ok (less_by old e 1 (Some entry))) ≡ leaving r new → OnErr r (new ≡ old) → new ≡ less_by old e 1 (Some entry)
+    lowered_entry entry true small there (Ok x) is err = absurd (cc)
+    lowered_entry entry true small there (Err fault) is same =
+        let zero : entry.count ≡ 0 = grind (arith, nat_tests) in
+        let tested : (entry.count == 1) ≡ false = grind (arith, nat_tests) in
+        let alike : Some (record entry { count = entry.count - 1 }) ≡ Some entry = ap (λ n. Some (record entry { count = n - 1 })) zero ∙ sym (ap (λ n. Some (record entry { count = n })) zero) in
+        same ∙ sym (insert-same old e (record entry { count = entry.count - 1 }) (there ∙ sym alike))
+        ∙ sym (ap (λ b. cond b (remove old e) (insert old e (record entry { count = entry.count - 1 }))) tested)
+    lowered_entry entry false small there (Ok x) is err = sym (cc)
+    lowered_entry entry false small there (Err fault) is err = absurd (cc)
+
+    by : (o : Option (Counted Cap)) → get old e ≡ o → (r : Result (Unit {0}) PeerFault)
+        → cond (is_none o) (Err faults.UnknownExport) (cond (ltb (option_map_or (λ entry. entry.count) o 0) 1) (Err faults.ReleaseTooLarge) (Ok (less_by old e 1 o))) ≡ leaving r new → OnErr r (new ≡ old) → new ≡ lowered_by old e 1
+    by None there (Ok x) is err = absurd (cc)
+    by None there (Err fault) is same = same ∙ sym (ap (less_by old e 1) there)
+    by (Some entry) there r is err = lowered_entry entry (ltb entry.count 1) refl there r is err ∙ sym (ap (less_by old e 1) there)

@@ -33,10 +33,10 @@ first n (k ∷ p) = k
 tie_other : (k q : ℕ) (p r : List ℕ) → k ≢ q → is_eq (S (k ∷ p) (q ∷ r)) ≡ false
 tie_other k q p r other = false_unless _ (λ t. other (ap (first 0) (tied (k ∷ p) (q ∷ r) t)))
 
-number_ties : (k q : ℕ) → k ≡ q → eq_by_cmp nat_cmp k q ≡ true
+pub number_ties : (k q : ℕ) → k ≡ q → eq_by_cmp nat_cmp k q ≡ true
 number_ties k q h = grind (arith, nat_tests)
 
-number_differs : (k q : ℕ) → k ≢ q → eq_by_cmp nat_cmp k q ≡ false
+pub number_differs : (k q : ℕ) → k ≢ q → eq_by_cmp nat_cmp k q ≡ false
 number_differs k q h = grind (arith, nat_tests)
 
 -- ---- one question's marks, with those of others
@@ -62,11 +62,11 @@ abbrev pub at_path : Option Marked → List ℕ → Option (Option ℕ)
 at_path None p = None
 at_path (Some marks) p = get marks p
 
-left_true : (a b : Bool) → T (a && b) → T a
+pub left_true : (a b : Bool) → T (a && b) → T a
 left_true true b h = tt
 left_true false b h = h
 
-right_true : (a b : Bool) → T (a && b) → T b
+pub right_true : (a b : Bool) → T (a && b) → T b
 right_true true b h = h
 right_true false b h = absurd h
 
@@ -75,7 +75,7 @@ below_differs Less h = refl
 below_differs Equal h = absurd h
 below_differs Greater h = refl
 
-find-below : (q : ℕ) (es : List (ℕ × Marked)) → T (below_all nat_cmp q es) → find nat_cmp q es ≡ None
+pub find-below : {X : Type 0} (q : ℕ) (es : List (ℕ × X)) → T (below_all nat_cmp q es) → find nat_cmp q es ≡ None
 find-below q [] h = refl
 find-below q (e ∷ es) h =
     ap (λ b. cond b (Some e.1) (find nat_cmp q es)) (below_differs (nat_cmp q e.0) (left_true _ _ h)) ∙ find-below q es (right_true (is_lt (nat_cmp q e.0)) _ h)

@@ -119,6 +119,14 @@ new_mark : (b : Bool) (o : Option (Option ℕ)) (m : ℕ) → cond b (Some None)
 new_mark true o m h = absurd (no_mark None m refl (ap (λ o. value_in o) h))
 new_mark false o m h = h
 
+left_mark : (b : Bool) (o : Option (Option ℕ)) (m : ℕ) → cond b None o ≡ Some (Some m) → o ≡ Some (Some m)
+left_mark true o m h = absurd (no_mark None (Some m) refl h)
+left_mark false o m h = h
+
+none_left : (b : Bool) (o : Option (Option ℕ)) → o ≡ None → cond b None o ≡ None
+none_left true o h = refl
+none_left false o h = h
+
 pub under-empty : AreUnder empty empty empty empty
 under-empty =
     record {
@@ -207,6 +215,16 @@ module _ (imports : Table (Option ℕ)) (paths : Marked) (embargoes : Table Cap)
         paths_led =
             λ k r n h. are.paths_led k r n (new_mark (eq_by_cmp (slice_cmp nat_cmp) (k ∷ r) (q ∷ p)) (get paths (k ∷ r)) n (sym (get-insert nat_list_cmp_total paths (q ∷ p) None (k ∷ r)) ∙ h));
         paths_named = get-insert nat_list_cmp_total paths (q ∷ p) None [] ∙ are.paths_named;
+        open_led = are.open_led;
+      }
+
+  -- a path's mark goes
+  pub under-path-gone : (key : List ℕ) → AreUnder imports (remove paths key) embargoes back
+  under-path-gone key =
+      record {
+        imports_led = are.imports_led;
+        paths_led = λ k r n h. are.paths_led k r n (left_mark (eq_by_cmp (slice_cmp nat_cmp) (k ∷ r) key) (get paths (k ∷ r)) n (sym (get-remove nat_list_cmp_total paths key (k ∷ r)) ∙ h));
+        paths_named = get-remove nat_list_cmp_total paths key [] ∙ none_left (eq_by_cmp (slice_cmp nat_cmp) [] key) (get paths []) are.paths_named;
         open_led = are.open_led;
       }
 
@@ -316,3 +334,33 @@ marked-import marks reference i told is = ap (λ c. is_some (mark_of (with_marks
 
 pub marked-path : (marks : Marks) (reference : Cap) (q : ℕ) (p : List ℕ) → ((s : State) → IsSome (mark_of (with_marks s marks) reference)) → reference ≡ caps.Pipelined q p → IsSome (get marks.paths (q ∷ p))
 marked-path marks reference q p told is = ap (λ c. is_some (mark_of (with_marks (new_state None) marks) c)) (sym is) ∙ told (new_state None)
+
+-- nothing is there where no mark is
+pub none_marked : (o : Option (Option ℕ)) (r : Option (Option ℕ)) (b : Bool) → r ≡ o → b ≡ is_some r → b ≡ false → o ≡ None
+none_marked o r b is test none = is_none_there o (ap is_some (sym is) ∙ sym test ∙ none)
+
+pub some_marked : (o : Option (Option ℕ)) (r : Option (Option ℕ)) (b : Bool) → r ≡ o → b ≡ is_some r → b ≡ true → IsSome o
+some_marked o r b is test some = ap is_some (sym is) ∙ sym test ∙ some
+
+-- ---- a mark that is taken back
+equal_by : (r : Ordering) → is_eq r ≡ true → r ≡ Equal
+equal_by Ordering.Less t = absurd (true≢false (sym t))
+equal_by Ordering.Equal t = refl
+equal_by Ordering.Greater t = absurd (true≢false (sym t))
+
+module _ {X : Type 0} {R : X → X → Ordering} (total : IsTotalOrder R) (anti : IsAntisymmetric R) {Y : Type 0} (marks : FinMap R Y) where
+  -- to take out what isn't there changes nothing
+  pub gone-none : (key : X) → get marks key ≡ None → remove marks key ≡ marks
+  gone-none key none = same_map total anti _ _ (λ q. get-remove total marks key q ∙ at q (eq_by_cmp R q key) refl)
+    where
+      at : (q : X) (b : Bool) → eq_by_cmp R q key ≡ b → cond b None (get marks q) ≡ get marks q
+      at q true tie = sym (ap (get marks) (anti q key (equal_by (R q key) tie)) ∙ none)
+      at q false tie = refl
+
+  -- so what is put and taken out again
+  pub put-gone : (key : X) (y : Y) → get marks key ≡ None → remove (insert marks key y) key ≡ marks
+  put-gone key y none = same_map total anti _ _ (λ q. get-remove total (insert marks key y) key q ∙ at q (eq_by_cmp R q key) refl)
+    where
+      at : (q : X) (b : Bool) → eq_by_cmp R q key ≡ b → cond b None (get (insert marks key y) q) ≡ get marks q
+      at q true tie = sym (ap (get marks) (anti q key (equal_by (R q key) tie)) ∙ none)
+      at q false tie = get-insert total marks key y q ∙ ap (λ b. cond b (Some y) (get marks q)) tie

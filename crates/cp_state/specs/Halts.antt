@@ -9,6 +9,8 @@ use Rattle.cp_machine.specs.declared.event.Value.{Value}
 use Rattle.cp_machine.specs.declared.effect.Effect.{Effect}
 use Rattle.cp_machine.specs.declared.fault.PeerFault.{PeerFault}
 use Rattle.cp_machine.specs.declared.fault.PeerFault.TheVariants as faults
+use Rattle.cp_machine.specs.declared.fault.VatFault.{VatFault}
+use Rattle.cp_machine.specs.declared.fault.VatFault.TheVariants as refusals
 use Rattle.cp_state.specs.declared.halt.Halt.{Halt}
 use Rattle.cp_state.specs.declared.halt.Halt.TheVariants as halts
 
@@ -19,6 +21,11 @@ halt_of table_faults.Unknown = halts.Fault faults.UnknownExport
 halt_of table_faults.TooMany = halts.Fault faults.ReleaseTooLarge
 halt_of table_faults.Full = halts.Fault faults.TableFull
 halt_of table_faults.OutOfMemory = halts.OutOfMemory
+
+-- what a call of the application is refused for by a rule's fault
+abbrev pub refusal_of : Halt → VatFault
+refusal_of (halts.Fault fault) = refusals.Full
+refusal_of halts.OutOfMemory = refusals.OutOfMemory
 
 -- what was done, or the fault that was met, is what the rule says; where memory ran out anything is
 abbrev pub Meets : {A : Type 0} → (Result A PeerFault → Type 0) → Result A Halt → Type 0
@@ -54,6 +61,12 @@ abbrev pub Owns : {A : Type 0} → (Result OwnDone PeerFault → Type 0) → (A 
 Owns Rule value old (Ok x) before after new = (first : List Effect) × (after ≡ before ++ first) × Rule (Ok (value x, first, new))
 Owns Rule value old (Err (halts.Fault fault)) before after new = Rule (Err fault) × (new ≡ old)
 Owns Rule value old (Err halts.OutOfMemory) before after new = Unit {0}
+
+-- where a fault was met this holds
+abbrev pub IfFault : {A : Type 0} → Result A Halt → Type 0 → Type 0
+IfFault (Ok x) Holds = Unit {0}
+IfFault (Err (halts.Fault fault)) Holds = Holds
+IfFault (Err halts.OutOfMemory) Holds = Unit {0}
 
 -- nothing but want of memory stops it
 abbrev pub OnlyWant : {A : Type 0} → Result A Halt → Type 0

@@ -8,4 +8,5 @@ pub mod Joined
 pub mod Under
 pub mod Marking
 pub mod MarksCode
+pub mod Sought
 pub mod StateOf

@@ -3,6 +3,7 @@ use Rattle.std.specs.Prelude.{◌≡◌, ◌∷◌, ℕ, List, [], not, Option, 
 use Rattle.std.specs.FinMap.{get, insert, remove, retain_keys}
 use Rattle.cp_tables.specs.Table.{Table}
 use Rattle.cp_refs.specs.declared.cap.Cap.{Cap}
+use Rattle.cp_refs.specs.declared.cap.Cap.TheVariants as caps
 use Rattle.cp_machine.specs.State.{State, Marks}
 use Rattle.cp_machine.specs.Resolving.{is_under}
 use Rattle.cp_state.specs.Paths.{Marked}
@@ -16,6 +17,12 @@ with_marks s marks = record s { marks = marks }
 -- the marks with one more embargo, and what it leads to
 abbrev pub with_embargo : Marks → ℕ → Cap → Marks
 with_embargo marks n value = record marks { embargoes = insert marks.embargoes n value }
+
+-- the marks without that of a reference
+abbrev pub without_mark : Marks → Cap → Marks
+without_mark marks (caps.Import i) = record marks { imports = remove marks.imports i }
+without_mark marks (caps.Pipelined q path) = record marks { paths = remove marks.paths (q ∷ path) }
+without_mark marks other = marks
 
 -- the marks without an embargo: the references under it aren't marked any more
 abbrev pub without_embargo : Marks → ℕ → Marks

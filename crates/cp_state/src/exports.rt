@@ -1,13 +1,12 @@
 //! The exports, with the way from a capability to its export.
 
-ghost use Rattle.std.specs.Prelude.{◌≡◌, Some, None, OnOk, MatchOption, option_copied};
+ghost use Rattle.std.specs.Prelude.{◌≡◌, Some, None, IfOk, OnOk, OnErr, MatchOption, option_copied};
 ghost use Rattle.std.specs.FinMap as map;
 
-use crate::entries::Entries;
 use crate::halt::Halt;
 use cp_machine::PeerFault;
 use cp_refs::{Cap, PromiseId};
-use cp_tables::{Counted, Exports, LIMIT};
+use cp_tables::{Counted, Entries, Exports, LIMIT};
 use std::alloc::{AllocError, Global};
 use std::marker::Model;
 
@@ -77,8 +76,8 @@ impl Exported {
     ghost use Rattle.std.specs.FinMap as map;
     ghost use Rattle.cp_machine.specs.State.{State, with_exports};
     ghost use Rattle.cp_machine.specs.Say.{Raise, HasNoExport, IsExport};
-    ghost use Rattle.cp_machine.specs.Take.{released};
-    ghost use Rattle.cp_state.specs.Halts.{Leaves, leaving};
+    ghost use Rattle.cp_machine.specs.Take.{lowered_by, released};
+    ghost use Rattle.cp_state.specs.Halts.{IfFault, Leaves, leaving};
     ghost use Rattle.cp_state.specs.Index.{cap_of};
 
     /// No exports.
@@ -110,7 +109,9 @@ impl Exported {
 
     /// Counts a capability's export once more, or opens one for it under a free number.
     pub fn raise(&mut self, hosted: Hosted) -> Result<u32, Halt>
-        ensures { (s : State) → Leaves (Raise (with_exports s self.old) (cap_of hosted)) result (with_exports s self.new) }
+        ensures raised { (s : State) → Leaves (Raise (with_exports s self.old) (cap_of hosted)) result (with_exports s self.new) }
+        ensures back { IfOk result (λ id. lowered_by self.new id 1 ≡ self.old) }
+        ensures unchanged { IfFault result (self.new ≡ self.old) }
     {
         if let Some(id) = self.index.number(hosted) {
             let Some(export) = self.exports.get(id) else {
@@ -133,9 +134,17 @@ impl Exported {
         Ok(id)
     }
 
+    /// Takes back what was raised last: it leaves the exports as they were before.
+    pub fn take_back(&mut self, id: u32)
+        ensures { self.new ≡ lowered_by self.old id 1 }
+    {
+        let _ = self.release(id, 1);
+    }
+
     /// Counts an export so many times less. At 0 it is gone.
     pub fn release(&mut self, id: u32, n: u32) -> Result<(), PeerFault>
-        ensures { released self.old id n ≡ leaving result self.new }
+        ensures released { released self.old id n ≡ leaving result self.new }
+        ensures err { OnErr result (self.new ≡ self.old) }
     {
         let Some(export) = self.exports.get(id) else {
             return Err(PeerFault::UnknownExport);

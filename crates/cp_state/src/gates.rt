@@ -7,9 +7,10 @@ ghost use Rattle.cp_refs.specs.At.{cap_at};
 ghost use Rattle.cp_machine.specs.State.{gave, none_over};
 ghost use Rattle.cp_state.specs.Overs.{over_of, gate_of, bare_gate, over_with, NoneOverIn, IsNextIn};
 
-use crate::entries::Entries;
 use cp_refs::{Cap, Gate, Held, Outcome, Path, PromiseId, Waiting, at};
+use cp_tables::Entries;
 use std::alloc::{AllocError, Global};
+use std::collections::btree_map::Iter;
 use std::marker::Model;
 
 /// What ends a gate, with what the gate gives.
@@ -94,11 +95,25 @@ impl Gates {
         self.calls.get(ticket)
     }
 
+    /// The calls with their tickets, rising.
+    pub fn calls(&self) -> Iter<'_, u64, Held>
+        ensures { result ≡ map.entries self.now.waiting.calls }
+    {
+        self.calls.calls()
+    }
+
     /// Whether there is a ticket for one more call.
     pub fn has_ticket(&self) -> bool
         ensures { result ≡ ltb self.now.next_ticket (2 ^ 64 - 1) }
     {
         self.next_ticket < u64::MAX
+    }
+
+    /// The ticket of the call that comes next.
+    pub fn next_ticket(&self) -> u64
+        ensures { result ≡ self.now.next_ticket }
+    {
+        self.next_ticket
     }
 
     /// The ticket of a call that comes now. No call that waits has it.
@@ -111,6 +126,15 @@ impl Gates {
         let ticket = self.next_ticket;
         self.next_ticket += 1;
         ticket
+    }
+
+    /// Takes the ticket that was given last back. No call that waits has it.
+    pub fn take_back(&mut self)
+        requires given { 0 < self.old.next_ticket }
+        requires free { map.get self.old.waiting.calls (self.old.next_ticket - 1) ≡ None }
+        ensures { self.new ≡ record self.old { next_ticket = self.old.next_ticket - 1 } }
+    {
+        self.next_ticket -= 1;
     }
 
     /// Takes in a call, whose ticket was given and no other one has.

@@ -1,6 +1,6 @@
 //! Why a part of an event wasn't done to its end.
 
-use cp_machine::PeerFault;
+use cp_machine::{PeerFault, VatFault};
 use cp_tables::TableFault;
 use std::alloc::{AllocError, AllocFailed};
 
@@ -48,6 +48,21 @@ impl From<TableFault> for Halt {
             TableFault::TooMany => Halt::Fault(PeerFault::ReleaseTooLarge),
             TableFault::Full => Halt::Fault(PeerFault::TableFull),
             TableFault::OutOfMemory => Halt::OutOfMemory,
+        }
+    }
+}
+
+/// A full table refuses a call of the application.
+impl From<Halt> for VatFault {
+    ghost use Rattle.std.specs.Prelude.{◌≡◌};
+    ghost use Rattle.cp_state.specs.Halts.{refusal_of};
+
+    ghost from_gives = { λ halt fault. fault ≡ refusal_of halt };
+
+    fn from(halt: Halt) -> VatFault {
+        match halt {
+            Halt::Fault(_) => VatFault::Full,
+            Halt::OutOfMemory => VatFault::OutOfMemory,
         }
     }
 }

@@ -3,10 +3,10 @@
 //! its own invariant, and `Core` is all of them.
 #![tactic(auto)]
 
-mod entries;
 mod exports;
 mod gates;
 mod halt;
+mod in_use;
 mod marks;
 mod own_promises;
 mod parts;
@@ -14,7 +14,6 @@ mod path_marks;
 mod paths;
 mod values;
 
-pub use entries::Entries;
 pub use exports::{Exported, Hosted};
 pub use gates::{Gates, Gift, Next};
 pub use halt::Halt;

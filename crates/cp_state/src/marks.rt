@@ -5,12 +5,12 @@ ghost use Rattle.std.specs.FinMap as map;
 ghost use Rattle.cp_machine.specs.Resolving.{is_under};
 ghost use Rattle.cp_state.specs.Under.{unmarked};
 
-use crate::entries::Entries;
 use crate::halt::Halt;
 use crate::path_marks::PathMarks;
 use cp_machine::PeerFault;
 use cp_refs::{Cap, Path};
-use cp_tables::{Embargoes, LIMIT};
+use cp_tables::{Embargoes, Entries, LIMIT};
+use slab::Iter;
 use std::alloc::Global;
 use std::marker::Model;
 
@@ -48,8 +48,8 @@ impl Marks {
     ghost use Rattle.cp_machine.specs.Room.{Fresh};
     ghost use Rattle.cp_machine.specs.Give.{is_path_of};
     ghost use Rattle.cp_machine.specs.Calling.{mark_of, with_mark, marked};
-    ghost use Rattle.cp_state.specs.Halts.{Meets, Becomes};
-    ghost use Rattle.cp_state.specs.Marking.{with_marks, with_embargo, without_embargo};
+    ghost use Rattle.cp_state.specs.Halts.{Meets, Becomes, IfFault};
+    ghost use Rattle.cp_state.specs.Marking.{with_marks, with_embargo, without_embargo, without_mark};
 
     /// No marks and no embargoes.
     pub fn new(alloc: Global) -> Marks
@@ -71,6 +71,13 @@ impl Marks {
         self.embargoes.get(id)
     }
 
+    /// What the embargoes lead to, with their numbers, rising.
+    pub fn embargoes(&self) -> Iter<'_, Cap>
+        ensures { result ≡ map.entries self.now.embargoes }
+    {
+        self.embargoes.iter()
+    }
+
     /// The mark of a reference, with its embargo once one was asked for.
     pub fn mark(&self, reference: &Cap) -> Option<Option<u32>>
         ensures { (s : State) → result ≡ mark_of (with_marks s self.now) reference.now }
@@ -84,7 +91,8 @@ impl Marks {
 
     /// Marks a reference, unless it is marked.
     pub fn put_mark(&mut self, reference: &Cap) -> Result<(), Halt>
-        ensures { (s : State) → Becomes (marked (with_marks s self.old) reference.now (mark_of (with_marks s self.old) reference.now)) result (with_marks s self.new) }
+        ensures marked { (s : State) → Becomes (marked (with_marks s self.old) reference.now (mark_of (with_marks s self.old) reference.now)) result (with_marks s self.new) }
+        ensures unchanged { IfFault result (self.new ≡ self.old) }
     {
         if self.mark(reference).is_some() {
             return Ok(());
@@ -101,11 +109,27 @@ impl Marks {
         }
     }
 
+    /// Takes the mark of a reference out.
+    pub fn remove_mark(&mut self, reference: &Cap)
+        ensures { self.new ≡ without_mark self.old reference.now }
+    {
+        match reference {
+            Cap::Import(id) => drop(self.imports.remove(*id)),
+            Cap::Pipelined(question, path) => {
+                if self.paths.get(*question, path.fields()).is_some() {
+                    self.paths.remove(*question, path.fields());
+                }
+            }
+            Cap::None | Cap::Object(_) | Cap::Promise(_) | Cap::Broken(_) => {}
+        }
+    }
+
     /// Opens an embargo under a free number, for a reference that is marked. It leads to `value`.
     pub fn open_embargo(&mut self, reference: &Cap, value: Cap) -> Result<u32, Halt>
         requires { (s : State) → IsSome (mark_of (with_marks s self.old) reference.now) }
         ensures fresh { Meets (Fresh self.old.embargoes) result }
         ensures opened { IfOk result (λ n. (s : State) → with_marks s self.new ≡ with_mark (with_marks s (with_embargo self.old n value)) reference.now (Some n)) }
+        ensures unchanged { IfFault result (self.new ≡ self.old) }
     {
         if self.embargoes.len() == LIMIT {
             return Err(Halt::Fault(PeerFault::TableFull));

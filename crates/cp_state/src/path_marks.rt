@@ -3,8 +3,8 @@
 ghost use Rattle.std.specs.Prelude.{◌≡◌, ◌∷◌, ◌<◌, Some, None, IsSome, OnOk, OnErr};
 ghost use Rattle.std.specs.FinMap as map;
 
-use crate::entries::Entries;
 use crate::paths::Paths;
+use cp_tables::Entries;
 use std::alloc::{AllocError, Global};
 use std::marker::Model;
 

@@ -79,6 +79,17 @@ impl NumberedValues {
         self.values.put_promise(id, Some(value))
     }
 
+    /// Opens a promise again that was settled, if it is there.
+    pub fn reopen_promise(&mut self, id: PromiseId) -> Result<(), AllocError>
+        ensures put { OnOk result (self.new ≡ record self.old { promises = with_change self.old.promises id (λ _. None) }) }
+        ensures err { OnErr result (self.new ≡ self.old) }
+    {
+        let Some(_) = self.values.promise(id) else {
+            return Ok(());
+        };
+        self.values.put_promise(id, None)
+    }
+
     /// Takes a promise out, whose number is free again.
     pub fn remove_promise(&mut self, id: PromiseId)
         ensures { self.new ≡ record self.old { promises = map.remove self.old.promises id } }

@@ -2,4 +2,10 @@
 #![tactic(auto)]
 
 #[cfg(test)]
+mod in_use;
+#[cfg(test)]
+mod marks;
+#[cfg(test)]
 mod tests;
+#[cfg(test)]
+mod values;

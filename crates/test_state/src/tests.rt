@@ -22,6 +22,8 @@ fn exports_are_found_by_capability(rt: HostRuntime) {
     let promise = Hosted::Promise(9);
     assert!(rt; exports.number(object).is_none());
     let first = exports.raise(object).expect(&rt, "an export");
+    let export = exports.get(first).expect(&rt, "an export");
+    assert!(rt; export.count == 1 && Hosted::of(&export.kept) == Some(object));
     assert!(rt; exports.raise(object) == Ok(first));
     let second = exports.raise(promise).expect(&rt, "an export");
     assert!(rt; exports.number(object) == Some(first));
@@ -49,6 +51,7 @@ fn calls_leave_by_ticket(rt: HostRuntime) {
         };
         gates.hold(held).expect(&rt, "memory");
     }
+    assert!(rt; gates.calls().count() == 3);
     gates
         .end(Gift::Promise(5, Cap::Object(3)))
         .expect(&rt, "memory");

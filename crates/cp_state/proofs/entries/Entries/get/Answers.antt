@@ -1,5 +1,0 @@
-use Rattle.cp_tables.proofs.TableLemmas.{get-listed}
-use Rattle.cp_state.proofs.entries.Entries.get.Goals as goal
-
-pub returns : goal.returns
-returns g c = rw (← c.self.view_is, get-listed) c.get.ensures.value
