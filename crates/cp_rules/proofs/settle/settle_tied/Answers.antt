@@ -1,0 +1,27 @@
+use Rattle.std.proofs.Common.{arith}
+use Rattle.cp_rules.proofs.Backing.{settled_reopens, settled_lowers}
+use Rattle.cp_rules.proofs.Tying.{tied_goes_on, tied_stops, tied_ends}
+use Rattle.cp_rules.proofs.settle.settle_tied.Goals as goal
+
+pub returns-in-Err-clause-settled : goal.returns-in-Err-clause-settled
+returns-in-Err-clause-settled c s same =
+    let l = c.loop-one in
+    tied_stops s c.args.values.now l.values c.args.exports.now l.exports c.args.outcome.now c.args.tied.now l.one-index c.args.effects.now.items l.effects.items l.settled.items l.invariant.promises (l.invariant.settles s same) same c.one-item.result c.in_ok-value.value c.in-Err.halt _ _ _ _ _ c.loop-one-test.true c.one-item.is (rw c.fields.ensures at c.in_ok-value.ensures) c.in-Err.ensures.settled
+
+pub loop-one-preserved : goal.loop-one-preserved
+loop-one-preserved c =
+    let l = c.loop-one in
+    let reopens = settled_reopens c.args.values.now l.values c.settle_value.new.values l.settled.items c.push.new.self.items c.in-Ok.one c.one-item.result.promise l.invariant.promises l.invariant.reopens c.in-Ok.ensures.was_open c.in-Ok.ensures.named c.in-Ok.ensures.put c.in_ok-push-in-Ok.ensures.items in
+    record {
+      settles =
+          λ s same.
+          tied_goes_on s c.args.values.now l.values c.args.exports.now l.exports c.args.outcome.now c.args.tied.now l.one-index c.args.effects.now.items l.effects.items l.settled.items l.invariant.promises (l.invariant.settles s same) same c.one-item.result c.in_ok-value.value c.in-Ok.one c.push.new.self.items c.settle_value.new.values c.settle_value.new.exports c.settle_value.new.effects.items c.loop-one-test.true c.one-item.is (rw c.fields.ensures at c.in_ok-value.ensures) c.in-Ok.ensures.settled c.in_ok-push-in-Ok.ensures.items;
+      promises = reopens.0;
+      reopens = reopens.1;
+      lowers = settled_lowers c.args.exports.now l.exports c.settle_value.new.exports l.settled.items c.push.new.self.items c.in-Ok.one l.invariant.lowers c.in-Ok.ensures.back c.in_ok-push-in-Ok.ensures.items;
+    }
+
+pub returns-clause-settled : goal.returns-clause-settled
+returns-clause-settled c s same =
+    let l = c.loop-one in
+    tied_ends s c.args.values.now l.values c.args.exports.now l.exports c.args.outcome.now c.args.tied.now l.one-index c.args.effects.now.items l.effects.items l.settled.items l.invariant.promises (l.invariant.settles s same) (omega (arith, c.loop-one-test.false))

@@ -1,0 +1,3 @@
+pub mod Leading
+pub mod Going
+pub mod Settling

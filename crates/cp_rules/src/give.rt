@@ -1,0 +1,181 @@
+//! How outcomes are given to answers.
+
+ghost use Rattle.std.specs.Prelude.{◌≡◌, [], Some, IfOk};
+ghost use Rattle.std.specs.FinMap as map;
+ghost use Rattle.cp_tables.specs.declared.exchange.Exchange.{Exchange};
+ghost use Rattle.cp_tables.specs.declared.exchange.Stage.TheVariants as stages;
+ghost use Rattle.cp_machine.specs.State.{State};
+ghost use Rattle.cp_machine.specs.Give.{Give, GiveAnswer, GiveBy, Returns, SettleTied, return_of, returned_mentions};
+ghost use Rattle.cp_machine.specs.declared.entry.AnswerEntry.{AnswerEntry};
+ghost use Rattle.cp_state.specs.Halts.{Acts, IfFault, Leaves};
+ghost use Rattle.cp_state.specs.StateOf.{state_of};
+ghost use Rattle.cp_rules.specs.Leading.{with_parts};
+ghost use Rattle.cp_rules.specs.Settling.{Settles, lowered_back, settling};
+
+use crate::entry::{note_given, remove_answer};
+use crate::give_own::give_own;
+use crate::lower::lower_back;
+use crate::say::{mentioned, say_all};
+use crate::settle::{Settled, end_gates, settle_tied};
+use crate::unexpected::unexpected;
+use cp_machine::{Effect, Mentions};
+use cp_refs::{Origin, Outcome, Values};
+use cp_rpc::{Message, Payload, Return, Returned};
+use cp_state::{Core, Exported, Gift, Halt};
+use cp_tables::Stage;
+use std::alloc::{AllocError, Global};
+
+/// Gives an outcome to whom a call's outcome is for. Where a table is full nothing changes.
+pub fn give(
+    core: &mut Core,
+    origin: Origin,
+    outcome: Outcome,
+    effects: &mut Vec<Effect>,
+) -> Result<(), Halt>
+    ensures acts { Acts (Give (state_of core.old) origin outcome) result effects.old.items effects.new.items (state_of core.new) }
+    ensures unchanged { IfFault result (core.new ≡ core.old) }
+{
+    match origin {
+        Origin::Answer(id) => give_answer(core, id, outcome, effects),
+        Origin::Own(id) => give_own(core, id, outcome, effects),
+    }
+}
+
+/// Gives an answer: its Return goes out, and the promises tied to it are settled. Where a table is full
+/// nothing changes.
+pub fn give_answer(
+    core: &mut Core,
+    id: u32,
+    outcome: Outcome,
+    effects: &mut Vec<Effect>,
+) -> Result<(), Halt>
+    ensures acts { Acts (GiveAnswer (state_of core.old) id outcome) result effects.old.items effects.new.items (state_of core.new) }
+    ensures unchanged { IfFault result (core.new ≡ core.old) }
+{
+    let Some(answer) = core.answers.get(id) else {
+        return Err(unexpected());
+    };
+    match answer.stage {
+        Stage::Open => give_open(core, id, outcome, effects),
+        Stage::Finished => give_finished(core, id, outcome, effects),
+        Stage::Returned => Err(unexpected()),
+    }
+}
+
+/// Gives an answer that wasn't finished.
+fn give_open(
+    core: &mut Core,
+    id: u32,
+    outcome: Outcome,
+    effects: &mut Vec<Effect>,
+) -> Result<(), Halt>
+    ensures acts { (kept : AnswerEntry) → map.get core.old.answers id ≡ Some (record { stage = stages.Open; kept = kept }) → Acts (GiveBy (state_of core.old) id outcome kept stages.Open) result effects.old.items effects.new.items (state_of core.new) }
+    ensures unchanged { IfFault result (core.new ≡ core.old) }
+{
+    let said = returned(
+        core.alloc,
+        core.values.values(),
+        &mut core.exports,
+        &outcome,
+    )?;
+    let ids = mentions(core.alloc, &said)?;
+    effects.push(return_effect(id, said))?;
+    let settled = match settle_promises(core, id, &outcome, effects) {
+        Ok(settled) => settled,
+        Err(halt) => {
+            lower_back(&mut core.exports, ids.ids());
+            return Err(halt);
+        }
+    };
+    core.gates.end(Gift::Answer(id, outcome.copy(core.alloc)?))?;
+    core.values.put_answer(id, Some(outcome))?;
+    note_given(core.alloc, &mut core.answers, id, ids);
+    end_gates(core.alloc, &mut core.gates, &settled)?;
+    Ok(())
+}
+
+/// Gives an answer behind its Finish: its Return says that it was canceled.
+fn give_finished(
+    core: &mut Core,
+    id: u32,
+    outcome: Outcome,
+    effects: &mut Vec<Effect>,
+) -> Result<(), Halt>
+    ensures acts { (kept : AnswerEntry) → map.get core.old.answers id ≡ Some (record { stage = stages.Finished; kept = kept }) → Acts (GiveBy (state_of core.old) id outcome kept stages.Finished) result effects.old.items effects.new.items (state_of core.new) }
+    ensures unchanged { IfFault result (core.new ≡ core.old) }
+{
+    effects.push(return_effect(id, Returned::Canceled))?;
+    let settled = settle_promises(core, id, &outcome, effects)?;
+    core.gates.end(Gift::Answer(id, outcome))?;
+    remove_answer(core, id);
+    end_gates(core.alloc, &mut core.gates, &settled)?;
+    Ok(())
+}
+
+/// Settles the promises tied to an answer. Their gates are still to be ended. Where a table is full
+/// nothing changes.
+fn settle_promises(
+    core: &mut Core,
+    id: u32,
+    outcome: &Outcome,
+    effects: &mut Vec<Effect>,
+) -> Result<Vec<Settled>, Halt>
+    ensures settled { (entry : Exchange AnswerEntry) → map.get core.old.answers id ≡ Some entry → (s : State) → s.values.questions ≡ core.old.values.questions → Settles (SettleTied (settling s core.old.values.promises core.old.exports []) outcome.now entry.kept.tied) result effects.old.items effects.new.items (λ settled. settling s core.new.values.promises core.new.exports settled.items) }
+    ensures promises { IfOk result (λ _. core.new ≡ record core.old { values = record core.old.values { promises = core.new.values.promises }; exports = core.new.exports }) }
+    ensures unchanged { IfFault result (core.new ≡ core.old) }
+{
+    let Some(answer) = core.answers.get(id) else {
+        return Err(unexpected());
+    };
+    settle_tied(
+        core.alloc,
+        &mut core.values,
+        &mut core.exports,
+        outcome,
+        answer.kept.tied.promises(),
+        effects,
+    )
+}
+
+/// The Return of an answer. It leaves the exports that the params named as they are.
+fn return_effect(answer_id: u32, returned: Returned) -> Effect
+    ensures { result ≡ return_of answer_id returned }
+{
+    Effect::Send(Message::Return(Return {
+        answer_id,
+        release_param_caps: false,
+        returned,
+    }))
+}
+
+/// How an outcome is returned.
+fn returned(
+    alloc: Global,
+    values: &Values,
+    exports: &mut Exported,
+    outcome: &Outcome,
+) -> Result<Returned, Halt>
+    ensures said { (s : State) → Leaves (Returns (with_parts s values.now exports.old) outcome.now) result (with_parts s values.now exports.new) }
+    ensures back { IfOk result (λ r. lowered_back exports.new (returned_mentions r) ≡ exports.old) }
+    ensures unchanged { IfFault result (exports.new ≡ exports.old) }
+{
+    match outcome {
+        Outcome::Results { content, caps } => {
+            let content = content.copy(alloc)?;
+            let cap_table = say_all(alloc, values, exports, caps.caps())?;
+            Ok(Returned::Results(Payload { content, cap_table }))
+        }
+        Outcome::Failed(x) => Ok(Returned::Exception(x.copy(alloc)?)),
+        Outcome::Canceled => Ok(Returned::Canceled),
+    }
+}
+
+/// The exports that a Return names.
+fn mentions(alloc: Global, returned: &Returned) -> Result<Mentions, AllocError>
+    ensures { IfOk result (λ ids. ids ≡ returned_mentions returned.now) }
+{
+    match returned {
+        Returned::Results(payload) => mentioned(alloc, payload.cap_table.descriptors()),
+        _ => Ok(Mentions::new(Vec::new(alloc))),
+    }
+}

@@ -1,0 +1,62 @@
+//! How outcomes are given to the application's questions.
+
+ghost use Rattle.std.specs.Prelude.{◌≡◌, Some};
+ghost use Rattle.std.specs.FinMap as map;
+ghost use Rattle.cp_tables.specs.declared.exchange.Exchange.{Exchange};
+ghost use Rattle.cp_tables.specs.declared.exchange.Stage.TheVariants as stages;
+ghost use Rattle.cp_machine.specs.Give.{GiveOwn, GiveOwnBy, question_over};
+ghost use Rattle.cp_machine.specs.declared.entry.QuestionEntry.{QuestionEntry};
+ghost use Rattle.cp_state.specs.Halts.{Acts, IfFault};
+ghost use Rattle.cp_state.specs.StateOf.{state_of};
+
+use crate::entry::remove_question;
+use crate::unexpected::unexpected;
+use cp_machine::Effect;
+use cp_refs::Outcome;
+use cp_state::{Core, Gift, Halt};
+use cp_tables::Stage;
+
+/// Settles a question of the application's, which is told unless it finished the question.
+pub fn give_own(
+    core: &mut Core,
+    id: u32,
+    outcome: Outcome,
+    effects: &mut Vec<Effect>,
+) -> Result<(), Halt>
+    ensures acts { Acts (GiveOwn (state_of core.old) id outcome) result effects.old.items effects.new.items (state_of core.new) }
+    ensures unchanged { IfFault result (core.new ≡ core.old) }
+{
+    let Some(question) = core.questions.get(id) else {
+        return Err(unexpected());
+    };
+    match question.stage {
+        Stage::Open => settle_question(core, id, outcome, effects),
+        Stage::Finished => {
+            core.gates.end(Gift::Question(id, outcome))?;
+            remove_question(core, id);
+            Ok(())
+        }
+        Stage::Returned => Err(unexpected()),
+    }
+}
+
+/// Settles a question that wasn't finished.
+fn settle_question(
+    core: &mut Core,
+    id: u32,
+    outcome: Outcome,
+    effects: &mut Vec<Effect>,
+) -> Result<(), Halt>
+    ensures acts { (kept : QuestionEntry) → map.get core.old.questions id ≡ Some (record { stage = stages.Open; kept = kept }) → Acts (GiveOwnBy (state_of core.old) id outcome stages.Open) result effects.old.items effects.new.items (state_of core.new) }
+    ensures unchanged { IfFault result (core.new ≡ core.old) }
+{
+    core.gates
+        .end(Gift::Question(id, outcome.copy(core.alloc)?))?;
+    core.values.settle_question(id, outcome.copy(core.alloc)?)?;
+    let _ = core.questions.note_return(id);
+    effects.push(Effect::Settled {
+        question: id,
+        outcome,
+    })?;
+    Ok(())
+}

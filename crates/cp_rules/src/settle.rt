@@ -1,0 +1,236 @@
+//! How promises are settled.
+
+ghost use Rattle.std.specs.Prelude.{◌≡◌, ◌∷◌, [], Some, None, IfOk, OnOk, option_to_list};
+ghost use Rattle.std.specs.FinMap as map;
+ghost use Rattle.cp_tables.specs.Table.{with_change};
+ghost use Rattle.cp_machine.specs.State.{State, with_exports};
+ghost use Rattle.cp_machine.specs.Give.{ResolvesEnd, Settle, SettleTied, Tells, value_for};
+ghost use Rattle.cp_machine.specs.Resolving.{given_back};
+ghost use Rattle.cp_refs.specs.At.{failed};
+ghost use Rattle.cp_state.specs.Halts.{Acts, IfFault, Leaves};
+ghost use Rattle.cp_state.specs.Queue.{with_over};
+ghost use Rattle.cp_state.specs.StateOf.{state_of};
+ghost use Rattle.cp_rules.specs.Settling.{Settles, lowered_back, over_settled, raised_by, reopened, settling};
+
+use crate::come_to::come_to;
+use crate::say::{mention, say_end};
+use crate::unexpected::unexpected;
+use cp_machine::{Effect, Tied};
+use cp_refs::{Cap, Outcome, PromiseId, at};
+use cp_rpc::{Exception, ExceptionKind, Message, Resolution, Resolve, Text};
+use cp_state::{Core, Exported, Gates, Gift, Halt, Hosted, NumberedValues};
+use std::alloc::{AllocError, Global};
+
+/// A promise that was settled, whose gate is still to be ended.
+#[derive(Drop)]
+pub(crate) struct Settled {
+    pub promise: PromiseId,
+    pub value: Cap,
+    /// The export that its Resolve raised, if it raised one.
+    pub raised: Option<u32>,
+}
+
+/// Settles a promise. One whose value leads back to it is broken. Where a table is full nothing changes.
+pub fn settle(
+    core: &mut Core,
+    promise: PromiseId,
+    value: Cap,
+    effects: &mut Vec<Effect>,
+) -> Result<(), Halt>
+    ensures acts { Acts (Settle (state_of core.old) promise value) result effects.old.items effects.new.items (state_of core.new) }
+    ensures unchanged { IfFault result (core.new ≡ core.old) }
+{
+    let settled = settle_value(
+        core.alloc,
+        &mut core.values,
+        &mut core.exports,
+        promise,
+        value,
+        effects,
+    )?;
+    core.gates
+        .end(Gift::Promise(settled.promise, settled.value))?;
+    Ok(())
+}
+
+/// Settles the promises tied to an answer to what it gave at their paths, in the order in which they
+/// were opened. Their gates are still to be ended. Where a table is full nothing changes.
+pub(crate) fn settle_tied(
+    alloc: Global,
+    values: &mut NumberedValues,
+    exports: &mut Exported,
+    outcome: &Outcome,
+    tied: &[Tied],
+    effects: &mut Vec<Effect>,
+) -> Result<Vec<Settled>, Halt>
+    ensures settled { (s : State) → s.values.questions ≡ values.old.questions → Settles (SettleTied (settling s values.old.promises exports.old []) outcome.now tied.now) result effects.old.items effects.new.items (λ settled. settling s values.new.promises exports.new settled.items) }
+    ensures promises { IfOk result (λ _. values.new ≡ record values.old { promises = values.new.promises }) }
+    ensures unchanged { IfFault result ((values.new ≡ values.old) × (exports.new ≡ exports.old)) }
+{
+    let mut settled = Vec::new(alloc);
+    for one in tied {
+        let value = at(alloc, outcome, one.path.fields())?;
+        match settle_value(alloc, values, exports, one.promise, value, effects) {
+            Ok(one) => settled.push(one)?,
+            Err(halt) => {
+                take_back(values, exports, &settled)?;
+                return Err(halt);
+            }
+        }
+    }
+    Ok(settled)
+}
+
+/// Ends the gates of promises that were settled, in their order.
+pub(crate) fn end_gates(
+    alloc: Global,
+    gates: &mut Gates,
+    settled: &[Settled],
+) -> Result<(), AllocError>
+    ensures { OnOk result (gates.new ≡ with_over gates.old (over_settled gates.old.waiting.over settled.now)) }
+{
+    for one in settled {
+        let value = one.value.copy(alloc)?;
+        gates.end(Gift::Promise(one.promise, value))?;
+    }
+    Ok(())
+}
+
+/// Takes back what settling promises did, the last first.
+fn take_back(
+    values: &mut NumberedValues,
+    exports: &mut Exported,
+    settled: &[Settled],
+) -> Result<(), AllocError>
+    ensures values { OnOk result (values.new ≡ record values.old { promises = reopened values.old.promises settled.now }) }
+    ensures exports { OnOk result (exports.new ≡ lowered_back exports.old (raised_by settled.now)) }
+{
+    for index in (0..settled.len()).rev() {
+        take_one_back(values, exports, &settled[index])?;
+    }
+    Ok(())
+}
+
+/// Takes back what settling a promise did.
+fn take_one_back(
+    values: &mut NumberedValues,
+    exports: &mut Exported,
+    one: &Settled,
+) -> Result<(), AllocError>
+    ensures values { OnOk result (values.new ≡ record values.old { promises = with_change values.old.promises one.now.promise (λ _. None) }) }
+    ensures exports { OnOk result (exports.new ≡ lowered_back exports.old (option_to_list one.now.raised)) }
+{
+    values.reopen_promise(one.promise)?;
+    if let Some(id) = one.raised {
+        exports.take_back(id);
+    }
+    Ok(())
+}
+
+/// Settles a promise, whose gate is still to be ended. One whose value leads back to it is broken.
+fn settle_value(
+    alloc: Global,
+    values: &mut NumberedValues,
+    exports: &mut Exported,
+    promise: PromiseId,
+    value: Cap,
+    effects: &mut Vec<Effect>,
+) -> Result<Settled, Halt>
+    ensures settled { (s : State) → s.values.questions ≡ values.old.questions → Settles (Settle (settling s values.old.promises exports.old []) promise value) result effects.old.items effects.new.items (λ one. settling s values.new.promises exports.new (one ∷ [])) }
+    ensures put { IfOk result (λ one. values.new ≡ record values.old { promises = map.insert values.old.promises promise (Some one.value) }) }
+    ensures back { IfOk result (λ one. lowered_back exports.new (option_to_list one.raised) ≡ exports.old) }
+    ensures named { IfOk result (λ one. one.promise ≡ promise) }
+    ensures was_open { IfOk result (λ _. map.get values.old.promises promise ≡ Some None) }
+    ensures unchanged { IfFault result ((values.new ≡ values.old) × (exports.new ≡ exports.old)) }
+{
+    let Some(None) = values.values().promise(promise) else {
+        return Err(unexpected());
+    };
+    let reached = come_to(alloc, values.values(), &value)?;
+    let value = value_for(alloc, promise, &reached, value)?;
+    let known = reached.copy(alloc)?;
+    let last = value_for(alloc, promise, &known, reached)?;
+    let raised = tell(alloc, exports, promise, &last, effects)?;
+    values.settle_promise(promise, value.copy(alloc)?)?;
+    Ok(Settled {
+        promise,
+        value,
+        raised,
+    })
+}
+
+/// What a promise is settled to, by what its value comes to.
+fn value_for(alloc: Global, promise: PromiseId, last: &Cap, value: Cap) -> Result<Cap, AllocError>
+    ensures { IfOk result (λ v. v ≡ value_for promise last.now value) }
+{
+    match last {
+        Cap::Promise(id) => {
+            if *id == promise {
+                Ok(Cap::Broken(failed(alloc, "promise loop")?))
+            } else {
+                Ok(value)
+            }
+        }
+        _ => Ok(value),
+    }
+}
+
+/// Tells the peer what a promise came to, if it is exported. Gives the export that this raised.
+fn tell(
+    alloc: Global,
+    exports: &mut Exported,
+    promise: PromiseId,
+    last: &Cap,
+    effects: &mut Vec<Effect>,
+) -> Result<Option<u32>, Halt>
+    ensures told { (s : State) → Settles (Tells (with_exports s exports.old) promise last.now) result effects.old.items effects.new.items (λ _. with_exports s exports.new) }
+    ensures back { IfOk result (λ raised. lowered_back exports.new (option_to_list raised) ≡ exports.old) }
+    ensures unchanged { IfFault result (exports.new ≡ exports.old) }
+{
+    let Some(promise_id) = exports.number(Hosted::Promise(promise)) else {
+        return Ok(None);
+    };
+    let resolution = resolve_end(alloc, exports, last)?;
+    let raised = raised_of(&resolution);
+    effects.push(Effect::Send(Message::Resolve(Resolve {
+        promise_id,
+        resolution,
+    })))?;
+    Ok(raised)
+}
+
+/// The export that a resolution names.
+fn raised_of(resolution: &Resolution) -> Option<u32>
+    ensures { option_to_list result ≡ given_back resolution.now }
+{
+    match resolution {
+        Resolution::Cap(descriptor) => mention(descriptor),
+        _ => None,
+    }
+}
+
+/// How what a promise came to is told.
+fn resolve_end(alloc: Global, exports: &mut Exported, last: &Cap) -> Result<Resolution, Halt>
+    ensures said { (s : State) → Leaves (ResolvesEnd (with_exports s exports.old) last.now) result (with_exports s exports.new) }
+    ensures back { IfOk result (λ r. lowered_back exports.new (given_back r) ≡ exports.old) }
+    ensures unchanged { IfFault result (exports.new ≡ exports.old) }
+{
+    match last {
+        Cap::Broken(x) => Ok(Resolution::Exception(x.copy(alloc)?)),
+        _ => {
+            let said = say_end(alloc, exports, last)?;
+            Ok(Resolution::Cap(said))
+        }
+    }
+}
+
+/// An exception of type failed.
+pub fn failed(alloc: Global, reason: &str) -> Result<Exception, AllocError>
+    ensures { IfOk result (λ e. e ≡ failed reason.now) }
+{
+    Ok(Exception {
+        kind: ExceptionKind::Failed,
+        reason: Text::new(String::from_str(alloc, reason)?),
+        trace: Text::new(String::new(alloc)),
+    })
+}
