@@ -1,0 +1,85 @@
+-- What follows where a Call is taken in.
+use Rattle.std.proofs.Common.{◌≡◌, ◌^◌, ◌-◌, ◌<◌, ℕ, ltb, not, ◌&&◌, Bool, true, false, is_some, List, [], ◌∷◌, ◌++◌, Option, Some, None, Result, Ok, Err, refl, ◌∙◌, subst, arith}
+use Rattle.std.proofs.lemmas.Bool.Decides.{nat_tests}
+use Rattle.std.specs.FinMap.{get, len}
+use Rattle.cp_rpc.specs.declared.call.Call.{Call}
+use Rattle.cp_rpc.proofs.Firsts.{none-left, none-right}
+use Rattle.cp_refs.specs.declared.cap.Cap.{Cap}
+use Rattle.cp_machine.specs.State.{State}
+use Rattle.cp_machine.specs.Then.{Then, fault_if}
+use Rattle.cp_machine.specs.Room.{has_room, has_ticket}
+use Rattle.cp_machine.specs.Take.{TakeAll}
+use Rattle.cp_machine.specs.Answering.{OnCall, GoToTarget, call_faults, entered, is_answering, peer_call, target_faults}
+use Rattle.cp_machine.specs.declared.effect.Effect.{Effect}
+use Rattle.cp_machine.specs.declared.fault.PeerFault.TheVariants as faults
+use Rattle.cp_state.specs.Halts.{Acts, Leaves}
+use Rattle.cp_state.specs.declared.halt.Halt.{Halt}
+use Rattle.cp_state.specs.declared.halt.Halt.TheVariants as halts
+use Rattle.cp_vat.specs.Judging.{judged}
+use Rattle.cp_vat.proofs.Judged.{unless_passed}
+use Rattle.cp_vat.proofs.Acting.{acts_by}
+use Rattle.cp_vat.proofs.Taking.{takes_keep}
+
+none_judged : {F : Type 0} (fs : List F) → Ok tt ≡ judged fs → fs ≡ []
+none_judged [] is = refl
+none_judged (f ∷ fs) is = absurd (cc)
+
+not_held : {F : Type 0} (b : Bool) (f : F) → fault_if b f ≡ [] → b ≡ false
+not_held true f is = absurd (cc)
+not_held false f is = refl
+
+is_lacking : {X : Type 0} (o : Option X) → is_some o ≡ false → o ≡ None
+is_lacking None is = refl
+is_lacking (Some x) is = absurd (cc)
+
+both_true : (a b : Bool) → not (a && b) ≡ false → (a ≡ true) × (b ≡ true)
+both_true true true is = (refl, refl)
+both_true true false is = absurd (cc)
+both_true false b is = absurd (cc)
+
+fewer : (a b : ℕ) → ltb a b ≡ true → a < b
+fewer a b is = grind (arith, nat_tests)
+
+module _ (old mid : State) (c : Call) (caps : List Cap) (passed : Ok tt ≡ judged (call_faults old c)) (taken : TakeAll old c.params.cap_table (Ok (caps, mid))) where
+  rooms : (has_room old.entries.answers ≡ true) × (has_ticket old ≡ true)
+  rooms =
+      both_true _ _
+      (not_held _ _
+      (none-right (fault_if (is_answering old c.question_id) faults.QuestionInUse ++ target_faults old c.target) (fault_if (not (has_room old.entries.answers && has_ticket old)) faults.TableFull)
+      (none_judged (call_faults old c) passed)))
+
+  -- its number is free
+  pub call_free : get mid.entries.answers c.question_id ≡ None
+  call_free =
+      let front = none-left (fault_if (is_answering old c.question_id) faults.QuestionInUse ++ target_faults old c.target) (fault_if (not (has_room old.entries.answers && has_ticket old)) faults.TableFull) (none_judged (call_faults old c) passed) in
+      let free = not_held _ _ (none-left (fault_if (is_answering old c.question_id) faults.QuestionInUse) (target_faults old c.target) front) in
+      is_lacking _ ((takes_keep c.question_id c.params.cap_table old mid caps taken).0 ∙ free)
+
+  -- there is room for its answer
+  pub call_few : len mid.entries.answers ≡ 65536 → ⊥
+  call_few full =
+      let kept = (takes_keep c.question_id c.params.cap_table old mid caps taken).1 in
+      let room = fewer _ _ rooms.0 in
+      omega arith
+
+  -- and a ticket
+  pub call_ticket : mid.next_ticket < 2 ^ 64 - 1
+  call_ticket =
+      let kept = (takes_keep c.question_id c.params.cap_table old mid caps taken).2 in
+      let room = fewer _ _ rooms.1 in
+      omega arith
+
+  -- it goes by its target's route
+  pub call_goes : (s : State) (ticket : ℕ) → s ≡ entered mid c.question_id → ticket ≡ mid.next_ticket → (result : Result (Unit {0}) Halt) (before after : List Effect) (new : State)
+      → Acts (GoToTarget s (record (peer_call mid c caps) { ticket = ticket }) c.target) result before after new → Acts (OnCall old c) result before after new
+  call_goes s ticket is is_next result before after new goes =
+      acts_by (GoToTarget (entered mid c.question_id) (peer_call mid c caps) c.target) (OnCall old c) result before after new
+      (λ out went. unless_passed (call_faults old c) _ out passed (Ok (caps, mid), taken, went))
+      (subst (λ t. Acts (GoToTarget (entered mid c.question_id) (record (peer_call mid c caps) { ticket = t }) c.target) result before after new) is_next
+      (subst (λ q. Acts (GoToTarget q (record (peer_call mid c caps) { ticket = ticket }) c.target) result before after new) is goes))
+
+-- a fault of its capability table
+pub call_fails : (old mid : State) (c : Call) (halt : Halt) (before : List Effect) → Ok tt ≡ judged (call_faults old c) → Leaves (TakeAll old c.params.cap_table) (Err halt) mid → Acts (OnCall old c) (Err halt) before before mid
+call_fails old mid c (halts.Fault fault) before passed fails =
+    unless_passed (call_faults old c) (λ out. Then (TakeAll old c.params.cap_table) (λ taken. GoToTarget (entered taken.1 c.question_id) (peer_call taken.1 c taken.0) c.target) out) (Err fault) passed (Err fault, fails, refl)
+call_fails old mid c halts.OutOfMemory before passed fails = tt

@@ -1,0 +1,14 @@
+pub mod Judged
+pub mod Resolving
+pub mod Acting
+pub mod Telling
+pub mod Returning
+pub mod Taking
+pub mod Entering
+pub mod Echoing
+pub mod Costing
+pub mod Faulting
+pub mod Stepping
+pub mod Refusing
+pub mod Ways
+pub mod Moments

@@ -1,0 +1,93 @@
+-- Calls of the application, and messages, are steps of the machine.
+use Rattle.std.proofs.Common.{◌≡◌, ◌≢◌, ◌⊎◌, inl, inr, true, false, List, [], ◌++◌, Result, Ok, Err, refl, ap, ◌∙◌}
+use Rattle.cp_rpc.specs.declared.message.Message.{Message}
+use Rattle.cp_machine.specs.State.{State}
+use Rattle.cp_machine.specs.Step.{Does, Receives, Step, ran_out, refused, did, received, faulted}
+use Rattle.cp_machine.specs.declared.acted.Acted.{Acted}
+use Rattle.cp_machine.specs.declared.effect.Effect.{Effect}
+use Rattle.cp_machine.specs.declared.event.Event.{Event}
+use Rattle.cp_machine.specs.declared.event.Event.TheVariants as events
+use Rattle.cp_machine.specs.declared.event.Value.{Value}
+use Rattle.cp_machine.specs.declared.event.Value.TheVariants as values
+use Rattle.cp_machine.specs.declared.fault.VatFault.{VatFault}
+use Rattle.cp_machine.specs.declared.fault.VatFault.TheVariants as refusals
+use Rattle.cp_state.specs.Halts.{Acts}
+use Rattle.cp_state.specs.declared.halt.Halt.{Halt}
+use Rattle.cp_state.specs.declared.halt.Halt.TheVariants as halts
+use Rattle.cp_vat.specs.Stepping.{answered, effects_of, Calls, Ends, CallEnds, MessageEnds, Rests}
+
+-- a vat that is closed rests
+closed_rests : (s : State) → s.is_closed ≡ true → Rests s
+closed_rests s closed still = absurd cc
+
+ends_rest : {A : Type 0} (mid new : State) (x : A) (after : List Effect) (result : Result (Acted A) VatFault) → Ends mid x after result new → Rests new
+ends_rest mid new x after (Ok acted) ended = ended.2
+ends_rest mid new x after (Err fault) ended = closed_rests new ended.1
+
+module _ {A : Type 0} (value : A → Value) (event : Event) (old : State) where
+  -- A call that is refused for want of memory says nothing; any other refusal is the rule's, and changes nothing.
+  refusal_of : (mid : State) (fault : VatFault) (before after : List Effect) → Calls (Does old event) value old (Err fault) before after mid
+      → (fault ≡ refusals.OutOfMemory) ⊎ ((fault ≢ refusals.OutOfMemory) × Does old event (Err fault) × (mid ≡ old))
+  refusal_of mid refusals.OutOfMemory before after h = inl refl
+  refusal_of mid refusals.UnknownQuestion before after h = inr ((λ e. cc), h.0, h.1)
+  refusal_of mid refusals.UnknownPromise before after h = inr ((λ e. cc), h.0, h.1)
+  refusal_of mid refusals.AlreadyResolved before after h = inr ((λ e. cc), h.0, h.1)
+  refusal_of mid refusals.PromiseCycle before after h = inr ((λ e. cc), h.0, h.1)
+  refusal_of mid refusals.Unsettled before after h = inr ((λ e. cc), h.0, h.1)
+  refusal_of mid refusals.InUse before after h = inr ((λ e. cc), h.0, h.1)
+  refusal_of mid refusals.TooLarge before after h = inr ((λ e. cc), h.0, h.1)
+  refusal_of mid refusals.Full before after h = inr ((λ e. cc), h.0, h.1)
+  refusal_of mid refusals.Closed before after h = inr ((λ e. cc), h.0, h.1)
+  refusal_of mid refusals.UnknownImport before after h = inr ((λ e. cc), h.0, h.1)
+
+  followed : (mid new : State) (x : A) (after : List Effect) (result : Result (Acted A) VatFault) → old.is_closed ≡ false
+      → (first : List Effect) × (after ≡ first) × Does old event (Ok (value x, first, mid)) → Ends mid x after result new → Step old event (answered value result) (effects_of result) new
+  followed mid new x after (Ok acted) still done ended =
+      rw ended.0 (did event done.0 ended.1.0 mid still done.2 ended.1.2 (ended.1.1 ∙ ap (λ l. l ++ ended.1.0) done.1))
+  followed mid new x after (Err fault) still done ended = rw ended.0 (ran_out event still ended.1)
+
+  was_refused : (mid new : State) (fault : VatFault) (after : List Effect) (result : Result (Acted A) VatFault) → old.is_closed ≡ false
+      → (fault ≡ refusals.OutOfMemory) ⊎ ((fault ≢ refusals.OutOfMemory) × Does old event (Err fault) × (mid ≡ old)) → CallEnds mid (Err fault) after result new → Step old event (answered value result) (effects_of result) new
+  was_refused mid new fault after result still (inl want) ended = rw (ended.0, want) (ran_out event still (ended.1 want))
+  was_refused mid new fault after result still (inr done) ended = rw (ended.0, ended.2 done.0, done.2) (refused event still done.1)
+
+  -- a call of the application is a step
+  pub call_steps : (mid new : State) (done : Result A VatFault) (none after : List Effect) (result : Result (Acted A) VatFault) → none ≡ [] → old.is_closed ≡ false
+      → Calls (Does old event) value old done none after mid → CallEnds mid done after result new → Step old event (answered value result) (effects_of result) new
+  call_steps mid new (Ok x) none after result nothing still done ended =
+      followed mid new x after result still (done.0, done.1 ∙ ap (λ l. l ++ done.0) nothing, done.2) ended
+  call_steps mid new (Err fault) none after result nothing still done ended = was_refused mid new fault after result still (refusal_of mid fault none after done) ended
+
+  refused_rests : (mid new : State) (fault : VatFault) (after : List Effect) (result : Result (Acted A) VatFault) → Rests old
+      → (fault ≡ refusals.OutOfMemory) ⊎ ((fault ≢ refusals.OutOfMemory) × Does old event (Err fault) × (mid ≡ old)) → CallEnds mid (Err fault) after result new → Rests new
+  refused_rests mid new fault after result rested (inl want) ended = closed_rests new (ended.1 want)
+  refused_rests mid new fault after result rested (inr done) ended = rw (ended.2 done.0, done.2) rested
+
+  -- behind it the vat rests, if it did before
+  pub call_rests : (mid new : State) (done : Result A VatFault) (none after : List Effect) (result : Result (Acted A) VatFault) → Rests old
+      → Calls (Does old event) value old done none after mid → CallEnds mid done after result new → Rests new
+  call_rests mid new (Ok x) none after result rested done ended = ends_rest mid new x after result ended
+  call_rests mid new (Err fault) none after result rested done ended = refused_rests mid new fault after result rested (refusal_of mid fault none after done) ended
+
+module _ (m : Message) (old : State) where
+  taken : (mid new : State) (x : Unit {0}) (after : List Effect) (result : Result (Acted (Unit {0})) VatFault) → old.is_closed ≡ false
+      → (first : List Effect) × (after ≡ first) × Receives old m (Ok (first, mid)) → Ends mid x after result new → Step old (events.Receive m) (answered (λ _. values.Nothing) result) (effects_of result) new
+  taken mid new x after (Ok acted) still done ended =
+      received m done.0 ended.1.0 mid still done.2 ended.1.2 (ended.1.1 ∙ ap (λ l. l ++ ended.1.0) done.1)
+  taken mid new x after (Err fault) still done ended = rw ended.0 (ran_out (events.Receive m) still ended.1)
+
+  -- a message is a step
+  pub message_steps : (mid new : State) (done : Result (Unit {0}) Halt) (none after : List Effect) (result : Result (Acted (Unit {0})) VatFault) → none ≡ [] → old.is_closed ≡ false
+      → Acts (Receives old m) done none after mid → MessageEnds mid done after result new → Step old (events.Receive m) (answered (λ _. values.Nothing) result) (effects_of result) new
+  message_steps mid new (Ok x) none after result nothing still done ended =
+      taken mid new x after result still (done.0, done.1 ∙ ap (λ l. l ++ done.0) nothing, done.2) ended
+  message_steps mid new (Err (halts.Fault fault)) none after (Ok acted) nothing still done ended = rw ended.0 (faulted m still done ended.1)
+  message_steps mid new (Err (halts.Fault fault)) none after (Err refusal) nothing still done ended = rw ended.0 (ran_out (events.Receive m) still ended.1)
+  message_steps mid new (Err halts.OutOfMemory) none after result nothing still done ended = rw ended.0 (ran_out (events.Receive m) still ended.1)
+
+-- behind it the vat rests
+pub message_rests : (mid new : State) (done : Result (Unit {0}) Halt) (after : List Effect) (result : Result (Acted (Unit {0})) VatFault) → MessageEnds mid done after result new → Rests new
+message_rests mid new (Ok x) after result ended = ends_rest mid new x after result ended
+message_rests mid new (Err (halts.Fault fault)) after (Ok acted) ended = closed_rests new ended.1
+message_rests mid new (Err (halts.Fault fault)) after (Err refusal) ended = closed_rests new ended.1
+message_rests mid new (Err halts.OutOfMemory) after result ended = closed_rests new ended.1

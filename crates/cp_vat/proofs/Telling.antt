@@ -1,0 +1,62 @@
+-- What the tree of an Unimplemented tells.
+use Rattle.std.proofs.Common.{◌≡◌, inl, inr, List, [], ◌∷◌, Some, None, Result, Ok, Err, IfErr, refl, sym, ap, ◌∙◌, subst}
+use Rattle.cp_tree.specs.Node.{Node, null, cap, struct, list, ptrs, structs, IsStruct}
+use Rattle.cp_rpc.specs.Answers.{IsFirstFault, first_of}
+use Rattle.cp_rpc.specs.Says.{Says}
+use Rattle.cp_rpc.specs.Said.{message_said}
+use Rattle.cp_rpc.specs.Faulty.{message_faults}
+use Rattle.cp_rpc.specs.declared.fault.SchemaFault.{SchemaFault}
+use Rattle.cp_rpc.specs.declared.fault.SchemaFault.TheVariants as schema_faults
+use Rattle.cp_rpc.specs.declared.message.Message.{Message}
+use Rattle.cp_rpc.specs.declared.message.Message.TheVariants as messages
+use Rattle.cp_rpc.specs.declared.resolve.Resolve.{Resolve}
+use Rattle.cp_machine.specs.State.{State}
+use Rattle.cp_machine.specs.Resolving.{OnUnimplemented, UnknownToPeer, told, told_by}
+use Rattle.cp_machine.specs.declared.fault.PeerFault.TheVariants as faults
+use Rattle.cp_state.specs.Halts.{Quiet}
+use Rattle.cp_state.specs.declared.halt.Halt.{Halt}
+
+-- A tree that is no struct says a message that isn't a Resolve.
+not_struct : (old : State) (t : Node) → (IsStruct t → ⊥) → OnUnimplemented old t (Err faults.PeerLacksLevelOne)
+not_struct old null other = refl
+not_struct old (cap i) other = refl
+not_struct old (struct ws ts) other = absurd (other tt)
+not_struct old (list es) other = refl
+not_struct old (ptrs ts) other = refl
+not_struct old (structs d n bs) other = refl
+
+pub no_struct_told : (old : State) (t : Node) (r : Result Node Node) → ((x : Node) → r ≡ Ok x → ⊥) → IfErr r (λ w. (w ≡ t) × (IsStruct t → ⊥)) → OnUnimplemented old t (Err faults.PeerLacksLevelOne)
+no_struct_told old t (Ok x) other back = absurd (other x refl)
+no_struct_told old t (Err x) other back = not_struct old t back.1
+
+-- any other message is needed
+pub is_needed : (old : State) (m : Message) → ((r : Resolve) → m ≡ messages.Resolve r → ⊥) → UnknownToPeer old (Some m) (Err faults.PeerLacksLevelOne)
+is_needed old (messages.Unimplemented t) other = refl
+is_needed old (messages.Abort x) other = refl
+is_needed old (messages.Call x) other = refl
+is_needed old (messages.Return x) other = refl
+is_needed old (messages.Finish x) other = refl
+is_needed old (messages.Resolve r) other = absurd (other r refl)
+is_needed old (messages.Release x) other = refl
+is_needed old (messages.Bootstrap x) other = refl
+is_needed old (messages.Disembargo x) other = refl
+is_needed old (messages.Other n t) other = refl
+
+says_told : (t : Node) (m : Message) → Says t m → Some m ≡ told t
+says_told t m says = sym (ap (λ fs. told_by fs (message_said t)) says.sound ∙ ap Some (sym says.said))
+
+-- what the peer doesn't know of a message that a tree says, it doesn't know of the tree
+pub told_quiet : (old new : State) (t root : Node) (m : Message) (r : Result (Unit {0}) Halt) → root ≡ t → Says root m → Quiet (UnknownToPeer old (Some m)) r new → Quiet (OnUnimplemented old t) r new
+told_quiet old new t root m r same says acts =
+    subst (λ q. Quiet (OnUnimplemented old q) r new) same (subst (λ o. Quiet (UnknownToPeer old o) r new) (says_told root m says) acts)
+
+faulty : (fs : List SchemaFault) (f : SchemaFault) (m : Message) → first_of fs ≡ Some f → None ≡ told_by fs m
+faulty [] f m first = cc
+faulty (g ∷ fs) f m first = refl
+
+-- a tree that says none
+pub faulty_told : (old : State) (t root : Node) (f : SchemaFault) → root ≡ t → (f ≡ schema_faults.OutOfMemory → ⊥) → IsFirstFault (message_faults root) f → OnUnimplemented old t (Err faults.PeerLacksLevelOne)
+faulty_told old t root f same other (inl want) = absurd (other want)
+faulty_told old t root f same other (inr first) =
+    subst (λ q. OnUnimplemented old q (Err faults.PeerLacksLevelOne)) same
+    (subst (λ o. UnknownToPeer old o (Err faults.PeerLacksLevelOne)) (faulty (message_faults root) f (message_said root) first) refl)

@@ -1,0 +1,5 @@
+pub mod Judging
+pub mod Stepping
+pub mod StateCode
+pub mod Ways
+pub mod Running

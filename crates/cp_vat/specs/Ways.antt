@@ -1,0 +1,45 @@
+-- Calls of the application on their way.
+use Rattle.std.specs.Prelude.{◌≡◌, ℕ, ◌-◌, Result}
+use Rattle.std.specs.FinMap.{remove}
+use Rattle.cp_refs.specs.declared.cap.Cap.{Cap}
+use Rattle.cp_refs.specs.declared.cap.Cap.TheVariants as caps
+use Rattle.cp_refs.specs.declared.values.QuestionKind.{QuestionKind}
+use Rattle.cp_refs.specs.declared.values.QuestionKind.TheVariants as kinds
+use Rattle.cp_machine.specs.State.{State}
+use Rattle.cp_machine.specs.Then.{Done, Then}
+use Rattle.cp_machine.specs.Go.{GoTo, Underway}
+use Rattle.cp_machine.specs.Calling.{mark_of, marked}
+use Rattle.cp_machine.specs.Calling as machine
+use Rattle.cp_machine.specs.declared.fault.PeerFault.{PeerFault}
+use Rattle.cp_vat.specs.declared.going.Reference.{Reference}
+use Rattle.cp_vat.specs.declared.going.Reference.TheVariants as references
+
+-- what a capability is that the application calls, as the machine says it
+abbrev pub seen : Reference → machine.Reference
+seen references.Plain = machine.plain
+seen references.OnWire = machine.on_wire
+seen (references.CameTo value) = machine.came_to value
+
+-- the kind of the question of a call on a reference that came to this
+abbrev pub value_kind : Cap → QuestionKind
+value_kind (caps.Import j) = kinds.Wire
+value_kind other = kinds.Local
+
+-- the kind of a call's question
+abbrev pub kind_of : Reference → QuestionKind
+kind_of references.Plain = kinds.Local
+kind_of references.OnWire = kinds.Wire
+kind_of (references.CameTo value) = value_kind value
+
+-- a call on a reference that is open on the wire marks it, and goes
+abbrev pub GoMarked : State → Underway → Cap → Result Done PeerFault → Type 0
+GoMarked old call cap out = Then (λ mid. mid ≡ marked old cap (mark_of old cap)) (λ mid. GoTo mid call cap) out
+
+-- the state without a question that was opened last, whose ticket is the next one's again
+abbrev pub taken_back : State → ℕ → State
+taken_back s q =
+    record s {
+      values = record s.values { questions = remove s.values.questions q };
+      entries = record s.entries { questions = remove s.entries.questions q };
+      next_ticket = s.next_ticket - 1;
+    }

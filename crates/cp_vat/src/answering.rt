@@ -1,0 +1,59 @@
+//! What `answer` and `resolve` do.
+
+ghost use Rattle.std.specs.Prelude.{◌≡◌, IsTrue};
+ghost use Rattle.cp_machine.specs.Doing.{DoAnswer, DoResolve};
+ghost use Rattle.cp_machine.specs.declared.event.Value.TheVariants as values;
+ghost use Rattle.cp_state.specs.StateOf.{state_of};
+ghost use Rattle.cp_vat.specs.Stepping.{Calls};
+
+use crate::refusals::{check_answer, check_resolve, check_value};
+use cp_machine::{Effect, VatFault};
+use cp_refs::{Cap, Origin, Outcome, PromiseId};
+use cp_rules::come_to::come_to;
+use cp_rules::give::give;
+use cp_rules::settle::settle;
+use cp_state::Core;
+
+/// Gives the outcome of a call that was delivered.
+pub(crate) fn answer(
+    core: &mut Core,
+    origin: Origin,
+    outcome: Outcome,
+    effects: &mut Vec<Effect>,
+) -> Result<(), VatFault>
+    ensures { Calls (DoAnswer (state_of core.old) origin outcome) (λ _. values.Nothing) (state_of core.old) result effects.old.items effects.new.items (state_of core.new) }
+{
+    check_answer(core, origin, &outcome)?;
+    give(core, origin, outcome, effects)?;
+    Ok(())
+}
+
+/// Settles a promise that the application made. Its value must not lead back to it.
+pub(crate) fn resolve(
+    core: &mut Core,
+    promise: PromiseId,
+    value: Cap,
+    effects: &mut Vec<Effect>,
+) -> Result<(), VatFault>
+    ensures { Calls (DoResolve (state_of core.old) promise value) (λ _. values.Nothing) (state_of core.old) result effects.old.items effects.new.items (state_of core.new) }
+{
+    check_resolve(core, promise, &value)?;
+    let last = come_to(core.alloc, core.values.values(), &value)?;
+    if is_promise(&last, promise) {
+        return Err(VatFault::PromiseCycle);
+    }
+    check_value(core, &value)?;
+    settle(core, promise, value, effects)?;
+    Ok(())
+}
+
+/// Whether a capability is this promise.
+fn is_promise(cap: &Cap, promise: PromiseId) -> bool
+    ensures yes { IsTrue result → cap.now ≡ Cap.Promise promise }
+    ensures no { cap.now ≡ Cap.Promise promise → IsTrue result }
+{
+    match cap {
+        Cap::Promise(id) => *id == promise,
+        _ => false,
+    }
+}

@@ -1,0 +1,91 @@
+//! What `call` does.
+
+ghost use Rattle.std.specs.Prelude.{◌≡◌, ◌<◌, ◌-◌, None, Ok, Err, IfOk};
+ghost use Rattle.std.specs.FinMap as map;
+ghost use Rattle.cp_machine.specs.Calling.{DoCall, Opens, called, own_call};
+ghost use Rattle.cp_machine.specs.Room.{Fresh};
+ghost use Rattle.cp_machine.specs.declared.event.Value.TheVariants as values;
+ghost use Rattle.cp_state.specs.Halts.{IfFault, Owns};
+ghost use Rattle.cp_state.specs.StateOf.{state_of};
+ghost use Rattle.cp_rules.specs.Going.{underway_of};
+ghost use Rattle.cp_vat.specs.Stepping.{Calls};
+ghost use Rattle.cp_vat.specs.Ways.{taken_back};
+
+use crate::asking::ask;
+use crate::going::{go_from, kind_of, reference_of};
+use crate::refusals::check_call;
+use cp_machine::{Effect, PeerFault, VatFault};
+use cp_refs::{Cap, Origin, QuestionKind, Request};
+use cp_rules::entry::close_question;
+use cp_rules::go::Underway;
+use cp_rules::unexpected::unexpected;
+use cp_state::{Core, Halt};
+
+/// Calls a capability: the call opens a question, and goes.
+pub(crate) fn call(
+    core: &mut Core,
+    cap: Cap,
+    request: Request,
+    effects: &mut Vec<Effect>,
+) -> Result<u32, VatFault>
+    ensures { Calls (DoCall (state_of core.old) cap request) (λ q. values.Question q) (state_of core.old) result effects.old.items effects.new.items (state_of core.new) }
+{
+    check_call(core, &cap, &request)?;
+    Ok(open_call(core, &cap, request, effects)?)
+}
+
+/// The call opens a question under a free number, and goes. Where a table is full nothing changes.
+fn open_call(
+    core: &mut Core,
+    cap: &Cap,
+    request: Request,
+    effects: &mut Vec<Effect>,
+) -> Result<u32, Halt>
+    ensures { Owns (Opens (state_of core.old) cap.now request) (λ q. values.Question q) (state_of core.old) result effects.old.items effects.new.items (state_of core.new) }
+{
+    let reference = reference_of(core.alloc, core.values.values(), cap)?;
+    let (question, call) = enter(core, kind_of(&reference), request)?;
+    match go_from(core, call, cap, reference, effects) {
+        Ok(()) => Ok(question),
+        Err(Halt::Fault(fault)) => {
+            take_back(core, question);
+            Err(Halt::Fault(fault))
+        }
+        Err(Halt::OutOfMemory) => Err(Halt::OutOfMemory),
+    }
+}
+
+/// Opens a question for a call of the application's, and gives it the next ticket.
+fn enter(core: &mut Core, kind: QuestionKind, request: Request) -> Result<(u32, Underway), Halt>
+    ensures fresh { IfOk result (λ e. Fresh core.old.questions (Ok e.0)) }
+    ensures unknown { IfOk result (λ e. map.get core.old.values.questions e.0 ≡ None) }
+    ensures called { IfOk result (λ e. state_of core.new ≡ called (state_of core.old) e.0 kind) }
+    ensures call { IfOk result (λ e. underway_of e.1 ≡ own_call (state_of core.old) e.0 request) }
+    ensures free { IfOk result (λ e. map.get core.new.gates.waiting.calls e.1.ticket ≡ None) }
+    ensures given { IfOk result (λ e. e.1.ticket < core.new.gates.next_ticket) }
+    ensures full { (fault : PeerFault) → result ≡ Err (Halt.Fault fault) → Fresh core.old.questions (Err fault) }
+    ensures unchanged { IfFault result (core.new ≡ core.old) }
+{
+    if !core.gates.has_ticket() {
+        return Err(unexpected());
+    }
+    let ticket = core.gates.next_ticket();
+    let question = ask(core, kind, Some(ticket), false)?;
+    let call = Underway {
+        ticket: core.gates.enter(),
+        origin: Origin::Own(question),
+        request,
+    };
+    Ok((question, call))
+}
+
+/// Takes back what opening a question did, whose ticket was given last.
+fn take_back(core: &mut Core, question: u32)
+    requires given { 0 < core.old.gates.next_ticket }
+    requires free { map.get core.old.gates.waiting.calls (core.old.gates.next_ticket - 1) ≡ None }
+    ensures { state_of core.new ≡ taken_back (state_of core.old) question }
+{
+    core.values.remove_question(question);
+    close_question(&mut core.questions, question);
+    core.gates.take_back();
+}

@@ -1,0 +1,91 @@
+//! What follows an event's own part.
+
+ghost use Rattle.std.specs.Prelude.{◌≡◌, ◌++◌, OnOk};
+ghost use Rattle.cp_machine.specs.Step.{aborts};
+ghost use Rattle.cp_state.specs.StateOf.{state_of};
+ghost use Rattle.cp_vat.specs.Stepping.{CallEnds, Ends, MessageEnds};
+
+use cp_machine::{Acted, Effect, Effects, PeerFault, Reason, VatFault};
+use cp_rpc::Message;
+use cp_rules::leave::leave;
+use cp_rules::settle::failed;
+use cp_state::{Core, Halt};
+use std::alloc::{AllocError, Global};
+
+/// Ends a call of the application.
+pub(crate) fn end_call<V: Drop>(
+    core: &mut Core,
+    done: Result<V, VatFault>,
+    effects: Vec<Effect>,
+) -> Result<Acted<V>, VatFault>
+    ensures { CallEnds (state_of core.old) done effects.items result (state_of core.new) }
+{
+    match done {
+        Ok(value) => follow(core, value, effects),
+        Err(VatFault::OutOfMemory) => {
+            core.is_closed = true;
+            Err(VatFault::OutOfMemory)
+        }
+        Err(fault) => Err(fault),
+    }
+}
+
+/// Ends a message. A fault of the peer's is answered by an Abort, and closes the vat.
+pub(crate) fn end_message(
+    core: &mut Core,
+    done: Result<(), Halt>,
+    effects: Vec<Effect>,
+) -> Result<Acted<()>, VatFault>
+    ensures { MessageEnds (state_of core.old) done effects.items result (state_of core.new) }
+{
+    match done {
+        Ok(()) => follow(core, (), effects),
+        Err(Halt::Fault(fault)) => {
+            core.is_closed = true;
+            let mut aborted = Vec::new(core.alloc);
+            abort(core.alloc, fault, &mut aborted)?;
+            Ok(Acted {
+                value: (),
+                effects: Effects::new(aborted),
+            })
+        }
+        Err(Halt::OutOfMemory) => {
+            core.is_closed = true;
+            Err(VatFault::OutOfMemory)
+        }
+    }
+}
+
+/// Waiting calls leave. One that finds a table full closes the vat, as a fault of the peer's.
+fn follow<V: Drop>(
+    core: &mut Core,
+    value: V,
+    mut effects: Vec<Effect>,
+) -> Result<Acted<V>, VatFault>
+    ensures { Ends (state_of core.old) value effects.items result (state_of core.new) }
+{
+    match leave(core, &mut effects) {
+        Ok(()) => {}
+        Err(Halt::Fault(fault)) => {
+            core.is_closed = true;
+            abort(core.alloc, fault, &mut effects)?;
+        }
+        Err(Halt::OutOfMemory) => {
+            core.is_closed = true;
+            return Err(VatFault::OutOfMemory);
+        }
+    }
+    Ok(Acted {
+        value,
+        effects: Effects::new(effects),
+    })
+}
+
+/// Adds what a fault of the peer's is answered by.
+fn abort(alloc: Global, fault: PeerFault, effects: &mut Vec<Effect>) -> Result<(), AllocError>
+    ensures { OnOk result (effects.new.items ≡ effects.old.items ++ aborts fault) }
+{
+    effects.push(Effect::Send(Message::Abort(failed(alloc, fault.text())?)))?;
+    effects.push(Effect::Closed(Reason::Fault(fault)))?;
+    Ok(())
+}

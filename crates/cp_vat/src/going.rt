@@ -1,0 +1,202 @@
+//! Where a call of the application goes that opened a question.
+
+ghost use Rattle.std.specs.Prelude.{◌≡◌, ◌<◌, ℕ, Some, None, IfOk, option_copied};
+ghost use Rattle.std.specs.FinMap as map;
+ghost use Rattle.cp_machine.specs.State.{State};
+ghost use Rattle.cp_machine.specs.Calling.{FirstEmbargoed, GoBack, GoByValue, GoFrom, called, mark_of, old_target, own_call, question_reference, reference_of};
+ghost use Rattle.cp_state.specs.Halts.{Acts, IfFault};
+ghost use Rattle.cp_state.specs.StateOf.{state_of};
+ghost use Rattle.cp_rules.specs.Going.{underway_of};
+ghost use Rattle.cp_vat.specs.Ways.{GoMarked, kind_of, seen, value_kind};
+
+use cp_machine::Effect;
+use cp_refs::{Cap, Gate, Path, Question, QuestionKind, Request, Route, Values, at};
+use cp_rpc::{Context, Disembargo, Message, Target};
+use cp_rules::go::{Underway, go, go_to};
+use cp_rules::promised::promised_answer;
+use cp_state::{Core, Halt};
+use std::alloc::{AllocError, Global};
+
+/// What a capability is that the application calls.
+#[derive(Drop)]
+pub(crate) enum Reference {
+    /// It is called as it is.
+    Plain,
+    /// An import or a question's path that is open on the wire.
+    OnWire,
+    /// An import or a question's path that came to this.
+    CameTo(Cap),
+}
+
+pub(crate) fn reference_of(
+    alloc: Global,
+    values: &Values,
+    cap: &Cap,
+) -> Result<Reference, AllocError>
+    ensures { IfOk result (λ r. seen r ≡ reference_of values.now cap.now) }
+{
+    match cap {
+        Cap::Import(id) => match values.import(*id) {
+            Some(None) => Ok(Reference::OnWire),
+            Some(Some(value)) => Ok(Reference::CameTo(value.copy(alloc)?)),
+            None => Ok(Reference::Plain),
+        },
+        Cap::Pipelined(id, path) => path_reference(alloc, values.question(*id), path),
+        _ => Ok(Reference::Plain),
+    }
+}
+
+/// The kind of a call's question. A call that goes to the peer at once is on the wire.
+pub(crate) fn kind_of(reference: &Reference) -> QuestionKind
+    ensures { result ≡ kind_of reference.now }
+{
+    match reference {
+        Reference::OnWire | Reference::CameTo(Cap::Import(_)) => QuestionKind::Wire,
+        Reference::Plain | Reference::CameTo(_) => QuestionKind::Local,
+    }
+}
+
+/// A call of the application's goes, by what it names. Where a table is full nothing changes.
+pub(crate) fn go_from(
+    core: &mut Core,
+    call: Underway,
+    cap: &Cap,
+    reference: Reference,
+    effects: &mut Vec<Effect>,
+) -> Result<(), Halt>
+    requires free { map.get core.old.gates.waiting.calls call.ticket ≡ None }
+    requires given { call.ticket < core.old.gates.next_ticket }
+    ensures acts { (old : State) (q : ℕ) (request : Request) → state_of core.old ≡ called old q (kind_of reference) → underway_of call ≡ own_call old q request → Acts (GoFrom old q request cap.now (seen reference)) result effects.old.items effects.new.items (state_of core.new) }
+    ensures unchanged { IfFault result (core.new ≡ core.old) }
+{
+    match reference {
+        Reference::Plain => go_to(core, call, cap, effects),
+        Reference::OnWire => go_marked(core, call, cap, effects),
+        Reference::CameTo(value) => go_by_value(core, call, cap, value, effects),
+    }
+}
+
+fn path_reference(
+    alloc: Global,
+    question: Option<&Question>,
+    path: &Path,
+) -> Result<Reference, AllocError>
+    ensures { IfOk result (λ r. seen r ≡ question_reference path.now (option_copied question.entry)) }
+{
+    let Some(question) = question else {
+        return Ok(Reference::Plain);
+    };
+    match &question.outcome {
+        Some(outcome) => Ok(Reference::CameTo(at(alloc, outcome, path.fields())?)),
+        None => match question.kind {
+            QuestionKind::Wire => Ok(Reference::OnWire),
+            QuestionKind::Local => Ok(Reference::Plain),
+        },
+    }
+}
+
+/// A call on a reference that is open on the wire marks it, and goes. Where a table is full nothing
+/// changes.
+fn go_marked(
+    core: &mut Core,
+    call: Underway,
+    cap: &Cap,
+    effects: &mut Vec<Effect>,
+) -> Result<(), Halt>
+    requires free { map.get core.old.gates.waiting.calls call.ticket ≡ None }
+    requires given { call.ticket < core.old.gates.next_ticket }
+    ensures acts { Acts (GoMarked (state_of core.old) (underway_of call) cap.now) result effects.old.items effects.new.items (state_of core.new) }
+    ensures unchanged { IfFault result (core.new ≡ core.old) }
+{
+    let is_marked = core.marks.mark(cap).is_some();
+    core.marks.put_mark(cap)?;
+    match go_to(core, call, cap, effects) {
+        Ok(()) => Ok(()),
+        Err(halt) => {
+            if !is_marked {
+                core.marks.remove_mark(cap);
+            }
+            Err(halt)
+        }
+    }
+}
+
+/// A call on a reference that came to this. The value of an import goes to the peer; null and what
+/// fails fail; an object and a promise are of this end. Where a table is full nothing changes.
+fn go_by_value(
+    core: &mut Core,
+    call: Underway,
+    cap: &Cap,
+    value: Cap,
+    effects: &mut Vec<Effect>,
+) -> Result<(), Halt>
+    requires free { map.get core.old.gates.waiting.calls call.ticket ≡ None }
+    requires given { call.ticket < core.old.gates.next_ticket }
+    ensures acts { (old : State) (q : ℕ) (request : Request) → state_of core.old ≡ called old q (value_kind value) → underway_of call ≡ own_call old q request → Acts (GoByValue old q request cap.now value) result effects.old.items effects.new.items (state_of core.new) }
+    ensures unchanged { IfFault result (core.new ≡ core.old) }
+{
+    match value {
+        Cap::Import(id) => go(core, call, Route::Import(id), effects),
+        Cap::Object(_) | Cap::Promise(_) => go_back(core, call, cap, value, effects),
+        _ => go_to(core, call, &value, effects),
+    }
+}
+
+/// A call on a reference that came to something of this end. Unmarked, it takes its value's route;
+/// marked, it waits until those that were sent on the reference came back. Where a table is full nothing
+/// changes.
+fn go_back(
+    core: &mut Core,
+    call: Underway,
+    cap: &Cap,
+    value: Cap,
+    effects: &mut Vec<Effect>,
+) -> Result<(), Halt>
+    requires free { map.get core.old.gates.waiting.calls call.ticket ≡ None }
+    requires given { call.ticket < core.old.gates.next_ticket }
+    ensures acts { Acts (GoBack (state_of core.old) (underway_of call) cap.now value (mark_of (state_of core.old) cap.now)) result effects.old.items effects.new.items (state_of core.new) }
+    ensures unchanged { IfFault result (core.new ≡ core.old) }
+{
+    match core.marks.mark(cap) {
+        None => go_to(core, call, &value, effects),
+        Some(None) => put_embargo(core, call, cap, value, effects),
+        Some(Some(number)) => go(core, call, Route::Wait(Gate::Embargo(number)), effects),
+    }
+}
+
+/// The first call after those that were sent on a reference: a Disembargo follows them, and the call
+/// waits for its echo. Where there is no room for the embargo nothing changes.
+fn put_embargo(
+    core: &mut Core,
+    call: Underway,
+    cap: &Cap,
+    value: Cap,
+    effects: &mut Vec<Effect>,
+) -> Result<(), Halt>
+    requires free { map.get core.old.gates.waiting.calls call.ticket ≡ None }
+    requires given { call.ticket < core.old.gates.next_ticket }
+    requires marked { mark_of (state_of core.old) cap.now ≡ Some None }
+    ensures acts { Acts (FirstEmbargoed (state_of core.old) (underway_of call) cap.now value) result effects.old.items effects.new.items (state_of core.new) }
+    ensures unchanged { IfFault result (core.new ≡ core.old) }
+{
+    let number = core.marks.open_embargo(cap, value)?;
+    let target = old_target(core.alloc, cap)?;
+    effects.push(Effect::Send(Message::Disembargo(Disembargo {
+        context: Context::SenderLoopback(number),
+        target,
+    })))?;
+    go(core, call, Route::Wait(Gate::Embargo(number)), effects)
+}
+
+/// A reference, as the peer knows it.
+fn old_target(alloc: Global, cap: &Cap) -> Result<Target, AllocError>
+    ensures { IfOk result (λ target. target ≡ old_target cap.now) }
+{
+    match cap {
+        Cap::Pipelined(question, path) => Ok(Target::PromisedAnswer(promised_answer(
+            alloc, *question, path,
+        )?)),
+        Cap::Import(id) => Ok(Target::ImportedCap(*id)),
+        _ => Ok(Target::ImportedCap(0)),
+    }
+}

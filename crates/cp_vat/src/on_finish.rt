@@ -1,0 +1,49 @@
+//! What a Finish and a Release do.
+
+ghost use Rattle.cp_machine.specs.Answering.{OnFinish};
+ghost use Rattle.cp_machine.specs.Resolving.{OnRelease};
+ghost use Rattle.cp_state.specs.Halts.{Quiet};
+ghost use Rattle.cp_state.specs.StateOf.{state_of};
+
+use cp_machine::PeerFault;
+use cp_rpc::{Finish, Release};
+use cp_rules::entry::remove_answer;
+use cp_rules::lower::lower;
+use cp_state::{Core, Halt};
+use cp_tables::Stage;
+
+/// A Finish of an answer that was given takes it out, and lowers the exports that its results named if
+/// the peer asks for it. An answer that isn't given stays until it is.
+pub(crate) fn on_finish(core: &mut Core, finish: Finish) -> Result<(), Halt>
+    ensures { Quiet (OnFinish (state_of core.old) finish) result (state_of core.new) }
+{
+    let Some(answer) = core.answers.get(finish.question_id) else {
+        return Err(Halt::Fault(PeerFault::UnknownAnswer));
+    };
+    match answer.stage {
+        Stage::Open => {
+            let _ = core.answers.note_finish(finish.question_id);
+            Ok(())
+        }
+        Stage::Returned => {
+            if finish.release_result_caps
+                && let Err(fault) = lower(&mut core.exports, answer.kept.mentions.ids())
+            {
+                return Err(Halt::Fault(fault));
+            }
+            remove_answer(core, finish.question_id);
+            Ok(())
+        }
+        Stage::Finished => Err(Halt::Fault(PeerFault::UnknownAnswer)),
+    }
+}
+
+/// A Release lowers an export by its count.
+pub(crate) fn on_release(core: &mut Core, release: Release) -> Result<(), Halt>
+    ensures { Quiet (OnRelease (state_of core.old) release) result (state_of core.new) }
+{
+    if let Err(fault) = core.exports.release(release.id, release.reference_count) {
+        return Err(Halt::Fault(fault));
+    }
+    Ok(())
+}

@@ -1,0 +1,73 @@
+//! What an Unimplemented does, and how a message that isn't supported is sent back.
+
+ghost use Rattle.std.specs.Prelude.{◌≡◌, Some};
+ghost use Rattle.cp_machine.specs.Resolving.{OnUnimplemented, UnknownToPeer};
+ghost use Rattle.cp_machine.specs.Step.{echoed};
+ghost use Rattle.cp_state.specs.Halts.{Acts, Quiet};
+ghost use Rattle.cp_state.specs.StateOf.{state_of};
+
+use crate::on_resolve::given_back;
+use crate::short_lists::are_short;
+use cp_machine::{Effect, PeerFault};
+use cp_rpc::{Message, SchemaFault, message_of, tree_of};
+use cp_rules::lower::lower;
+use cp_state::{Core, Halt};
+use cp_tree::{Whole, fits};
+
+/// A Resolve that the peer doesn't know gives back what it named. Any other message is one that this
+/// vat needs.
+pub(crate) fn on_unimplemented(core: &mut Core, tree: Whole) -> Result<(), Halt>
+    ensures { Quiet (OnUnimplemented (state_of core.old) tree) result (state_of core.new) }
+{
+    let Ok(root) = tree.into_object() else {
+        return Err(Halt::Fault(PeerFault::PeerLacksLevelOne));
+    };
+    match message_of(core.alloc, &root) {
+        Ok(message) => unknown_to_peer(core, &message),
+        Err(fault) => match fault {
+            SchemaFault::OutOfMemory => Err(Halt::OutOfMemory),
+            _ => Err(Halt::Fault(PeerFault::PeerLacksLevelOne)),
+        },
+    }
+}
+
+/// What a message does that the peer doesn't know.
+fn unknown_to_peer(core: &mut Core, message: &Message) -> Result<(), Halt>
+    ensures { Quiet (UnknownToPeer (state_of core.old) (Some message.now)) result (state_of core.new) }
+{
+    let Message::Resolve(resolve) = message else {
+        return Err(Halt::Fault(PeerFault::PeerLacksLevelOne));
+    };
+    let Some(id) = given_back(&resolve.resolution) else {
+        return Ok(());
+    };
+    if let Err(fault) = lower(&mut core.exports, &[id]) {
+        return Err(Halt::Fault(fault));
+    }
+    Ok(())
+}
+
+/// How deep a tree is at most that an Unimplemented holds.
+const ECHO_DEPTH: u32 = 63;
+
+/// How much it costs at most.
+const ECHO_COST: u64 = 8_388_605;
+
+/// A message that isn't supported is sent back as its tree, if that can be written.
+pub(crate) fn echo(core: &Core, message: &Message, effects: &mut Vec<Effect>) -> Result<(), Halt>
+    ensures { Acts (λ out. out ≡ echoed (state_of core.now) message.now) result effects.old.items effects.new.items (state_of core.now) }
+{
+    if !are_short(message) {
+        return Err(Halt::Fault(PeerFault::EchoTooLarge));
+    }
+    // Since no list is too long, it is made unless memory runs out.
+    let Ok(root) = tree_of(core.alloc, message) else {
+        return Err(Halt::OutOfMemory);
+    };
+    if !fits(root.tree(), ECHO_DEPTH, ECHO_COST) {
+        return Err(Halt::Fault(PeerFault::EchoTooLarge));
+    }
+    let tree = Whole::from_shaped(root.into_tree());
+    effects.push(Effect::Send(Message::Unimplemented(tree)))?;
+    Ok(())
+}

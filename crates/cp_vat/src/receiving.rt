@@ -1,0 +1,67 @@
+//! What a message does by itself.
+
+ghost use Rattle.std.specs.Prelude.{◌≡◌, true};
+ghost use Rattle.cp_machine.specs.Step.{On, Receives};
+ghost use Rattle.cp_machine.specs.Supported.{is_supported};
+ghost use Rattle.cp_machine.specs.Resolving.{OnAbort};
+ghost use Rattle.cp_state.specs.Halts.{Acts};
+ghost use Rattle.cp_state.specs.StateOf.{state_of};
+
+use crate::on_bootstrap::on_bootstrap;
+use crate::on_call::on_call;
+use crate::on_disembargo::on_disembargo;
+use crate::on_finish::{on_finish, on_release};
+use crate::on_resolve::on_resolve;
+use crate::on_return::on_return;
+use crate::on_unimplemented::{echo, on_unimplemented};
+use crate::sizes::message_fits;
+use crate::supported::is_supported;
+use cp_machine::{Effect, PeerFault, Reason};
+use cp_rpc::{Exception, Message};
+use cp_state::{Core, Halt};
+
+/// A message that isn't supported is sent back. Of another one the sizes are looked at, and then it is
+/// acted on.
+pub(crate) fn receive(
+    core: &mut Core,
+    message: Message,
+    effects: &mut Vec<Effect>,
+) -> Result<(), Halt>
+    ensures { Acts (Receives (state_of core.old) message) result effects.old.items effects.new.items (state_of core.new) }
+{
+    if !is_supported(&message) {
+        return echo(core, &message, effects);
+    }
+    if !message_fits(&message) {
+        return Err(Halt::Fault(PeerFault::PayloadTooLarge));
+    }
+    act_on(core, message, effects)
+}
+
+/// What a message does, by its member.
+fn act_on(core: &mut Core, message: Message, effects: &mut Vec<Effect>) -> Result<(), Halt>
+    requires { is_supported message ≡ true }
+    ensures { Acts (On (state_of core.old) message) result effects.old.items effects.new.items (state_of core.new) }
+{
+    match message {
+        Message::Unimplemented(tree) => on_unimplemented(core, tree),
+        Message::Abort(exception) => on_abort(core, exception, effects),
+        Message::Call(call) => on_call(core, call, effects),
+        Message::Return(message) => on_return(core, message, effects),
+        Message::Finish(finish) => on_finish(core, finish),
+        Message::Resolve(resolve) => on_resolve(core, resolve, effects),
+        Message::Release(release) => on_release(core, release),
+        Message::Bootstrap(bootstrap) => on_bootstrap(core, bootstrap.question_id, effects),
+        Message::Disembargo(disembargo) => on_disembargo(core, &disembargo, effects),
+        Message::Other { .. } => unreachable!(),
+    }
+}
+
+/// An Abort closes the vat.
+fn on_abort(core: &mut Core, exception: Exception, effects: &mut Vec<Effect>) -> Result<(), Halt>
+    ensures { Acts (OnAbort (state_of core.old) exception) result effects.old.items effects.new.items (state_of core.new) }
+{
+    core.is_closed = true;
+    effects.push(Effect::Closed(Reason::Peer(exception)))?;
+    Ok(())
+}

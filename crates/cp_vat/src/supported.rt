@@ -1,0 +1,99 @@
+//! Which messages a vat of level 1 acts on.
+
+ghost use Rattle.std.specs.Prelude.{◌≡◌};
+ghost use Rattle.std.specs.List.{list_all};
+ghost use Rattle.cp_machine.specs.Supported.{is_supported, is_supported_context, is_supported_descriptor, is_supported_resolution, is_supported_returned, is_supported_target, is_supported_transform};
+
+use cp_rpc::{Context, Descriptor, Message, Op, Resolution, Returned, SendResultsTo, Target};
+
+/// Whether a message has no member that is unknown (the type of an exception aside), of three-party
+/// handoff or of tail calls.
+pub(crate) fn is_supported(message: &Message) -> bool
+    ensures { result ≡ is_supported message.now }
+{
+    match message {
+        Message::Call(call) => {
+            matches!(&call.send_results_to, SendResultsTo::Caller)
+                && is_supported_target(&call.target)
+                && are_supported(call.params.cap_table.descriptors())
+        }
+        Message::Return(returned) => is_supported_returned(&returned.returned),
+        Message::Resolve(resolve) => is_supported_resolution(&resolve.resolution),
+        Message::Disembargo(disembargo) => {
+            is_loopback(&disembargo.context) && is_supported_target(&disembargo.target)
+        }
+        Message::Other { .. } => false,
+        _ => true,
+    }
+}
+
+fn is_supported_target(target: &Target) -> bool
+    ensures { result ≡ is_supported_target target.now }
+{
+    match target {
+        Target::ImportedCap(_) => true,
+        Target::PromisedAnswer(answer) => is_supported_transform(answer.transform.ops()),
+        Target::Unknown(_) => false,
+    }
+}
+
+fn is_supported_transform(transform: &[Op]) -> bool
+    ensures { result ≡ is_supported_transform transform.now }
+{
+    for op in transform {
+        if let Op::Unknown(_) = op {
+            return false;
+        }
+    }
+    true
+}
+
+fn are_supported(table: &[Descriptor]) -> bool
+    ensures { result ≡ list_all is_supported_descriptor table.now }
+{
+    for descriptor in table {
+        if !is_supported_descriptor(descriptor) {
+            return false;
+        }
+    }
+    true
+}
+
+fn is_supported_descriptor(descriptor: &Descriptor) -> bool
+    ensures { result ≡ is_supported_descriptor descriptor.now }
+{
+    match descriptor {
+        Descriptor::ReceiverAnswer(answer) => is_supported_transform(answer.transform.ops()),
+        Descriptor::ThirdPartyHosted(_) | Descriptor::Unknown(_) => false,
+        _ => true,
+    }
+}
+
+fn is_supported_returned(returned: &Returned) -> bool
+    ensures { result ≡ is_supported_returned returned.now }
+{
+    match returned {
+        Returned::Results(payload) => are_supported(payload.cap_table.descriptors()),
+        Returned::Exception(_) | Returned::Canceled => true,
+        _ => false,
+    }
+}
+
+fn is_supported_resolution(resolution: &Resolution) -> bool
+    ensures { result ≡ is_supported_resolution resolution.now }
+{
+    match resolution {
+        Resolution::Cap(descriptor) => is_supported_descriptor(descriptor),
+        Resolution::Exception(_) => true,
+        Resolution::Unknown(_) => false,
+    }
+}
+
+fn is_loopback(context: &Context) -> bool
+    ensures { result ≡ is_supported_context context.now }
+{
+    matches!(
+        context,
+        Context::SenderLoopback(_) | Context::ReceiverLoopback(_)
+    )
+}

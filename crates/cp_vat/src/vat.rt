@@ -1,0 +1,211 @@
+//! One end of a connection.
+
+ghost use Rattle.std.specs.Prelude.{◌≡◌};
+ghost use Rattle.cp_machine.specs.State.{new_state};
+ghost use Rattle.cp_machine.specs.Step.{Step};
+ghost use Rattle.cp_machine.specs.declared.event.Event.TheVariants as events;
+ghost use Rattle.cp_machine.specs.declared.event.Value.TheVariants as values;
+ghost use Rattle.cp_vat.specs.Stepping.{answered, effects_of};
+
+use crate::ending::{end_call, end_message};
+use crate::{answering, asking, calling, giving_up, receiving};
+use cp_machine::{Acted, Idle, VatFault};
+use cp_refs::{Cap, Origin, Outcome, PromiseId, Request};
+use cp_rpc::Message;
+use cp_state::Core;
+use std::alloc::Global;
+use std::marker::Model;
+
+/// One end of a connection. Each call is a step: it answers with its effects, in order, or refuses and
+/// changes nothing. Where a growth was refused it answers V10, and the vat is closed: V9 from then on.
+#[derive(Drop)]
+pub struct Vat {
+    core: Core,
+}
+
+impl Model for Vat {
+    ghost use Rattle.cp_machine.specs.State.{State};
+    ghost use Rattle.cp_vat.specs.StateCode.{state_code};
+
+    ghost Value = { State };
+
+    ghost coded = { state_code };
+
+    ghost use Rattle.cp_state.specs.StateOf.{state_of};
+
+    ghost view = { λ v. state_of v.core };
+
+    ghost use Rattle.cp_vat.specs.Stepping.{Rests};
+
+    ghost invariant = { λ v. Rests (state_of v.core) };
+}
+
+impl Vat {
+    /// A new vat, which gives this object to a Bootstrap.
+    pub fn new(alloc: Global, bootstrap: Option<u32>) -> Vat
+        ensures { result ≡ new_state bootstrap }
+    {
+        Vat {
+            core: Core::new(alloc, bootstrap),
+        }
+    }
+
+    /// Takes in a message of the peer's.
+    pub fn receive(&mut self, message: Message) -> Result<Acted<()>, VatFault>
+        ensures { Step self.old (events.Receive message) (answered (λ _. values.Nothing) result) (effects_of result) self.new }
+    {
+        if self.core.is_closed {
+            return Err(VatFault::Closed);
+        }
+        let mut effects = Vec::new(self.core.alloc);
+        let done = receiving::receive(&mut self.core, message, &mut effects);
+        end_message(&mut self.core, done, effects)
+    }
+
+    /// Asks for the peer's bootstrap capability, and gives the question's number.
+    ///
+    /// # Errors
+    ///
+    /// V8 where the table of questions is full.
+    pub fn bootstrap(&mut self) -> Result<Acted<u32>, VatFault>
+        ensures { Step self.old events.Bootstrap (answered (λ q. values.Question q) result) (effects_of result) self.new }
+    {
+        if self.core.is_closed {
+            return Err(VatFault::Closed);
+        }
+        let mut effects = Vec::new(self.core.alloc);
+        let done = asking::bootstrap(&mut self.core, &mut effects);
+        end_call(&mut self.core, done, effects)
+    }
+
+    /// Calls a capability, and gives the question's number.
+    ///
+    /// # Errors
+    ///
+    /// V1 or V2 where a question or a promise that is named isn't there, V5 where the table names a
+    /// path of an open local question, V7 past the sizes, V8 where a table is full, V11 where an import
+    /// isn't held.
+    pub fn call(&mut self, cap: Cap, request: Request) -> Result<Acted<u32>, VatFault>
+        ensures { Step self.old (events.Call cap request) (answered (λ q. values.Question q) result) (effects_of result) self.new }
+    {
+        if self.core.is_closed {
+            return Err(VatFault::Closed);
+        }
+        let mut effects = Vec::new(self.core.alloc);
+        let done = calling::call(&mut self.core, cap, request, &mut effects);
+        end_call(&mut self.core, done, effects)
+    }
+
+    /// Answers a call that was delivered.
+    ///
+    /// # Errors
+    ///
+    /// V1 where the call wasn't delivered or was answered, or a question that is named isn't there, V2
+    /// where a promise isn't, V5 where a path of a question is named, V7 past the sizes, V8 where a
+    /// table is full, V11 where an import isn't held.
+    pub fn answer(&mut self, origin: Origin, outcome: Outcome) -> Result<Acted<()>, VatFault>
+        ensures { Step self.old (events.Answer origin outcome) (answered (λ _. values.Nothing) result) (effects_of result) self.new }
+    {
+        if self.core.is_closed {
+            return Err(VatFault::Closed);
+        }
+        let mut effects = Vec::new(self.core.alloc);
+        let done = answering::answer(&mut self.core, origin, outcome, &mut effects);
+        end_call(&mut self.core, done, effects)
+    }
+
+    /// Makes an open promise.
+    ///
+    /// # Errors
+    ///
+    /// V8 where there are 65,536.
+    pub fn promise(&mut self) -> Result<Acted<PromiseId>, VatFault>
+        ensures { Step self.old events.Promise (answered (λ p. values.Promise p) result) (effects_of result) self.new }
+    {
+        if self.core.is_closed {
+            return Err(VatFault::Closed);
+        }
+        let effects = Vec::new(self.core.alloc);
+        let done = asking::promise(&mut self.core);
+        end_call(&mut self.core, done, effects)
+    }
+
+    /// Settles a promise that the application made.
+    ///
+    /// # Errors
+    ///
+    /// V1 where the value names a question that isn't there, V2 where the promise isn't the
+    /// application's or the value's isn't there, V3 where it is settled, V4 where the value leads back
+    /// to it, V5 where the value is a path of a question, V7 past the sizes, V8 where a table is full,
+    /// V11 where the value's import isn't held.
+    pub fn resolve(&mut self, promise: PromiseId, value: Cap) -> Result<Acted<()>, VatFault>
+        ensures { Step self.old (events.Resolve promise value) (answered (λ _. values.Nothing) result) (effects_of result) self.new }
+    {
+        if self.core.is_closed {
+            return Err(VatFault::Closed);
+        }
+        let mut effects = Vec::new(self.core.alloc);
+        let done = answering::resolve(&mut self.core, promise, value, &mut effects);
+        end_call(&mut self.core, done, effects)
+    }
+
+    /// Gives a question up.
+    ///
+    /// # Errors
+    ///
+    /// V1 where it isn't the application's or was finished, V6 where it is in use.
+    pub fn finish(&mut self, question: u32) -> Result<Acted<()>, VatFault>
+        ensures { Step self.old (events.Finish question) (answered (λ _. values.Nothing) result) (effects_of result) self.new }
+    {
+        if self.core.is_closed {
+            return Err(VatFault::Closed);
+        }
+        let mut effects = Vec::new(self.core.alloc);
+        let done = giving_up::finish(&mut self.core, question, &mut effects);
+        end_call(&mut self.core, done, effects)
+    }
+
+    /// Gives an import back, with its whole count.
+    ///
+    /// # Errors
+    ///
+    /// V6 where it is in use, V11 where it isn't held.
+    pub fn release(&mut self, import: u32) -> Result<Acted<()>, VatFault>
+        ensures { Step self.old (events.Release import) (answered (λ _. values.Nothing) result) (effects_of result) self.new }
+    {
+        if self.core.is_closed {
+            return Err(VatFault::Closed);
+        }
+        let mut effects = Vec::new(self.core.alloc);
+        let done = giving_up::release(&mut self.core, import, &mut effects);
+        end_call(&mut self.core, done, effects)
+    }
+
+    /// Drops a settled promise.
+    ///
+    /// # Errors
+    ///
+    /// V2 where it isn't there, V5 where it is open, V6 where it is in use.
+    pub fn forget(&mut self, promise: PromiseId) -> Result<Acted<()>, VatFault>
+        ensures { Step self.old (events.Forget promise) (answered (λ _. values.Nothing) result) (effects_of result) self.new }
+    {
+        if self.core.is_closed {
+            return Err(VatFault::Closed);
+        }
+        let effects = Vec::new(self.core.alloc);
+        let done = giving_up::forget(&mut self.core, promise);
+        end_call(&mut self.core, done, effects)
+    }
+
+    /// The imports and the promises that aren't in use.
+    pub fn idle(&mut self) -> Result<Acted<Idle>, VatFault>
+        ensures { Step self.old events.Idle (answered (λ idle. values.Idle idle.imports idle.promises) result) (effects_of result) self.new }
+    {
+        if self.core.is_closed {
+            return Err(VatFault::Closed);
+        }
+        let effects = Vec::new(self.core.alloc);
+        let done = giving_up::idle(&self.core);
+        end_call(&mut self.core, done, effects)
+    }
+}
