@@ -1,0 +1,36 @@
+//! Exchanges of a vat with its peer, and of two vats. Each is a script: what comes, and behind it all
+//! that follows.
+#![tactic(auto)]
+
+#[cfg(test)]
+mod beginnings;
+#[cfg(test)]
+mod bytes;
+#[cfg(test)]
+mod calls;
+#[cfg(test)]
+mod counts;
+#[cfg(test)]
+mod embargoes;
+#[cfg(test)]
+mod faults;
+#[cfg(test)]
+mod limits;
+#[cfg(test)]
+mod pairs;
+#[cfg(test)]
+mod playing;
+#[cfg(test)]
+mod promises;
+#[cfg(test)]
+mod reading;
+#[cfg(test)]
+mod references;
+#[cfg(test)]
+mod refusals;
+#[cfg(test)]
+mod running;
+#[cfg(test)]
+mod showing;
+#[cfg(test)]
+mod worlds;
