@@ -1,5 +1,5 @@
-//! Cap'n Proto messages and the messages of two-party RPC: read from streams, looked at in place, and
-//! written. List `jamdrosek` in crates.txt; it re-exports the proved crates below.
+//! Cap'n Proto messages and two-party RPC: messages read from streams, looked at in place and written, and
+//! one end of a connection. List `jamdrosek` in crates.txt; it re-exports the proved crates below.
 //!
 //! # Read a stream of messages
 //!
@@ -50,12 +50,24 @@
 //! let written = write_message(alloc, &mut out, &message, Mode::Packed, Limits::standard());
 //! ```
 //!
+//! # Call an object
+//!
+//! A `Vat` is one end of a connection. Messages and calls go in, and effects come out, in order. The program
+//! example_vat has two of them, and answers what this calls:
+//!
+//! ```
+//! let asked = client.bootstrap().map_err(refused)?;
+//! let object = Cap::Pipelined(asked.value, Path::new(Vec::new(alloc)));
+//! send(asked.effects.into_effects(), &mut to_server)?;
+//! let called = client.call(object, request).map_err(refused)?;
+//! ```
+//!
 //! # The layers
 //!
 //! ```text
-//! words ── tree ─┬─ reading ── message ─┬─ stream
+//! words ── tree ─┬─ reading ── message ─┬─ vat
 //!                └─ writing ────────────┤
-//! packed ── frame ──────────────────────┘
+//! packed ── frame ──────────────────────┴─ stream
 //! ```
 //!
 //! - `words`: pointer words, segments and limits.
@@ -64,13 +76,16 @@
 //! - `packed`, `frame`: the packed form, and the frames of a stream in any pieces.
 //! - `message`: the messages of rpc.capnp, owned or read in place.
 //! - `stream`: messages read from and written to streams.
+//! - `vat`: one end of a connection, with the capabilities, events and effects that it takes and gives.
 //!
-//! Each module is one crate, whole: `words` is cp_words, `message` is cp_rpc, and any other has its crate's
-//! name. The names that most programs need stand here too. `docs/PROVED.md` says what is proved of each.
+//! Each module but `vat` is one crate, whole: `words` is cp_words, `message` is cp_rpc, and any other has its
+//! crate's name. The names that most programs need stand here too. `docs/PROVED.md` says what is proved of each.
 //!
 //! A program needs no other crate of these in crates.txt. A contract that cites a definition of one, as
 //! `Rattle.cp_stream.specs.Stream`, needs that crate listed as well.
 #![tactic(auto)]
+
+pub mod vat;
 
 pub use cp_frame as frame;
 pub use cp_frame::{FrameReader, Mode};

@@ -1,0 +1,21 @@
+//! One end of a connection (cp_vat), and what goes in and out of it.
+//!
+//! A `Vat` has no connection of its own. Give it each message of the peer by `receive`, in order, and do
+//! what its effects ask, in order:
+//!
+//! - `Send`: write the message to the peer.
+//! - `Deliver`: the call goes to this object of yours. Answer it once by `answer` with its origin, at once
+//!   or later.
+//! - `Settled`: a question of yours came to this outcome. `finish` gives it up, and what it holds.
+//! - `Closed`: the connection is over. Every later call of the vat is refused (V9).
+//!
+//! `bootstrap` and `call` give a question's number. `Cap::Pipelined` with it is what it will give at a path
+//! of pointer fields, and may be called, or sent in a table, before it came. `promise` makes a promise of
+//! yours, and `resolve` settles it. `release` gives an import back, and `forget` drops a settled promise;
+//! `idle` says which of these nothing uses any more.
+
+pub use cp_machine::{
+    Acted, Effect, Effects, Event, Idle, Ids, PeerFault, Reason, Value, VatFault,
+};
+pub use cp_refs::{Cap, Caps, Origin, Outcome, Path, PromiseId, Request};
+pub use cp_vat::Vat;
