@@ -46,11 +46,11 @@ pub record BodiesWithin (n d : ℕ) (bs : Bodies) : Type 0 where
 null_within : (n d : ℕ) → Within n d null
 null_within n d = record { deep = omega arith; dear = omega arith }
 
-no_row : (n : ℕ) → RowWithin n 0 no_nodes
-no_row n = record { deep = omega arith; dear = omega arith }
+no_more_trees : (n : ℕ) → RowWithin n 0 no_nodes
+no_more_trees n = record { deep = omega arith; dear = omega arith }
 
-row : (n d e : ℕ) (t : Node) (ts : Nodes) → Within n d t → RowWithin n e ts → RowWithin n (d + e) (node t ts)
-row n d e t ts here rest =
+first_tree : (n d e : ℕ) (t : Node) (ts : Nodes) → Within n d t → RowWithin n e ts → RowWithin n (d + e) (node t ts)
+first_tree n d e t ts here rest =
     let a = here.dear in
     let b = rest.dear in
     record { deep = max-le here.deep rest.deep; dear = omega arith }
@@ -75,7 +75,7 @@ text_within (b ∷ bs) short = let n = length-append (b ∷ bs) (0 ∷ []) in re
 exception_within : (x : Exception) → exception_fits x ≡ true → Within 2 16392 (exception_made x)
 exception_within x fits =
     let sizes = both (leb (length x.reason) 65536) (leb (length x.trace) 65536) fits in
-    let rows = row 1 8194 8194 _ _ (text_within x.reason (at_most _ _ sizes.0)) (row 1 8194 0 _ _ (text_within x.trace (at_most _ _ sizes.1)) (no_row 1)) in
+    let rows = first_tree 1 8194 8194 _ _ (text_within x.reason (at_most _ _ sizes.0)) (first_tree 1 8194 0 _ _ (text_within x.trace (at_most _ _ sizes.1)) (no_more_trees 1)) in
     struct_within 1 16388 16392 _ _ rows (omega arith)
 
 -- ---- paths
@@ -96,7 +96,7 @@ transform_within (op ∷ ops) short =
     record { deep = omega arith; dear = omega arith }
 
 promised_within : (p : PromisedAnswer) → leb (length p.transform) 16 ≡ true → Within 2 37 (promised_answer_made p)
-promised_within p short = struct_within 1 34 37 _ _ (row 1 34 0 _ _ (transform_within p.transform (at_most _ _ short)) (no_row 1)) (omega arith)
+promised_within p short = struct_within 1 34 37 _ _ (first_tree 1 34 0 _ _ (transform_within p.transform (at_most _ _ short)) (no_more_trees 1)) (omega arith)
 
 target_pointer_within : (t : Target) → TargetSaid t → Within 2 37 (target_pointer t)
 target_pointer_within (targets.ImportedCap id) said = null_within 2 37
@@ -104,7 +104,7 @@ target_pointer_within (targets.PromisedAnswer p) said = promised_within p said
 target_pointer_within (targets.Unknown n) said = null_within 2 37
 
 target_within : (t : Target) → TargetSaid t → Within 3 40 (target_made t)
-target_within t said = struct_within 2 37 40 _ _ (row 2 37 0 _ _ (target_pointer_within t said) (no_row 2)) (omega arith)
+target_within t said = struct_within 2 37 40 _ _ (first_tree 2 37 0 _ _ (target_pointer_within t said) (no_more_trees 2)) (omega arith)
 
 -- ---- capability tables
 pointer_within : (d : Descriptor) → IsSaid d → Within 2 37 (descriptor_pointer d)
@@ -117,7 +117,7 @@ pointer_within (descriptors.ThirdPartyHosted t) said = absurd said
 pointer_within (descriptors.Unknown n) said = null_within 2 37
 
 descriptor_within : (d : Descriptor) → IsSaid d → Within 3 40 (descriptor_made d)
-descriptor_within d said = struct_within 2 37 40 _ _ (row 2 37 0 _ _ (pointer_within d said) (no_row 2)) (omega arith)
+descriptor_within d said = struct_within 2 37 40 _ _ (first_tree 2 37 0 _ _ (pointer_within d said) (no_more_trees 2)) (omega arith)
 
 each_within : (ds : List Descriptor) → AreSaid ds → BodiesWithin 2 (37 * length ds) (bodies_of (map body_made (map descriptor_made ds)))
 each_within [] said = record { deep = omega arith; dear = omega arith }
@@ -142,7 +142,7 @@ payload_within p said =
     let sizes = both (leb (depth p.content) 60) (leb (cost p.content) 4194304) said.0 in
     let content : Within 60 4194304 p.content = record { deep = at_most _ _ sizes.0; dear = at_most _ _ sizes.1 } in
     let table = wider 3 60 40962 40962 _ (table_within p.cap_table said.1 said.2) (omega arith) (omega arith) in
-    struct_within 60 4235266 4235269 _ _ (row 60 4194304 40962 _ _ content (row 60 40962 0 _ _ table (no_row 60))) (omega arith)
+    struct_within 60 4235266 4235269 _ _ (first_tree 60 4194304 40962 _ _ content (first_tree 60 40962 0 _ _ table (no_more_trees 60))) (omega arith)
 
 -- ---- messages
 third_within : (to : SendResultsTo) → to ≡ results_to.Caller → Within 61 0 (third_party_made to)
@@ -151,7 +151,7 @@ third_within to is = subst (λ to. Within 61 0 (third_party_made to)) (sym is) (
 call_within : (c : Call) → TargetSaid c.target × PayloadSaid c.params × (c.send_results_to ≡ results_to.Caller) → Within 62 4235316 (call_made c)
 call_within c said =
     let target = wider 3 61 40 40 _ (target_within c.target said.0) (omega arith) (omega arith) in
-    let rows = row 61 40 4235269 _ _ target (row 61 4235269 0 _ _ (payload_within c.params said.1) (row 61 0 0 _ _ (third_within c.send_results_to said.2) (no_row 61))) in
+    let rows = first_tree 61 40 4235269 _ _ target (first_tree 61 4235269 0 _ _ (payload_within c.params said.1) (first_tree 61 0 0 _ _ (third_within c.send_results_to said.2) (no_more_trees 61))) in
     struct_within 61 4235309 4235316 _ _ rows (omega arith)
 
 returned_within : (r : Returned) → ReturnedSaid r → Within 61 4235269 (returned_pointer r)
@@ -170,7 +170,7 @@ resolution_within (resolutions.Unknown n) said = absurd said
 
 written : (m : Message) → Within 62 4235400 (member_made m) → IsWritable m
 written m here =
-    let whole : Within 63 4235403 (message_made m) = struct_within 62 4235400 4235403 _ _ (row 62 4235400 0 _ _ here (no_row 62)) (omega arith) in
+    let whole : Within 63 4235403 (message_made m) = struct_within 62 4235400 4235403 _ _ (first_tree 62 4235400 0 _ _ here (no_more_trees 62)) (omega arith) in
     let deep : depth (message_made m) ≤ 64 = let a = whole.deep in omega arith in
     let dear : cost (message_made m) ≤ 8388608 = let b = whole.dear in omega arith in
     all_both _ _ (is_most (depth (message_made m)) 64 deep) (is_most (cost (message_made m)) 8388608 dear)
@@ -180,22 +180,22 @@ can_write (messages.Unimplemented t) said = said
 can_write (messages.Abort x) said = written (messages.Abort x) (wider 2 62 16392 4235400 (exception_made x) (exception_within x said) (omega arith) (omega arith))
 can_write (messages.Call c) said = written (messages.Call c) (wider 62 62 4235316 4235400 (call_made c) (call_within c said) (omega arith) (omega arith))
 can_write (messages.Return r) said =
-    let here : Within 62 4235400 (return_made r) = struct_within 61 4235269 4235400 _ _ (row 61 4235269 0 _ _ (returned_within r.returned said) (no_row 61)) (omega arith) in
+    let here : Within 62 4235400 (return_made r) = struct_within 61 4235269 4235400 _ _ (first_tree 61 4235269 0 _ _ (returned_within r.returned said) (no_more_trees 61)) (omega arith) in
     written (messages.Return r) here
 can_write (messages.Finish f) said =
-    let here : Within 1 3 (finish_made f) = struct_within 0 0 3 _ _ (no_row 0) (omega arith) in
+    let here : Within 1 3 (finish_made f) = struct_within 0 0 3 _ _ (no_more_trees 0) (omega arith) in
     written (messages.Finish f) (wider 1 62 3 4235400 (finish_made f) here (omega arith) (omega arith))
 can_write (messages.Resolve r) said =
-    let here : Within 4 16400 (resolve_made r) = struct_within 3 16392 16400 _ _ (row 3 16392 0 _ _ (resolution_within r.resolution said) (no_row 3)) (omega arith) in
+    let here : Within 4 16400 (resolve_made r) = struct_within 3 16392 16400 _ _ (first_tree 3 16392 0 _ _ (resolution_within r.resolution said) (no_more_trees 3)) (omega arith) in
     written (messages.Resolve r) (wider 4 62 16400 4235400 (resolve_made r) here (omega arith) (omega arith))
 can_write (messages.Release r) said =
-    let here : Within 1 3 (release_made r) = struct_within 0 0 3 _ _ (no_row 0) (omega arith) in
+    let here : Within 1 3 (release_made r) = struct_within 0 0 3 _ _ (no_more_trees 0) (omega arith) in
     written (messages.Release r) (wider 1 62 3 4235400 (release_made r) here (omega arith) (omega arith))
 can_write (messages.Bootstrap b) said =
-    let here : Within 1 3 (bootstrap_made b) = struct_within 0 0 3 _ _ (row 0 0 0 _ _ (null_within 0 0) (no_row 0)) (omega arith) in
+    let here : Within 1 3 (bootstrap_made b) = struct_within 0 0 3 _ _ (first_tree 0 0 0 _ _ (null_within 0 0) (no_more_trees 0)) (omega arith) in
     written (messages.Bootstrap b) (wider 1 62 3 4235400 (bootstrap_made b) here (omega arith) (omega arith))
 can_write (messages.Disembargo d) said =
-    let here : Within 4 50 (disembargo_made d) = struct_within 3 40 50 _ _ (row 3 40 0 _ _ (target_within d.target said) (no_row 3)) (omega arith) in
+    let here : Within 4 50 (disembargo_made d) = struct_within 3 40 50 _ _ (first_tree 3 40 0 _ _ (target_within d.target said) (no_more_trees 3)) (omega arith) in
     written (messages.Disembargo d) (wider 4 62 50 4235400 (disembargo_made d) here (omega arith) (omega arith))
 can_write (messages.Other which t) said = absurd said
 
