@@ -4,6 +4,8 @@ ghost use Rattle.std.specs.Prelude.{◌≡◌};
 ghost use Rattle.cp_frame.specs.declared.fault.FrameFault.TheVariants.{OutOfMemory};
 
 use std::alloc::{AllocError, AllocFailed};
+use std::error::Error;
+use std::fmt;
 
 /// What is wrong with a frame, or with the call.
 #[derive(Clone, Copy, PartialEq, Eq, Debug)]
@@ -21,6 +23,21 @@ pub enum FrameFault {
     /// F6: memory ran out.
     OutOfMemory,
 }
+
+impl fmt::Display for FrameFault {
+    fn fmt<W: fmt::Write>(&self, f: &mut fmt::Formatter<W>) -> fmt::Result {
+        f.write_str(match self {
+            FrameFault::TooManySegments => "F1 TooManySegments",
+            FrameFault::FrameTooLarge => "F2 FrameTooLarge",
+            FrameFault::Truncated => "F3 Truncated",
+            FrameFault::RunPastFrame => "F4 RunPastFrame",
+            FrameFault::Failed => "F5 Failed",
+            FrameFault::OutOfMemory => "F6 OutOfMemory",
+        })
+    }
+}
+
+impl Error for FrameFault {}
 
 impl From<AllocError> for FrameFault {
     ghost from_gives = { λ _ e. e ≡ OutOfMemory };

@@ -1,6 +1,8 @@
 //! What a peer can do wrong, and what an application's call can be refused for.
 
 use std::alloc::{AllocError, AllocFailed};
+use std::error::Error;
+use std::fmt;
 
 /// A fault of the peer. It is answered by an Abort of type failed with its text as the reason.
 #[derive(Clone, Copy, PartialEq, Eq, Debug)]
@@ -56,6 +58,19 @@ impl PeerFault {
     }
 }
 
+impl fmt::Display for PeerFault {
+    ghost use Rattle.std.specs.Prelude.{Some};
+    ghost use Rattle.cp_machine.specs.Texts.{text_of};
+
+    ghost output = { λ f. Some (text_of f) };
+
+    fn fmt<W: fmt::Write>(&self, f: &mut fmt::Formatter<W>) -> fmt::Result {
+        f.write_str(self.text())
+    }
+}
+
+impl Error for PeerFault {}
+
 /// Why a call of the application is refused. But for V10, a refused call changes nothing.
 #[derive(Clone, Copy, PartialEq, Eq, Debug)]
 pub enum VatFault {
@@ -83,6 +98,26 @@ pub enum VatFault {
     /// V11: no import.
     UnknownImport,
 }
+
+impl fmt::Display for VatFault {
+    fn fmt<W: fmt::Write>(&self, f: &mut fmt::Formatter<W>) -> fmt::Result {
+        f.write_str(match self {
+            VatFault::UnknownQuestion => "V1 UnknownQuestion",
+            VatFault::UnknownPromise => "V2 UnknownPromise",
+            VatFault::AlreadyResolved => "V3 AlreadyResolved",
+            VatFault::PromiseCycle => "V4 PromiseCycle",
+            VatFault::Unsettled => "V5 Unsettled",
+            VatFault::InUse => "V6 InUse",
+            VatFault::TooLarge => "V7 TooLarge",
+            VatFault::Full => "V8 Full",
+            VatFault::Closed => "V9 Closed",
+            VatFault::OutOfMemory => "V10 OutOfMemory",
+            VatFault::UnknownImport => "V11 UnknownImport",
+        })
+    }
+}
+
+impl Error for VatFault {}
 
 impl From<AllocError> for VatFault {
     ghost use Rattle.std.specs.Prelude.{◌≡◌};

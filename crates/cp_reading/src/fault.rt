@@ -2,6 +2,8 @@
 
 use cp_words::Place;
 use std::alloc::{AllocError, AllocFailed};
+use std::error::Error;
+use std::fmt;
 
 /// What is wrong with a message's words, and the pointer word that is to blame: one that stands in
 /// a body, or segment 0 word 0 for the root.
@@ -29,6 +31,26 @@ pub enum TreeFault {
     /// G10: memory ran out.
     OutOfMemory,
 }
+
+impl fmt::Display for TreeFault {
+    fn fmt<W: fmt::Write>(&self, f: &mut fmt::Formatter<W>) -> fmt::Result {
+        let (name, at) = match self {
+            TreeFault::NoRoot(at) => ("G1 NoRoot", at),
+            TreeFault::RootKind(at) => ("G2 RootKind", at),
+            TreeFault::OutOfBounds(at) => ("G3 OutOfBounds", at),
+            TreeFault::NoSegment(at) => ("G4 NoSegment", at),
+            TreeFault::BadPad(at) => ("G5 BadPad", at),
+            TreeFault::BadTag(at) => ("G6 BadTag", at),
+            TreeFault::BadCapability(at) => ("G7 BadCapability", at),
+            TreeFault::NestingLimit(at) => ("G8 NestingLimit", at),
+            TreeFault::TraversalLimit(at) => ("G9 TraversalLimit", at),
+            TreeFault::OutOfMemory => return f.write_str("G10 OutOfMemory"),
+        };
+        write!(f, "{name} {at}")
+    }
+}
+
+impl Error for TreeFault {}
 
 impl From<AllocError> for TreeFault {
     ghost use Rattle.std.specs.Prelude.{◌≡◌};

@@ -1,6 +1,7 @@
 //! What keeps a tree from being a message.
 
 use std::alloc::{AllocError, AllocFailed};
+use std::error::Error;
 use std::fmt;
 
 /// A field of rpc.capnp, by its struct's name and its own.
@@ -84,6 +85,18 @@ pub enum SchemaFault {
     /// S3: memory ran out.
     OutOfMemory,
 }
+
+impl fmt::Display for SchemaFault {
+    fn fmt<W: fmt::Write>(&self, f: &mut fmt::Formatter<W>) -> fmt::Result {
+        match self {
+            SchemaFault::Kind(field) => write!(f, "S1 Kind {field}"),
+            SchemaFault::Text(field) => write!(f, "S2 Text {field}"),
+            SchemaFault::OutOfMemory => f.write_str("S3 OutOfMemory"),
+        }
+    }
+}
+
+impl Error for SchemaFault {}
 
 impl From<AllocError> for SchemaFault {
     ghost use Rattle.std.specs.Prelude.{◌≡◌};

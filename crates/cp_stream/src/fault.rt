@@ -10,6 +10,8 @@ use cp_reading::TreeFault;
 use cp_rpc::SchemaFault;
 use cp_tree::WriteFault;
 use std::alloc::{AllocError, AllocFailed};
+use std::error::Error;
+use std::fmt;
 
 /// What is wrong with bytes that were read, or with a message that was to be written.
 #[derive(Clone, Copy, PartialEq, Eq, Debug)]
@@ -55,6 +57,30 @@ impl Refusal {
         )
     }
 }
+
+impl fmt::Display for Refusal {
+    fn fmt<W: fmt::Write>(&self, f: &mut fmt::Formatter<W>) -> fmt::Result {
+        match self {
+            Refusal::Frame(fault) => fault.fmt(f),
+            Refusal::Tree(fault) => fault.fmt(f),
+            Refusal::Schema(fault) => fault.fmt(f),
+            Refusal::Write(fault) => fault.fmt(f),
+        }
+    }
+}
+
+impl Error for Refusal {}
+
+impl fmt::Display for StreamFault {
+    fn fmt<W: fmt::Write>(&self, f: &mut fmt::Formatter<W>) -> fmt::Result {
+        match self {
+            StreamFault::Refused { at, refusal } => write!(f, "refused at byte {at}: {refusal}"),
+            StreamFault::Device => f.write_str("device failed"),
+        }
+    }
+}
+
+impl Error for StreamFault {}
 
 impl From<FrameFault> for Refusal {
     ghost from_gives = { λ fault r. r ≡ Frame fault };

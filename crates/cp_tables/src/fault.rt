@@ -1,6 +1,8 @@
 //! Why a call of a table is refused.
 
 use std::alloc::{AllocError, AllocFailed};
+use std::error::Error;
+use std::fmt;
 
 /// Why a call of a table was refused. A refused call changes nothing and drops what it was handed.
 #[derive(Clone, Copy, PartialEq, Eq, Debug)]
@@ -16,6 +18,20 @@ pub enum TableFault {
     /// There was no memory for a new entry.
     OutOfMemory,
 }
+
+impl fmt::Display for TableFault {
+    fn fmt<W: fmt::Write>(&self, f: &mut fmt::Formatter<W>) -> fmt::Result {
+        f.write_str(match self {
+            TableFault::Taken => "number or note taken",
+            TableFault::Unknown => "unknown number",
+            TableFault::TooMany => "lowered past the count",
+            TableFault::Full => "table or count full",
+            TableFault::OutOfMemory => "out of memory",
+        })
+    }
+}
+
+impl Error for TableFault {}
 
 impl From<AllocError> for TableFault {
     ghost use Rattle.std.specs.Prelude.{◌≡◌};

@@ -1,6 +1,8 @@
 //! Why a tree isn't written.
 
 use std::alloc::{AllocError, AllocFailed};
+use std::error::Error;
+use std::fmt;
 
 /// Why a tree isn't written.
 #[derive(Clone, Copy, PartialEq, Eq, Debug)]
@@ -14,6 +16,19 @@ pub enum WriteFault {
     /// B4: its segments have more words together than the limit.
     TooManyWords,
 }
+
+impl fmt::Display for WriteFault {
+    fn fmt<W: fmt::Write>(&self, f: &mut fmt::Formatter<W>) -> fmt::Result {
+        f.write_str(match self {
+            WriteFault::TooDeep => "B1 TooDeep",
+            WriteFault::TooCostly => "B2 TooCostly",
+            WriteFault::OutOfMemory => "B3 OutOfMemory",
+            WriteFault::TooManyWords => "B4 TooManyWords",
+        })
+    }
+}
+
+impl Error for WriteFault {}
 
 impl From<AllocError> for WriteFault {
     ghost use Rattle.std.specs.Prelude.{◌≡◌};

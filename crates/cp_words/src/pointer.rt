@@ -3,6 +3,9 @@
 ghost use Rattle.std.specs.Prelude.{◌≡◌, ◌<◌, ◌≤◌, ◌^◌, ◌-ℤ◌, pos, nat_lt, if◌then◌else◌, Some, ok_or};
 ghost use Rattle.cp_words.specs.Word.{pointer_of, tag_of, size_of, IsOffset, IsWritable, offset_of, size_code, bits_of, words_for, offset_bits, word_of};
 
+use std::error::Error;
+use std::fmt;
+
 /// How large each element of a list is (encoding specification, "Lists").
 #[derive(Clone, Copy, PartialEq, Eq, Debug)]
 pub enum ElementSize {
@@ -50,6 +53,14 @@ pub enum Pointer {
 /// A capability word with one of bits 2 to 31 set.
 #[derive(Clone, Copy, PartialEq, Eq, Debug)]
 pub struct BadCapability;
+
+impl fmt::Display for BadCapability {
+    fn fmt<W: fmt::Write>(&self, f: &mut fmt::Formatter<W>) -> fmt::Result {
+        f.write_str("a capability word with one of bits 2 to 31 set")
+    }
+}
+
+impl Error for BadCapability {}
 
 /// Bits 2 to 31 of a struct or list word, a signed number.
 #[inline(always)]
