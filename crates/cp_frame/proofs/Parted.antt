@@ -4,6 +4,7 @@ use Rattle.std.specs.Global.{Vec}
 use Rattle.std.proofs.lemmas.List.{append-nil}
 use Rattle.cp_words.specs.Limits.{Bounds}
 use Rattle.cp_frame.specs.declared.frame.OpenFrame.{OpenFrame}
+use Rattle.cp_frame.specs.declared.spare.Spare.{Spare}
 use Rattle.cp_frame.specs.declared.rest.Rest.{Rest}
 use Rattle.cp_packed.specs.Words.{bytes_of}
 use Rattle.cp_frame.specs.Stream.{named_sizes}
@@ -46,7 +47,7 @@ module _ (limits : Bounds) (f : OpenFrame) (h : InSegments limits f) (none : f.p
       ap (λ (b : List ℕ). (bytes_of f.table.items ++ b) ++ f.part.items) (e ∙ ap (λ (us : List ℕ). body S us) t.puts ∙ body_more S f.words.items more)
       ∙ rest_more (bytes_of f.table.items) (body S f.words.items) (bytes_of more) f.part.items none
 
-  pub part_open : (W R : Vec ℕ) → W.items ≡ words → (length words ≡ most → ⊥) → TakesPart limits f run left (record { table = f.table; total = f.total; segments = f.segments; words = W; part = f.part; room = R }) next back
+  pub part_open : (W : Vec ℕ) (R : Spare) → W.items ≡ words → (length words ≡ most → ⊥) → TakesPart limits f run left (record { table = f.table; total = f.total; segments = f.segments; words = W; part = f.part; spare = R }) next back
   part_open W R e n = record {
     front = t.front;
     whole = t.whole;
@@ -63,8 +64,8 @@ module _ (limits : Bounds) (f : OpenFrame) (h : InSegments limits f) (none : f.p
     });
   }
 
-  pub part_full : (V : Vec (Vec ℕ)) (W R : Vec ℕ) → length words ≡ most → Fills sizes (lists V.items) W.items → body (lists V.items) W.items ≡ body S words
-      → (length V.items ≡ count_of f.table.items) ⊎ (length W.items < get_or sizes (length V.items) 0) → TakesPart limits f run left (record { table = f.table; total = f.total; segments = V; words = W; part = f.part; room = R }) next back
+  pub part_full : (V : Vec (Vec ℕ)) (W : Vec ℕ) (R : Spare) → length words ≡ most → Fills sizes (lists V.items) W.items → body (lists V.items) W.items ≡ body S words
+      → (length V.items ≡ count_of f.table.items) ⊎ (length W.items < get_or sizes (length V.items) 0) → TakesPart limits f run left (record { table = f.table; total = f.total; segments = V; words = W; part = f.part; spare = R }) next back
   part_full V W R e fills b k = record {
     front = t.front;
     whole = t.whole;
@@ -76,7 +77,7 @@ module _ (limits : Bounds) (f : OpenFrame) (h : InSegments limits f) (none : f.p
   }
     where
       by : (length V.items ≡ count_of f.table.items) ⊎ (length W.items < get_or sizes (length V.items) 0)
-          → InSegments limits (record { table = f.table; total = f.total; segments = V; words = W; part = f.part; room = R }) ⊎ (IsComplete limits (record { table = f.table; total = f.total; segments = V; words = W; part = f.part; room = R }) × (next ≡ 0))
+          → InSegments limits (record { table = f.table; total = f.total; segments = V; words = W; part = f.part; spare = R }) ⊎ (IsComplete limits (record { table = f.table; total = f.total; segments = V; words = W; part = f.part; spare = R }) × (next ≡ 0))
       by (inl all) = inr (record { table = h.table; whole = h.whole; fills = fills; all = all; no_part = none }, t.ends e)
       by (inr less) = inl (record { table = h.table; whole = h.whole; fills = fills; goes_on = less; short = h.short })
 

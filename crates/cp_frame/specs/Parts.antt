@@ -5,6 +5,7 @@ use Rattle.cp_words.specs.Limits.{Bounds}
 use Rattle.cp_frame.specs.declared.fault.FrameFault.{FrameFault}
 use Rattle.cp_frame.specs.declared.fault.FrameFault.TheVariants as faults
 use Rattle.cp_frame.specs.declared.frame.OpenFrame.{OpenFrame}
+use Rattle.cp_frame.specs.declared.spare.Spare.{Spare}
 use Rattle.cp_frame.specs.Framed.{sizes_of}
 use Rattle.cp_packed.specs.Words.{AreWords, bytes_of}
 use Rattle.cp_frame.specs.Stream.{numbers, named_sizes, NamesFault}
@@ -115,6 +116,6 @@ least_words f = (if length f.table.items == 0 then 0 else count_of f.table.items
 abbrev pub kept_words : OpenFrame → ℕ
 kept_words f = length f.table.items + sum (sizes_of (lists f.segments.items)) + length f.words.items
 
--- the same frame, with other room for the next
-abbrev pub roomed : OpenFrame → Vec ℕ → OpenFrame
-roomed f room = record { table = f.table; total = f.total; segments = f.segments; words = f.words; part = f.part; room = room }
+-- the same frame, with another buffer for the next
+abbrev pub with_spare : OpenFrame → Spare → OpenFrame
+with_spare f spare = record { table = f.table; total = f.total; segments = f.segments; words = f.words; part = f.part; spare = spare }

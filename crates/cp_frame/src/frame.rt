@@ -4,13 +4,14 @@ ghost use Rattle.std.specs.Prelude.{◌≡◌, ◌⊎◌, ◌^◌, ◌+◌, ◌*
 ghost use Rattle.cp_frame.specs.Framed.{sizes_of};
 ghost use Rattle.cp_packed.specs.Words.{bytes_of};
 ghost use Rattle.std.specs.Int.{to_le_bytes, w64};
-ghost use Rattle.cp_frame.specs.Parts.{Takes, IsBegun, InTable, InSegments, halves, count_of, IsWholeTable, IsTable, IsFaultOf, Fills, body, lists, rest_of, IsOpen, IsComplete, IsEmpty, least_words, kept_words, roomed};
+ghost use Rattle.cp_frame.specs.Parts.{Takes, IsBegun, InTable, InSegments, halves, count_of, IsWholeTable, IsTable, IsFaultOf, Fills, body, lists, rest_of, IsOpen, IsComplete, IsEmpty, least_words, kept_words};
 ghost use Rattle.cp_frame.specs.Stream.{numbers, named_sizes};
 ghost use Rattle.cp_frame.specs.Rest.{IsFaultOfWords};
 ghost use Rattle.cp_frame.specs.Bulk.{TakesPart};
 ghost use Rattle.cp_frame.specs.Single.{TakesTable};
 
 use crate::fault::FrameFault;
+use crate::spare::Spare;
 use crate::table;
 use cp_packed::{Run, make_room, take_groups, take_in, word_of};
 use cp_words::{Limits, Segments};
@@ -19,12 +20,6 @@ use std::mem;
 
 /// How many words a header alone may reserve: with the table and the list of segments 1 MiB.
 const FIRST_ROOM: usize = 129_024;
-
-/// How many times the words of a first segment its room may have.
-const MOST_SPARE: usize = 8;
-
-/// How many words are moved at the most.
-const LITTLE: usize = 8_192;
 
 /// What has come of a frame.
 #[derive(Drop)]
@@ -39,8 +34,8 @@ pub struct OpenFrame {
     pub words: Vec<u64>,
     /// The bytes of a word that isn't whole.
     pub part: Vec<u8>,
-    /// Room that was given back, for the words of a segment.
-    pub room: Vec<u64>,
+    /// A buffer that was given back, for the words of a segment.
+    pub spare: Spare,
 }
 
 /// A segment of which nothing has come. A large one begins with less room than it will need, since
@@ -58,45 +53,12 @@ fn new_segment(alloc: Global, table: &[u64], segment: usize) -> Result<Vec<u64>,
     Vec::with_capacity(alloc, room)
 }
 
-/// A list for so many words: in the spare room, where that is neither less than so much nor far more than the words
-/// need, or else with so much room.
-pub fn take_room(
-    alloc: Global,
-    room: usize,
-    size: usize,
-    spare: &mut Vec<u64>,
-) -> Result<Vec<u64>, AllocError>
-    ensures items { IfOk result (λ v. v.items ≡ []) }
-    ensures room { IfOk result (λ v. (vec_capacity v ≤ room) ⊎ (vec_capacity v ≡ vec_capacity spare.old)) }
-{
-    if spare.capacity() < room || size < spare.capacity() / MOST_SPARE {
-        return Vec::with_capacity(alloc, room);
-    }
-    let mut words = mem::replace(spare, Vec::new(alloc));
-    words.clear();
-    Ok(words)
-}
-
 /// The first segment, of so many words, of which nothing has come.
-fn first_segment(alloc: Global, size: usize, spare: &mut Vec<u64>) -> Result<Vec<u64>, AllocError>
+fn first_segment(alloc: Global, size: usize, spare: &mut Spare) -> Result<Vec<u64>, AllocError>
     ensures items { IfOk result (λ v. v.items ≡ []) }
-    ensures room { IfOk result (λ v. (vec_capacity v ≤ FIRST_ROOM) ⊎ (vec_capacity v ≡ vec_capacity spare.old)) }
+    ensures room { IfOk result (λ v. (vec_capacity v ≤ FIRST_ROOM) ⊎ (vec_capacity v ≡ vec_capacity spare.old.words)) }
 {
-    take_room(alloc, size.min(FIRST_ROOM), size, spare)
-}
-
-/// Moves a segment that will have so many words, and of which little has come, into the spare room, where it
-/// would have to grow in its own.
-fn settle(words: &mut Vec<u64>, size: usize, spare: &mut Vec<u64>) -> Result<(), AllocError>
-    ensures { OnOk result (words.new.items ≡ words.old.items) }
-{
-    if size <= words.capacity() || spare.capacity() < size || LITTLE < words.len() {
-        return Ok(());
-    }
-    spare.clear();
-    spare.extend_from_slice(words)?;
-    mem::swap(words, spare);
-    Ok(())
+    spare.take(alloc, size.min(FIRST_ROOM), size)
 }
 
 /// Puts away each segment that is whole.
@@ -193,16 +155,7 @@ impl OpenFrame {
             segments: Vec::new(alloc),
             words: Vec::new(alloc),
             part: Vec::new(alloc),
-            room: Vec::new(alloc),
-        }
-    }
-
-    /// Keeps the list's room, if it is more than what is kept.
-    pub fn keep_room(&mut self, list: Vec<u64>)
-        ensures { self.new ≡ roomed self.old self.new.room }
-    {
-        if self.room.capacity() < list.capacity() {
-            self.room = list;
+            spare: Spare::new(alloc),
         }
     }
 
@@ -225,7 +178,7 @@ impl OpenFrame {
         table::push(&mut self.table, &mut self.total, limits, word)?;
         if table::is_whole(&self.table) {
             self.segments = Vec::with_capacity(alloc, table::count(&self.table))?;
-            self.words = first_segment(alloc, table::size(&self.table, 0), &mut self.room)?;
+            self.words = first_segment(alloc, table::size(&self.table, 0), &mut self.spare)?;
             close(alloc, &self.table, &mut self.segments, &mut self.words)?;
         }
         Ok(())
@@ -319,7 +272,7 @@ impl OpenFrame {
             return Ok(left);
         }
         self.total = size as u64;
-        self.words = first_segment(alloc, size, &mut self.room)?;
+        self.words = first_segment(alloc, size, &mut self.spare)?;
         Ok(back)
     }
 
@@ -338,7 +291,7 @@ impl OpenFrame {
         ensures { IfOk result (λ back. TakesPart limits self.old run.old left.now self.new run.new back.now) }
     {
         let most = table::size(&self.table, self.segments.len());
-        settle(&mut self.words, most, &mut self.room)?;
+        self.spare.settle(&mut self.words, most)?;
         let back = take_groups(&mut self.words, run, most, left)?;
         if self.words.len() == most {
             close(alloc, &self.table, &mut self.segments, &mut self.words)?;
@@ -361,7 +314,7 @@ impl OpenFrame {
     {
         if self.part.is_empty() && 8 <= left.len() {
             let size = table::size(&self.table, self.segments.len());
-            settle(&mut self.words, size, &mut self.room)?;
+            self.spare.settle(&mut self.words, size)?;
             return take_words(
                 alloc,
                 &self.table,

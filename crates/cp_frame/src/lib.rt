@@ -12,6 +12,7 @@ mod reader;
 mod rest;
 mod send;
 mod single;
+mod spare;
 mod status;
 mod table;
 mod unpacking;

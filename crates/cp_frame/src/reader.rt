@@ -52,7 +52,7 @@ fn next_plain<'a>(
     ensures fault { IfErr result (λ fault. (fault ≡ OutOfMemory) ⊎ HasFault Plain limits (rest_of frame.old ++ piece.now) fault) }
 {
     if frame.is_empty() {
-        if let Some(whole) = take_whole(alloc, limits, &mut frame.room, piece)? {
+        if let Some(whole) = take_whole(alloc, limits, &mut frame.spare, piece)? {
             return Ok(Some(whole));
         }
     }
@@ -366,12 +366,13 @@ impl FrameReader {
         )
     }
 
-    /// Takes back a message that isn't needed any more, for the room of its first segment, in which the reader
-    /// may make a later frame. It keeps one such room, the largest. What has come of the stream stays as it is.
+    /// Takes back a message that isn't needed any more, for the buffer of its first segment, in which the reader
+    /// may make a later frame. It keeps one such buffer, the largest, and none of its words. What has come of the
+    /// stream stays as it is.
     pub fn reuse(&mut self, segments: Segments)
         ensures { self.new ≡ self.old }
     {
-        self.rest.frame.keep_room(segments.into_first());
+        self.rest.frame.spare.keep(segments.into_first());
     }
 
     /// Ends the stream. `Ok` says that it ended behind a frame, and then it may still go on.

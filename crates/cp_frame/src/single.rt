@@ -3,7 +3,7 @@
 ghost use Rattle.std.specs.Prelude.{IfOk, IfSome};
 ghost use Rattle.cp_frame.specs.Single.{BeginsWithOne, TakesWhole};
 
-use crate::frame::take_room;
+use crate::spare::Spare;
 use cp_packed::{take_in, word_of};
 use cp_words::{Limits, Segments};
 use std::alloc::{AllocError, Global};
@@ -31,11 +31,11 @@ fn size_of_one(limits: Limits, bytes: &[u8]) -> Option<usize>
 }
 
 /// Takes the frame that the bytes begin with, if it has one segment and is there whole: the number of
-/// its bytes, the segment, and what follows it. The segment takes the spare room, where that suits it.
+/// its bytes, the segment, and what follows it. The segment takes the spare buffer, where that suits it.
 pub fn take_whole<'a>(
     alloc: Global,
     limits: Limits,
-    spare: &mut Vec<u64>,
+    spare: &mut Spare,
     bytes: &'a [u8],
 ) -> Result<Option<(u64, Segments, &'a [u8])>, AllocError>
     ensures { IfOk result (λ taken. IfSome taken (λ t. TakesWhole limits bytes.now t.0 t.1 t.2.now)) }
@@ -45,7 +45,7 @@ pub fn take_whole<'a>(
     };
     let (_, body) = bytes.split_at(WORD);
     let (front, back) = body.split_at(WORD * size);
-    let mut words = take_room(alloc, size, size, spare)?;
+    let mut words = spare.take(alloc, size, size)?;
     take_in(&mut words, front)?;
     let taken = (WORD + WORD * size) as u64;
     Ok(Some((taken, Segments::one(words), back)))

@@ -2,7 +2,7 @@ use Rattle.std.proofs.Common.{rules, ◌≡◌, ◌+◌, ◌++◌, length, sym, 
 use Rattle.std.proofs.lemmas.Bool.Decides.{nat_tests}
 use Rattle.std.proofs.lemmas.List.{append-nil, nil_from_length}
 use Rattle.std.proofs.lemmas.Result.{err_from_is_err_and}
-use Rattle.cp_frame.specs.Parts.{IsEmpty, rest_of, roomed}
+use Rattle.cp_frame.specs.Parts.{IsEmpty, rest_of, with_spare}
 use Rattle.cp_frame.specs.Single.{TakesWhole}
 use Rattle.cp_frame.proofs.Ends.{complete_of, open_of}
 use Rattle.cp_frame.proofs.Following.{ends_plain, ends_whole, told_plain}
@@ -14,9 +14,9 @@ returns-in-Some-clause-given c =
     let f = c.args.frame.now in
     let none : length f.table.items + length f.part.items ≡ 0 = search rules in
     let empty = empty_of c.args.limits f c.requires none in
-    let same : IsEmpty (roomed f c.take_whole.new.spare) = record { table = empty.table; total = empty.total; segments = empty.segments; words = empty.words; part = empty.part } in
+    let same : IsEmpty (with_spare f c.take_whole.new.spare) = record { table = empty.table; total = empty.total; segments = empty.segments; words = empty.words; part = empty.part } in
     let whole : TakesWhole c.args.limits c.args.piece.now c.in-Some.whole.0 c.in-Some.whole.1 c.in-Some.whole.2.now = rw c.in-Some.is at c.in_ok-whole.ensures in
-    ends_whole c.args.limits f (roomed f c.take_whole.new.spare) c.args.piece.now c.in-Some.whole.2.now c.in-Some.whole.0 c.in-Some.whole.1 (nothing_come c.args.limits f c.requires none) whole same
+    ends_whole c.args.limits f (with_spare f c.take_whole.new.spare) c.args.piece.now c.in-Some.whole.2.now c.in-Some.whole.0 c.in-Some.whole.1 (nothing_come c.args.limits f c.requires none) whole same
 
 pub reading-preserved : goal.reading-preserved
 reading-preserved c = record {

@@ -13,7 +13,7 @@ returns c =
     let new = c.take_groups.new.words in
     let size : c.size-most.result ≡ get_or (named_sizes (halves f.table.items)) (length f.segments.items) 0 =
     c.size-most.ensures.value ∙ ap (λ (T : List ℕ). get_or (named_sizes (halves T)) c.len.result 0) table ∙ ap (λ (n : ℕ). get_or (named_sizes (halves f.table.items)) n 0) (let n : c.len.result ≡ length f.segments.items = omega (arith, c.len.ensures) in n) in
-    let spare = c.settle.new.spare in
+    let spare = c.settle.new.self in
     let taken = subst (λ (ws : List ℕ). TakesGroups c.size-most.result ws c.args.run.now c.args.left.now new.items c.take_groups.new.run c.in_ok-back.back.now) c.in_ok-settle.ensures c.in_ok-back.ensures.takes in
     elim c.if-len-most.branch [
       | then-len-most+in_ok-close w ↦
