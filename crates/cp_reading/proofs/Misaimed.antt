@@ -19,7 +19,7 @@ use Rattle.cp_reading.specs.declared.area.Form.TheVariants as forms
 use Rattle.cp_words.specs.declared.place.Place.{Place}
 use Rattle.cp_reading.specs.declared.fault.TreeFault.{TreeFault}
 use Rattle.cp_reading.specs.declared.fault.TreeFault.TheVariants as faults
-use Rattle.cp_reading.proofs.Sound.{ok_is, passed, inside_is, placed_is, aim_sound}
+use Rattle.cp_reading.proofs.Sound.{ok_is, passed, inside_is, placed_is, tag_sound, aim_sound}
 
 -- a step that failed, or the one behind it did
 pub bind_err : {A B : Type 0} (r : Result A TreeFault) (f : A → Result B TreeFault) (e : TreeFault) → (r >>= f) ≡ Err e → (r ≡ Err e) ⊎ ((x : A) × (r ≡ Ok x) × (f x ≡ Err e))
@@ -93,7 +93,9 @@ module _ (S : List (List ℕ)) (s p : ℕ) (deep dear : Type 0) (reach : IsReach
       where
         go : ((nat_lt s' (length S) ≡ true) × (◌≡◌ {A = Result Aim TreeFault} (Ok (record { kind = k; segment = s'; start = Some start })) (Err e))) ⊎ ((nat_lt s' (length S) ≡ false) × (faults.NoSegment at ≡ e)) → Faulty e
         go (inl x) = let wrong = x.1 in cc
-        go (inr x) = subst Faulty x.1 (reach, (true, place, other, h, inr (refl, start, s', (omega (arith, room), f), grind (arith, nat_tests, x.0))))
+        go (inr x) =
+            let tag = tag_sound (word_at (place + 1)) k t in
+            subst Faulty x.1 (reach, inr (place, other, start, s', tag.0, k, h, (omega (arith, room), f), (room, tag.1), tag.2, grind (arith, nat_tests, x.0)))
 
     two_fails : (one : Option Pointer) (e : TreeFault) → word_at place ≡ one → aim_two at S one (word_at (place + 1)) ≡ Err e → Faulty e
     two_fails None e f g = bad e (err_is g) (λ start s' r k first second tag. let wrong : ◌≡◌ {A = Option Pointer} None (Some (pointers.Far false start s')) = sym f ∙ first in cc)
@@ -108,22 +110,22 @@ module _ (S : List (List ℕ)) (s p : ℕ) (deep dear : Type 0) (reach : IsReach
   far_fails : (double : Bool) (place other : ℕ) (e : TreeFault) → Holds S s p (pointers.Far double place other) → aim_far at S double place other ≡ Err e → Faulty e
   far_fails false place other e h f = go (tested (nat_lt other (length S)) _ _ e f)
     where
-      inside : ((nat_lt place (length (segment S other)) ≡ true) × (pad_one at other place (pointer_of (slice_index (segment S other) place)) ≡ Err e)) ⊎ ((nat_lt place (length (segment S other)) ≡ false) × (faults.OutOfBounds at ≡ e)) → Faulty e
-      inside (inl x) = one_fails place other e h (grind (arith, nat_tests, x.0)) _ refl x.1
-      inside (inr x) = subst Faulty x.1 (reach, inl (place, other, h, grind (arith, nat_tests, x.0)))
+      inside : other < length S → ((nat_lt place (length (segment S other)) ≡ true) × (pad_one at other place (pointer_of (slice_index (segment S other) place)) ≡ Err e)) ⊎ ((nat_lt place (length (segment S other)) ≡ false) × (faults.OutOfBounds at ≡ e)) → Faulty e
+      inside exists (inl x) = one_fails place other e h (grind (arith, nat_tests, x.0)) _ refl x.1
+      inside exists (inr x) = subst Faulty x.1 (reach, inl (place, other, h, exists, grind (arith, nat_tests, x.0)))
 
       go : ((nat_lt other (length S) ≡ true) × (cond (nat_lt place (length (segment S other))) (pad_one at other place (pointer_of (slice_index (segment S other) place))) (Err (faults.OutOfBounds at)) ≡ Err e)) ⊎ ((nat_lt other (length S) ≡ false) × (faults.NoSegment at ≡ e)) → Faulty e
-      go (inl x) = inside (tested (nat_lt place (length (segment S other))) _ _ e x.1)
-      go (inr x) = subst Faulty x.1 (reach, (false, place, other, h, inl (grind (arith, nat_tests, x.0))))
+      go (inl x) = inside (grind (arith, nat_tests, x.0)) (tested (nat_lt place (length (segment S other))) _ _ e x.1)
+      go (inr x) = subst Faulty x.1 (reach, inl (false, place, other, h, grind (arith, nat_tests, x.0)))
   far_fails true place other e h f = go (tested (nat_lt other (length S)) _ _ e f)
     where
-      inside : ((nat_lt (place + 1) (length (segment S other)) ≡ true) × (aim_two at S (pointer_of (slice_index (segment S other) place)) (pointer_of (slice_index (segment S other) (place + 1))) ≡ Err e)) ⊎ ((nat_lt (place + 1) (length (segment S other)) ≡ false) × (faults.OutOfBounds at ≡ e)) → Faulty e
-      inside (inl x) = two_fails place other h (grind (arith, nat_tests, x.0)) _ e refl x.1
-      inside (inr x) = subst Faulty x.1 (reach, inr (inl (place, other, h, grind (arith, nat_tests, x.0))))
+      inside : other < length S → ((nat_lt (place + 1) (length (segment S other)) ≡ true) × (aim_two at S (pointer_of (slice_index (segment S other) place)) (pointer_of (slice_index (segment S other) (place + 1))) ≡ Err e)) ⊎ ((nat_lt (place + 1) (length (segment S other)) ≡ false) × (faults.OutOfBounds at ≡ e)) → Faulty e
+      inside exists (inl x) = two_fails place other h (grind (arith, nat_tests, x.0)) _ e refl x.1
+      inside exists (inr x) = subst Faulty x.1 (reach, inr (inl (place, other, h, exists, grind (arith, nat_tests, x.0))))
 
       go : ((nat_lt other (length S) ≡ true) × (cond (nat_lt (place + 1) (length (segment S other))) (aim_two at S (pointer_of (slice_index (segment S other) place)) (pointer_of (slice_index (segment S other) (place + 1)))) (Err (faults.OutOfBounds at)) ≡ Err e)) ⊎ ((nat_lt other (length S) ≡ false) × (faults.NoSegment at ≡ e)) → Faulty e
-      go (inl x) = inside (tested (nat_lt (place + 1) (length (segment S other))) _ _ e x.1)
-      go (inr x) = subst Faulty x.1 (reach, (true, place, other, h, inl (grind (arith, nat_tests, x.0))))
+      go (inl x) = inside (grind (arith, nat_tests, x.0)) (tested (nat_lt (place + 1) (length (segment S other))) _ _ e x.1)
+      go (inr x) = subst Faulty x.1 (reach, inl (true, place, other, h, grind (arith, nat_tests, x.0)))
 
   -- what the way to a body says
   pub aim_fails : (r : Pointer) (e : TreeFault) → Holds S s p r → aim_by at S r ≡ Err e → (((x : ℕ) → r ≡ pointers.Cap x → ⊥) × (r ≡ pointers.Null → ⊥)) → Faulty e

@@ -131,7 +131,7 @@ module _ (S : List (List ℕ)) (limits : Bounds) where
   root_faulted e h = empty (length (segment S 0) == 0) refl h
     where
       of_kind : 0 < length (segment S 0) → (r : Pointer) → pointer_of (slice_index (segment S 0) 0) ≡ Some r → (aim : Aim) → aim_by top S r ≡ Ok aim → (k : Kind) → aim.kind ≡ k → rooted k (read_of aim) ≡ Err e → IsFaultOf S limits e
-      of_kind within r says aim aims (kinds.List size n) is f = subst (IsFaultOf S limits) (err_is f) (root_list r aim size n (within, says) aims is)
+      of_kind within r says aim aims (kinds.List size n) is f = subst (IsFaultOf S limits) (err_is f) ((refl, refl), root_list r aim size n (within, says) aims is)
       of_kind within r says aim aims (kinds.Struct d n) is f = go (bind_err (read_of aim) _ e f)
         where
           go : (read_of aim ≡ Err e) ⊎ ((x : Node × ℕ) × (read_of aim ≡ Ok x) × (◌≡◌ {A = Result Node TreeFault} (Ok x.0) (Err e))) → IsFaultOf S limits e
@@ -149,12 +149,12 @@ module _ (S : List (List ℕ)) (limits : Bounds) where
 
       kinds : 0 < length (segment S 0) → (o : Option Pointer) → pointer_of (slice_index (segment S 0) 0) ≡ o → root_by (kids_at limits.nesting S) S limits.traversal o ≡ Err e → IsFaultOf S limits e
       kinds within None is f = subst (IsFaultOf S limits) (err_is f) (root, is)
-      kinds within (Some pointers.Null) is f = subst (IsFaultOf S limits) (err_is f) (inr (within, is))
-      kinds within (Some (pointers.Cap i)) is f = subst (IsFaultOf S limits) (err_is f) (inl (i, (within, is)))
+      kinds within (Some pointers.Null) is f = subst (IsFaultOf S limits) (err_is f) ((refl, refl), inr (within, is))
+      kinds within (Some (pointers.Cap i)) is f = subst (IsFaultOf S limits) (err_is f) ((refl, refl), inl (i, (within, is)))
       kinds within (Some (pointers.Struct o d n)) is f = aims within (pointers.Struct o d n) is (λ x h. cc, λ h. cc) f
       kinds within (Some (pointers.List o size n)) is f = aims within (pointers.List o size n) is (λ x h. cc, λ h. cc) f
       kinds within (Some (pointers.Far double place other)) is f = aims within (pointers.Far double place other) is (λ x h. cc, λ h. cc) f
 
       empty : (b : Bool) → (length (segment S 0) == 0) ≡ b → cond b (Err (faults.NoRoot top)) (root_by (kids_at limits.nesting S) S limits.traversal (pointer_of (slice_index (segment S 0) 0))) ≡ Err e → IsFaultOf S limits e
-      empty true t f = subst (IsFaultOf S limits) (err_is f) (inl (grind (arith, nat_tests)))
+      empty true t f = subst (IsFaultOf S limits) (err_is f) ((refl, refl), inl (grind (arith, nat_tests)))
       empty false t f = kinds (grind (arith, nat_tests)) (pointer_of (slice_index (segment S 0) 0)) refl f

@@ -64,6 +64,19 @@ pub placed_is : (at : Place) (o : Option ℕ) (q : ℕ) → placed at o ≡ Ok q
 placed_is at None q e = cc
 placed_is at (Some p) q e = let is : p ≡ q = cc in rw is refl
 
+-- what the second word of a pad says
+pub tag_sound : (r : Option Pointer) (k : Kind) → tag_kind_of r ≡ Some k → (q : Pointer) × (r ≡ Some q) × IsPadTag q k
+tag_sound None k e = cc
+tag_sound (Some pointers.Null) k e = (pointers.Null, refl, cc)
+tag_sound (Some (pointers.Cap i)) k e = cc
+tag_sound (Some (pointers.Far double x y)) k e = cc
+tag_sound (Some (pointers.Struct (pos zero) d n)) k e = (pointers.Struct (pos 0) d n, refl, (refl, cc))
+tag_sound (Some (pointers.Struct (pos (suc m)) d n)) k e = cc
+tag_sound (Some (pointers.Struct (negsuc m) d n)) k e = cc
+tag_sound (Some (pointers.List (pos zero) size n)) k e = (pointers.List (pos 0) size n, refl, (refl, cc))
+tag_sound (Some (pointers.List (pos (suc m)) size n)) k e = cc
+tag_sound (Some (pointers.List (negsuc m) size n)) k e = cc
+
 module _ (S : List (List ℕ)) where
   here_sound : (s p : ℕ) (r : Pointer) (aim : Aim) → Holds S s p r → aim_here s p r ≡ Some aim → (start : ℕ) → aim.start ≡ Some start → AimsHere S s p aim.kind start × (aim.segment ≡ s)
   here_sound s p pointers.Null aim h e = cc
@@ -77,19 +90,6 @@ module _ (S : List (List ℕ)) where
       let P : Aim → Type 0 = λ a. (start : ℕ) → a.start ≡ Some start → AimsHere S s p a.kind start × (a.segment ≡ s) in
       let is : record { kind = kinds.List size n; segment = s; start = start_of p offset } ≡ aim = cc in
       subst P is (λ start b. (record { pointer = pointers.List offset size n; offset = offset; stands = h; says = (refl, refl); begins = start_begins p offset start b }, refl))
-
-  -- what the second word of a pad says
-  tag_sound : (r : Option Pointer) (k : Kind) → tag_kind_of r ≡ Some k → (q : Pointer) × (r ≡ Some q) × IsPadTag q k
-  tag_sound None k e = cc
-  tag_sound (Some pointers.Null) k e = (pointers.Null, refl, cc)
-  tag_sound (Some (pointers.Cap i)) k e = cc
-  tag_sound (Some (pointers.Far double x y)) k e = cc
-  tag_sound (Some (pointers.Struct (pos zero) d n)) k e = (pointers.Struct (pos 0) d n, refl, (refl, cc))
-  tag_sound (Some (pointers.Struct (pos (suc m)) d n)) k e = cc
-  tag_sound (Some (pointers.Struct (negsuc m) d n)) k e = cc
-  tag_sound (Some (pointers.List (pos zero) size n)) k e = (pointers.List (pos 0) size n, refl, (refl, cc))
-  tag_sound (Some (pointers.List (pos (suc m)) size n)) k e = cc
-  tag_sound (Some (pointers.List (negsuc m) size n)) k e = cc
 
   module _ (s p : ℕ) where
     abbrev at : Place

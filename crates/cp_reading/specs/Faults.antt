@@ -9,6 +9,7 @@ use Rattle.cp_words.specs.declared.pointer.Pointer.TheVariants as pointers
 use Rattle.cp_words.specs.declared.pointer.Tag.{Tag}
 use Rattle.cp_words.specs.declared.kind.Kind.{Kind}
 use Rattle.cp_words.specs.declared.kind.Kind.TheVariants as kinds
+use Rattle.cp_words.specs.declared.place.Place.{Place}
 use Rattle.cp_reading.specs.declared.fault.TreeFault.{TreeFault}
 use Rattle.cp_reading.specs.declared.fault.TreeFault.TheVariants as faults
 use Rattle.cp_tree.specs.Node.{Node, depth, cost}
@@ -28,11 +29,12 @@ IsNoBody S s p = (p < length (segment S s)) × ((r : Pointer) (o : ℤ) (k : Kin
 abbrev pub HasBadCapability : List (List ℕ) → ℕ → ℕ → Type 0
 HasBadCapability S s p = pointer_of (slice_index (segment S s) p) ≡ None
 
--- G4: the word is a far pointer to a segment that isn't there, or its pad of two words names one
+-- G4: the word is a far pointer to a segment that doesn't exist; or it has a landing pad of two words, which names one
 abbrev pub NamesNoSegment : List (List ℕ) → ℕ → ℕ → Type 0
 NamesNoSegment S s p =
-    (double : Bool) × (place : ℕ) × (other : ℕ) × Holds S s p (pointers.Far double place other)
-    × ((length S ≤ other) ⊎ ((double ≡ true) × (start : ℕ) × (s' : ℕ) × Holds S other place (pointers.Far false start s') × (length S ≤ s')))
+    ((double : Bool) × (place : ℕ) × (other : ℕ) × Holds S s p (pointers.Far double place other) × (length S ≤ other))
+    ⊎ ((place : ℕ) × (other : ℕ) × (start : ℕ) × (s' : ℕ) × (r : Pointer) × (k : Kind) × Holds S s p (pointers.Far true place other)
+    × Holds S other place (pointers.Far false start s') × Holds S other (place + 1) r × IsPadTag r k × (length S ≤ s'))
 
 -- G5: the word is a far pointer whose pad is inside, and has no pad's form
 abbrev pub HasBadPad : List (List ℕ) → ℕ → ℕ → Type 0
@@ -45,12 +47,12 @@ HasBadPad S s p =
 abbrev pub StartsBefore : List (List ℕ) → ℕ → ℕ → Type 0
 StartsBefore S s p = (r : Pointer) × (o : ℤ) × (k : Kind) × Holds S s p r × IsBodyPointer r o k × ((pos (p + 1) +ℤ o) <ℤ pos 0)
 
--- G3: the pad of a far pointer isn't inside its segment; or the body begins before its segment, or ends behind it; or a
--- composite list's elements take more words than it has.
+-- G3: the landing pad of a far pointer isn't inside its segment, which exists; or the body begins before its segment, or
+-- ends after it; or a composite list's elements take more words than it has.
 abbrev pub HasNoRoom : List (List ℕ) → ℕ → ℕ → Type 0
 HasNoRoom S s p =
-    ((place : ℕ) × (other : ℕ) × Holds S s p (pointers.Far false place other) × (length (segment S other) ≤ place))
-    ⊎ (((place : ℕ) × (other : ℕ) × Holds S s p (pointers.Far true place other) × (length (segment S other) ≤ place + 1))
+    ((place : ℕ) × (other : ℕ) × Holds S s p (pointers.Far false place other) × (other < length S) × (length (segment S other) ≤ place))
+    ⊎ (((place : ℕ) × (other : ℕ) × Holds S s p (pointers.Far true place other) × (other < length S) × (length (segment S other) ≤ place + 1))
     ⊎ ((StartsBefore S s p ⊎ ((place : ℕ) × (other : ℕ) × Holds S s p (pointers.Far false place other) × StartsBefore S other place))
     ⊎ (((k : Kind) × (s' : ℕ) × (start : ℕ) × Aims S s p k s' start × (length (segment S s') < start + kind_words k))
     ⊎ ((size : ℕ) × (s' : ℕ) × (tag : ℕ) × (g : Tag) × Aims S s p (kinds.List sizes.Composite size) s' tag
@@ -71,6 +73,10 @@ FaultBy S deep dear (faults.NestingLimit at) = IsReachable S at.segment at.word 
 FaultBy S deep dear (faults.TraversalLimit at) = IsReachable S at.segment at.word × dear
 FaultBy S deep dear other = ⊥
 
+-- the place of the root's pointer word
+abbrev pub IsRootPlace : Place → Type 0
+IsRootPlace at = (at.segment ≡ 0) × (at.word ≡ 0)
+
 -- the root is none, or null
 abbrev pub HasNoRoot : List (List ℕ) → Type 0
 HasNoRoot S = (length (segment S 0) ≡ 0) ⊎ Holds S 0 0 pointers.Null
@@ -83,9 +89,9 @@ RootIsNoStruct S =
     ⊎ (((place : ℕ) × (other : ℕ) × Holds S 0 0 (pointers.Far false place other) × Holds S other place (pointers.List o size n))
     ⊎ ((place : ℕ) × (other : ℕ) × Holds S 0 0 (pointers.Far true place other) × Holds S other (place + 1) (pointers.List o size n)))))
 
--- What a fault of reading a message says: G1 and G2 of its root, G3 to G7 of a reachable word, G8 that a pruned tree is
--- deeper than the limit, G9 that one costs more.
+-- What a fault of reading a message says: G1 and G2 of its root, whose place is named, G3 to G7 of a reachable word, G8
+-- that a pruned tree is deeper than the limit, G9 that one costs more.
 abbrev pub IsFaultOf : List (List ℕ) → Bounds → TreeFault → Type 0
-IsFaultOf S limits (faults.NoRoot at) = HasNoRoot S
-IsFaultOf S limits (faults.RootKind at) = RootIsNoStruct S
+IsFaultOf S limits (faults.NoRoot at) = IsRootPlace at × HasNoRoot S
+IsFaultOf S limits (faults.RootKind at) = IsRootPlace at × RootIsNoStruct S
 IsFaultOf S limits e = FaultBy S ((t : Node) × Pruned S t × (limits.nesting < depth t)) ((t : Node) × Pruned S t × (limits.traversal < cost t)) e
