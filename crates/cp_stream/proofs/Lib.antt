@@ -5,3 +5,4 @@ pub mod Writing
 pub mod Only
 pub mod LayoutDenotes
 pub mod ReadBack
+pub mod Runs

@@ -38,7 +38,7 @@ use Rattle.cp_stream.specs.Read.{ReadsFrame, ReadsMessage, IsNoFrame, RefusesFra
 
 -- ---- frames
 
-one_front : (mode : Mode) → OneFront mode
+pub one_front : (mode : Mode) → OneFront mode
 one_front modes.Plain = one_front_plain
 one_front modes.Packed = one_front_packed
 
@@ -214,7 +214,7 @@ only_frame mode limits old new failures failed (Err fault) h k bytes are e =
 -- ---- messages
 
 -- segments hold one message at most
-one_message : (limits : Bounds) (S : List (List ℕ)) (m other : Message) → Holds limits S m → Holds limits S other → m ≡ other
+pub one_message : (limits : Bounds) (S : List (List ℕ)) (m other : Message) → Holds limits S m → Holds limits S other → m ≡ other
 one_message limits S m other h k =
     let same = denotes_one S 0 0 h.tree k.tree h.root.denoted k.root.denoted in
     h.says.said ∙ ap message_said same ∙ sym k.says.said
@@ -244,7 +244,7 @@ fault_closed mode limits bytes (refusals.Tree fault) h o = o.no_front h.0 h.1 h.
 fault_closed mode limits bytes (refusals.Schema fault) h o = o.no_front h.0 h.1 h.2 h.3 h.4
 fault_closed mode limits bytes (refusals.Write fault) h o = o.no_front h.0 h.1 h.2 h.3 h.4
 
-fault_holds : (mode : Mode) (limits : Bounds) (bytes b rest : List ℕ) (m : Message) (refusal : Refusal) → HasFault mode limits bytes refusal → bytes ≡ b ++ rest → IsFrameOf mode limits b m → ⊥
+pub fault_holds : (mode : Mode) (limits : Bounds) (bytes b rest : List ℕ) (m : Message) (refusal : Refusal) → HasFault mode limits bytes refusal → bytes ≡ b ++ rest → IsFrameOf mode limits b m → ⊥
 fault_holds mode limits bytes b rest m (refusals.Frame fault) h e f = no_front_of mode limits bytes fault h f.0 b rest e f.1
 fault_holds mode limits bytes b rest m (refusals.Tree fault) h e f =
     holds_one limits f.0 m (refusals.Tree fault) f.2 (same_front mode limits h.0 f.0 h.1 h.2 b rest h.4 f.1 (sym h.3 ∙ e) (λ S x. HoldsNone limits S (refusals.Tree fault)) h.5)

@@ -5,3 +5,4 @@ pub mod Kept
 pub mod Answers
 pub mod Read
 pub mod Write
+pub mod Runs

@@ -1,4 +1,4 @@
-//! What holds of every tree and of every message that is written.
+//! What holds of every stream, and of every tree and of every message that is written.
 
 ghost use Rattle.std.specs.Prelude.{◌≡◌, ◌≤◌, ◌++◌, ℕ, List, length};
 ghost use Rattle.cp_words.specs.Limits.{Bounds, IsAllowed};
@@ -8,8 +8,23 @@ ghost use Rattle.cp_reading.specs.Denotes.{Denotes, Root};
 ghost use Rattle.cp_writing.specs.Layout.{Layout, Room};
 ghost use Rattle.cp_frame.specs.declared.mode.Mode.{Mode};
 ghost use Rattle.cp_rpc.specs.declared.message.Message.{Message};
+ghost use Rattle.cp_stream.specs.Runs.{HasOneFront, IsOneStream, GivesStream, TellsRest, GivesSame};
 ghost use Rattle.cp_stream.specs.Stream.{Front};
 ghost use Rattle.cp_stream.specs.Write.{IsWrittenAs};
+
+/// A stream begins with one message at most, and is one list of messages and one rest.
+pub fn one_front()
+    ensures front { (mode : Mode) → HasOneFront mode }
+    ensures stream { (mode : Mode) → IsOneStream mode }
+{}
+
+/// What a reader of messages gives and reports doesn't depend on the pieces in which a stream comes: it is that of
+/// the whole.
+pub fn any_cut()
+    ensures all { GivesStream }
+    ensures told { TellsRest }
+    ensures any { GivesSame }
+{}
 
 /// The segments that a tree is laid into denote it.
 pub fn layout_denotes()

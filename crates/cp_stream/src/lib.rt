@@ -12,7 +12,7 @@ mod view;
 mod write;
 
 pub use fault::{Refusal, StreamFault};
-pub use laws::{layout_denotes, read_back, written_is_read};
+pub use laws::{any_cut, layout_denotes, one_front, read_back, written_is_read};
 pub use read::{read_message, read_segments};
 pub use reader::MessageReader;
 pub use tap::Tap;
