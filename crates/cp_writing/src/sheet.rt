@@ -81,10 +81,10 @@ impl Sheet {
             return Ok(Segments::one(self.last));
         }
         lists.push(self.last)?;
-        match Segments::new(lists) {
-            Ok(segments) => Ok(segments),
-            Err(_) => Err(AllocError),
-        }
+        let Ok(segments) = Segments::new(lists) else {
+            unreachable!()
+        };
+        Ok(segments)
     }
 
     /// The last segment.
