@@ -4,10 +4,7 @@ use Rattle.std.proofs.lemmas.List.{take_more}
 use Rattle.cp_words.specs.Limits.{Bounds}
 use Rattle.cp_tree.specs.Node.{Node}
 use Rattle.cp_reading.specs.Denotes.{Root}
-use Rattle.cp_writing.specs.Writes.{segments_for}
-use Rattle.cp_frame.specs.declared.mode.Mode.TheVariants as modes
-use Rattle.cp_frame.specs.Frame.{Written}
-use Rattle.bench_c.specs.Write.{AreTreesOf, AreWritten}
+use Rattle.bench_c.specs.Write.{IsFrameOf, AreTreesOf, AreWritten}
 use Rattle.bench_c.specs.Kept.{AreFirstTrees, AreFirstWritten}
 
 trees_push : (limits : Bounds) (frames : List (ℕ × List (List ℕ))) (trees : List Node) (frame : ℕ × List (List ℕ)) (t : Node)
@@ -22,12 +19,12 @@ trees_more limits frames n trees d frame t h lt e k =
     subst (λ (fs : List (ℕ × List (List ℕ))). AreTreesOf limits fs (trees ++ t ∷ [])) (sym (take_more frames n d lt)) (trees_push limits (take n frames) trees (get_or frames n d) t h one)
 
 written_push : (words : ℕ) (limits : Bounds) (trees : List Node) (b front : List ℕ) (t : Node)
-    → AreWritten words limits trees b → Written modes.Plain limits (segments_for words limits t) front → AreWritten words limits (trees ++ t ∷ []) (b ++ front)
+    → AreWritten words limits trees b → IsFrameOf words limits t front → AreWritten words limits (trees ++ t ∷ []) (b ++ front)
 written_push words limits [] b front t h k = (front, [], ap (λ (x : List ℕ). x ++ front) h ∙ sym (append-nil front), k, refl)
 written_push words limits (x ∷ trees) b front t h k = (h.0, h.1 ++ front, ap (λ (x : List ℕ). x ++ front) h.2 ∙ append_assoc h.0 h.1 front, h.3, written_push words limits trees h.1 front t h.4 k)
 
 pub written_more : (words : ℕ) (limits : Bounds) (trees : List Node) (n : ℕ) (b front : List ℕ) (d t : Node)
-    → AreFirstWritten words limits trees n b → n < length trees → t ≡ get_or trees n d → Written modes.Plain limits (segments_for words limits t) front → AreFirstWritten words limits trees (n + 1) (b ++ front)
+    → AreFirstWritten words limits trees n b → n < length trees → t ≡ get_or trees n d → IsFrameOf words limits t front → AreFirstWritten words limits trees (n + 1) (b ++ front)
 written_more words limits trees n b front d t h lt e k =
-    let one : Written modes.Plain limits (segments_for words limits (get_or trees n d)) front = subst (λ (t : Node). Written modes.Plain limits (segments_for words limits t) front) e k in
+    let one : IsFrameOf words limits (get_or trees n d) front = subst (λ (t : Node). IsFrameOf words limits t front) e k in
     subst (λ (ts : List Node). AreWritten words limits ts (b ++ front)) (sym (take_more trees n d lt)) (written_push words limits (take n trees) b front (get_or trees n d) h one)

@@ -3,7 +3,7 @@ use Rattle.std.specs.Prelude.{◌≡◌, ℕ, List, [], ◌∷◌, ◌++◌, ◌
 use Rattle.cp_words.specs.Limits.{Bounds, standard}
 use Rattle.cp_tree.specs.Node.{Node}
 use Rattle.cp_reading.specs.Denotes.{Root}
-use Rattle.cp_writing.specs.Writes.{segments_for}
+use Rattle.cp_writing.specs.Layout.{Layout}
 use Rattle.cp_frame.specs.declared.mode.Mode.TheVariants as modes
 use Rattle.cp_frame.specs.Frame.{Written}
 use Rattle.cp_frame.specs.Stream.{Frames}
@@ -14,10 +14,14 @@ abbrev pub AreTreesOf : Bounds → List (ℕ × List (List ℕ)) → List Node �
 AreTreesOf limits [] trees = trees ≡ []
 AreTreesOf limits (f ∷ frames) trees = (t : Node) × (ts : List Node) × (trees ≡ t ∷ ts) × Root f.1 limits t × AreTreesOf limits frames ts
 
+-- the bytes are the frame of the segments that a tree is laid out in, of at most so many words; 0 counts as 1
+abbrev pub IsFrameOf : ℕ → Bounds → Node → List ℕ → Type 0
+IsFrameOf words limits t b = (S : List (List ℕ)) × Layout S (record { words = words; segments = limits.segments }) t × Written modes.Plain limits S b
+
 -- the bytes are the trees' frames, one after another, in segments of at most so many words
 abbrev pub AreWritten : ℕ → Bounds → List Node → List ℕ → Type 0
 AreWritten words limits [] b = b ≡ []
-AreWritten words limits (t ∷ ts) b = (front : List ℕ) × (back : List ℕ) × (b ≡ front ++ back) × Written modes.Plain limits (segments_for words limits t) front × AreWritten words limits ts back
+AreWritten words limits (t ∷ ts) b = (front : List ℕ) × (back : List ℕ) × (b ≡ front ++ back) × IsFrameOf words limits t front × AreWritten words limits ts back
 
 -- the bytes are the frames of a stream's trees, where a turn was taken
 pub record IsRewritten (words : ℕ) (limits : Bounds) (b : List ℕ) (turns : ℕ) (out : List ℕ) : Type 0 where

@@ -1,7 +1,7 @@
 -- What a tree is laid into is read as that tree.
-use Rattle.std.proofs.Common.{◌≡◌, ℕ, ◌≤◌, max, List, sym, ap, ◌∙◌, arith}
+use Rattle.std.proofs.Common.{◌≡◌, ℕ, ◌≤◌, List}
 use Rattle.cp_words.specs.Limits.{Bounds}
-use Rattle.cp_reading.specs.Denotes.{Denotes, Root}
+use Rattle.cp_reading.specs.Denotes.{Root}
 use Rattle.cp_writing.specs.Layout.{Room, Layout}
 use Rattle.cp_tree.specs.Node.{Node, depth, cost, IsStruct}
 use Rattle.cp_tree.specs.Shaped.{Shaped}

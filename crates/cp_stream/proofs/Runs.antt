@@ -1,10 +1,10 @@
 -- A stream of messages has one reading, and pieces give what the whole gives.
-use Rattle.std.proofs.Common.{◌≡◌, ◌⊎◌, inl, inr, ℕ, ◌+◌, ◌^◌, ◌<◌, List, [], ◌∷◌, ◌++◌, length, refl, sym, ◌∙◌, ap, subst, append_assoc, length-append, append-nil, arith}
+use Rattle.std.proofs.Common.{◌≡◌, inl, inr, ℕ, ◌+◌, ◌^◌, ◌<◌, List, [], ◌∷◌, ◌++◌, length, refl, sym, ◌∙◌, ap, subst, append_assoc, length-append, append-nil, arith}
 use Rattle.cp_words.specs.Limits.{Bounds}
 use Rattle.cp_frame.specs.declared.mode.Mode.{Mode}
 use Rattle.cp_frame.specs.Runs.{joined}
 use Rattle.cp_rpc.specs.declared.message.Message.{Message}
-use Rattle.cp_stream.specs.Stream.{Holds, IsFrameOf, Front, Messages, Stream, HasFault}
+use Rattle.cp_stream.specs.Stream.{Holds, Front, Messages, Stream, HasFault}
 use Rattle.cp_stream.specs.Reader.{State, failed, refusing, reading, Reader, Stands, StandsFor, IsReading, IsMemory, IsToldFor, Reads}
 use Rattle.cp_stream.specs.Runs.{HasOneFront, IsOneStream, Fed, GivesStream, TellsRest, GivesSame}
 use Rattle.cp_stream.specs.declared.fault.Refusal.{Refusal}

@@ -1,5 +1,6 @@
 -- Bytes that go out call by call.
-use Rattle.std.proofs.Common.{◌≡◌, ◌⊎◌, inl, inr, ℕ, zero, suc, ◌+◌, ◌-◌, ◌%◌, ◌^◌, ◌<◌, ◌≤◌, List, [], ◌∷◌, ◌++◌, All, Option, max, Ok, length, take, drop, refl, sym, ◌∙◌, ap, subst, length-append, length-take, length-drop, append_assoc, take_all, take-append-drop, arith}
+use Rattle.std.proofs.Common.{◌≡◌, inl, inr, ⊎_elim, ℕ, zero, suc, ◌+◌, ◌-◌, ◌%◌, ◌^◌, ◌<◌, ◌≤◌, List, [], ◌∷◌, ◌++◌, All, Option, Ok, length, take, drop, refl, sym, ◌∙◌, ap, length-append, length-take, length-drop, append_assoc, take_all, take-append-drop, arith}
+use Rattle.std.specs.Prelude.{sum, map}
 use Rattle.std.proofs.Math.Nat.{mod-add-mod, mod-mod}
 use Rattle.std.proofs.lemmas.Bool.{cases_lt}
 use Rattle.std.proofs.lemmas.List.Elements.{All-head, All-tail}
@@ -8,12 +9,10 @@ use Rattle.std.specs.Io.KnownBytes.{Appends}
 use Rattle.std.proofs.KnownBytes.{Appends-nil, Appends-trans}
 use Rattle.cp_words.specs.Limits.{Bounds, IsAllowed}
 use Rattle.cp_tree.specs.Shaped.{Shaped, AllFit}
-use Rattle.cp_writing.specs.Sheets.{lists}
-use Rattle.cp_writing.specs.Writes.{IsWriteFaultOf, room_for, laid_out}
+use Rattle.cp_writing.specs.Writes.{IsWriteFaultOf}
 use Rattle.cp_tree.specs.declared.fault.WriteFault.{WriteFault}
 use Rattle.cp_tree.specs.declared.fault.WriteFault.TheVariants as writes
-use Rattle.cp_writing.proofs.OneSegment.{one_segment, one_segment_alone}
-use Rattle.cp_writing.proofs.LaidOut.{laid_out_is_layout}
+use Rattle.cp_writing.proofs.LayoutWords.{layout_alone, layout_several}
 use Rattle.cp_stream.proofs.ReadBack.{laid_root}
 use Rattle.cp_frame.specs.declared.mode.Mode.{Mode}
 use Rattle.cp_frame.specs.declared.mode.Mode.TheVariants as modes
@@ -21,7 +20,6 @@ use Rattle.cp_packed.specs.Words.{AreWords}
 use Rattle.cp_frame.specs.Runs.{IsReadBack}
 use Rattle.cp_frame.proofs.Whole.{read_back_plain}
 use Rattle.cp_frame.proofs.Rests.{read_back_packed}
-use Rattle.cp_frame.specs.Frame.{Written}
 use Rattle.cp_rpc.specs.Made.{message_made}
 use Rattle.cp_rpc.specs.declared.message.Message.{Message}
 use Rattle.cp_stream.specs.Stream.{IsFrameOf}
@@ -31,7 +29,7 @@ use Rattle.cp_stream.specs.declared.fault.StreamFault.{StreamFault}
 use Rattle.cp_stream.specs.declared.fault.StreamFault.TheVariants as faults
 use Rattle.cp_stream.specs.declared.tap.Tap.{Tap}
 use Rattle.cp_stream.specs.Tap.{inner_of, bytes_of, Moves, CountsWrite}
-use Rattle.cp_stream.specs.Write.{IsWrittenAs, IsUnwrittenFor, IsSent, IsCutShort}
+use Rattle.cp_stream.specs.Write.{IsLaidOutAs, IsWrittenAs, IsUnwrittenFor, IsSent, IsCutShort}
 use Rattle.cp_stream.specs.Kept.{WritesOn}
 
 module _ {T : Type 0} (contents : T → Option (List ℕ)) where
@@ -73,61 +71,56 @@ module _ {T : Type 0} (contents : T → Option (List ℕ)) where
         );
       }
 
--- in segments as large as a frame, and in one alone, a message is written the same
-written_alone : (mode : Mode) (limits : Bounds) (m : Message) (b : List ℕ) → limits.frame_words ≤ 67108864 → IsWrittenAs mode limits limits.frame_words limits.segments m b
-    → IsWrittenAs mode limits limits.frame_words 1 m b
-written_alone mode limits m b small h =
-    let e = one_segment limits (message_made m) h.shaped h.fits.2 in
-    let fits = subst (λ W. W.words ≤ limits.frame_words) (sym e) h.fits.2 in
-    record {
-      says = h.says;
-      shaped = h.shaped;
-      fits = (h.fits.0, h.fits.1, fits);
-      layout = laid_out_is_layout limits.frame_words 1 limits.frame_words (message_made m) (omega arith) h.shaped (omega (arith, fits, small));
-      written = subst (λ W. Written mode limits (lists W) b) (sym e) h.written;
-    }
+-- in segments as large as a frame, and in one alone, a message is laid out the same
+module _ (limits : Bounds) (m : Message) (small : limits.frame_words ≤ 67108864) where
+  laid_alone : (S : List (List ℕ)) → IsLaidOutAs limits limits.frame_words limits.segments m S → IsLaidOutAs limits limits.frame_words 1 m S
+  laid_alone S h = record { says = h.says; shaped = h.shaped; fits = h.fits; layout = layout_alone limits S (message_made m) small h.shaped h.small h.layout; few = h.few; small = h.small }
 
--- and refused the same
-refused_write : (limits : Bounds) (m : Message) (fault : WriteFault) → Shaped (message_made m) → IsWriteFaultOf limits (room_for (max 1 limits.frame_words) limits.segments limits) (message_made m) fault
-    → IsWriteFaultOf limits (room_for (max 1 limits.frame_words) 1 limits) (message_made m) fault
-refused_write limits m writes.TooDeep shaped h = h
-refused_write limits m writes.TooCostly shaped h = h
-refused_write limits m writes.OutOfMemory shaped h = h
-refused_write limits m writes.TooManyWords shaped h = (h.0, h.1, past (cases_lt limits.frame_words (laid_out (room_for (max 1 limits.frame_words) 1 limits) (message_made m)).words))
-  where
-    past : (limits.frame_words < (laid_out (room_for (max 1 limits.frame_words) 1 limits) (message_made m)).words) ⊎ ((laid_out (room_for (max 1 limits.frame_words) 1 limits) (message_made m)).words ≤ limits.frame_words)
-        → limits.frame_words < (laid_out (room_for (max 1 limits.frame_words) 1 limits) (message_made m)).words
-    past (inl more) = more
-    past (inr fits) = absurd (omega (arith, h.2, fits, ap (λ W. W.words) (one_segment_alone limits (message_made m) shaped fits)))
+  pub written_alone : (mode : Mode) (b : List ℕ) → IsWrittenAs mode limits limits.frame_words limits.segments m b → IsWrittenAs mode limits limits.frame_words 1 m b
+  written_alone mode b h = record { lists = h.lists; laid = laid_alone h.lists h.laid; written = h.written }
 
-refused_alone : (limits : Bounds) (m : Message) (refusal : Refusal) → IsUnwrittenFor limits limits.frame_words limits.segments m refusal → IsUnwrittenFor limits limits.frame_words 1 m refusal
-refused_alone limits m (refusals.Frame fault) h =
-    let e = one_segment limits (message_made m) h.1 h.2.2 in (h.0, h.1, (h.2.0, h.2.1, subst (λ W. W.words ≤ limits.frame_words) (sym e) h.2.2))
-refused_alone limits m (refusals.Tree fault) h = h
-refused_alone limits m (refusals.Schema fault) h = h
-refused_alone limits m (refusals.Write fault) (inl h) = inl h
-refused_alone limits m (refusals.Write fault) (inr h) = inr (h.0, refused_write limits m fault h.0 h.1)
+  -- and refused the same
+  refused_write : (fault : WriteFault) → Shaped (message_made m) → IsWriteFaultOf limits (record { words = limits.frame_words; segments = limits.segments }) (message_made m) fault
+      → IsWriteFaultOf limits (record { words = limits.frame_words; segments = 1 }) (message_made m) fault
+  refused_write writes.TooDeep shaped h = h
+  refused_write writes.TooCostly shaped h = h
+  refused_write writes.OutOfMemory shaped h = h
+  refused_write writes.TooManyWords shaped h = (
+    h.0,
+    λ S l. ⊎_elim
+        (λ more. more)
+        (λ within. absurd (omega (arith, within, h.1 S (layout_several limits S (message_made m) small shaped within l))))
+        (cases_lt limits.frame_words (sum (map length S))),
+  )
+
+  pub refused_alone : (refusal : Refusal) → IsUnwrittenFor limits limits.frame_words limits.segments m refusal → IsUnwrittenFor limits limits.frame_words 1 m refusal
+  refused_alone (refusals.Frame fault) h = (h.0, h.1, laid_alone h.1 h.2)
+  refused_alone (refusals.Tree fault) h = h
+  refused_alone (refusals.Schema fault) h = h
+  refused_alone (refusals.Write fault) (inl h) = inl h
+  refused_alone (refusals.Write fault) (inr h) = inr (h.0, refused_write fault h.0 h.1)
 
 pub sent_alone : {T : Type 0} (contents : T → Option (List ℕ)) (mode : Mode) (limits : Bounds) (m : Message) (old new : Tap T) → limits.frame_words ≤ 67108864
     → IsSent contents mode limits limits.frame_words limits.segments m old new → IsSent contents mode limits limits.frame_words 1 m old new
-sent_alone contents mode limits m old new small h = (h.0, written_alone mode limits m h.0 small h.1, h.2)
+sent_alone contents mode limits m old new small h = (h.0, written_alone limits m small mode h.0 h.1, h.2)
 
 pub cut_short_alone : {T : Type 0} (contents : T → Option (List ℕ)) (mode : Mode) (limits : Bounds) (m : Message) (old new : Tap T) → limits.frame_words ≤ 67108864 → (fault : StreamFault)
     → IsCutShort contents mode limits limits.frame_words limits.segments m old new fault → IsCutShort contents mode limits limits.frame_words 1 m old new fault
-cut_short_alone contents mode limits m old new small (faults.Refused at refusal) h = (h.0, h.1, refused_alone limits m refusal h.2)
-cut_short_alone contents mode limits m old new small faults.Device h = (h.0, written_alone mode limits m h.0 small h.1, h.2)
+cut_short_alone contents mode limits m old new small (faults.Refused at refusal) h = (h.0, h.1, refused_alone limits m small refusal h.2)
+cut_short_alone contents mode limits m old new small faults.Device h = (h.0, written_alone limits m small mode h.0 h.1, h.2)
 
 -- what is written of a message is a frame that holds it
 pub written_holds : (mode : Mode) (limits : Bounds) (words segments : ℕ) (m : Message) (b : List ℕ) → IsAllowed limits → IsWrittenAs mode limits words segments m b → IsFrameOf mode limits b m
 written_holds mode limits words segments m b allowed h =
-    let S = lists (laid_out (room_for (max 1 words) segments limits) (message_made m)) in
-    let some : 0 < length S = omega (arith, h.layout.all) in (
+    let S = h.lists in
+    let l = h.laid in
+    let some : 0 < length S = omega (arith, l.layout.all) in (
       S,
-      read_back mode limits S b allowed some (each_words S h.layout.fit) h.written,
+      read_back mode limits S b allowed some (each_words S l.layout.fit) h.written,
       record {
         tree = message_made m;
-        root = laid_root S (record { words = words; segments = segments }) limits (message_made m) h.shaped tt h.fits.0 h.fits.1 h.layout;
-        says = h.says;
+        root = laid_root S (record { words = words; segments = segments }) limits (message_made m) l.shaped tt l.fits.0 l.fits.1 l.layout;
+        says = l.says;
       },
     )
   where

@@ -1,12 +1,11 @@
 -- What is written of a message, and why it isn't.
-use Rattle.std.specs.Prelude.{◌≡◌, ◌≢◌, ◌⊎◌, ℕ, ◌+◌, ◌%◌, ◌^◌, ◌≤◌, List, [], ◌++◌, Option, length, map, max, sum}
+use Rattle.std.specs.Prelude.{◌≡◌, ◌≢◌, ◌⊎◌, ℕ, ◌+◌, ◌%◌, ◌^◌, ◌≤◌, List, [], ◌++◌, Option, length, map, sum}
 use Rattle.std.specs.Io.KnownBytes.{Appends}
 use Rattle.cp_words.specs.Limits.{Bounds}
 use Rattle.cp_writing.specs.Layout.{Layout}
 use Rattle.cp_tree.specs.Shaped.{Shaped}
-use Rattle.cp_writing.specs.Sheets.{lists}
 use Rattle.cp_tree.specs.declared.fault.WriteFault.{WriteFault}
-use Rattle.cp_writing.specs.Writes.{FitsIn, IsWriteFaultOf, room_for, laid_out}
+use Rattle.cp_writing.specs.Writes.{FitsIn, IsWriteFaultOf}
 use Rattle.cp_frame.specs.declared.mode.Mode.{Mode}
 use Rattle.cp_frame.specs.declared.fault.FrameFault.TheVariants as frames
 use Rattle.cp_frame.specs.Frame.{Written}
@@ -22,27 +21,24 @@ use Rattle.cp_stream.specs.declared.tap.Tap.{Tap}
 use Rattle.cp_stream.specs.Tap.{inner_of, failures_of, bytes_of}
 use Rattle.cp_stream.specs.Read.{FailedOnce}
 
--- These are the segments that a message is laid out in, of at most so many words and at most so many; 0 words count as 1. Its tree says it, a message can hold the tree, and the layout of the tree is within the limits, and so are they.
+-- These are the segments that a message is laid out in, of at most so many words and at most so many; 0 words count as 1. Its tree says it, a message can hold the tree, and the tree and its layout are within the limits.
 pub record IsLaidOutAs (limits : Bounds) (words segments : ℕ) (m : Message) (S : List (List ℕ)) : Type 0 where
   pub says : Says (message_made m) m
   pub shaped : Shaped (message_made m)
-  pub fits : FitsIn limits (room_for (max 1 words) segments limits) (message_made m)
-  pub laid : S ≡ lists (laid_out (room_for (max 1 words) segments limits) (message_made m))
+  pub fits : FitsIn limits (message_made m)
   pub layout : Layout S (record { words = words; segments = segments }) (message_made m)
   pub few : length S ≤ limits.segments
   pub small : sum (map length S) ≤ limits.frame_words
 
 -- Why a message isn't laid out: it has a list that no message can hold; or its tree, which a message can hold, isn't laid out within the limits.
 abbrev pub IsNotLaidOut : Bounds → ℕ → ℕ → Message → WriteFault → Type 0
-IsNotLaidOut limits words segments m fault = IsRefusalOf m fault ⊎ (Shaped (message_made m) × IsWriteFaultOf limits (room_for (max 1 words) segments limits) (message_made m) fault)
+IsNotLaidOut limits words segments m fault = IsRefusalOf m fault ⊎ (Shaped (message_made m) × IsWriteFaultOf limits (record { words = words; segments = segments }) (message_made m) fault)
 
--- The bytes are the frame that a message is written as, in segments of at most so many words and at most so many; 0 words count as 1. Its tree says it, a message can hold the tree, and the layout of the tree is within the limits.
+-- The bytes are the frame of the segments that a message is laid out in.
 pub record IsWrittenAs (mode : Mode) (limits : Bounds) (words segments : ℕ) (m : Message) (b : List ℕ) : Type 0 where
-  pub says : Says (message_made m) m
-  pub shaped : Shaped (message_made m)
-  pub fits : FitsIn limits (room_for (max 1 words) segments limits) (message_made m)
-  pub layout : Layout (lists (laid_out (room_for (max 1 words) segments limits) (message_made m))) (record { words = words; segments = segments }) (message_made m)
-  pub written : Written mode limits (lists (laid_out (room_for (max 1 words) segments limits) (message_made m))) b
+  pub lists : List (List ℕ)
+  pub laid : IsLaidOutAs limits words segments m lists
+  pub written : Written mode limits lists b
 
 -- These bytes went out, and the tap counts them, which goes on at 0 behind the greatest u64.
 pub record Passes {T : Type 0} (contents : T → Option (List ℕ)) (old new : Tap T) (b : List ℕ) : Type 0 where
@@ -69,7 +65,7 @@ IsSent contents mode limits words segments m old new = (b : List ℕ) × IsWritt
 -- Why a message isn't written: it isn't laid out; or memory ran out for the frame.
 abbrev pub IsUnwrittenFor : Bounds → ℕ → ℕ → Message → Refusal → Type 0
 IsUnwrittenFor limits words segments m (refusals.Write fault) = IsNotLaidOut limits words segments m fault
-IsUnwrittenFor limits words segments m (refusals.Frame fault) = (fault ≡ frames.OutOfMemory) × Shaped (message_made m) × FitsIn limits (room_for (max 1 words) segments limits) (message_made m)
+IsUnwrittenFor limits words segments m (refusals.Frame fault) = (fault ≡ frames.OutOfMemory) × (S : List (List ℕ)) × IsLaidOutAs limits words segments m S
 IsUnwrittenFor limits words segments m other = ⊥
 
 -- A fault is told at 0, and nothing was written; or the writer failed while the frame went out.

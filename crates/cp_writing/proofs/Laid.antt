@@ -38,7 +38,7 @@ stand_behind : (F : Written) (s q : ℕ) (ws xs : List ℕ) → Stand F s q (ws 
 stand_behind F s q ws xs h i less = ap (at F s) (omega arith) ∙ h (length ws + i) (omega (arith, length-append ws xs, less)) ∙ get_or-append-add ws xs i 0
 
 -- a struct that has words or pointers
-not_none : (n : ℕ) (F G : Written) → 0 < n → (if n == 0 then F else G) ≡ G
+pub not_none : (n : ℕ) (F G : Written) → 0 < n → (if n == 0 then F else G) ≡ G
 not_none n F G some = rw (ne_eqb n 0 (λ z. omega (arith, z, some))) refl
 
 module _ (room : Room) (S : List (List ℕ)) (small : (b : ℕ) → length (segment S b) ≤ 67108864) where

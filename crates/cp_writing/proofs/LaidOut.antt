@@ -9,7 +9,7 @@ use Rattle.cp_words.specs.Aims.{segment}
 use Rattle.cp_writing.specs.Layout.{Layout, Built}
 use Rattle.cp_tree.specs.Shaped.{AllFit, Shaped}
 use Rattle.cp_writing.specs.Sheets.{Written, lists}
-use Rattle.cp_writing.specs.Writes.{room_for, laid_out}
+use Rattle.cp_writing.specs.LaidOut.{room_for, laid_out}
 use Rattle.cp_writing.proofs.Sheets.{end-last, one_blank}
 use Rattle.cp_writing.proofs.Keeps.{at}
 use Rattle.cp_writing.proofs.Later.{Later, filled}
@@ -30,10 +30,11 @@ blank_fits (suc b) r = omega arith
 bounded_first : Bounded first
 bounded_first = record { counts = λ b. one_blank [] (0 ∷ []) 1 b refl refl; few = omega arith; fit = λ within. blank_fits }
 
-module _ (room : Room) (t : Node) (few : room.segments ≤ 512) (shaped : Shaped t) (within : (laid_out room t).words ≤ 67108864) where
-  bounded : Bounded (laid_out room t)
-  bounded = bounded_tree room few t 0 0 first shaped (omega arith) bounded_first
+-- the words that a tree is written as fit 64 bits each
+pub laid_bounded : (room : Room) (t : Node) → room.segments ≤ 512 → Shaped t → Bounded (laid_out room t)
+laid_bounded room t few shaped = bounded_tree room few t 0 0 first shaped (omega arith) bounded_first
 
+module _ (room : Room) (t : Node) (bounded : Bounded (laid_out room t)) (within : (laid_out room t).words ≤ 67108864) where
   all_fit : All (AllFit 64) (lists (laid_out room t))
   all_fit = All-from_get_or (AllFit 64) (lists (laid_out room t)) [] (λ b lt. All-from_get_or (λ n. n < 2 ^ 64) (segment (lists (laid_out room t)) b) 0 (λ r inside. bounded.fit within b r))
 
@@ -41,19 +42,23 @@ module _ (room : Room) (t : Node) (few : room.segments ≤ 512) (shaped : Shaped
   holds_itself = record { same = λ b r fresh lt. refl; ended = λ b lt. refl; ends = λ b. omega arith }
 
 -- The layout has the room that the tree is written into. A segment of no words counts as one of one word.
-pub laid_out_is_layout : (words segments whole : ℕ) (t : Node) → segments ≤ 512 → Shaped t → (laid_out (record { words = max 1 words; segments = segments; whole = whole }) t).words ≤ 67108864
+pub bounded_is_layout : (words segments whole : ℕ) (t : Node) → Shaped t → Bounded (laid_out (record { words = max 1 words; segments = segments; whole = whole }) t)
+    → (laid_out (record { words = max 1 words; segments = segments; whole = whole }) t).words ≤ 67108864
     → Layout (lists (laid_out (record { words = max 1 words; segments = segments; whole = whole }) t)) (record { words = words; segments = segments }) t
-laid_out_is_layout words segments whole t few shaped within =
+bounded_is_layout words segments whole t shaped h within =
     let room : Room = record { words = max 1 words; segments = segments; whole = whole } in
     let G = laid_out room t in
-    let h = bounded room t few shaped within in
     record {
       filled = filled G;
-      laid = lays_tree room (lists G) (λ b. omega (arith, h.counts b, within)) t 0 0 first shaped (omega arith) (omega arith) (holds_itself room t few shaped within);
+      laid = lays_tree room (lists G) (λ b. omega (arith, h.counts b, within)) t 0 0 first shaped (omega arith) (omega arith) (holds_itself room t h within);
       all = length_push G.full G.last;
       ends = end-last G;
-      fit = all_fit room t few shaped within;
+      fit = all_fit room t h within;
     }
+
+laid_out_is_layout : (words segments whole : ℕ) (t : Node) → segments ≤ 512 → Shaped t → (laid_out (record { words = max 1 words; segments = segments; whole = whole }) t).words ≤ 67108864
+    → Layout (lists (laid_out (record { words = max 1 words; segments = segments; whole = whole }) t)) (record { words = words; segments = segments }) t
+laid_out_is_layout words segments whole t few shaped within = bounded_is_layout words segments whole t shaped (laid_bounded (record { words = max 1 words; segments = segments; whole = whole }) t few shaped) within
 
 -- what is written into segments of so many words, and into one
 pub written_is_layout : (max_words : ℕ) (limits : Bounds) (t : Node) (F : Written) → limits.segments ≤ 512 → Shaped t → F ≡ laid_out (room_for (max 1 max_words) limits.segments limits) t → F.words ≤ 67108864

@@ -16,3 +16,6 @@ pub mod FitWords
 pub mod BoundedTrees
 pub mod AnyWidth
 pub mod LaidOut
+pub mod OneWord
+pub mod OneLayout
+pub mod LayoutWords

@@ -14,7 +14,7 @@ use Rattle.cp_writing.specs.Packed.{packed, bit_of}
 use Rattle.cp_tree.specs.Shaped.{Shaped, EachShaped, EachEven}
 use Rattle.cp_writing.specs.Sheets.{Written, put, append, begin, end_of, body_word, pad_for, Placed, here, with_room, place_in, place_by}
 use Rattle.cp_writing.specs.Writing.{body_blank, bodies_blank, tag_word, begun, struct_begun, ptrs_begun, structs_begun, tree_by, row_by, bodies_by}
-use Rattle.cp_writing.specs.Writes.{room_for, laid_out}
+use Rattle.cp_writing.specs.LaidOut.{room_for, laid_out}
 use Rattle.cp_writing.proofs.Sheets.{words-put, full-put, last-put, with_room_keeps, place-here, place-cases}
 use Rattle.cp_writing.proofs.Keeps.{either, length-blank, length-bodies}
 use Rattle.cp_writing.proofs.Packing.{length_groups, length_bits}

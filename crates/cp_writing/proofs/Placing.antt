@@ -29,12 +29,12 @@ aims S s p o start (kinds.List size n) lt is named near e =
     record { pointer = pointers.List (pos o) size n; offset = pos o; stands = (lt, ap pointer_of is ∙ says_list o size n near); says = (refl, refl); begins = ap pos e }
 
 -- how far segments are filled once the body's words are appended
-filled-here : (F : Written) (s p : ℕ) (k : Kind) (size : ℕ) (xs : List ℕ) → length xs ≡ size → filled (append xs (here s p k F).sheet) ≡ record { last = length F.full; used = length F.last + size }
+pub filled-here : (F : Written) (s p : ℕ) (k : Kind) (size : ℕ) (xs : List ℕ) → length xs ≡ size → filled (append xs (here s p k F).sheet) ≡ record { last = length F.full; used = length F.last + size }
 filled-here F s p k size xs long =
     let w = body_word k (end_of F s - (p + 1)) in
     rw (length-append (put s p w F).last xs, full-put F s p w, last-put F s p w, long) refl
 
-filled-behind : (F : Written) (s p : ℕ) (k : Kind) (size : ℕ) (xs : List ℕ) → length xs ≡ size → filled (append xs (behind_pad s p k F).sheet) ≡ record { last = length F.full; used = length F.last + 1 + size }
+pub filled-behind : (F : Written) (s p : ℕ) (k : Kind) (size : ℕ) (xs : List ℕ) → length xs ≡ size → filled (append xs (behind_pad s p k F).sheet) ≡ record { last = length F.full; used = length F.last + 1 + size }
 filled-behind F s p k size xs long =
     let w = word_of (pointers.Far false (length F.last) (length F.full)) in
     let pad = body_word k 0 ∷ [] in
@@ -42,16 +42,16 @@ filled-behind F s p k size xs long =
 
 -- when there is room, and when a segment is begun
 module _ (room : Room) (s size : ℕ) (F : Written) where
-  room_nothing : size ≡ 0 → with_room room s size F ≡ F
+  pub room_nothing : size ≡ 0 → with_room room s size F ≡ F
   room_nothing z = rw (eq-eqb size 0 z) refl
 
-  room_fits : 0 < size → length F.last + pad_for s F + size ≤ room.words → with_room room s size F ≡ F
+  pub room_fits : 0 < size → length F.last + pad_for s F + size ≤ room.words → with_room room s size F ≡ F
   room_fits some fits = rw (ne_eqb size 0 (λ z. omega (arith, z, some)), le-leb (length F.last + pad_for s F + size) room.words fits) refl
 
-  room_all : 0 < size → room.words < length F.last + pad_for s F + size → room.segments ≤ length F.full + 1 → with_room room s size F ≡ F
+  pub room_all : 0 < size → room.words < length F.last + pad_for s F + size → room.segments ≤ length F.full + 1 → with_room room s size F ≡ F
   room_all some past none = rw (ne_eqb size 0 (λ z. omega (arith, z, some)), lt-leb (length F.last + pad_for s F + size) room.words past, le-leb room.segments (length F.full + 1) none) refl
 
-  room_begun : 0 < size → room.words < length F.last + pad_for s F + size → length F.full + 1 < room.segments → with_room room s size F ≡ begin F
+  pub room_begun : 0 < size → room.words < length F.last + pad_for s F + size → length F.full + 1 < room.segments → with_room room s size F ≡ begin F
   room_begun some past more = rw (ne_eqb size 0 (λ z. omega (arith, z, some)), lt-leb (length F.last + pad_for s F + size) room.words past, lt-leb room.segments (length F.full + 1) more) refl
 
 module _ (room : Room) (S : List (List ℕ)) (small : (b : ℕ) → length (segment S b) ≤ 67108864) where

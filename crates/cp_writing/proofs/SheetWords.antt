@@ -13,7 +13,7 @@ use Rattle.cp_writing.specs.declared.sheet.Room.{Room}
 use Rattle.cp_tree.specs.Node.{Node, null, cap, struct, list, ptrs, structs, Nodes, no_nodes, node, Bodies, no_bodies, body, count, number_of, element_size, element_count}
 use Rattle.cp_writing.specs.Packed.{packed}
 use Rattle.cp_writing.specs.Sheets.{Written, lists, put, append, begin, with_room, place_by, body_word}
-use Rattle.cp_writing.specs.Writes.{laid_out}
+use Rattle.cp_writing.specs.LaidOut.{laid_out}
 use Rattle.cp_writing.specs.Writing.{body_blank, bodies_blank, tag_word, struct_placed, ptrs_placed, structs_placed, tree_by, row_by, bodies_by}
 use Rattle.cp_writing.proofs.Keeps.{either}
 use Rattle.cp_writing.proofs.Sheets.{put-here, put-there, full-put, full-begin, with_room_keeps, place-cases}

@@ -4,3 +4,4 @@ pub mod Sheets
 pub mod Allowed
 pub mod Writing
 pub mod Writes
+pub mod LaidOut

@@ -1,28 +1,14 @@
--- What a tree is written as, and why it isn't written.
-use Rattle.std.specs.Prelude.{ℕ, ◌<◌, ◌≤◌, max, List, [], ◌∷◌}
+-- Why a tree isn't written.
+use Rattle.std.specs.Prelude.{ℕ, ◌<◌, ◌≤◌, List, length, map, sum}
 use Rattle.cp_words.specs.Limits.{Bounds}
 use Rattle.cp_tree.specs.Node.{Node, depth, cost}
 use Rattle.cp_tree.specs.declared.fault.WriteFault.{WriteFault}
 use Rattle.cp_tree.specs.declared.fault.WriteFault.TheVariants as faults
-use Rattle.cp_writing.specs.declared.sheet.Room.{Room}
-use Rattle.cp_writing.specs.Sheets.{Written, lists}
-use Rattle.cp_writing.specs.Writing.{tree_by}
+use Rattle.cp_writing.specs.Layout.{Room, Layout}
 
--- room for so many words in a segment and so many segments
-abbrev pub room_for : ℕ → ℕ → Bounds → Room
-room_for words segments limits = record { words = words; segments = segments; whole = limits.frame_words }
-
--- a tree written behind a blank word, its pointer, which begins segment 0
-abbrev pub laid_out : Room → Node → Written
-laid_out room t = tree_by room 0 0 t (record { full = []; last = 0 ∷ []; words = 1 })
-
--- the segments that a tree is written as, of at most so many words each; 0 counts as 1
-abbrev pub segments_for : ℕ → Bounds → Node → List (List ℕ)
-segments_for max_words limits t = lists (laid_out (room_for (max 1 max_words) limits.segments limits) t)
-
--- its depth, its cost and the words that it is written as are within the limits
-abbrev pub FitsIn : Bounds → Room → Node → Type 0
-FitsIn limits room t = (depth t ≤ limits.nesting) × (cost t ≤ limits.traversal) × ((laid_out room t).words ≤ limits.frame_words)
+-- its depth and its cost are within the limits
+abbrev pub FitsIn : Bounds → Node → Type 0
+FitsIn limits t = (depth t ≤ limits.nesting) × (cost t ≤ limits.traversal)
 
 -- its depth passes the limit, or else its cost does
 abbrev pub IsCostFaultOf : Bounds → Node → WriteFault → Type 0
@@ -30,8 +16,8 @@ IsCostFaultOf limits t faults.TooDeep = limits.nesting < depth t
 IsCostFaultOf limits t faults.TooCostly = (depth t ≤ limits.nesting) × (limits.traversal < cost t)
 IsCostFaultOf limits t other = ⊥
 
--- or else the words that it would be written as do; or memory ran out
+-- or else it has no layout that has only as many words as a frame may have; or memory ran out
 abbrev pub IsWriteFaultOf : Bounds → Room → Node → WriteFault → Type 0
-IsWriteFaultOf limits room t faults.TooManyWords = (depth t ≤ limits.nesting) × (cost t ≤ limits.traversal) × (limits.frame_words < (laid_out room t).words)
+IsWriteFaultOf limits room t faults.TooManyWords = FitsIn limits t × ((S : List (List ℕ)) → Layout S room t → limits.frame_words < sum (map length S))
 IsWriteFaultOf limits room t faults.OutOfMemory = Unit {0}
 IsWriteFaultOf limits room t fault = IsCostFaultOf limits t fault

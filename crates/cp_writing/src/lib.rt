@@ -3,10 +3,12 @@
 
 mod allowed;
 mod draft_lay;
+mod laws;
 mod lay;
 mod lay_list;
 mod pack;
 mod sheet;
 mod write;
 
+pub use laws::one_layout;
 pub use write::{write_draft, write_root, write_segments};

@@ -1,12 +1,13 @@
 //! Trees, written into segments.
 
-ghost use Rattle.std.specs.Prelude.{◌≡◌, ◌≤◌, ◌<◌, ◌∷◌, [], max, sum, length, map, IfOk, IfErr};
+ghost use Rattle.std.specs.Prelude.{◌≡◌, ◌≤◌, ◌<◌, ◌∷◌, [], sum, length, map, IfOk, OnOk, IfErr};
 ghost use Rattle.cp_writing.specs.Layout.{Layout, Built};
 ghost use Rattle.cp_tree.specs.Node.{depth, cost};
 ghost use Rattle.cp_tree.specs.DraftOf.{draft_of};
 ghost use Rattle.cp_tree.specs.Shaped.{Shaped};
 ghost use Rattle.cp_writing.specs.Sheets.{lists, written};
-ghost use Rattle.cp_writing.specs.Writes.{IsCostFaultOf, IsWriteFaultOf, FitsIn, room_for, segments_for, laid_out};
+ghost use Rattle.cp_writing.specs.Writes.{IsCostFaultOf, IsWriteFaultOf, FitsIn};
+ghost use Rattle.cp_writing.specs.LaidOut.{room_for, laid_out, MeetsLimit};
 
 use crate::draft_lay::lay_draft;
 use crate::sheet::{Room, Sheet};
@@ -20,7 +21,7 @@ const FIRST_WORDS: usize = 128;
 /// Whether the tree keeps to the limits on nesting and on cost.
 #[cold]
 fn keeps_to(draft: &Draft, limits: Limits) -> Result<(), WriteFault>
-    ensures fits { IfOk result (λ u. (depth (draft_of draft.now) ≤ limits.nesting) × (cost (draft_of draft.now) ≤ limits.traversal)) }
+    ensures fits { OnOk result (FitsIn limits (draft_of draft.now)) }
     ensures refused { IfErr result (IsCostFaultOf limits (draft_of draft.now)) }
 {
     let mut left = Some(limits.traversal() as u64);
@@ -44,9 +45,10 @@ fn lay_out(
     requires shaped { Shaped (draft_of draft.now) }
     requires few { segments ≤ 512 }
     ensures written { IfOk result (λ w. written w ≡ laid_out (room_for words segments limits) (draft_of draft.now)) }
-    ensures fits { IfOk result (λ w. FitsIn limits (room_for words segments limits) (draft_of draft.now)) }
+    ensures fits { OnOk result (FitsIn limits (draft_of draft.now)) }
+    ensures within { IfOk result (λ w. (written w).words ≤ limits.frame_words) }
     ensures small { IfOk result (λ w. (written w).words ≤ 67108864) }
-    ensures refused { IfErr result (IsWriteFaultOf limits (room_for words segments limits) (draft_of draft.now)) }
+    ensures refused { IfErr result (MeetsLimit limits (room_for words segments limits) (draft_of draft.now)) }
 {
     let room = Room {
         words: words as usize,
@@ -82,11 +84,10 @@ pub fn write_draft(
     limits: Limits,
 ) -> Result<Segments, WriteFault>
     requires shaped { Shaped (draft_of draft.now) }
-    ensures written { IfOk result (λ s. s ≡ segments_for max_words limits (draft_of draft.now)) }
     ensures layout { IfOk result (λ s. Layout s (record { words = max_words; segments = limits.segments }) (draft_of draft.now)) }
-    ensures fits { IfOk result (λ s. FitsIn limits (room_for (max 1 max_words) limits.segments limits) (draft_of draft.now)) }
+    ensures fits { OnOk result (FitsIn limits (draft_of draft.now)) }
     ensures small { IfOk result (λ s. (length s ≤ limits.segments) × (sum (map length s) ≤ limits.frame_words)) }
-    ensures refused { IfErr result (IsWriteFaultOf limits (room_for (max 1 max_words) limits.segments limits) (draft_of draft.now)) }
+    ensures refused { IfErr result (IsWriteFaultOf limits (record { words = max_words; segments = limits.segments }) (draft_of draft.now)) }
 {
     let words = if max_words == 0 { 1 } else { max_words };
     let sheet = lay_out(alloc, draft, words, limits.segments(), limits)?;
@@ -100,11 +101,10 @@ pub fn write_segments(
     max_words: u32,
     limits: Limits,
 ) -> Result<Segments, WriteFault>
-    ensures written { IfOk result (λ s. s ≡ segments_for max_words limits object.now) }
     ensures layout { IfOk result (λ s. Layout s (record { words = max_words; segments = limits.segments }) object.now) }
-    ensures fits { IfOk result (λ s. FitsIn limits (room_for (max 1 max_words) limits.segments limits) object.now) }
+    ensures fits { OnOk result (FitsIn limits object.now) }
     ensures small { IfOk result (λ s. (length s ≤ limits.segments) × (sum (map length s) ≤ limits.frame_words)) }
-    ensures refused { IfErr result (IsWriteFaultOf limits (room_for (max 1 max_words) limits.segments limits) object.now) }
+    ensures refused { IfErr result (IsWriteFaultOf limits (record { words = max_words; segments = limits.segments }) object.now) }
 {
     let draft = Draft::Lent(object.tree());
     write_draft(alloc, &draft, max_words, limits)
@@ -114,10 +114,10 @@ pub fn write_segments(
 /// "Messages"). B1 if the tree nests deeper than the limit, else B2 if it costs more, else B4 if its
 /// words are more than a frame may have; B3 if memory runs out.
 pub fn write_root(alloc: Global, object: &Object, limits: Limits) -> Result<Vec<u64>, WriteFault>
-    ensures written { IfOk result (λ v. v.items ∷ [] ≡ lists (laid_out (room_for limits.frame_words 1 limits) object.now)) }
     ensures built { IfOk result (λ v. Built object.now v.items) }
-    ensures fits { IfOk result (λ v. FitsIn limits (room_for limits.frame_words 1 limits) object.now) }
-    ensures refused { IfErr result (IsWriteFaultOf limits (room_for limits.frame_words 1 limits) object.now) }
+    ensures fits { OnOk result (FitsIn limits object.now) }
+    ensures small { IfOk result (λ v. length v.items ≤ limits.frame_words) }
+    ensures refused { IfErr result (IsWriteFaultOf limits (record { words = limits.frame_words; segments = 1 }) object.now) }
 {
     let draft = Draft::Lent(object.tree());
     let sheet = lay_out(alloc, &draft, limits.frame_words(), 1, limits)?;

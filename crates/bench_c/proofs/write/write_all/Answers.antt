@@ -1,7 +1,6 @@
 use Rattle.std.proofs.Common.{◌+◌, ℕ, List, rules, subst, sym}
-use Rattle.cp_frame.specs.declared.mode.Mode.TheVariants as modes
-use Rattle.cp_frame.specs.Frame.{Written}
 use Rattle.bench_c.specs.Kept.{AreFirstWritten}
+use Rattle.bench_c.specs.Write.{IsFrameOf}
 use Rattle.bench_c.proofs.Trees.{written_more}
 use Rattle.bench_c.proofs.write.write_all.Goals as goal
 
@@ -9,6 +8,6 @@ pub loop-tree-preserved : goal.loop-tree-preserved
 loop-tree-preserved c =
     let l = c.loop-tree in
     let put = c.in-Ok-write_behind.ensures.written in
-    let form = subst (λ (s : List (List ℕ)). Written modes.Plain c.args.limits s put.0) c.in-Ok.ensures.written put.2 in
+    let form : IsFrameOf c.args.words c.args.limits c.tree-item.result put.0 = (c.in-Ok.segments, c.in-Ok.ensures.layout, put.2) in
     subst (λ b. AreFirstWritten c.args.words c.args.limits c.args.trees.now (l.tree-index + 1) b) (sym put.1)
     (written_more c.args.words c.args.limits c.args.trees.now l.tree-index l.out.items put.0 _ c.tree-item.result l.invariant (search (rules)) c.tree-item.is form)

@@ -1,10 +1,12 @@
 use Rattle.std.proofs.Common.{◌≡◌, ◌≤◌, ℕ, List, length, map, max, sym, ap, subst, ◌∙◌, arith}
 use Rattle.std.specs.Prelude.{sum}
+use Rattle.std.proofs.lemmas.Result.{err_from_is_err_and}
 use Rattle.cp_tree.specs.DraftOf.{draft_of}
 use Rattle.cp_writing.specs.Layout.{Layout}
-use Rattle.cp_writing.specs.Sheets.{written, lists}
-use Rattle.cp_writing.specs.Writes.{room_for, laid_out}
+use Rattle.cp_writing.specs.Sheets.{Written, written, lists}
+use Rattle.cp_writing.specs.LaidOut.{room_for, laid_out, MeetsLimit}
 use Rattle.cp_writing.proofs.LaidOut.{written_is_layout}
+use Rattle.cp_writing.proofs.LayoutWords.{meets_fault}
 use Rattle.cp_writing.proofs.SheetWords.{laid_words, laid_within}
 use Rattle.cp_writing.proofs.write.write_draft.Goals.{then-max_words-eq0, else-max_words-eq0}
 use Rattle.cp_writing.proofs.write.write_draft.Goals as goal
@@ -32,4 +34,18 @@ returns-clause-small c =
     let room = room_for c.if-max_words-eq0.words c.segments.result limits in
     let is = c.in_ok-into_segments.ensures ∙ ap lists c.in_ok-sheet.ensures.written in
     subst (λ (s : List (List ℕ)). (length s ≤ limits.segments) × (sum (map length s) ≤ limits.frame_words)) (sym is)
-    (omega (arith, laid_within room t (omega (arith, c.segments.ensures.range)), c.segments.ensures.value), omega (arith, laid_words room t, c.in_ok-sheet.ensures.fits.2))
+    (omega (arith, laid_within room t (omega (arith, c.segments.ensures.range)), c.segments.ensures.value), omega (arith, laid_words room t, ap (λ (F : Written). F.words) c.in_ok-sheet.ensures.written, c.in_ok-sheet.ensures.within))
+
+pub returns-in_err-sheet-clause-refused : goal.returns-in_err-sheet-clause-refused
+returns-in_err-sheet-clause-refused c =
+    let limits = c.args.limits in
+    let t = draft_of c.args.draft.now in
+    let fault = c.in_err-sheet.field-0.0 in
+    let words : c.if-max_words-eq0.words ≡ max 1 c.args.max_words = elim c.if-max_words-eq0.branch [
+      | then-max_words-eq0 w ↦ omega (arith, w.words-is, w.if-max_words-eq0.true)
+      | else-max_words-eq0 w ↦ omega (arith, w.words-is, w.if-max_words-eq0.false)
+    ] in
+    let wide = subst (λ n. MeetsLimit limits (room_for n c.segments.result limits) t fault) words c.in_err-sheet.ensures.refused in
+    let met = subst (λ n. MeetsLimit limits (room_for (max 1 c.args.max_words) n limits) t fault) c.segments.ensures.value wide in
+    let p = err_from_is_err_and c.from_residual.result c.from_residual.ensures.1 in
+    rw (p.1, p.2) (meets_fault limits c.args.max_words limits.segments t fault c.requires.shaped met)
