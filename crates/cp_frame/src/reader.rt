@@ -418,7 +418,8 @@ impl FrameReader {
     }
 
     /// How many bytes that aren't whole words, and how many words of the open frame, its segment
-    /// table included, the reader keeps: at most 9 bytes, and no more words than have come whole.
+    /// table included, the reader keeps: at most 9 bytes, and no more words than have come whole. That is all that it
+    /// keeps: a buffer that was given back holds no words.
     pub fn held(&self) -> (usize, usize)
         ensures bytes { result.0 ≡ self.now.bytes }
         ensures words { result.1 ≡ self.now.words }
