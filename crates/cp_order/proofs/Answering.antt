@@ -240,13 +240,13 @@ module _ (s : State) (c : Call) (table : List Cap) (h : Within s None []) (still
   abbrev entered_state : State
   entered_state = entered s c.question_id
 
-  entered_within : Within entered_state (Some (origins.Answer c.question_id)) []
+  pub entered_within : Within entered_state (Some (origins.Answer c.question_id)) []
   entered_within = ticket_taken (answer_opened h c.question_id (Some s.next_ticket) fresh (no_over s c.question_id still))
 
   entered_fit : (x : Cap) → IsFit s x → IsFit entered_state x
   entered_fit x f = (f.0, f.1, same_route s.values entered_state.values refl refl x f.2)
 
-  peer_in_hand : IsInHand entered_state (peer_call s c table)
+  pub peer_in_hand : IsInHand entered_state (peer_call s c table)
   peer_in_hand =
       record {
         whose = (_, get_put s.entries.answers c.question_id _, refl, refl);

@@ -103,7 +103,7 @@ never_wired : {Y : Type 0} → calling.plain ≡ on_wire → Y
 never_wired is = absurd (cc)
 
 -- What a reference came to is fit to be a value.
-came_fit : {s : State} → Within s None [] → (cap v : Cap) → reference_of s.values cap ≡ came_to v → IsFit s v
+pub came_fit : {s : State} → Within s None [] → (cap v : Cap) → reference_of s.values cap ≡ came_to v → IsFit s v
 came_fit {s = s} h (caps.Import i) v is =
     let at = import_came (get s.values.imports i) v is in
     (h.plain.imports i v at, h.there.values_.imports i v at, h.ends.values_.imports i v at)

@@ -43,6 +43,7 @@ pub mod Owning
 pub mod Holding
 pub mod Going
 pub mod Leaving
+pub mod Falling
 pub mod Answering
 pub mod Returning
 pub mod Resolving

@@ -39,7 +39,7 @@ use Rattle.cp_order.proofs.Taking.{Grows, grows_not, take_all_keeps}
 use Rattle.cp_order.proofs.Going.{answer_in_hand}
 
 -- what was returned is taken in
-returned_keeps : (s : State) (returned : Returned) (taken : Outcome × State) → Within s None [] → s.waiting.over ≡ none_over
+pub returned_keeps : (s : State) (returned : Returned) (taken : Outcome × State) → Within s None [] → s.waiting.over ≡ none_over
     → TakeReturned s returned (Ok taken)
     → Within taken.1 None [] × Grows s taken.1 × AllByRecursion (IsFit taken.1) (caps_of taken.0)
 returned_keeps s (returns.Results p) taken h still is =
@@ -115,10 +115,10 @@ module _ {s : State} (h : Within s None []) (q : ℕ) (entry : Exchange Question
         (λ b e is place o. omega (arith, place o, forwarding_less b))
 
     -- the call that it forwards is in hand
-    back_in_hand : Within (without_question s q) (Some (origins.Answer a)) []
+    pub back_in_hand : Within (without_question s q) (Some (origins.Answer a)) []
     back_in_hand = question_leaves h q (Some (origins.Answer a)) off sent_waits (λ r other. refl) placed
 
-    back_fit : (c : Cap) → IsFit s c → IsFit (without_question s q) c
+    pub back_fit : (c : Cap) → IsFit s c → IsFit (without_question s q) c
     back_fit = left_fit h q (Some (origins.Answer a)) off sent_waits (λ r other. refl) placed
 
     answers_forwarded : (outcome : Outcome) (done : Done) → AllByRecursion (IsFit s) (caps_of outcome) → GiveAnswer (without_question s q) a outcome (Ok done)
