@@ -1,13 +1,15 @@
 -- Where calls go, and how waiting calls leave.
-use Rattle.std.proofs.Common.{◌≡◌, Bool, true, false, ℕ, zero, suc, List, [], ◌++◌, Option, Result, Ok, Err, Some, None, IsSome, true≢false, refl, sym, ap, ◌∙◌, subst, append_assoc, append-nil}
-use Rattle.cp_refs.specs.Route.{Way, ends, leads, missing, way, route_by, route_within, HasRoute}
-use Rattle.cp_refs.specs.Values.{ValueMaps}
+use Rattle.std.proofs.Common.{◌≡◌, ◌<◌, List, [], ◌++◌, None, Result, Ok, Err, refl, sym, ap, ◌∙◌, subst, append_assoc, append-nil}
+use Rattle.cp_refs.specs.Route.{HasRoute}
 use Rattle.cp_refs.specs.declared.cap.Cap.{Cap}
 use Rattle.cp_refs.specs.declared.call.Held.{Held}
-use Rattle.std.specs.FinMap.{get, remove}
-use Rattle.cp_tables.proofs.TableLemmas.{get-remove_same}
+use Rattle.std.specs.FinMap.{remove}
+use Rattle.cp_order.specs.Within.{Within}
+use Rattle.cp_order.proofs.Falling.{turns_left, turn_falls}
+use Rattle.cp_order.proofs.Leaving.{in_hand_within, is_in_hand_now, turn_within}
 use Rattle.cp_state.specs.Halts.{Acts}
-use Rattle.cp_rules.specs.Going.{AllLeave}
+use Rattle.cp_rules.specs.Going.{AllLeave, MayGo}
+use Rattle.cp_rules.proofs.Ready.{may_go}
 use Rattle.cp_state.specs.declared.halt.Halt.{Halt}
 use Rattle.cp_state.specs.declared.halt.Halt.TheVariants as halts
 use Rattle.cp_state.specs.Overs.{NoneOverIn, IsNextIn}
@@ -15,31 +17,9 @@ use Rattle.cp_machine.specs.State.{State, with_over, none_over}
 use Rattle.cp_state.specs.Queue.{Queue}
 use Rattle.cp_state.specs.Queue as queue
 use Rattle.cp_rules.proofs.Giving.{queue_of}
-use Rattle.cp_machine.specs.Say.{end_by, end_within, ComesTo}
 use Rattle.cp_machine.specs.Go.{NoneOver, IsNext, without_call, underway, GoTo, Leave, stays, leaves, finds_no_room}
 use Rattle.cp_machine.specs.declared.effect.Effect.{Effect}
 use Rattle.cp_machine.specs.declared.fault.PeerFault.{PeerFault}
-
-not_none : {X : Type 0} (x : X) → ◌≡◌ {A = Option X} None (Some x) → ⊥
-not_none x e = true≢false (sym (ap there e))
-  where
-    there : {X : Type 0} → Option X → Bool
-    there None = false
-    there (Some x) = true
-
-module _ (values : ValueMaps) where
-  routed_by : (n : ℕ) (c last : Cap) (w : Way) → ((d : Cap) → end_within n values d ≡ Some last → IsSome (route_within n values d)) → end_by (λ d. end_within n values d) c w ≡ Some last → IsSome (route_by (λ d. route_within n values d) w)
-  routed_by n c last (ends route) on to = refl
-  routed_by n c last (leads d) on to = on d to
-  routed_by n c last missing on to = absurd (not_none last to)
-
-  routed_within : (n : ℕ) (c last : Cap) → end_within n values c ≡ Some last → IsSome (route_within n values c)
-  routed_within zero c last to = absurd (not_none last to)
-  routed_within (suc n) c last to = routed_by n c last (way values c) (λ d. routed_within n d last) to
-
-  -- a capability that comes to something has a route
-  pub has_route : (c last : Cap) → ComesTo values c last → HasRoute values c
-  has_route c last to = (to.0, routed_within to.0 c last to.1)
 
 -- what leaves from now on, behind what left, leaves from the start
 abbrev pub LeavesFrom : State → State → List Effect → Type 0
@@ -72,9 +52,31 @@ module _ (start now : State) (done : List Effect) (goes_on : LeavesFrom start no
   leave_ends none is = subst (λ v. Leave start done (Ok (with_queue now v))) (sym is) (all_gone start now done goes_on none)
 
   module _ (call : Held) (cap : Cap) (next : IsNextIn now.waiting call cap) (is : q ≡ queue.with_calls (queue_of now) (remove now.waiting.calls call.ticket)) where
-    -- the call that left doesn't wait any more
-    pub left_free : get q.waiting.calls call.ticket ≡ None
-    left_free = ap (λ v. get v.waiting.calls call.ticket) is ∙ get-remove_same now.waiting.calls call.ticket
+    is_now : with_queue now q ≡ without_call now call
+    is_now = ap (with_queue now) is
+
+    module _ (within : Within now None []) where
+      -- the call that left may go
+      pub left_may : MayGo (with_queue now q) (underway call)
+      left_may =
+          let its = is_next_of now call cap next in
+          subst (λ s. MayGo s (underway call)) (sym is_now) (may_go (without_call now call) (underway call) (in_hand_within within call cap its) (is_in_hand_now within call cap its))
+
+      -- it goes to what has a way that ends
+      pub left_ends : HasRoute now.values cap
+      left_ends = (within.gifts call.gate cap next.ended).2
+
+      module _ (before after : List Effect) (mid : State) (none : before ≡ []) (went : (first : List Effect) × (after ≡ before ++ first) × GoTo (with_queue now q) (underway call) cap (Ok (first, mid))) where
+        to_mid : GoTo (without_call now call) (underway call) cap (Ok (went.0, mid))
+        to_mid = subst (λ s. GoTo s (underway call) cap (Ok (went.0, mid))) is_now went.2
+
+        -- where it went it holds within the event
+        pub left_within : Within mid None []
+        left_within = turn_within within call cap (is_next_of now call cap next) (went.0, mid) to_mid
+
+        -- and fewer turns are left
+        pub left_fewer : turns_left mid < turns_left now
+        left_fewer = turn_falls within call cap (is_next_of now call cap next) (went.0, mid) to_mid
 
     -- a call went
     pub leave_goes : (before after : List Effect) (mid : State) → before ≡ [] → (first : List Effect) × (after ≡ before ++ first) × GoTo (with_queue now q) (underway call) cap (Ok (first, mid)) → LeavesFrom start mid (done ++ after)

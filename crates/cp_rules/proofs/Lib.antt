@@ -1,5 +1,7 @@
 pub mod Saying
 pub mod Giving
+pub mod Ready
+pub mod Opening
 pub mod Going
 pub mod Lowering
 pub mod Closing

@@ -2,7 +2,7 @@
 use Rattle.std.proofs.lemmas.List.{at_drop_more, drop_all}
 use Rattle.std.proofs.lemmas.List.Folds.{list_all_at}
 use Rattle.std.specs.List.{list_all}
-use Rattle.std.proofs.Common.{Bool, true, false, true≢false, subst, append_assoc, append-nil, length, get_or, drop, ◌<◌, ◌≤◌, ◌≡◌, ℕ, suc, ◌+◌, List, [], ◌∷◌, ◌++◌, Option, Result, Ok, Err, Some, refl, sym, ap, ◌∙◌}
+use Rattle.std.proofs.Common.{Bool, true, false, true≢false, subst, append_assoc, append-nil, length, get_or, drop, ◌<◌, ◌≤◌, ◌≡◌, ℕ, suc, ◌+◌, List, [], ◌∷◌, ◌++◌, Option, Result, Ok, Err, Some, None, refl, sym, ap, ◌∙◌}
 use Rattle.cp_refs.specs.Route.{Way, ends, leads, missing, way}
 use Rattle.cp_refs.specs.Values.{ValueMaps}
 use Rattle.cp_refs.specs.declared.cap.Cap.{Cap}
@@ -13,26 +13,25 @@ use Rattle.cp_machine.specs.declared.fault.PeerFault.{PeerFault}
 use Rattle.cp_state.specs.Halts.{Leaves}
 use Rattle.cp_state.specs.declared.halt.Halt.{Halt}
 use Rattle.cp_state.specs.declared.halt.Halt.TheVariants as halts
-use Rattle.cp_rules.specs.Leading.{LeadsAs}
-use Rattle.cp_rules.specs.declared.come_to.Lead.TheVariants as leading
+use Rattle.cp_rules.specs.Leading.{LeadsTo}
 
-end_here : (f : Cap → Option Cap) (c : Cap) (w : Way) → LeadsAs w leading.Ends → end_by f c w ≡ Some c
+end_here : (f : Cap → Option Cap) (c : Cap) (w : Way) → LeadsTo w None → end_by f c w ≡ Some c
 end_here f c (ends route) h = refl
 end_here f c (leads d) h = absurd h
 end_here f c missing h = absurd h
 
 -- a capability whose way ends comes to itself
-pub ends_here : (values : ValueMaps) (c : Cap) → LeadsAs (way values c) leading.Ends → ComesTo values c c
+pub ends_here : (values : ValueMaps) (c : Cap) → LeadsTo (way values c) None → ComesTo values c c
 ends_here values c h = (1, end_here _ c (way values c) h)
 
-lead_on : (f : Cap → Option Cap) (c next : Cap) (w : Way) → LeadsAs w (leading.On next) → end_by f c w ≡ f next
-lead_on f c next (ends route) h = absurd h
-lead_on f c next (leads d) h = ap f (sym h)
-lead_on f c next missing h = absurd h
+pub next_is : (next : Cap) (w : Way) → LeadsTo w (Some next) → w ≡ leads next
+next_is next (ends route) h = absurd h
+next_is next (leads d) h = ap leads (sym h)
+next_is next missing h = absurd h
 
 -- a capability that leads on comes to what the next one comes to
-pub leads_on : (values : ValueMaps) (c next last : Cap) → LeadsAs (way values c) (leading.On next) → ComesTo values next last → ComesTo values c last
-leads_on values c next last h to = (suc to.0, lead_on (λ d. end_within to.0 values d) c next (way values c) h ∙ to.1)
+pub leads_on : (values : ValueMaps) (c next last : Cap) → way values c ≡ leads next → ComesTo values next last → ComesTo values c last
+leads_on values c next last is to = (suc to.0, ap (end_by (λ d. end_within to.0 values d) c) is ∙ to.1)
 
 -- what was done, before what the rest gives
 abbrev pub before : {B : Type 0} → List B → Result (List B × State) PeerFault → Result (List B × State) PeerFault

@@ -1,15 +1,24 @@
 -- Calls on their way.
-use Rattle.std.specs.Prelude.{◌≡◌, List, ◌++◌, Result, Ok, Err}
+use Rattle.std.specs.Prelude.{◌≡◌, ◌<◌, List, ◌++◌, None, Result, Ok, Err}
+use Rattle.std.specs.FinMap.{get}
 use Rattle.cp_machine.specs.State.{State}
 use Rattle.cp_machine.specs.Go.{Leave}
 use Rattle.cp_machine.specs.Go as machine
 use Rattle.cp_machine.specs.declared.effect.Effect.{Effect}
 use Rattle.cp_state.specs.declared.halt.Halt.{Halt}
 use Rattle.cp_state.specs.declared.halt.Halt.TheVariants as halts
+use Rattle.cp_rules.specs.Ungiven.{AllEnd, IsUngiven}
 use Rattle.cp_rules.specs.declared.go.Underway.{Underway}
 
 abbrev pub underway_of : Underway → machine.Underway
 underway_of call = record { ticket = call.ticket; origin = call.origin; request = call.request }
+
+-- A call may go: its ticket was given and no waiting call has it, its outcome isn't given, and the ways of what it names end.
+pub record MayGo (s : State) (call : machine.Underway) : Type 0 where
+  pub free : get s.waiting.calls call.ticket ≡ None
+  pub given : call.ticket < s.next_ticket
+  pub ungiven : IsUngiven s call.origin
+  pub ends : AllEnd s.values call.request.caps
 
 -- Waiting calls left, with their effects behind those that were there; or one found a table full.
 abbrev pub AllLeave : State → Result (Unit {0}) Halt → List Effect → List Effect → State → Type 0

@@ -1,3 +1,5 @@
 pub mod Leading
+pub mod Paces
+pub mod Ungiven
 pub mod Going
 pub mod Settling

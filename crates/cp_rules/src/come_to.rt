@@ -1,80 +1,100 @@
 //! What capabilities come to.
 
-ghost use Rattle.std.specs.Prelude.{◌≡◌, IfOk, option_copied};
-ghost use Rattle.cp_refs.specs.Route.{way, question_way, Routes};
+ghost use Rattle.std.specs.Prelude.{◌≡◌, ◌≢◌, IfOk, option_copied};
+ghost use Rattle.cp_refs.specs.Ending.{Ending, Ending-prop};
+ghost use Rattle.cp_refs.specs.Route.{HasRoute, missing, question_way, way};
 ghost use Rattle.cp_machine.specs.Say.{ComesTo};
-ghost use Rattle.cp_state.specs.Halts.{OnlyWant};
-ghost use Rattle.cp_rules.specs.Leading.{LeadsAs};
+ghost use Rattle.cp_rules.specs.Leading.{LeadsTo};
 
-use crate::unexpected::unexpected;
-use cp_refs::{Cap, Path, Question, Route, Values, at};
-use cp_state::Halt;
+use cp_refs::{Cap, Path, Question, Values, at};
 use std::alloc::{AllocError, Global};
 
 /// What a capability comes to: the first one on its way that is neither a settled promise nor a path
 /// of a settled question.
-pub fn come_to(alloc: Global, values: &Values, cap: &Cap) -> Result<Cap, Halt>
-    ensures came { IfOk result (λ last. ComesTo values.now cap.now last) }
-    ensures want { OnlyWant result }
+pub fn come_to(alloc: Global, values: &Values, cap: &Cap) -> Result<Cap, AllocError>
+    // Its way ends, and what it names is there.
+    requires { HasRoute values.now cap.now }
+    ensures { IfOk result (λ last. ComesTo values.now cap.now last) }
 {
-    let mut last = cap.copy(alloc)?;
-    for _ in 0..MOST_STEPS {
-        match lead_of(alloc, values, &last)? {
-            Lead::Ends => return Ok(last),
-            Lead::On(next) => last = next,
-            Lead::Missing => return Err(unexpected()),
+    let mut reached = Reached::new(values, cap.copy(alloc)?);
+    loop {
+        match reached.on(alloc)? {
+            Pace::Ends(last) => return Ok(last),
+            Pace::Leads(next) => reached = next,
         }
     }
-    Err(unexpected())
 }
 
-/// Where a call on a capability goes.
-pub fn route_of(alloc: Global, values: &Values, cap: &Cap) -> Result<Route, Halt>
-    ensures routed { IfOk result (λ route. Routes values.now cap.now route) }
-    ensures want { OnlyWant result }
-{
-    drop(come_to(alloc, values, cap)?);
-    Ok(values.route(cap)?)
-}
-
-/// How many steps a way has at most: there are no more promises and questions.
-const MOST_STEPS: u32 = 131_073;
-
-/// Where one step on a capability's way leads.
+/// A capability that was reached on a way that ends.
 #[derive(Drop)]
-enum Lead {
-    Ends,
-    On(Cap),
-    Missing,
+struct Reached<'a> {
+    values: &'a Values,
+    cap: Cap,
+    ghost ending: { Ending values.now cap } by { Ending-prop values.now cap },
 }
 
-fn lead_of(alloc: Global, values: &Values, cap: &Cap) -> Result<Lead, AllocError>
-    ensures { IfOk result (LeadsAs (way values.now cap.now)) }
+/// Where one step comes to.
+#[derive(Drop)]
+enum Pace<'a> {
+    Ends(Cap),
+    Leads(Reached<'a>),
+}
+
+impl<'a> Reached<'a> {
+    ghost use Rattle.std.specs.Prelude.{◌≡◌, IfOk};
+    ghost use Rattle.cp_refs.specs.Route.{HasRoute};
+    ghost use Rattle.cp_rules.specs.Paces.{PacesFrom};
+
+    fn new(values: &'a Values, cap: Cap) -> Reached<'a>
+        requires { HasRoute values.now cap }
+        ensures values { result.values.now ≡ values.now }
+        ensures cap { result.cap ≡ cap }
+    {
+        Reached { values, cap }
+    }
+
+    /// One step on.
+    fn on(self, alloc: Global) -> Result<Pace<'a>, AllocError>
+        ensures { IfOk result (PacesFrom self.entry.values.now self.entry.cap) }
+    {
+        let Reached { values, cap } = self;
+        match next_of(alloc, values, &cap)? {
+            Some(next) => Ok(Pace::Leads(Reached { values, cap: next })),
+            None => Ok(Pace::Ends(cap)),
+        }
+    }
+}
+
+/// Where a capability's way leads on to, unless it ends there.
+fn next_of(alloc: Global, values: &Values, cap: &Cap) -> Result<Option<Cap>, AllocError>
+    requires { way values.now cap.now ≢ missing }
+    ensures { IfOk result (LeadsTo (way values.now cap.now)) }
 {
     match cap {
         Cap::Promise(id) => match values.promise(*id) {
-            None => Ok(Lead::Missing),
-            Some(None) => Ok(Lead::Ends),
-            Some(Some(value)) => Ok(Lead::On(value.copy(alloc)?)),
+            Some(Some(value)) => Ok(Some(value.copy(alloc)?)),
+            Some(None) => Ok(None),
+            None => unreachable!(),
         },
-        Cap::Pipelined(id, path) => lead_of_question(alloc, *id, path, values.question(*id)),
-        Cap::None | Cap::Object(_) | Cap::Import(_) | Cap::Broken(_) => Ok(Lead::Ends),
+        Cap::Pipelined(id, path) => next_of_path(alloc, *id, path, values.question(*id)),
+        Cap::None | Cap::Object(_) | Cap::Import(_) | Cap::Broken(_) => Ok(None),
     }
 }
 
-fn lead_of_question(
+fn next_of_path(
     alloc: Global,
     id: u32,
     path: &Path,
     question: Option<&Question>,
-) -> Result<Lead, AllocError>
-    ensures { IfOk result (LeadsAs (question_way id path.now (option_copied question.entry))) }
+) -> Result<Option<Cap>, AllocError>
+    requires { question_way id path.now (option_copied question) ≢ missing }
+    ensures { IfOk result (LeadsTo (question_way id path.now (option_copied question.entry))) }
 {
     let Some(question) = question else {
-        return Ok(Lead::Missing);
+        unreachable!()
     };
     match &question.outcome {
-        None => Ok(Lead::Ends),
-        Some(outcome) => Ok(Lead::On(at(alloc, outcome, path.fields())?)),
+        None => Ok(None),
+        Some(outcome) => Ok(Some(at(alloc, outcome, path.fields())?)),
     }
 }

@@ -6,10 +6,12 @@ ghost use Rattle.cp_tables.specs.declared.exchange.Exchange.{Exchange};
 ghost use Rattle.cp_tables.specs.declared.exchange.Stage.TheVariants as stages;
 ghost use Rattle.cp_machine.specs.State.{State};
 ghost use Rattle.cp_machine.specs.Give.{Give, GiveAnswer, GiveBy, Returns, SettleTied, return_of, returned_mentions};
+ghost use Rattle.cp_machine.specs.InUse.{caps_of};
 ghost use Rattle.cp_machine.specs.declared.entry.AnswerEntry.{AnswerEntry};
 ghost use Rattle.cp_state.specs.Halts.{Acts, IfFault, Leaves};
 ghost use Rattle.cp_state.specs.StateOf.{state_of};
 ghost use Rattle.cp_rules.specs.Leading.{with_parts};
+ghost use Rattle.cp_rules.specs.Ungiven.{AllEnd, IsUngiven};
 ghost use Rattle.cp_rules.specs.Settling.{Settles, lowered_back, settling};
 
 use crate::entry::{note_given, remove_answer};
@@ -17,7 +19,6 @@ use crate::give_own::give_own;
 use crate::lower::lower_back;
 use crate::say::{mentioned, say_all};
 use crate::settle::{Settled, end_gates, settle_tied};
-use crate::unexpected::unexpected;
 use cp_machine::{Effect, Mentions};
 use cp_refs::{Origin, Outcome, Values};
 use cp_rpc::{Message, Payload, Return, Returned};
@@ -32,6 +33,8 @@ pub fn give(
     outcome: Outcome,
     effects: &mut Vec<Effect>,
 ) -> Result<(), Halt>
+    requires ungiven { IsUngiven (state_of core.old) origin }
+    requires ends { AllEnd core.old.values (caps_of outcome) }
     ensures acts { Acts (Give (state_of core.old) origin outcome) result effects.old.items effects.new.items (state_of core.new) }
     ensures unchanged { IfFault result (core.new ≡ core.old) }
 {
@@ -49,16 +52,18 @@ pub fn give_answer(
     outcome: Outcome,
     effects: &mut Vec<Effect>,
 ) -> Result<(), Halt>
+    requires ungiven { IsUngiven (state_of core.old) (Origin.Answer id) }
+    requires ends { AllEnd core.old.values (caps_of outcome) }
     ensures acts { Acts (GiveAnswer (state_of core.old) id outcome) result effects.old.items effects.new.items (state_of core.new) }
     ensures unchanged { IfFault result (core.new ≡ core.old) }
 {
     let Some(answer) = core.answers.get(id) else {
-        return Err(unexpected());
+        unreachable!()
     };
     match answer.stage {
         Stage::Open => give_open(core, id, outcome, effects),
         Stage::Finished => give_finished(core, id, outcome, effects),
-        Stage::Returned => Err(unexpected()),
+        Stage::Returned => unreachable!(),
     }
 }
 
@@ -69,6 +74,8 @@ fn give_open(
     outcome: Outcome,
     effects: &mut Vec<Effect>,
 ) -> Result<(), Halt>
+    requires ungiven { IsUngiven (state_of core.old) (Origin.Answer id) }
+    requires ends { AllEnd core.old.values (caps_of outcome) }
     ensures acts { (kept : AnswerEntry) → map.get core.old.answers id ≡ Some (record { stage = stages.Open; kept = kept }) → Acts (GiveBy (state_of core.old) id outcome kept stages.Open) result effects.old.items effects.new.items (state_of core.new) }
     ensures unchanged { IfFault result (core.new ≡ core.old) }
 {
@@ -101,6 +108,8 @@ fn give_finished(
     outcome: Outcome,
     effects: &mut Vec<Effect>,
 ) -> Result<(), Halt>
+    requires ungiven { IsUngiven (state_of core.old) (Origin.Answer id) }
+    requires ends { AllEnd core.old.values (caps_of outcome) }
     ensures acts { (kept : AnswerEntry) → map.get core.old.answers id ≡ Some (record { stage = stages.Finished; kept = kept }) → Acts (GiveBy (state_of core.old) id outcome kept stages.Finished) result effects.old.items effects.new.items (state_of core.new) }
     ensures unchanged { IfFault result (core.new ≡ core.old) }
 {
@@ -120,12 +129,14 @@ fn settle_promises(
     outcome: &Outcome,
     effects: &mut Vec<Effect>,
 ) -> Result<Vec<Settled>, Halt>
+    requires ungiven { IsUngiven (state_of core.old) (Origin.Answer id) }
+    requires ends { AllEnd core.old.values (caps_of outcome.now) }
     ensures settled { (entry : Exchange AnswerEntry) → map.get core.old.answers id ≡ Some entry → (s : State) → s.values.questions ≡ core.old.values.questions → Settles (SettleTied (settling s core.old.values.promises core.old.exports []) outcome.now entry.kept.tied) result effects.old.items effects.new.items (λ settled. settling s core.new.values.promises core.new.exports settled.items) }
     ensures promises { IfOk result (λ _. core.new ≡ record core.old { values = record core.old.values { promises = core.new.values.promises }; exports = core.new.exports }) }
     ensures unchanged { IfFault result (core.new ≡ core.old) }
 {
     let Some(answer) = core.answers.get(id) else {
-        return Err(unexpected());
+        unreachable!()
     };
     settle_tied(
         core.alloc,
@@ -155,6 +166,7 @@ fn returned(
     exports: &mut Exported,
     outcome: &Outcome,
 ) -> Result<Returned, Halt>
+    requires { AllEnd values.now (caps_of outcome.now) }
     ensures said { (s : State) → Leaves (Returns (with_parts s values.now exports.old) outcome.now) result (with_parts s values.now exports.new) }
     ensures back { IfOk result (λ r. lowered_back exports.new (returned_mentions r) ≡ exports.old) }
     ensures unchanged { IfFault result (exports.new ≡ exports.old) }

@@ -8,11 +8,11 @@ ghost use Rattle.cp_machine.specs.Give.{GiveOwn, GiveOwnBy, question_over};
 ghost use Rattle.cp_machine.specs.declared.entry.QuestionEntry.{QuestionEntry};
 ghost use Rattle.cp_state.specs.Halts.{Acts, IfFault};
 ghost use Rattle.cp_state.specs.StateOf.{state_of};
+ghost use Rattle.cp_rules.specs.Ungiven.{IsUngiven};
 
 use crate::entry::remove_question;
-use crate::unexpected::unexpected;
 use cp_machine::Effect;
-use cp_refs::Outcome;
+use cp_refs::{Origin, Outcome};
 use cp_state::{Core, Gift, Halt};
 use cp_tables::Stage;
 
@@ -23,11 +23,12 @@ pub fn give_own(
     outcome: Outcome,
     effects: &mut Vec<Effect>,
 ) -> Result<(), Halt>
+    requires { IsUngiven (state_of core.old) (Origin.Own id) }
     ensures acts { Acts (GiveOwn (state_of core.old) id outcome) result effects.old.items effects.new.items (state_of core.new) }
     ensures unchanged { IfFault result (core.new ≡ core.old) }
 {
     let Some(question) = core.questions.get(id) else {
-        return Err(unexpected());
+        unreachable!()
     };
     match question.stage {
         Stage::Open => settle_question(core, id, outcome, effects),
@@ -36,7 +37,7 @@ pub fn give_own(
             remove_question(core, id);
             Ok(())
         }
-        Stage::Returned => Err(unexpected()),
+        Stage::Returned => unreachable!(),
     }
 }
 

@@ -1,18 +1,17 @@
 //! Where calls go.
 
-ghost use Rattle.std.specs.Prelude.{◌≡◌, ◌<◌, ◌++◌, None, OnOk};
-ghost use Rattle.std.specs.FinMap as map;
+ghost use Rattle.std.specs.Prelude.{◌≡◌, ◌++◌, OnOk};
+ghost use Rattle.cp_refs.specs.Route.{HasRoute};
 ghost use Rattle.cp_machine.specs.Go.{Go, GoOut, GoTo, call_of, finish_behind, finish_of};
 ghost use Rattle.cp_state.specs.Halts.{Acts, IfFault};
 ghost use Rattle.cp_state.specs.StateOf.{state_of};
-ghost use Rattle.cp_rules.specs.Going.{underway_of};
+ghost use Rattle.cp_rules.specs.Going.{MayGo, underway_of};
+ghost use Rattle.cp_rules.specs.Ungiven.{AllEnd, IsUngiven};
 
-use crate::come_to::route_of;
 use crate::entry::{close_question, note_delivered, note_mentions, note_sent};
 use crate::give::give;
 use crate::promised::promised_answer;
 use crate::say::{mentioned, say_all};
-use crate::unexpected::unexpected;
 use cp_machine::{Effect, Mentions, PeerFault, QuestionEntry};
 use cp_refs::{Cap, Held, Origin, Outcome, Request, Route};
 use cp_rpc::{Call, CapTable, Finish, Message, Payload, SendResultsTo, Target};
@@ -35,12 +34,12 @@ pub fn go_to(
     cap: &Cap,
     effects: &mut Vec<Effect>,
 ) -> Result<(), Halt>
-    requires free { map.get core.old.gates.waiting.calls call.ticket ≡ None }
-    requires given { call.ticket < core.old.gates.next_ticket }
+    requires may { MayGo (state_of core.old) (underway_of call) }
+    requires ends { HasRoute core.old.values cap.now }
     ensures acts { Acts (GoTo (state_of core.old) (underway_of call) cap.now) result effects.old.items effects.new.items (state_of core.new) }
     ensures unchanged { IfFault result (core.new ≡ core.old) }
 {
-    let route = route_of(core.alloc, core.values.values(), cap)?;
+    let route = core.values.values().route(cap)?;
     go(core, call, route, effects)
 }
 
@@ -51,8 +50,7 @@ pub fn go(
     route: Route,
     effects: &mut Vec<Effect>,
 ) -> Result<(), Halt>
-    requires free { map.get core.old.gates.waiting.calls call.ticket ≡ None }
-    requires given { call.ticket < core.old.gates.next_ticket }
+    requires { MayGo (state_of core.old) (underway_of call) }
     ensures acts { Acts (Go (state_of core.old) (underway_of call) route) result effects.old.items effects.new.items (state_of core.new) }
     ensures unchanged { IfFault result (core.new ≡ core.old) }
 {
@@ -103,6 +101,7 @@ fn go_out(
     target: Target,
     effects: &mut Vec<Effect>,
 ) -> Result<(), Halt>
+    requires { MayGo (state_of core.old) (underway_of call) }
     ensures acts { Acts (GoOut (state_of core.old) (underway_of call) target call.origin) result effects.old.items effects.new.items (state_of core.new) }
     ensures unchanged { IfFault result (core.new ≡ core.old) }
 {
@@ -120,6 +119,7 @@ fn forward(
     target: Target,
     effects: &mut Vec<Effect>,
 ) -> Result<(), Halt>
+    requires { AllEnd core.old.values call.request.caps }
     ensures acts { Acts (GoOut (state_of core.old) (underway_of call) target (Origin.Answer answer)) result effects.old.items effects.new.items (state_of core.new) }
     ensures unchanged { IfFault result (core.new ≡ core.old) }
 {
@@ -161,11 +161,13 @@ fn send_own(
     target: Target,
     effects: &mut Vec<Effect>,
 ) -> Result<(), Halt>
+    requires ungiven { IsUngiven (state_of core.old) (Origin.Own question) }
+    requires ends { AllEnd core.old.values call.request.caps }
     ensures acts { Acts (GoOut (state_of core.old) (underway_of call) target (Origin.Own question)) result effects.old.items effects.new.items (state_of core.new) }
     ensures unchanged { IfFault result (core.new ≡ core.old) }
 {
     let Some(entry) = core.questions.get(question) else {
-        return Err(unexpected());
+        unreachable!()
     };
     let stage = entry.stage;
     let table = say_all(

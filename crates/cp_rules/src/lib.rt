@@ -14,4 +14,3 @@ pub mod promised;
 pub mod say;
 pub mod settle;
 pub mod take;
-pub mod unexpected;

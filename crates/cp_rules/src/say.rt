@@ -1,11 +1,13 @@
 //! How capabilities are sent.
 
 ghost use Rattle.std.specs.Prelude.{◌≡◌, IfOk, option_to_list};
+ghost use Rattle.cp_refs.specs.Route.{HasRoute};
 ghost use Rattle.cp_machine.specs.State.{State, with_exports};
 ghost use Rattle.cp_machine.specs.Say.{Say, SayEnd, SayAll, mentioned_by, mentions_of};
 ghost use Rattle.cp_state.specs.Halts.{IfFault, Leaves};
 ghost use Rattle.cp_rules.specs.Leading.{with_parts};
 ghost use Rattle.cp_rules.specs.Settling.{lowered_back};
+ghost use Rattle.cp_rules.specs.Ungiven.{AllEnd};
 
 use crate::come_to::come_to;
 use crate::lower::lower_back;
@@ -23,6 +25,7 @@ pub fn say_all(
     exports: &mut Exported,
     caps: &[Cap],
 ) -> Result<CapTable, Halt>
+    requires { AllEnd values.now caps.now }
     ensures said { (s : State) → Leaves (SayAll (with_parts s values.now exports.old) caps.now) result (with_parts s values.now exports.new) }
     ensures back { IfOk result (λ table. lowered_back exports.new (mentions_of table) ≡ exports.old) }
     ensures unchanged { IfFault result (exports.new ≡ exports.old) }
@@ -48,6 +51,7 @@ pub fn say(
     exports: &mut Exported,
     cap: &Cap,
 ) -> Result<Descriptor, Halt>
+    requires { HasRoute values.now cap.now }
     ensures said { (s : State) → Leaves (Say (with_parts s values.now exports.old) cap.now) result (with_parts s values.now exports.new) }
     ensures back { IfOk result (λ d. lowered_back exports.new (mentioned_by d) ≡ exports.old) }
     ensures unchanged { IfFault result (exports.new ≡ exports.old) }

@@ -5,16 +5,18 @@ ghost use Rattle.std.specs.FinMap as map;
 ghost use Rattle.cp_tables.specs.Table.{with_change};
 ghost use Rattle.cp_machine.specs.State.{State, with_exports};
 ghost use Rattle.cp_machine.specs.Give.{ResolvesEnd, Settle, SettleTied, Tells, value_for};
+ghost use Rattle.cp_machine.specs.InUse.{caps_of};
 ghost use Rattle.cp_machine.specs.Resolving.{given_back};
 ghost use Rattle.cp_refs.specs.At.{failed};
+ghost use Rattle.cp_refs.specs.Route.{HasRoute};
 ghost use Rattle.cp_state.specs.Halts.{Acts, IfFault, Leaves};
 ghost use Rattle.cp_state.specs.Queue.{with_over};
 ghost use Rattle.cp_state.specs.StateOf.{state_of};
+ghost use Rattle.cp_rules.specs.Ungiven.{AllEnd, AreOpenOnce};
 ghost use Rattle.cp_rules.specs.Settling.{Settles, lowered_back, over_settled, raised_by, reopened, settling};
 
 use crate::come_to::come_to;
 use crate::say::{mention, say_end};
-use crate::unexpected::unexpected;
 use cp_machine::{Effect, Tied};
 use cp_refs::{Cap, Outcome, PromiseId, at};
 use cp_rpc::{Exception, ExceptionKind, Message, Resolution, Resolve, Text};
@@ -37,6 +39,8 @@ pub fn settle(
     value: Cap,
     effects: &mut Vec<Effect>,
 ) -> Result<(), Halt>
+    requires unsettled { map.get core.old.values.promises promise ≡ Some None }
+    requires ends { HasRoute core.old.values value }
     ensures acts { Acts (Settle (state_of core.old) promise value) result effects.old.items effects.new.items (state_of core.new) }
     ensures unchanged { IfFault result (core.new ≡ core.old) }
 {
@@ -63,6 +67,8 @@ pub(crate) fn settle_tied(
     tied: &[Tied],
     effects: &mut Vec<Effect>,
 ) -> Result<Vec<Settled>, Halt>
+    requires unsettled { AreOpenOnce values.old.promises tied.now }
+    requires ends { AllEnd values.old (caps_of outcome.now) }
     ensures settled { (s : State) → s.values.questions ≡ values.old.questions → Settles (SettleTied (settling s values.old.promises exports.old []) outcome.now tied.now) result effects.old.items effects.new.items (λ settled. settling s values.new.promises exports.new settled.items) }
     ensures promises { IfOk result (λ _. values.new ≡ record values.old { promises = values.new.promises }) }
     ensures unchanged { IfFault result ((values.new ≡ values.old) × (exports.new ≡ exports.old)) }
@@ -136,16 +142,15 @@ fn settle_value(
     value: Cap,
     effects: &mut Vec<Effect>,
 ) -> Result<Settled, Halt>
+    requires unsettled { map.get values.old.promises promise ≡ Some None }
+    requires ends { HasRoute values.old value }
     ensures settled { (s : State) → s.values.questions ≡ values.old.questions → Settles (Settle (settling s values.old.promises exports.old []) promise value) result effects.old.items effects.new.items (λ one. settling s values.new.promises exports.new (one ∷ [])) }
     ensures put { IfOk result (λ one. values.new ≡ record values.old { promises = map.insert values.old.promises promise (Some one.value) }) }
     ensures back { IfOk result (λ one. lowered_back exports.new (option_to_list one.raised) ≡ exports.old) }
     ensures named { IfOk result (λ one. one.promise ≡ promise) }
-    ensures was_open { IfOk result (λ _. map.get values.old.promises promise ≡ Some None) }
+    ensures ends { IfOk result (λ one. HasRoute values.new one.value) }
     ensures unchanged { IfFault result ((values.new ≡ values.old) × (exports.new ≡ exports.old)) }
 {
-    let Some(None) = values.values().promise(promise) else {
-        return Err(unexpected());
-    };
     let reached = come_to(alloc, values.values(), &value)?;
     let value = value_for(alloc, promise, &reached, value)?;
     let known = reached.copy(alloc)?;

@@ -1,10 +1,18 @@
-use Rattle.std.proofs.Common.{◌≡◌, ◌++◌, List}
+use Rattle.std.proofs.Common.{◌≡◌, [], ◌++◌, List, None}
 use Rattle.cp_machine.specs.declared.effect.Effect.{Effect}
+use Rattle.cp_order.specs.Within.{Within}
+use Rattle.cp_order.proofs.Falling.{turns_left}
 use Rattle.cp_state.specs.StateOf.{state_of}
 use Rattle.cp_rules.proofs.Going.{LeavesFrom}
 use Rattle.cp_rules.proofs.leave.leave.Given as goal
 
 -- what leaves from now on, behind what left, leaves from the start
-abbrev pub invariant-loop : goal.invariant-loop
-invariant-loop l =
-    (done : List Effect) × (l.effects.items ≡ l.initial.effects.items ++ done) × LeavesFrom (state_of l.initial.core) (state_of l.core) done
+abbrev pub invariant-leaving : goal.invariant-leaving
+invariant-leaving l =
+    record {
+      left : (done : List Effect) × (l.effects.items ≡ l.initial.effects.items ++ done) × LeavesFrom (state_of l.initial.core) (state_of l.core) done;
+      within : Within (state_of l.core) None [];
+    }
+
+abbrev pub decreases-leaving : goal.decreases-leaving
+decreases-leaving l = turns_left (state_of l.core)

@@ -3,6 +3,7 @@ use Rattle.cp_machine.specs.Say.{Say, SayAll}
 use Rattle.cp_rules.specs.Leading.{with_parts}
 use Rattle.cp_rules.proofs.Saying.{leaves_err, each_step, each_fails, each_done}
 use Rattle.cp_rules.proofs.Backing.{said_back}
+use Rattle.cp_rules.proofs.Opening.{each_ends}
 use Rattle.cp_rules.proofs.say.say_all.Goals as goal
 
 pub returns-in-Err-clause-said : goal.returns-in-Err-clause-said
@@ -26,3 +27,6 @@ returns-clause-said c s =
     let old = with_parts s c.args.values.now c.args.exports.now in
     let now = with_parts s c.args.values.now c.loop-cap.exports in
     rw c.new.ensures (each_done Say old now c.args.caps.now c.loop-cap.cap-index c.loop-cap.table.items (c.loop-cap.invariant.said s) (omega (arith, c.loop-cap-test.false)))
+
+pub say-requires : goal.say-requires
+say-requires c = each_ends c.args.values.now c.args.caps.now c.loop-cap.cap-index c.cap-item.result c.loop-cap-test.true c.cap-item.is c.requires

@@ -5,11 +5,14 @@ use Rattle.cp_machine.specs.Then.{Done}
 use Rattle.cp_machine.specs.Give.{SettleTied}
 use Rattle.cp_machine.specs.declared.effect.Effect.{Effect}
 use Rattle.cp_machine.specs.declared.fault.PeerFault.{PeerFault}
+use Rattle.cp_machine.specs.InUse.{caps_of}
+use Rattle.cp_rules.specs.Ungiven.{AllEnd, AreOpenOnce}
 use Rattle.cp_rules.specs.Settling.{lowered_back, raised_by, reopened, settling}
 use Rattle.cp_rules.proofs.Giving.{prefixed}
 use Rattle.cp_rules.proofs.settle.settle_tied.Given as goal
 
--- What settling the rest does, behind what was done, settling all does. What was done is taken back to what there was at the start.
+-- What settling the rest does, behind what was done, settling all does. What was done is taken back to what there was at the start. The rest are
+-- open, and the ways of what the outcome names end.
 abbrev pub invariant-loop-one : goal.invariant-loop-one
 invariant-loop-one l =
     record {
@@ -20,5 +23,7 @@ invariant-loop-one l =
           → SettleTied (settling s l.initial.values.promises l.initial.exports []) l.outcome l.tied (prefixed done out));
       promises : ◌≡◌ {A = ValueMaps} l.values (record l.initial.values { promises = l.values.promises });
       reopens : reopened l.values.promises l.settled.items ≡ l.initial.values.promises;
+      unsettled : AreOpenOnce l.values.promises (drop l.one-index l.tied);
+      ends : AllEnd l.values (caps_of l.outcome);
       lowers : lowered_back l.exports (raised_by l.settled.items) ≡ l.initial.exports;
     }
