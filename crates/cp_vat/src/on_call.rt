@@ -1,11 +1,13 @@
 //! What a Call does.
 
-ghost use Rattle.std.specs.Prelude.{◌≡◌, ◌<◌, ◌^◌, ◌-◌, ◌≢◌, None, OnOk, IfOk, true};
+ghost use Rattle.std.specs.Prelude.{◌≡◌, ◌<◌, ◌^◌, ◌-◌, ◌≢◌, [], Some, None, OnOk, IfOk, true};
 ghost use Rattle.std.specs.FinMap as map;
-ghost use Rattle.cp_machine.specs.Answering.{GoToAnswer, GoToTarget, OnCall, entered};
+ghost use Rattle.cp_machine.specs.Answering.{GoToAnswer, GoToTarget, OnCall, entered, target_faults};
+ghost use Rattle.cp_machine.specs.Local.{Local};
 ghost use Rattle.cp_machine.specs.Take.{answer_of};
 ghost use Rattle.cp_machine.specs.Supported.{is_supported, is_supported_target};
 ghost use Rattle.cp_rpc.specs.declared.message.Message.TheVariants as messages;
+ghost use Rattle.cp_order.specs.Within.{IsInHand, Within};
 ghost use Rattle.cp_state.specs.Halts.{Acts, OnlyWant};
 ghost use Rattle.cp_state.specs.StateOf.{state_of};
 ghost use Rattle.cp_rules.specs.Going.{underway_of};
@@ -18,13 +20,13 @@ use cp_rpc::{Call, Payload, Target};
 use cp_rules::go::{Underway, go, go_to};
 use cp_rules::promised::path_of;
 use cp_rules::take::{answer_of, take_all};
-use cp_rules::unexpected::unexpected;
 use cp_state::{Core, Halt};
 
 /// A Call's capability table is taken in, it opens an answer and has the next ticket, and goes by its
 /// target's route.
 pub(crate) fn on_call(core: &mut Core, call: Call, effects: &mut Vec<Effect>) -> Result<(), Halt>
-    requires { is_supported (messages.Call call) ≡ true }
+    requires supported { is_supported (messages.Call call) ≡ true }
+    requires local { Local (state_of core.old) }
     ensures { Acts (OnCall (state_of core.old) call) result effects.old.items effects.new.items (state_of core.new) }
 {
     if let Err(fault) = check_call(core, &call) {
@@ -68,15 +70,16 @@ fn go_to_target(
     target: &Target,
     effects: &mut Vec<Effect>,
 ) -> Result<(), Halt>
-    requires free { map.get core.old.gates.waiting.calls call.ticket ≡ None }
-    requires given { call.ticket < core.old.gates.next_ticket }
+    requires within { Within (state_of core.old) (Some call.origin) [] }
+    requires hand { IsInHand (state_of core.old) (underway_of call) }
+    requires there { target_faults (state_of core.old) target.now ≡ [] }
     requires supported { is_supported_target target.now ≡ true }
     ensures { Acts (GoToTarget (state_of core.old) (underway_of call) target.now) result effects.old.items effects.new.items (state_of core.new) }
 {
     match target {
         Target::ImportedCap(id) => {
             let Some(export) = core.exports.get(*id) else {
-                return Err(unexpected());
+                unreachable!()
             };
             let cap = export.kept.copy(core.alloc)?;
             go_to(core, call, &cap, effects)
@@ -97,12 +100,13 @@ fn go_to_answer(
     path: Path,
     effects: &mut Vec<Effect>,
 ) -> Result<(), Halt>
-    requires free { map.get core.old.gates.waiting.calls call.ticket ≡ None }
-    requires given { call.ticket < core.old.gates.next_ticket }
+    requires within { Within (state_of core.old) (Some call.origin) [] }
+    requires hand { IsInHand (state_of core.old) (underway_of call) }
+    requires there { answer_of (state_of core.old) id ≢ None }
     ensures { Acts (GoToAnswer (state_of core.old) (underway_of call) id path (answer_of (state_of core.old) id)) result effects.old.items effects.new.items (state_of core.new) }
 {
     match answer_of(core, id) {
-        None => Err(unexpected()),
+        None => unreachable!(),
         Some(None) => go(core, call, Route::Wait(Gate::Answer(id, path)), effects),
         Some(Some(outcome)) => {
             let cap = at(core.alloc, outcome, path.fields())?;

@@ -1,6 +1,9 @@
 //! What a Disembargo does.
 
-ghost use Rattle.std.specs.Prelude.{◌≡◌, true};
+ghost use Rattle.std.specs.Prelude.{◌≡◌, [], true};
+ghost use Rattle.cp_refs.specs.Route.{HasRoute};
+ghost use Rattle.cp_machine.specs.Answering.{target_faults};
+ghost use Rattle.cp_machine.specs.Local.{Local};
 ghost use Rattle.cp_machine.specs.Resolving.{Echoes, EchoesTarget, OnDisembargo};
 ghost use Rattle.cp_machine.specs.Supported.{is_supported_context, is_supported_target};
 ghost use Rattle.cp_state.specs.Halts.{Acts};
@@ -13,7 +16,6 @@ use cp_rpc::{Context, Disembargo, Message, Target};
 use cp_rules::come_to::come_to;
 use cp_rules::promised::path_of;
 use cp_rules::take::answer_of;
-use cp_rules::unexpected::unexpected;
 use cp_state::{Core, Gift, Halt};
 
 /// A senderLoopback is echoed, and a receiverLoopback ends its embargo, whatever its target.
@@ -24,6 +26,7 @@ pub(crate) fn on_disembargo(
 ) -> Result<(), Halt>
     requires context { is_supported_context message.now.context ≡ true }
     requires target { is_supported_target message.now.target ≡ true }
+    requires local { Local (state_of core.old) }
     ensures { Acts (OnDisembargo (state_of core.old) message.now.context message.now.target) result effects.old.items effects.new.items (state_of core.new) }
 {
     match message.context {
@@ -50,20 +53,22 @@ fn echo_target(
     target: &Target,
     effects: &mut Vec<Effect>,
 ) -> Result<(), Halt>
-    requires { is_supported_target target.now ≡ true }
+    requires supported { is_supported_target target.now ≡ true }
+    requires local { Local (state_of core.old) }
+    requires there { target_faults (state_of core.old) target.now ≡ [] }
     ensures { Acts (EchoesTarget (state_of core.old) number target.now) result effects.old.items effects.new.items (state_of core.new) }
 {
     match target {
         Target::ImportedCap(id) => {
             let Some(export) = core.exports.get(*id) else {
-                return Err(unexpected());
+                unreachable!()
             };
             echo(core, number, &export.kept, effects)
         }
         Target::PromisedAnswer(answer) => {
             let path = path_of(core.alloc, &answer.transform)?;
             match answer_of(core, answer.question_id) {
-                None => Err(unexpected()),
+                None => unreachable!(),
                 Some(None) => Err(Halt::Fault(PeerFault::DisembargoTarget)),
                 Some(Some(outcome)) => {
                     let cap = at(core.alloc, outcome, path.fields())?;
@@ -77,6 +82,7 @@ fn echo_target(
 
 /// Sends the echo of a Disembargo to the import at which a capability ends.
 fn echo(core: &Core, number: u32, cap: &Cap, effects: &mut Vec<Effect>) -> Result<(), Halt>
+    requires { HasRoute core.now.values cap.now }
     ensures { Acts (Echoes (state_of core.now) number cap.now) result effects.old.items effects.new.items (state_of core.now) }
 {
     match come_to(core.alloc, core.values.values(), cap)? {

@@ -1,11 +1,13 @@
 //! What a Return does.
 
 ghost use Rattle.std.specs.Prelude.{◌≡◌, Ok, true, if◌then◌else◌};
+ghost use Rattle.cp_machine.specs.Local.{Local};
 ghost use Rattle.cp_machine.specs.Asking.{OnReturn, Settles, TakeReturned, is_asked};
 ghost use Rattle.cp_machine.specs.Supported.{is_supported_returned};
 ghost use Rattle.cp_machine.specs.Take.{lower};
 ghost use Rattle.cp_state.specs.Halts.{Acts, Leaves, leaving};
 ghost use Rattle.cp_state.specs.StateOf.{state_of};
+ghost use Rattle.cp_vat.specs.Returning.{MaySettle};
 
 use cp_machine::{Effect, PeerFault};
 use cp_refs::Outcome;
@@ -27,7 +29,8 @@ pub(crate) fn on_return(
     message: Return,
     effects: &mut Vec<Effect>,
 ) -> Result<(), Halt>
-    requires { is_supported_returned message.returned ≡ true }
+    requires supported { is_supported_returned message.returned ≡ true }
+    requires local { Local (state_of core.old) }
     ensures { Acts (OnReturn (state_of core.old) message) result effects.old.items effects.new.items (state_of core.new) }
 {
     let id = message.answer_id;
@@ -103,6 +106,7 @@ fn settle(
     outcome: Outcome,
     effects: &mut Vec<Effect>,
 ) -> Result<(), Halt>
+    requires { MaySettle (state_of core.old) id forwards outcome }
     ensures { Acts (Settles (state_of core.old) id forwards outcome) result effects.old.items effects.new.items (state_of core.new) }
 {
     let Some(answer) = forwards else {

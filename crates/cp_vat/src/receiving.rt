@@ -1,6 +1,7 @@
 //! What a message does by itself.
 
 ghost use Rattle.std.specs.Prelude.{◌≡◌, true};
+ghost use Rattle.cp_machine.specs.Local.{Local};
 ghost use Rattle.cp_machine.specs.Step.{On, Receives};
 ghost use Rattle.cp_machine.specs.Supported.{is_supported};
 ghost use Rattle.cp_machine.specs.Resolving.{OnAbort};
@@ -27,6 +28,7 @@ pub(crate) fn receive(
     message: Message,
     effects: &mut Vec<Effect>,
 ) -> Result<(), Halt>
+    requires { Local (state_of core.old) }
     ensures { Acts (Receives (state_of core.old) message) result effects.old.items effects.new.items (state_of core.new) }
 {
     if !is_supported(&message) {
@@ -40,7 +42,8 @@ pub(crate) fn receive(
 
 /// What a message does, by its member.
 fn act_on(core: &mut Core, message: Message, effects: &mut Vec<Effect>) -> Result<(), Halt>
-    requires { is_supported message ≡ true }
+    requires supported { is_supported message ≡ true }
+    requires local { Local (state_of core.old) }
     ensures { Acts (On (state_of core.old) message) result effects.old.items effects.new.items (state_of core.new) }
 {
     match message {

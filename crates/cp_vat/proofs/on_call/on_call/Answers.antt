@@ -7,6 +7,7 @@ use Rattle.cp_state.specs.Halts.{Leaves}
 use Rattle.cp_state.specs.StateOf.{state_of}
 use Rattle.cp_vat.proofs.Judged.{unless_failed}
 use Rattle.cp_vat.proofs.Entering.{call_free, call_few, call_ticket, call_goes, call_fails}
+use Rattle.cp_vat.proofs.Ready.{call_within, call_in_hand_as, call_target}
 use Rattle.cp_vat.proofs.on_call.on_call.Goals as goal
 
 pub returns-in-Err : goal.returns-in-Err
@@ -38,3 +39,18 @@ returns c =
     let P : List Descriptor → Type 0 = λ t. TakeAll (state_of c.args.core.now) t (Ok (c.in_ok-caps.caps, state_of c.take_all.new.core)) in
     call_goes (state_of c.args.core.now) (state_of c.take_all.new.core) c.args.call c.in_ok-caps.caps c.in_default.ensures (subst P c.descriptors.ensures c.in_ok-caps.ensures)
     (state_of c.enter.new.core) c.in_ok-ticket.ticket c.in_ok-ticket.ensures.entered c.in_ok-ticket.ensures.ticket _ _ _ _ c.go_to_target.ensures
+
+pub go_to_target-requires-clause-within : goal.go_to_target-requires-clause-within
+go_to_target-requires-clause-within c =
+    let P : List Descriptor → Type 0 = λ t. TakeAll (state_of c.args.core.now) t (Ok (c.in_ok-caps.caps, state_of c.take_all.new.core)) in
+    rw c.in_ok-ticket.ensures.entered (call_within (state_of c.args.core.now) (state_of c.take_all.new.core) c.args.call c.in_ok-caps.caps c.requires.local c.in_default.ensures (subst P c.descriptors.ensures c.in_ok-caps.ensures))
+
+pub go_to_target-requires-clause-hand : goal.go_to_target-requires-clause-hand
+go_to_target-requires-clause-hand c =
+    let P : List Descriptor → Type 0 = λ t. TakeAll (state_of c.args.core.now) t (Ok (c.in_ok-caps.caps, state_of c.take_all.new.core)) in
+    call_in_hand_as (state_of c.args.core.now) (state_of c.take_all.new.core) c.args.call c.in_ok-caps.caps c.requires.local c.in_default.ensures (subst P c.descriptors.ensures c.in_ok-caps.ensures) (state_of c.enter.new.core) c.in_ok-ticket.ticket c.in_ok-ticket.ensures.entered c.in_ok-ticket.ensures.ticket
+
+pub go_to_target-requires-clause-there : goal.go_to_target-requires-clause-there
+go_to_target-requires-clause-there c =
+    let P : List Descriptor → Type 0 = λ t. TakeAll (state_of c.args.core.now) t (Ok (c.in_ok-caps.caps, state_of c.take_all.new.core)) in
+    rw c.in_ok-ticket.ensures.entered (call_target (state_of c.args.core.now) (state_of c.take_all.new.core) c.args.call c.in_ok-caps.caps c.requires.local c.in_default.ensures (subst P c.descriptors.ensures c.in_ok-caps.ensures))
