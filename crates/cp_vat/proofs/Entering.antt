@@ -1,5 +1,5 @@
 -- What follows where a Call is taken in.
-use Rattle.std.proofs.Common.{◌≡◌, ◌^◌, ◌-◌, ◌<◌, ℕ, ltb, not, ◌&&◌, Bool, true, false, is_some, List, [], ◌∷◌, ◌++◌, Option, Some, None, Result, Ok, Err, refl, ◌∙◌, subst, arith}
+use Rattle.std.proofs.Common.{◌≡◌, ◌^◌, ◌-◌, ◌<◌, ℕ, ltb, not, ◌&&◌, Bool, true, false, is_some, List, [], ◌++◌, Option, Some, None, Result, Ok, Err, refl, ◌∙◌, subst, arith}
 use Rattle.std.proofs.lemmas.Bool.Decides.{nat_tests}
 use Rattle.std.specs.FinMap.{get, len}
 use Rattle.cp_rpc.specs.declared.call.Call.{Call}
@@ -16,13 +16,9 @@ use Rattle.cp_state.specs.Halts.{Acts, Leaves}
 use Rattle.cp_state.specs.declared.halt.Halt.{Halt}
 use Rattle.cp_state.specs.declared.halt.Halt.TheVariants as halts
 use Rattle.cp_vat.specs.Judging.{judged}
-use Rattle.cp_vat.proofs.Judged.{unless_passed}
+use Rattle.cp_vat.proofs.Judged.{none_judged, unless_passed}
 use Rattle.cp_vat.proofs.Acting.{acts_by}
 use Rattle.cp_vat.proofs.Taking.{takes_keep}
-
-none_judged : {F : Type 0} (fs : List F) → Ok tt ≡ judged fs → fs ≡ []
-none_judged [] is = refl
-none_judged (f ∷ fs) is = absurd (cc)
 
 not_held : {F : Type 0} (b : Bool) (f : F) → fault_if b f ≡ [] → b ≡ false
 not_held true f is = absurd (cc)

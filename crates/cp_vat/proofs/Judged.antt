@@ -1,5 +1,5 @@
 -- What follows from a check of an event.
-use Rattle.std.proofs.Common.{◌≡◌, List, [], ◌∷◌, Result, Ok, Err}
+use Rattle.std.proofs.Common.{◌≡◌, refl, List, [], ◌∷◌, Result, Ok, Err}
 use Rattle.cp_machine.specs.Then.{Unless}
 use Rattle.cp_vat.specs.Judging.{judged}
 
@@ -12,3 +12,8 @@ unless_passed (fault ∷ more) Rule out is met = absurd (cc)
 pub unless_failed : {A F : Type 0} (faults : List F) (Rule : Result A F → Type 0) (fault : F) → Err fault ≡ judged faults → Unless faults Rule (Err fault)
 unless_failed [] Rule fault is = absurd (cc)
 unless_failed (first ∷ more) Rule fault is = cc
+
+-- where none is told there is none
+pub none_judged : {F : Type 0} (faults : List F) → Ok tt ≡ judged faults → faults ≡ []
+none_judged [] is = refl
+none_judged (fault ∷ more) is = absurd (cc)

@@ -12,3 +12,4 @@ pub mod Stepping
 pub mod Refusing
 pub mod Ways
 pub mod Moments
+pub mod Ready

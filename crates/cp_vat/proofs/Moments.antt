@@ -1,5 +1,5 @@
 -- Events that a vat does, one after another.
-use Rattle.std.proofs.Common.{◌≡◌, inr, ℕ, ◌+◌, ◌≤◌, List, [], ◌∷◌, ◌++◌, length, drop, Option, Some, None, refl, sym, ap, ◌∙◌, arith, subst}
+use Rattle.std.proofs.Common.{◌≡◌, inr, ℕ, ◌+◌, ◌≤◌, List, [], ◌∷◌, ◌++◌, length, drop, Option, Some, refl, sym, ap, arith, subst}
 use Rattle.std.proofs.lemmas.List.{append_assoc, drop_at, length-append}
 use Rattle.cp_machine.specs.State.{State, new_state}
 use Rattle.cp_machine.specs.Step.{Step}

@@ -1,5 +1,5 @@
 -- Calls of the application, and messages, are steps of the machine.
-use Rattle.std.proofs.Common.{◌≡◌, ◌≢◌, ◌⊎◌, inl, inr, true, false, List, [], ◌++◌, Result, Ok, Err, refl, ap, ◌∙◌}
+use Rattle.std.proofs.Common.{◌≡◌, ◌≢◌, ◌⊎◌, inl, inr, false, List, [], ◌++◌, None, Result, Ok, Err, IfOk, refl, ap, ◌∙◌}
 use Rattle.cp_rpc.specs.declared.message.Message.{Message}
 use Rattle.cp_machine.specs.State.{State}
 use Rattle.cp_machine.specs.Step.{Does, Receives, Step, ran_out, refused, did, received, faulted}
@@ -11,18 +11,12 @@ use Rattle.cp_machine.specs.declared.event.Value.{Value}
 use Rattle.cp_machine.specs.declared.event.Value.TheVariants as values
 use Rattle.cp_machine.specs.declared.fault.VatFault.{VatFault}
 use Rattle.cp_machine.specs.declared.fault.VatFault.TheVariants as refusals
+use Rattle.cp_order.specs.Within.{Within}
+use Rattle.cp_order.proofs.Stepping.{does_within, receives_within, step_keeps}
 use Rattle.cp_state.specs.Halts.{Acts}
 use Rattle.cp_state.specs.declared.halt.Halt.{Halt}
 use Rattle.cp_state.specs.declared.halt.Halt.TheVariants as halts
 use Rattle.cp_vat.specs.Stepping.{answered, effects_of, Calls, Ends, CallEnds, MessageEnds, Rests}
-
--- a vat that is closed rests
-closed_rests : (s : State) → s.is_closed ≡ true → Rests s
-closed_rests s closed still = absurd cc
-
-ends_rest : {A : Type 0} (mid new : State) (x : A) (after : List Effect) (result : Result (Acted A) VatFault) → Ends mid x after result new → Rests new
-ends_rest mid new x after (Ok acted) ended = ended.2
-ends_rest mid new x after (Err fault) ended = closed_rests new ended.1
 
 module _ {A : Type 0} (value : A → Value) (event : Event) (old : State) where
   -- A call that is refused for want of memory says nothing; any other refusal is the rule's, and changes nothing.
@@ -58,16 +52,17 @@ module _ {A : Type 0} (value : A → Value) (event : Event) (old : State) where
       followed mid new x after result still (done.0, done.1 ∙ ap (λ l. l ++ done.0) nothing, done.2) ended
   call_steps mid new (Err fault) none after result nothing still done ended = was_refused mid new fault after result still (refusal_of mid fault none after done) ended
 
-  refused_rests : (mid new : State) (fault : VatFault) (after : List Effect) (result : Result (Acted A) VatFault) → Rests old
-      → (fault ≡ refusals.OutOfMemory) ⊎ ((fault ≢ refusals.OutOfMemory) × Does old event (Err fault) × (mid ≡ old)) → CallEnds mid (Err fault) after result new → Rests new
-  refused_rests mid new fault after result rested (inl want) ended = closed_rests new (ended.1 want)
-  refused_rests mid new fault after result rested (inr done) ended = rw (ended.2 done.0, done.2) rested
-
   -- behind it the vat rests, if it did before
-  pub call_rests : (mid new : State) (done : Result A VatFault) (none after : List Effect) (result : Result (Acted A) VatFault) → Rests old
+  pub call_rests : (mid new : State) (done : Result A VatFault) (none after : List Effect) (result : Result (Acted A) VatFault) → none ≡ [] → Rests old → old.is_closed ≡ false
       → Calls (Does old event) value old done none after mid → CallEnds mid done after result new → Rests new
-  call_rests mid new (Ok x) none after result rested done ended = ends_rest mid new x after result ended
-  call_rests mid new (Err fault) none after result rested done ended = refused_rests mid new fault after result rested (refusal_of mid fault none after done) ended
+  call_rests mid new done none after result nothing rested still acts ended open_ =
+      step_keeps old new event (answered value result) (effects_of result) (rested still) open_ (call_steps mid new done none after result nothing still acts ended)
+
+  -- behind its own part it holds within the event
+  pub call_within : (mid : State) (done : Result A VatFault) (none after : List Effect) → Rests old → old.is_closed ≡ false → Calls (Does old event) value old done none after mid
+      → IfOk done (λ _. Within mid None [])
+  call_within mid (Ok x) none after rested still acts = does_within old event (value x, acts.0, mid) (rested still) acts.2
+  call_within mid (Err fault) none after rested still acts = tt
 
 module _ (m : Message) (old : State) where
   taken : (mid new : State) (x : Unit {0}) (after : List Effect) (result : Result (Acted (Unit {0})) VatFault) → old.is_closed ≡ false
@@ -85,9 +80,14 @@ module _ (m : Message) (old : State) where
   message_steps mid new (Err (halts.Fault fault)) none after (Err refusal) nothing still done ended = rw ended.0 (ran_out (events.Receive m) still ended.1)
   message_steps mid new (Err halts.OutOfMemory) none after result nothing still done ended = rw ended.0 (ran_out (events.Receive m) still ended.1)
 
--- behind it the vat rests
-pub message_rests : (mid new : State) (done : Result (Unit {0}) Halt) (after : List Effect) (result : Result (Acted (Unit {0})) VatFault) → MessageEnds mid done after result new → Rests new
-message_rests mid new (Ok x) after result ended = ends_rest mid new x after result ended
-message_rests mid new (Err (halts.Fault fault)) after (Ok acted) ended = closed_rests new ended.1
-message_rests mid new (Err (halts.Fault fault)) after (Err refusal) ended = closed_rests new ended.1
-message_rests mid new (Err halts.OutOfMemory) after result ended = closed_rests new ended.1
+  -- behind it the vat rests, if it did before
+  pub message_rests : (mid new : State) (done : Result (Unit {0}) Halt) (none after : List Effect) (result : Result (Acted (Unit {0})) VatFault) → none ≡ [] → Rests old → old.is_closed ≡ false
+      → Acts (Receives old m) done none after mid → MessageEnds mid done after result new → Rests new
+  message_rests mid new done none after result nothing rested still acts ended open_ =
+      step_keeps old new (events.Receive m) (answered (λ _. values.Nothing) result) (effects_of result) (rested still) open_ (message_steps mid new done none after result nothing still acts ended)
+
+  -- behind its own part it holds within the event
+  pub message_within : (mid : State) (done : Result (Unit {0}) Halt) (none after : List Effect) → Rests old → old.is_closed ≡ false → Acts (Receives old m) done none after mid
+      → IfOk done (λ _. Within mid None [])
+  message_within mid (Ok x) none after rested still acts = receives_within old m (acts.0, mid) (rested still) acts.2
+  message_within mid (Err halt) none after rested still acts = tt

@@ -5,6 +5,7 @@ use Rattle.std.proofs.lemmas.Bool.{cases_eq}
 use Rattle.std.specs.FinMap.{get, insert, len}
 use Rattle.cp_tables.specs.Table.{Table, with_change}
 use Rattle.cp_tables.specs.declared.counted.Counted.{Counted}
+use Rattle.cp_tables.specs.declared.exchange.Exchange.{Exchange}
 use Rattle.cp_tables.proofs.TableLemmas.{get-insert_same, get-insert_other, len-insert_held}
 use Rattle.cp_rpc.specs.declared.descriptor.Descriptor.{Descriptor}
 use Rattle.cp_rpc.specs.declared.descriptor.Descriptor.TheVariants as descriptors
@@ -12,20 +13,21 @@ use Rattle.cp_refs.specs.declared.cap.Cap.{Cap}
 use Rattle.cp_refs.specs.declared.outcome.Outcome.{Outcome}
 use Rattle.cp_machine.specs.State.{State}
 use Rattle.cp_machine.specs.Then.{Then, After}
-use Rattle.cp_machine.specs.Take.{Take, TakeAll, TakeAnswer, answer_of, path_of, held_import, held_once_more, taken_export, tie, tied}
+use Rattle.cp_machine.specs.Take.{Take, TakeAll, TakeAnswer, answer_by, answer_of, path_of, held_import, held_once_more, taken_export, tie, tied}
+use Rattle.cp_machine.specs.declared.entry.AnswerEntry.{AnswerEntry}
 use Rattle.cp_machine.specs.declared.entry.ImportKind.{ImportKind}
 use Rattle.cp_machine.specs.declared.fault.PeerFault.{PeerFault}
 use Rattle.cp_machine.specs.declared.fault.PeerFault.TheVariants as faults
 
--- whether this answer is kept, how many are, and the next ticket are as they were
+-- Whether this answer is kept, and what it came to, how many are kept, and the next ticket are as they were.
 abbrev pub Keeps : ℕ → State → State → Type 0
-Keeps a old new = (is_some (get new.entries.answers a) ≡ is_some (get old.entries.answers a)) × (len new.entries.answers ≡ len old.entries.answers) × (new.next_ticket ≡ old.next_ticket)
+Keeps a old new = (is_some (get new.entries.answers a) ≡ is_some (get old.entries.answers a)) × (len new.entries.answers ≡ len old.entries.answers) × (new.next_ticket ≡ old.next_ticket) × (answer_of new a ≡ answer_of old a)
 
 keeps_same : (a : ℕ) (old new : State) → new ≡ old → Keeps a old new
-keeps_same a old new same = subst (λ s. Keeps a old s) (sym same) (refl, refl, refl)
+keeps_same a old new same = subst (λ s. Keeps a old s) (sym same) (refl, refl, refl, refl)
 
 keeps_on : (a : ℕ) (old mid new : State) → Keeps a old mid → Keeps a mid new → Keeps a old new
-keeps_on a old mid new first more = (more.0 ∙ first.0, more.1 ∙ first.1, more.2 ∙ first.2)
+keeps_on a old mid new first more = (more.0 ∙ first.0, more.1 ∙ first.1, more.2 ∙ first.2, more.3 ∙ first.3)
 
 -- an entry that is changed stays
 change_keeps : {X : Type 0} (table : Table X) (id a : ℕ) (f : X → X) → (is_some (get (with_change table id f) a) ≡ is_some (get table a)) × (len (with_change table id f) ≡ len table)
@@ -42,6 +44,22 @@ change_keeps {X} table id a f = by (get table id) refl
     by None there = (refl, refl)
     by (Some e) there = (at e there, len-insert_held table id e (f e) there)
 
+abbrev tied_to : ℕ → List ℕ → Exchange AnswerEntry → Exchange AnswerEntry
+tied_to p path entry = record entry { kept = tie p path entry.kept }
+
+-- an answer to which a promise is tied came to the same
+tied_answer : (table : Table (Exchange AnswerEntry)) (id a : ℕ) (path : List ℕ) (p : ℕ) (o : Option (Option Outcome))
+    → answer_by (get (with_change table id (λ entry. record entry { kept = tie p path entry.kept })) a) o ≡ answer_by (get table a) o
+tied_answer table id a path p o = by (get table id) refl
+  where
+    by : (found : Option (Exchange AnswerEntry)) → get table id ≡ found → answer_by (get (option_map_or (λ e. insert table id (tied_to p path e)) found table) a) o ≡ answer_by (get table a) o
+    by None there = refl
+    by (Some e) there =
+        elim (cases_eq a id) [
+          | inl same ↦ ap (λ k. answer_by (get (insert table id (tied_to p path e)) k) o) same ∙ ap (λ f. answer_by f o) (get-insert_same table id (tied_to p path e)) ∙ sym (ap (λ f. answer_by f o) (ap (get table) same ∙ there))
+          | inr other ↦ ap (λ f. answer_by f o) (get-insert_other table id a (tied_to p path e) other)
+        ]
+
 -- the state that an answer leaves
 abbrev left : {A : Type 0} → State → Result (A × State) PeerFault → State
 left s (Ok x) = x.1
@@ -56,8 +74,8 @@ keeps_if a old new x true is kept = subst (λ s. Keeps a old s) (sym (ap (left_a
 keeps_if a old new x false is kept = absurd (cc)
 
 held_keeps : (a : ℕ) (old new : State) (i : ℕ) (kind : ImportKind) (o : Option (Counted ImportKind)) → Ok new ≡ held_once_more old i kind o → Keeps a old new
-held_keeps a old new i kind (Some entry) is = keeps_if a old new _ _ is (refl, refl, refl)
-held_keeps a old new i kind None is = keeps_if a old new _ _ is (refl, refl, refl)
+held_keeps a old new i kind (Some entry) is = keeps_if a old new _ _ is (refl, refl, refl, refl)
+held_keeps a old new i kind None is = keeps_if a old new _ _ is (refl, refl, refl, refl)
 
 import_keeps : (a : ℕ) (old mid : State) (i : ℕ) (kind : ImportKind) (one last : Cap) (first : Result State PeerFault) → first ≡ held_import old i kind
     → After {B = Cap × State} (λ new out. out ≡ Ok (last, new)) first (Ok (one, mid)) → Keeps a old mid
@@ -71,7 +89,7 @@ export_keeps a old mid one (Some entry) is = keeps_same a old mid (ap (left old)
 tie_keeps : (a : ℕ) (old mid : State) (id : ℕ) (path : List ℕ) (one : Cap) (last : ℕ → Cap) (first : Result ℕ PeerFault) → After {B = Cap × State} (λ p out. out ≡ Ok (last p, tied old id path p)) first (Ok (one, mid)) → Keeps a old mid
 tie_keeps a old mid id path one last (Ok p) is =
     let kept = change_keeps old.entries.answers id a (λ entry. record entry { kept = tie p path entry.kept }) in
-    subst (λ s. Keeps a old s) (sym (ap (left old) is)) (kept.0, kept.1, refl)
+    subst (λ s. Keeps a old s) (sym (ap (left old) is)) (kept.0, kept.1, refl, tied_answer old.entries.answers id a path p (get old.values.answers a))
 tie_keeps a old mid id path one last (Err fault) is = absurd (cc)
 
 answer_keeps : (a : ℕ) (old mid : State) (id : ℕ) (path : List ℕ) (one : Cap) (o : Option (Option Outcome)) → TakeAnswer old id path o (Ok (one, mid)) → Keeps a old mid

@@ -6,12 +6,15 @@ use Rattle.cp_tables.specs.Table.{Table}
 use Rattle.cp_refs.proofs.Queueing.{put-back}
 use Rattle.cp_refs.specs.declared.cap.Cap.{Cap}
 use Rattle.cp_refs.specs.declared.cap.Cap.TheVariants as caps
+use Rattle.cp_refs.specs.declared.call.Origin.{Origin}
+use Rattle.cp_refs.specs.declared.call.Origin.TheVariants as origins
 use Rattle.cp_refs.specs.declared.call.Request.{Request}
 use Rattle.cp_refs.specs.declared.values.QuestionKind.{QuestionKind}
 use Rattle.cp_refs.specs.declared.values.QuestionKind.TheVariants as kinds
 use Rattle.cp_machine.specs.State.{State, Marks}
+use Rattle.cp_machine.specs.Then.{Done}
 use Rattle.cp_machine.specs.Go.{GoTo, Underway}
-use Rattle.cp_machine.specs.Calling.{GoFrom, Opens, called, has_mark_room, mark_of, marked, own_call, with_mark}
+use Rattle.cp_machine.specs.Calling.{GoByValue, GoFrom, Opens, called, has_mark_room, mark_of, marked, own_call, with_mark}
 use Rattle.cp_machine.specs.Room.{Fresh, free}
 use Rattle.cp_machine.specs.declared.effect.Effect.{Effect}
 use Rattle.cp_machine.specs.declared.event.Value.{Value}
@@ -24,10 +27,30 @@ use Rattle.cp_state.specs.declared.halt.Halt.{Halt}
 use Rattle.cp_state.specs.declared.halt.Halt.TheVariants as halts
 use Rattle.cp_state.specs.declared.parts.Core.{Core}
 use Rattle.cp_state.proofs.Under.{put-gone}
+use Rattle.cp_rules.specs.Going.{MayGo}
+use Rattle.cp_rules.specs.Ungiven.{IsUngiven}
 use Rattle.cp_rules.specs.declared.go.Underway as go
-use Rattle.cp_vat.specs.Ways.{GoMarked, seen, taken_back}
+use Rattle.cp_vat.specs.Ways.{GoMarked, seen, taken_back, value_kind}
 use Rattle.cp_vat.specs.declared.going.Reference.TheVariants as references
 use Rattle.cp_vat.proofs.Acting.{acts_by}
+
+-- a call may go whatever the marks are
+pub may_marked : (s : State) (marks : Marks) (call : Underway) → MayGo s call → MayGo (with_marks s marks) call
+may_marked s marks call may = record { free = may.free; given = may.given; ungiven = still call.origin may.ungiven; ends = may.ends }
+  where
+    still : (origin : Origin) → IsUngiven s origin → IsUngiven (with_marks s marks) origin
+    still (origins.Answer a) h = h
+    still (origins.Own q) h = h
+
+-- a value that is no import, object or promise takes its own way
+pub other_goes : (old : State) (q : ℕ) (request : Request) (cap value : Cap) (out : Result Done PeerFault) → ((i : ℕ) → value ≡ caps.Import i → ⊥) → ((k : ℕ) → value ≡ caps.Object k → ⊥)
+    → ((p : ℕ) → value ≡ caps.Promise p → ⊥) → GoTo (called old q (value_kind value)) (own_call old q request) value out → GoByValue old q request cap value out
+other_goes old q request cap (caps.Import i) out import object promise went = absurd (import i refl)
+other_goes old q request cap (caps.Object k) out import object promise went = absurd (object k refl)
+other_goes old q request cap (caps.Promise p) out import object promise went = absurd (promise p refl)
+other_goes old q request cap caps.None out import object promise went = went
+other_goes old q request cap (caps.Pipelined r path) out import object promise went = went
+other_goes old q request cap (caps.Broken x) out import object promise went = went
 
 -- where an opened call on the wire goes is where the application's call goes
 pub from_wire : (old now : State) (q : ℕ) (request : Request) (call : Underway) → call ≡ own_call old q request → (cap : Cap) (r : Result (Unit {0}) Halt) (before after : List Effect) (new : State) → now ≡ called old q kinds.Wire

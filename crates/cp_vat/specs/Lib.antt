@@ -2,4 +2,5 @@ pub mod Judging
 pub mod Stepping
 pub mod StateCode
 pub mod Ways
+pub mod Returning
 pub mod Running

@@ -1,6 +1,7 @@
 -- What a call of a vat gave, as the machine says it.
 use Rattle.std.specs.Prelude.{◌≡◌, ◌≢◌, true, false, List, [], ◌++◌, Result, Ok, Err}
-use Rattle.cp_machine.specs.State.{State, none_over}
+use Rattle.cp_machine.specs.State.{State}
+use Rattle.cp_machine.specs.Local.{Local}
 use Rattle.cp_machine.specs.Calling.{OwnDone}
 use Rattle.cp_machine.specs.Step.{Follows, aborts}
 use Rattle.cp_machine.specs.declared.acted.Acted.{Acted}
@@ -11,9 +12,9 @@ use Rattle.cp_machine.specs.declared.fault.VatFault.TheVariants as refusals
 use Rattle.cp_state.specs.declared.halt.Halt.{Halt}
 use Rattle.cp_state.specs.declared.halt.Halt.TheVariants as halts
 
--- The vat rests: no gate has ended, unless it is closed.
+-- The vat rests: it holds what it keeps between events, unless it is closed.
 abbrev pub Rests : State → Type 0
-Rests s = s.is_closed ≡ false → s.waiting.over ≡ none_over
+Rests s = s.is_closed ≡ false → Local s
 
 module _ {A : Type 0} where
   -- the value, or the refusal
@@ -32,10 +33,10 @@ module _ {A : Type 0} where
   Calls Rule value old (Err refusals.OutOfMemory) before after new = Unit {0}
   Calls Rule value old (Err fault) before after new = Rule (Err fault) × (new ≡ old)
 
-  -- Behind what was done waiting calls left, with their effects behind it, and the vat rests; or memory ran out, and the vat is closed.
+  -- Behind what was done waiting calls left, with their effects behind it; or memory ran out, and the vat is closed.
   abbrev pub Ends : State → A → List Effect → Result (Acted A) VatFault → State → Type 0
   Ends mid value before (Ok acted) new =
-      (acted.value ≡ value) × ((rest : List Effect) × (acted.effects ≡ before ++ rest) × Follows mid rest new) × Rests new
+      (acted.value ≡ value) × ((rest : List Effect) × (acted.effects ≡ before ++ rest) × Follows mid rest new)
   Ends mid value before (Err fault) new = (fault ≡ refusals.OutOfMemory) × (new.is_closed ≡ true)
 
   -- So behind a call of the application. One that was refused is answered by its refusal: want of memory closes the vat, and any other changes nothing.

@@ -1,6 +1,8 @@
 -- Calls of the application on their way.
 use Rattle.std.specs.Prelude.{◌≡◌, ℕ, ◌-◌, Result}
 use Rattle.std.specs.FinMap.{remove}
+use Rattle.cp_refs.specs.Route.{HasRoute}
+use Rattle.cp_refs.specs.Values.{ValueMaps}
 use Rattle.cp_refs.specs.declared.cap.Cap.{Cap}
 use Rattle.cp_refs.specs.declared.cap.Cap.TheVariants as caps
 use Rattle.cp_refs.specs.declared.values.QuestionKind.{QuestionKind}
@@ -30,6 +32,11 @@ abbrev pub kind_of : Reference → QuestionKind
 kind_of references.Plain = kinds.Local
 kind_of references.OnWire = kinds.Wire
 kind_of (references.CameTo value) = value_kind value
+
+-- the way ends that a call on a capability takes
+abbrev pub WayEnds : ValueMaps → Cap → Reference → Type 0
+WayEnds values cap (references.CameTo value) = HasRoute values value
+WayEnds values cap other = HasRoute values cap
 
 -- a call on a reference that is open on the wire marks it, and goes
 abbrev pub GoMarked : State → Underway → Cap → Result Done PeerFault → Type 0

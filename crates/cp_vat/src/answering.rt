@@ -2,6 +2,7 @@
 
 ghost use Rattle.std.specs.Prelude.{◌≡◌, IsTrue};
 ghost use Rattle.cp_machine.specs.Doing.{DoAnswer, DoResolve};
+ghost use Rattle.cp_machine.specs.Local.{Local};
 ghost use Rattle.cp_machine.specs.declared.event.Value.TheVariants as values;
 ghost use Rattle.cp_state.specs.StateOf.{state_of};
 ghost use Rattle.cp_vat.specs.Stepping.{Calls};
@@ -21,6 +22,7 @@ pub(crate) fn answer(
     outcome: Outcome,
     effects: &mut Vec<Effect>,
 ) -> Result<(), VatFault>
+    requires { Local (state_of core.old) }
     ensures { Calls (DoAnswer (state_of core.old) origin outcome) (λ _. values.Nothing) (state_of core.old) result effects.old.items effects.new.items (state_of core.new) }
 {
     check_answer(core, origin, &outcome)?;
@@ -35,6 +37,7 @@ pub(crate) fn resolve(
     value: Cap,
     effects: &mut Vec<Effect>,
 ) -> Result<(), VatFault>
+    requires { Local (state_of core.old) }
     ensures { Calls (DoResolve (state_of core.old) promise value) (λ _. values.Nothing) (state_of core.old) result effects.old.items effects.new.items (state_of core.new) }
 {
     check_resolve(core, promise, &value)?;

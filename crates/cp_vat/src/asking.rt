@@ -4,6 +4,7 @@ ghost use Rattle.std.specs.Prelude.{◌≡◌, ◌≢◌, [], None, IfOk};
 ghost use Rattle.std.specs.FinMap as map;
 ghost use Rattle.cp_machine.specs.Calling.{asked};
 ghost use Rattle.cp_machine.specs.Doing.{DoBootstrap, DoPromise};
+ghost use Rattle.cp_machine.specs.Local.{Local};
 ghost use Rattle.cp_machine.specs.Room.{Fresh};
 ghost use Rattle.cp_machine.specs.declared.event.Value.TheVariants as values;
 ghost use Rattle.cp_state.specs.Halts.{IfFault, Meets};
@@ -13,12 +14,12 @@ ghost use Rattle.cp_vat.specs.Stepping.{Calls};
 use cp_machine::{Effect, Mentions, PeerFault, QuestionEntry, VatFault};
 use cp_refs::{PromiseId, QuestionKind};
 use cp_rpc::{Bootstrap, Message};
-use cp_rules::unexpected::unexpected;
 use cp_state::{Core, Halt};
 use cp_tables::LIMIT;
 
 /// Asks for the peer's bootstrap capability.
 pub(crate) fn bootstrap(core: &mut Core, effects: &mut Vec<Effect>) -> Result<u32, VatFault>
+    requires { Local (state_of core.old) }
     ensures { Calls (DoBootstrap (state_of core.old)) (λ q. values.Question q) (state_of core.old) result effects.old.items effects.new.items (state_of core.new) }
 {
     let question_id = ask(core, QuestionKind::Wire, None, true)?;
@@ -42,6 +43,7 @@ pub(crate) fn ask(
     ticket: Option<u64>,
     is_sent: bool,
 ) -> Result<u32, Halt>
+    requires { Local (state_of core.old) }
     ensures fresh { Meets (Fresh core.old.questions) result }
     ensures asked { IfOk result (λ q. state_of core.new ≡ asked (state_of core.old) q kind ticket is_sent) }
     ensures unknown { IfOk result (λ q. map.get core.old.values.questions q ≡ None) }
@@ -57,9 +59,6 @@ pub(crate) fn ask(
         is_delivered: false,
         mentions: Mentions::new(Vec::new(core.alloc)),
     })?;
-    if core.values.values().question(id).is_some() {
-        return Err(unexpected());
-    }
     core.values.open_question(id, kind)?;
     Ok(id)
 }

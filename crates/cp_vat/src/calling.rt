@@ -1,8 +1,9 @@
 //! What `call` does.
 
-ghost use Rattle.std.specs.Prelude.{◌≡◌, ◌<◌, ◌-◌, None, Ok, Err, IfOk};
+ghost use Rattle.std.specs.Prelude.{◌≡◌, ◌<◌, ◌-◌, ◌^◌, [], None, Ok, Err, IfOk};
 ghost use Rattle.std.specs.FinMap as map;
-ghost use Rattle.cp_machine.specs.Calling.{DoCall, Opens, called, own_call};
+ghost use Rattle.cp_machine.specs.Calling.{DoCall, Opens, call_refusals, called, own_call};
+ghost use Rattle.cp_machine.specs.Local.{Local};
 ghost use Rattle.cp_machine.specs.Room.{Fresh};
 ghost use Rattle.cp_machine.specs.declared.event.Value.TheVariants as values;
 ghost use Rattle.cp_state.specs.Halts.{IfFault, Owns};
@@ -18,7 +19,6 @@ use cp_machine::{Effect, PeerFault, VatFault};
 use cp_refs::{Cap, Origin, QuestionKind, Request};
 use cp_rules::entry::close_question;
 use cp_rules::go::Underway;
-use cp_rules::unexpected::unexpected;
 use cp_state::{Core, Halt};
 
 /// Calls a capability: the call opens a question, and goes.
@@ -28,6 +28,7 @@ pub(crate) fn call(
     request: Request,
     effects: &mut Vec<Effect>,
 ) -> Result<u32, VatFault>
+    requires { Local (state_of core.old) }
     ensures { Calls (DoCall (state_of core.old) cap request) (λ q. values.Question q) (state_of core.old) result effects.old.items effects.new.items (state_of core.new) }
 {
     check_call(core, &cap, &request)?;
@@ -41,6 +42,8 @@ fn open_call(
     request: Request,
     effects: &mut Vec<Effect>,
 ) -> Result<u32, Halt>
+    requires local { Local (state_of core.old) }
+    requires passed { call_refusals (state_of core.old) cap.now request ≡ [] }
     ensures { Owns (Opens (state_of core.old) cap.now request) (λ q. values.Question q) (state_of core.old) result effects.old.items effects.new.items (state_of core.new) }
 {
     let reference = reference_of(core.alloc, core.values.values(), cap)?;
@@ -57,6 +60,8 @@ fn open_call(
 
 /// Opens a question for a call of the application's, and gives it the next ticket.
 fn enter(core: &mut Core, kind: QuestionKind, request: Request) -> Result<(u32, Underway), Halt>
+    requires local { Local (state_of core.old) }
+    requires ticket { core.old.gates.next_ticket < 2 ^ 64 - 1 }
     ensures fresh { IfOk result (λ e. Fresh core.old.questions (Ok e.0)) }
     ensures unknown { IfOk result (λ e. map.get core.old.values.questions e.0 ≡ None) }
     ensures called { IfOk result (λ e. state_of core.new ≡ called (state_of core.old) e.0 kind) }
@@ -66,9 +71,6 @@ fn enter(core: &mut Core, kind: QuestionKind, request: Request) -> Result<(u32, 
     ensures full { (fault : PeerFault) → result ≡ Err (Halt.Fault fault) → Fresh core.old.questions (Err fault) }
     ensures unchanged { IfFault result (core.new ≡ core.old) }
 {
-    if !core.gates.has_ticket() {
-        return Err(unexpected());
-    }
     let ticket = core.gates.next_ticket();
     let question = ask(core, kind, Some(ticket), false)?;
     let call = Underway {

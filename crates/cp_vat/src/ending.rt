@@ -1,7 +1,8 @@
 //! What follows an event's own part.
 
-ghost use Rattle.std.specs.Prelude.{◌≡◌, ◌++◌, OnOk};
+ghost use Rattle.std.specs.Prelude.{◌≡◌, ◌++◌, [], None, IfOk, OnOk};
 ghost use Rattle.cp_machine.specs.Step.{aborts};
+ghost use Rattle.cp_order.specs.Within.{Within};
 ghost use Rattle.cp_state.specs.StateOf.{state_of};
 ghost use Rattle.cp_vat.specs.Stepping.{CallEnds, Ends, MessageEnds};
 
@@ -18,6 +19,7 @@ pub(crate) fn end_call<V: Drop>(
     done: Result<V, VatFault>,
     effects: Vec<Effect>,
 ) -> Result<Acted<V>, VatFault>
+    requires { IfOk done (λ _. Within (state_of core.old) None []) }
     ensures { CallEnds (state_of core.old) done effects.items result (state_of core.new) }
 {
     match done {
@@ -36,6 +38,7 @@ pub(crate) fn end_message(
     done: Result<(), Halt>,
     effects: Vec<Effect>,
 ) -> Result<Acted<()>, VatFault>
+    requires { IfOk done (λ _. Within (state_of core.old) None []) }
     ensures { MessageEnds (state_of core.old) done effects.items result (state_of core.new) }
 {
     match done {
@@ -62,6 +65,7 @@ fn follow<V: Drop>(
     value: V,
     mut effects: Vec<Effect>,
 ) -> Result<Acted<V>, VatFault>
+    requires { Within (state_of core.old) None [] }
     ensures { Ends (state_of core.old) value effects.items result (state_of core.new) }
 {
     match leave(core, &mut effects) {

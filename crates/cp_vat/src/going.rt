@@ -1,13 +1,13 @@
 //! Where a call of the application goes that opened a question.
 
-ghost use Rattle.std.specs.Prelude.{◌≡◌, ◌<◌, ℕ, Some, None, IfOk, option_copied};
-ghost use Rattle.std.specs.FinMap as map;
+ghost use Rattle.std.specs.Prelude.{◌≡◌, ℕ, Some, None, IfOk, option_copied};
+ghost use Rattle.cp_refs.specs.Route.{HasRoute};
 ghost use Rattle.cp_machine.specs.State.{State};
 ghost use Rattle.cp_machine.specs.Calling.{FirstEmbargoed, GoBack, GoByValue, GoFrom, called, mark_of, old_target, own_call, question_reference, reference_of};
 ghost use Rattle.cp_state.specs.Halts.{Acts, IfFault};
 ghost use Rattle.cp_state.specs.StateOf.{state_of};
-ghost use Rattle.cp_rules.specs.Going.{underway_of};
-ghost use Rattle.cp_vat.specs.Ways.{GoMarked, kind_of, seen, value_kind};
+ghost use Rattle.cp_rules.specs.Going.{MayGo, underway_of};
+ghost use Rattle.cp_vat.specs.Ways.{GoMarked, WayEnds, kind_of, seen, value_kind};
 
 use cp_machine::Effect;
 use cp_refs::{Cap, Gate, Path, Question, QuestionKind, Request, Route, Values, at};
@@ -64,8 +64,8 @@ pub(crate) fn go_from(
     reference: Reference,
     effects: &mut Vec<Effect>,
 ) -> Result<(), Halt>
-    requires free { map.get core.old.gates.waiting.calls call.ticket ≡ None }
-    requires given { call.ticket < core.old.gates.next_ticket }
+    requires may { MayGo (state_of core.old) (underway_of call) }
+    requires ends { WayEnds core.old.values cap.now reference }
     ensures acts { (old : State) (q : ℕ) (request : Request) → state_of core.old ≡ called old q (kind_of reference) → underway_of call ≡ own_call old q request → Acts (GoFrom old q request cap.now (seen reference)) result effects.old.items effects.new.items (state_of core.new) }
     ensures unchanged { IfFault result (core.new ≡ core.old) }
 {
@@ -103,8 +103,8 @@ fn go_marked(
     cap: &Cap,
     effects: &mut Vec<Effect>,
 ) -> Result<(), Halt>
-    requires free { map.get core.old.gates.waiting.calls call.ticket ≡ None }
-    requires given { call.ticket < core.old.gates.next_ticket }
+    requires may { MayGo (state_of core.old) (underway_of call) }
+    requires ends { HasRoute core.old.values cap.now }
     ensures acts { Acts (GoMarked (state_of core.old) (underway_of call) cap.now) result effects.old.items effects.new.items (state_of core.new) }
     ensures unchanged { IfFault result (core.new ≡ core.old) }
 {
@@ -130,8 +130,8 @@ fn go_by_value(
     value: Cap,
     effects: &mut Vec<Effect>,
 ) -> Result<(), Halt>
-    requires free { map.get core.old.gates.waiting.calls call.ticket ≡ None }
-    requires given { call.ticket < core.old.gates.next_ticket }
+    requires may { MayGo (state_of core.old) (underway_of call) }
+    requires ends { HasRoute core.old.values value }
     ensures acts { (old : State) (q : ℕ) (request : Request) → state_of core.old ≡ called old q (value_kind value) → underway_of call ≡ own_call old q request → Acts (GoByValue old q request cap.now value) result effects.old.items effects.new.items (state_of core.new) }
     ensures unchanged { IfFault result (core.new ≡ core.old) }
 {
@@ -152,8 +152,8 @@ fn go_back(
     value: Cap,
     effects: &mut Vec<Effect>,
 ) -> Result<(), Halt>
-    requires free { map.get core.old.gates.waiting.calls call.ticket ≡ None }
-    requires given { call.ticket < core.old.gates.next_ticket }
+    requires may { MayGo (state_of core.old) (underway_of call) }
+    requires ends { HasRoute core.old.values value }
     ensures acts { Acts (GoBack (state_of core.old) (underway_of call) cap.now value (mark_of (state_of core.old) cap.now)) result effects.old.items effects.new.items (state_of core.new) }
     ensures unchanged { IfFault result (core.new ≡ core.old) }
 {
@@ -173,8 +173,7 @@ fn put_embargo(
     value: Cap,
     effects: &mut Vec<Effect>,
 ) -> Result<(), Halt>
-    requires free { map.get core.old.gates.waiting.calls call.ticket ≡ None }
-    requires given { call.ticket < core.old.gates.next_ticket }
+    requires may { MayGo (state_of core.old) (underway_of call) }
     requires marked { mark_of (state_of core.old) cap.now ≡ Some None }
     ensures acts { Acts (FirstEmbargoed (state_of core.old) (underway_of call) cap.now value) result effects.old.items effects.new.items (state_of core.new) }
     ensures unchanged { IfFault result (core.new ≡ core.old) }

@@ -8,6 +8,8 @@ use Rattle.cp_state.specs.StateOf.{state_of}
 use Rattle.cp_vat.proofs.Judged.{unless_passed, unless_failed}
 use Rattle.cp_vat.proofs.Faulting.{acts_refused}
 use Rattle.cp_vat.proofs.Refusing.{calls_refused}
+use Rattle.cp_order.proofs.Between.{local_is_within}
+use Rattle.cp_vat.proofs.Ready.{answer_ungiven, answer_ends}
 use Rattle.cp_vat.proofs.answering.answer.Goals as goal
 
 pub returns-in_err-check_answer : goal.returns-in_err-check_answer
@@ -28,3 +30,13 @@ returns c =
     let done = c.in_ok-give.ensures.acts in
     let new = state_of c.give.new.core in
     (done.0, done.1, unless_passed (answer_refusals old c.args.origin c.args.outcome) (OrFull (Quietly (Give old c.args.origin c.args.outcome))) _ c.in_ok-check_answer.ensures (Ok (quietly (done.0, new)), (Ok (done.0, new), done.2, refl), refl))
+
+pub give-requires-clause-ungiven : goal.give-requires-clause-ungiven
+give-requires-clause-ungiven c =
+    let old = state_of c.args.core.now in
+    answer_ungiven old (local_is_within old c.requires) c.args.origin c.args.outcome c.in_ok-check_answer.ensures
+
+pub give-requires-clause-ends : goal.give-requires-clause-ends
+give-requires-clause-ends c =
+    let old = state_of c.args.core.now in
+    answer_ends old (local_is_within old c.requires) c.args.origin c.args.outcome c.in_ok-check_answer.ensures

@@ -4,7 +4,7 @@ use Rattle.cp_machine.specs.Then.{OrFull}
 use Rattle.cp_machine.specs.Calling.{DoCall, Opens, call_refusals}
 use Rattle.cp_machine.specs.declared.event.Value.TheVariants as values
 use Rattle.cp_state.specs.StateOf.{state_of}
-use Rattle.cp_vat.proofs.Judged.{unless_passed, unless_failed}
+use Rattle.cp_vat.proofs.Judged.{none_judged, unless_passed, unless_failed}
 use Rattle.cp_vat.proofs.Faulting.{owns_refused}
 use Rattle.cp_vat.proofs.Refusing.{calls_refused}
 use Rattle.cp_vat.proofs.calling.call.Goals as goal
@@ -27,3 +27,6 @@ returns c =
     let old = state_of c.args.core.now in
     let went = c.in_ok-open_call.ensures in
     (went.0, went.1, unless_passed (call_refusals old c.args.cap c.args.request) (OrFull (Opens old c.args.cap c.args.request)) _ c.in_ok-check_call.ensures (Ok (values.Question c.in_ok-open_call.field-0, went.0, state_of c.open_call.new.core), went.2, refl))
+
+pub open_call-requires-clause-passed : goal.open_call-requires-clause-passed
+open_call-requires-clause-passed c = none_judged (call_refusals (state_of c.args.core.now) c.args.cap c.args.request) c.in_ok-check_call.ensures

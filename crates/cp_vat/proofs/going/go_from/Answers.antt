@@ -12,3 +12,12 @@ returns-in-OnWire-clause-acts c old q request is is_call =
 
 pub returns-in-CameTo-clause-acts : goal.returns-in-CameTo-clause-acts
 returns-in-CameTo-clause-acts c old q request is is_call = rw c.in-CameTo.is (c.go_by_value.ensures.acts old q request (is ∙ ap (λ r. called old q (kind_of r)) c.in-CameTo.is) is_call)
+
+pub go_to-requires-clause-ends : goal.go_to-requires-clause-ends
+go_to-requires-clause-ends c = rw c.in-Plain.is at c.requires.ends
+
+pub go_marked-requires-clause-ends : goal.go_marked-requires-clause-ends
+go_marked-requires-clause-ends c = rw c.in-OnWire.is at c.requires.ends
+
+pub go_by_value-requires-clause-ends : goal.go_by_value-requires-clause-ends
+go_by_value-requires-clause-ends c = rw c.in-CameTo.is at c.requires.ends

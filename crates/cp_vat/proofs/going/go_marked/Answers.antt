@@ -4,7 +4,7 @@ use Rattle.cp_machine.specs.Calling.{mark_of}
 use Rattle.cp_state.specs.Marking.{with_marks}
 use Rattle.cp_state.specs.StateOf.{state_of}
 use Rattle.cp_rules.specs.Going.{underway_of}
-use Rattle.cp_vat.proofs.Ways.{mark_stops, marked_stops, unmarked_as_it_was, marked_as_it_was}
+use Rattle.cp_vat.proofs.Ways.{may_marked, mark_stops, marked_stops, unmarked_as_it_was, marked_as_it_was}
 use Rattle.cp_vat.proofs.going.go_marked.Goals as goal
 
 pub returns-in_err-put_mark-clause-acts : goal.returns-in_err-put_mark-clause-acts
@@ -40,3 +40,6 @@ returns-else-not-is_marked-clause-unchanged c =
     let old = state_of c.args.core.now in
     let some : is_some (mark_of old c.args.cap.now) ≡ true = sym (ap is_some (c.mark.ensures old)) ∙ sym c.is_some-is_marked.ensures ∙ c.if-not-is_marked.false in
     marked_as_it_was c.args.core.now c.go_to.new.core c.put_mark.new.self c.args.cap.now (c.in_ok-put_mark.ensures.marked old) c.in-Err.halt some c.in-Err.ensures.unchanged
+
+pub go_to-requires-clause-may : goal.go_to-requires-clause-may
+go_to-requires-clause-may c = may_marked (state_of c.args.core.now) c.put_mark.new.self (underway_of c.args.call) c.requires.may

@@ -1,4 +1,4 @@
-use Rattle.std.proofs.Common.{◌≡◌, ◌≤◌, ◌+◌, ◌∷◌, [], ◌++◌, Some, None, rules, arith, refl, sym, ap, ◌∙◌, length, inl, subst, vec_len, vec_capacity}
+use Rattle.std.proofs.Common.{◌≡◌, ◌∷◌, [], ◌++◌, None, rules, arith, sym, ap, length, inl, subst}
 use Rattle.std.proofs.lemmas.List.{length_push, nil_from_length}
 use Rattle.cp_machine.specs.Run.{Steps}
 use Rattle.cp_vat.specs.Running.{moments}

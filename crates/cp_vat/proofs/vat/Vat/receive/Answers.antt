@@ -1,7 +1,7 @@
 use Rattle.cp_machine.specs.Step.{was_closed}
 use Rattle.cp_machine.specs.declared.event.Event.TheVariants as events
 use Rattle.cp_state.specs.StateOf.{state_of}
-use Rattle.cp_vat.proofs.Stepping.{message_steps, message_rests}
+use Rattle.cp_vat.proofs.Stepping.{message_steps, message_rests, message_within}
 use Rattle.cp_vat.proofs.vat.Vat.receive.Goals as goal
 
 pub returns-then-self : goal.returns-then-self
@@ -14,4 +14,11 @@ returns c =
 
 pub invariant_of-self : goal.invariant_of-self
 invariant_of-self c =
-    message_rests (state_of c.receive-done.new.core) (state_of c.end_message.new.core) c.receive-done.result c.receive-done.new.effects.items c.end_message.result c.end_message.ensures
+    message_rests c.args.message (state_of c.self.inside.core) (state_of c.receive-done.new.core) (state_of c.end_message.new.core) c.receive-done.result c.new-effects.result.items c.receive-done.new.effects.items c.end_message.result c.new-effects.ensures.items c.self.invariant c.if-self.false c.receive-done.ensures c.end_message.ensures
+
+pub end_message-requires : goal.end_message-requires
+end_message-requires c =
+    message_within c.args.message (state_of c.self.inside.core) (state_of c.receive-done.new.core) c.receive-done.result c.new-effects.result.items c.receive-done.new.effects.items c.self.invariant c.if-self.false c.receive-done.ensures
+
+pub receive-done-requires : goal.receive-done-requires
+receive-done-requires c = c.self.invariant c.if-self.false
