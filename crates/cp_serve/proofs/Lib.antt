@@ -1,0 +1,6 @@
+pub mod Trees
+pub mod Objects
+pub mod Working
+pub mod Written
+pub mod Running
+pub mod Reaching

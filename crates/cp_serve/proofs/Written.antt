@@ -1,0 +1,155 @@
+-- Messages that go out one after another.
+use Rattle.std.proofs.Common.{◌≡◌, inl, inr, ℕ, List, [], ◌∷◌, ◌++◌, Option, refl, sym, ap, ◌∙◌, subst, append-nil, append_assoc, ◌+◌, ◌<◌, length, take, drop, get_or, take-append-drop}
+use Rattle.std.proofs.lemmas.List.{take_more, drop_more}
+use Rattle.std.specs.Io.KnownBytes.{Appends}
+use Rattle.std.proofs.KnownBytes.{Appends-nil, Appends-trans}
+use Rattle.cp_words.specs.Limits.{Bounds, standard}
+use Rattle.cp_frame.specs.declared.mode.Mode.{Mode}
+use Rattle.cp_rpc.specs.declared.message.Message.{Message}
+use Rattle.cp_stream.specs.declared.tap.Tap.{Tap}
+use Rattle.cp_stream.specs.declared.fault.Refusal.{Refusal}
+use Rattle.cp_stream.specs.declared.fault.StreamFault.{StreamFault}
+use Rattle.cp_stream.specs.declared.fault.StreamFault.TheVariants as faults
+use Rattle.cp_stream.specs.Read.{FailedOnce}
+use Rattle.cp_stream.specs.Tap.{inner_of}
+use Rattle.cp_stream.specs.Write.{IsWrittenAs, IsSent, IsCutShort, IsUnwrittenFor}
+use Rattle.cp_serve.specs.declared.fault.ServeFault.{ServeFault}
+use Rattle.cp_serve.specs.declared.fault.ServeFault.TheVariants as serving
+use Rattle.cp_serve.specs.Reached.{placed, IsUnwritten}
+use Rattle.cp_serve.specs.Output.{Device, device, AreWrittenAs, Writes, Begin, WritesPart, IsOwnFault}
+
+are_both : (mode : Mode) (a b : List Message) (x y : List ℕ) → AreWrittenAs mode a x → AreWrittenAs mode b y → AreWrittenAs mode (a ++ b) (x ++ y)
+are_both mode [] b x y h k = subst (λ (z : List ℕ). AreWrittenAs mode b (z ++ y)) (sym h) k
+are_both mode (m ∷ a) b x y h k = (h.0, h.1 ++ y, ap (λ (z : List ℕ). z ++ y) h.2 ∙ append_assoc h.0 h.1 y, h.3, are_both mode a b h.1 y h.4 k)
+
+begin_more : (mode : Mode) (a more : List Message) (b : List ℕ) → Begin mode a b → Begin mode (a ++ more) b
+begin_more mode [] [] b h = h
+begin_more mode [] (m ∷ more) b h = inl h
+begin_more mode (x ∷ a) more b h = h
+
+-- a list at one of its elements
+split_at : (items : List Message) (i : ℕ) (m : Message) → i < length items → m ≡ get_or items i m → items ≡ take i items ++ ((m ∷ []) ++ drop (i + 1) items)
+split_at items i m h e =
+    sym (take-append-drop i items) ∙ ap (λ (x : List Message). take i items ++ x) (drop_more items i m h ∙ ap (λ (x : Message). x ∷ drop (i + 1) items) (sym e))
+
+module _ {mode : Mode} where
+  pub writes_none : (held : Device) → Writes mode [] held held
+  writes_none held = record { bytes = []; frames = refl; appends = Appends-nil held.bytes; counted = refl }
+
+  pub writes_both : {a b : List Message} (old mid new : Device) → Writes mode a old mid → Writes mode b mid new → Writes mode (a ++ b) old new
+  writes_both {a = a} {b = b} old mid new h k = record {
+    bytes = h.bytes ++ k.bytes;
+    frames = are_both mode a b h.bytes k.bytes h.frames k.frames;
+    appends = Appends-trans old.bytes mid.bytes new.bytes h.bytes k.bytes h.appends k.appends;
+    counted = k.counted ∙ h.counted;
+  }
+
+  -- what is all written is written in part
+  pub writes_all : {a : List Message} (old new : Device) → Writes mode a old new → WritesPart mode a old new
+  writes_all {a = a} old new h = record {
+    first = a;
+    others = [];
+    splits = sym (append-nil a);
+    bytes = h.bytes;
+    part = [];
+    frames = h.frames;
+    begin = refl;
+    appends = subst (λ (x : List ℕ). Appends old.bytes new.bytes x) (sym (append-nil h.bytes)) h.appends;
+  }
+
+  -- a part behind what was all written, whatever was to follow
+  pub part_after : (a b more : List Message) (old mid new : Device) → Writes mode a old mid → WritesPart mode b mid new → WritesPart mode (a ++ (b ++ more)) old new
+  part_after a b more old mid new h k = record {
+    first = a ++ k.first;
+    others = k.others ++ more;
+    splits = ap (λ (x : List Message). a ++ (x ++ more)) k.splits ∙ ap (λ (x : List Message). a ++ x) (append_assoc k.first k.others more) ∙ sym (append_assoc a k.first (k.others ++ more));
+    bytes = h.bytes ++ k.bytes;
+    part = k.part;
+    frames = are_both mode a k.first h.bytes k.bytes h.frames k.frames;
+    begin = begin_more mode k.others more k.part k.begin;
+    appends = subst (λ (x : List ℕ). Appends old.bytes new.bytes x) (sym (append_assoc h.bytes k.bytes k.part)) (Appends-trans old.bytes mid.bytes new.bytes h.bytes (k.bytes ++ k.part) h.appends k.appends);
+  }
+
+  pub part_behind : (a b : List Message) (old mid new : Device) → Writes mode a old mid → WritesPart mode b mid new → WritesPart mode (a ++ b) old new
+  part_behind a b old mid new h k = subst (λ (x : List Message). WritesPart mode (a ++ x) old new) (append-nil b) (part_after a b [] old mid new h k)
+
+  -- one more message of a list was written
+  pub writes_next : (items : List Message) (i : ℕ) (m : Message) (old mid new : Device) → i < length items → m ≡ get_or items i m → Writes mode (take i items) old mid
+      → Writes mode (m ∷ []) mid new → Writes mode (take (i + 1) items) old new
+  writes_next items i m old mid new h e a b =
+      subst (λ (x : List Message). Writes mode x old new) (sym (take_more items i m h ∙ ap (λ (x : Message). take i items ++ x ∷ []) (sym e))) (writes_both old mid new a b)
+
+  -- or a beginning of it
+  pub part_next : (items : List Message) (i : ℕ) (m : Message) (old mid new : Device) → i < length items → m ≡ get_or items i m → Writes mode (take i items) old mid
+      → WritesPart mode (m ∷ []) mid new → WritesPart mode items old new
+  part_next items i m old mid new h e a b =
+      subst (λ (x : List Message). WritesPart mode x old new) (sym (split_at items i m h e)) (part_after (take i items) (m ∷ []) (drop (i + 1) items) old mid new a b)
+
+-- a fault of one of some messages is one of more
+own_within : (a b c : List Message) (refusal : Refusal) → IsOwnFault b refusal → IsOwnFault (a ++ (b ++ c)) refusal
+own_within a b c refusal (inl memory) = inl memory
+own_within a b c refusal (inr h) = inr (
+  h.0,
+  (
+    a ++ h.1.0,
+    h.1.1 ++ c,
+    ap (λ (x : List Message). a ++ (x ++ c)) h.1.2 ∙ ap (λ (x : List Message). a ++ x) (append_assoc h.1.0 (h.0 ∷ h.1.1) c) ∙ sym (append_assoc a h.1.0 (h.0 ∷ (h.1.1 ++ c))),
+  ),
+  h.2,
+)
+
+pub own_behind : (a b : List Message) (refusal : Refusal) → IsOwnFault b refusal → IsOwnFault (a ++ b) refusal
+own_behind a b refusal h = subst (λ (x : List Message). IsOwnFault (a ++ x) refusal) (append-nil b) (own_within a b [] refusal h)
+
+-- the first messages were written, and the next wasn't
+pub unwritten_next : (items : List Message) (i : ℕ) (m : Message) (place before : ℕ) (old mid new : Device) → i < length items → m ≡ get_or items i m → before ≡ place → mid.failures ≡ old.failures
+    → (fault : ServeFault) → IsUnwritten before (m ∷ []) mid new fault → IsUnwritten place items old new fault
+unwritten_next items i m place before old mid new h e p f (serving.Stream (faults.Refused at refusal)) why =
+    (why.0 ∙ p, subst (λ (x : List Message). IsOwnFault x refusal) (sym (split_at items i m h e)) (own_within (take i items) (m ∷ []) (drop (i + 1) items) refusal why.1))
+unwritten_next items i m place before old mid new h e p f (serving.Stream faults.Device) why = subst (λ (n : ℕ). FailedOnce n new.failures) f why
+unwritten_next items i m place before old mid new h e p f serving.OutOfMemory why = absurd why
+
+module _ {T : Type 0} (contents : T → Option (List ℕ)) (mode : Mode) (limits : Bounds) (m : Message) (old new : Tap T) (is_standard : limits ≡ standard) where
+  same_limits : (b : List ℕ) → IsWrittenAs mode limits limits.frame_words 1 m b → IsWrittenAs mode standard standard.frame_words 1 m b
+  same_limits b h = subst (λ (l : Bounds). IsWrittenAs mode l l.frame_words 1 m b) is_standard h
+
+  -- a message that was sent was written
+  pub sent_writes : IsSent contents mode limits limits.frame_words 1 m old new → Writes mode (m ∷ []) (device contents old) (device contents new)
+  sent_writes h = record {
+    bytes = h.0;
+    frames = (h.0, [], sym (append-nil h.0), same_limits h.0 h.1, refl);
+    appends = h.2.0.appends;
+    counted = h.2.1;
+  }
+
+  -- of one that wasn't, a beginning was
+  pub cut_writes : (fault : StreamFault) → IsCutShort contents mode limits limits.frame_words 1 m old new fault → WritesPart mode (m ∷ []) (device contents old) (device contents new)
+  cut_writes (faults.Refused at refusal) h = subst (λ (t : Tap T). WritesPart mode (m ∷ []) (device contents old) (device contents t)) (sym h.1) (record {
+    first = [];
+    others = m ∷ [];
+    splits = refl;
+    bytes = [];
+    part = [];
+    frames = refl;
+    begin = inl refl;
+    appends = Appends-nil (contents (inner_of old));
+  })
+  cut_writes faults.Device h = record {
+    first = [];
+    others = m ∷ [];
+    splits = refl;
+    bytes = [];
+    part = h.2.sent;
+    frames = refl;
+    begin = inr (h.2.left, subst (λ (b : List ℕ). IsWrittenAs mode standard standard.frame_words 1 m b) h.2.splits (same_limits h.0 h.1));
+    appends = h.2.passes.appends;
+  }
+
+  -- and the fault says why
+  pub cut_why : (place : ℕ) (fault told : StreamFault) → told ≡ placed place fault → IsCutShort contents mode limits limits.frame_words 1 m old new fault
+      → IsUnwritten place (m ∷ []) (device contents old) (device contents new) (serving.Stream told)
+  cut_why place (faults.Refused at refusal) told e h =
+      subst (λ (f : StreamFault). IsUnwritten place (m ∷ []) (device contents old) (device contents new) (serving.Stream f)) (sym e)
+      (refl, inr (m, ([], [], refl), subst (λ (l : Bounds). IsUnwrittenFor l l.frame_words 1 m refusal) is_standard h.2))
+  cut_why place faults.Device told e h =
+      subst (λ (f : StreamFault). IsUnwritten place (m ∷ []) (device contents old) (device contents new) (serving.Stream f)) (sym e) h.2.failed

@@ -1,0 +1,90 @@
+use Rattle.std.proofs.Common.{◌<◌, ◌≤◌, ◌+◌, ◌-◌, ◌%◌, ◌^◌, ℕ, List, [], ◌++◌, take, length, false, refl, ap, ◌∙◌, inl, inr, arith}
+use Rattle.std.proofs.lemmas.Result.{err_from_is_err_and, IfErr-weaker}
+use Rattle.std.proofs.KnownBytes.{Consumes-nil, Consumes-trans, Consumes-kept}
+use Rattle.cp_serve.specs.Output.{device}
+use Rattle.cp_serve.proofs.Working.{after_both, not_some}
+use Rattle.cp_serve.proofs.Reaching.{one_more_piece, stops_full, stops_device, stops_inside, same_server, reads_nothing, goes_over, goes_still}
+use Rattle.cp_serve.proofs.serving.Server.take_all.Goals as goal
+
+pub loop-pieces-init : goal.loop-pieces-init
+loop-pieces-init g c = (refl, λ mode start held serves. ([], Consumes-nil _, omega arith, serves))
+
+pub returns-in_err-room-clause-stopped : goal.returns-in_err-room-clause-stopped
+returns-in_err-room-clause-stopped g c =
+    let p = err_from_is_err_and c.from_residual.result c.from_residual.ensures.1 in
+    rw (p.1, p.2) (λ mode start held serves. ([], Consumes-nil _, stops_full [] serves.0 [] (device g.R.Read.remaining c.args.from.now) (device g.R.Read.remaining c.args.from.now) [] serves.1))
+
+pub returns-in_default-clause-stopped : goal.returns-in_default-clause-stopped
+returns-in_default-clause-stopped g c =
+    let failed = c.in_default.ensures.counts.failures ∙ ap (λ (n : ℕ). (n + 1) % 2 ^ 64) c.loop-pieces.invariant.0 in
+    λ mode start held serves.
+    let now = c.loop-pieces.invariant.1 mode start held serves in (
+      now.0,
+      Consumes-kept _ _ _ now.0 now.1 c.in_default.ensures.bytes,
+      stops_device now.0 now.3.0 (device g.R.Read.remaining c.args.from.now) (device g.R.Read.remaining c.read.new.self) [] now.3.1 failed,
+    )
+
+pub returns-then-length-eq0-clause-taken : goal.returns-then-length-eq0-clause-taken
+returns-then-length-eq0-clause-taken g c =
+    let some : 0 < length c.read.new.buf = omega (arith, c.read.auto.buf, c.loop-pieces.auto.buffer, ap (λ (x : List ℕ). length x) c.as_mut_slice-buffer.ensures.value, c.in_ok-room.ensures.len) in
+    after_both c.end_of_messages.result c.end_of_messages.ensures.same c.end_of_messages.ensures.nothing (λ same nothing. λ mode start held serves.
+    let now = c.loop-pieces.invariant.1 mode start held serves in (
+      now.0,
+      reads_nothing _ _ _ now.0 c.read.new.buf c.in-Ok.length now.1 c.in-Ok.ensures.bytes.0 c.if-length-eq0.true,
+      now.3.0,
+      same_server now.0 now.3.0 c.loop-pieces.self c.end_of_messages.new.self same now.3.1,
+      inl (nothing now.3.0 now.3.2, c.in-Ok.ensures.bytes.1 c.if-length-eq0.true some),
+    ))
+
+pub returns-then-length-eq0-clause-stopped : goal.returns-then-length-eq0-clause-stopped
+returns-then-length-eq0-clause-stopped g c =
+    let some : 0 < length c.read.new.buf = omega (arith, c.read.auto.buf, c.loop-pieces.auto.buffer, ap (λ (x : List ℕ). length x) c.as_mut_slice-buffer.ensures.value, c.in_ok-room.ensures.len) in
+    IfErr-weaker c.end_of_messages.result _ _ (λ fault inside. λ mode start held serves.
+    let now = c.loop-pieces.invariant.1 mode start held serves in (
+      now.0,
+      reads_nothing _ _ _ now.0 c.read.new.buf c.in-Ok.length now.1 c.in-Ok.ensures.bytes.0 c.if-length-eq0.true,
+      stops_inside now.0 now.3.0 (device g.R.Read.remaining c.args.from.now) (device g.R.Read.remaining c.read.new.self) now.3.1 now.3.2.is_open fault
+          (inside now.3.0 (g.R.Read.remaining c.read.new.self.inner) now.3.2 (c.in-Ok.ensures.bytes.1 c.if-length-eq0.true some)),
+    )) c.end_of_messages.ensures.inside
+
+pub returns-in_err-take_piece-clause-stopped : goal.returns-in_err-take_piece-clause-stopped
+returns-in_err-take_piece-clause-stopped g c =
+    let p = err_from_is_err_and c.from_residual-in_err-take_piece.result c.from_residual-in_err-take_piece.ensures.1 in
+    rw (p.1, p.2) (λ mode start held serves.
+    let now = c.loop-pieces.invariant.1 mode start held serves in (
+      now.0 ++ take c.in-Ok.length c.read.new.buf,
+      Consumes-trans _ _ _ now.0 (take c.in-Ok.length c.read.new.buf) now.1 c.in-Ok.ensures.bytes.0,
+      c.in_err-take_piece.ensures.stopped mode start held (device g.R.Read.remaining c.args.from.now) (device g.R.Read.remaining c.read.new.self) now.0 now.3,
+    ))
+
+pub returns-then-is_closed-clause-taken : goal.returns-then-is_closed-clause-taken
+returns-then-is_closed-clause-taken g c =
+    λ mode start held serves.
+    let now = c.loop-pieces.invariant.1 mode start held serves in
+    let over = goes_over _ (g.R.Read.remaining c.read.new.self.inner) c.take_piece.new.self (c.in_ok-take_piece.ensures.taken mode start held now.0 now.3) (c.if-is_closed.ensures.0 refl) in (
+      now.0 ++ take c.in-Ok.length c.read.new.buf,
+      Consumes-trans _ _ _ now.0 (take c.in-Ok.length c.read.new.buf) now.1 c.in-Ok.ensures.bytes.0,
+      over.0,
+      over.1,
+      over.2,
+    )
+
+pub loop-pieces-preserved : goal.loop-pieces-preserved
+loop-pieces-preserved g c =
+    let is_open = not_some _ false c.if-is_closed.ensures refl in (
+      c.in-Ok.ensures.counts.failures ∙ c.loop-pieces.invariant.0,
+      λ mode start held serves.
+          let now = c.loop-pieces.invariant.1 mode start held serves in (
+            now.0 ++ take c.in-Ok.length c.read.new.buf,
+            Consumes-trans _ _ _ now.0 (take c.in-Ok.length c.read.new.buf) now.1 c.in-Ok.ensures.bytes.0,
+            one_more_piece now.0 (take c.in-Ok.length c.read.new.buf) c.loop-pieces.pieces c.in-Ok.length now.2 c.in-Ok.ensures.bound.1 c.if-length-eq0.false,
+            goes_still _ c.take_piece.new.self (c.in_ok-take_piece.ensures.taken mode start held now.0 now.3) is_open,
+          ),
+    )
+
+pub returns-clause-taken : goal.returns-clause-taken
+returns-clause-taken g c =
+    λ mode start held serves.
+    let now = c.loop-pieces.invariant.1 mode start held serves in
+    let many : 2 ^ 64 - 1 ≤ length now.0 = omega (arith, now.2, c.loop-pieces-test.false) in
+    (now.0, now.1, now.3.0, now.3.1, inr (inr many))

@@ -1,0 +1,8 @@
+pub mod Outcomes
+pub mod Servant
+pub mod Work
+pub mod Service
+pub mod History
+pub mod Output
+pub mod WorkOf
+pub mod Reached

@@ -1,0 +1,165 @@
+-- What a server reads and writes.
+use Rattle.std.specs.Prelude.{◌≡◌, ◌≢◌, ◌⊎◌, ℕ, ◌-◌, ◌^◌, ◌≤◌, min, Bool, false, IsSome, List, [], ◌∷◌, ◌++◌, Option, None, length}
+use Rattle.std.specs.Io.KnownBytes.{Appends, Consumes, IsAtEnd}
+use Rattle.cp_words.specs.Limits.{standard}
+use Rattle.cp_frame.specs.declared.mode.Mode.{Mode}
+use Rattle.cp_frame.specs.declared.fault.FrameFault.TheVariants as frames
+use Rattle.cp_frame.specs.Stream.{Open}
+use Rattle.cp_rpc.specs.declared.message.Message.{Message}
+use Rattle.cp_stream.specs.declared.fault.Refusal.{Refusal}
+use Rattle.cp_stream.specs.declared.fault.Refusal.TheVariants as refusals
+use Rattle.cp_stream.specs.declared.fault.StreamFault.TheVariants as streams
+use Rattle.cp_stream.specs.declared.tap.Tap.{Tap}
+use Rattle.cp_stream.specs.Tap.{inner_of, failures_of}
+use Rattle.cp_stream.specs.Stream.{Messages, HasFault}
+use Rattle.cp_stream.specs.Reader.{IsMemory}
+use Rattle.cp_stream.specs.Read.{FailedOnce}
+use Rattle.cp_stream.specs.Write.{IsWrittenAs, IsUnwrittenFor}
+use Rattle.cp_serve.specs.declared.fault.ServeFault.{ServeFault}
+use Rattle.cp_serve.specs.declared.fault.ServeFault.TheVariants as faults
+use Rattle.cp_serve.specs.declared.report.Report.{Report}
+use Rattle.cp_serve.specs.Servant.{Seen}
+use Rattle.cp_serve.specs.Work.{Work}
+use Rattle.cp_serve.specs.Service.{TakesAll, ClosesAll, new_work}
+use Rattle.cp_serve.specs.History.{IsRunOf}
+
+-- A reader or a writer, by its bytes where they are known and by how many of its calls failed.
+pub record Device : Type 0 where
+  pub bytes : Option (List ℕ)
+  pub failures : ℕ
+
+-- the device behind a tap
+abbrev pub device : {T : Type 0} → (T → Option (List ℕ)) → Tap T → Device
+device known tap = record { bytes = known (inner_of tap); failures = failures_of tap }
+
+-- the bytes are the frames of these messages, each of one segment, one after another
+abbrev pub AreWrittenAs : Mode → List Message → List ℕ → Type 0
+AreWrittenAs mode [] b = b ≡ []
+AreWrittenAs mode (m ∷ more) b =
+    (front : List ℕ) × (back : List ℕ) × (b ≡ front ++ back) × IsWrittenAs mode standard standard.frame_words 1 m front × AreWrittenAs mode more back
+
+-- The frames of these messages went out, and nothing else. No call failed.
+pub record Writes (mode : Mode) (sent : List Message) (old new : Device) : Type 0 where
+  pub bytes : List ℕ
+  pub frames : AreWrittenAs mode sent bytes
+  pub appends : Appends old.bytes new.bytes bytes
+  pub counted : new.failures ≡ old.failures
+
+-- the bytes are a beginning of the frame of the first of these messages, or nothing
+abbrev pub Begin : Mode → List Message → List ℕ → Type 0
+Begin mode [] b = b ≡ []
+Begin mode (m ∷ more) b = (b ≡ []) ⊎ ((left : List ℕ) × IsWrittenAs mode standard standard.frame_words 1 m (b ++ left))
+
+-- Of the frames of these messages a beginning went out, and nothing else.
+pub record WritesPart (mode : Mode) (sent : List Message) (old new : Device) : Type 0 where
+  pub first : List Message
+  pub others : List Message
+  pub splits : sent ≡ first ++ others
+  pub bytes : List ℕ
+  pub part : List ℕ
+  pub frames : AreWrittenAs mode first bytes
+  pub begin : Begin mode others part
+  pub appends : Appends old.bytes new.bytes (bytes ++ part)
+
+-- These messages are sent where those are taken, and rounds follow. It is noted whether the last round gave what was awaited.
+pub record Sends (objects : List Seen) (taken sent : List Message) (gave : Bool) (last : Work) (others : List Seen) : Type 0 where
+  pub mid : Work
+  pub between : List Seen
+  pub first : List Message
+  pub closing : List Message
+  pub takes : TakesAll new_work objects taken first mid between
+  pub closes : ClosesAll mid between gave closing last others
+  pub all : sent ≡ first ++ closing
+
+-- What a server sends for messages and objects: it takes the messages, and rounds follow until one gives nothing that is awaited, or the vat closed.
+pub record Output (objects : List Seen) (taken sent : List Message) (last : Work) (others : List Seen) : Type 0 where
+  pub gave : Bool
+  pub sends : Sends objects taken sent gave last others
+  pub ends : (gave ≡ false) ⊎ IsSome last.closed
+
+-- why no more messages are taken: the reader's bytes ended behind a message; or the vat closed; or 2^64 - 1 bytes or more were read
+abbrev pub IsOver : List ℕ → List ℕ → Option (List ℕ) → Work → Type 0
+IsOver bytes rest left w = ((rest ≡ []) × IsAtEnd left) ⊎ (IsSome w.closed ⊎ (2 ^ 64 - 1 ≤ length bytes))
+
+-- The report counts the messages that were taken and those that were sent, up to the greatest u64, and says why the vat closed.
+pub record Counts (taken sent : List Message) (last : Work) (report : Report) : Type 0 where
+  pub counts_taken : report.messages ≡ min (length taken) (2 ^ 64 - 1)
+  pub counts_sent : report.sent ≡ min (length sent) (2 ^ 64 - 1)
+  pub reason : report.closed ≡ last.closed
+
+-- A run was served to its end. Bytes were read, which are frames of messages and then a rest; no more messages are taken; what a server sends for
+-- these messages and objects was written, and nothing else; its vat's events are a run; and the report counts.
+pub record IsServed (mode : Mode) (objects : List Seen) (from left old new : Device) (report : Report) (others : List Seen) : Type 0 where
+  pub bytes : List ℕ
+  pub consumed : Consumes from.bytes left.bytes bytes
+  pub taken : List Message
+  pub rest : List ℕ
+  pub messages : Messages mode standard bytes taken rest
+  pub sent : List Message
+  pub last : Work
+  pub output : Output objects taken sent last others
+  pub run : IsRunOf taken sent last
+  pub is_over : IsOver bytes rest left.bytes output.sends.mid
+  pub writes : Writes mode sent old new
+  pub counts : Counts taken sent last report
+
+-- the place of a fault: the length of the frames before the rest, or the greatest u64
+abbrev pub IsPlace : List ℕ → List ℕ → ℕ → Type 0
+IsPlace bytes rest at = at ≡ min (length bytes - length rest) (2 ^ 64 - 1)
+
+-- why the rest isn't read on: the reader's bytes end inside a frame; or the rest has the fault, whatever follows
+abbrev pub IsFaultOfRest : Mode → List ℕ → Option (List ℕ) → Refusal → Type 0
+IsFaultOfRest mode rest left (refusals.Frame frames.Truncated) = (rest ≢ []) × Open mode standard rest × IsAtEnd left
+IsFaultOfRest mode rest left refusal = HasFault mode standard rest refusal
+
+-- A fault of reading: of the bytes that were read messages were taken, and the rest has the fault. What the messages lead to was written, and nothing
+-- else; no closing rounds follow.
+pub record IsRefused (mode : Mode) (objects : List Seen) (bytes : List ℕ) (left : Option (List ℕ)) (old new : Device) (at : ℕ) (refusal : Refusal) (others : List Seen) : Type 0 where
+  pub taken : List Message
+  pub rest : List ℕ
+  pub messages : Messages mode standard bytes taken rest
+  pub sent : List Message
+  pub last : Work
+  pub takes : TakesAll new_work objects taken sent last others
+  pub is_open : last.closed ≡ None
+  pub writes : Writes mode sent old new
+  pub fault : IsFaultOfRest mode rest left refusal
+  pub place : IsPlace bytes rest at
+
+-- messages were taken and sent what they lead to; or all were, and rounds followed
+abbrev pub Starts : List Seen → List Message → List Message → (Work → Type 0) → Type 0
+Starts objects taken sent ends =
+    ((last : Work) × (others : List Seen) × TakesAll new_work objects taken sent last others)
+    ⊎ ((gave : Bool) × (last : Work) × (others : List Seen) × (all : Sends objects taken sent gave last others) × ends all.mid)
+
+-- A run was cut off: of what is sent for messages of the bytes that were read a beginning was written, and nothing else.
+pub record IsCutOff (mode : Mode) (objects : List Seen) (bytes : List ℕ) (left : Option (List ℕ)) (old new : Device) : Type 0 where
+  pub taken : List Message
+  pub rest : List ℕ
+  pub messages : Messages mode standard bytes taken rest
+  pub sent : List Message
+  pub starts : Starts objects taken sent (IsOver bytes rest left)
+  pub writes : WritesPart mode sent old new
+
+-- the message is one of these
+abbrev pub IsAmong : Message → List Message → Type 0
+IsAmong m ms = (front : List Message) × (back : List Message) × (ms ≡ front ++ m ∷ back)
+
+-- the fault isn't one of the bytes: memory ran out for what is read; or one of these messages isn't written, as memory ran out for its frame or as its tree
+-- isn't one that can be
+abbrev pub IsOwnFault : List Message → Refusal → Type 0
+IsOwnFault sent refusal = IsMemory refusal ⊎ ((m : Message) × IsAmong m sent × IsUnwrittenFor standard standard.frame_words 1 m refusal)
+
+-- Why a run stopped, of which these bytes were read: their rest has the fault; or the fault is another, or a device's call failed, or memory ran out, and
+-- the run was cut off.
+abbrev pub StopsFor : Mode → List Seen → List ℕ → Device → Device → Device → Device → List Seen → ServeFault → Type 0
+StopsFor mode objects bytes from left old new others (faults.Stream (streams.Refused at refusal)) =
+    IsRefused mode objects bytes left.bytes old new at refusal others
+    ⊎ ((cut : IsCutOff mode objects bytes left.bytes old new) × IsOwnFault cut.sent refusal × IsPlace bytes cut.rest at)
+StopsFor mode objects bytes from left old new others (faults.Stream streams.Device) =
+    (FailedOnce from.failures left.failures ⊎ FailedOnce old.failures new.failures) × IsCutOff mode objects bytes left.bytes old new
+StopsFor mode objects bytes from left old new others faults.OutOfMemory = IsCutOff mode objects bytes left.bytes old new
+
+-- bytes were read, and the run stopped
+abbrev pub IsStopped : Mode → List Seen → Device → Device → Device → Device → List Seen → ServeFault → Type 0
+IsStopped mode objects from left old new others fault = (bytes : List ℕ) × Consumes from.bytes left.bytes bytes × StopsFor mode objects bytes from left old new others fault

@@ -1,0 +1,41 @@
+//! Why a server stops.
+
+ghost use Rattle.std.specs.Prelude.{◌≡◌};
+ghost use Rattle.cp_serve.specs.declared.fault.ServeFault.TheVariants.{Stream, OutOfMemory};
+
+use cp_stream::StreamFault;
+use std::alloc::{AllocError, AllocFailed};
+
+/// Why a server stopped before its run ended. Nothing is written after it.
+#[derive(Clone, Copy, PartialEq, Eq, Debug)]
+pub enum ServeFault {
+    /// The messages can't be read on, or one can't be written. A refusal names the bytes of the
+    /// frames whose messages were taken.
+    Stream(StreamFault),
+    /// V10: memory ran out, for the vat or for an object.
+    OutOfMemory,
+}
+
+impl From<StreamFault> for ServeFault {
+    ghost from_gives = { λ fault r. r ≡ Stream fault };
+
+    fn from(fault: StreamFault) -> ServeFault {
+        ServeFault::Stream(fault)
+    }
+}
+
+impl From<AllocError> for ServeFault {
+    ghost from_gives = { λ _ r. r ≡ OutOfMemory };
+
+    fn from(_: AllocError) -> ServeFault {
+        ServeFault::OutOfMemory
+    }
+}
+
+impl<T: Drop> From<AllocFailed<T>> for ServeFault {
+    ghost from_gives = { λ _ r. r ≡ OutOfMemory };
+
+    fn from(_: AllocFailed<T>) -> ServeFault {
+        ServeFault::OutOfMemory
+    }
+}

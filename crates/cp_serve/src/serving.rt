@@ -1,0 +1,306 @@
+//! Serving a connection.
+
+ghost use Rattle.std.specs.Prelude.{◌≡◌, ◌<◌, ◌+◌, ◌-◌, ◌^◌, ◌++◌, ◌⊎◌, min, ℕ, List, Option, IfOk, IfErr, IfSome, IfNone, OnOk, OnErr, length, map, [], ◌∷◌};
+ghost use Rattle.std.specs.Io.KnownBytes.{Consumes, IsAtEnd};
+ghost use Rattle.cp_words.specs.Limits.{standard};
+ghost use Rattle.cp_frame.specs.declared.mode.Mode.{Mode};
+ghost use Rattle.cp_stream.specs.declared.fault.StreamFault.TheVariants.{Refused};
+ghost use Rattle.cp_stream.specs.Tap.{inner_of};
+ghost use Rattle.cp_stream.specs.Stream.{Holds, HoldsNone};
+ghost use Rattle.cp_frame.specs.Reader.{StandsFor, new_reader};
+ghost use Rattle.cp_stream.specs.Reader.{IsAt, IsMemory};
+ghost use Rattle.cp_serve.specs.Servant.{Seen};
+ghost use Rattle.cp_serve.specs.Service.{written};
+ghost use Rattle.cp_serve.specs.Output.{Device, device, Writes, WritesPart, IsOver, IsServed, StopsFor, IsStopped};
+ghost use Rattle.cp_serve.specs.Reached.{Reached, Serves, ReadsOn, OnlyReads, OnlyWrites, TakesNext, TakesNone, GoesOn, IsRefusedAt, IsUnwritten, IsUnended, EndsInside, EndsSo, EndsPart, CountsMore, placed};
+ghost use Rattle.cp_serve.specs.WorkOf.{work_of};
+
+use crate::fault::ServeFault;
+use crate::report::Report;
+use crate::servant::Servant;
+use crate::session::Session;
+use cp_frame::{FrameReader, Mode};
+use cp_rpc::{Message, SchemaFault};
+use cp_stream::{Refusal, StreamFault, Tap, view_of, write_message};
+use cp_words::{Limits, Segments};
+use std::alloc::Global;
+use std::io::{Read, Write};
+
+/// The bytes that are asked for at once.
+const PIECE: usize = 65_536;
+
+/// Serves objects to the peer whose messages are read, of which object 0 is the bootstrap object.
+/// `Ok` says that the messages ended, or that the vat closed.
+///
+/// Each message is received, and each call that it leads to goes to its object; then each object is
+/// polled once, in order. Where the messages end, rounds of polls go on until one gives nothing that
+/// is awaited.
+///
+/// # Errors
+///
+/// Where the bytes after the messages that were taken have a fault, that fault, at the number of their
+/// frames' bytes: what the messages lead to was written, and no round follows. Else a call of a device
+/// failed, or memory ran out: a beginning of what would have been written was.
+pub fn serve<R: Read, W: Write>(
+    alloc: Global,
+    from: &mut Tap<R>,
+    to: &mut Tap<W>,
+    objects: &mut Vec<Box<dyn Servant>>,
+    mode: Mode,
+) -> Result<Report, ServeFault>
+    // What is served to its end is an output of the bytes that were read, and is reported.
+    ensures served { IfOk result (λ report. IsServed mode (map (λ o. seen o) objects.old.items) (device R.remaining from.old) (device R.remaining from.new) (device W.contents to.old) (device W.contents to.new) report (map (λ o. seen o) objects.new.items)) }
+    // A fault says why it was cut off, and what was written is a beginning of one.
+    ensures stopped { IfErr result (λ fault. IsStopped mode (map (λ o. seen o) objects.old.items) (device R.remaining from.old) (device R.remaining from.new) (device W.contents to.old) (device W.contents to.new) (map (λ o. seen o) objects.new.items) fault) }
+{
+    Server::new(alloc, mode).serve(from, to, objects.as_mut_slice())
+}
+
+/// A reader of frames to which nothing has come.
+fn frame_reader(alloc: Global, mode: Mode) -> FrameReader
+    ensures fresh { result ≡ new_reader mode standard }
+    ensures stands { StandsFor result [] }
+{
+    let limits = Limits::standard();
+    match mode {
+        Mode::Plain => FrameReader::plain(alloc, limits),
+        Mode::Packed => FrameReader::packed(alloc, limits),
+    }
+}
+
+/// A session, with what has come for it and what was done in it.
+#[derive(Drop)]
+struct Server {
+    alloc: Global,
+    mode: Mode,
+    frames: FrameReader,
+    /// The bytes of the frames whose messages were taken, at most `u64::MAX`.
+    at: u64,
+    session: Session,
+    /// The messages that were taken.
+    messages: u64,
+    /// The messages that were sent.
+    sent: u64,
+}
+
+impl Server {
+    /// A server to which nothing has come.
+    fn new(alloc: Global, mode: Mode) -> Server
+        ensures { (start : List Seen) (held : Device) → Serves mode start held [] result start held }
+    {
+        Server {
+            alloc,
+            mode,
+            frames: frame_reader(alloc, mode),
+            at: 0,
+            session: Session::new(alloc),
+            messages: 0,
+            sent: 0,
+        }
+    }
+
+    /// Takes the messages and ends them, and says what was done.
+    fn serve<R: Read, W: Write>(
+        mut self,
+        from: &mut Tap<R>,
+        to: &mut Tap<W>,
+        objects: &mut [Box<dyn Servant>],
+    ) -> Result<Report, ServeFault>
+        ensures served { IfOk result (λ report. (mode : Mode) → Serves mode (map (λ o. seen o) objects.old) (device W.contents to.old) [] self (map (λ o. seen o) objects.old) (device W.contents to.old) → IsServed mode (map (λ o. seen o) objects.old) (device R.remaining from.old) (device R.remaining from.new) (device W.contents to.old) (device W.contents to.new) report (map (λ o. seen o) objects.new)) }
+        ensures stopped { IfErr result (λ fault. (mode : Mode) → Serves mode (map (λ o. seen o) objects.old) (device W.contents to.old) [] self (map (λ o. seen o) objects.old) (device W.contents to.old) → IsStopped mode (map (λ o. seen o) objects.old) (device R.remaining from.old) (device R.remaining from.new) (device W.contents to.old) (device W.contents to.new) (map (λ o. seen o) objects.new) fault) }
+    {
+        self.take_all(from, to, objects)?;
+        self.end_all(to, objects)?;
+        Ok(self.report())
+    }
+
+    /// What was done.
+    fn report(self) -> Report
+        ensures messages { result.messages ≡ self.messages }
+        ensures sent { result.sent ≡ self.sent }
+        ensures closed { result.closed ≡ (work_of self.session).closed }
+    {
+        Report {
+            messages: self.messages,
+            sent: self.sent,
+            closed: self.session.into_closed(),
+        }
+    }
+
+    /// Takes the messages, until they end or the vat closed.
+    fn take_all<R: Read, W: Write>(
+        &mut self,
+        from: &mut Tap<R>,
+        to: &mut Tap<W>,
+        objects: &mut [Box<dyn Servant>],
+    ) -> Result<(), ServeFault>
+        ensures taken { OnOk result ((mode : Mode) (start : List Seen) (held : Device) → Serves mode start held [] self.old (map (λ o. seen o) objects.old) (device W.contents to.old) → (bytes : List ℕ) × Consumes (R.remaining (inner_of from.old)) (R.remaining (inner_of from.new)) bytes × (rest : List ℕ) × Reached mode start held bytes rest self.new (map (λ o. seen o) objects.new) (device W.contents to.new) × IsOver bytes rest (R.remaining (inner_of from.new)) (work_of self.new.session)) }
+        ensures stopped { IfErr result (λ fault. (mode : Mode) (start : List Seen) (held : Device) → Serves mode start held [] self.old (map (λ o. seen o) objects.old) (device W.contents to.old) → IsStopped mode start (device R.remaining from.old) (device R.remaining from.new) held (device W.contents to.new) (map (λ o. seen o) objects.new) fault) }
+    {
+        let mut room = vec![in self.alloc; 0u8; PIECE]?;
+        let buffer = room.as_mut_slice();
+        for pieces in 0..u64::MAX {
+            let Ok(length) = from.read(buffer) else {
+                return Err(ServeFault::Stream(StreamFault::Device));
+            };
+            if length == 0 {
+                return self.end_of_messages();
+            }
+            self.take_piece(&buffer[..length], to, objects)?;
+            if self.session.is_closed() {
+                return Ok(());
+            }
+        }
+        Ok(())
+    }
+
+    /// Takes the messages whose frames end in a piece, until the vat closed.
+    fn take_piece<W: Write>(
+        &mut self,
+        piece: &[u8],
+        to: &mut Tap<W>,
+        objects: &mut [Box<dyn Servant>],
+    ) -> Result<(), ServeFault>
+        ensures taken { OnOk result ((mode : Mode) (start : List Seen) (held : Device) (bytes : List ℕ) → Serves mode start held bytes self.old (map (λ o. seen o) objects.old) (device W.contents to.old) → GoesOn mode start held (bytes ++ piece.now) self.new (map (λ o. seen o) objects.new) (device W.contents to.new)) }
+        ensures stopped { IfErr result (λ fault. (mode : Mode) (start : List Seen) (held from left : Device) (bytes : List ℕ) → Serves mode start held bytes self.old (map (λ o. seen o) objects.old) (device W.contents to.old) → StopsFor mode start (bytes ++ piece.now) from left held (device W.contents to.new) (map (λ o. seen o) objects.new) fault) }
+    {
+        let mut left = piece;
+        'taking: while !left.is_empty() {
+            let Some((message, back)) = self.next_message(left)? else {
+                return Ok(());
+            };
+            self.session.take(message, objects)?;
+            self.write(to)?;
+            if self.session.is_closed() {
+                return Ok(());
+            }
+            left = back;
+        }
+        Ok(())
+    }
+
+    /// Reads a piece up to the end of a frame, and gives its message with what follows it.
+    fn next_message<'a>(
+        &mut self,
+        piece: &'a [u8],
+    ) -> Result<Option<(Message, &'a [u8])>, StreamFault>
+        ensures shorter { IfOk result (λ next. IfSome next (λ t. length t.1.now < length piece.now)) }
+        ensures only { OnOk result (OnlyReads self.old self.new) }
+        ensures next { IfOk result (λ next. IfSome next (λ t. (rest : List ℕ) → ReadsOn rest self.old → TakesNext rest self.old piece.now t.0 self.new t.1.now)) }
+        ensures none { IfOk result (λ next. IfNone next ((rest : List ℕ) → ReadsOn rest self.old → TakesNone rest self.old piece.now self.new)) }
+        ensures refused { IfErr result (λ fault. (rest : List ℕ) → ReadsOn rest self.old → IsRefusedAt self.old.mode (rest ++ piece.now) self.old.at fault) }
+    {
+        let (taken, segments, back) = match self.frames.next(piece) {
+            Ok(Some(next)) => next,
+            Ok(None) => return Ok(None),
+            Err(fault) => return Err(self.refused(Refusal::Frame(fault))),
+        };
+        let message = self.message_of(&segments)?;
+        self.frames.reuse(segments);
+        self.at = self.at.saturating_add(taken);
+        self.messages = self.messages.saturating_add(1);
+        Ok(Some((message, back)))
+    }
+
+    /// The message that a frame holds.
+    fn message_of(&self, segments: &Segments) -> Result<Message, StreamFault>
+        ensures found { IfOk result (Holds standard segments.now) }
+        ensures refused { IfErr result (IsAt self.now.at (λ r. IsMemory r ⊎ HoldsNone standard segments.now r)) }
+    {
+        let view = match view_of(segments, Limits::standard()) {
+            Ok(view) => view,
+            Err(fault) => return Err(self.placed(fault)),
+        };
+        match view.message(self.alloc) {
+            Ok(message) => Ok(message),
+            Err(_) => Err(self.refused(Refusal::Schema(SchemaFault::OutOfMemory))),
+        }
+    }
+
+    /// Ends the messages, where the reader's bytes ended.
+    fn end_of_messages(&mut self) -> Result<(), ServeFault>
+        ensures same { OnOk result (self.new ≡ self.old) }
+        ensures nothing { OnOk result ((rest : List ℕ) → ReadsOn rest self.old → rest ≡ []) }
+        ensures inside { IfErr result (λ fault. (rest : List ℕ) (left : Option (List ℕ)) → ReadsOn rest self.old → IsAtEnd left → EndsInside self.old.mode rest left self.old.at fault) }
+    {
+        match self.frames.finish() {
+            Ok(()) => Ok(()),
+            Err(fault) => Err(ServeFault::Stream(self.refused(Refusal::Frame(fault)))),
+        }
+    }
+
+    /// Polls the objects until they give nothing that is awaited, or the vat closed.
+    fn end_all<W: Write>(
+        &mut self,
+        to: &mut Tap<W>,
+        objects: &mut [Box<dyn Servant>],
+    ) -> Result<(), ServeFault>
+        ensures same { OnOk result (self.new.messages ≡ self.old.messages) }
+        ensures ends { OnOk result (EndsSo self.old (map (λ o. seen o) objects.old) (device W.contents to.old) self.new (map (λ o. seen o) objects.new) (device W.contents to.new)) }
+        ensures stopped { IfErr result (λ fault. (p : EndsPart self.old (map (λ o. seen o) objects.old) (device W.contents to.old) (device W.contents to.new)) × IsUnended self.old.at p.sent (device W.contents to.old) (device W.contents to.new) fault) }
+    {
+        for _ in 0..u64::MAX {
+            if self.session.is_closed() {
+                return Ok(());
+            }
+            let gave = self.session.round(objects)?;
+            self.write(to)?;
+            if !gave {
+                return Ok(());
+            }
+        }
+        Err(ServeFault::OutOfMemory)
+    }
+
+    /// Writes the messages that were sent.
+    fn write<W: Write>(&mut self, to: &mut Tap<W>) -> Result<(), ServeFault>
+        ensures only { OnOk result (OnlyWrites self.old self.new) }
+        ensures session { OnOk result (work_of self.new.session ≡ written (work_of self.old.session)) }
+        ensures counts { OnOk result (CountsMore self.old.sent (length (work_of self.old.session).sent) self.new.sent) }
+        ensures writes { OnOk result (Writes self.old.mode (work_of self.old.session).sent (device W.contents to.old) (device W.contents to.new)) }
+        ensures part { OnErr result (WritesPart self.old.mode (work_of self.old.session).sent (device W.contents to.old) (device W.contents to.new)) }
+        ensures stopped { IfErr result (IsUnwritten self.old.at (work_of self.old.session).sent (device W.contents to.old) (device W.contents to.new)) }
+    {
+        let messages = self.session.take_sent();
+        for message in &messages {
+            self.write_one(to, message)?;
+        }
+        Ok(())
+    }
+
+    /// Writes a message.
+    fn write_one<W: Write>(&mut self, to: &mut Tap<W>, message: &Message) -> Result<(), ServeFault>
+        ensures same { OnOk result (self.new ≡ record self.old { sent = min (self.old.sent + 1) (2 ^ 64 - 1) }) }
+        ensures writes { OnOk result (Writes self.old.mode (message.now ∷ []) (device W.contents to.old) (device W.contents to.new)) }
+        ensures part { OnErr result (WritesPart self.old.mode (message.now ∷ []) (device W.contents to.old) (device W.contents to.new)) }
+        ensures stopped { IfErr result (IsUnwritten self.old.at (message.now ∷ []) (device W.contents to.old) (device W.contents to.new)) }
+    {
+        match write_message(self.alloc, to, message, self.mode, Limits::standard()) {
+            Ok(()) => {
+                self.sent = self.sent.saturating_add(1);
+                Ok(())
+            }
+            Err(fault) => Err(ServeFault::Stream(self.placed(fault))),
+        }
+    }
+
+    /// A refusal, behind the messages that were taken.
+    fn refused(&self, refusal: Refusal) -> StreamFault
+        ensures { result ≡ Refused self.now.at refusal }
+    {
+        StreamFault::Refused {
+            at: self.at,
+            refusal,
+        }
+    }
+
+    /// A fault, behind the messages that were taken.
+    fn placed(&self, fault: StreamFault) -> StreamFault
+        ensures { result ≡ placed self.now.at fault }
+    {
+        match fault {
+            StreamFault::Refused { refusal, .. } => self.refused(refusal),
+            StreamFault::Device => StreamFault::Device,
+        }
+    }
+}
