@@ -1,0 +1,275 @@
+//! Readers and writers that fail, and allocations that fail.
+
+use crate::frames::{ADD_FIVE, BOOTSTRAP, FIRST_FINISH, Frame, LATER};
+use crate::serving::{boxed, bytes_of, pair, prepared, served};
+use cp_frame::{FrameFault, Mode};
+use cp_rpc::SchemaFault;
+use cp_serve::{Cell, Desk, Servant, ServeFault, serve};
+use cp_stream::{Refusal, StreamFault, Tap};
+use cp_tree::WriteFault;
+use std::alloc::Global;
+use std::io::{self, ErrorKind, Read, Write};
+use std::process::Abort;
+
+/// A device of which one call fails: by an error, or by taking no byte.
+#[derive(Drop)]
+struct Failing<T> {
+    inner: T,
+    calls: u64,
+    fails_at: u64,
+    with_error: bool,
+    /// The most bytes that a call moves.
+    most: usize,
+}
+
+impl<T> Failing<T> {
+    /// The device, whose call of this number fails.
+    fn new(inner: T, fails_at: u64, with_error: bool, most: usize) -> Failing<T> {
+        Failing {
+            inner,
+            calls: 0,
+            fails_at,
+            with_error,
+            most,
+        }
+    }
+
+    /// How many bytes a call may move.
+    fn moved(&mut self) -> io::Result<usize> {
+        self.calls = self.calls.saturating_add(1);
+        if self.calls != self.fails_at {
+            return Ok(self.most);
+        }
+        if self.with_error {
+            return Err(io::Error::from(ErrorKind::Interrupted));
+        }
+        Ok(0)
+    }
+}
+
+impl<R: Read> Read for Failing<R> {
+    fn read(&mut self, buf: &mut [u8]) -> io::Result<usize> {
+        let most = self.moved()?.min(buf.len());
+        self.inner.read(&mut buf[..most])
+    }
+}
+
+impl<W: Write> Write for Failing<W> {
+    fn write(&mut self, buf: &[u8]) -> io::Result<usize> {
+        let most = self.moved()?.min(buf.len());
+        self.inner.write(&buf[..most])
+    }
+
+    fn flush(&mut self) -> io::Result<()> {
+        self.inner.flush()
+    }
+}
+
+/// The calls of a reader and a writer that fail, and what the others move.
+#[derive(Clone, Copy)]
+struct Trial {
+    read: u64,
+    write: u64,
+    with_error: bool,
+    most: usize,
+}
+
+/// Serves a Desk and a Cell over such devices. Where a call fails, the answer is `Device`, no call
+/// follows, and a beginning of the whole was written. Says whether one fails.
+fn fails(rt: &impl Abort, alloc: Global, bytes: &[u8], whole: &[u8], trial: Trial) -> bool {
+    let Trial {
+        read,
+        write,
+        with_error,
+        most,
+    } = trial;
+    let mut from = Tap::new(Failing::new(bytes, read, true, most));
+    let mut to = Tap::new(Failing::new(Vec::new(alloc), write, with_error, most));
+    let first = boxed(rt, alloc, Desk::new(alloc));
+    let mut objects = pair(rt, alloc, first, boxed(rt, alloc, Cell::new(alloc)));
+    let ended = serve(alloc, &mut from, &mut to, &mut objects, Mode::Plain);
+    let fault = ended.err();
+    let failures = from.failures().saturating_add(to.failures());
+    let Failing { calls: reads, .. } = from.into_inner();
+    let Failing {
+        inner: written,
+        calls: writes,
+        ..
+    } = to.into_inner();
+    assert!(rt; reads <= read && writes <= write);
+    if failures == 0 {
+        assert!(rt; fault.is_none());
+        assert!(rt; written.as_slice() == whole);
+        return false;
+    }
+    assert!(rt; failures == 1);
+    assert!(rt; fault == Some(ServeFault::Stream(StreamFault::Device)));
+    assert!(rt; whole.starts_with(&written));
+    true
+}
+
+/// A call that no device is asked for.
+const NEVER: u64 = u64::MAX;
+
+/// The trial in which the call of this number fails: a read, a write by an error, a write that takes
+/// no byte.
+fn trials(call: u64) -> [Trial; 3] {
+    let most = 40;
+    let (read, write) = (NEVER, NEVER);
+    [
+        Trial {
+            read: call,
+            write,
+            with_error: true,
+            most,
+        },
+        Trial {
+            read,
+            write: call,
+            with_error: true,
+            most,
+        },
+        Trial {
+            read,
+            write: call,
+            with_error: false,
+            most,
+        },
+    ]
+}
+
+/// Each call of the devices fails in turn, until none fails.
+fn expect_each(rt: &impl Abort, alloc: Global, frames: &[Frame]) {
+    let bytes = bytes_of(rt, alloc, frames);
+    let first = boxed(rt, alloc, Desk::new(alloc));
+    let objects = pair(rt, alloc, first, boxed(rt, alloc, Cell::new(alloc)));
+    let (whole, ended) = served(alloc, objects, &bytes, Mode::Plain);
+    assert!(rt; ended.is_ok());
+    for call in 1..1_000 {
+        let mut failed = false;
+        for trial in trials(call) {
+            failed = fails(rt, alloc, &bytes, &whole, trial) || failed;
+        }
+        if !failed {
+            return;
+        }
+    }
+    panic!(rt; "the devices go on");
+}
+
+#[test]
+fn each_call_of_a_device_may_fail(rt: HostRuntime) {
+    let alloc = rt.alloc();
+    for frames in [
+        [FIRST_FINISH].as_slice(),
+        &[BOOTSTRAP],
+        &[BOOTSTRAP, LATER, ADD_FIVE],
+    ] {
+        expect_each(&rt, alloc, frames);
+    }
+}
+
+#[test]
+fn one_byte_a_call_is_enough(rt: HostRuntime) {
+    let alloc = rt.alloc();
+    let bytes = bytes_of(&rt, alloc, &[BOOTSTRAP, LATER, ADD_FIVE]);
+    let first = boxed(&rt, alloc, Desk::new(alloc));
+    let objects = pair(&rt, alloc, first, boxed(&rt, alloc, Cell::new(alloc)));
+    let (whole, ended) = served(alloc, objects, &bytes, Mode::Plain);
+    assert!(rt; ended.is_ok());
+    let trial = Trial {
+        read: NEVER,
+        write: NEVER,
+        with_error: true,
+        most: 1,
+    };
+    assert!(rt; !fails(&rt, alloc, &bytes, &whole, trial));
+}
+
+/// A writer that takes all, keeps none of it, and compares it with what is wanted.
+#[derive(Drop)]
+struct Compared<'a> {
+    /// What wasn't written yet.
+    left: &'a [u8],
+    differs: bool,
+}
+
+impl<'a> Write for Compared<'a> {
+    fn write(&mut self, buf: &[u8]) -> io::Result<usize> {
+        if self.left.starts_with(buf) {
+            self.left = &self.left[buf.len()..];
+        } else {
+            self.differs = true;
+        }
+        Ok(buf.len())
+    }
+
+    fn flush(&mut self) -> io::Result<()> {
+        Ok(())
+    }
+}
+
+/// What is sent for a bootstrap, a call of the Desk and one of the Cell.
+const ANSWERS: &str = "\
+    000000000b000000 0000000001000100 0300000000000000 0000000002000100 0000000001000000 \
+    0000000000000000 0000000000000200 0300000000000000 0100000017000000 0400000001000100 \
+    0100000000000000 0000000000000000 000000000c000000 0000000001000100 0300000000000000 \
+    0000000002000100 0100000001000000 0000000000000000 0000000000000200 0400000000000100 \
+    0500000017000000 0300000000000000 0400000001000100 0100000001000000 0000000000000000 \
+    0000000009000000 0000000001000100 0300000000000000 0000000002000100 0200000001000000 \
+    0000000000000000 0000000000000200 0400000001000000 0000000000000000 0500000000000000";
+
+/// Whether an allocation failed.
+fn is_memory(fault: ServeFault) -> bool {
+    match fault {
+        ServeFault::OutOfMemory => true,
+        ServeFault::Stream(StreamFault::Refused { refusal, .. }) => matches!(
+            refusal,
+            Refusal::Frame(FrameFault::OutOfMemory)
+                | Refusal::Schema(SchemaFault::OutOfMemory)
+                | Refusal::Write(WriteFault::OutOfMemory)
+        ),
+        ServeFault::Stream(StreamFault::Device) => false,
+    }
+}
+
+/// Serves a Desk and a Cell. `None` says that there is no memory for them.
+fn serve_both(
+    alloc: Global,
+    bytes: &[u8],
+    to: &mut Tap<Compared>,
+) -> Option<Result<(), ServeFault>> {
+    let desk: Box<dyn Servant> = Box::new(alloc, Desk::new(alloc)).ok()?;
+    let cell: Box<dyn Servant> = Box::new(alloc, Cell::new(alloc)).ok()?;
+    let mut objects = Vec::from_array(alloc, [desk, cell]).ok()?;
+    let served = serve(alloc, &mut Tap::new(bytes), to, &mut objects, Mode::Plain);
+    Some(served.map(|report| drop(report)))
+}
+
+/// All answers are written, or an allocation failed after a beginning of them.
+fn expect_whole_or_memory(rt: &impl Abort, alloc: Global, bytes: &[u8], answers: &[u8]) {
+    let mut to = Tap::new(Compared {
+        left: answers,
+        differs: false,
+    });
+    let ended = serve_both(alloc, bytes, &mut to);
+    assert!(rt; to.failures() == 0);
+    let Compared { left, differs } = to.into_inner();
+    assert!(rt; !differs);
+    match ended {
+        Some(Ok(())) => assert!(rt; left.is_empty()),
+        Some(Err(fault)) => assert!(rt; is_memory(fault)),
+        None => {}
+    }
+}
+
+// With ample memory no allocation fails. bench/memory/sweep.sh makes each fail in turn.
+#[test]
+fn want_of_memory_is_told(rt: HostRuntime) {
+    let alloc = rt.alloc();
+    let calls = [BOOTSTRAP.1, LATER.1, ADD_FIVE.1];
+    let (Some(bytes), Some(answers)) = (prepared(alloc, &calls), prepared(alloc, &[ANSWERS])) else {
+        return;
+    };
+    expect_whole_or_memory(&rt, alloc, &bytes, &answers);
+}

@@ -1,0 +1,122 @@
+//! Sessions over bytes in memory, and what they gave.
+
+use crate::frames::Frame;
+use cp_frame::{FrameReader, Mode};
+use cp_lines::push_line;
+use cp_serve::{Report, Servant, ServeFault, serve};
+use cp_stream::{Tap, view_of};
+use cp_words::Limits;
+use std::alloc::Global;
+use std::process::Abort;
+
+/// What was written, and how the session ended.
+pub type Served = (Vec<u8>, Result<Report, ServeFault>);
+
+/// The bytes of texts in hexadecimal. `None` says that there is no memory for them.
+pub fn prepared(alloc: Global, texts: &[&str]) -> Option<Vec<u8>> {
+    let mut digits = String::new(alloc);
+    for text in texts {
+        for part in text.split_whitespace() {
+            digits.push_str(part).ok()?;
+        }
+    }
+    hex::decode(alloc, digits.as_str()).ok()
+}
+
+/// The bytes of a text in hexadecimal.
+pub fn decoded(rt: &impl Abort, alloc: Global, text: &str) -> Vec<u8> {
+    prepared(alloc, &[text]).expect(rt, "hexadecimal")
+}
+
+/// The bytes of these frames.
+pub fn bytes_of(rt: &impl Abort, alloc: Global, frames: &[Frame]) -> Vec<u8> {
+    let mut bytes = Vec::new(alloc);
+    for (_, frame) in frames {
+        let more = decoded(rt, alloc, frame);
+        bytes.extend_from_slice(&more).expect(rt, "memory");
+    }
+    bytes
+}
+
+/// A value in a box.
+pub fn boxed<T: Drop>(rt: &impl Abort, alloc: Global, value: T) -> Box<T> {
+    Box::new(alloc, value).ok().expect(rt, "memory")
+}
+
+/// Two objects, 0 and 1.
+pub fn pair(
+    rt: &impl Abort,
+    alloc: Global,
+    first: Box<dyn Servant>,
+    second: Box<dyn Servant>,
+) -> Vec<Box<dyn Servant>> {
+    Vec::from_array(alloc, [first, second])
+        .ok()
+        .expect(rt, "memory")
+}
+
+/// Serves objects to a peer that sends these bytes.
+pub fn served(
+    alloc: Global,
+    mut objects: Vec<Box<dyn Servant>>,
+    bytes: &[u8],
+    mode: Mode,
+) -> Served {
+    let mut from = Tap::new(bytes);
+    let mut to = Tap::new(Vec::new(alloc));
+    let ended = serve(alloc, &mut from, &mut to, &mut objects, mode);
+    (to.into_inner(), ended)
+}
+
+/// The messages of a stream, as lines.
+fn lines_of(rt: &impl Abort, alloc: Global, bytes: &[u8], mode: Mode) -> String {
+    let limits = Limits::standard();
+    let mut reader = match mode {
+        Mode::Plain => FrameReader::plain(alloc, limits),
+        Mode::Packed => FrameReader::packed(alloc, limits),
+    };
+    let frames = reader.feed(bytes).ok().expect(rt, "frames");
+    assert!(rt; reader.finish().is_ok());
+    let mut lines = String::new(alloc);
+    for (_, segments) in &frames {
+        let view = view_of(segments, limits).ok().expect(rt, "a message");
+        push_line(alloc, &mut lines, &view)
+            .ok()
+            .expect(rt, "memory");
+    }
+    lines
+}
+
+/// The messages of a stream are these lines.
+pub fn expect_lines(rt: &impl Abort, alloc: Global, bytes: &[u8], mode: Mode, wanted: &str) {
+    let lines = lines_of(rt, alloc, bytes, mode);
+    if lines.as_str() != wanted {
+        panic!(rt; "it went so:\n{lines}");
+    }
+}
+
+/// So many messages were taken, and so many sent.
+pub fn expect_report(rt: &impl Abort, report: &Report, messages: usize, wanted: &str) {
+    assert!(rt; report.messages == messages as u64);
+    assert!(rt; report.sent == wanted.lines().count() as u64);
+}
+
+/// All frames are taken, these lines are sent, and the vat stays open.
+pub fn expect(
+    rt: &impl Abort,
+    alloc: Global,
+    objects: Vec<Box<dyn Servant>>,
+    frames: &[Frame],
+    wanted: &str,
+) {
+    let bytes = bytes_of(rt, alloc, frames);
+    let (written, ended) = served(alloc, objects, &bytes, Mode::Plain);
+    expect_lines(rt, alloc, &written, Mode::Plain, wanted);
+    match ended {
+        Ok(report) => {
+            expect_report(rt, &report, frames.len(), wanted);
+            assert!(rt; report.closed.is_none());
+        }
+        Err(fault) => panic!(rt; "{fault:?}"),
+    }
+}
