@@ -1,4 +1,4 @@
-//! The words of the command line.
+//! The command line.
 
 use clap::{Arg, ArgAction, ArgMatches, Command, value_parser};
 use cp_commands::Plan;
@@ -12,11 +12,27 @@ const MOST_NESTING: i64 = 256;
 const MOST_TRAVERSAL: i64 = 67_108_864;
 /// The greatest number of words in a segment.
 const MOST_WORDS: i64 = 8_388_608;
+/// The greatest port.
+const MOST_PORT: i64 = 65_535;
+
+/// The version of what users see.
+const VERSION: &str = "0.1.0";
+
+/// What is to be done.
+#[derive(Drop)]
+pub(crate) enum Task<'a> {
+    /// A command on this file.
+    OnFile { plan: Plan, path: &'a str },
+    /// This file's bytes are served.
+    Loop { mode: Mode, path: &'a str },
+    /// So many connections on a port are served.
+    Serve { mode: Mode, port: u16, count: u32 },
+}
 
 /// The file that a command reads.
 fn file<'a>(alloc: Global) -> Arg<'a> {
     Arg::new(alloc, "FILE")
-        .help("A file of frames, one after another")
+        .help("A file of frames, one after another; - is standard input")
         .required(true)
 }
 
@@ -107,20 +123,58 @@ fn recut<'a>(alloc: Global) -> Result<Command<'a>, AllocError> {
         .arg(file(alloc))
 }
 
+/// The words of `loop`.
+fn looped<'a>(alloc: Global) -> Result<Command<'a>, AllocError> {
+    Command::new(alloc, "loop")
+        .about("Serve the messages of FILE over a connection, and print each answer as a line")
+        .after_help("Example: capnp_cli loop calls.bin")
+        .arg(packed(alloc))?
+        .arg(file(alloc))
+}
+
+/// The port that is served.
+fn port<'a>(alloc: Global) -> Arg<'a> {
+    Arg::new(alloc, "PORT")
+        .help("A port of 127.0.0.1")
+        .required(true)
+        .value_parser(value_parser!(u16).range(1..=MOST_PORT))
+}
+
+/// The number of connections.
+fn count<'a>(alloc: Global) -> Arg<'a> {
+    Arg::new(alloc, "COUNT")
+        .help("The number of connections, one after the other")
+        .required(true)
+        .value_parser(value_parser!(u32))
+}
+
+/// The words of `serve`.
+fn serve<'a>(alloc: Global) -> Result<Command<'a>, AllocError> {
+    Command::new(alloc, "serve")
+        .about("Serve a Desk and a Cell to each of COUNT connections on PORT")
+        .after_help("Example: capnp_cli serve 7000 1")
+        .arg(packed(alloc))?
+        .arg(port(alloc))?
+        .arg(count(alloc))
+}
+
 /// What `capnp_cli` understands.
 pub(crate) fn command<'a>(alloc: Global) -> Result<Command<'a>, AllocError> {
     Command::new(alloc, "capnp_cli")
         .about("Cap'n Proto messages and two-party RPC")
+        .version(VERSION)
         .after_help(
-            "Status: 0 where all was accepted; 1 where something was refused, with a line that says \
-             where and why on standard error; 2 for wrong words or a device that failed.",
+            "Exit status: 0 if everything was accepted; 1 if something was refused, and standard error \
+             says where and why; 2 if the command line is wrong, or if a file or a connection failed.",
         )
         .subcommand_required(true)
         .subcommand(show(alloc)?)?
         .subcommand(check(alloc)?)?
         .subcommand(pack(alloc)?)?
         .subcommand(unpack(alloc)?)?
-        .subcommand(recut(alloc)?)
+        .subcommand(recut(alloc)?)?
+        .subcommand(looped(alloc)?)?
+        .subcommand(serve(alloc)?)
 }
 
 /// The limits that the words ask for. A frame may have 8,388,608 words, or as many as may be gone
@@ -146,25 +200,45 @@ fn mode(matches: &ArgMatches) -> Mode {
     }
 }
 
-/// What is to be done, and the file that it is done with.
-pub(crate) fn plan<'a>(matches: &ArgMatches<'a>) -> Option<(Plan, &'a str)> {
-    let (name, inner) = matches.subcommand()?;
+/// The command on a file that the words ask for.
+fn plan(name: &str, matches: &ArgMatches) -> Option<Plan> {
     let plan = match name {
         "show" => Plan::Show {
-            mode: mode(inner),
-            limits: limits(inner)?,
+            mode: mode(matches),
+            limits: limits(matches)?,
         },
         "check" => Plan::Check {
-            mode: mode(inner),
-            limits: limits(inner)?,
+            mode: mode(matches),
+            limits: limits(matches)?,
         },
         "pack" => Plan::Pack,
         "unpack" => Plan::Unpack,
         "recut" => Plan::Recut {
-            mode: mode(inner),
-            words: inner.get_one::<u32>("words")?,
+            mode: mode(matches),
+            words: matches.get_one::<u32>("words")?,
         },
         _ => return None,
     };
-    Some((plan, inner.get_str("FILE")?))
+    Some(plan)
+}
+
+/// What the words ask for.
+pub(crate) fn task_of<'a>(matches: &ArgMatches<'a>) -> Option<Task<'a>> {
+    let (name, inner) = matches.subcommand()?;
+    let task = match name {
+        "loop" => Task::Loop {
+            mode: mode(inner),
+            path: inner.get_str("FILE")?,
+        },
+        "serve" => Task::Serve {
+            mode: mode(inner),
+            port: inner.get_one::<u16>("PORT")?,
+            count: inner.get_one::<u32>("COUNT")?,
+        },
+        name => Task::OnFile {
+            plan: plan(name, inner)?,
+            path: inner.get_str("FILE")?,
+        },
+    };
+    Some(task)
 }

@@ -1,40 +1,94 @@
-//! `capnp_cli`: shows the messages of Cap'n Proto streams.
+//! `capnp_cli`: shows the messages of Cap'n Proto streams, and serves connections.
 #![tactic(auto)]
 
 mod command;
 
-use cp_commands::act;
+use command::Task;
+use cp_commands::{BROKEN, LONGEST_LOOP, Plan, act, loop_bytes, serve_port};
+use cp_frame::Mode;
 use std::env;
 use std::fs::File;
-use std::io::{self, BufWriter, Write};
+use std::io::{self, BufWriter, Read, Write};
 use std::process::ExitCode;
 
-/// A usage fault, or a device that failed.
-const BROKEN: u8 = 2;
+/// The bytes that are kept before they are written.
+const BUFFER: usize = 65_536;
 
-/// How many bytes are kept before they are written.
-const ROOM: usize = 65_536;
+/// The FILE that stands for standard input.
+const STDIN: &str = "-";
 
-fn main(rt: HostRuntime) -> anyhow::Result<ExitCode> {
+/// Does a command on what a device gives.
+fn on_reader<R: Read + Drop>(rt: &HostRuntime, plan: &Plan, mut from: R) -> io::Result<u8> {
+    let mut out = BufWriter::with_capacity(rt.alloc(), BUFFER, io::writer(rt))?;
+    let mut err = rt.stderr();
+    Ok(act(rt.alloc(), plan, &mut from, &mut out, &mut err))
+}
+
+/// Does a command on a file.
+fn on_file(rt: &HostRuntime, plan: &Plan, path: &str) -> io::Result<u8> {
+    if path == STDIN {
+        return on_reader(rt, plan, rt.stdin());
+    }
+    on_reader(rt, plan, File::open(rt, path)?)
+}
+
+/// The bytes of a file, of which no more are read than show that they are too long.
+fn bytes_to_loop(rt: &HostRuntime, path: &str) -> io::Result<Vec<u8>> {
+    let mut bytes = Vec::new(rt.alloc());
+    let most = LONGEST_LOOP as u64 + 1;
+    if path == STDIN {
+        rt.stdin().take(most).read_to_end(&mut bytes)?;
+    } else {
+        File::open(rt, path)?.take(most).read_to_end(&mut bytes)?;
+    }
+    Ok(bytes)
+}
+
+/// Serves the bytes of a file.
+fn on_loop(rt: &HostRuntime, mode: Mode, path: &str) -> io::Result<u8> {
+    let bytes = bytes_to_loop(rt, path)?;
+    let mut out = BufWriter::with_capacity(rt.alloc(), BUFFER, io::writer(rt))?;
+    let mut err = rt.stderr();
+    Ok(loop_bytes(rt, &bytes, mode, &mut out, &mut err))
+}
+
+/// The status after a device failed, which a line says.
+fn failed(rt: &HostRuntime, device: &str, error: io::Error) -> u8 {
+    let _ = eprintln!(rt; "device: {device}: {error}");
+    BROKEN
+}
+
+/// Does what the command line asks for.
+fn act_on(rt: &HostRuntime, task: &Task) -> u8 {
+    match task {
+        Task::OnFile { plan, path } => {
+            on_file(rt, plan, path).unwrap_or_else(|error| failed(rt, path, error))
+        }
+        Task::Loop { mode, path } => {
+            on_loop(rt, *mode, path).unwrap_or_else(|error| failed(rt, path, error))
+        }
+        Task::Serve { mode, port, count } => serve_port(rt, *port, *count, *mode, &mut rt.stderr()),
+    }
+}
+
+/// Reads the command line, and does what it asks for.
+fn run(rt: &HostRuntime) -> io::Result<u8> {
     let alloc = rt.alloc();
-    let words: Vec<String> = env::args(&rt)?.collect(alloc)?;
+    let words: Vec<String> = env::args(rt)?.collect(alloc)?;
     let matches = match command::command(alloc)?.try_get_matches_from(words.as_slice()) {
         Ok(matches) => matches,
         Err(error) => {
-            error.print(&rt)?;
-            return Ok(ExitCode::from(error.exit_code() as u8));
+            error.print(rt)?;
+            return Ok(error.exit_code() as u8);
         }
     };
-    let Some((plan, path)) = command::plan(&matches) else {
-        return Ok(ExitCode::from(BROKEN));
+    let Some(task) = command::task_of(&matches) else {
+        return Ok(BROKEN);
     };
-    let Ok(file) = File::open(&rt, path) else {
-        eprintln!(rt; "device")?;
-        return Ok(ExitCode::from(BROKEN));
-    };
-    let mut from = file;
-    let mut out = BufWriter::with_capacity(alloc, ROOM, io::writer(&rt))?;
-    let mut err = rt.stderr();
-    let status = act(alloc, &plan, &mut from, &mut out, &mut err);
-    Ok(ExitCode::from(status))
+    Ok(act_on(rt, &task))
+}
+
+fn main(rt: HostRuntime) -> ExitCode {
+    let status = run(&rt).unwrap_or_else(|error| failed(&rt, "command line", error));
+    ExitCode::from(status)
 }

@@ -1,13 +1,15 @@
 //! What stops a command.
 
+use crate::status::{BROKEN, REFUSED};
 use cp_frame::FrameFault;
 use cp_reading::TreeFault;
 use cp_rpc::{Field, SchemaFault};
+use cp_serve::ServeFault;
 use cp_stream::{Refusal, StreamFault};
 use cp_tree::WriteFault;
 use cp_words::Place;
 use std::alloc::{AllocError, AllocFailed};
-use std::io;
+use std::io::{self, ErrorKind};
 use thiserror::Error;
 
 /// A fault, as it is printed: its number, its name, and where it was met.
@@ -50,13 +52,29 @@ pub enum Fault {
 pub enum Stop {
     /// Input was refused.
     Refused(Fault),
-    /// A reader or a writer failed.
+    /// The reader failed.
+    Reading(io::Error),
+    /// The writer failed.
+    Writing(io::Error),
+}
+
+/// Why a connection wasn't served to its end, as it is printed.
+#[derive(Debug, Drop, Error)]
+pub enum Unserved {
+    /// A message was refused, behind the bytes of those that were taken.
+    #[error("refused at byte {0}: {1}")]
+    Refused(u64, Fault),
+    /// Memory ran out for the calls.
+    #[error("refused: V10 OutOfMemory")]
+    OutOfMemory,
+    /// The connection failed.
+    #[error("device")]
     Device,
 }
 
 impl From<io::Error> for Stop {
-    fn from(_: io::Error) -> Stop {
-        Stop::Device
+    fn from(error: io::Error) -> Stop {
+        Stop::Writing(error)
     }
 }
 
@@ -76,7 +94,7 @@ impl From<StreamFault> for Stop {
     fn from(fault: StreamFault) -> Stop {
         match fault {
             StreamFault::Refused { refusal, .. } => Stop::Refused(Fault::from(refusal)),
-            StreamFault::Device => Stop::Device,
+            StreamFault::Device => Stop::Reading(io::Error::from(ErrorKind::Other)),
         }
     }
 }
@@ -96,6 +114,46 @@ impl From<TreeFault> for Stop {
 impl From<WriteFault> for Stop {
     fn from(fault: WriteFault) -> Stop {
         Stop::Refused(Fault::from(fault))
+    }
+}
+
+impl Unserved {
+    /// The status that a command ends with.
+    pub(crate) fn status(&self) -> u8 {
+        match self {
+            Unserved::Refused(..) | Unserved::OutOfMemory => REFUSED,
+            Unserved::Device => BROKEN,
+        }
+    }
+}
+
+impl From<io::Error> for Unserved {
+    fn from(_: io::Error) -> Unserved {
+        Unserved::Device
+    }
+}
+
+impl From<AllocError> for Unserved {
+    fn from(_: AllocError) -> Unserved {
+        Unserved::OutOfMemory
+    }
+}
+
+impl<T: Drop> From<AllocFailed<T>> for Unserved {
+    fn from(_: AllocFailed<T>) -> Unserved {
+        Unserved::OutOfMemory
+    }
+}
+
+impl From<ServeFault> for Unserved {
+    fn from(fault: ServeFault) -> Unserved {
+        match fault {
+            ServeFault::Stream(StreamFault::Refused { at, refusal }) => {
+                Unserved::Refused(at, Fault::from(refusal))
+            }
+            ServeFault::Stream(StreamFault::Device) => Unserved::Device,
+            ServeFault::OutOfMemory => Unserved::OutOfMemory,
+        }
     }
 }
 

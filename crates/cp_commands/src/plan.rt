@@ -1,6 +1,7 @@
 //! What the commands do, over a reader and two writers.
 
 use crate::fault::Stop;
+use crate::status::{ACCEPTED, BROKEN, REFUSED};
 use cp_frame::{FrameReader, Mode, send_frame};
 use cp_lines::push_line;
 use cp_reading::read_root;
@@ -8,7 +9,7 @@ use cp_stream::{check_of, view_of};
 use cp_words::{Limits, Segments};
 use cp_writing::write_segments;
 use std::alloc::Global;
-use std::io::{ErrorKind, Read, Write};
+use std::io::{self, ErrorKind, Read, Write};
 
 /// A command, apart from the file that it reads.
 #[derive(Clone, Copy)]
@@ -24,13 +25,6 @@ pub enum Plan {
     /// Each frame's tree in segments of at most so many words, in the same form.
     Recut { mode: Mode, words: u32 },
 }
-
-/// Accepted.
-const ACCEPTED: u8 = 0;
-/// Refused, with a line that says where and why.
-const REFUSED: u8 = 1;
-/// A usage fault, or a device that failed.
-const BROKEN: u8 = 2;
 
 /// How many bytes are asked for at once: at first and behind a frame, and behind a piece that ended no
 /// frame half as many more.
@@ -172,7 +166,7 @@ impl Plan {
                 Ok(0) => return Ok(reader.finish()?),
                 Ok(length) => length,
                 Err(error) if error.kind() == ErrorKind::Interrupted => continue,
-                Err(_) => return Err(Stop::Device),
+                Err(error) => return Err(Stop::Reading(error)),
             };
             let ended = self.take_piece(
                 alloc,
@@ -184,7 +178,7 @@ impl Plan {
             )?;
             most = if ended { PIECE } else { asked + PIECE / 2 };
         }
-        Err(Stop::Device)
+        Err(Stop::Reading(io::Error::from(ErrorKind::Other)))
     }
 
     /// Ends a command that accepted all frames.
@@ -213,8 +207,8 @@ pub fn act<R: Read, W: Write, E: Write>(
     let mut done = plan.run(alloc, from, out, &mut progress);
     if done.is_ok() {
         done = plan.end(out, &progress);
-    } else if out.flush().is_err() {
-        done = Err(Stop::Device);
+    } else if let Err(error) = out.flush() {
+        done = Err(Stop::Writing(error));
     }
     match done {
         Ok(()) => ACCEPTED,
@@ -222,8 +216,12 @@ pub fn act<R: Read, W: Write, E: Write>(
             let _ = writeln!(err, "refused at byte {}: {fault}", progress.bytes);
             REFUSED
         }
-        Err(Stop::Device) => {
-            let _ = writeln!(err, "device");
+        Err(Stop::Reading(error)) => {
+            let _ = writeln!(err, "device: can't read: {error}");
+            BROKEN
+        }
+        Err(Stop::Writing(error)) => {
+            let _ = writeln!(err, "device: can't write: {error}");
             BROKEN
         }
     }

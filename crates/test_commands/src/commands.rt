@@ -673,7 +673,7 @@ fn a_device_may_fail(rt: HostRuntime) {
     let (mut out, mut err) = (Vec::new(alloc), Vec::new(alloc));
     let status = act(alloc, &show(Mode::Plain), &mut Broken, &mut out, &mut err);
     expect_status(&rt, status, 2);
-    assert!(rt; err.as_slice() == b"device\n".as_slice());
+    assert!(rt; err.as_slice() == b"device: can't read: other error\n".as_slice());
     drop(out);
     drop(err);
 }

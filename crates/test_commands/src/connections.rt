@@ -1,0 +1,189 @@
+//! Connections that are served.
+
+use cp_commands::{LONGEST_LOOP, Plan, act, loop_bytes, serve_connections, serve_port};
+use cp_frame::Mode;
+use cp_words::Limits;
+use std::alloc::Global;
+use std::io::{Read, Write};
+use std::net::{Ipv4Addr, Net, Shutdown, SocketAddr, TcpListener, TcpStream};
+use std::process::Abort;
+
+/// A bootstrap.
+const BOOTSTRAP: &str = "\
+    0000000005000000 0000000001000100 0800000000000000 0000000001000100 0000000000000000 \
+    0000000000000000";
+
+/// What the reference library makes of a call of the Desk that is answered later, and of a call of the Cell
+/// that it will give.
+const CALLS: &str = "\
+    000000000f000000 0000000001000100 0200000000000000 0000000003000300 0100000001000000 \
+    010000000000a1e5 0000000000000000 0800000001000100 1400000000000200 0000000000000000 \
+    0000000001000000 0000000001000100 0000000000000000 0000000000000000 fcffffff00000000 \
+    0000000000000000 \
+    0000000012000000 0000000001000100 0200000000000000 0000000003000300 0200000000000000 \
+    020000000000a1e5 0000000000000000 0800000001000100 1c00000000000200 0000000000000000 \
+    0000000001000000 0000000001000100 0100000000000000 010000000f000000 0400000001000000 \
+    0100000000000000 0400000001000000 0000000000000000 0500000000000000";
+
+/// The bootstrap and these calls, packed.
+const PACKED: &str = "\
+    100550010101085001010001 100f5001010102500303110101c101a1e50000510801014114020000100150010100010f\
+    fcffffff0000 101250010101025003030102c102a1e5000051080101411c0200001001500101010111010f1104010101\
+    11040100000105";
+
+/// What is sent for the bootstrap.
+const FIRST_ANSWER: &str = "\
+return a=0 releaseParamCaps=false results {cap:0 caps[senderHosted:0]}
+";
+
+/// What is sent for the bootstrap and the calls.
+const ANSWERS: &str = "\
+return a=0 releaseParamCaps=false results {cap:0 caps[senderHosted:0]}
+return a=1 releaseParamCaps=false results {(;cap:0) caps[senderHosted:1]}
+return a=2 releaseParamCaps=false results {(0500000000000000;) caps[]}
+";
+
+/// The bytes of texts in hexadecimal.
+fn bytes_of(rt: &impl Abort, alloc: Global, texts: &[&str]) -> Vec<u8> {
+    let mut joined = String::new(alloc);
+    for text in texts {
+        for part in text.split_whitespace() {
+            joined.push_str(part).expect(rt, "memory");
+        }
+    }
+    hex::decode(alloc, joined.as_str()).expect(rt, "hexadecimal")
+}
+
+/// The text is the wanted one.
+fn expect_text(rt: &impl Abort, text: Vec<u8>, wanted: &str) {
+    let text = String::from_utf8(text).expect(rt, "UTF-8");
+    if text.as_str() != wanted {
+        panic!(rt; "{text}");
+    }
+}
+
+/// What `loop_bytes` writes, says and ends with.
+fn expect_loop<R>(rt: &R, bytes: &[u8], mode: Mode, wanted: (&str, &str, u8))
+where
+    R: Net<Listener = TcpListener, Stream = TcpStream> + AllocGlobal + Abort,
+{
+    let (mut out, mut err) = (Vec::new(rt.alloc()), Vec::new(rt.alloc()));
+    let status = loop_bytes(rt, bytes, mode, &mut out, &mut err);
+    let (lines, said, ends) = wanted;
+    expect_text(rt, out, lines);
+    expect_text(rt, err, said);
+    assert!(rt; status == ends);
+}
+
+#[test]
+fn calls_are_answered(rt: HostRuntime) {
+    let alloc = rt.alloc();
+    let plain = bytes_of(&rt, alloc, &[BOOTSTRAP, CALLS]);
+    expect_loop(&rt, &plain, Mode::Plain, (ANSWERS, "", 0));
+    let packed = bytes_of(&rt, alloc, &[PACKED]);
+    expect_loop(&rt, &packed, Mode::Packed, (ANSWERS, "", 0));
+    expect_loop(&rt, &[], Mode::Plain, ("", "", 0));
+    // What was answered is shown after a fault, too.
+    let cut = bytes_of(&rt, alloc, &[BOOTSTRAP, "000000"]);
+    let said = "refused at byte 48: F3 Truncated\n";
+    expect_loop(&rt, &cut, Mode::Plain, (FIRST_ANSWER, said, 1));
+}
+
+#[test]
+fn a_loop_has_a_longest(rt: HostRuntime) {
+    let mut bytes = vec![in rt.alloc(); 0u8; LONGEST_LOOP].expect(&rt, "memory");
+    let said = "refused at byte 0: G1 NoRoot segment 0 word 0\n";
+    expect_loop(&rt, &bytes, Mode::Plain, ("", said, 1));
+    bytes.push(0).expect(&rt, "memory");
+    expect_loop(&rt, &bytes, Mode::Plain, ("", "too long\n", 2));
+}
+
+/// The bytes of bootstraps, whose questions are 0 and those that follow.
+fn bootstraps(rt: &impl Abort, alloc: Global, count: u8) -> Vec<u8> {
+    let mut bytes = Vec::new(alloc);
+    for question in 0..count {
+        let mut frame = bytes_of(rt, alloc, &[BOOTSTRAP]);
+        assert!(rt; frame.len() == 48);
+        frame[32] = question;
+        bytes.extend_from_slice(&frame).expect(rt, "memory");
+    }
+    bytes
+}
+
+// An answer has 96 bytes, so 170 of them are taken.
+#[test]
+fn answers_have_a_longest(rt: HostRuntime) {
+    let alloc = rt.alloc();
+    let bytes = bootstraps(&rt, alloc, 200);
+    let (mut out, mut err) = (Vec::new(alloc), Vec::new(alloc));
+    assert!(rt; loop_bytes(&rt, &bytes, Mode::Plain, &mut out, &mut err) == 2);
+    expect_text(&rt, err, "device\n");
+    let lines = String::from_utf8(out).expect(&rt, "UTF-8");
+    assert!(rt; lines.lines().count() == 170);
+}
+
+/// A port of 127.0.0.1, and its number.
+fn bound<R>(rt: &R) -> (TcpListener, u16)
+where
+    R: Net<Listener = TcpListener, Stream = TcpStream> + Abort,
+{
+    let address = SocketAddr::from((Ipv4Addr::LOCALHOST, 0));
+    let listener = TcpListener::bind(rt, address).expect(rt, "a port");
+    let port = listener.local_addr().expect(rt, "an address").port();
+    (listener, port)
+}
+
+#[test]
+fn a_port_may_be_taken(rt: HostRuntime) {
+    let (listener, port) = bound(&rt);
+    let mut err = Vec::new(rt.alloc());
+    assert!(rt; serve_port(&rt, port, 0, Mode::Plain, &mut err) == 2);
+    assert!(rt; err.starts_with(b"device: 127.0.0.1:"));
+    drop(listener);
+    err.clear();
+    assert!(rt; serve_port(&rt, port, 0, Mode::Plain, &mut err) == 0);
+    assert!(rt; err.is_empty());
+}
+
+/// A client that has sent these bytes, and sends no more.
+fn client<R>(rt: &R, port: u16, texts: &[&str]) -> TcpStream
+where
+    R: Net<Listener = TcpListener, Stream = TcpStream> + AllocGlobal + Abort,
+{
+    let address = SocketAddr::from((Ipv4Addr::LOCALHOST, port));
+    let mut stream = TcpStream::connect(rt, address).expect(rt, "a connection");
+    let bytes = bytes_of(rt, rt.alloc(), texts);
+    stream.write_all(&bytes).expect(rt, "a write");
+    stream.shutdown(Shutdown::Write).expect(rt, "an end");
+    stream
+}
+
+/// A client gets the messages of these lines.
+fn expect_answers(rt: &impl Abort, alloc: Global, mut stream: TcpStream, wanted: &str) {
+    let (mode, limits) = (Mode::Plain, Limits::standard());
+    let (mut out, mut err) = (Vec::new(alloc), Vec::new(alloc));
+    let show = Plan::Show { mode, limits };
+    let status = act(alloc, &show, &mut stream, &mut out, &mut err);
+    assert!(rt; status == 0);
+    expect_text(rt, out, wanted);
+    drop(err);
+}
+
+// Each connection has a Desk and a Cell of its own, also after a fault.
+#[test]
+fn connections_are_served_in_turn(rt: HostRuntime) {
+    let alloc = rt.alloc();
+    let (listener, port) = bound(&rt);
+    let first = client(&rt, port, &[BOOTSTRAP, CALLS]);
+    let cut = client(&rt, port, &[BOOTSTRAP, "000000"]);
+    let last = client(&rt, port, &[BOOTSTRAP, CALLS]);
+    let peer = cut.local_addr().expect(&rt, "an address");
+    let mut err = Vec::new(alloc);
+    let status = serve_connections(alloc, &listener, 3, Mode::Plain, &mut err);
+    assert!(rt; status == 1);
+    let said = format!(in alloc; "refused at byte 48: F3 Truncated (peer {peer})\n");
+    expect_text(&rt, err, said.expect(&rt, "memory").as_str());
+    expect_answers(&rt, alloc, first, ANSWERS);
+    expect_answers(&rt, alloc, cut, FIRST_ANSWER);
+    expect_answers(&rt, alloc, last, ANSWERS);
+}
