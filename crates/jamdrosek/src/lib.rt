@@ -62,12 +62,23 @@
 //! let called = client.call(object, request).map_err(refused)?;
 //! ```
 //!
+//! # Serve objects
+//!
+//! `serve` takes a connection's reader and writer, and the objects that its peer may call. An object of your own
+//! implements `Servant`. The program example_serve has one, and is this:
+//!
+//! ```
+//! let mut objects: Vec<Box<dyn Servant>> = Vec::new(alloc);
+//! objects.push(Box::new(alloc, Doubler { alloc })?)?;
+//! let served = serve(alloc, &mut from, &mut to, &mut objects, Mode::Plain);
+//! ```
+//!
 //! # The layers
 //!
 //! ```text
-//! words ── tree ─┬─ reading ── message ─┬─ vat
-//!                └─ writing ────────────┤
-//! packed ── frame ──────────────────────┴─ stream
+//! words ── tree ─┬─ reading ── message ─┬─ vat ────┬─ server
+//!                └─ writing ────────────┤          │
+//! packed ── frame ──────────────────────┴─ stream ─┘
 //! ```
 //!
 //! - `words`: pointer words, segments and limits.
@@ -77,14 +88,16 @@
 //! - `message`: the messages of rpc.capnp, owned or read in place.
 //! - `stream`: messages read from and written to streams.
 //! - `vat`: one end of a connection, with the capabilities, events and effects that it takes and gives.
+//! - `server`: objects served to the peer of one connection.
 //!
-//! Each module but `vat` is one crate, whole: `words` is cp_words, `message` is cp_rpc, and any other has its
+//! Each module but `vat` and `server` is one crate, whole: `words` is cp_words, `message` is cp_rpc, and any other has its
 //! crate's name. The names that most programs need stand here too. `docs/PROVED.md` says what is proved of each.
 //!
 //! A program needs no other crate of these in crates.txt. A contract that cites a definition of one, as
 //! `Rattle.cp_stream.specs.Stream`, needs that crate listed as well.
 #![tactic(auto)]
 
+pub mod server;
 pub mod vat;
 
 pub use cp_frame as frame;

@@ -1,0 +1,48 @@
+//! Serves an object of its own to a client whose messages are in a file, and writes its answers.
+#![tactic(auto)]
+
+use anyhow::anyhow;
+use jamdrosek::server::{Caps, Ids, Outcome, Reply, Request, Servant, Settled, serve};
+use jamdrosek::tree::{Body, Tree, Whole};
+use jamdrosek::{Mode, Tap};
+use std::alloc::{AllocError, Global};
+use std::fs::File;
+use std::io;
+
+/// Answers each call with twice the number that it is asked with.
+#[derive(Drop)]
+struct Doubler {
+    alloc: Global,
+}
+
+impl Servant for Doubler {
+    fn call(&mut self, _ticket: u64, request: Request) -> Result<Reply, AllocError> {
+        let number = request.content.tree().data().first().copied().unwrap_or(0);
+        let body = Body {
+            words: vec![in self.alloc; number.saturating_mul(2)]?,
+            ptrs: Vec::new(self.alloc),
+        };
+        Ok(Reply::Now {
+            outcome: Outcome::Results {
+                content: Whole::new(Tree::Struct(body)).unwrap_or(Whole::null()),
+                caps: Caps::new(Vec::new(self.alloc)),
+            },
+            gives_up: Ids::new(Vec::new(self.alloc)),
+        })
+    }
+
+    fn poll(&mut self) -> Result<Option<Settled>, AllocError> {
+        Ok(None)
+    }
+}
+
+fn main(rt: HostRuntime) -> anyhow::Result<()> {
+    let alloc = rt.alloc();
+    let mut objects: Vec<Box<dyn Servant>> = Vec::new(alloc);
+    objects.push(Box::new(alloc, Doubler { alloc })?)?;
+    let mut from = Tap::new(File::open(&rt, "client.bin")?);
+    let mut to = Tap::new(io::writer(&rt));
+    let served = serve(alloc, &mut from, &mut to, &mut objects, Mode::Plain);
+    served.map_err(|fault| anyhow!("{fault:?}"))?;
+    Ok(())
+}

@@ -1,0 +1,20 @@
+//! A server on one connection (cp_serve), and what its objects take and give.
+//!
+//! `serve` reads a peer's messages, calls your objects, and writes what they answer. An object is a
+//! `Servant`: `call` takes a call under its ticket, and answers it by `Now`, or by `Later`; `poll` settles
+//! one of those, by its ticket. Each object is polled once after each message, and where the messages end
+//! until a round of polls settles nothing.
+//!
+//! Object 0 of the list is what a bootstrap gives. A result that has `Cap::Object(k)` in its table gives object
+//! k. `Cap::Import(i)` in a call's table is an object of the peer's: an answer may pass it on, and names
+//! it in `gives_up` once your object doesn't need it any more. It is released when nothing else uses it.
+//!
+//! `Report` says how many messages were taken and sent, and why the vat closed, if it did. A `ServeFault`
+//! ends the serving: the messages can't be read on (the faults of `StreamFault`), or memory ran out.
+//! Nothing is written after it.
+//!
+//! The reader and the writer may be the two ends of a `TcpStream`, `&stream` twice, or bytes in memory.
+
+pub use cp_machine::{Ids, PeerFault, Reason};
+pub use cp_refs::{Cap, Caps, Outcome, Request};
+pub use cp_serve::{Cell, Desk, Reply, Report, Script, Servant, ServeFault, Settled, serve};
