@@ -1,0 +1,61 @@
+#!/usr/bin/env bash
+# run.sh SERVER BUILD [COUNT]    sessions of a C++ client with `SERVER serve`, plain, and packed through a relay; then COUNT
+#                                sessions (10,000 by default) with one server, whose memory may not grow
+set -eu
+server=$1 build=$2 count=${3:-10000}
+port=17101 relayed=17102
+here=$(cd "$(dirname "${BASH_SOURCE[0]}")" && pwd)
+make -s -C "$here" BUILD="$build"
+
+listens() { grep -q ":$(printf %04X "$1") 00000000:0000 0A" /proc/net/tcp; } # PORT
+
+begin() { # PORT COMMAND..    runs it as $pid, and waits until it listens on the port
+    local port=$1 pause
+    shift
+    "$@" & pid=$!
+    for pause in $(seq 100); do
+        ! listens "$port" || return 0
+        sleep 0.05
+    done
+    echo "nothing listens on port $port" >&2
+    exit 1
+}
+
+memory() { awk '/^VmRSS:/ { print $2 }' "/proc/$1/status"; } # PID
+
+for kind in first second abort; do
+    begin "$port" "$server" serve "$port" 1
+    "$build/client" "$port" "$kind" 1
+    wait "$pid"
+    begin "$port" "$server" serve --packed "$port" 1
+    packed=$pid
+    begin "$relayed" "$build/relay" "$relayed" "$port" 1
+    "$build/client" "$relayed" "$kind" 1
+    wait "$pid"
+    wait "$packed"
+    echo "$kind: plain and packed"
+done
+
+begin "$port" "$server" serve "$port" 2 2>"$build/said"
+"$build/client" "$port" reset 1
+"$build/client" "$port" first 1
+status=0
+wait "$pid" || status=$?
+cat "$build/said"
+[ "$status" = 2 ] && grep -q '^device.* (peer 127\.0\.0\.1:[0-9]*)$' "$build/said"
+echo "reset: status 2, and the next connection is served"
+
+begin "$port" "$server" serve "$port" "$((count / 10 * 10 + 1))"
+part=$((count / 10))
+for turn in $(seq 10); do
+    "$build/client" "$port" many "$part"
+    now=$(memory "$pid")
+    first=${first:-$now}
+    echo "$((turn * part)) sessions: $now kB"
+done
+"$build/client" "$port" first 1
+wait "$pid"
+if [ "$now" -gt "$((first + 64))" ]; then
+    echo "its memory grew" >&2
+    exit 1
+fi
