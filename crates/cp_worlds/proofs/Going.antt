@@ -200,7 +200,7 @@ abbrev pub LeftAs : State → List Effect → Result State PeerFault → Type 0
 LeftAs old all (Ok last) = Goes old all last
 LeftAs old all (Err fault) = Unit {0}
 
-turn_goes : (old mid : State) (call : Held) (cap : Cap) (first : List Effect) → IsOrderly old → IsNext old call cap
+pub turn_goes : (old mid : State) (call : Held) (cap : Cap) (first : List Effect) → IsOrderly old → IsNext old call cap
     → GoTo (without_call old call) (underway call) cap (Ok (first, mid)) → Goes old first mid
 turn_goes old mid call cap first orderly next goes =
     let one = goto_goes (without_call old call) (underway call) cap (first, mid) (left_orderly old call orderly) (may_leave old call cap call.origin orderly next refl) goes in

@@ -1,18 +1,17 @@
 -- What holds of new vats.
-use Rattle.std.specs.Prelude.{◌≡◌, refl, ℕ, Bool, true, false, List, [], ◌∷◌, ◌++◌, length, Option}
+use Rattle.std.specs.Prelude.{◌≡◌, refl, ℕ, [], Option}
 use Rattle.std.specs.Ordering.{nat_cmp}
 use Rattle.std.specs.FinMap.{empty, get-empty}
-use Rattle.std.proofs.Common.{inl, inr, arith, ap, sym, ◌∙◌, length-append, true≢false}
+use Rattle.std.proofs.Common.{inr, sym, ◌∙◌}
+use Rattle.cp_tables.specs.declared.counted.Counted.{Counted}
 use Rattle.cp_tables.specs.declared.exchange.Exchange.{Exchange}
-use Rattle.cp_rpc.specs.declared.message.Message.{Message}
 use Rattle.cp_refs.specs.declared.cap.Cap.{Cap}
 use Rattle.cp_refs.specs.declared.call.Held.{Held}
 use Rattle.cp_refs.specs.declared.call.Origin.{Origin}
 use Rattle.cp_refs.specs.declared.call.Origin.TheVariants as origins
 use Rattle.cp_refs.specs.declared.values.Question.{Question}
 use Rattle.cp_machine.specs.State.{new_state}
-use Rattle.cp_machine.specs.Calling.{plain, on_wire, came_to, reference_of, mark_of}
-use Rattle.cp_machine.specs.Calling as calling
+use Rattle.cp_machine.specs.Calling.{plain, reference_of}
 use Rattle.cp_machine.specs.Waits.{WaitRightly}
 use Rattle.cp_machine.specs.declared.entry.AnswerEntry.{AnswerEntry}
 use Rattle.cp_machine.specs.declared.entry.QuestionEntry.{QuestionEntry}
@@ -20,56 +19,34 @@ use Rattle.cp_machine.proofs.NewVats.{no_entries}
 use Rattle.cp_machine.proofs.Basics.{none_out}
 use Rattle.cp_worlds.specs.World.{new_end}
 use Rattle.cp_worlds.specs.Lane.{Reference, import_, path_to, cap_of}
-use Rattle.cp_worlds.specs.Naming.{EachOnWay, NamesHold, AreLooped, ValuesHold}
-use Rattle.cp_worlds.specs.Phases.{LaneHolds, IsWhole, absent, IsQuiet}
+use Rattle.cp_worlds.specs.Naming.{AreLooped}
+use Rattle.cp_worlds.specs.Phases.{LaneHolds, IsWhole, IsAbsent, absent, IsQuiet}
 use Rattle.cp_worlds.specs.Tickets.{BearsTicket, TicketsHold}
 
 pub new_waiting : (one : Option ℕ) → WaitRightly (new_state one) empty
 new_waiting one ticket = rw (get-empty {X = Held} nat_cmp ticket) tt
 
-nothing_in : (before behind : List Message) (m : Message) → [] ≡ before ++ m ∷ behind → ⊥
-nothing_in before behind m is = omega (arith, ap length is, length-append before (m ∷ behind))
-
-none_on_way : (P : List Message → Message → List Message → Type 0) → EachOnWay [] P
-none_on_way P before behind m is = absurd (nothing_in before behind m is)
-
-new_looped : (one other : Option ℕ) → AreLooped (new_state one) [] []
+pub new_looped : (one other : Option ℕ) → AreLooped (new_state one) [] []
 new_looped one other n = rw (get-empty {X = Cap} nat_cmp n) refl
-
-pub new_names : (one other : Option ℕ) → NamesHold (new_end one) (new_end other)
-new_names one other =
-    record {
-      exports = none_on_way _;
-      answers = none_on_way _;
-      kinds = none_on_way _;
-      loops = new_looped one other;
-      targets = tt;
-    }
 
 no_reference : (one : Option ℕ) (ref : Reference) → reference_of (new_state one).values (cap_of ref) ≡ plain
 no_reference one (import_ i) = rw (get-empty {X = Option Cap} nat_cmp i) refl
 no_reference one (path_to q path) = rw (get-empty {X = Question} nat_cmp q) refl
 
-abbrev is_plain : calling.Reference → Bool
-is_plain plain = true
-is_plain on_wire = false
-is_plain (came_to value) = false
-
-pub new_values : (one other : Option ℕ) → ValuesHold (new_end one) (new_end other)
-new_values one other ref value own known (inl came) = absurd (true≢false (ap is_plain (sym (no_reference one ref) ∙ came)))
-new_values one other ref value own known (inr (inl told)) = absurd (true≢false (ap is_plain (sym (no_reference one ref) ∙ told.0)))
-new_values one other ref value own known (inr (inr behind)) =
-    absurd (nothing_in (behind.1.0 ++ behind.1.3 ∷ behind.1.1) behind.1.2 behind.1.4 behind.1.5)
-
 new_whole : (one other : Option ℕ) → IsWhole (new_end one) (new_end other) [] []
 new_whole one other = rw (no_entries {X = Held} nat_cmp) refl
 
+-- of each end
+pub new_absent : (one other : Option ℕ) (ref : Reference) → IsAbsent (new_state one) (new_state other) ref
+new_absent one other (import_ i) = (get-empty {X = Option Cap} nat_cmp i, get-empty {X = Counted Cap} nat_cmp i)
+new_absent one other (path_to q path) = get-empty {X = Question} nat_cmp q
+
 pub new_lanes : (one other : Option ℕ) (ref : Reference) → LaneHolds (new_end one) (new_end other) ref [] []
 new_lanes one other ref =
-    inr (record { whole = new_whole one other; targets = tt; delivered_ = rw (no_reference one ref) refl; phase = absent (no_reference one ref) refl })
+    inr (record { whole = new_whole one other; targets = tt; none_held = λ ticket call is. none_out (sym (get-empty {X = Held} nat_cmp ticket) ∙ is); delivered_ = rw (no_reference one ref) refl; phase = absent (record { none = new_absent one other ref; unmade = refl }) })
 
 pub new_quiet : (one : Option ℕ) → IsQuiet (new_end one)
-new_quiet one = record { questions = λ q. rw (get-empty {X = Exchange QuestionEntry} nat_cmp q) refl; inbox = refl }
+new_quiet one = record { questions = λ q. rw (get-empty {X = Exchange QuestionEntry} nat_cmp q) tt; inbox = refl }
 
 no_ticket : (one : Option ℕ) (origin : Origin) (ticket : ℕ) → BearsTicket (new_state one) origin ticket → ⊥
 no_ticket one (origins.Answer a) ticket bears = none_out (sym (get-empty {X = Exchange AnswerEntry} nat_cmp a) ∙ bears.1)

@@ -6,6 +6,7 @@ pub mod Lane
 pub mod Laws
 pub mod Lives
 pub mod Naming
+pub mod Places
 pub mod Phases
 pub mod Posting
 pub mod Turns
@@ -15,3 +16,4 @@ pub mod Expected
 pub mod Spared
 pub mod Tickets
 pub mod Keeping
+pub mod LaneKept

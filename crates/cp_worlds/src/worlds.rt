@@ -10,12 +10,12 @@ ghost use Rattle.cp_worlds.specs.Lane.{Reference};
 ghost use Rattle.cp_worlds.specs.Lives.{AreAgreed, Keeps};
 ghost use Rattle.cp_worlds.specs.Posting.{KeepsBy};
 ghost use Rattle.cp_worlds.specs.Orderly.{RulesPost};
-ghost use Rattle.cp_worlds.specs.Laws.{CountsAgree};
+ghost use Rattle.cp_worlds.specs.Laws.{CountsAgree, LaneOrder};
 ghost use Rattle.cp_worlds.specs.Spared.{AreSpared};
 ghost use Rattle.cp_worlds.specs.Expected.{AllIsExpected, HeldIsAll, HeldIsThere, HoldsAlways, LowersFit, StagesMatch};
 ghost use Rattle.cp_worlds.specs.Numbers.{AreCounted, ChangesKeep, ExportedIsHeld, FreeIsFree, LeftIsNamed, NothingIsLeft, NumbersStay, RulesChange};
 ghost use Rattle.cp_worlds.specs.Turns.{LeaveKeeps, SettlingKeeps, TiedAreOpen, TurnKeeps};
-ghost use Rattle.cp_worlds.specs.Naming.{NamesHold, ValuesHold};
+ghost use Rattle.cp_worlds.specs.Naming.{AreLooped};
 ghost use Rattle.cp_worlds.specs.Phases.{LaneHolds, IsQuiet};
 ghost use Rattle.cp_worlds.specs.Tickets.{TicketsHold};
 
@@ -43,8 +43,7 @@ pub fn rules_post()
 pub fn new_vats_hold()
     ensures local { (one : Option ℕ) → Local (new_state one) }
     ensures waiting { (one : Option ℕ) → WaitRightly (new_state one) empty }
-    ensures names { (one other : Option ℕ) → NamesHold (new_end one) (new_end other) }
-    ensures values { (one other : Option ℕ) → ValuesHold (new_end one) (new_end other) }
+    ensures loops { (one other : Option ℕ) → AreLooped (new_state one) (new_end other).inbox (new_end one).inbox }
     ensures lanes { (one other : Option ℕ) (ref : Reference) → LaneHolds (new_end one) (new_end other) ref [] [] }
     ensures quiet { (one : Option ℕ) → IsQuiet (new_end one) }
     ensures tickets { (one : Option ℕ) → TicketsHold (new_state one) [] }
@@ -62,6 +61,14 @@ pub fn turns_keep()
 /// what its port leads to.
 pub fn leave_keeps()
     ensures { LeaveKeeps }
+{}
+
+/// Calls on a reference come in order over both vats: where it came to an object of the vat that holds it,
+/// those that its application made on it are delivered to that object in the order in which they were
+/// made, each once, and all of them are where no message is on the way. So it is while neither vat is
+/// closed, and no application finishes, releases or forgets.
+pub fn lane_order()
+    ensures { LaneOrder }
 {}
 
 /// Each export's count is what it is owed, whatever the applications do, while neither vat is closed.

@@ -1,11 +1,12 @@
 -- The worlds in which a clause must leave something out.
-use Rattle.std.specs.Prelude.{refl, false, List, [], ◌∷◌, map, Some}
+use Rattle.std.specs.Prelude.{refl, if◌then◌else◌, false, List, [], ◌∷◌, ◌++◌, map, Some}
+use Rattle.std.specs.List.{AllByRecursion}
 use Rattle.std.proofs.Common.{ap, subst, sym}
 use Rattle.cp_tree.specs.Node.{cap}
 use Rattle.cp_rpc.specs.declared.descriptor.Descriptor.TheVariants as descriptors
 use Rattle.cp_rpc.specs.declared.message.Message.{Message}
 use Rattle.cp_worlds.specs.Accounts.{asked_account, is_given_up}
-use Rattle.cp_worlds.specs.Naming.{IsOfExportUnless}
+use Rattle.cp_worlds.specs.Naming.{IsOfKindBehind, IsOfExportUnless, looked_at}
 use Rattle.test_vat.specs.RowWords.{return_message, results, one_object}
 use Rattle.test_vat.specs.LaneWorlds.{number_again, IsOfOtherKind, NumberAgain}
 use Rattle.test_vat.proofs.Known.{get_is}
@@ -23,6 +24,41 @@ past_again = last_known begun again_moves
 abbrev promise_told : Message
 promise_told = return_message 1 (results one_object (descriptors.SenderPromise 1 ∷ []))
 
+abbrev last_told : Message
+last_told = return_message 2 (results one_object (descriptors.SenderHosted 1 ∷ []))
+
+abbrev later : List Message
+later = promise_told ∷ last_told ∷ []
+
+-- what holds of each message and those behind it
+abbrev EachBehind : (Message → List Message → Type 0) → List Message → Type 0
+EachBehind Holds [] = Unit {0}
+EachBehind Holds (m ∷ behind) = Holds m behind × EachBehind Holds behind
+
+behind_it : (Holds : Message → List Message → Type 0) (before behind : List Message) (m : Message) → EachBehind Holds (before ++ m ∷ behind) → Holds m behind
+behind_it Holds [] behind m all = all.0
+behind_it Holds (x ∷ before) behind m all = behind_it Holds before behind m all.1
+
+abbrev LooksRight : Message → List Message → Type 0
+LooksRight m behind = AllByRecursion (IsOfKindBehind (world past_again).second.vat behind) (looked_at (world past_again).first.vat m)
+
+all_look_right : EachBehind LooksRight (world past_again).first.inbox
+all_look_right = (
+  subst (λ given_up. AllByRecursion (IsOfKindBehind (world past_again).second.vat later) (if given_up then [] else descriptors.SenderHosted 0 ∷ []))
+      (sym (ap (λ o. is_given_up (asked_account o)) (get_is past_again.first.vat.asked 0)))
+      (subst (IsOfExportUnless false (descriptors.SenderHosted 0)) (sym (get_is past_again.second.vat.exports 0)) tt, tt),
+  (
+    subst (λ given_up. AllByRecursion (IsOfKindBehind (world past_again).second.vat (last_told ∷ [])) (if given_up then [] else descriptors.SenderPromise 1 ∷ []))
+        (sym (ap (λ o. is_given_up (asked_account o)) (get_is past_again.first.vat.asked 1))) tt,
+    (
+      subst (λ given_up. AllByRecursion (IsOfKindBehind (world past_again).second.vat []) (if given_up then [] else descriptors.SenderHosted 1 ∷ []))
+          (sym (ap (λ o. is_given_up (asked_account o)) (get_is past_again.first.vat.asked 2)))
+          (subst (IsOfExportUnless false (descriptors.SenderHosted 1)) (sym (get_is past_again.second.vat.exports 1)) tt, tt),
+      tt,
+    ),
+  ),
+)
+
 other_kind : IsOfOtherKind (world past_again)
 other_kind =
     record {
@@ -33,9 +69,10 @@ other_kind =
           (get_is past_again.second.vat.exports 1)
           (h
           (return_message 0 (results (cap 0) (descriptors.SenderHosted 0 ∷ [])) ∷ [])
-          (return_message 2 (results one_object (descriptors.SenderHosted 1 ∷ [])) ∷ [])
+          (last_told ∷ [])
           promise_told
           refl).0;
+      is_of_kind = λ before behind m is. behind_it LooksRight before behind m (subst (EachBehind LooksRight) is all_look_right);
     }
 
 pub number_is_again : NumberAgain

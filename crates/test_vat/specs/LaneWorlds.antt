@@ -7,13 +7,14 @@ use Rattle.cp_refs.specs.declared.cap.Cap.TheVariants as caps
 use Rattle.cp_refs.specs.declared.call.Origin.TheVariants as origins
 use Rattle.cp_refs.specs.declared.outcome.Outcome.TheVariants as outcomes
 use Rattle.cp_machine.specs.Run.{Moment}
+use Rattle.cp_machine.specs.Say.{IsExport}
 use Rattle.cp_machine.specs.declared.effect.Effect.TheVariants as effects
 use Rattle.cp_machine.specs.declared.event.Event.TheVariants as events
 use Rattle.cp_machine.specs.declared.event.Value.TheVariants as values
 use Rattle.cp_worlds.specs.Accounts.{accounts_of, is_given_up}
 use Rattle.cp_worlds.specs.World.{World, Side, at_first, at_second, Move, last_of}
-use Rattle.cp_worlds.specs.Naming.{EachOnWay, table_of, IsOfKindBehind}
-use Rattle.cp_worlds.specs.Phases.{HasGone, IsToldAnother, Phase}
+use Rattle.cp_worlds.specs.Naming.{EachOnWay, table_of, IsOfKindBehind, looked_at, place_of}
+use Rattle.cp_worlds.specs.Phases.{EndsAt, Phase, CameToOther, ToldOther, HostedThere}
 use Rattle.test_vat.specs.RowWords.{comes, does, call_message, return_message, finish_message, resolve_message, sends, on_whole_answer, results, one_object, request, small_request, small_call, bootstrap_comes, bootstrap_does}
 use Rattle.test_vat.specs.WorldRows.{Plays}
 use Rattle.test_vat.specs.LaneRows.{two_vats, given_reference}
@@ -58,10 +59,11 @@ number_again =
           (sends (return_message 2 (results one_object (descriptors.SenderHosted 1 ∷ []))) ∷ []),
     ) ∷ []
 
--- The question was given up, and what its Return names isn't of its export's kind.
+-- The question was given up, and what its Return names isn't of its export's kind. All that is looked at when it comes is.
 pub record IsOfOtherKind (w : World) : Type 0 where
   pub given_up : is_given_up ((accounts_of w.first.vat).questions 1) ≡ true
   pub other_kind : EachOnWay w.first.inbox (λ before m behind. AllByRecursion (IsOfKindBehind w.second.vat behind) (table_of m)) → ⊥
+  pub is_of_kind : EachOnWay w.first.inbox (λ before m behind. AllByRecursion (IsOfKindBehind w.second.vat behind) (looked_at w.first.vat m))
 
 abbrev pub NumberAgain : Type 0
 NumberAgain = (moves : List Move) × Plays two_vats number_again moves × IsOfOtherKind (last_of two_vats moves)
@@ -88,10 +90,14 @@ settled_ahead =
     ∷ (at_second, gives_promise)
     ∷ (at_second, does (events.Resolve 0 (caps.Import 0)) values.Nothing (sends (resolve_message 1 (resolutions.Cap (descriptors.ReceiverHosted 0))) ∷ [])) ∷ []
 
--- The reference is told a promise. It hasn't gone elsewhere otherwise, and no phase is its own.
+-- The second vat's place for the reference ends at the first one's own object already, and the message on the way tells it a promise. It isn't
+-- elsewhere otherwise, and no phase is its own.
 pub record IsToldAhead (w : World) : Type 0 where
-  pub told : IsToldAnother w.first given_reference
-  pub not_gone : HasGone w.first w.second given_reference → ⊥
+  pub ends : EndsAt w.second.vat (place_of w.second.vat given_reference) 0
+  pub is_own : IsExport w.first.vat 0 (caps.Object 5)
+  pub told : ToldOther w.first w.second given_reference []
+  pub not_come : CameToOther w.first.vat given_reference → ⊥
+  pub not_hosted : HostedThere w.first w.second given_reference [] → ⊥
   pub no_phase : Phase w.first w.second given_reference [] → ⊥
 
 abbrev pub SettledAhead : Type 0
