@@ -5,16 +5,14 @@
 // played again: at once, cut at random places, and packed and cut, one of four with frames dropped, repeated or swapped. The
 // bytes that come back must be the same each time, and be messages that answer those that were sent. A session that takes longer
 // than its limit, or breaks one of these, is reported with its number.
+#include "../connect.hpp"
 #include <capnp/message.h>
 #include <capnp/rpc.capnp.h>
 #include <capnp/serialize-packed.h>
 #include <capnp/serialize.h>
 #include <kj/debug.h>
 #include <kj/io.h>
-#include <arpa/inet.h>
 #include <fcntl.h>
-#include <netinet/in.h>
-#include <netinet/tcp.h>
 #include <poll.h>
 #include <sys/socket.h>
 #include <unistd.h>
@@ -213,24 +211,6 @@ Bytes joined(const Frames& frames) {
   return all;
 }
 
-// A connection with a server.
-struct Connection {
-  kj::AutoCloseFd fd;
-
-  explicit Connection(unsigned port) {
-    int opened;
-    KJ_SYSCALL(opened = socket(AF_INET, SOCK_STREAM, 0));
-    fd = kj::AutoCloseFd(opened);
-    sockaddr_in address{};
-    address.sin_family = AF_INET;
-    address.sin_port = htons(port);
-    address.sin_addr.s_addr = htonl(INADDR_LOOPBACK);
-    KJ_SYSCALL(connect(fd, (sockaddr*)&address, sizeof address));
-    int one = 1;
-    KJ_SYSCALL(setsockopt(fd, IPPROTO_TCP, TCP_NODELAY, &one, sizeof one));
-  }
-};
-
 // The frames of a session, plain and packed.
 struct Session {
   Frames plain, packed;
@@ -242,8 +222,8 @@ struct Session {
 
   // Makes the messages one by one. Behind each comes one that isn't supported: when it comes back, so did all that the message led to.
   Session(Random& random, unsigned port) {
-    Connection connection(port);
-    kj::FdInputStream bare(connection.fd.get());
+    kj::AutoCloseFd connection(connected(port));
+    kj::FdInputStream bare(connection.get());
     kj::BufferedInputStreamWrapper input(bare);
     Maker maker(random);
     for (uint32_t n = 1 + random.below(200); n > 0; n--) {
@@ -253,7 +233,7 @@ struct Session {
       add(message);
       add(mark);
       auto sent = joined({*(plain.end() - 2), plain.back()});
-      if (send(connection.fd, sent.data(), sent.size(), MSG_NOSIGNAL) < 0 || !hear(input, maker)) return;
+      if (send(connection, sent.data(), sent.size(), MSG_NOSIGNAL) < 0 || !hear(input, maker)) return;
     }
   }
 
@@ -288,8 +268,8 @@ struct Session {
 
 // Sends these bytes, cut at random places if so asked, and gives all that comes back until the other end closes.
 Bytes play(unsigned port, const Bytes& bytes, Random* cuts) {
-  Connection connection(port);
-  int fd = connection.fd;
+  kj::AutoCloseFd connection(connected(port));
+  int fd = connection;
   KJ_SYSCALL(fcntl(fd, F_SETFL, O_NONBLOCK));
   auto start = std::chrono::steady_clock::now();
   Bytes back;

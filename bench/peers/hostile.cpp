@@ -1,13 +1,12 @@
 // Peers at fault, and messages at the edge of a limit, with `capnp_cli serve`. Usage: hostile PORT
 // Each session sends its messages, and reads all that comes back: at a fault one Abort with its text, and nothing behind it; at
 // an edge no Abort. The status is 0 if each went so. It prints the milliseconds of those that take long.
+#include "../connect.hpp"
 #include <capnp/message.h>
 #include <capnp/rpc.capnp.h>
 #include <capnp/serialize.h>
 #include <kj/debug.h>
 #include <kj/io.h>
-#include <arpa/inet.h>
-#include <netinet/in.h>
 #include <sys/socket.h>
 #include <unistd.h>
 #include <chrono>
@@ -72,14 +71,8 @@ void nest(capnp::AnyPointer::Builder place, int levels) {
 
 // All that comes back for these bytes.
 Bytes play(unsigned port, const Bytes& bytes) {
-  int fd;
-  KJ_SYSCALL(fd = socket(AF_INET, SOCK_STREAM, 0));
-  kj::AutoCloseFd closes(fd);
-  sockaddr_in address{};
-  address.sin_family = AF_INET;
-  address.sin_port = htons(port);
-  address.sin_addr.s_addr = htonl(INADDR_LOOPBACK);
-  KJ_SYSCALL(connect(fd, (sockaddr*)&address, sizeof address));
+  kj::AutoCloseFd closes(connected(port));
+  int fd = closes;
   std::thread writes([&] {
     for (size_t sent = 0; sent < bytes.size();) {
       ssize_t n = send(fd, bytes.data() + sent, bytes.size() - sent, MSG_NOSIGNAL);

@@ -8,15 +8,13 @@
 //   raw-window   as window, by such frames
 //   raw-full     as raw-seq, behind 60,000 calls that were answered and not finished, so that the server's tables are nearly full
 // The status is 0 if the Cell's number is right in the end.
+#include "../connect.hpp"
 #include "desk.capnp.h"
 #include <capnp/rpc-twoparty.h>
 #include <capnp/rpc.capnp.h>
 #include <capnp/serialize.h>
 #include <kj/async-io.h>
 #include <kj/debug.h>
-#include <arpa/inet.h>
-#include <netinet/in.h>
-#include <netinet/tcp.h>
 #include <sys/socket.h>
 #include <unistd.h>
 #include <chrono>
@@ -99,15 +97,7 @@ class Socket {
   size_t from = 0;
 
  public:
-  explicit Socket(unsigned port) : fd(socket(AF_INET, SOCK_STREAM, 0)) {
-    sockaddr_in address{};
-    address.sin_family = AF_INET;
-    address.sin_port = htons(port);
-    address.sin_addr.s_addr = htonl(INADDR_LOOPBACK);
-    KJ_SYSCALL(connect(fd, (sockaddr*)&address, sizeof address));
-    int one = 1;
-    KJ_SYSCALL(setsockopt(fd, IPPROTO_TCP, TCP_NODELAY, &one, sizeof one));
-  }
+  explicit Socket(unsigned port) : fd(connected(port)) {}
 
   void write_all(const std::vector<uint8_t>& bytes) {
     for (size_t done = 0; done < bytes.size();) {
