@@ -17,6 +17,8 @@ mod faults;
 #[cfg(test)]
 mod limits;
 #[cfg(test)]
+mod memory;
+#[cfg(test)]
 mod pairs;
 #[cfg(test)]
 mod playing;
