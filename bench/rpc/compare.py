@@ -1,0 +1,85 @@
+#!/usr/bin/env python3
+"""Times `capnp_cli serve` beside the reference library's server of the same objects, and prints the ratios of their times.
+
+    compare.py --build FOLDER [--runs 7] [--calls 30000] [--only WORD] [--cpus 1,2] [--enforce]
+
+The two servers run in turn on one processor, the same client on another, and a call's time is the client's by the clock. A
+ratio is ours over the reference's: below 1 we are faster. The spread is the median over the least, ours and the
+reference's. With --enforce the status is 1 where a ratio passes its goal. `client.cpp` says what the modes are.
+"""
+import argparse
+import os
+import pathlib
+import socket
+import statistics
+import subprocess
+import sys
+import time
+
+HERE = pathlib.Path(__file__).resolve().parent
+COMMAND = HERE.parent.parent / "crates/cp_cli/out/cp_cli"
+
+# The greatest ratio that is asked for.
+GOALS = {"seq": 0.85, "window": 0.9, "pipeline": 0.85, "large": 1.2, "raw-seq": 0.75, "raw-window": 0.45, "raw-full": 0.75}
+
+
+def free_port():
+    with socket.socket() as it:
+        it.bind(("127.0.0.1", 0))
+        return it.getsockname()[1]
+
+
+def wait_for(server, port):
+    """Returns once it listens. (It takes one connection, so a try to connect would use that up.)"""
+    for _ in range(200):
+        if f":{port:04X} 00000000:0000 0A" in pathlib.Path("/proc/net/tcp").read_text():
+            return
+        if server.poll() is not None:
+            break
+        time.sleep(0.01)
+    sys.exit("the server doesn't listen")
+
+
+def run(words, mode, args):
+    """Microseconds a call, against a server of its own."""
+    port = free_port()
+    here, there = args.cpus.split(",")
+    server = subprocess.Popen(["taskset", "-c", there, *words, str(port), "1"])
+    wait_for(server, port)
+    calls = args.calls // 30 if mode == "large" else args.calls
+    client = ["taskset", "-c", here, str(args.build / "client"), str(port), mode, str(calls)]
+    took = float(subprocess.run(client, stdout=subprocess.PIPE, check=True, timeout=120).stdout) / 1e3
+    server.wait(5)
+    return took
+
+
+def compare(mode, args):
+    """Prints a row; whether the goal is met."""
+    servers = [[str(args.command), "serve"], [str(args.build / "server")]]
+    times = [[run(words, mode, args) for words in servers] for _ in range(args.runs)]
+    ours, theirs = zip(*times)
+    mine, other = statistics.median(ours), statistics.median(theirs)
+    met = mine / other <= GOALS[mode]
+    spread = f"{mine / min(ours):.2f} {other / min(theirs):.2f}"
+    print(f"{mode:<12}{mine:>9.1f} us{other:>9.1f} us{mine / other:>8.2f}{GOALS[mode]:>7.2f}   {spread}  {'' if met else 'over'}", flush=True)
+    return met
+
+
+def main():
+    words = argparse.ArgumentParser(description=__doc__, formatter_class=argparse.RawDescriptionHelpFormatter)
+    words.add_argument("--build", type=pathlib.Path, required=True)
+    words.add_argument("--command", type=pathlib.Path, default=COMMAND)
+    words.add_argument("--runs", type=int, default=7)
+    words.add_argument("--calls", type=int, default=30000)
+    words.add_argument("--only", default="")
+    words.add_argument("--cpus", default="1,2")
+    words.add_argument("--enforce", action="store_true")
+    args = words.parse_args()
+    print(f"{args.runs} runs of each, in turn; load {os.getloadavg()[0]:.1f}")
+    print(f"{'mode':<12}{'ours':>12}{'reference':>12}{'ratio':>8}{'goal':>7}   spread")
+    met = [compare(mode, args) for mode in GOALS if args.only in mode]
+    return 1 if args.enforce and not all(met) else 0
+
+
+if __name__ == "__main__":
+    sys.exit(main())
