@@ -14,7 +14,7 @@ use cp_reading::View;
 use cp_rpc::{Message, MessageIn, MessageView, SchemaFault, message_of, message_view, tree_of};
 use cp_rules::lower::lower;
 use cp_state::{Core, Halt};
-use cp_tree::{Shape, Whole, fits};
+use cp_tree::{Shape, Whole, WriteFault, fits};
 
 /// A Resolve that the peer doesn't know gives back what it named. Any other message is one that this
 /// vat needs.
@@ -91,9 +91,11 @@ pub(crate) fn echo(core: &Core, message: &Message, effects: &mut Vec<Effect>) ->
     if !are_short(message) {
         return Err(Halt::Fault(PeerFault::EchoTooLarge));
     }
-    // Since no list is too long, it is made unless memory runs out.
-    let Ok(root) = tree_of(core.alloc, message) else {
-        return Err(Halt::OutOfMemory);
+    let root = match tree_of(core.alloc, message) {
+        Ok(root) => root,
+        Err(WriteFault::OutOfMemory) => return Err(Halt::OutOfMemory),
+        // No list is too long, and nothing else is refused.
+        Err(_) => unreachable!(),
     };
     if !fits(root.tree(), ECHO_DEPTH, ECHO_COST) {
         return Err(Halt::Fault(PeerFault::EchoTooLarge));
