@@ -15,9 +15,9 @@ mod embargoes;
 #[cfg(test)]
 mod faults;
 #[cfg(test)]
-mod limits;
+mod in_place;
 #[cfg(test)]
-mod memory;
+mod limits;
 #[cfg(test)]
 mod pairs;
 #[cfg(test)]
