@@ -19,6 +19,8 @@ mod in_place;
 #[cfg(test)]
 mod limits;
 #[cfg(test)]
+mod memory;
+#[cfg(test)]
 mod pairs;
 #[cfg(test)]
 mod playing;
