@@ -29,6 +29,7 @@ use Rattle.cp_serve.specs.Service.{TakesAll, none_taken, takes_more, TakesMessag
 use Rattle.cp_serve.specs.Output.{Device, Writes, WritesPart, IsPlace, IsFaultOfRest, IsOver, IsServed, IsCutOff, StopsFor, IsStopped}
 use Rattle.cp_serve.specs.Reached.{CountsMore, Reached, ReadsOn, Serves, GoesOn, OnlyReads, OnlyWrites, TakesNext, TakesNone, IsRefusedAt, IsUnwritten, IsUnended, EndsInside, EndsSo, EndsPart, Closes}
 use Rattle.cp_serve.proofs.Running.{none_some, ran_takes, ran_closes, run_of}
+use Rattle.cp_serve.proofs.Writable.{only_memory}
 use Rattle.cp_serve.proofs.Written.{writes_none, writes_both, writes_all, part_behind, own_behind}
 
 -- more bytes follow
@@ -157,7 +158,8 @@ module _ {mode : Mode} {start : List Seen} {held : Device} where
   stops_writing bytes rest front back from left s s1 s2 to to' m r is_open frame at only message took part (faults.Stream (streams.Refused there refusal)) h =
       let place : IsPlace ((bytes ++ front) ++ back) back s2.at =
       took.at ∙ place_stays (bytes ++ front) [] back s1.at (place_more bytes rest front s.at s1.at (rest_fits mode standard bytes r.taken rest r.messages) r.place at) in
-      inr (cut_writing bytes rest front back left.bytes s s1 s2 to to' m r is_open frame only message took part, own_behind r.sent (work_of s2.session).sent refusal h.1, h.0 ∙ place)
+      let cut = cut_writing bytes rest front back left.bytes s s1 s2 to to' m r is_open frame only message took part in
+      inr (cut, only_memory (IsOver ((bytes ++ front) ++ back) cut.rest left.bytes) cut.starts refusal (own_behind r.sent (work_of s2.session).sent refusal h.1), h.0 ∙ place)
   stops_writing bytes rest front back from left s s1 s2 to to' m r is_open frame at only message took part (faults.Stream streams.Device) h =
       (inr (subst (λ (n : ℕ). FailedOnce n to'.failures) r.writes.counted h), cut_writing bytes rest front back left.bytes s s1 s2 to to' m r is_open frame only message took part)
   stops_writing bytes rest front back from left s s1 s2 to to' m r is_open frame at only message took part faults.OutOfMemory h = absurd h
@@ -326,7 +328,8 @@ module _ {mode : Mode} {start : List Seen} {held : Device} where
       → Consumes from.bytes left.bytes bytes → IsOver bytes rest left.bytes (work_of s.session) → (p : EndsPart s objects mid to) → (fault : ServeFault) → IsUnended s.at p.sent mid to fault
       → IsStopped mode start from left held to others fault
   ends_short bytes rest from left others mid to r consumed over p (faults.Stream (streams.Refused at refusal)) h =
-      (bytes, consumed, inr (cut_closing bytes rest left.bytes mid to r over p, own_behind r.sent p.sent refusal h.1, h.0 ∙ r.place))
+      let cut = cut_closing bytes rest left.bytes mid to r over p in
+      (bytes, consumed, inr (cut, only_memory (IsOver bytes rest left.bytes) cut.starts refusal (own_behind r.sent p.sent refusal h.1), h.0 ∙ r.place))
   ends_short bytes rest from left others mid to r consumed over p (faults.Stream streams.Device) h =
       (bytes, consumed, (inr (subst (λ (n : ℕ). FailedOnce n to.failures) r.writes.counted h), cut_closing bytes rest left.bytes mid to r over p))
   ends_short bytes rest from left others mid to r consumed over p faults.OutOfMemory h = (bytes, consumed, cut_closing bytes rest left.bytes mid to r over p)

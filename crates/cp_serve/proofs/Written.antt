@@ -15,8 +15,8 @@ use Rattle.cp_stream.specs.Tap.{inner_of}
 use Rattle.cp_stream.specs.Write.{IsWrittenAs, IsSent, IsCutShort, IsUnwrittenFor}
 use Rattle.cp_serve.specs.declared.fault.ServeFault.{ServeFault}
 use Rattle.cp_serve.specs.declared.fault.ServeFault.TheVariants as serving
-use Rattle.cp_serve.specs.Reached.{placed, IsUnwritten}
-use Rattle.cp_serve.specs.Output.{Device, device, AreWrittenAs, Writes, Begin, WritesPart, IsOwnFault}
+use Rattle.cp_serve.specs.Reached.{placed, IsOwnFault, IsUnwritten}
+use Rattle.cp_serve.specs.Output.{Device, device, AreWrittenAs, Writes, Begin, WritesPart}
 
 are_both : (mode : Mode) (a b : List Message) (x y : List ℕ) → AreWrittenAs mode a x → AreWrittenAs mode b y → AreWrittenAs mode (a ++ b) (x ++ y)
 are_both mode [] b x y h k = subst (λ (z : List ℕ). AreWrittenAs mode b (z ++ y)) (sym h) k
@@ -87,8 +87,7 @@ module _ {mode : Mode} where
 
 -- a fault of one of some messages is one of more
 own_within : (a b c : List Message) (refusal : Refusal) → IsOwnFault b refusal → IsOwnFault (a ++ (b ++ c)) refusal
-own_within a b c refusal (inl memory) = inl memory
-own_within a b c refusal (inr h) = inr (
+own_within a b c refusal h = (
   h.0,
   (
     a ++ h.1.0,
@@ -150,6 +149,6 @@ module _ {T : Type 0} (contents : T → Option (List ℕ)) (mode : Mode) (limits
       → IsUnwritten place (m ∷ []) (device contents old) (device contents new) (serving.Stream told)
   cut_why place (faults.Refused at refusal) told e h =
       subst (λ (f : StreamFault). IsUnwritten place (m ∷ []) (device contents old) (device contents new) (serving.Stream f)) (sym e)
-      (refl, inr (m, ([], [], refl), subst (λ (l : Bounds). IsUnwrittenFor l l.frame_words 1 m refusal) is_standard h.2))
+      (refl, (m, ([], [], refl), subst (λ (l : Bounds). IsUnwrittenFor l l.frame_words 1 m refusal) is_standard h.2))
   cut_why place faults.Device told e h =
       subst (λ (f : StreamFault). IsUnwritten place (m ∷ []) (device contents old) (device contents new) (serving.Stream f)) (sym e) h.2.failed

@@ -1,15 +1,17 @@
 -- What a server has come to. No public clause names these.
-use Rattle.std.specs.Prelude.{◌≡◌, ◌⊎◌, ℕ, ◌+◌, ◌-◌, ◌^◌, min, Bool, false, IsSome, List, [], ◌++◌, Option, None, length}
+use Rattle.std.specs.Prelude.{◌≡◌, ◌⊎◌, ℕ, ◌+◌, ◌-◌, ◌^◌, min, Bool, false, IsSome, List, [], ◌∷◌, ◌++◌, Option, None, length}
 use Rattle.cp_words.specs.Limits.{standard}
 use Rattle.cp_frame.specs.declared.mode.Mode.{Mode}
 use Rattle.cp_frame.specs.Reader.{StandsFor, IsReading}
 use Rattle.cp_frame.specs.Stream.{Open}
 use Rattle.cp_rpc.specs.declared.message.Message.{Message}
+use Rattle.cp_stream.specs.declared.fault.Refusal.{Refusal}
 use Rattle.cp_stream.specs.declared.fault.StreamFault.{StreamFault}
 use Rattle.cp_stream.specs.declared.fault.StreamFault.TheVariants as streams
 use Rattle.cp_stream.specs.Stream.{Messages, IsFrameOf}
 use Rattle.cp_stream.specs.Reader.{CountsOn, IsMemory}
 use Rattle.cp_stream.specs.Read.{FailedOnce}
+use Rattle.cp_stream.specs.Write.{IsUnwrittenFor}
 use Rattle.cp_serve.specs.declared.fault.ServeFault.{ServeFault}
 use Rattle.cp_serve.specs.declared.fault.ServeFault.TheVariants as faults
 use Rattle.cp_serve.specs.declared.serving.Server.{Server}
@@ -17,7 +19,7 @@ use Rattle.cp_serve.specs.Servant.{Seen}
 use Rattle.cp_serve.specs.Work.{Work}
 use Rattle.cp_serve.specs.WorkOf.{work_of}
 use Rattle.cp_serve.specs.Service.{TakesAll, ClosesAll, new_work}
-use Rattle.cp_serve.specs.Output.{Device, Writes, WritesPart, IsPlace, IsFaultOfRest, IsOwnFault}
+use Rattle.cp_serve.specs.Output.{Device, Writes, WritesPart, IsPlace, IsFaultOfRest}
 
 -- a count goes on from another by so many, and stays at the greatest u64
 abbrev pub CountsMore : ℕ → ℕ → ℕ → Type 0
@@ -90,6 +92,14 @@ IsRefusedAt mode rest place streams.Device = ⊥
 abbrev pub placed : ℕ → StreamFault → StreamFault
 placed at (streams.Refused place refusal) = streams.Refused at refusal
 placed at streams.Device = streams.Device
+
+-- the message is one of these
+abbrev pub IsAmong : Message → List Message → Type 0
+IsAmong m ms = (front : List Message) × (back : List Message) × (ms ≡ front ++ m ∷ back)
+
+-- one of these messages isn't written: memory ran out for its frame, or its tree isn't one that can be
+abbrev pub IsOwnFault : List Message → Refusal → Type 0
+IsOwnFault sent refusal = (m : Message) × IsAmong m sent × IsUnwrittenFor standard standard.frame_words 1 m refusal
 
 -- why these messages aren't all written: memory ran out, or one isn't laid out, or a call of the writer failed
 abbrev pub IsUnwritten : ℕ → List Message → Device → Device → ServeFault → Type 0

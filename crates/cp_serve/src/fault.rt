@@ -9,8 +9,8 @@ use std::alloc::{AllocError, AllocFailed};
 /// Why a server stopped before its run ended. Nothing is written after it.
 #[derive(Clone, Copy, PartialEq, Eq, Debug)]
 pub enum ServeFault {
-    /// The messages can't be read on, or one can't be written. A refusal names the bytes of the
-    /// frames whose messages were taken.
+    /// The messages can't be read on, memory ran out for one, or a call of a device failed. A refusal
+    /// names the bytes of the frames whose messages were taken.
     Stream(StreamFault),
     /// V10: memory ran out, for the vat or for an object.
     OutOfMemory,
