@@ -12,7 +12,8 @@ pub enum ServeFault {
     /// The messages can't be read on, memory ran out for one, or a call of a device failed. A refusal
     /// names the bytes of the frames whose messages were taken.
     Stream(StreamFault),
-    /// V10: memory ran out, for the vat or for an object.
+    /// V10: memory ran out, for the vat or for an object; or 2^64 - 1 rounds or effects followed one
+    /// another.
     OutOfMemory,
 }
 

@@ -30,7 +30,7 @@ use std::io::{Read, Write};
 const PIECE: usize = 65_536;
 
 /// Serves objects to the peer whose messages are read, of which object 0 is the bootstrap object.
-/// `Ok` says that the messages ended, or that the vat closed.
+/// `Ok` says that the messages ended, that the vat closed, or that 2^64 - 1 pieces were read.
 ///
 /// Each message is received, and each call that it leads to goes to its object; then each object is
 /// polled once, in order. Where the messages end, rounds of polls go on until one gives nothing that
