@@ -5,6 +5,8 @@ ghost use Rattle.cp_serve.specs.declared.fault.ServeFault.TheVariants.{Stream, O
 
 use cp_stream::StreamFault;
 use std::alloc::{AllocError, AllocFailed};
+use std::error::Error;
+use std::fmt;
 
 /// Why a server stopped before its run ended. Nothing is written after it.
 #[derive(Clone, Copy, PartialEq, Eq, Debug)]
@@ -16,6 +18,17 @@ pub enum ServeFault {
     /// another.
     OutOfMemory,
 }
+
+impl fmt::Display for ServeFault {
+    fn fmt<W: fmt::Write>(&self, f: &mut fmt::Formatter<W>) -> fmt::Result {
+        match self {
+            ServeFault::Stream(fault) => fault.fmt(f),
+            ServeFault::OutOfMemory => f.write_str("refused: V10 OutOfMemory"),
+        }
+    }
+}
+
+impl Error for ServeFault {}
 
 impl From<StreamFault> for ServeFault {
     ghost from_gives = { λ fault r. r ≡ Stream fault };
