@@ -1,12 +1,12 @@
 -- What is held by values and outcomes, by calls and by embargoes.
-use Rattle.std.specs.Prelude.{◌≡◌, ℕ, ◌+◌, Option, Some, None, option_to_list}
-use Rattle.std.specs.List.{sum_by}
-use Rattle.std.specs.FinMap.{values}
+use Rattle.std.specs.Prelude.{◌≡◌, ℕ, ◌+◌, List, ◌++◌, Option, Some, None, option_to_list}
+use Rattle.std.specs.List.{sum_by, flat_map}
+use Rattle.std.specs.FinMap.{entries, values}
 use Rattle.cp_tables.specs.Table.{Table}
 use Rattle.cp_refs.specs.Values.{ValueMaps}
 use Rattle.cp_refs.specs.declared.cap.Cap.{Cap}
 use Rattle.cp_refs.specs.declared.call.Held.{Held}
-use Rattle.cp_machine.specs.InUse.{caps_given}
+use Rattle.cp_machine.specs.InUse.{caps_given, value_unless}
 use Rattle.cp_state.specs.Sought.{awaited_at, named_by}
 use Rattle.cp_state.specs.Counts.{number_of, times_named, times_in, IsMore, IsLess, IsSame}
 use Rattle.cp_state.specs.declared.sought.Sought.{Sought}
@@ -14,11 +14,22 @@ use Rattle.cp_state.specs.declared.sought.Sought.TheVariants as sought
 use Rattle.cp_state.specs.declared.holders.Holders.{Holders}
 use Rattle.cp_state.specs.declared.counted_calls.Uses.{Uses}
 
+-- the capabilities that are the value of a promise, or stand in what an answer or a question came to
+abbrev pub kept_by : ValueMaps → List Cap
+kept_by v = flat_map option_to_list (values v.promises) ++ flat_map caps_given (values v.answers) ++ flat_map (λ question. caps_given question.outcome) (values v.questions)
+
+-- the capabilities that are the value of an import, or of an import but this one
+abbrev pub import_values : ValueMaps → List Cap
+import_values v = flat_map option_to_list (values v.imports)
+
+abbrev pub values_of_others : ValueMaps → ℕ → List Cap
+values_of_others v i = flat_map (λ entry. value_unless i entry) (entries v.imports)
+
 -- how often it is held by all entries of a table together, each of which holds it so often
 abbrev pub times_held : {X : Type 0} → (X → Sought → ℕ) → Table X → Sought → ℕ
 times_held times table s = sum_by (λ x. times x s) (values table)
 
--- Each is held as often as promises' values and what answers and questions came to hold it, and as often as imports' values do.
+-- It is counted how often each is the value of a promise or stands in what an answer or a question came to, and how often each is the value of an import.
 pub record AreHeld (v : ValueMaps) (kept imported : Holders) : Type 0 where
   pub kept_so_often :
       (s : Sought)
@@ -30,7 +41,7 @@ abbrev pub own_uses : Option (Option Cap) → ℕ → ℕ
 own_uses None i = 0
 own_uses (Some value) i = times_in (option_to_list value) (sought.Import i)
 
--- Each is held as often as calls' tables name it, and as often as calls wait for it.
+-- It is counted how often each stands in calls' tables, and how many calls wait for each.
 pub record AreHeldByCalls (calls : Table Held) (uses : Uses) : Type 0 where
   pub named : (s : Sought) → number_of uses.named s ≡ times_held (λ call. times_in call.request.caps) calls s
   pub awaited : (s : Sought) → number_of uses.awaited s ≡ times_held (λ call. times_named (awaited_at call.gate)) calls s
@@ -48,6 +59,6 @@ pub record IsSameUses (old new : Uses) : Type 0 where
   pub named : IsSame old.named new.named
   pub awaited : IsSame old.awaited new.awaited
 
--- each is held as often as embargoes lead to it
+-- it is counted how many embargoes lead to each
 abbrev pub AreLedTo : Table Cap → Holders → Type 0
 AreLedTo embargoes led_to = (s : Sought) → number_of led_to s ≡ times_held (λ cap. times_named (named_by cap)) embargoes s

@@ -1,11 +1,11 @@
 //! What promises, imports, answers and questions came to, and how often each capability is held by it.
 
-ghost use Rattle.std.specs.Prelude.{◌≡◌, ◌++◌, OnOk, OnErr, option_to_list};
-ghost use Rattle.std.specs.List.{flat_map, list_any};
+ghost use Rattle.std.specs.Prelude.{◌≡◌, OnOk, OnErr};
+ghost use Rattle.std.specs.List.{list_any};
 ghost use Rattle.std.specs.FinMap as map;
-ghost use Rattle.cp_machine.specs.InUse.{is_import, caps_given, value_unless};
+ghost use Rattle.cp_machine.specs.InUse.{is_import};
 ghost use Rattle.cp_state.specs.Sought.{is_sought};
-ghost use Rattle.cp_state.specs.Held.{own_uses};
+ghost use Rattle.cp_state.specs.Held.{kept_by, import_values, values_of_others, own_uses};
 
 use crate::holders::{Holders, caps_of_outcome, caps_of_question, caps_of_value};
 use crate::sought::Sought;
@@ -57,21 +57,21 @@ impl CountedValues {
 
     /// Whether it is the value of a promise, or stands in what an answer or a question came to.
     pub(crate) fn is_kept(&self, sought: Sought) -> bool
-        ensures { result ≡ list_any (is_sought sought) (flat_map option_to_list (map.values self.now.promises) ++ flat_map caps_given (map.values self.now.answers) ++ flat_map (λ question. caps_given question.outcome) (map.values self.now.questions)) }
+        ensures { result ≡ list_any (is_sought sought) (kept_by self.now) }
     {
         self.kept.has(sought)
     }
 
     /// Whether it is the value of an import.
     pub(crate) fn is_import_value(&self, sought: Sought) -> bool
-        ensures { result ≡ list_any (is_sought sought) (flat_map option_to_list (map.values self.now.imports)) }
+        ensures { result ≡ list_any (is_sought sought) (import_values self.now) }
     {
         self.imported.has(sought)
     }
 
     /// Whether the import is the value of another one.
     pub(crate) fn is_value_of_another(&self, id: u32) -> bool
-        ensures { result ≡ list_any (is_import id) (flat_map (λ entry. value_unless id entry) (map.entries self.now.imports)) }
+        ensures { result ≡ list_any (is_import id) (values_of_others self.now id) }
     {
         self.imported.number(Sought::Import(id)) > own_uses(&self.values, id)
     }
@@ -87,14 +87,13 @@ impl CountedValues {
     {
         self.kept.raise_all(caps_of_value(&value))?;
         let old = match self.values.put_promise(id, value) {
-            Ok(old) => old,
+            Ok(old) => old.flatten(),
             Err(failed) => {
                 self.kept.lower_all(caps_of_value(&failed.value));
                 drop(failed);
                 return Err(AllocError);
             }
         };
-        let old = old.flatten();
         self.kept.lower_all(caps_of_value(&old));
         drop(old);
         Ok(())
@@ -107,14 +106,13 @@ impl CountedValues {
     {
         self.imported.raise_all(caps_of_value(&value))?;
         let old = match self.values.put_import(id, value) {
-            Ok(old) => old,
+            Ok(old) => old.flatten(),
             Err(failed) => {
                 self.imported.lower_all(caps_of_value(&failed.value));
                 drop(failed);
                 return Err(AllocError);
             }
         };
-        let old = old.flatten();
         self.imported.lower_all(caps_of_value(&old));
         drop(old);
         Ok(())
@@ -127,14 +125,13 @@ impl CountedValues {
     {
         self.kept.raise_all(caps_of_outcome(&outcome))?;
         let old = match self.values.put_answer(id, outcome) {
-            Ok(old) => old,
+            Ok(old) => old.flatten(),
             Err(failed) => {
                 self.kept.lower_all(caps_of_outcome(&failed.value));
                 drop(failed);
                 return Err(AllocError);
             }
         };
-        let old = old.flatten();
         self.kept.lower_all(caps_of_outcome(&old));
         drop(old);
         Ok(())

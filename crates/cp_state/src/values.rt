@@ -1,10 +1,11 @@
 //! What promises, imports, answers and questions came to, with the numbers of the promises.
 
-ghost use Rattle.std.specs.Prelude.{◌≡◌, ◌++◌, Some, None, IsSome, IfOk, OnOk, OnErr, option_to_list};
-ghost use Rattle.std.specs.List.{flat_map, list_any};
+ghost use Rattle.std.specs.Prelude.{◌≡◌, Some, None, IsSome, IfOk, OnOk, OnErr};
+ghost use Rattle.std.specs.List.{list_any};
 ghost use Rattle.std.specs.FinMap as map;
-ghost use Rattle.cp_machine.specs.InUse.{is_import, caps_given, value_unless};
+ghost use Rattle.cp_machine.specs.InUse.{is_import};
 ghost use Rattle.cp_state.specs.Sought.{is_sought};
+ghost use Rattle.cp_state.specs.Held.{kept_by, import_values, values_of_others};
 
 use crate::counted_values::CountedValues;
 use crate::halt::Halt;
@@ -60,21 +61,21 @@ impl NumberedValues {
 
     /// Whether it is the value of a promise, or stands in what an answer or a question came to.
     pub(crate) fn is_kept(&self, sought: Sought) -> bool
-        ensures { result ≡ list_any (is_sought sought) (flat_map option_to_list (map.values self.now.promises) ++ flat_map caps_given (map.values self.now.answers) ++ flat_map (λ question. caps_given question.outcome) (map.values self.now.questions)) }
+        ensures { result ≡ list_any (is_sought sought) (kept_by self.now) }
     {
         self.values.is_kept(sought)
     }
 
     /// Whether it is the value of an import.
     pub(crate) fn is_import_value(&self, sought: Sought) -> bool
-        ensures { result ≡ list_any (is_sought sought) (flat_map option_to_list (map.values self.now.imports)) }
+        ensures { result ≡ list_any (is_sought sought) (import_values self.now) }
     {
         self.values.is_import_value(sought)
     }
 
     /// Whether the import is the value of another one.
     pub(crate) fn is_value_of_another(&self, id: u32) -> bool
-        ensures { result ≡ list_any (is_import id) (flat_map (λ entry. value_unless id entry) (map.entries self.now.imports)) }
+        ensures { result ≡ list_any (is_import id) (values_of_others self.now id) }
     {
         self.values.is_value_of_another(id)
     }
