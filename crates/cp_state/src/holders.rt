@@ -1,6 +1,6 @@
 //! How often imports, promises and questions are held.
 
-ghost use Rattle.std.specs.Prelude.{◌≡◌, ℕ, ltb, option_to_list, OnOk, OnErr};
+ghost use Rattle.std.specs.Prelude.{◌≡◌, ltb, option_to_list, OnOk, OnErr};
 ghost use Rattle.cp_machine.specs.InUse.{caps_given};
 ghost use Rattle.cp_state.specs.Counts.{number_of, times_named, times_in, IsMore, IsLess, IsSame};
 ghost use Rattle.cp_state.specs.Sought.{question_caps};
