@@ -1,6 +1,6 @@
 #!/usr/bin/env bash
-# run.sh SERVER BUILD [COUNT]    sessions of a C++ client with `SERVER serve`, plain, and packed through a relay; then COUNT
-#                                sessions (10,000 by default) with one server, whose memory may not grow
+# run.sh SERVER BUILD [COUNT]    sessions of peers at fault, and of a C++ client, with `SERVER serve`, plain, and packed through a relay;
+#                                then COUNT sessions (10,000 by default) with one server, whose memory may not grow
 set -eu
 server=$1 build=$2 count=${3:-10000}
 port=17101 relayed=17102
@@ -22,6 +22,11 @@ begin() { # PORT COMMAND..    runs it as $pid, and waits until it listens on the
 }
 
 memory() { awk '/^VmRSS:/ { print $2 }' "/proc/$1/status"; } # PID
+
+begin "$port" "$server" serve "$port" 26
+"$build/hostile" "$port"
+wait "$pid"
+echo "hostile: each fault has its Abort, and each limit its edge"
 
 for kind in first second abort; do
     begin "$port" "$server" serve "$port" 1
