@@ -5,3 +5,4 @@ pub mod Written
 pub mod Running
 pub mod Writable
 pub mod Reaching
+pub mod Landing
