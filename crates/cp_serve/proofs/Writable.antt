@@ -93,5 +93,5 @@ module _ (m : Message) (writes_ : IsWritable m) where
 -- a message that is sent isn't written for want of memory alone
 pub only_memory : {objects : List Seen} {taken sent : List Message} (ends : Work → Type 0) → Starts objects taken sent ends → (refusal : Refusal) → IsOwnFault sent refusal → IsWantOfMemory refusal
 only_memory ends starts refusal h =
-    let all = subst (AllByRecursion IsWritable) h.1.2 (starts_write ends starts) in
-    for_memory h.0 (one_writes h.1.0 h.1.1 h.0 all) refusal h.2
+    let all = subst (AllByRecursion IsWritable) h.among.2 (starts_write ends starts) in
+    for_memory h.message (one_writes h.among.0 h.among.1 h.message all) refusal h.unwritten

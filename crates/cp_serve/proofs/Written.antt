@@ -92,15 +92,16 @@ module _ {mode : Mode} where
 
 -- a fault of one of some messages is one of more
 own_within : (a b c : List Message) (refusal : Refusal) → IsOwnFault b refusal → IsOwnFault (a ++ (b ++ c)) refusal
-own_within a b c refusal h = (
-  h.0,
-  (
-    a ++ h.1.0,
-    h.1.1 ++ c,
-    ap (λ (x : List Message). a ++ (x ++ c)) h.1.2 ∙ ap (λ (x : List Message). a ++ x) (append_assoc h.1.0 (h.0 ∷ h.1.1) c) ∙ sym (append_assoc a h.1.0 (h.0 ∷ (h.1.1 ++ c))),
-  ),
-  h.2,
-)
+own_within a b c refusal h = record {
+  message = h.message;
+  among = (
+    a ++ h.among.0,
+    h.among.1 ++ c,
+    ap (λ (x : List Message). a ++ (x ++ c)) h.among.2 ∙ ap (λ (x : List Message). a ++ x) (append_assoc h.among.0 (h.message ∷ h.among.1) c)
+        ∙ sym (append_assoc a h.among.0 (h.message ∷ (h.among.1 ++ c))),
+  );
+  unwritten = h.unwritten;
+}
 
 pub own_behind : (a b : List Message) (refusal : Refusal) → IsOwnFault b refusal → IsOwnFault (a ++ b) refusal
 own_behind a b refusal h = subst (λ (x : List Message). IsOwnFault (a ++ x) refusal) (append-nil b) (own_within a b [] refusal h)
@@ -164,5 +165,5 @@ module _ (mode : Mode) (limits : Bounds) (m : Message) (old new : Tap (Vec ℕ G
   pub cut_why : (place : ℕ) (fault : StreamFault) (told : ServeFault) → told ≡ unput place fault → IsCutShort held_by mode limits limits.frame_words 1 m old new fault → IsUnput place (m ∷ []) told
   cut_why place (faults.Refused at refusal) told e h =
       subst (λ (f : ServeFault). IsUnput place (m ∷ []) f) (sym e)
-      (refl, (m, ([], [], refl), subst (λ (l : Bounds). IsUnwrittenFor l l.frame_words 1 m refusal) is_standard h.2))
+      (refl, record { message = m; among = ([], [], refl); unwritten = subst (λ (l : Bounds). IsUnwrittenFor l l.frame_words 1 m refusal) is_standard h.2 })
   cut_why place faults.Device told e h = subst (λ (f : ServeFault). IsUnput place (m ∷ []) f) (sym e) tt

@@ -113,8 +113,10 @@ abbrev pub IsAmong : Message → List Message → Type 0
 IsAmong m ms = (front : List Message) × (back : List Message) × (ms ≡ front ++ m ∷ back)
 
 -- one of these messages isn't written: memory ran out for its frame, or its tree isn't one that can be
-abbrev pub IsOwnFault : List Message → Refusal → Type 0
-IsOwnFault sent refusal = (m : Message) × IsAmong m sent × IsUnwrittenFor standard standard.frame_words 1 m refusal
+pub record IsOwnFault (sent : List Message) (refusal : Refusal) : Type 0 where
+  pub message : Message
+  pub among : IsAmong message sent
+  pub unwritten : IsUnwrittenFor standard standard.frame_words 1 message refusal
 
 -- the fault of a block, which takes all bytes for which there is memory
 abbrev pub unput : ℕ → StreamFault → ServeFault
