@@ -5,8 +5,8 @@ use crate::fault::Unserved;
 use crate::plan::{Plan, act};
 use crate::status::{ACCEPTED, BROKEN};
 use cp_frame::Mode;
-use cp_serve::{Cell, Desk, Servant, serve};
-use cp_stream::Tap;
+use cp_serve::{Cell, Desk, Servant, ServeFault, serve};
+use cp_stream::{StreamFault, Tap};
 use cp_words::Limits;
 use std::alloc::Global;
 use std::io::{self, Read, Write};
@@ -91,7 +91,8 @@ fn serve_next<E: Write>(alloc: Global, listener: &TcpListener, mode: Mode, err: 
     };
     match serve_stream(alloc, &stream, mode) {
         Ok(()) => ACCEPTED,
-        Err(unserved) => {
+        Err(fault) => {
+            let unserved = Unserved(fault);
             let _ = writeln!(err, "{unserved} (peer {peer})");
             unserved.status()
         }
@@ -99,9 +100,11 @@ fn serve_next<E: Write>(alloc: Global, listener: &TcpListener, mode: Mode, err: 
 }
 
 /// Serves a connection.
-fn serve_stream(alloc: Global, stream: &TcpStream, mode: Mode) -> Result<(), Unserved> {
+fn serve_stream(alloc: Global, stream: &TcpStream, mode: Mode) -> Result<(), ServeFault> {
     // What was sent goes out at once, as the peer may wait for it.
-    stream.set_nodelay(true)?;
+    if stream.set_nodelay(true).is_err() {
+        return Err(ServeFault::Stream(StreamFault::Device));
+    }
     serve_objects(alloc, stream, stream, mode)
 }
 
@@ -111,7 +114,7 @@ fn serve_objects<R: Read + Drop, W: Write + Drop>(
     from: R,
     to: W,
     mode: Mode,
-) -> Result<(), Unserved> {
+) -> Result<(), ServeFault> {
     let mut objects: Vec<Box<dyn Servant>> = Vec::new(alloc);
     objects.push(Box::new(alloc, Desk::new(alloc))?)?;
     objects.push(Box::new(alloc, Cell::new(alloc))?)?;
@@ -166,7 +169,8 @@ impl Loop {
         let show = Plan::Show { mode, limits };
         match served {
             Ok(()) => act(alloc, &show, &mut client, out, err),
-            Err(unserved) => {
+            Err(fault) => {
+                let unserved = Unserved(fault);
                 let _ = act(alloc, &show, &mut client, out, &mut io::sink());
                 let _ = writeln!(err, "{unserved}");
                 unserved.status()

@@ -134,7 +134,7 @@ module _ (S : List (List ℕ)) (s p : ℕ) where
       let a = aims_found (kinds.List size n) s' start l.aims in
       record { pointer = a.0; aim = record { kind = kinds.List size n; segment = s'; start = Some start }; says = a.1; aims = a.2; area = rw (fits (segment S s') (words_for size n) start l.inside) refl }
 
-toll_taken : (at : Place) (n price left : ℕ) → 0 < n → price ≤ left → toll at n price left ≡ Ok (left - price)
+pub toll_taken : (at : Place) (n price left : ℕ) → 0 < n → price ≤ left → toll at n price left ≡ Ok (left - price)
 toll_taken at n price left deep room =
     let a : (n == 0) ≡ false = grind (arith, nat_tests) in
     let b : nat_lt left price ≡ false = grind (arith, nat_tests) in

@@ -7,6 +7,7 @@ pub mod Complete
 pub mod OneTree
 pub mod Decided
 pub mod Views
+pub mod Measuring
 pub mod Roots
 pub mod Builds
 pub mod Built

@@ -220,7 +220,7 @@ fn check_row<L: Ledger>(
 }
 
 /// The root's place.
-const TOP: Place = Place {
+pub(crate) const TOP: Place = Place {
     segment: 0,
     word: 0,
 };

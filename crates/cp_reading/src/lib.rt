@@ -9,6 +9,7 @@ mod decide;
 mod decide_list;
 mod fault;
 mod fit;
+mod measure;
 mod near;
 mod read;
 mod view;

@@ -1,11 +1,11 @@
 //! Entries under numbers.
 
-ghost use Rattle.std.specs.Prelude.{◌≡◌, ◌↔◌, Some, None, IsTrue, IsSome, OnOk, OnErr, option_copied};
+ghost use Rattle.std.specs.Prelude.{◌≡◌, ◌↔◌, Some, None, IsTrue, IsSome, IfErr, OnOk, OnErr, option_copied};
 ghost use Rattle.std.specs.Option.{option_copied_mut};
 ghost use Rattle.std.specs.Borrow.{Lends, LendsIf, sem};
 ghost use Rattle.std.specs.FinMap as map;
 
-use std::alloc::{AllocError, Global};
+use std::alloc::{AllocFailed, Global};
 use std::collections::BTreeMap;
 use std::collections::btree_map::Iter;
 use std::marker::Model;
@@ -79,14 +79,20 @@ impl<V> Entries<V> {
         }
     }
 
-    /// Puts the entry under the number, in place of one that was there.
-    pub(crate) fn put(&mut self, id: u64, entry: V) -> Result<(), AllocError>
+    /// Puts the entry under the number, in place of one that was there. Where memory runs out the entry
+    /// comes back.
+    pub(crate) fn put(&mut self, id: u64, entry: V) -> Result<(), AllocFailed<V>>
     where
         V: Drop,
         ensures put { OnOk result (self.new ≡ map.insert self.old id entry) }
+        ensures back { IfErr result (λ failed. failed.value ≡ entry) }
         ensures err { OnErr result (self.new ≡ self.old) }
     {
-        let _ = self.entries.insert(id, entry)?;
+        if let Err(failed) = self.entries.insert(id, entry) {
+            return Err(AllocFailed {
+                value: failed.value.1,
+            });
+        }
         Ok(())
     }
 

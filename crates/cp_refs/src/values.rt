@@ -10,7 +10,7 @@ use crate::outcome::{Outcome, cap_along, failed, null_capability};
 use crate::route::{Gate, Route};
 use crate::walk::{Pace, Walk};
 use cp_tables::Entries;
-use std::alloc::{AllocError, Global};
+use std::alloc::{AllocError, AllocFailed, Global};
 use std::collections::btree_map::Iter;
 use std::marker::Model;
 
@@ -52,7 +52,7 @@ impl Model for Values {
 }
 
 impl Values {
-    ghost use Rattle.std.specs.Prelude.{◌≡◌, ◌≢◌, Option, IfOk, OnOk, OnErr, option_copied};
+    ghost use Rattle.std.specs.Prelude.{◌≡◌, ◌≢◌, Option, IfOk, IfErr, OnOk, OnErr, option_copied};
     ghost use Rattle.std.specs.FinMap as map;
     ghost use Rattle.cp_refs.specs.Route.{missing, way, promise_way, question_way, Routes, HasRoute};
     ghost use Rattle.cp_refs.specs.Steps.{StepsFrom};
@@ -126,36 +126,64 @@ impl Values {
         self.questions.iter()
     }
 
-    /// Puts what a promise came to.
-    pub fn put_promise(&mut self, id: PromiseId, value: Option<Cap>) -> Result<(), AllocError>
+    /// Puts what a promise came to, and gives what it had come to. Where memory runs out the value comes
+    /// back.
+    pub fn put_promise(
+        &mut self,
+        id: PromiseId,
+        value: Option<Cap>,
+    ) -> Result<Option<Option<Cap>>, AllocFailed<Option<Cap>>>
+        ensures value { IfOk result (λ old. old ≡ map.get self.old.promises id) }
         ensures put { OnOk result (self.new ≡ record self.old { promises = map.insert self.old.promises id value }) }
+        ensures back { IfErr result (λ failed. failed.value ≡ value) }
         ensures err { OnErr result (self.new ≡ self.old) }
     {
-        self.promises.put(id, value)
+        self.promises.replace(id, value)
     }
 
-    /// Puts what an import came to.
-    pub fn put_import(&mut self, id: u32, value: Option<Cap>) -> Result<(), AllocError>
+    /// Puts what an import came to, and gives what it had come to. Where memory runs out the value comes
+    /// back.
+    pub fn put_import(
+        &mut self,
+        id: u32,
+        value: Option<Cap>,
+    ) -> Result<Option<Option<Cap>>, AllocFailed<Option<Cap>>>
+        ensures value { IfOk result (λ old. old ≡ map.get self.old.imports id) }
         ensures put { OnOk result (self.new ≡ record self.old { imports = map.insert self.old.imports id value }) }
+        ensures back { IfErr result (λ failed. failed.value ≡ value) }
         ensures err { OnErr result (self.new ≡ self.old) }
     {
-        self.imports.put(id, value)
+        self.imports.replace(id, value)
     }
 
-    /// Puts what an answer came to.
-    pub fn put_answer(&mut self, id: u32, outcome: Option<Outcome>) -> Result<(), AllocError>
+    /// Puts what an answer came to, and gives what it had come to. Where memory runs out the outcome comes
+    /// back.
+    pub fn put_answer(
+        &mut self,
+        id: u32,
+        outcome: Option<Outcome>,
+    ) -> Result<Option<Option<Outcome>>, AllocFailed<Option<Outcome>>>
+        ensures value { IfOk result (λ old. old ≡ map.get self.old.answers id) }
         ensures put { OnOk result (self.new ≡ record self.old { answers = map.insert self.old.answers id outcome }) }
+        ensures back { IfErr result (λ failed. failed.value ≡ outcome) }
         ensures err { OnErr result (self.new ≡ self.old) }
     {
-        self.answers.put(id, outcome)
+        self.answers.replace(id, outcome)
     }
 
-    /// Puts a question and what it came to.
-    pub fn put_question(&mut self, id: u32, question: Question) -> Result<(), AllocError>
+    /// Puts a question and what it came to, and gives the one that was there. Where memory runs out
+    /// the question comes back.
+    pub fn put_question(
+        &mut self,
+        id: u32,
+        question: Question,
+    ) -> Result<Option<Question>, AllocFailed<Question>>
+        ensures value { IfOk result (λ old. old ≡ map.get self.old.questions id) }
         ensures put { OnOk result (self.new ≡ record self.old { questions = map.insert self.old.questions id question }) }
+        ensures back { IfErr result (λ failed. failed.value ≡ question) }
         ensures err { OnErr result (self.new ≡ self.old) }
     {
-        self.questions.put(id, question)
+        self.questions.replace(id, question)
     }
 
     /// Takes a promise out.

@@ -9,7 +9,7 @@ use crate::call::Held;
 use crate::entries::Entries;
 use crate::route::Gate;
 use crate::tickets::Tickets;
-use std::alloc::{AllocError, Global};
+use std::alloc::{AllocError, AllocFailed, Global};
 use std::collections::btree_map::Iter;
 use std::marker::Model;
 
@@ -38,7 +38,7 @@ impl Model for Waiting {
 }
 
 impl Waiting {
-    ghost use Rattle.std.specs.Prelude.{◌≡◌, None, IfSome, IfNone, OnOk, OnErr, option_copied};
+    ghost use Rattle.std.specs.Prelude.{◌≡◌, None, IfSome, IfNone, IfErr, OnOk, OnErr, option_copied};
     ghost use Rattle.std.specs.FinMap as map;
     ghost use Rattle.std.specs.FinSet as set;
     ghost use Rattle.cp_refs.specs.Waiting.{Ends, Leaves};
@@ -69,18 +69,21 @@ impl Waiting {
         self.calls.iter()
     }
 
-    /// Takes in a call, whose ticket no other one has.
-    pub fn hold(&mut self, held: Held) -> Result<(), AllocError>
+    /// Takes in a call, whose ticket no other one has. Where memory runs out the call comes back.
+    pub fn hold(&mut self, held: Held) -> Result<(), AllocFailed<Held>>
         requires { map.get self.old.calls held.ticket ≡ None }
         ensures held { OnOk result (self.new ≡ record self.old { calls = map.insert self.old.calls held.ticket held }) }
+        ensures back { IfErr result (λ failed. failed.value ≡ held) }
         ensures err { OnErr result (self.new ≡ self.old) }
     {
         let ticket = held.ticket;
         let key = gate_key(&held.gate);
         self.calls.put(ticket, held)?;
-        if let Err(error) = queue_up(self.alloc, &mut self.queues, key, ticket) {
-            drop(self.calls.remove(ticket));
-            return Err(error);
+        if let Err(AllocError) = queue_up(self.alloc, &mut self.queues, key, ticket) {
+            let Some(held) = self.calls.remove(ticket) else {
+                unreachable!()
+            };
+            return Err(AllocFailed { value: held });
         }
         Ok(())
     }
@@ -133,7 +136,7 @@ fn queue_up(
         None => {
             let mut queue = Tickets::new(alloc);
             queue.insert(ticket)?;
-            queues.put(key, queue)
+            Ok(queues.put(key, queue)?)
         }
     }
 }

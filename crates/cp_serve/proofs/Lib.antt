@@ -3,4 +3,6 @@ pub mod Objects
 pub mod Working
 pub mod Written
 pub mod Running
+pub mod Writable
 pub mod Reaching
+pub mod Landing

@@ -1,5 +1,5 @@
 -- How what a server has come to goes on.
-use Rattle.std.proofs.Common.{◌≡◌, ◌≢◌, ◌⊎◌, inl, inr, ℕ, ◌+◌, ◌-◌, ◌^◌, ◌≤◌, min, IsSome, List, [], ◌∷◌, ◌++◌, Option, None, refl, sym, ap, ◌∙◌, subst, length, append-nil, append_assoc, length-append, add_assoc, Bool, true, take, arith}
+use Rattle.std.proofs.Common.{◌≡◌, ◌≢◌, ◌⊎◌, inl, inr, ℕ, ◌+◌, ◌-◌, ◌^◌, ◌≤◌, min, IsSome, List, [], ◌∷◌, ◌++◌, Option, Some, None, refl, sym, ap, ◌∙◌, subst, length, append-nil, append_assoc, length-append, add_assoc, Bool, true, take, arith}
 use Rattle.std.proofs.lemmas.List.{length_push}
 use Rattle.std.specs.Io.KnownBytes.{Consumes}
 use Rattle.std.proofs.KnownBytes.{Consumes-trans}
@@ -13,7 +13,8 @@ use Rattle.cp_stream.specs.declared.fault.Refusal.TheVariants as refusals
 use Rattle.cp_stream.specs.declared.fault.StreamFault.{StreamFault}
 use Rattle.cp_stream.specs.declared.fault.StreamFault.TheVariants as streams
 use Rattle.cp_frame.specs.Frame.{Frame}
-use Rattle.cp_stream.specs.Stream.{Messages, IsFrameOf, HoldsNone}
+use Rattle.cp_stream.specs.Stream.{Messages, IsFrameOf, Holds, HoldsNone}
+use Rattle.cp_machine.specs.declared.effect.Reason.{Reason}
 use Rattle.cp_stream.specs.Reader.{CountsOn, IsAt, IsMemory}
 use Rattle.cp_stream.specs.Read.{FailedOnce}
 use Rattle.cp_stream.proofs.Reading.{messages_push}
@@ -27,8 +28,9 @@ use Rattle.cp_serve.specs.Work.{Work}
 use Rattle.cp_serve.specs.WorkOf.{work_of}
 use Rattle.cp_serve.specs.Service.{TakesAll, none_taken, takes_more, TakesMessage, none_yet, one_more, Rounds, written, new_work}
 use Rattle.cp_serve.specs.Output.{Device, Writes, WritesPart, IsPlace, IsFaultOfRest, IsOver, IsServed, IsCutOff, StopsFor, IsStopped}
-use Rattle.cp_serve.specs.Reached.{CountsMore, Reached, ReadsOn, Serves, GoesOn, OnlyReads, OnlyWrites, TakesNext, TakesNone, IsRefusedAt, IsUnwritten, IsUnended, EndsInside, EndsSo, EndsPart, Closes}
+use Rattle.cp_serve.specs.Reached.{CountsMore, Reached, ReadsOn, Serves, GoesOn, Fills, OnlyWrites, TakesNext, TakesNone, IsRefusedAt, IsUntaken, IsUnput, IsUnwritten, IsUnended, EndsInside, EndsSo, EndsPart, Closes}
 use Rattle.cp_serve.proofs.Running.{none_some, ran_takes, ran_closes, run_of}
+use Rattle.cp_serve.proofs.Writable.{only_memory}
 use Rattle.cp_serve.proofs.Written.{writes_none, writes_both, writes_all, part_behind, own_behind}
 
 -- more bytes follow
@@ -76,24 +78,22 @@ module _ {mode : Mode} {start : List Seen} {held : Device} where
   }
 
   -- a message more was taken, and what it leads to was written
-  pub reached_more : (bytes rest front : List ℕ) (s s1 s2 s3 : Server) {objects others : List Seen} (to to' : Device) (m : Message) → Reached mode start held bytes rest s objects to
-      → (work_of s.session).closed ≡ None → IsFrameOf s.mode standard (rest ++ front) m → CountsOn s.at (length (rest ++ front)) s1.at → CountsOn s.messages 1 s1.messages → OnlyReads s s1
-      → TakesMessage (work_of s1.session) objects m (work_of s2.session) others → OnlyWrites s1 s2 → s2.sent ≡ s1.sent
+  pub reached_more : (bytes rest left back : List ℕ) (s s2 s3 : Server) {objects others : List Seen} (to to' : Device) → Reached mode start held bytes rest s objects to
+      → (work_of s.session).closed ≡ None → (next : TakesNext rest s left objects s2 back others)
       → work_of s3.session ≡ written (work_of s2.session) → OnlyWrites s2 s3 → Writes s2.mode (work_of s2.session).sent to to' → CountsMore s2.sent (length (work_of s2.session).sent) s3.sent
-      → Reached mode start held (bytes ++ front) [] s3 others to'
-  reached_more bytes rest front s s1 s2 s3 {objects = objects} {others = others} to to' m r is_open frame at messages only message took same flushed wrote writes counts =
-      let mode_now : s2.mode ≡ mode = took.mode ∙ only.mode ∙ r.same_mode in
-      let first = subst (λ (x : Session). TakesMessage (work_of x) objects m (work_of s2.session) others) only.session message in
+      → Reached mode start held (bytes ++ next.front) [] s3 others to'
+  reached_more bytes rest left back s s2 s3 to to' r is_open next flushed wrote writes counts =
+      let mode_now : s2.mode ≡ mode = next.mode ∙ r.same_mode in
       record {
-        taken = r.taken ++ m ∷ [];
+        taken = r.taken ++ next.message ∷ [];
         sent = r.sent ++ (work_of s2.session).sent;
-        messages = messages_push mode standard (bytes ++ front) r.taken (rest ++ front) [] m (grown mode bytes rest front r.taken r.messages) (subst (λ (x : Mode). IsFrameOf x standard (rest ++ front) m) r.same_mode frame);
-        takes = takes_more m r.takes is_open first refl refl flushed;
+        messages = messages_push mode standard (bytes ++ next.front) r.taken (rest ++ next.front) [] next.message (grown mode bytes rest next.front r.taken r.messages) (subst (λ (x : Mode). IsFrameOf x standard (rest ++ next.front) next.message) r.same_mode next.frame);
+        takes = takes_more next.message r.takes is_open next.takes refl refl flushed;
         writes = writes_both held to to' r.writes (subst (λ (x : Mode). Writes x (work_of s2.session).sent to to') mode_now writes);
-        place = wrote.at ∙ took.at ∙ place_more bytes rest front s.at s1.at (rest_fits mode standard bytes r.taken rest r.messages) r.place at;
-        counted = wrote.messages ∙ took.messages ∙ counts_one (length r.taken) s.messages s1.messages r.counted messages ∙ ap (λ (n : ℕ). min n (2 ^ 64 - 1)) (sym (length_push r.taken m));
+        place = wrote.at ∙ place_more bytes rest next.front s.at s2.at (rest_fits mode standard bytes r.taken rest r.messages) r.place next.place;
+        counted = wrote.messages ∙ counts_one (length r.taken) s.messages s2.messages r.counted next.counted ∙ ap (λ (n : ℕ). min n (2 ^ 64 - 1)) (sym (length_push r.taken next.message));
         counted_sent =
-            counts (length r.sent) (same ∙ only.sent ∙ r.counted_sent)
+            counts (length r.sent) (next.sent ∙ r.counted_sent)
             ∙ ap (λ (n : ℕ). min n (2 ^ 64 - 1)) (sym (length-append r.sent (work_of s2.session).sent));
         same_mode = wrote.mode ∙ mode_now;
       }
@@ -135,44 +135,45 @@ module _ {mode : Mode} {start : List Seen} {held : Device} where
   stops_full bytes rest more from left others r = cut_there bytes rest more left.bytes r
 
   -- a message more was taken, and of what it leads to a beginning was written
-  abbrev cut_writing : (bytes rest front back : List ℕ) (left : Option (List ℕ)) (s s1 s2 : Server) {objects others : List Seen} (to to' : Device) (m : Message) → Reached mode start held bytes rest s objects to
-      → (work_of s.session).closed ≡ None → IsFrameOf s.mode standard (rest ++ front) m → OnlyReads s s1 → TakesMessage (work_of s1.session) objects m (work_of s2.session) others → OnlyWrites s1 s2
-      → WritesPart s2.mode (work_of s2.session).sent to to' → IsCutOff mode start ((bytes ++ front) ++ back) left held to'
-  cut_writing bytes rest front back left s s1 s2 {objects = objects} {others = others} to to' m r is_open frame only message took part = record {
-    taken = r.taken ++ m ∷ [];
+  abbrev cut_writing : (bytes rest piece back : List ℕ) (left : Option (List ℕ)) (s s2 : Server) {objects others : List Seen} (to to' : Device) → Reached mode start held bytes rest s objects to
+      → (work_of s.session).closed ≡ None → (next : TakesNext rest s piece objects s2 back others) → WritesPart s2.mode (work_of s2.session).sent to to'
+      → IsCutOff mode start ((bytes ++ next.front) ++ back) left held to'
+  cut_writing bytes rest piece back left s s2 {others = others} to to' r is_open next part = record {
+    taken = r.taken ++ next.message ∷ [];
     rest = back;
     messages =
-        messages_grow mode standard (bytes ++ front) (r.taken ++ m ∷ []) [] back
-        (messages_push mode standard (bytes ++ front) r.taken (rest ++ front) [] m (grown mode bytes rest front r.taken r.messages) (subst (λ (x : Mode). IsFrameOf x standard (rest ++ front) m) r.same_mode frame));
+        messages_grow mode standard (bytes ++ next.front) (r.taken ++ next.message ∷ []) [] back
+        (messages_push mode standard (bytes ++ next.front) r.taken (rest ++ next.front) [] next.message (grown mode bytes rest next.front r.taken r.messages) (subst (λ (x : Mode). IsFrameOf x standard (rest ++ next.front) next.message) r.same_mode next.frame));
     sent = r.sent ++ (work_of s2.session).sent;
-    starts = inl (written (work_of s2.session), others, takes_more m r.takes is_open (subst (λ (x : Session). TakesMessage (work_of x) objects m (work_of s2.session) others) only.session message) refl refl refl);
-    writes = part_behind r.sent (work_of s2.session).sent held to to' r.writes (subst (λ (x : Mode). WritesPart x (work_of s2.session).sent to to') (took.mode ∙ only.mode ∙ r.same_mode) part);
+    starts = inl (written (work_of s2.session), others, takes_more next.message r.takes is_open next.takes refl refl refl);
+    writes = part_behind r.sent (work_of s2.session).sent held to to' r.writes (subst (λ (x : Mode). WritesPart x (work_of s2.session).sent to to') (next.mode ∙ r.same_mode) part);
   }
 
   -- and so the run stops
-  pub stops_writing : (bytes rest front back : List ℕ) (from left : Device) (s s1 s2 : Server) {objects others : List Seen} (to to' : Device) (m : Message) → Reached mode start held bytes rest s objects to
-      → (work_of s.session).closed ≡ None → IsFrameOf s.mode standard (rest ++ front) m → CountsOn s.at (length (rest ++ front)) s1.at → OnlyReads s s1
-      → TakesMessage (work_of s1.session) objects m (work_of s2.session) others → OnlyWrites s1 s2 → WritesPart s2.mode (work_of s2.session).sent to to'
-      → (fault : ServeFault) → IsUnwritten s2.at (work_of s2.session).sent to to' fault → StopsFor mode start ((bytes ++ front) ++ back) from left held to' others fault
-  stops_writing bytes rest front back from left s s1 s2 to to' m r is_open frame at only message took part (faults.Stream (streams.Refused there refusal)) h =
-      let place : IsPlace ((bytes ++ front) ++ back) back s2.at =
-      took.at ∙ place_stays (bytes ++ front) [] back s1.at (place_more bytes rest front s.at s1.at (rest_fits mode standard bytes r.taken rest r.messages) r.place at) in
-      inr (cut_writing bytes rest front back left.bytes s s1 s2 to to' m r is_open frame only message took part, own_behind r.sent (work_of s2.session).sent refusal h.1, h.0 ∙ place)
-  stops_writing bytes rest front back from left s s1 s2 to to' m r is_open frame at only message took part (faults.Stream streams.Device) h =
-      (inr (subst (λ (n : ℕ). FailedOnce n to'.failures) r.writes.counted h), cut_writing bytes rest front back left.bytes s s1 s2 to to' m r is_open frame only message took part)
-  stops_writing bytes rest front back from left s s1 s2 to to' m r is_open frame at only message took part faults.OutOfMemory h = absurd h
+  pub stops_putting : (bytes rest piece back : List ℕ) (from left : Device) (s s2 : Server) {objects others : List Seen} (to to' : Device) → Reached mode start held bytes rest s objects to
+      → (work_of s.session).closed ≡ None → (next : TakesNext rest s piece objects s2 back others) → WritesPart s2.mode (work_of s2.session).sent to to'
+      → (fault : ServeFault) → IsUnput s2.at (work_of s2.session).sent fault → StopsFor mode start ((bytes ++ next.front) ++ back) from left held to' others fault
+  stops_putting bytes rest piece back from left s s2 to to' r is_open next part (faults.Stream (streams.Refused at refusal)) h =
+      let place : IsPlace ((bytes ++ next.front) ++ back) back s2.at =
+      place_stays (bytes ++ next.front) [] back s2.at (place_more bytes rest next.front s.at s2.at (rest_fits mode standard bytes r.taken rest r.messages) r.place next.place) in
+      let cut = cut_writing bytes rest piece back left.bytes s s2 to to' r is_open next part in
+      inr (cut, only_memory (IsOver ((bytes ++ next.front) ++ back) cut.rest left.bytes) cut.starts refusal (own_behind r.sent (work_of s2.session).sent refusal h.1), h.0 ∙ place)
+  stops_putting bytes rest piece back from left s s2 to to' r is_open next part (faults.Stream streams.Device) h = absurd h
+  stops_putting bytes rest piece back from left s s2 to to' r is_open next part faults.OutOfMemory h = cut_writing bytes rest piece back left.bytes s s2 to to' r is_open next part
 
-  -- a front of the piece was taken, and what is left is refused
-  pub piece_refused : (bytes fed rest left piece : List ℕ) (from upto : Device) {s : Server} {objects : List Seen} {to : Device} → piece ≡ fed ++ left → Reached mode start held (bytes ++ fed) rest s objects to
-      → (work_of s.session).closed ≡ None → (fault : StreamFault) → IsRefusedAt s.mode (rest ++ left) s.at fault → StopsFor mode start (bytes ++ piece) from upto held to objects (faults.Stream fault)
-  piece_refused bytes fed rest left piece from upto {objects = objects} {to = to} e r is_open fault why =
-      subst (λ (x : List ℕ). StopsFor mode start x from upto held to objects (faults.Stream fault)) (whole_piece bytes fed left piece e) (stops_reading (bytes ++ fed) rest left from upto r is_open fault why)
-
-  -- or memory ran out
+  -- a front of the piece was taken, and memory ran out
   pub piece_full : (bytes fed rest left piece : List ℕ) (from upto : Device) (others : List Seen) {s : Server} {objects : List Seen} {to : Device} → piece ≡ fed ++ left
       → Reached mode start held (bytes ++ fed) rest s objects to → StopsFor mode start (bytes ++ piece) from upto held to others faults.OutOfMemory
   piece_full bytes fed rest left piece from upto others {to = to} e r =
       subst (λ (x : List ℕ). StopsFor mode start x from upto held to others faults.OutOfMemory) (whole_piece bytes fed left piece e) (stops_full (bytes ++ fed) rest left from upto others r)
+
+  -- or what is left is refused
+  pub piece_untaken : (bytes fed rest left piece : List ℕ) (from upto : Device) (others : List Seen) {s : Server} {objects : List Seen} {to : Device} → piece ≡ fed ++ left → Reached mode start held (bytes ++ fed) rest s objects to
+      → (work_of s.session).closed ≡ None → (fault : ServeFault) → IsUntaken s.mode (rest ++ left) s.at objects others fault → StopsFor mode start (bytes ++ piece) from upto held to others fault
+  piece_untaken bytes fed rest left piece from upto others {objects = objects} {to = to} e r is_open (faults.Stream fault) why =
+      subst (λ (o : List Seen). StopsFor mode start (bytes ++ piece) from upto held to o (faults.Stream fault)) (sym why.1)
+      (subst (λ (x : List ℕ). StopsFor mode start x from upto held to objects (faults.Stream fault)) (whole_piece bytes fed left piece e) (stops_reading (bytes ++ fed) rest left from upto r is_open fault why.0))
+  piece_untaken bytes fed rest left piece from upto others e r is_open faults.OutOfMemory why = piece_full bytes fed rest left piece from upto others e r
 
   -- the stream ends inside a frame
   pub stops_inside : (bytes rest : List ℕ) (from left : Device) {s : Server} {objects : List Seen} {to : Device} → Reached mode start held bytes rest s objects to → (work_of s.session).closed ≡ None
@@ -237,14 +238,51 @@ refuses mode rest front back S f (refusals.Schema fault) h left = (S, rest ++ fr
 refuses mode rest front back S f (refusals.Write fault) h left = absurd h
 
 pub refused_message : (s : Server) (rest piece front back : List ℕ) (S : List (List ℕ)) (fault : StreamFault) → ReadsOn rest s → piece ≡ front ++ back
-    → ((b : List ℕ) → frames.StandsFor s.frames b → Frame s.frames.mode s.frames.limits S (b ++ front)) → IsAt s.at (λ r. IsMemory r ⊎ HoldsNone standard S r) fault
+    → ((b : List ℕ) → frames.StandsFor s.frames b → Frame s.frames.mode s.frames.limits S (b ++ front)) → IsAt s.at (HoldsNone standard S) fault
     → IsRefusedAt s.mode (rest ++ piece) s.at fault
-refused_message s rest piece front back S (streams.Refused at refusal) on e f (place, inl memory) = (place, inl memory)
-refused_message s rest piece front back S (streams.Refused at refusal) on e f (place, inr none) =
+refused_message s rest piece front back S (streams.Refused at refusal) on e f (place, none) =
     let here : Frame s.mode standard S (rest ++ front) =
     subst (λ (l : Bounds). Frame s.mode l S (rest ++ front)) on.frames_limits (subst (λ (m : Mode). Frame m s.frames.limits S (rest ++ front)) on.frames_mode (f rest on.stands)) in
     (place, inr (λ left. subst (λ (x : List ℕ). IsFaultOfRest s.mode x left refusal) (append_assoc rest front back ∙ ap (λ (x : List ℕ). rest ++ x) (sym e)) (refuses s.mode rest front back S here refusal none left)))
 refused_message s rest piece front back S streams.Device on e f h = absurd h
+
+-- a reader that stands for nothing so far, which is open, reads on
+reading_on : (mode : Mode) (limits : Bounds) (state : frames.State) → frames.Stands mode limits state [] → Open mode limits [] → frames.IsReading state
+reading_on mode limits frames.failed h still = absurd h
+reading_on mode limits (frames.refusing fault) h still = absurd (still.no_fault fault h)
+reading_on mode limits (frames.reading rest taken) h still = tt
+
+-- a frame was read, and its message taken
+pub takes_next : (s : Server) (rest piece : List ℕ) (taken : ℕ) (S : List (List ℕ)) (read : frames.Reader) (back : List ℕ) (m : Message) (session : Session) (at messages : ℕ) {objects others : List Seen} → ReadsOn rest s
+    → (gives : frames.GivesNext s.frames piece taken S read back) → Holds standard S m → (now : frames.Reader) → now ≡ read → CountsOn s.at taken at → CountsOn s.messages 1 messages
+    → TakesMessage (work_of s.session) objects m (work_of session) others
+    → TakesNext rest s piece objects (record s { frames = now; at = at; session = session; messages = messages }) back others
+takes_next s rest piece taken S read back m session at messages {objects = objects} {others = others} on gives holds now same counts counted takes =
+    let same_mode : now.mode ≡ s.mode = ap (λ (r : frames.Reader). r.mode) same ∙ gives.same_mode ∙ on.frames_mode in
+    let same_limits : now.limits ≡ standard = ap (λ (r : frames.Reader). r.limits) same ∙ gives.same_limits ∙ on.frames_limits in
+    let stands : frames.StandsFor now [] = subst (λ (r : frames.Reader). frames.StandsFor r []) (sym same) gives.fresh in
+    let nothing : Open now.mode now.limits [] = subst (λ (l : Bounds). Open now.mode l []) (sym same_limits) (subst (λ (x : Mode). Open x standard []) (sym same_mode) on.nothing) in
+    let frame : Frame s.mode standard S (rest ++ gives.front) =
+    subst (λ (l : Bounds). Frame s.mode l S (rest ++ gives.front)) on.frames_limits (subst (λ (x : Mode). Frame x s.frames.limits S (rest ++ gives.front)) on.frames_mode (gives.frame rest on.stands)) in
+    record {
+      message = m;
+      front = gives.front;
+      whole = gives.whole;
+      frame = (S, frame, holds);
+      place = counts ∙ ap (λ (n : ℕ). min (s.at + n) (2 ^ 64 - 1)) (gives.count rest on.stands);
+      counted = counted;
+      reads = record {
+        frames_mode = same_mode;
+        frames_limits = same_limits;
+        reading = reading_on now.mode now.limits now.state stands nothing;
+        stands = stands;
+        nothing = on.nothing;
+        is_open = on.is_open;
+      };
+      takes = takes;
+      mode = refl;
+      sent = refl;
+    }
 
 -- the server reads on behind what it wrote
 pub reads_after : (s new : Server) → ReadsOn [] s → new.frames ≡ s.frames → new.mode ≡ s.mode → (work_of new.session).closed ≡ None → ReadsOn [] new
@@ -307,7 +345,7 @@ module _ (old : Server) (objects : List Seen) (before : Device) where
       → IsUnwritten s2.at (work_of s2.session).sent to to' fault → IsUnended old.at (h.sent ++ (work_of s2.session).sent) before to' fault
   why_unended mid s2 to to' h did (faults.Stream (streams.Refused at refusal)) why = (why.0 ∙ did.at ∙ h.only.at, own_behind h.sent (work_of s2.session).sent refusal why.1)
   why_unended mid s2 to to' h did (faults.Stream streams.Device) why = subst (λ (n : ℕ). FailedOnce n to'.failures) h.writes.counted why
-  why_unended mid s2 to to' h did faults.OutOfMemory why = absurd why
+  why_unended mid s2 to to' h did faults.OutOfMemory why = tt
 
 module _ {mode : Mode} {start : List Seen} {held : Device} where
   abbrev cut_closing : (bytes rest : List ℕ) (left : Option (List ℕ)) {s : Server} {objects : List Seen} (mid to : Device) → Reached mode start held bytes rest s objects mid
@@ -326,7 +364,8 @@ module _ {mode : Mode} {start : List Seen} {held : Device} where
       → Consumes from.bytes left.bytes bytes → IsOver bytes rest left.bytes (work_of s.session) → (p : EndsPart s objects mid to) → (fault : ServeFault) → IsUnended s.at p.sent mid to fault
       → IsStopped mode start from left held to others fault
   ends_short bytes rest from left others mid to r consumed over p (faults.Stream (streams.Refused at refusal)) h =
-      (bytes, consumed, inr (cut_closing bytes rest left.bytes mid to r over p, own_behind r.sent p.sent refusal h.1, h.0 ∙ r.place))
+      let cut = cut_closing bytes rest left.bytes mid to r over p in
+      (bytes, consumed, inr (cut, only_memory (IsOver bytes rest left.bytes) cut.starts refusal (own_behind r.sent p.sent refusal h.1), h.0 ∙ r.place))
   ends_short bytes rest from left others mid to r consumed over p (faults.Stream streams.Device) h =
       (bytes, consumed, (inr (subst (λ (n : ℕ). FailedOnce n to.failures) r.writes.counted h), cut_closing bytes rest left.bytes mid to r over p))
   ends_short bytes rest from left others mid to r consumed over p faults.OutOfMemory h = (bytes, consumed, cut_closing bytes rest left.bytes mid to r over p)
@@ -371,45 +410,65 @@ module _ {mode : Mode} {start : List Seen} {held : Device} where
       subst (λ (x : List ℕ). Serves mode start held (bytes ++ x) s objects to) (sym (e ∙ ap (λ (x : List ℕ). fed ++ x) none ∙ append-nil fed)) h
 
   -- no frame ends in what is left of the piece
-  pub goes_none : (bytes fed rest left piece : List ℕ) (s new : Server) {objects : List Seen} {to : Device} → piece ≡ fed ++ left → Reached mode start held (bytes ++ fed) rest s objects to
-      → OnlyReads s new → TakesNone rest s left new → Serves mode start held (bytes ++ piece) new objects to
-  goes_none bytes fed rest left piece s new {objects = objects} {to = to} e r only none =
+  pub fills_none : (bytes fed rest left piece : List ℕ) (s new : Server) {objects others : List Seen} {to : Device} → piece ≡ fed ++ left → Reached mode start held (bytes ++ fed) rest s objects to
+      → TakesNone rest s left new × (others ≡ objects) → (none : List ℕ) → none ≡ [] → Fills mode start held bytes piece none new others to
+  fills_none bytes fed rest left piece s new {objects = objects} {others = others} {to = to} e r none nothing is_none =
+      let there : Serves mode start held (bytes ++ piece) new objects to =
       subst (λ (x : List ℕ). Serves mode start held x new objects to) (append_assoc bytes fed left ∙ ap (λ (x : List ℕ). bytes ++ x) (sym e))
-      (rest ++ left, reached_none (bytes ++ fed) rest left s new r only.session only.mode only.sent none.place none.counted, none.reads)
-
-  -- a message more was taken, and the vat closed
-  pub goes_closed : (bytes fed rest left piece back : List ℕ) (s s1 s2 s3 : Server) {objects others : List Seen} (to to' : Device) (m : Message) → piece ≡ fed ++ left → Reached mode start held (bytes ++ fed) rest s objects to
-      → (work_of s.session).closed ≡ None → (next : TakesNext rest s left m s1 back) → OnlyReads s s1 → TakesMessage (work_of s1.session) objects m (work_of s2.session) others → OnlyWrites s1 s2 → s2.sent ≡ s1.sent
-      → work_of s3.session ≡ written (work_of s2.session) → OnlyWrites s2 s3 → Writes s2.mode (work_of s2.session).sent to to' → CountsMore s2.sent (length (work_of s2.session).sent) s3.sent
-      → IsSome (work_of s3.session).closed → (behind : List ℕ) × Reached mode start held (bytes ++ piece) behind s3 others to' × IsSome (work_of s3.session).closed
-  goes_closed bytes fed rest left piece back s s1 s2 s3 {others = others} to to' m e r is_open next only message took same flushed wrote writes counts closed =
-      let there = reached_more (bytes ++ fed) rest next.front s s1 s2 s3 to to' m r is_open next.frame next.place next.counted only message took same flushed wrote writes counts in
-      let whole : ((bytes ++ fed) ++ next.front) ++ back ≡ bytes ++ piece =
-      append_assoc (bytes ++ fed) next.front back ∙ ap (λ (x : List ℕ). (bytes ++ fed) ++ x) (sym next.whole) ∙ append_assoc bytes fed left ∙ ap (λ (x : List ℕ). bytes ++ x) (sym e) in
-      (back, subst (λ (x : List ℕ). Reached mode start held x back s3 others to') whole (reached_none ((bytes ++ fed) ++ next.front) [] back s3 s3 there refl refl refl refl refl), closed)
-
-  -- a message more was taken, and the stream is read on
-  pub serves_more : (bytes fed rest left piece back : List ℕ) (s s1 s2 s3 : Server) {objects others : List Seen} (to to' : Device) (m : Message) → piece ≡ fed ++ left → Reached mode start held (bytes ++ fed) rest s objects to
-      → (work_of s.session).closed ≡ None → (next : TakesNext rest s left m s1 back) → OnlyReads s s1 → TakesMessage (work_of s1.session) objects m (work_of s2.session) others → OnlyWrites s1 s2 → s2.sent ≡ s1.sent
-      → work_of s3.session ≡ written (work_of s2.session) → OnlyWrites s2 s3 → Writes s2.mode (work_of s2.session).sent to to' → CountsMore s2.sent (length (work_of s2.session).sent) s3.sent
-      → (work_of s3.session).closed ≡ None → (more : List ℕ) × (piece ≡ more ++ back) × Serves mode start held (bytes ++ more) s3 others to'
-  serves_more bytes fed rest left piece back s s1 s2 s3 {others = others} to to' m e r is_open next only message took same flushed wrote writes counts still =
-      let there = reached_more (bytes ++ fed) rest next.front s s1 s2 s3 to to' m r is_open next.frame next.place next.counted only message took same flushed wrote writes counts in (
-        fed ++ next.front,
-        e ∙ ap (λ (x : List ℕ). fed ++ x) next.whole ∙ sym (append_assoc fed next.front back),
-        ([], subst (λ (x : List ℕ). Reached mode start held x [] s3 others to') (append_assoc bytes fed next.front) there, reads_after s1 s3 next.reads (wrote.frames ∙ took.frames) (wrote.mode ∙ took.mode) still),
+      (rest ++ left, reached_none (bytes ++ fed) rest left s new r none.0.session none.0.mode none.0.sent none.0.place none.0.counted, none.0.reads) in (
+        piece,
+        sym (ap (λ (x : List ℕ). piece ++ x) is_none ∙ append-nil piece),
+        inl (subst (λ (o : List Seen). Serves mode start held (bytes ++ piece) new o to) (sym none.1) there),
       )
 
-  -- the whole piece was read, and a message that it ends wasn't written
-  pub stops_behind : (bytes fed rest left piece back : List ℕ) (from upto : Device) (s s1 s2 : Server) {objects others : List Seen} (to to' : Device) (m : Message) → piece ≡ fed ++ left
-      → Reached mode start held (bytes ++ fed) rest s objects to → (work_of s.session).closed ≡ None → (next : TakesNext rest s left m s1 back) → OnlyReads s s1
-      → TakesMessage (work_of s1.session) objects m (work_of s2.session) others → OnlyWrites s1 s2 → WritesPart s2.mode (work_of s2.session).sent to to' → (fault : ServeFault) → IsUnwritten s2.at (work_of s2.session).sent to to' fault
+  -- a message more was taken, and the stream is read on
+  pub serves_more : (bytes fed rest left piece back : List ℕ) (s s2 s3 : Server) {objects others : List Seen} (to to' : Device) → piece ≡ fed ++ left → Reached mode start held (bytes ++ fed) rest s objects to
+      → (work_of s.session).closed ≡ None → (next : TakesNext rest s left objects s2 back others)
+      → work_of s3.session ≡ written (work_of s2.session) → OnlyWrites s2 s3 → Writes s2.mode (work_of s2.session).sent to to' → CountsMore s2.sent (length (work_of s2.session).sent) s3.sent
+      → (work_of s3.session).closed ≡ None → (more : List ℕ) × (piece ≡ more ++ back) × Serves mode start held (bytes ++ more) s3 others to'
+  serves_more bytes fed rest left piece back s s2 s3 {others = others} to to' e r is_open next flushed wrote writes counts still =
+      let there = reached_more (bytes ++ fed) rest left back s s2 s3 to to' r is_open next flushed wrote writes counts in (
+        fed ++ next.front,
+        e ∙ ap (λ (x : List ℕ). fed ++ x) next.whole ∙ sym (append_assoc fed next.front back),
+        ([], subst (λ (x : List ℕ). Reached mode start held x [] s3 others to') (append_assoc bytes fed next.front) there, reads_after (record s2 { session = s.session }) s3 next.reads wrote.frames wrote.mode still),
+      )
+
+  -- or the vat closed
+  pub fills_more : (bytes fed rest left piece back : List ℕ) (s s2 s3 : Server) {objects others : List Seen} (to to' : Device) → piece ≡ fed ++ left → Reached mode start held (bytes ++ fed) rest s objects to
+      → (work_of s.session).closed ≡ None → (next : TakesNext rest s left objects s2 back others)
+      → work_of s3.session ≡ written (work_of s2.session) → OnlyWrites s2 s3 → Writes s2.mode (work_of s2.session).sent to to' → CountsMore s2.sent (length (work_of s2.session).sent) s3.sent
+      → Fills mode start held bytes piece back s3 others to'
+  fills_more bytes fed rest left piece back s s2 s3 {others = others} to to' e r is_open next flushed wrote writes counts = by (work_of s3.session).closed refl
+    where
+      there : Reached mode start held (bytes ++ (fed ++ next.front)) [] s3 others to'
+      there =
+          subst (λ (x : List ℕ). Reached mode start held x [] s3 others to') (append_assoc bytes fed next.front)
+          (reached_more (bytes ++ fed) rest left back s s2 s3 to to' r is_open next flushed wrote writes counts)
+
+      by : (o : Option Reason) → (work_of s3.session).closed ≡ o → Fills mode start held bytes piece back s3 others to'
+      by None closed =
+          let more = serves_more bytes fed rest left piece back s s2 s3 to to' e r is_open next flushed wrote writes counts closed in
+          (more.0, more.1, inl more.2)
+      by (Some reason) closed = (
+        fed ++ next.front,
+        e ∙ ap (λ (x : List ℕ). fed ++ x) next.whole ∙ sym (append_assoc fed next.front back),
+        inr ([], there, subst (λ (o : Option Reason). IsSome o) (sym closed) refl),
+      )
+
+  -- all of the piece was taken
+  pub fills_all : (bytes piece left : List ℕ) {s : Server} {objects : List Seen} {to : Device} → (fed : List ℕ) × (piece ≡ fed ++ left) × Serves mode start held (bytes ++ fed) s objects to → Fills mode start held bytes piece left s objects to
+  fills_all bytes piece left h = (h.0, h.1, inl h.2)
+
+  -- the whole piece was read, and what a message that it ends leads to wasn't all put behind the block
+  pub stops_behind : (bytes fed rest left piece back : List ℕ) (from upto : Device) (s s2 : Server) {objects others : List Seen} (to to' : Device) → piece ≡ fed ++ left
+      → Reached mode start held (bytes ++ fed) rest s objects to → (work_of s.session).closed ≡ None → (next : TakesNext rest s left objects s2 back others)
+      → WritesPart s2.mode (work_of s2.session).sent to to' → (fault : ServeFault) → IsUnput s2.at (work_of s2.session).sent fault
       → StopsFor mode start (bytes ++ piece) from upto held to' others fault
-  stops_behind bytes fed rest left piece back from upto s s1 s2 {others = others} to to' m e r is_open next only message took part fault why =
+  stops_behind bytes fed rest left piece back from upto s s2 {others = others} to to' e r is_open next part fault why =
       let whole : ((bytes ++ fed) ++ next.front) ++ back ≡ bytes ++ piece =
       append_assoc (bytes ++ fed) next.front back ∙ ap (λ (x : List ℕ). (bytes ++ fed) ++ x) (sym next.whole) ∙ append_assoc bytes fed left ∙ ap (λ (x : List ℕ). bytes ++ x) (sym e) in
       subst (λ (x : List ℕ). StopsFor mode start x from upto held to' others fault) whole
-      (stops_writing (bytes ++ fed) rest next.front back from upto s s1 s2 to to' m r is_open next.frame next.place only message took part fault why)
+      (stops_putting (bytes ++ fed) rest left back from upto s s2 to to' r is_open next part fault why)
 
   pub same_server : (bytes rest : List ℕ) (s new : Server) {objects : List Seen} {to : Device} → new ≡ s → Reached mode start held bytes rest s objects to → Reached mode start held bytes rest new objects to
   same_server bytes rest s new {objects = objects} {to = to} e r = subst (λ (x : Server). Reached mode start held bytes rest x objects to) (sym e) r

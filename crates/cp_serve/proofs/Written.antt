@@ -1,7 +1,7 @@
 -- Messages that go out one after another.
-use Rattle.std.proofs.Common.{◌≡◌, inl, inr, ℕ, List, [], ◌∷◌, ◌++◌, Option, refl, sym, ap, ◌∙◌, subst, append-nil, append_assoc, ◌+◌, ◌<◌, length, take, drop, get_or, take-append-drop}
+use Rattle.std.proofs.Common.{◌≡◌, None, Some, Vec, Global, inl, inr, ℕ, List, [], ◌∷◌, ◌++◌, Option, refl, sym, ap, ◌∙◌, subst, append-nil, append_assoc, ◌+◌, ◌<◌, length, take, drop, get_or, take-append-drop}
 use Rattle.std.proofs.lemmas.List.{take_more, drop_more}
-use Rattle.std.specs.Io.KnownBytes.{Appends}
+use Rattle.std.specs.Io.KnownBytes.{Appends, append_known}
 use Rattle.std.proofs.KnownBytes.{Appends-nil, Appends-trans}
 use Rattle.cp_words.specs.Limits.{Bounds, standard}
 use Rattle.cp_frame.specs.declared.mode.Mode.{Mode}
@@ -15,8 +15,8 @@ use Rattle.cp_stream.specs.Tap.{inner_of}
 use Rattle.cp_stream.specs.Write.{IsWrittenAs, IsSent, IsCutShort, IsUnwrittenFor}
 use Rattle.cp_serve.specs.declared.fault.ServeFault.{ServeFault}
 use Rattle.cp_serve.specs.declared.fault.ServeFault.TheVariants as serving
-use Rattle.cp_serve.specs.Reached.{placed, IsUnwritten}
-use Rattle.cp_serve.specs.Output.{Device, device, AreWrittenAs, Writes, Begin, WritesPart, IsOwnFault}
+use Rattle.cp_serve.specs.Reached.{ahead, unput, IsOwnFault, IsUnput}
+use Rattle.cp_serve.specs.Output.{Device, AreWrittenAs, Writes, Begin, WritesPart}
 
 are_both : (mode : Mode) (a b : List Message) (x y : List ℕ) → AreWrittenAs mode a x → AreWrittenAs mode b y → AreWrittenAs mode (a ++ b) (x ++ y)
 are_both mode [] b x y h k = subst (λ (z : List ℕ). AreWrittenAs mode b (z ++ y)) (sym h) k
@@ -31,6 +31,11 @@ begin_more mode (x ∷ a) more b h = h
 split_at : (items : List Message) (i : ℕ) (m : Message) → i < length items → m ≡ get_or items i m → items ≡ take i items ++ ((m ∷ []) ++ drop (i + 1) items)
 split_at items i m h e =
     sym (take-append-drop i items) ∙ ap (λ (x : List Message). take i items ++ x) (drop_more items i m h ∙ ap (λ (x : Message). x ∷ drop (i + 1) items) (sym e))
+
+-- a block grew
+grown : (known : Option (List ℕ)) (old new b : List ℕ) → new ≡ old ++ b → Appends (append_known known old) (append_known known new) b
+grown None old new b e = tt
+grown (Some x) old new b e = ap (λ (l : List ℕ). x ++ l) e ∙ sym (append_assoc x old b)
 
 module _ {mode : Mode} where
   pub writes_none : (held : Device) → Writes mode [] held held
@@ -87,69 +92,78 @@ module _ {mode : Mode} where
 
 -- a fault of one of some messages is one of more
 own_within : (a b c : List Message) (refusal : Refusal) → IsOwnFault b refusal → IsOwnFault (a ++ (b ++ c)) refusal
-own_within a b c refusal (inl memory) = inl memory
-own_within a b c refusal (inr h) = inr (
-  h.0,
-  (
-    a ++ h.1.0,
-    h.1.1 ++ c,
-    ap (λ (x : List Message). a ++ (x ++ c)) h.1.2 ∙ ap (λ (x : List Message). a ++ x) (append_assoc h.1.0 (h.0 ∷ h.1.1) c) ∙ sym (append_assoc a h.1.0 (h.0 ∷ (h.1.1 ++ c))),
-  ),
-  h.2,
-)
+own_within a b c refusal h = record {
+  message = h.message;
+  among = (
+    a ++ h.among.0,
+    h.among.1 ++ c,
+    ap (λ (x : List Message). a ++ (x ++ c)) h.among.2 ∙ ap (λ (x : List Message). a ++ x) (append_assoc h.among.0 (h.message ∷ h.among.1) c)
+        ∙ sym (append_assoc a h.among.0 (h.message ∷ (h.among.1 ++ c))),
+  );
+  unwritten = h.unwritten;
+}
 
 pub own_behind : (a b : List Message) (refusal : Refusal) → IsOwnFault b refusal → IsOwnFault (a ++ b) refusal
 own_behind a b refusal h = subst (λ (x : List Message). IsOwnFault (a ++ x) refusal) (append-nil b) (own_within a b [] refusal h)
 
--- the first messages were written, and the next wasn't
-pub unwritten_next : (items : List Message) (i : ℕ) (m : Message) (place before : ℕ) (old mid new : Device) → i < length items → m ≡ get_or items i m → before ≡ place → mid.failures ≡ old.failures
-    → (fault : ServeFault) → IsUnwritten before (m ∷ []) mid new fault → IsUnwritten place items old new fault
-unwritten_next items i m place before old mid new h e p f (serving.Stream (faults.Refused at refusal)) why =
+-- the first messages were put behind a block, and the next wasn't
+pub unput_next : (items : List Message) (i : ℕ) (m : Message) (place before : ℕ) → i < length items → m ≡ get_or items i m → before ≡ place → (fault : ServeFault) → IsUnput before (m ∷ []) fault
+    → IsUnput place items fault
+unput_next items i m place before h e p (serving.Stream (faults.Refused at refusal)) why =
     (why.0 ∙ p, subst (λ (x : List Message). IsOwnFault x refusal) (sym (split_at items i m h e)) (own_within (take i items) (m ∷ []) (drop (i + 1) items) refusal why.1))
-unwritten_next items i m place before old mid new h e p f (serving.Stream faults.Device) why = subst (λ (n : ℕ). FailedOnce n new.failures) f why
-unwritten_next items i m place before old mid new h e p f serving.OutOfMemory why = absurd why
+unput_next items i m place before h e p (serving.Stream faults.Device) why = absurd why
+unput_next items i m place before h e p serving.OutOfMemory why = tt
 
-module _ {T : Type 0} (contents : T → Option (List ℕ)) (mode : Mode) (limits : Bounds) (m : Message) (old new : Tap T) (is_standard : limits ≡ standard) where
+-- the bytes that a block holds
+abbrev pub held_by : Vec ℕ Global → Option (List ℕ)
+held_by block = Some block.items
+
+module _ (mode : Mode) (limits : Bounds) (m : Message) (old new : Tap (Vec ℕ Global)) (is_standard : limits ≡ standard) where
   same_limits : (b : List ℕ) → IsWrittenAs mode limits limits.frame_words 1 m b → IsWrittenAs mode standard standard.frame_words 1 m b
   same_limits b h = subst (λ (l : Bounds). IsWrittenAs mode l l.frame_words 1 m b) is_standard h
 
-  -- a message that was sent was written
-  pub sent_writes : IsSent contents mode limits limits.frame_words 1 m old new → Writes mode (m ∷ []) (device contents old) (device contents new)
-  sent_writes h = record {
-    bytes = h.0;
-    frames = (h.0, [], sym (append-nil h.0), same_limits h.0 h.1, refl);
-    appends = h.2.0.appends;
-    counted = h.2.1;
-  }
+  -- what holds of the tap's blocks holds of these
+  module _ (first last : Vec ℕ Global) (is_first : inner_of old ≡ first) (is_last : last ≡ inner_of new) where
+    grows : (to : Device) (b : List ℕ) → (inner_of new).items ≡ (inner_of old).items ++ b → Appends (append_known to.bytes first.items) (append_known to.bytes last.items) b
+    grows to b h =
+        grown to.bytes first.items last.items b
+        (ap (λ (v : Vec ℕ Global). v.items) is_last ∙ h ∙ ap (λ (v : Vec ℕ Global). v.items ++ b) is_first)
 
-  -- of one that wasn't, a beginning was
-  pub cut_writes : (fault : StreamFault) → IsCutShort contents mode limits limits.frame_words 1 m old new fault → WritesPart mode (m ∷ []) (device contents old) (device contents new)
-  cut_writes (faults.Refused at refusal) h = subst (λ (t : Tap T). WritesPart mode (m ∷ []) (device contents old) (device contents t)) (sym h.1) (record {
-    first = [];
-    others = m ∷ [];
-    splits = refl;
-    bytes = [];
-    part = [];
-    frames = refl;
-    begin = inl refl;
-    appends = Appends-nil (contents (inner_of old));
-  })
-  cut_writes faults.Device h = record {
-    first = [];
-    others = m ∷ [];
-    splits = refl;
-    bytes = [];
-    part = h.2.sent;
-    frames = refl;
-    begin = inr (h.2.left, subst (λ (b : List ℕ). IsWrittenAs mode standard standard.frame_words 1 m b) h.2.splits (same_limits h.0 h.1));
-    appends = h.2.passes.appends;
-  }
+    -- a message that was put behind a block
+    pub sent_writes : IsSent held_by mode limits limits.frame_words 1 m old new → (to : Device) → Writes mode (m ∷ []) (ahead to first.items) (ahead to last.items)
+    sent_writes h to = record {
+      bytes = h.0;
+      frames = (h.0, [], sym (append-nil h.0), same_limits h.0 h.1, refl);
+      appends = grows to h.0 h.2.0.appends;
+      counted = refl;
+    }
+
+    -- of one that wasn't, a beginning was
+    pub cut_writes : (fault : StreamFault) → IsCutShort held_by mode limits limits.frame_words 1 m old new fault → (to : Device) → WritesPart mode (m ∷ []) (ahead to first.items) (ahead to last.items)
+    cut_writes (faults.Refused at refusal) h to = record {
+      first = [];
+      others = m ∷ [];
+      splits = refl;
+      bytes = [];
+      part = [];
+      frames = refl;
+      begin = inl refl;
+      appends = grows to [] (ap (λ (t : Tap (Vec ℕ Global)). (inner_of t).items) h.1 ∙ sym (append-nil (inner_of old).items));
+    }
+    cut_writes faults.Device h to = record {
+      first = [];
+      others = m ∷ [];
+      splits = refl;
+      bytes = [];
+      part = h.2.sent;
+      frames = refl;
+      begin = inr (h.2.left, subst (λ (b : List ℕ). IsWrittenAs mode standard standard.frame_words 1 m b) h.2.splits (same_limits h.0 h.1));
+      appends = grows to h.2.sent h.2.passes.appends;
+    }
 
   -- and the fault says why
-  pub cut_why : (place : ℕ) (fault told : StreamFault) → told ≡ placed place fault → IsCutShort contents mode limits limits.frame_words 1 m old new fault
-      → IsUnwritten place (m ∷ []) (device contents old) (device contents new) (serving.Stream told)
+  pub cut_why : (place : ℕ) (fault : StreamFault) (told : ServeFault) → told ≡ unput place fault → IsCutShort held_by mode limits limits.frame_words 1 m old new fault → IsUnput place (m ∷ []) told
   cut_why place (faults.Refused at refusal) told e h =
-      subst (λ (f : StreamFault). IsUnwritten place (m ∷ []) (device contents old) (device contents new) (serving.Stream f)) (sym e)
-      (refl, inr (m, ([], [], refl), subst (λ (l : Bounds). IsUnwrittenFor l l.frame_words 1 m refusal) is_standard h.2))
-  cut_why place faults.Device told e h =
-      subst (λ (f : StreamFault). IsUnwritten place (m ∷ []) (device contents old) (device contents new) (serving.Stream f)) (sym e) h.2.failed
+      subst (λ (f : ServeFault). IsUnput place (m ∷ []) f) (sym e)
+      (refl, record { message = m; among = ([], [], refl); unwritten = subst (λ (l : Bounds). IsUnwrittenFor l l.frame_words 1 m refusal) is_standard h.2 })
+  cut_why place faults.Device told e h = subst (λ (f : ServeFault). IsUnput place (m ∷ []) f) (sym e) tt

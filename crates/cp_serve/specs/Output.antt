@@ -5,6 +5,7 @@ use Rattle.cp_words.specs.Limits.{standard}
 use Rattle.cp_frame.specs.declared.mode.Mode.{Mode}
 use Rattle.cp_frame.specs.declared.fault.FrameFault.TheVariants as frames
 use Rattle.cp_frame.specs.Stream.{Open}
+use Rattle.cp_tree.specs.declared.fault.WriteFault.TheVariants as writes
 use Rattle.cp_rpc.specs.declared.message.Message.{Message}
 use Rattle.cp_stream.specs.declared.fault.Refusal.{Refusal}
 use Rattle.cp_stream.specs.declared.fault.Refusal.TheVariants as refusals
@@ -14,7 +15,7 @@ use Rattle.cp_stream.specs.Tap.{inner_of, failures_of}
 use Rattle.cp_stream.specs.Stream.{Messages, HasFault}
 use Rattle.cp_stream.specs.Reader.{IsMemory}
 use Rattle.cp_stream.specs.Read.{FailedOnce}
-use Rattle.cp_stream.specs.Write.{IsWrittenAs, IsUnwrittenFor}
+use Rattle.cp_stream.specs.Write.{IsWrittenAs}
 use Rattle.cp_serve.specs.declared.fault.ServeFault.{ServeFault}
 use Rattle.cp_serve.specs.declared.fault.ServeFault.TheVariants as faults
 use Rattle.cp_serve.specs.declared.report.Report.{Report}
@@ -141,21 +142,16 @@ pub record IsCutOff (mode : Mode) (objects : List Seen) (bytes : List ℕ) (left
   pub starts : Starts objects taken sent (IsOver bytes rest left)
   pub writes : WritesPart mode sent old new
 
--- the message is one of these
-abbrev pub IsAmong : Message → List Message → Type 0
-IsAmong m ms = (front : List Message) × (back : List Message) × (ms ≡ front ++ m ∷ back)
+-- memory ran out: for what is read, or for what is written
+abbrev pub IsWantOfMemory : Refusal → Type 0
+IsWantOfMemory refusal = IsMemory refusal ⊎ (refusal ≡ refusals.Write writes.OutOfMemory)
 
--- the fault isn't one of the bytes: memory ran out for what is read; or one of these messages isn't written, as memory ran out for its frame or as its tree
--- isn't one that can be
-abbrev pub IsOwnFault : List Message → Refusal → Type 0
-IsOwnFault sent refusal = IsMemory refusal ⊎ ((m : Message) × IsAmong m sent × IsUnwrittenFor standard standard.frame_words 1 m refusal)
-
--- Why a run stopped, of which these bytes were read: their rest has the fault; or the fault is another, or a device's call failed, or memory ran out, and
--- the run was cut off.
+-- Why a run stopped, of which these bytes were read: their rest has the fault; or a device's call failed, or memory ran out, and the run was cut off. Each
+-- message that is sent can be written.
 abbrev pub StopsFor : Mode → List Seen → List ℕ → Device → Device → Device → Device → List Seen → ServeFault → Type 0
 StopsFor mode objects bytes from left old new others (faults.Stream (streams.Refused at refusal)) =
     IsRefused mode objects bytes left.bytes old new at refusal others
-    ⊎ ((cut : IsCutOff mode objects bytes left.bytes old new) × IsOwnFault cut.sent refusal × IsPlace bytes cut.rest at)
+    ⊎ ((cut : IsCutOff mode objects bytes left.bytes old new) × IsWantOfMemory refusal × IsPlace bytes cut.rest at)
 StopsFor mode objects bytes from left old new others (faults.Stream streams.Device) =
     (FailedOnce from.failures left.failures ⊎ FailedOnce old.failures new.failures) × IsCutOff mode objects bytes left.bytes old new
 StopsFor mode objects bytes from left old new others faults.OutOfMemory = IsCutOff mode objects bytes left.bytes old new

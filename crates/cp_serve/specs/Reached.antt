@@ -1,23 +1,30 @@
 -- What a server has come to. No public clause names these.
-use Rattle.std.specs.Prelude.{◌≡◌, ◌⊎◌, ℕ, ◌+◌, ◌-◌, ◌^◌, min, Bool, false, IsSome, List, [], ◌++◌, Option, None, length}
+use Rattle.std.specs.Prelude.{◌≡◌, ◌⊎◌, ℕ, ◌+◌, ◌-◌, ◌^◌, min, Bool, false, IsSome, List, [], ◌∷◌, ◌++◌, Option, None, length}
+use Rattle.std.specs.Io.KnownBytes.{append_known}
 use Rattle.cp_words.specs.Limits.{standard}
 use Rattle.cp_frame.specs.declared.mode.Mode.{Mode}
 use Rattle.cp_frame.specs.Reader.{StandsFor, IsReading}
 use Rattle.cp_frame.specs.Stream.{Open}
 use Rattle.cp_rpc.specs.declared.message.Message.{Message}
+use Rattle.cp_stream.specs.declared.fault.Refusal.{Refusal}
 use Rattle.cp_stream.specs.declared.fault.StreamFault.{StreamFault}
 use Rattle.cp_stream.specs.declared.fault.StreamFault.TheVariants as streams
 use Rattle.cp_stream.specs.Stream.{Messages, IsFrameOf}
 use Rattle.cp_stream.specs.Reader.{CountsOn, IsMemory}
 use Rattle.cp_stream.specs.Read.{FailedOnce}
+use Rattle.cp_stream.specs.Write.{IsUnwrittenFor}
 use Rattle.cp_serve.specs.declared.fault.ServeFault.{ServeFault}
 use Rattle.cp_serve.specs.declared.fault.ServeFault.TheVariants as faults
 use Rattle.cp_serve.specs.declared.serving.Server.{Server}
 use Rattle.cp_serve.specs.Servant.{Seen}
 use Rattle.cp_serve.specs.Work.{Work}
 use Rattle.cp_serve.specs.WorkOf.{work_of}
-use Rattle.cp_serve.specs.Service.{TakesAll, ClosesAll, new_work}
-use Rattle.cp_serve.specs.Output.{Device, Writes, WritesPart, IsPlace, IsFaultOfRest, IsOwnFault}
+use Rattle.cp_serve.specs.Service.{TakesAll, TakesMessage, ClosesAll, new_work}
+use Rattle.cp_serve.specs.Output.{Device, Writes, WritesPart, IsPlace, IsFaultOfRest}
+
+-- the device, as if these bytes had gone out to it
+abbrev pub ahead : Device → List ℕ → Device
+ahead to block = record { bytes = append_known to.bytes block; failures = to.failures }
 
 -- a count goes on from another by so many, and stays at the greatest u64
 abbrev pub CountsMore : ℕ → ℕ → ℕ → Type 0
@@ -53,11 +60,9 @@ Serves mode start held bytes s objects to = (rest : List ℕ) × Reached mode st
 abbrev pub GoesOn : Mode → List Seen → Device → List ℕ → Server → List Seen → Device → Type 0
 GoesOn mode start held bytes s objects to = Serves mode start held bytes s objects to ⊎ ((rest : List ℕ) × Reached mode start held bytes rest s objects to × IsSome (work_of s.session).closed)
 
--- The server only read.
-pub record OnlyReads (old new : Server) : Type 0 where
-  pub session : new.session ≡ old.session
-  pub mode : new.mode ≡ old.mode
-  pub sent : new.sent ≡ old.sent
+-- A front of the piece was taken; and the stream is read on, or the vat closed.
+abbrev pub Fills : Mode → List Seen → Device → List ℕ → List ℕ → List ℕ → Server → List Seen → Device → Type 0
+Fills mode start held bytes piece left s objects to = (front : List ℕ) × (piece ≡ front ++ left) × GoesOn mode start held (bytes ++ front) s objects to
 
 -- The server only wrote.
 pub record OnlyWrites (old new : Server) : Type 0 where
@@ -66,36 +71,69 @@ pub record OnlyWrites (old new : Server) : Type 0 where
   pub at : new.at ≡ old.at
   pub messages : new.messages ≡ old.messages
 
--- A front of the piece ends the frame of this message. Nothing of another has come.
-pub record TakesNext (rest : List ℕ) (old : Server) (piece : List ℕ) (m : Message) (new : Server) (back : List ℕ) : Type 0 where
+-- A front of the piece ends the frame of a message, which was taken. Nothing of another has come.
+pub record TakesNext (rest : List ℕ) (old : Server) (piece : List ℕ) (objects : List Seen) (new : Server) (back : List ℕ) (others : List Seen) : Type 0 where
+  pub message : Message
   pub front : List ℕ
   pub whole : piece ≡ front ++ back
-  pub frame : IsFrameOf old.mode standard (rest ++ front) m
+  pub frame : IsFrameOf old.mode standard (rest ++ front) message
   pub place : CountsOn old.at (length (rest ++ front)) new.at
   pub counted : CountsOn old.messages 1 new.messages
-  pub reads : ReadsOn [] new
+  pub reads : ReadsOn [] (record new { session = old.session })
+  pub takes : TakesMessage (work_of old.session) objects message (work_of new.session) others
+  pub mode : new.mode ≡ old.mode
+  pub sent : new.sent ≡ old.sent
 
 -- No frame ends in the piece.
 pub record TakesNone (rest : List ℕ) (old : Server) (piece : List ℕ) (new : Server) : Type 0 where
   pub place : new.at ≡ old.at
   pub counted : new.messages ≡ old.messages
   pub reads : ReadsOn (rest ++ piece) new
+  pub session : new.session ≡ old.session
+  pub mode : new.mode ≡ old.mode
+  pub sent : new.sent ≡ old.sent
 
 -- a fault is told behind the messages that were taken: memory ran out, or the rest has it
 abbrev pub IsRefusedAt : Mode → List ℕ → ℕ → StreamFault → Type 0
 IsRefusedAt mode rest place (streams.Refused at refusal) = (at ≡ place) × (IsMemory refusal ⊎ ((left : Option (List ℕ)) → IsFaultOfRest mode rest left refusal))
 IsRefusedAt mode rest place streams.Device = ⊥
 
+-- why no message is taken: a fault is told, and no object was asked; or memory ran out
+abbrev pub IsUntaken : Mode → List ℕ → ℕ → List Seen → List Seen → ServeFault → Type 0
+IsUntaken mode rest place objects others (faults.Stream fault) = IsRefusedAt mode rest place fault × (others ≡ objects)
+IsUntaken mode rest place objects others faults.OutOfMemory = Unit {0}
+
 -- the fault at another place
 abbrev pub placed : ℕ → StreamFault → StreamFault
 placed at (streams.Refused place refusal) = streams.Refused at refusal
 placed at streams.Device = streams.Device
 
--- why these messages aren't all written: memory ran out, or one isn't laid out, or a call of the writer failed
+-- the message is one of these
+abbrev pub IsAmong : Message → List Message → Type 0
+IsAmong m ms = (front : List Message) × (back : List Message) × (ms ≡ front ++ m ∷ back)
+
+-- one of these messages isn't written: memory ran out for its frame, or its tree isn't one that can be
+pub record IsOwnFault (sent : List Message) (refusal : Refusal) : Type 0 where
+  pub message : Message
+  pub among : IsAmong message sent
+  pub unwritten : IsUnwrittenFor standard standard.frame_words 1 message refusal
+
+-- the fault of a block, which takes all bytes for which there is memory
+abbrev pub unput : ℕ → StreamFault → ServeFault
+unput at (streams.Refused place refusal) = faults.Stream (streams.Refused at refusal)
+unput at streams.Device = faults.OutOfMemory
+
+-- why these messages aren't all put behind a block: one isn't laid out, or memory ran out
+abbrev pub IsUnput : ℕ → List Message → ServeFault → Type 0
+IsUnput place sent (faults.Stream (streams.Refused at refusal)) = (at ≡ place) × IsOwnFault sent refusal
+IsUnput place sent (faults.Stream streams.Device) = ⊥
+IsUnput place sent faults.OutOfMemory = Unit {0}
+
+-- why these messages aren't all written: one isn't laid out, or a call of the writer failed, or memory ran out
 abbrev pub IsUnwritten : ℕ → List Message → Device → Device → ServeFault → Type 0
 IsUnwritten place sent old new (faults.Stream (streams.Refused at refusal)) = (at ≡ place) × IsOwnFault sent refusal
 IsUnwritten place sent old new (faults.Stream streams.Device) = FailedOnce old.failures new.failures
-IsUnwritten place sent old new faults.OutOfMemory = ⊥
+IsUnwritten place sent old new faults.OutOfMemory = Unit {0}
 
 -- the stream ends inside a frame, behind the messages that were taken
 abbrev pub EndsInside : Mode → List ℕ → Option (List ℕ) → ℕ → ServeFault → Type 0

@@ -5,16 +5,30 @@ ghost use Rattle.cp_serve.specs.declared.fault.ServeFault.TheVariants.{Stream, O
 
 use cp_stream::StreamFault;
 use std::alloc::{AllocError, AllocFailed};
+use std::error::Error;
+use std::fmt;
 
 /// Why a server stopped before its run ended. Nothing is written after it.
 #[derive(Clone, Copy, PartialEq, Eq, Debug)]
 pub enum ServeFault {
-    /// The messages can't be read on, or one can't be written. A refusal names the bytes of the
-    /// frames whose messages were taken.
+    /// The messages can't be read on, memory ran out for one, or a call of a device failed. A refusal
+    /// names the bytes of the frames whose messages were taken.
     Stream(StreamFault),
-    /// V10: memory ran out, for the vat or for an object.
+    /// V10: memory ran out, for the vat or for an object; or 2^64 - 1 rounds or effects followed one
+    /// another.
     OutOfMemory,
 }
+
+impl fmt::Display for ServeFault {
+    fn fmt<W: fmt::Write>(&self, f: &mut fmt::Formatter<W>) -> fmt::Result {
+        match self {
+            ServeFault::Stream(fault) => fault.fmt(f),
+            ServeFault::OutOfMemory => f.write_str("refused: V10 OutOfMemory"),
+        }
+    }
+}
+
+impl Error for ServeFault {}
 
 impl From<StreamFault> for ServeFault {
     ghost from_gives = { λ fault r. r ≡ Stream fault };

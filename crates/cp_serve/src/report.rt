@@ -9,6 +9,6 @@ pub struct Report {
     pub messages: u64,
     /// The messages that it sent.
     pub sent: u64,
-    /// Why the vat closed. `None` says that the peer's messages ended.
+    /// Why the vat closed. `None` says that the peer's messages ended, or that no more were read.
     pub closed: Option<Reason>,
 }

@@ -1,18 +1,19 @@
 //! Serving a connection.
 
-ghost use Rattle.std.specs.Prelude.{◌≡◌, ◌<◌, ◌+◌, ◌-◌, ◌^◌, ◌++◌, ◌⊎◌, min, ℕ, List, Option, IfOk, IfErr, IfSome, IfNone, OnOk, OnErr, length, map, [], ◌∷◌};
+ghost use Rattle.std.specs.Prelude.{◌≡◌, ◌<◌, ◌+◌, ◌-◌, ◌^◌, ◌++◌, ◌⊎◌, min, ℕ, List, Option, IfOk, IfErr, IfSome, IfNone, OnOk, OnErr, length, map, [], ◌∷◌, None, false};
 ghost use Rattle.std.specs.Io.KnownBytes.{Consumes, IsAtEnd};
 ghost use Rattle.cp_words.specs.Limits.{standard};
+ghost use Rattle.cp_rpc.specs.Told.{told};
 ghost use Rattle.cp_frame.specs.declared.mode.Mode.{Mode};
 ghost use Rattle.cp_stream.specs.declared.fault.StreamFault.TheVariants.{Refused};
 ghost use Rattle.cp_stream.specs.Tap.{inner_of};
 ghost use Rattle.cp_stream.specs.Stream.{Holds, HoldsNone};
 ghost use Rattle.cp_frame.specs.Reader.{StandsFor, new_reader};
-ghost use Rattle.cp_stream.specs.Reader.{IsAt, IsMemory};
+ghost use Rattle.cp_stream.specs.Reader.{IsAt};
 ghost use Rattle.cp_serve.specs.Servant.{Seen};
 ghost use Rattle.cp_serve.specs.Service.{written};
 ghost use Rattle.cp_serve.specs.Output.{Device, device, Writes, WritesPart, IsOver, IsServed, StopsFor, IsStopped};
-ghost use Rattle.cp_serve.specs.Reached.{Reached, Serves, ReadsOn, OnlyReads, OnlyWrites, TakesNext, TakesNone, GoesOn, IsRefusedAt, IsUnwritten, IsUnended, EndsInside, EndsSo, EndsPart, CountsMore, placed};
+ghost use Rattle.cp_serve.specs.Reached.{Reached, Serves, ReadsOn, Fills, OnlyWrites, TakesNext, TakesNone, GoesOn, IsUntaken, IsUnput, IsUnwritten, IsUnended, EndsInside, EndsSo, EndsPart, CountsMore, ahead, placed, unput};
 ghost use Rattle.cp_serve.specs.WorkOf.{work_of};
 
 use crate::fault::ServeFault;
@@ -20,17 +21,18 @@ use crate::report::Report;
 use crate::servant::Servant;
 use crate::session::Session;
 use cp_frame::{FrameReader, Mode};
-use cp_rpc::{Message, SchemaFault};
-use cp_stream::{Refusal, StreamFault, Tap, view_of, write_message};
+use cp_rpc::{Message, MessageView};
+use cp_stream::{Refusal, StreamFault, Tap, view_of, write_message, write_whole};
 use cp_words::{Limits, Segments};
 use std::alloc::Global;
 use std::io::{Read, Write};
+use std::mem;
 
-/// The bytes that are asked for at once.
+/// The bytes that are asked for at once, and from which on a block goes out.
 const PIECE: usize = 65_536;
 
 /// Serves objects to the peer whose messages are read, of which object 0 is the bootstrap object.
-/// `Ok` says that the messages ended, or that the vat closed.
+/// `Ok` says that the messages ended, that the vat closed, or that 2^64 - 1 pieces were read.
 ///
 /// Each message is received, and each call that it leads to goes to its object; then each object is
 /// polled once, in order. Where the messages end, rounds of polls go on until one gives nothing that
@@ -81,6 +83,8 @@ struct Server {
     messages: u64,
     /// The messages that were sent.
     sent: u64,
+    /// The frames that go out in one write.
+    block: Vec<u8>,
 }
 
 impl Server {
@@ -96,6 +100,7 @@ impl Server {
             session: Session::new(alloc),
             messages: 0,
             sent: 0,
+            block: Vec::new(alloc),
         }
     }
 
@@ -154,7 +159,8 @@ impl Server {
         Ok(())
     }
 
-    /// Takes the messages whose frames end in a piece, until the vat closed.
+    /// Takes the messages whose frames end in a piece, until the vat closed. What they send is written
+    /// block by block, before more is read.
     fn take_piece<W: Write>(
         &mut self,
         piece: &[u8],
@@ -166,54 +172,86 @@ impl Server {
     {
         let mut left = piece;
         'taking: while !left.is_empty() {
-            let Some((message, back)) = self.next_message(left)? else {
-                return Ok(());
-            };
-            self.session.take(message, objects)?;
-            self.write(to)?;
+            self.block.clear();
+            let filled = self.fill_block(left, objects);
+            write_whole(to, &self.block)?;
+            left = filled?;
             if self.session.is_closed() {
                 return Ok(());
             }
-            left = back;
         }
         Ok(())
     }
 
-    /// Reads a piece up to the end of a frame, and gives its message with what follows it.
-    fn next_message<'a>(
+    /// Takes messages whose frames end in a piece, until the block is full or the vat closed, and puts what
+    /// they send behind the block. Gives what is left of the piece.
+    fn fill_block<'a>(
         &mut self,
         piece: &'a [u8],
-    ) -> Result<Option<(Message, &'a [u8])>, StreamFault>
-        ensures shorter { IfOk result (λ next. IfSome next (λ t. length t.1.now < length piece.now)) }
-        ensures only { OnOk result (OnlyReads self.old self.new) }
-        ensures next { IfOk result (λ next. IfSome next (λ t. (rest : List ℕ) → ReadsOn rest self.old → TakesNext rest self.old piece.now t.0 self.new t.1.now)) }
-        ensures none { IfOk result (λ next. IfNone next ((rest : List ℕ) → ReadsOn rest self.old → TakesNone rest self.old piece.now self.new)) }
-        ensures refused { IfErr result (λ fault. (rest : List ℕ) → ReadsOn rest self.old → IsRefusedAt self.old.mode (rest ++ piece.now) self.old.at fault) }
+        objects: &mut [Box<dyn Servant>],
+    ) -> Result<&'a [u8], ServeFault>
+        requires { 0 < length piece.now }
+        ensures shorter { IfOk result (λ left. length left.now < length piece.now) }
+        ensures taken { IfOk result (λ left. (mode : Mode) (start : List Seen) (held to : Device) (bytes : List ℕ) → Serves mode start held bytes self.old (map (λ o. seen o) objects.old) (ahead to self.old.block.items) → Fills mode start held bytes piece.now left.now self.new (map (λ o. seen o) objects.new) (ahead to self.new.block.items)) }
+        ensures stopped { IfErr result (λ fault. (mode : Mode) (start : List Seen) (held from left to : Device) (bytes : List ℕ) → Serves mode start held bytes self.old (map (λ o. seen o) objects.old) (ahead to self.old.block.items) → StopsFor mode start (bytes ++ piece.now) from left held (ahead to self.new.block.items) (map (λ o. seen o) objects.new) fault) }
+    {
+        let mut left = piece;
+        'filling: while !left.is_empty() {
+            let Some(back) = self.take_next(left, objects)? else {
+                return Ok(&left[left.len()..]);
+            };
+            self.put()?;
+            left = back;
+            if self.ends_block() {
+                return Ok(left);
+            }
+        }
+        Ok(left)
+    }
+
+    /// Whether the block goes out: the vat closed, or the block is full.
+    fn ends_block(&self) -> bool
+        ensures { result ≡ false → (work_of self.now.session).closed ≡ None }
+    {
+        if self.session.is_closed() {
+            return true;
+        }
+        self.block.len() >= PIECE
+    }
+
+    /// Reads a piece up to the end of a frame, takes its message, and gives what follows it.
+    fn take_next<'a>(
+        &mut self,
+        piece: &'a [u8],
+        objects: &mut [Box<dyn Servant>],
+    ) -> Result<Option<&'a [u8]>, ServeFault>
+        ensures shorter { IfOk result (λ next. IfSome next (λ back. length back.now < length piece.now)) }
+        ensures same { self.new.block ≡ self.old.block }
+        ensures next { IfOk result (λ next. IfSome next (λ back. (rest : List ℕ) → ReadsOn rest self.old → TakesNext rest self.old piece.now (map (λ o. seen o) objects.old) self.new back.now (map (λ o. seen o) objects.new))) }
+        ensures none { IfOk result (λ next. IfNone next ((rest : List ℕ) → ReadsOn rest self.old → TakesNone rest self.old piece.now self.new × (map (λ o. seen o) objects.new ≡ map (λ o. seen o) objects.old))) }
+        ensures refused { IfErr result (λ fault. (rest : List ℕ) → ReadsOn rest self.old → IsUntaken self.old.mode (rest ++ piece.now) self.old.at (map (λ o. seen o) objects.old) (map (λ o. seen o) objects.new) fault) }
     {
         let (taken, segments, back) = match self.frames.next(piece) {
             Ok(Some(next)) => next,
             Ok(None) => return Ok(None),
-            Err(fault) => return Err(self.refused(Refusal::Frame(fault))),
+            Err(fault) => return Err(ServeFault::Stream(self.refused(Refusal::Frame(fault)))),
         };
-        let message = self.message_of(&segments)?;
-        self.frames.reuse(segments);
+        let message = self.message_in(&segments)?;
         self.at = self.at.saturating_add(taken);
         self.messages = self.messages.saturating_add(1);
-        Ok(Some((message, back)))
+        self.session.take(message, objects)?;
+        self.frames.reuse(segments);
+        Ok(Some(back))
     }
 
-    /// The message that a frame holds.
-    fn message_of(&self, segments: &Segments) -> Result<Message, StreamFault>
-        ensures found { IfOk result (Holds standard segments.now) }
-        ensures refused { IfErr result (IsAt self.now.at (λ r. IsMemory r ⊎ HoldsNone standard segments.now r)) }
+    /// The message that a frame holds, in place.
+    fn message_in<'a>(&self, segments: &'a Segments) -> Result<MessageView<'a>, StreamFault>
+        ensures found { IfOk result (λ view. Holds standard segments.now (told view)) }
+        ensures refused { IfErr result (IsAt self.now.at (HoldsNone standard segments.now)) }
     {
-        let view = match view_of(segments, Limits::standard()) {
-            Ok(view) => view,
-            Err(fault) => return Err(self.placed(fault)),
-        };
-        match view.message(self.alloc) {
-            Ok(message) => Ok(message),
-            Err(_) => Err(self.refused(Refusal::Schema(SchemaFault::OutOfMemory))),
+        match view_of(segments, Limits::standard()) {
+            Ok(view) => Ok(view),
+            Err(fault) => Err(self.placed(fault)),
         }
     }
 
@@ -261,26 +299,60 @@ impl Server {
         ensures part { OnErr result (WritesPart self.old.mode (work_of self.old.session).sent (device W.contents to.old) (device W.contents to.new)) }
         ensures stopped { IfErr result (IsUnwritten self.old.at (work_of self.old.session).sent (device W.contents to.old) (device W.contents to.new)) }
     {
+        self.block.clear();
+        let put = self.put();
+        write_whole(to, &self.block)?;
+        put
+    }
+
+    /// Puts the messages that were sent behind the block.
+    fn put(&mut self) -> Result<(), ServeFault>
+        ensures only { OnOk result (OnlyWrites self.old self.new) }
+        ensures session { OnOk result (work_of self.new.session ≡ written (work_of self.old.session)) }
+        ensures counts { OnOk result (CountsMore self.old.sent (length (work_of self.old.session).sent) self.new.sent) }
+        ensures puts { OnOk result ((to : Device) → Writes self.old.mode (work_of self.old.session).sent (ahead to self.old.block.items) (ahead to self.new.block.items)) }
+        ensures part { OnErr result ((to : Device) → WritesPart self.old.mode (work_of self.old.session).sent (ahead to self.old.block.items) (ahead to self.new.block.items)) }
+        ensures stopped { IfErr result (IsUnput self.old.at (work_of self.old.session).sent) }
+    {
         let messages = self.session.take_sent();
         for message in &messages {
-            self.write_one(to, message)?;
+            self.put_one(message)?;
         }
         Ok(())
     }
 
-    /// Writes a message.
-    fn write_one<W: Write>(&mut self, to: &mut Tap<W>, message: &Message) -> Result<(), ServeFault>
-        ensures same { OnOk result (self.new ≡ record self.old { sent = min (self.old.sent + 1) (2 ^ 64 - 1) }) }
-        ensures writes { OnOk result (Writes self.old.mode (message.now ∷ []) (device W.contents to.old) (device W.contents to.new)) }
-        ensures part { OnErr result (WritesPart self.old.mode (message.now ∷ []) (device W.contents to.old) (device W.contents to.new)) }
-        ensures stopped { IfErr result (IsUnwritten self.old.at (message.now ∷ []) (device W.contents to.old) (device W.contents to.new)) }
+    /// Puts a message behind the block.
+    fn put_one(&mut self, message: &Message) -> Result<(), ServeFault>
+        ensures same { OnOk result (self.new ≡ record self.old { sent = min (self.old.sent + 1) (2 ^ 64 - 1); block = self.new.block }) }
+        ensures puts { OnOk result ((to : Device) → Writes self.old.mode (message.now ∷ []) (ahead to self.old.block.items) (ahead to self.new.block.items)) }
+        ensures part { OnErr result ((to : Device) → WritesPart self.old.mode (message.now ∷ []) (ahead to self.old.block.items) (ahead to self.new.block.items)) }
+        ensures stopped { IfErr result (IsUnput self.old.at (message.now ∷ [])) }
     {
-        match write_message(self.alloc, to, message, self.mode, Limits::standard()) {
+        let mut behind = Tap::new(mem::replace(&mut self.block, Vec::new(self.alloc)));
+        let written = write_message(
+            self.alloc,
+            &mut behind,
+            message,
+            self.mode,
+            Limits::standard(),
+        );
+        self.block = behind.into_inner();
+        match written {
             Ok(()) => {
                 self.sent = self.sent.saturating_add(1);
                 Ok(())
             }
-            Err(fault) => Err(ServeFault::Stream(self.placed(fault))),
+            Err(fault) => Err(self.unput(fault)),
+        }
+    }
+
+    /// A fault of a block, which takes all bytes for which there is memory.
+    fn unput(&self, fault: StreamFault) -> ServeFault
+        ensures { result ≡ unput self.now.at fault }
+    {
+        match fault {
+            StreamFault::Refused { refusal, .. } => ServeFault::Stream(self.refused(refusal)),
+            StreamFault::Device => ServeFault::OutOfMemory,
         }
     }
 

@@ -1,6 +1,7 @@
 //! One end of a connection whose calls go to objects.
 
 ghost use Rattle.std.specs.Prelude.{◌≡◌, ◌<◌, ◌++◌, ◌∷◌, [], Some, None, Ok, IfOk, IfSome, OnOk, IsTrue, IsSome, ◌↔◌, length, map};
+ghost use Rattle.cp_rpc.specs.Told.{told};
 ghost use Rattle.cp_machine.specs.declared.event.Event.TheVariants as events;
 ghost use Rattle.cp_serve.specs.Outcomes.{bad_outcome};
 ghost use Rattle.cp_serve.specs.Servant.{Takes, Polls, ChangesAt, IsCalled, IsPolled};
@@ -13,7 +14,7 @@ use crate::outcomes::{bad_outcome, no_such_object};
 use crate::servant::{Reply, Servant, Settled};
 use cp_machine::{Effect, Effects, Ids, Reason, VatFault};
 use cp_refs::{Origin, Outcome, Request};
-use cp_rpc::Message;
+use cp_rpc::{Message, MessageView};
 use cp_vat::Vat;
 use std::alloc::{AllocError, Global};
 use std::collections::VecDeque;
@@ -110,13 +111,13 @@ impl Session {
         mem::replace(&mut self.sent, Vec::new(self.alloc))
     }
 
-    /// Takes a message of the peer's: what it leads to is worked off, and a round follows.
+    /// Takes a message of the peer's, in place: what it leads to is worked off, and a round follows.
     pub(crate) fn take(
         &mut self,
-        message: Message,
+        message: MessageView,
         objects: &mut [Box<dyn Servant>],
     ) -> Result<(), AllocError>
-        ensures { OnOk result (TakesMessage (work_of self.old) (map (λ o. seen o) objects.old) message (work_of self.new) (map (λ o. seen o) objects.new)) }
+        ensures { OnOk result (TakesMessage (work_of self.old) (map (λ o. seen o) objects.old) (told message.entry) (work_of self.new) (map (λ o. seen o) objects.new)) }
     {
         self.receive(message)?;
         self.work_off(objects)?;
@@ -139,10 +140,10 @@ impl Session {
     }
 
     /// Receives a message of the peer's.
-    fn receive(&mut self, message: Message) -> Result<(), AllocError>
-        ensures { OnOk result (IsDone (work_of self.old) (events.Receive message) (work_of self.new)) }
+    fn receive(&mut self, message: MessageView) -> Result<(), AllocError>
+        ensures { OnOk result (IsDone (work_of self.old) (events.Receive (told message.entry)) (work_of self.new)) }
     {
-        let fault = match self.vat.receive(message) {
+        let fault = match self.vat.receive_view(message) {
             Ok(acted) => return self.add(acted.effects),
             Err(fault) => fault,
         };

@@ -70,7 +70,7 @@ pub right_true : (a b : Bool) → T (a && b) → T b
 right_true true b h = h
 right_true false b h = absurd h
 
-below_differs : (o : Ordering) → T (is_lt o) → is_eq o ≡ false
+pub below_differs : (o : Ordering) → T (is_lt o) → is_eq o ≡ false
 below_differs Less h = refl
 below_differs Equal h = absurd h
 below_differs Greater h = refl

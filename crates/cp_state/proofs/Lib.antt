@@ -6,3 +6,7 @@ pub mod Using
 pub mod Fields
 pub mod Joining
 pub mod Under
+pub mod Counting
+pub mod Holding
+pub mod Keeping
+pub mod Asking

@@ -9,4 +9,6 @@ pub mod Under
 pub mod Marking
 pub mod MarksCode
 pub mod Sought
+pub mod Counts
+pub mod Held
 pub mod StateOf

@@ -2,12 +2,17 @@
 
 ghost use Rattle.std.specs.Prelude.{◌≡◌, ◌+◌, ◌-◌, ◌^◌, ◌<◌, ltb, is_some, None, IfOk, OnOk, IfSome, MatchOption, option_copied};
 ghost use Rattle.std.specs.Option.{option_map};
+ghost use Rattle.std.specs.List.{flat_map, list_any};
 ghost use Rattle.std.specs.FinMap as map;
 ghost use Rattle.cp_refs.specs.At.{cap_at};
+ghost use Rattle.cp_machine.specs.InUse.{is_at_promise, is_at_question};
 ghost use Rattle.cp_machine.specs.State.{gave, none_over};
+ghost use Rattle.cp_state.specs.Sought.{is_sought};
 ghost use Rattle.cp_state.specs.Overs.{over_of, gate_of, bare_gate, over_with, NoneOverIn, IsNextIn};
 
-use cp_refs::{Cap, Gate, Held, Outcome, Path, PromiseId, Waiting, at};
+use crate::counted_calls::CountedCalls;
+use crate::sought::Sought;
+use cp_refs::{Cap, Gate, Held, Outcome, Path, PromiseId, at};
 use cp_tables::Entries;
 use std::alloc::{AllocError, Global};
 use std::collections::btree_map::Iter;
@@ -51,7 +56,7 @@ pub struct Next {
 #[derive(Drop)]
 pub struct Gates {
     alloc: Global,
-    calls: Waiting,
+    calls: CountedCalls,
     over: Overs,
     next_ticket: u64,
     is_torn: bool,
@@ -81,7 +86,7 @@ impl Gates {
     {
         Gates {
             alloc,
-            calls: Waiting::new(alloc),
+            calls: CountedCalls::new(alloc),
             over: Overs::new(alloc),
             next_ticket: 0,
             is_torn: false,
@@ -100,6 +105,27 @@ impl Gates {
         ensures { result ≡ map.entries self.now.waiting.calls }
     {
         self.calls.calls()
+    }
+
+    /// Whether it stands in a waiting call's table.
+    pub(crate) fn is_named(&self, sought: Sought) -> bool
+        ensures { result ≡ list_any (is_sought sought) (flat_map (λ call. call.request.caps) (map.values self.now.waiting.calls)) }
+    {
+        self.calls.is_named(sought)
+    }
+
+    /// Whether calls wait at the promise.
+    pub(crate) fn is_at_promise(&self, id: PromiseId) -> bool
+        ensures { result ≡ list_any (λ call. is_at_promise id call.gate) (map.values self.now.waiting.calls) }
+    {
+        self.calls.is_at_promise(id)
+    }
+
+    /// Whether calls wait at a path of the question.
+    pub(crate) fn is_at_question(&self, id: u32) -> bool
+        ensures { result ≡ list_any (λ call. is_at_question id call.gate) (map.values self.now.waiting.calls) }
+    {
+        self.calls.is_at_question(id)
     }
 
     /// Whether there is a ticket for one more call.

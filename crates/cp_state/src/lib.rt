@@ -3,15 +3,21 @@
 //! its own invariant, and `Core` is all of them.
 #![tactic(auto)]
 
+mod counted_calls;
+mod counted_embargoes;
+mod counted_values;
+mod counts;
 mod exports;
 mod gates;
 mod halt;
+mod holders;
 mod in_use;
 mod marks;
 mod own_promises;
 mod parts;
 mod path_marks;
 mod paths;
+mod sought;
 mod values;
 
 pub use exports::{Exported, Hosted};

@@ -1,15 +1,18 @@
 //! The references that were called before they came to something, and the embargoes.
 
 ghost use Rattle.std.specs.Prelude.{◌≡◌, ◌∷◌, Some, IsSome, IfOk, IfNone, OnSome, option_copied};
+ghost use Rattle.std.specs.List.{list_any};
 ghost use Rattle.std.specs.FinMap as map;
+ghost use Rattle.cp_machine.specs.InUse.{is_promise};
 ghost use Rattle.cp_machine.specs.Resolving.{is_under};
 ghost use Rattle.cp_state.specs.Under.{unmarked};
 
+use crate::counted_embargoes::CountedEmbargoes;
 use crate::halt::Halt;
 use crate::path_marks::PathMarks;
 use cp_machine::PeerFault;
-use cp_refs::{Cap, Path};
-use cp_tables::{Embargoes, Entries, LIMIT};
+use cp_refs::{Cap, Path, PromiseId};
+use cp_tables::{Entries, LIMIT};
 use slab::Iter;
 use std::alloc::Global;
 use std::marker::Model;
@@ -22,7 +25,7 @@ pub struct Marks {
     alloc: Global,
     imports: Entries<Option<u32>>,
     paths: PathMarks,
-    embargoes: Embargoes<Cap>,
+    embargoes: CountedEmbargoes,
     /// Whose embargo it is.
     references: Entries<Reference>,
 }
@@ -59,7 +62,7 @@ impl Marks {
             alloc,
             imports: Entries::new(alloc),
             paths: PathMarks::new(alloc),
-            embargoes: Embargoes::new(alloc),
+            embargoes: CountedEmbargoes::new(alloc),
             references: Entries::new(alloc),
         }
     }
@@ -76,6 +79,13 @@ impl Marks {
         ensures { result ≡ map.entries self.now.embargoes }
     {
         self.embargoes.iter()
+    }
+
+    /// Whether an embargo leads to the promise.
+    pub(crate) fn lead_to(&self, id: PromiseId) -> bool
+        ensures { result ≡ list_any (is_promise id) (map.values self.now.embargoes) }
+    {
+        self.embargoes.lead_to(id)
     }
 
     /// The mark of a reference, with its embargo once one was asked for.

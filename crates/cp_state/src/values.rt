@@ -1,9 +1,15 @@
 //! What promises, imports, answers and questions came to, with the numbers of the promises.
 
 ghost use Rattle.std.specs.Prelude.{◌≡◌, Some, None, IsSome, IfOk, OnOk, OnErr};
+ghost use Rattle.std.specs.List.{list_any};
 ghost use Rattle.std.specs.FinMap as map;
+ghost use Rattle.cp_machine.specs.InUse.{is_import};
+ghost use Rattle.cp_state.specs.Sought.{is_sought};
+ghost use Rattle.cp_state.specs.Held.{kept_by, import_values, values_of_others};
 
+use crate::counted_values::CountedValues;
 use crate::halt::Halt;
+use crate::sought::Sought;
 use cp_machine::PeerFault;
 use cp_refs::{Cap, Outcome, PromiseId, Question, QuestionKind, Values};
 use cp_tables::{Embargoes, LIMIT};
@@ -14,7 +20,7 @@ use std::marker::Model;
 /// Contracts see the four maps alone.
 #[derive(Drop)]
 pub struct NumberedValues {
-    values: Values,
+    values: CountedValues,
     numbers: Embargoes<()>,
 }
 
@@ -41,7 +47,7 @@ impl NumberedValues {
         ensures { result ≡ record { promises = map.empty; imports = map.empty; answers = map.empty; questions = map.empty } }
     {
         NumberedValues {
-            values: Values::new(alloc),
+            values: CountedValues::new(alloc),
             numbers: Embargoes::new(alloc),
         }
     }
@@ -50,7 +56,28 @@ impl NumberedValues {
     pub fn values(&self) -> &Values
         ensures { result.now ≡ self.now }
     {
-        &self.values
+        self.values.values()
+    }
+
+    /// Whether it is the value of a promise, or stands in what an answer or a question came to.
+    pub(crate) fn is_kept(&self, sought: Sought) -> bool
+        ensures { result ≡ list_any (is_sought sought) (kept_by self.now) }
+    {
+        self.values.is_kept(sought)
+    }
+
+    /// Whether it is the value of an import.
+    pub(crate) fn is_import_value(&self, sought: Sought) -> bool
+        ensures { result ≡ list_any (is_sought sought) (import_values self.now) }
+    {
+        self.values.is_import_value(sought)
+    }
+
+    /// Whether the import is the value of another one.
+    pub(crate) fn is_value_of_another(&self, id: u32) -> bool
+        ensures { result ≡ list_any (is_import id) (values_of_others self.now id) }
+    {
+        self.values.is_value_of_another(id)
     }
 
     /// Opens a promise under a free number.
@@ -84,7 +111,7 @@ impl NumberedValues {
         ensures put { OnOk result (self.new ≡ record self.old { promises = with_change self.old.promises id (λ _. None) }) }
         ensures err { OnErr result (self.new ≡ self.old) }
     {
-        let Some(_) = self.values.promise(id) else {
+        let Some(_) = self.values.values().promise(id) else {
             return Ok(());
         };
         self.values.put_promise(id, None)
@@ -94,7 +121,7 @@ impl NumberedValues {
     pub fn remove_promise(&mut self, id: PromiseId)
         ensures { self.new ≡ record self.old { promises = map.remove self.old.promises id } }
     {
-        drop(self.values.remove_promise(id));
+        self.values.remove_promise(id);
         drop(self.numbers.close(id));
     }
 
@@ -110,7 +137,7 @@ impl NumberedValues {
     pub fn remove_import(&mut self, id: u32)
         ensures { self.new ≡ record self.old { imports = map.remove self.old.imports id } }
     {
-        drop(self.values.remove_import(id));
+        self.values.remove_import(id);
     }
 
     /// Puts what an answer came to.
@@ -125,7 +152,7 @@ impl NumberedValues {
     pub fn remove_answer(&mut self, id: u32)
         ensures { self.new ≡ record self.old { answers = map.remove self.old.answers id } }
     {
-        drop(self.values.remove_answer(id));
+        self.values.remove_answer(id);
     }
 
     /// Puts a question that came to nothing yet.
@@ -147,7 +174,7 @@ impl NumberedValues {
         ensures put { OnOk result (self.new ≡ record self.old { questions = with_change self.old.questions id (λ question. record question { outcome = Some outcome }) }) }
         ensures err { OnErr result (self.new ≡ self.old) }
     {
-        let Some(question) = self.values.question(id) else {
+        let Some(question) = self.values.values().question(id) else {
             return Ok(());
         };
         let kind = question.kind;
@@ -164,6 +191,6 @@ impl NumberedValues {
     pub fn remove_question(&mut self, id: u32)
         ensures { self.new ≡ record self.old { questions = map.remove self.old.questions id } }
     {
-        drop(self.values.remove_question(id));
+        self.values.remove_question(id);
     }
 }

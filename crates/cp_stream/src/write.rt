@@ -16,7 +16,7 @@ use std::io::Write;
 
 /// Writes all of the bytes. They are offered at once, and then what is left of them. An error of any
 /// kind, an interrupted call's too, and a call that takes no byte end it.
-fn write_whole<W: Write>(to: &mut Tap<W>, bytes: &[u8]) -> Result<(), StreamFault>
+pub fn write_whole<W: Write>(to: &mut Tap<W>, bytes: &[u8]) -> Result<(), StreamFault>
     ensures sent { OnOk result (Sends W.contents to.old to.new bytes.now) }
     ensures device { IfErr result (λ fault. fault ≡ Device) }
     ensures broken { IfErr result (λ _. Breaks W.contents to.old to.new bytes.now) }

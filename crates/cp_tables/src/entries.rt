@@ -1,11 +1,11 @@
 //! Entries under numbers.
 
-ghost use Rattle.std.specs.Prelude.{◌≡◌, ◌↔◌, Some, None, IsTrue, IsSome, OnOk, OnErr, option_copied};
+ghost use Rattle.std.specs.Prelude.{◌≡◌, ◌↔◌, Some, None, IsTrue, IsSome, IfOk, IfErr, OnOk, OnErr, option_copied};
 ghost use Rattle.std.specs.Option.{option_copied_mut};
 ghost use Rattle.std.specs.Borrow.{Lends, LendsIf, sem};
 ghost use Rattle.std.specs.FinMap as map;
 
-use std::alloc::{AllocError, Global};
+use std::alloc::{AllocError, AllocFailed, Global};
 use std::collections::BTreeMap;
 use std::collections::btree_map::Iter;
 use std::marker::Model;
@@ -91,6 +91,24 @@ impl<V> Entries<V> {
     {
         let _ = self.entries.insert(id, entry)?;
         Ok(())
+    }
+
+    /// Puts the entry under the number, and gives the one that was there. Where memory runs out the
+    /// entry comes back.
+    pub fn replace(&mut self, id: u32, entry: V) -> Result<Option<V>, AllocFailed<V>>
+        ensures value { IfOk result (λ old. old ≡ map.get self.old id) }
+        ensures put { OnOk result (self.new ≡ map.insert self.old id entry) }
+        ensures back { IfErr result (λ failed. failed.value ≡ entry) }
+        ensures err { OnErr result (self.new ≡ self.old) }
+    {
+        Ok(match self.entries.insert(id, entry) {
+            Ok(old) => old,
+            Err(failed) => {
+                return Err(AllocFailed {
+                    value: failed.value.1,
+                });
+            }
+        })
     }
 
     /// Takes the entry under this number out.

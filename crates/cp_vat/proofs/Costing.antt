@@ -104,5 +104,5 @@ member_cost (messages.Disembargo d) dear = target_cost d.target (omega arith)
 member_cost (messages.Other n t) dear = refl
 
 -- what costs so little has short lists
-pub message_cost : (m : Message) → cost (message_made m) ≤ 8388605 → message_fits m ≡ true
+pub message_cost : (m : Message) → cost (message_made m) ≤ 8388608 → message_fits m ≡ true
 message_cost m dear = member_cost m (omega arith)

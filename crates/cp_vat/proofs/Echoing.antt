@@ -52,7 +52,7 @@ is_echoed s m t q made same fits decides is =
 
 -- a message with a list that is too long isn't
 pub is_too_long : (s : State) (m : Message) → message_fits m ≡ false → Err faults.EchoTooLarge ≡ echoed s m
-is_too_long s m long = rw (not_wrapped (message_made m) (λ small. absurd (differ (sym long ∙ message_cost m small.1)))) refl
+is_too_long s m long = rw (not_wrapped (message_made m) (λ small. absurd (differ (sym long ∙ message_cost m (omega (arith, small.1)))))) refl
   where
     differ : false ≡ true → ⊥
     differ e = cc

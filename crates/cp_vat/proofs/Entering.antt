@@ -3,6 +3,11 @@ use Rattle.std.proofs.Common.{◌≡◌, ◌^◌, ◌-◌, ◌<◌, ℕ, ltb, no
 use Rattle.std.proofs.lemmas.Bool.Decides.{nat_tests}
 use Rattle.std.specs.FinMap.{get, len}
 use Rattle.cp_rpc.specs.declared.call.Call.{Call}
+use Rattle.cp_rpc.specs.declared.target.Target.{Target}
+use Rattle.cp_tree.specs.Node.{Node}
+use Rattle.cp_refs.specs.declared.route.Route.{Route}
+use Rattle.cp_refs.specs.declared.route.Route.TheVariants as routes
+use Rattle.cp_machine.specs.Go.{Go, Underway}
 use Rattle.cp_rpc.proofs.Firsts.{none-left, none-right}
 use Rattle.cp_refs.specs.declared.cap.Cap.{Cap}
 use Rattle.cp_machine.specs.State.{State}
@@ -16,6 +21,7 @@ use Rattle.cp_state.specs.Halts.{Acts, Leaves}
 use Rattle.cp_state.specs.declared.halt.Halt.{Halt}
 use Rattle.cp_state.specs.declared.halt.Halt.TheVariants as halts
 use Rattle.cp_vat.specs.Judging.{judged}
+use Rattle.cp_vat.specs.Receiving.{Carries, Leads}
 use Rattle.cp_vat.proofs.Judged.{none_judged, unless_passed}
 use Rattle.cp_vat.proofs.Acting.{acts_by}
 use Rattle.cp_vat.proofs.Taking.{takes_keep}
@@ -79,3 +85,21 @@ pub call_fails : (old mid : State) (c : Call) (halt : Halt) (before : List Effec
 call_fails old mid c (halts.Fault fault) before passed fails =
     unless_passed (call_faults old c) (λ out. Then (TakeAll old c.params.cap_table) (λ taken. GoToTarget (entered taken.1 c.question_id) (peer_call taken.1 c taken.0) c.target) out) (Err fault) passed (Err fault, fails, refl)
 call_fails old mid c halts.OutOfMemory before passed fails = tt
+
+module _ (s : State) (u : Underway) (route : Route) (target : Target) (leads : Leads s target route) (result : Result (Unit {0}) Halt) (before after : List Effect) (new : State) where
+  -- a call that goes by its target's route goes to its target
+  pub goes_to_target : Acts (Go s u route) result before after new → Acts (GoToTarget s u target) result before after new
+  goes_to_target went = acts_by (Go s u route) (GoToTarget s u target) result before after new (leads u) went
+
+-- A call that fails goes so whatever content it carries.
+pub goes_carrying : (s : State) (u : Underway) (carried : Node) (route : Route) (result : Result (Unit {0}) Halt) (before after : List Effect) (new : State)
+    → Carries route u.request.content carried → Acts (Go s (record u { request = record u.request { content = carried } }) route) result before after new → Acts (Go s u route) result before after new
+goes_carrying s u carried (routes.Fail x) result before after new same went = went
+goes_carrying s u carried (routes.Deliver k) result before after new same went =
+    subst (λ t. Acts (Go s (record u { request = record u.request { content = t } }) (routes.Deliver k)) result before after new) same went
+goes_carrying s u carried (routes.Import i) result before after new same went =
+    subst (λ t. Acts (Go s (record u { request = record u.request { content = t } }) (routes.Import i)) result before after new) same went
+goes_carrying s u carried (routes.Pipe q path) result before after new same went =
+    subst (λ t. Acts (Go s (record u { request = record u.request { content = t } }) (routes.Pipe q path)) result before after new) same went
+goes_carrying s u carried (routes.Wait gate) result before after new same went =
+    subst (λ t. Acts (Go s (record u { request = record u.request { content = t } }) (routes.Wait gate)) result before after new) same went

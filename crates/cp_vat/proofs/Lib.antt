@@ -1,4 +1,5 @@
 pub mod Judged
+pub mod Listing
 pub mod Resolving
 pub mod Acting
 pub mod Telling

@@ -5,6 +5,7 @@ use Rattle.std.specs.Ordering.{nat_cmp}
 use Rattle.std.specs.FinMap.{get, get-empty}
 use Rattle.std.proofs.Common.{arith, ap, sym, ◌∙◌, true≢false}
 use Rattle.std.proofs.lemmas.Bool.Decides.{nat_tests}
+use Rattle.cp_tree.specs.Node.{Node}
 use Rattle.cp_tables.specs.Table.{Table}
 use Rattle.cp_tables.specs.declared.counted.Counted.{Counted}
 use Rattle.cp_tables.specs.declared.exchange.Exchange.{Exchange}
@@ -12,6 +13,7 @@ use Rattle.cp_tables.specs.declared.exchange.Stage.{Stage}
 use Rattle.cp_tables.specs.declared.exchange.Stage.TheVariants as stages
 use Rattle.cp_rpc.specs.declared.call.Call.{Call}
 use Rattle.cp_rpc.specs.declared.returned.Return.{Return}
+use Rattle.cp_rpc.specs.declared.returned.Returned.{Returned}
 use Rattle.cp_rpc.specs.declared.target.Target.{Target}
 use Rattle.cp_rpc.specs.declared.target.Target.TheVariants as targets
 use Rattle.cp_refs.specs.At.{cap_at}
@@ -29,6 +31,7 @@ use Rattle.cp_machine.specs.Room.{cap_fits, has_room, has_ticket, outcome_fits, 
 use Rattle.cp_machine.specs.InUse.{caps_of, has_question, has_promise, has_import, is_local_path, is_pipelined}
 use Rattle.cp_machine.specs.Take.{TakeAll, answer_of, lower}
 use Rattle.cp_machine.specs.Give.{without_question}
+use Rattle.cp_machine.specs.Go.{Underway}
 use Rattle.cp_machine.specs.Calling.{called, own_call, call_refusals, not_all, reference_of}
 use Rattle.cp_machine.specs.Answering.{call_faults, entered, is_answering, peer_call, target_faults, with_answer}
 use Rattle.cp_machine.specs.Asking.{TakeReturned, is_asked}
@@ -55,7 +58,7 @@ use Rattle.cp_rules.specs.Going.{MayGo}
 use Rattle.cp_rules.specs.Ungiven.{AllEnd, IsUngiven}
 use Rattle.cp_rules.proofs.Ready.{is_ungiven, tied_once}
 use Rattle.cp_vat.specs.Judging.{judged}
-use Rattle.cp_vat.specs.Returning.{MaySettle}
+use Rattle.cp_vat.specs.Returning.{AwaitsReturn, MaySettle}
 use Rattle.cp_vat.specs.Ways.{WayEnds, seen}
 use Rattle.cp_vat.specs.declared.going.Reference.{Reference}
 use Rattle.cp_vat.specs.declared.going.Reference.TheVariants as references
@@ -271,6 +274,10 @@ module _ (old mid : State) (c : Call) (table : List Cap) (h : Local old) (passed
   pub call_target : target_faults (entered mid c.question_id) c.target ≡ []
   call_target = target_by c.target (back_empty (fault_if (is_answering old c.question_id) faults.QuestionInUse) (target_faults old c.target) front_none)
 
+-- What a call carries as its content doesn't matter to whether it may go.
+pub may_go_carrying : (s : State) (u : Underway) (content : Node) → MayGo s u → MayGo s (record u { request = record u.request { content = content } })
+may_go_carrying s u content may = record { free = may.free; given = may.given; ungiven = may.ungiven; ends = may.ends }
+
 -- where a target leads that is there
 module _ (s : State) (hand : Option Origin) (h : Within s hand []) where
   pub export_ends : (e : ℕ) (entry : Counted Cap) → get s.counts.exports e ≡ Some entry → HasRoute s.values entry.kept
@@ -282,21 +289,34 @@ module _ (s : State) (hand : Option Origin) (h : Within s hand []) where
 pub none_there : {X : Type 0} (o : Option X) (fault : PeerFault) → fault_if (is_none o) fault ≡ [] → o ≡ None → ⊥
 none_there o fault none is = true≢false (sym (ap is_none is) ∙ not_met (is_none o) fault none)
 
--- A question that is asked may be settled to what its Return is taken in as.
-pub returned_may : (old mid : State) (r : Return) (entry : Exchange QuestionEntry) (exports : Table (Counted Cap)) (outcome : Outcome) → Local old → Some entry ≡ get old.entries.questions r.answer_id
+-- A question that is asked awaits its Return, once the exports that its params named were lowered.
+pub asked_awaits : (old : State) (r : Return) (entry : Exchange QuestionEntry) (exports : Table (Counted Cap)) → Local old → Some entry ≡ get old.entries.questions r.answer_id
     → true ≡ is_asked entry.kept.is_sent entry.stage → entry.stage ≡ stages.Open
     → Ok exports ≡ (if r.release_param_caps then lower old.counts.exports entry.kept.mentions else Ok old.counts.exports)
-    → TakeReturned (with_exports old exports) r.returned (Ok (outcome, mid)) → MaySettle mid r.answer_id entry.kept.forwards outcome
-returned_may old mid r entry exports outcome h there asked is_open lowered taken =
-    let fewer = fewer_exports (local_is_within old h) exports (lower_if r.release_param_caps old.counts.exports exports entry.kept.mentions h.counts lowered) in
-    let one = returned_keeps (with_exports old exports) r.returned (outcome, mid) fewer h.none_over_ taken in
+    → AwaitsReturn (with_exports old exports) r.answer_id entry.kept.forwards
+asked_awaits old r entry exports h there asked is_open lowered =
     record {
-      within = one.0;
+      within = fewer_exports (local_is_within old h) exports (lower_if r.release_param_caps old.counts.exports exports entry.kept.mentions h.counts lowered);
+      still = h.none_over_;
       entry = entry;
-      there = ap (λ m. get m r.answer_id) one.1.asked ∙ sym there;
+      there = sym there;
       unsettled = rw is_open refl;
       sent = sym (rw is_open at asked);
       forwards_ = refl;
+    }
+
+-- One that awaits its Return may be settled to what its Return is taken in as.
+pub returned_may : (mid last : State) (q : ℕ) (forwards : Option ℕ) (returned : Returned) (outcome : Outcome) → AwaitsReturn mid q forwards → TakeReturned mid returned (Ok (outcome, last))
+    → MaySettle last q forwards outcome
+returned_may mid last q forwards returned outcome awaited taken =
+    let one = returned_keeps mid returned (outcome, last) awaited.within awaited.still taken in
+    record {
+      within = one.0;
+      entry = awaited.entry;
+      there = ap (λ m. get m q) one.1.asked ∙ awaited.there;
+      unsettled = awaited.unsettled;
+      sent = awaited.sent;
+      forwards_ = awaited.forwards_;
       fit = one.2;
     }
 

@@ -55,8 +55,10 @@ faulty [] f m first = cc
 faulty (g ∷ fs) f m first = refl
 
 -- a tree that says none
+pub none_told : (old : State) (t : Node) (f : SchemaFault) → first_of (message_faults t) ≡ Some f → OnUnimplemented old t (Err faults.PeerLacksLevelOne)
+none_told old t f first = subst (λ o. UnknownToPeer old o (Err faults.PeerLacksLevelOne)) (faulty (message_faults t) f (message_said t) first) refl
+
+-- so where memory may have run out
 pub faulty_told : (old : State) (t root : Node) (f : SchemaFault) → root ≡ t → (f ≡ schema_faults.OutOfMemory → ⊥) → IsFirstFault (message_faults root) f → OnUnimplemented old t (Err faults.PeerLacksLevelOne)
 faulty_told old t root f same other (inl want) = absurd (other want)
-faulty_told old t root f same other (inr first) =
-    subst (λ q. OnUnimplemented old q (Err faults.PeerLacksLevelOne)) same
-    (subst (λ o. UnknownToPeer old o (Err faults.PeerLacksLevelOne)) (faulty (message_faults root) f (message_said root) first) refl)
+faulty_told old t root f same other (inr first) = subst (λ q. OnUnimplemented old q (Err faults.PeerLacksLevelOne)) same (none_told old root f first)

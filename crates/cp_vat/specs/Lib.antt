@@ -3,4 +3,5 @@ pub mod Stepping
 pub mod StateCode
 pub mod Ways
 pub mod Returning
+pub mod Receiving
 pub mod Running

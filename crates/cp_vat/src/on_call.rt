@@ -1,26 +1,29 @@
 //! What a Call does.
 
-ghost use Rattle.std.specs.Prelude.{◌≡◌, ◌<◌, ◌^◌, ◌-◌, ◌≢◌, [], Some, None, OnOk, IfOk, true};
+ghost use Rattle.std.specs.Prelude.{◌≡◌, ◌<◌, ◌^◌, ◌-◌, ◌≢◌, [], None, OnOk, IfOk, true};
 ghost use Rattle.std.specs.FinMap as map;
-ghost use Rattle.cp_machine.specs.Answering.{GoToAnswer, GoToTarget, OnCall, entered, target_faults};
+ghost use Rattle.cp_machine.specs.Answering.{GoToAnswer, GoToExport, OnCall, entered, target_faults};
 ghost use Rattle.cp_machine.specs.Local.{Local};
 ghost use Rattle.cp_machine.specs.Take.{answer_of};
 ghost use Rattle.cp_machine.specs.Supported.{is_supported, is_supported_target};
+ghost use Rattle.cp_rpc.specs.Told.{told_call, told_target};
 ghost use Rattle.cp_rpc.specs.declared.message.Message.TheVariants as messages;
-ghost use Rattle.cp_order.specs.Within.{IsInHand, Within};
 ghost use Rattle.cp_state.specs.Halts.{Acts, OnlyWant};
 ghost use Rattle.cp_state.specs.StateOf.{state_of};
-ghost use Rattle.cp_rules.specs.Going.{underway_of};
+ghost use Rattle.cp_vat.specs.Receiving.{Carries, HoldsWithin, Leads, LeadsBy};
 
-use crate::checks::check_call;
+use crate::checks::{check_call, check_call_view};
 use crate::on_bootstrap::open_answer;
 use cp_machine::Effect;
+use cp_reading::View;
 use cp_refs::{Gate, Origin, Path, Request, Route, at};
-use cp_rpc::{Call, Payload, Target};
-use cp_rules::go::{Underway, go, go_to};
-use cp_rules::promised::path_of;
-use cp_rules::take::{answer_of, take_all};
+use cp_rpc::{Call, CallView, Payload, Target, TargetView};
+use cp_rules::go::{Underway, go};
+use cp_rules::promised::{path_of, path_of_view};
+use cp_rules::take::{answer_of, take_all, take_all_view};
 use cp_state::{Core, Halt};
+use cp_tree::Whole;
+use std::alloc::{AllocError, Global};
 
 /// A Call's capability table is taken in, it opens an answer and has the next ticket, and goes by its
 /// target's route.
@@ -45,7 +48,49 @@ pub(crate) fn on_call(core: &mut Core, call: Call, effects: &mut Vec<Effect>) ->
             caps,
         },
     };
-    go_to_target(core, underway, &call.target, effects)
+    let route = route_to(core, &call.target)?;
+    go(core, underway, route, effects)
+}
+
+/// The same of a Call that is read in place. Its content is made last: once its table was taken in, and it is
+/// known where the call goes.
+pub(crate) fn on_call_view(
+    core: &mut Core,
+    call: &CallView<View>,
+    effects: &mut Vec<Effect>,
+) -> Result<(), Halt>
+    requires supported { is_supported (messages.Call (told_call (λ t. t) call.now)) ≡ true }
+    requires local { Local (state_of core.old) }
+    ensures { Acts (OnCall (state_of core.old) (told_call (λ t. t) call.now)) result effects.old.items effects.new.items (state_of core.new) }
+{
+    if let Err(fault) = check_call_view(core, call) {
+        return Err(Halt::Fault(fault));
+    }
+    let caps = take_all_view(core, &call.params.cap_table)?;
+    let ticket = enter(core, call.question_id)?;
+    let route = route_to_view(core, &call.target)?;
+    let content = content_for(core.alloc, &route, &call.params.content)?;
+    let underway = Underway {
+        ticket,
+        origin: Origin::Answer(call.question_id),
+        request: Request {
+            interface: call.interface_id,
+            method: call.method_id,
+            content,
+            caps,
+        },
+    };
+    go(core, underway, route, effects)
+}
+
+/// The content that a call carries which takes this route. One that fails needs none.
+fn content_for(alloc: Global, route: &Route, content: &View) -> Result<Whole, AllocError>
+    ensures { IfOk result (Carries route.now content.now) }
+{
+    match route {
+        Route::Fail(_) => Ok(Whole::null()),
+        _ => content.tree(alloc),
+    }
 }
 
 /// Opens an answer for a call, and gives it the next ticket.
@@ -63,54 +108,64 @@ fn enter(core: &mut Core, id: u32) -> Result<u64, Halt>
     Ok(ticket)
 }
 
-/// A call goes by the route of its target.
-fn go_to_target(
-    core: &mut Core,
-    call: Underway,
-    target: &Target,
-    effects: &mut Vec<Effect>,
-) -> Result<(), Halt>
-    requires within { Within (state_of core.old) (Some call.origin) [] }
-    requires hand { IsInHand (state_of core.old) (underway_of call) }
-    requires there { target_faults (state_of core.old) target.now ≡ [] }
+/// The route of a call on a target.
+fn route_to(core: &Core, target: &Target) -> Result<Route, AllocError>
+    requires within { HoldsWithin (state_of core.now) }
+    requires there { target_faults (state_of core.now) target.now ≡ [] }
     requires supported { is_supported_target target.now ≡ true }
-    ensures { Acts (GoToTarget (state_of core.old) (underway_of call) target.now) result effects.old.items effects.new.items (state_of core.new) }
+    ensures { IfOk result (Leads (state_of core.now) target.now) }
 {
     match target {
-        Target::ImportedCap(id) => {
-            let Some(export) = core.exports.get(*id) else {
-                unreachable!()
-            };
-            let cap = export.kept.copy(core.alloc)?;
-            go_to(core, call, &cap, effects)
-        }
+        Target::ImportedCap(id) => route_to_export(core, *id),
         Target::PromisedAnswer(answer) => {
             let path = path_of(core.alloc, &answer.transform)?;
-            go_to_answer(core, call, answer.question_id, path, effects)
+            route_to_answer(core, answer.question_id, path)
         }
         Target::Unknown(_) => unreachable!(),
     }
 }
 
+/// The same of a target that is read in place.
+fn route_to_view(core: &Core, target: &TargetView<View>) -> Result<Route, AllocError>
+    requires within { HoldsWithin (state_of core.now) }
+    requires there { target_faults (state_of core.now) (told_target (λ t. t) target.now) ≡ [] }
+    requires supported { is_supported_target (told_target (λ t. t) target.now) ≡ true }
+    ensures { IfOk result (Leads (state_of core.now) (told_target (λ t. t) target.now)) }
+{
+    match target {
+        TargetView::ImportedCap(id) => route_to_export(core, *id),
+        TargetView::PromisedAnswer(answer) => {
+            let path = path_of_view(core.alloc, &answer.transform)?;
+            route_to_answer(core, answer.question_id, path)
+        }
+        TargetView::Unknown(_) => unreachable!(),
+    }
+}
+
+/// A call on an export takes the route of what was exported.
+fn route_to_export(core: &Core, id: u32) -> Result<Route, AllocError>
+    requires within { HoldsWithin (state_of core.now) }
+    requires there { map.get core.now.exports id ≢ None }
+    ensures { IfOk result (LeadsBy (λ call out. GoToExport (state_of core.now) call (map.get core.now.exports id) out) (state_of core.now)) }
+{
+    let Some(export) = core.exports.get(id) else {
+        unreachable!()
+    };
+    core.values.values().route(&export.kept)
+}
+
 /// A call on an answer waits until it is given, and takes the route of what it gave at the path.
-fn go_to_answer(
-    core: &mut Core,
-    call: Underway,
-    id: u32,
-    path: Path,
-    effects: &mut Vec<Effect>,
-) -> Result<(), Halt>
-    requires within { Within (state_of core.old) (Some call.origin) [] }
-    requires hand { IsInHand (state_of core.old) (underway_of call) }
-    requires there { answer_of (state_of core.old) id ≢ None }
-    ensures { Acts (GoToAnswer (state_of core.old) (underway_of call) id path (answer_of (state_of core.old) id)) result effects.old.items effects.new.items (state_of core.new) }
+fn route_to_answer(core: &Core, id: u32, path: Path) -> Result<Route, AllocError>
+    requires within { HoldsWithin (state_of core.now) }
+    requires there { answer_of (state_of core.now) id ≢ None }
+    ensures { IfOk result (LeadsBy (λ call out. GoToAnswer (state_of core.now) call id path (answer_of (state_of core.now) id) out) (state_of core.now)) }
 {
     match answer_of(core, id) {
         None => unreachable!(),
-        Some(None) => go(core, call, Route::Wait(Gate::Answer(id, path)), effects),
+        Some(None) => Ok(Route::Wait(Gate::Answer(id, path))),
         Some(Some(outcome)) => {
             let cap = at(core.alloc, outcome, path.fields())?;
-            go_to(core, call, &cap, effects)
+            core.values.values().route(&cap)
         }
     }
 }

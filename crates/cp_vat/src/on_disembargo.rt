@@ -1,20 +1,24 @@
 //! What a Disembargo does.
 
-ghost use Rattle.std.specs.Prelude.{◌≡◌, [], true};
+ghost use Rattle.std.specs.Prelude.{◌≡◌, ◌≢◌, [], None, true};
+ghost use Rattle.std.specs.FinMap as map;
+ghost use Rattle.cp_rpc.specs.Told.{told_target};
 ghost use Rattle.cp_refs.specs.Route.{HasRoute};
 ghost use Rattle.cp_machine.specs.Answering.{target_faults};
 ghost use Rattle.cp_machine.specs.Local.{Local};
-ghost use Rattle.cp_machine.specs.Resolving.{Echoes, EchoesTarget, OnDisembargo};
+ghost use Rattle.cp_machine.specs.Resolving.{Echoes, EchoesAnswer, EchoesExport, EchoesTarget, OnDisembargo, ended_by};
+ghost use Rattle.cp_machine.specs.Take.{answer_of};
 ghost use Rattle.cp_machine.specs.Supported.{is_supported_context, is_supported_target};
-ghost use Rattle.cp_state.specs.Halts.{Acts};
+ghost use Rattle.cp_state.specs.Halts.{Acts, Quiet};
 ghost use Rattle.cp_state.specs.StateOf.{state_of};
 
-use crate::checks::check_target;
+use crate::checks::{check_target, check_target_view};
 use cp_machine::{Effect, PeerFault};
-use cp_refs::{Cap, at};
-use cp_rpc::{Context, Disembargo, Message, Target};
+use cp_reading::View;
+use cp_refs::{Cap, Path, at};
+use cp_rpc::{Context, Disembargo, DisembargoView, Message, Target, TargetView};
 use cp_rules::come_to::come_to;
-use cp_rules::promised::path_of;
+use cp_rules::promised::{path_of, path_of_view};
 use cp_rules::take::answer_of;
 use cp_state::{Core, Gift, Halt};
 
@@ -36,14 +40,42 @@ pub(crate) fn on_disembargo(
             }
             echo_target(core, number, &message.target, effects)
         }
-        Context::ReceiverLoopback(number) => {
-            let Some(cap) = core.marks.end_embargo(number) else {
-                return Err(Halt::Fault(PeerFault::UnknownEmbargo));
-            };
-            Ok(core.gates.end(Gift::Embargo(number, cap))?)
-        }
+        Context::ReceiverLoopback(number) => end_embargo(core, number),
         Context::Accept | Context::Provide(_) | Context::Unknown(_) => unreachable!(),
     }
+}
+
+/// The same of a Disembargo that is read in place.
+pub(crate) fn on_disembargo_view(
+    core: &mut Core,
+    message: &DisembargoView<View>,
+    effects: &mut Vec<Effect>,
+) -> Result<(), Halt>
+    requires context { is_supported_context message.now.context ≡ true }
+    requires target { is_supported_target (told_target (λ t. t) message.now.target) ≡ true }
+    requires local { Local (state_of core.old) }
+    ensures { Acts (OnDisembargo (state_of core.old) message.now.context (told_target (λ t. t) message.now.target)) result effects.old.items effects.new.items (state_of core.new) }
+{
+    match message.context {
+        Context::SenderLoopback(number) => {
+            if let Err(fault) = check_target_view(core, &message.target) {
+                return Err(Halt::Fault(fault));
+            }
+            echo_target_view(core, number, &message.target, effects)
+        }
+        Context::ReceiverLoopback(number) => end_embargo(core, number),
+        Context::Accept | Context::Provide(_) | Context::Unknown(_) => unreachable!(),
+    }
+}
+
+/// Ends an embargo.
+fn end_embargo(core: &mut Core, number: u32) -> Result<(), Halt>
+    ensures { Quiet (λ out. out ≡ ended_by (state_of core.old) number (map.get core.old.marks.embargoes number)) result (state_of core.new) }
+{
+    let Some(cap) = core.marks.end_embargo(number) else {
+        return Err(Halt::Fault(PeerFault::UnknownEmbargo));
+    };
+    Ok(core.gates.end(Gift::Embargo(number, cap))?)
 }
 
 /// Sends the echo of a Disembargo to the import at which its target ends.
@@ -59,24 +91,68 @@ fn echo_target(
     ensures { Acts (EchoesTarget (state_of core.old) number target.now) result effects.old.items effects.new.items (state_of core.new) }
 {
     match target {
-        Target::ImportedCap(id) => {
-            let Some(export) = core.exports.get(*id) else {
-                unreachable!()
-            };
-            echo(core, number, &export.kept, effects)
-        }
+        Target::ImportedCap(id) => echo_export(core, number, *id, effects),
         Target::PromisedAnswer(answer) => {
             let path = path_of(core.alloc, &answer.transform)?;
-            match answer_of(core, answer.question_id) {
-                None => unreachable!(),
-                Some(None) => Err(Halt::Fault(PeerFault::DisembargoTarget)),
-                Some(Some(outcome)) => {
-                    let cap = at(core.alloc, outcome, path.fields())?;
-                    echo(core, number, &cap, effects)
-                }
-            }
+            echo_answer(core, number, answer.question_id, path, effects)
         }
         Target::Unknown(_) => unreachable!(),
+    }
+}
+
+/// The same of a target that is read in place.
+fn echo_target_view(
+    core: &mut Core,
+    number: u32,
+    target: &TargetView<View>,
+    effects: &mut Vec<Effect>,
+) -> Result<(), Halt>
+    requires supported { is_supported_target (told_target (λ t. t) target.now) ≡ true }
+    requires local { Local (state_of core.old) }
+    requires there { target_faults (state_of core.old) (told_target (λ t. t) target.now) ≡ [] }
+    ensures { Acts (EchoesTarget (state_of core.old) number (told_target (λ t. t) target.now)) result effects.old.items effects.new.items (state_of core.new) }
+{
+    match target {
+        TargetView::ImportedCap(id) => echo_export(core, number, *id, effects),
+        TargetView::PromisedAnswer(answer) => {
+            let path = path_of_view(core.alloc, &answer.transform)?;
+            echo_answer(core, number, answer.question_id, path, effects)
+        }
+        TargetView::Unknown(_) => unreachable!(),
+    }
+}
+
+/// Sends the echo of a Disembargo to the import at which an export ends.
+fn echo_export(core: &Core, number: u32, id: u32, effects: &mut Vec<Effect>) -> Result<(), Halt>
+    requires local { Local (state_of core.now) }
+    requires there { map.get core.now.exports id ≢ None }
+    ensures { Acts (EchoesExport (state_of core.now) number (map.get core.now.exports id)) result effects.old.items effects.new.items (state_of core.now) }
+{
+    let Some(export) = core.exports.get(id) else {
+        unreachable!()
+    };
+    echo(core, number, &export.kept, effects)
+}
+
+/// Sends the echo of a Disembargo to the import at which an answer ends at a path.
+fn echo_answer(
+    core: &Core,
+    number: u32,
+    id: u32,
+    path: Path,
+    effects: &mut Vec<Effect>,
+) -> Result<(), Halt>
+    requires local { Local (state_of core.now) }
+    requires there { answer_of (state_of core.now) id ≢ None }
+    ensures { Acts (EchoesAnswer (state_of core.now) number path (answer_of (state_of core.now) id)) result effects.old.items effects.new.items (state_of core.now) }
+{
+    match answer_of(core, id) {
+        None => unreachable!(),
+        Some(None) => Err(Halt::Fault(PeerFault::DisembargoTarget)),
+        Some(Some(outcome)) => {
+            let cap = at(core.alloc, outcome, path.fields())?;
+            echo(core, number, &cap, effects)
+        }
     }
 }
 

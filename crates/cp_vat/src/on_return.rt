@@ -1,29 +1,39 @@
 //! What a Return does.
 
 ghost use Rattle.std.specs.Prelude.{◌≡◌, Ok, true, if◌then◌else◌};
+ghost use Rattle.cp_rpc.specs.Told.{told_return, told_returned};
+ghost use Rattle.cp_rpc.specs.declared.returned.Returned.{Returned};
 ghost use Rattle.cp_machine.specs.Local.{Local};
 ghost use Rattle.cp_machine.specs.Asking.{OnReturn, Settles, TakeReturned, is_asked};
 ghost use Rattle.cp_machine.specs.Supported.{is_supported_returned};
 ghost use Rattle.cp_machine.specs.Take.{lower};
 ghost use Rattle.cp_state.specs.Halts.{Acts, Leaves, leaving};
 ghost use Rattle.cp_state.specs.StateOf.{state_of};
+ghost use Rattle.cp_vat.specs.Receiving.{Begins};
 ghost use Rattle.cp_vat.specs.Returning.{MaySettle};
 
 use cp_machine::{Effect, PeerFault};
+use cp_reading::View;
 use cp_refs::Outcome;
-use cp_rpc::{Return, Returned};
+use cp_rpc::{Return, ReturnView, Returned, ReturnedView};
 use cp_rules::entry::remove_question;
 use cp_rules::give::give_answer;
 use cp_rules::give_own::give_own;
 use cp_rules::go::finish_effect;
 use cp_rules::lower::lower;
-use cp_rules::take::take_all;
+use cp_rules::take::{take_all, take_all_view};
 use cp_state::{Core, Exported, Halt};
 use cp_tables::Stage;
 
-/// A Return is taken in, unless the application finished the question: then it only ends, and what the
-/// Return names isn't looked at. First the exports that the params named are lowered, if the peer asks
-/// for it.
+/// What is left to do of a Return.
+enum Rest {
+    /// The application finished the question, so what the Return names isn't looked at.
+    Nothing,
+    /// What was returned settles the question, and answers the call of the peer's that it forwards.
+    Settle { forwards: Option<u32> },
+}
+
+/// A Return is taken in, unless the application finished the question.
 pub(crate) fn on_return(
     core: &mut Core,
     message: Return,
@@ -33,7 +43,40 @@ pub(crate) fn on_return(
     requires local { Local (state_of core.old) }
     ensures { Acts (OnReturn (state_of core.old) message) result effects.old.items effects.new.items (state_of core.new) }
 {
-    let id = message.answer_id;
+    match begin(core, message.answer_id, message.release_param_caps)? {
+        Rest::Nothing => Ok(()),
+        Rest::Settle { forwards } => {
+            let outcome = take_returned(core, message.returned)?;
+            settle(core, message.answer_id, forwards, outcome, effects)
+        }
+    }
+}
+
+/// The same of a Return that is read in place.
+pub(crate) fn on_return_view(
+    core: &mut Core,
+    message: &ReturnView<View>,
+    effects: &mut Vec<Effect>,
+) -> Result<(), Halt>
+    requires supported { is_supported_returned (told_returned (λ t. t) message.now.returned) ≡ true }
+    requires local { Local (state_of core.old) }
+    ensures { Acts (OnReturn (state_of core.old) (told_return (λ t. t) message.now)) result effects.old.items effects.new.items (state_of core.new) }
+{
+    match begin(core, message.answer_id, message.release_param_caps)? {
+        Rest::Nothing => Ok(()),
+        Rest::Settle { forwards } => {
+            let outcome = take_returned_view(core, &message.returned)?;
+            settle(core, message.answer_id, forwards, outcome, effects)
+        }
+    }
+}
+
+/// Lowers the exports that the params named, if the peer asks for it, and takes a question out that the
+/// application finished.
+fn begin(core: &mut Core, id: u32, release_param_caps: bool) -> Result<Rest, Halt>
+    requires { Local (state_of core.old) }
+    ensures { (returned : Returned) → Begins (state_of core.old) (record { answer_id = id; release_param_caps = release_param_caps; returned = returned }) result (state_of core.new) }
+{
     let Some(question) = core.questions.get(id) else {
         return Err(Halt::Fault(PeerFault::UnknownQuestion));
     };
@@ -43,17 +86,14 @@ pub(crate) fn on_return(
         return Err(Halt::Fault(PeerFault::UnknownQuestion));
     }
     let named = question.kept.mentions.ids();
-    if let Err(fault) = lower_if(message.release_param_caps, &mut core.exports, named) {
+    if let Err(fault) = lower_if(release_param_caps, &mut core.exports, named) {
         return Err(Halt::Fault(fault));
     }
     match stage {
-        Stage::Open => {
-            let outcome = take_returned(core, message.returned)?;
-            settle(core, id, forwards, outcome, effects)
-        }
+        Stage::Open => Ok(Rest::Settle { forwards }),
         Stage::Finished => {
             remove_question(core, id);
-            Ok(())
+            Ok(Rest::Nothing)
         }
         Stage::Returned => unreachable!(),
     }
@@ -94,6 +134,25 @@ fn take_returned(core: &mut Core, returned: Returned) -> Result<Outcome, Halt>
         }
         Returned::Exception(exception) => Ok(Outcome::Failed(exception)),
         Returned::Canceled => Ok(Outcome::Canceled),
+        _ => unreachable!(),
+    }
+}
+
+/// The same of what is read in place. A content or an exception is made once nothing is at fault.
+fn take_returned_view(core: &mut Core, returned: &ReturnedView<View>) -> Result<Outcome, Halt>
+    requires { is_supported_returned (told_returned (λ t. t) returned.now) ≡ true }
+    ensures { Leaves (TakeReturned (state_of core.old) (told_returned (λ t. t) returned.now)) result (state_of core.new) }
+{
+    match returned {
+        ReturnedView::Results(payload) => {
+            let caps = take_all_view(core, &payload.cap_table)?;
+            Ok(Outcome::Results {
+                content: payload.content.tree(core.alloc)?,
+                caps,
+            })
+        }
+        ReturnedView::Exception(exception) => Ok(Outcome::Failed(exception.exception(core.alloc)?)),
+        ReturnedView::Canceled => Ok(Outcome::Canceled),
         _ => unreachable!(),
     }
 }

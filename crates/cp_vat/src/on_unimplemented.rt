@@ -1,18 +1,20 @@
 //! What an Unimplemented does, and how a message that isn't supported is sent back.
 
 ghost use Rattle.std.specs.Prelude.{◌≡◌, Some};
+ghost use Rattle.cp_rpc.specs.Told.{told};
 ghost use Rattle.cp_machine.specs.Resolving.{OnUnimplemented, UnknownToPeer};
 ghost use Rattle.cp_machine.specs.Step.{echoed};
 ghost use Rattle.cp_state.specs.Halts.{Acts, Quiet};
 ghost use Rattle.cp_state.specs.StateOf.{state_of};
 
-use crate::on_resolve::given_back;
+use crate::on_resolve::{given_back, given_back_view};
 use crate::short_lists::are_short;
 use cp_machine::{Effect, PeerFault};
-use cp_rpc::{Message, SchemaFault, message_of, tree_of};
+use cp_reading::View;
+use cp_rpc::{Message, MessageIn, MessageView, SchemaFault, message_of, message_view, tree_of};
 use cp_rules::lower::lower;
 use cp_state::{Core, Halt};
-use cp_tree::{Whole, fits};
+use cp_tree::{Shape, Whole, WriteFault, fits};
 
 /// A Resolve that the peer doesn't know gives back what it named. Any other message is one that this
 /// vat needs.
@@ -47,6 +49,35 @@ fn unknown_to_peer(core: &mut Core, message: &Message) -> Result<(), Halt>
     Ok(())
 }
 
+/// The same of a tree that is read in place. Nothing is made of it.
+pub(crate) fn on_unimplemented_view(core: &mut Core, tree: &View) -> Result<(), Halt>
+    ensures { Quiet (OnUnimplemented (state_of core.old) tree.now) result (state_of core.new) }
+{
+    let Shape::Struct { .. } = tree.shape() else {
+        return Err(Halt::Fault(PeerFault::PeerLacksLevelOne));
+    };
+    match message_view(tree.again()) {
+        Ok(message) => unknown_view_to_peer(core, &message),
+        Err(_) => Err(Halt::Fault(PeerFault::PeerLacksLevelOne)),
+    }
+}
+
+/// What a message that is read in place does that the peer doesn't know.
+fn unknown_view_to_peer(core: &mut Core, message: &MessageView) -> Result<(), Halt>
+    ensures { Quiet (UnknownToPeer (state_of core.old) (Some (told message.now))) result (state_of core.new) }
+{
+    let MessageIn::Resolve(resolve) = message else {
+        return Err(Halt::Fault(PeerFault::PeerLacksLevelOne));
+    };
+    let Some(id) = given_back_view(&resolve.resolution) else {
+        return Ok(());
+    };
+    if let Err(fault) = lower(&mut core.exports, &[id]) {
+        return Err(Halt::Fault(fault));
+    }
+    Ok(())
+}
+
 /// How deep a tree is at most that an Unimplemented holds.
 const ECHO_DEPTH: u32 = 63;
 
@@ -60,9 +91,11 @@ pub(crate) fn echo(core: &Core, message: &Message, effects: &mut Vec<Effect>) ->
     if !are_short(message) {
         return Err(Halt::Fault(PeerFault::EchoTooLarge));
     }
-    // Since no list is too long, it is made unless memory runs out.
-    let Ok(root) = tree_of(core.alloc, message) else {
-        return Err(Halt::OutOfMemory);
+    let root = match tree_of(core.alloc, message) {
+        Ok(root) => root,
+        Err(WriteFault::OutOfMemory) => return Err(Halt::OutOfMemory),
+        // No list is too long, and nothing else is refused.
+        Err(_) => unreachable!(),
     };
     if !fits(root.tree(), ECHO_DEPTH, ECHO_COST) {
         return Err(Halt::Fault(PeerFault::EchoTooLarge));

@@ -1,6 +1,7 @@
 //! What a message does by itself.
 
 ghost use Rattle.std.specs.Prelude.{◌≡◌, true};
+ghost use Rattle.cp_rpc.specs.Told.{told};
 ghost use Rattle.cp_machine.specs.Local.{Local};
 ghost use Rattle.cp_machine.specs.Step.{On, Receives};
 ghost use Rattle.cp_machine.specs.Supported.{is_supported};
@@ -9,16 +10,16 @@ ghost use Rattle.cp_state.specs.Halts.{Acts};
 ghost use Rattle.cp_state.specs.StateOf.{state_of};
 
 use crate::on_bootstrap::on_bootstrap;
-use crate::on_call::on_call;
-use crate::on_disembargo::on_disembargo;
+use crate::on_call::{on_call, on_call_view};
+use crate::on_disembargo::{on_disembargo, on_disembargo_view};
 use crate::on_finish::{on_finish, on_release};
-use crate::on_resolve::on_resolve;
-use crate::on_return::on_return;
-use crate::on_unimplemented::{echo, on_unimplemented};
-use crate::sizes::message_fits;
-use crate::supported::is_supported;
+use crate::on_resolve::{on_resolve, on_resolve_view};
+use crate::on_return::{on_return, on_return_view};
+use crate::on_unimplemented::{echo, on_unimplemented, on_unimplemented_view};
+use crate::sizes::{message_fits, message_fits_view};
+use crate::supported::{is_supported, is_supported_view};
 use cp_machine::{Effect, PeerFault, Reason};
-use cp_rpc::{Exception, Message};
+use cp_rpc::{Exception, Message, MessageIn, MessageView};
 use cp_state::{Core, Halt};
 
 /// A message that isn't supported is sent back. Of another one the sizes are looked at, and then it is
@@ -40,6 +41,25 @@ pub(crate) fn receive(
     act_on(core, message, effects)
 }
 
+/// The same of a message that is read in place. Of its parts those are made that are kept or sent, once
+/// nothing is at fault. One that isn't supported is made, since it is sent back.
+pub(crate) fn receive_view(
+    core: &mut Core,
+    message: &MessageView,
+    effects: &mut Vec<Effect>,
+) -> Result<(), Halt>
+    requires { Local (state_of core.old) }
+    ensures { Acts (Receives (state_of core.old) (told message.now)) result effects.old.items effects.new.items (state_of core.new) }
+{
+    if !is_supported_view(message) {
+        return echo(core, &message.message(core.alloc)?, effects);
+    }
+    if !message_fits_view(message) {
+        return Err(Halt::Fault(PeerFault::PayloadTooLarge));
+    }
+    act_on_view(core, message, effects)
+}
+
 /// What a message does, by its member.
 fn act_on(core: &mut Core, message: Message, effects: &mut Vec<Effect>) -> Result<(), Halt>
     requires supported { is_supported message ≡ true }
@@ -57,6 +77,33 @@ fn act_on(core: &mut Core, message: Message, effects: &mut Vec<Effect>) -> Resul
         Message::Bootstrap(bootstrap) => on_bootstrap(core, bootstrap.question_id, effects),
         Message::Disembargo(disembargo) => on_disembargo(core, &disembargo, effects),
         Message::Other { .. } => unreachable!(),
+    }
+}
+
+/// What a message that is read in place does, by its member.
+fn act_on_view(
+    core: &mut Core,
+    message: &MessageView,
+    effects: &mut Vec<Effect>,
+) -> Result<(), Halt>
+    requires supported { is_supported (told message.now) ≡ true }
+    requires local { Local (state_of core.old) }
+    ensures { Acts (On (state_of core.old) (told message.now)) result effects.old.items effects.new.items (state_of core.new) }
+{
+    match message {
+        MessageIn::Unimplemented(tree) => on_unimplemented_view(core, tree),
+        MessageIn::Abort(exception) => {
+            let exception = exception.exception(core.alloc)?;
+            on_abort(core, exception, effects)
+        }
+        MessageIn::Call(call) => on_call_view(core, call, effects),
+        MessageIn::Return(message) => on_return_view(core, message, effects),
+        MessageIn::Finish(finish) => on_finish(core, *finish),
+        MessageIn::Resolve(resolve) => on_resolve_view(core, resolve, effects),
+        MessageIn::Release(release) => on_release(core, *release),
+        MessageIn::Bootstrap(bootstrap) => on_bootstrap(core, bootstrap.question_id, effects),
+        MessageIn::Disembargo(disembargo) => on_disembargo_view(core, disembargo, effects),
+        MessageIn::Other { .. } => unreachable!(),
     }
 }
 

@@ -2,11 +2,15 @@
 
 ghost use Rattle.std.specs.Prelude.{◌≡◌};
 ghost use Rattle.std.specs.List.{list_all};
+ghost use Rattle.cp_rpc.specs.Told.{told, told_descriptor, told_exception, told_payload, told_resolution, told_returned, told_target};
 ghost use Rattle.cp_machine.specs.Room.{cap_fits, caps_fit, content_fits, descriptor_fits, exception_fits, message_fits, outcome_fits, payload_fits, request_fits, resolution_fits, returned_fits, target_fits, transform_fits};
 
+use cp_reading::View;
 use cp_refs::{Cap, Outcome, Request};
 use cp_rpc::{
-    Descriptor, Exception, Message, Payload, PromisedAnswer, Resolution, Returned, Target,
+    CapTableView, Descriptor, DescriptorView, Exception, ExceptionView, Message, MessageIn,
+    MessageView, Payload, PayloadView, PromisedAnswer, Resolution, ResolutionView, Returned,
+    ReturnedView, Target, TargetView,
 };
 use cp_tree::{Whole, fits};
 
@@ -157,4 +161,81 @@ fn exception_fits(exception: &Exception) -> bool
     ensures { result ≡ exception_fits exception.now }
 {
     exception.reason.as_str().len() <= TEXT_LENGTH && exception.trace.as_str().len() <= TEXT_LENGTH
+}
+
+/// Whether a message that is read in place is within the vat's sizes.
+pub(crate) fn message_fits_view(message: &MessageView) -> bool
+    ensures { result ≡ message_fits (told message.now) }
+{
+    match message {
+        MessageIn::Abort(exception) => exception_fits_view(exception),
+        MessageIn::Call(call) => target_fits_view(&call.target) && payload_fits_view(&call.params),
+        MessageIn::Return(returned) => returned_fits_view(&returned.returned),
+        MessageIn::Resolve(resolve) => resolution_fits_view(&resolve.resolution),
+        MessageIn::Disembargo(disembargo) => target_fits_view(&disembargo.target),
+        _ => true,
+    }
+}
+
+fn payload_fits_view(payload: &PayloadView<View>) -> bool
+    ensures { result ≡ payload_fits (told_payload (λ t. t) payload.now) }
+{
+    payload.content.fits(CONTENT_DEPTH, CONTENT_COST)
+        && payload.cap_table.len() <= TABLE_LENGTH
+        && all_descriptors_fit_view(&payload.cap_table)
+}
+
+fn all_descriptors_fit_view(table: &CapTableView<View>) -> bool
+    ensures { result ≡ list_all descriptor_fits table.now }
+{
+    for i in 0..table.len() {
+        if !descriptor_fits_view(&table.descriptor(i)) {
+            return false;
+        }
+    }
+    true
+}
+
+fn descriptor_fits_view(descriptor: &DescriptorView<View>) -> bool
+    ensures { result ≡ descriptor_fits (told_descriptor (λ t. t) descriptor.now) }
+{
+    match descriptor {
+        DescriptorView::ReceiverAnswer(answer) => answer.transform.len() <= PATH_LENGTH,
+        _ => true,
+    }
+}
+
+fn target_fits_view(target: &TargetView<View>) -> bool
+    ensures { result ≡ target_fits (told_target (λ t. t) target.now) }
+{
+    match target {
+        TargetView::PromisedAnswer(answer) => answer.transform.len() <= PATH_LENGTH,
+        _ => true,
+    }
+}
+
+fn returned_fits_view(returned: &ReturnedView<View>) -> bool
+    ensures { result ≡ returned_fits (told_returned (λ t. t) returned.now) }
+{
+    match returned {
+        ReturnedView::Results(payload) => payload_fits_view(payload),
+        ReturnedView::Exception(exception) => exception_fits_view(exception),
+        _ => true,
+    }
+}
+
+fn resolution_fits_view(resolution: &ResolutionView<View>) -> bool
+    ensures { result ≡ resolution_fits (told_resolution (λ t. t) resolution.now) }
+{
+    match resolution {
+        ResolutionView::Cap(descriptor) => descriptor_fits_view(descriptor),
+        ResolutionView::Exception(exception) => exception_fits_view(exception),
+        ResolutionView::Unknown(_) => true,
+    }
+}
+
+fn exception_fits_view(exception: &ExceptionView<View>) -> bool
+    ensures { result ≡ exception_fits (told_exception (λ t. t) exception.now) }
+{
+    exception.reason.len() <= TEXT_LENGTH && exception.trace.len() <= TEXT_LENGTH
 }

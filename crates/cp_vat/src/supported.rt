@@ -2,9 +2,15 @@
 
 ghost use Rattle.std.specs.Prelude.{◌≡◌};
 ghost use Rattle.std.specs.List.{list_all};
+ghost use Rattle.cp_rpc.specs.Told.{told, told_descriptor, told_resolution, told_returned, told_target};
 ghost use Rattle.cp_machine.specs.Supported.{is_supported, is_supported_context, is_supported_descriptor, is_supported_resolution, is_supported_returned, is_supported_target, is_supported_transform};
 
-use cp_rpc::{Context, Descriptor, Message, Op, Resolution, Returned, SendResultsTo, Target};
+use cp_reading::View;
+use cp_rpc::{
+    CapTableView, Context, Descriptor, DescriptorView, Message, MessageIn, MessageView, Op,
+    Resolution, ResolutionView, Returned, ReturnedView, SendResultsTo, SendResultsToView, Target,
+    TargetView, TransformView,
+};
 
 /// Whether a message has no member that is unknown (the type of an exception aside), of three-party
 /// handoff or of tail calls.
@@ -96,4 +102,86 @@ fn is_loopback(context: &Context) -> bool
         context,
         Context::SenderLoopback(_) | Context::ReceiverLoopback(_)
     )
+}
+
+/// The same of a message that is read in place.
+pub(crate) fn is_supported_view(message: &MessageView) -> bool
+    ensures { result ≡ is_supported (told message.now) }
+{
+    match message {
+        MessageIn::Call(call) => {
+            matches!(&call.send_results_to, SendResultsToView::Caller)
+                && is_supported_target_view(&call.target)
+                && are_supported_view(&call.params.cap_table)
+        }
+        MessageIn::Return(returned) => is_supported_returned_view(&returned.returned),
+        MessageIn::Resolve(resolve) => is_supported_resolution_view(&resolve.resolution),
+        MessageIn::Disembargo(disembargo) => {
+            is_loopback(&disembargo.context) && is_supported_target_view(&disembargo.target)
+        }
+        MessageIn::Other { .. } => false,
+        _ => true,
+    }
+}
+
+fn is_supported_target_view(target: &TargetView<View>) -> bool
+    ensures { result ≡ is_supported_target (told_target (λ t. t) target.now) }
+{
+    match target {
+        TargetView::ImportedCap(_) => true,
+        TargetView::PromisedAnswer(answer) => is_supported_transform_view(&answer.transform),
+        TargetView::Unknown(_) => false,
+    }
+}
+
+fn is_supported_transform_view(transform: &TransformView<View>) -> bool
+    ensures { result ≡ is_supported_transform transform.now }
+{
+    for i in 0..transform.len() {
+        if let Op::Unknown(_) = transform.op(i) {
+            return false;
+        }
+    }
+    true
+}
+
+fn are_supported_view(table: &CapTableView<View>) -> bool
+    ensures { result ≡ list_all is_supported_descriptor table.now }
+{
+    for i in 0..table.len() {
+        if !is_supported_descriptor_view(&table.descriptor(i)) {
+            return false;
+        }
+    }
+    true
+}
+
+fn is_supported_descriptor_view(descriptor: &DescriptorView<View>) -> bool
+    ensures { result ≡ is_supported_descriptor (told_descriptor (λ t. t) descriptor.now) }
+{
+    match descriptor {
+        DescriptorView::ReceiverAnswer(answer) => is_supported_transform_view(&answer.transform),
+        DescriptorView::ThirdPartyHosted(_) | DescriptorView::Unknown(_) => false,
+        _ => true,
+    }
+}
+
+fn is_supported_returned_view(returned: &ReturnedView<View>) -> bool
+    ensures { result ≡ is_supported_returned (told_returned (λ t. t) returned.now) }
+{
+    match returned {
+        ReturnedView::Results(payload) => are_supported_view(&payload.cap_table),
+        ReturnedView::Exception(_) | ReturnedView::Canceled => true,
+        _ => false,
+    }
+}
+
+fn is_supported_resolution_view(resolution: &ResolutionView<View>) -> bool
+    ensures { result ≡ is_supported_resolution (told_resolution (λ t. t) resolution.now) }
+{
+    match resolution {
+        ResolutionView::Cap(descriptor) => is_supported_descriptor_view(descriptor),
+        ResolutionView::Exception(_) => true,
+        ResolutionView::Unknown(_) => false,
+    }
 }

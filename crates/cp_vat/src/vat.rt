@@ -1,6 +1,7 @@
 //! One end of a connection.
 
 ghost use Rattle.std.specs.Prelude.{◌≡◌};
+ghost use Rattle.cp_rpc.specs.Told.{told};
 ghost use Rattle.cp_machine.specs.State.{new_state};
 ghost use Rattle.cp_machine.specs.Step.{Step};
 ghost use Rattle.cp_machine.specs.declared.event.Event.TheVariants as events;
@@ -11,7 +12,7 @@ use crate::ending::{end_call, end_message};
 use crate::{answering, asking, calling, giving_up, receiving};
 use cp_machine::{Acted, Idle, VatFault};
 use cp_refs::{Cap, Origin, Outcome, PromiseId, Request};
-use cp_rpc::Message;
+use cp_rpc::{Message, MessageView};
 use cp_state::Core;
 use std::alloc::Global;
 use std::marker::Model;
@@ -59,6 +60,19 @@ impl Vat {
         }
         let mut effects = Vec::new(self.core.alloc);
         let done = receiving::receive(&mut self.core, message, &mut effects);
+        end_message(&mut self.core, done, effects)
+    }
+
+    /// Takes in a message of the peer's that is read in place. A tree or a text of it is made only for an
+    /// effect, a waiting call or a kept outcome, and after the message was checked.
+    pub fn receive_view(&mut self, message: MessageView) -> Result<Acted<()>, VatFault>
+        ensures { Step self.old (events.Receive (told message.entry)) (answered (λ _. values.Nothing) result) (effects_of result) self.new }
+    {
+        if self.core.is_closed {
+            return Err(VatFault::Closed);
+        }
+        let mut effects = Vec::new(self.core.alloc);
+        let done = receiving::receive_view(&mut self.core, &message, &mut effects);
         end_message(&mut self.core, done, effects)
     }
 

@@ -19,3 +19,4 @@ pub mod LaidOut
 pub mod OneWord
 pub mod OneLayout
 pub mod LayoutWords
+pub mod CostWords

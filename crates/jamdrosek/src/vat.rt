@@ -1,7 +1,7 @@
 //! One end of a connection (cp_vat), and what goes in and out of it.
 //!
-//! A `Vat` has no connection of its own. Give it each message of the peer by `receive`, in order, and do
-//! what its effects ask, in order:
+//! A `Vat` has no connection of its own. Give it each message of the peer by `receive`, or by `receive_view`
+//! as `view_of` reads it in place, in order, and do what its effects ask, in order:
 //!
 //! - `Send`: write the message to the peer.
 //! - `Deliver`: the call goes to this object of yours. Answer it once by `answer` with its origin, at once

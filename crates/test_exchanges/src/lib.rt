@@ -15,7 +15,11 @@ mod embargoes;
 #[cfg(test)]
 mod faults;
 #[cfg(test)]
+mod in_place;
+#[cfg(test)]
 mod limits;
+#[cfg(test)]
+mod memory;
 #[cfg(test)]
 mod pairs;
 #[cfg(test)]

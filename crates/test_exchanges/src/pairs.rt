@@ -1,7 +1,7 @@
 //! Scripts of two vats, played. A line that begins with A or B is what that vat does; `takes` is the
 //! next message that is on the way to it.
 
-use crate::playing::play;
+use crate::playing::{Taken, play};
 use crate::reading::Reader;
 use crate::showing::Lines;
 use cp_machine::{Effect, Event};
@@ -39,6 +39,7 @@ fn turn<R: Abort>(
     near: &mut End,
     far: &mut End,
     mut reader: Reader<R>,
+    taken: Taken,
     lines: &mut Lines<R>,
 ) {
     let event = if reader.takes("takes") {
@@ -50,19 +51,31 @@ fn turn<R: Abort>(
         reader.event()
     };
     reader.end();
-    for effect in play(&mut near.vat, event, lines) {
+    for effect in play(&mut near.vat, event, taken, lines) {
         if let Effect::Send(message) = effect {
             far.inbox.push(message).expect(rt, "memory");
         }
     }
 }
 
-/// Two vats with these bootstrap objects do what the script tells.
+/// Two vats with these bootstrap objects do what the script tells, however they take in messages.
 pub fn expect_pair(
     rt: &impl Abort,
     alloc: Global,
     bootstraps: (Option<u32>, Option<u32>),
     script: &[&str],
+) {
+    for taken in [Taken::Owned, Taken::InPlace] {
+        expect_taken(rt, alloc, bootstraps, script, taken);
+    }
+}
+
+fn expect_taken(
+    rt: &impl Abort,
+    alloc: Global,
+    bootstraps: (Option<u32>, Option<u32>),
+    script: &[&str],
+    taken: Taken,
 ) {
     let mut first = End::new(alloc, bootstraps.0);
     let mut second = End::new(alloc, bootstraps.1);
@@ -75,10 +88,10 @@ pub fn expect_pair(
             let mut reader = Reader::new(rt, alloc, line);
             if reader.takes("A ") {
                 lines.push_line(line);
-                turn(rt, &mut first, &mut second, reader, &mut lines);
+                turn(rt, &mut first, &mut second, reader, taken, &mut lines);
             } else if reader.takes("B ") {
                 lines.push_line(line);
-                turn(rt, &mut second, &mut first, reader, &mut lines);
+                turn(rt, &mut second, &mut first, reader, taken, &mut lines);
             }
         }
     }

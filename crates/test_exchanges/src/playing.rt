@@ -8,9 +8,25 @@ use cp_vat::Vat;
 use std::alloc::Global;
 use std::process::Abort;
 
+/// How a vat takes in a message.
+#[derive(Clone, Copy)]
+pub enum Taken {
+    Owned,
+    InPlace,
+}
+
 /// Plays an event, adds the lines of what follows, and gives the effects.
-pub fn play(vat: &mut Vat, event: Event, lines: &mut Lines<impl Abort>) -> Vec<Effect> {
-    match vat.act(event) {
+pub fn play(
+    vat: &mut Vat,
+    event: Event,
+    taken: Taken,
+    lines: &mut Lines<impl Abort>,
+) -> Vec<Effect> {
+    let acted = match (event, taken) {
+        (Event::Receive(message), Taken::InPlace) => lines.received(vat, &message),
+        (event, _) => vat.act(event),
+    };
+    match acted {
         Ok(acted) => {
             lines.push_acted(&acted);
             acted.effects.into_effects()
@@ -41,8 +57,8 @@ pub fn is_told(line: &str) -> bool {
     line.starts_with("> ") || line.starts_with("! ") || line.starts_with("= ")
 }
 
-/// A vat does what the script tells, whose parts stand one after another: each line of an event is
-/// played, and all that follows is compared with the lines behind it.
+/// A vat, which reads messages in place, does what the script tells, whose parts stand one after another:
+/// each line of an event is played, and all that follows is compared with the lines behind it.
 pub fn expect_next(rt: &impl Abort, alloc: Global, mut vat: Vat, script: &[&str]) {
     let mut lines = Lines::new(rt, alloc);
     let mut wanted = Lines::new(rt, alloc);
@@ -57,13 +73,14 @@ pub fn expect_next(rt: &impl Abort, alloc: Global, mut vat: Vat, script: &[&str]
             let mut reader = Reader::new(rt, alloc, line);
             let event = reader.event();
             reader.end();
-            drop(play(&mut vat, event, &mut lines));
+            drop(play(&mut vat, event, Taken::InPlace, &mut lines));
         }
     }
     lines.expect(&wanted);
 }
 
-/// A new vat with this bootstrap object does what the script tells, event by event, and by `run`.
+/// A new vat with this bootstrap object does what the script tells: by `run`, to which messages come as
+/// values, and event by event, where it reads them in place.
 pub fn expect(rt: &impl Abort, alloc: Global, bootstrap: Option<u32>, script: &[&str]) {
     expect_run(rt, alloc, bootstrap, script);
     expect_next(rt, alloc, Vat::new(alloc, bootstrap), script);

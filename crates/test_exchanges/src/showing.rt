@@ -2,10 +2,11 @@
 
 use cp_lines::push_line;
 use cp_machine::{Acted, Effect, Reason, Value, VatFault};
-use cp_reading::View;
 use cp_refs::{Cap, Origin, Outcome, Path, Request};
-use cp_rpc::{Exception, Message, message_view, tree_of};
+use cp_rpc::{Exception, Message, tree_of};
+use cp_stream::view_of;
 use cp_tree::Whole;
+use cp_vat::Vat;
 use cp_words::{Limits, Segments};
 use cp_writing::write_root;
 use std::alloc::Global;
@@ -66,15 +67,27 @@ impl<'a, R: Abort> Lines<'a, R> {
         self.push("]");
     }
 
+    /// A message, written.
+    fn written(&self, message: &Message) -> Segments {
+        let root = tree_of(self.alloc, message).expect(self.rt, "a tree");
+        let words = write_root(self.alloc, &root, Limits::standard()).expect(self.rt, "words");
+        Segments::one(words)
+    }
+
     /// Adds a message's line, as `show` prints it.
     pub fn push_message(&mut self, message: &Message) {
-        let alloc = self.alloc;
-        let root = tree_of(alloc, message).expect(self.rt, "a tree");
-        let words = write_root(alloc, &root, Limits::standard()).expect(self.rt, "words");
-        let segments = Segments::one(words);
-        let view = View::root(&segments, Limits::standard()).expect(self.rt, "a view");
-        let view = message_view(view).expect(self.rt, "a message");
-        push_line(alloc, &mut self.text, &view).expect(self.rt, "memory");
+        let segments = self.written(message);
+        let view = view_of(&segments, Limits::standard()).expect(self.rt, "a message");
+        push_line(self.alloc, &mut self.text, &view).expect(self.rt, "memory");
+    }
+
+    /// What a vat does with a message that it reads in place.
+    pub fn received(&self, vat: &mut Vat, message: &Message) -> Result<Acted<Value>, VatFault> {
+        let segments = self.written(message);
+        let view = view_of(&segments, Limits::standard()).expect(self.rt, "a message");
+        let Acted { effects, .. } = vat.receive_view(view)?;
+        let value = Value::Nothing;
+        Ok(Acted { value, effects })
     }
 
     /// Adds what stands behind the first word of a message's line.

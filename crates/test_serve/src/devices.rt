@@ -1,7 +1,7 @@
 //! Readers and writers that fail, and allocations that fail.
 
 use crate::frames::{ADD_FIVE, BOOTSTRAP, FIRST_FINISH, Frame, LATER};
-use crate::serving::{boxed, bytes_of, pair, prepared, served};
+use crate::serving::{boxed, bytes_of, decoded, pair, prepared, served};
 use cp_frame::{FrameFault, Mode};
 use cp_rpc::SchemaFault;
 use cp_serve::{Cell, Desk, Servant, ServeFault, serve};
@@ -184,6 +184,28 @@ fn one_byte_a_call_is_enough(rt: HostRuntime) {
         most: 1,
     };
     assert!(rt; !fails(&rt, alloc, &bytes, &whole, trial));
+}
+
+/// The calls of the writer in which a Desk and a Cell are served, and whether all was written.
+fn writes_of(rt: &impl Abort, alloc: Global, bytes: &[u8], most: usize, whole: &[u8]) -> u64 {
+    let mut from = Tap::new(Failing::new(bytes, NEVER, true, most));
+    let mut to = Tap::new(Failing::new(Vec::new(alloc), NEVER, true, usize::MAX));
+    let first = boxed(rt, alloc, Desk::new(alloc));
+    let mut objects = pair(rt, alloc, first, boxed(rt, alloc, Cell::new(alloc)));
+    assert!(rt; serve(alloc, &mut from, &mut to, &mut objects, Mode::Plain).is_ok());
+    let Failing { inner, calls, .. } = to.into_inner();
+    assert!(rt; inner.as_slice() == whole);
+    calls
+}
+
+#[test]
+fn a_piece_is_answered_in_one_write(rt: HostRuntime) {
+    let alloc = rt.alloc();
+    let bytes = bytes_of(&rt, alloc, &[BOOTSTRAP, LATER, ADD_FIVE]);
+    let whole = decoded(&rt, alloc, ANSWERS);
+    assert!(rt; writes_of(&rt, alloc, &bytes, usize::MAX, &whole) == 1);
+    // Each read brings at most one frame. The second is answered with the third, by the second poll.
+    assert!(rt; writes_of(&rt, alloc, &bytes, 40, &whole) == 2);
 }
 
 /// A writer that takes all, keeps none of it, and compares it with what is wanted.

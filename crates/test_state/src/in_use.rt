@@ -1,8 +1,9 @@
 //! What is in use.
 
+use crate::marks::embargo;
 use cp_machine::ImportKind;
-use cp_refs::{Cap, Caps, Gate, Held, Origin, Path, Request};
-use cp_state::{Core, Hosted};
+use cp_refs::{Cap, Caps, Gate, Held, Origin, Outcome, Path, PromiseId, Request};
+use cp_state::{Core, Gift, Hosted};
 use cp_tree::Whole;
 use std::alloc::Global;
 use std::process::Abort;
@@ -51,14 +52,19 @@ fn check_imports(rt: &impl Abort, core: &mut Core) {
     assert_eq!(rt; idle.ids(), [3].as_slice());
 }
 
+/// Settles a promise.
+fn settle(rt: &impl Abort, core: &mut Core, id: PromiseId, value: Cap) {
+    if core.values.values().promise(id).is_some() {
+        let settled = core.values.settle_promise(id, value);
+        settled.expect(rt, "memory");
+    }
+}
+
 /// A promise is used while it is open, and while it is exported.
 fn check_promises(rt: &impl Abort, core: &mut Core) {
     let id = core.values.open_promise().expect(rt, "a promise");
     assert!(rt; core.is_promise_used(id));
-    if core.values.values().promise(id).is_some() {
-        let settled = core.values.settle_promise(id, Cap::Object(2));
-        settled.expect(rt, "memory");
-    }
+    settle(rt, core, id, Cap::Object(2));
     let idle = core.idle_promises().expect(rt, "memory");
     assert_eq!(rt; idle.ids(), [id].as_slice());
     core.exports
@@ -77,6 +83,53 @@ fn check_questions(rt: &impl Abort, core: &mut Core) {
     assert!(rt; !core.is_question_used(8));
 }
 
+/// A question isn't used any more once the calls left that wait at it or name it.
+fn check_calls_left(rt: &impl Abort, core: &mut Core) {
+    let ended = core.gates.end(Gift::Question(6, Outcome::Canceled));
+    ended.expect(rt, "memory");
+    drop(core.gates.next().expect(rt, "memory"));
+    assert!(rt; !core.is_question_used(6));
+    assert!(rt; !core.is_question_used(7));
+}
+
+/// Puts an answer's results, with an import twice in their table.
+fn answer(rt: &impl Abort, core: &mut Core, id: u32, import: u32) {
+    let caps = vec![in core.alloc; Cap::Import(import), Cap::Import(import)];
+    let results = Outcome::Results {
+        content: Whole::null(),
+        caps: Caps::new(caps.expect(rt, "memory")),
+    };
+    let put = core.values.put_answer(id, Some(results));
+    put.expect(rt, "memory");
+}
+
+/// An import is used until the last answer goes that names it, or comes to something else.
+fn check_answers(rt: &impl Abort, core: &mut Core) {
+    answer(rt, core, 1, 6);
+    answer(rt, core, 2, 6);
+    core.values.remove_answer(1);
+    assert!(rt; core.is_import_used(6));
+    let put = core.values.put_answer(2, Some(Outcome::Canceled));
+    put.expect(rt, "memory");
+    assert!(rt; !core.is_import_used(6));
+}
+
+/// A promise is used while another one came to it, and while an embargo leads to it.
+fn check_leads(rt: &impl Abort, core: &mut Core) {
+    let id = core.values.open_promise().expect(rt, "a promise");
+    let other = core.values.open_promise().expect(rt, "a promise");
+    settle(rt, core, id, Cap::Object(2));
+    settle(rt, core, other, Cap::Promise(id));
+    assert!(rt; core.is_promise_used(id));
+    core.values.remove_promise(other);
+    assert!(rt; !core.is_promise_used(id));
+    let number = embargo(&mut core.marks, &Cap::Import(4), Cap::Promise(id));
+    let number = number.expect(rt, "an embargo");
+    assert!(rt; core.is_promise_used(id));
+    drop(core.marks.end_embargo(number));
+    assert!(rt; !core.is_promise_used(id));
+}
+
 /// One test, since each that holds a core is dear to prove.
 #[test]
 fn what_is_in_use(rt: HostRuntime) {
@@ -84,4 +137,7 @@ fn what_is_in_use(rt: HostRuntime) {
     check_imports(&rt, &mut core);
     check_promises(&rt, &mut core);
     check_questions(&rt, &mut core);
+    check_calls_left(&rt, &mut core);
+    check_answers(&rt, &mut core);
+    check_leads(&rt, &mut core);
 }

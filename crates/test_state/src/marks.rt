@@ -6,7 +6,7 @@ use std::alloc::Global;
 use std::process::Abort;
 
 /// Marks a reference and opens an embargo for it.
-fn embargo(marks: &mut Marks, reference: &Cap, value: Cap) -> Result<u32, Halt> {
+pub(crate) fn embargo(marks: &mut Marks, reference: &Cap, value: Cap) -> Result<u32, Halt> {
     marks.put_mark(reference)?;
     if marks.mark(reference).is_none() {
         return Err(Halt::OutOfMemory);

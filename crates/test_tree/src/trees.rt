@@ -122,6 +122,13 @@ fn expect_shape(rt: &impl Abort, view: &View, shape: Shape) {
     assert_eq!(rt; view.shape(), shape);
 }
 
+/// A view's depth and cost are these.
+fn expect_measure(rt: &impl Abort, view: &View, nesting: u32, traversal: u64) {
+    assert!(rt; view.fits(nesting, traversal));
+    assert!(rt; nesting == 0 || !view.fits(nesting - 1, traversal));
+    assert!(rt; traversal == 0 || !view.fits(nesting, traversal - 1));
+}
+
 /// A view has these data words.
 fn expect_words(rt: &impl Abort, view: &View, words: &[u64]) {
     assert_eq!(rt; view.words(), words);
@@ -161,10 +168,12 @@ fn views_lend_parts(rt: HostRuntime) {
     let root = View::root(&segments, Limits::standard()).expect(&rt, "a root");
     expect_shape(&rt, &root, Shape::Struct { words: 1, ptrs: 1 });
     expect_words(&rt, &root, &[4]);
+    expect_measure(&rt, &root, 2, 5);
     let member = root.child(0);
     expect_shape(&rt, &member, Shape::Struct { words: 1, ptrs: 0 });
     expect_words(&rt, &member.again(), &[7]);
     expect_shape(&rt, &root.child(1), Shape::Null);
+    expect_measure(&rt, &root.child(1), 0, 0);
     drop(segments);
 }
 
@@ -264,6 +273,7 @@ fn lists_of_structs(rt: HostRuntime) {
     let list = root.child(0);
     let (words, ptrs, count) = (1, 1, 2);
     expect_shape(&rt, &list, Shape::Structs { words, ptrs, count });
+    expect_measure(&rt, &list, 1, 8);
     expect_words(&rt, &list.child(1), &[8]);
     expect_shape(&rt, &list.child(1).child(0), Shape::Cap(2));
     expect_shape(&rt, &list.child(2), Shape::Null);
@@ -288,6 +298,7 @@ fn a_shared_body_is_paid_for_each_way(rt: HostRuntime) {
     expect_words(&rt, &root.child(0), &[5]);
     expect_words(&rt, &root.child(1), &[5]);
     expect_shape(&rt, &root.child(2), Shape::Null);
+    expect_measure(&rt, &root, 2, 7);
     drop(segments);
 }
 

@@ -4,7 +4,9 @@ use Rattle.cp_rpc.proofs.Shaping.{message_shaped, too_long}
 use Rattle.cp_rpc.proofs.write.draft_of.Goals as goal
 
 pub returns-then-not-fits-clause-refused : goal.returns-then-not-fits-clause-refused
-returns-then-not-fits-clause-refused c = too_long c.args.message.now (sym c.fits.ensures ∙ c.if-not-fits.true)
+returns-then-not-fits-clause-refused c =
+    let long = sym c.fits.ensures ∙ c.if-not-fits.true in
+    (long, too_long c.args.message.now long)
 
 pub returns-clause-shaped : goal.returns-clause-shaped
 returns-clause-shaped c = message_shaped c.args.message.now c.in_ok-draft.ensures.held (sym c.fits.ensures ∙ c.if-not-fits.false)

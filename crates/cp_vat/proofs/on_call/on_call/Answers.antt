@@ -1,12 +1,14 @@
-use Rattle.std.proofs.Common.{List, Ok, Err, subst}
+use Rattle.std.proofs.Common.{List, Some, Ok, Err, subst}
 use Rattle.std.proofs.lemmas.Result.{err_from_is_err_and}
-use Rattle.cp_machine.specs.Answering.{call_faults}
+use Rattle.cp_machine.specs.Answering.{call_faults, peer_call}
 use Rattle.cp_machine.specs.Take.{TakeAll}
 use Rattle.cp_rpc.specs.declared.descriptor.Descriptor.{Descriptor}
+use Rattle.cp_refs.specs.declared.call.Origin.TheVariants as origins
+use Rattle.cp_rules.proofs.Ready.{may_go}
 use Rattle.cp_state.specs.Halts.{Leaves}
 use Rattle.cp_state.specs.StateOf.{state_of}
 use Rattle.cp_vat.proofs.Judged.{unless_failed}
-use Rattle.cp_vat.proofs.Entering.{call_free, call_few, call_ticket, call_goes, call_fails}
+use Rattle.cp_vat.proofs.Entering.{call_free, call_few, call_ticket, call_goes, call_fails, goes_to_target}
 use Rattle.cp_vat.proofs.Ready.{call_within, call_in_hand_as, call_target}
 use Rattle.cp_vat.proofs.on_call.on_call.Goals as goal
 
@@ -38,19 +40,26 @@ pub returns : goal.returns
 returns c =
     let P : List Descriptor → Type 0 = λ t. TakeAll (state_of c.args.core.now) t (Ok (c.in_ok-caps.caps, state_of c.take_all.new.core)) in
     call_goes (state_of c.args.core.now) (state_of c.take_all.new.core) c.args.call c.in_ok-caps.caps c.in_default.ensures (subst P c.descriptors.ensures c.in_ok-caps.ensures)
-    (state_of c.enter.new.core) c.in_ok-ticket.ticket c.in_ok-ticket.ensures.entered c.in_ok-ticket.ensures.ticket _ _ _ _ c.go_to_target.ensures
+    (state_of c.enter.new.core) c.in_ok-ticket.ticket c.in_ok-ticket.ensures.entered c.in_ok-ticket.ensures.ticket _ _ _ _
+    (goes_to_target (state_of c.enter.new.core) _ c.in_ok-route.route c.args.call.target c.in_ok-route.ensures _ _ _ _ c.go.ensures.acts)
 
-pub go_to_target-requires-clause-within : goal.go_to_target-requires-clause-within
-go_to_target-requires-clause-within c =
+pub go-requires : goal.go-requires
+go-requires c =
     let P : List Descriptor → Type 0 = λ t. TakeAll (state_of c.args.core.now) t (Ok (c.in_ok-caps.caps, state_of c.take_all.new.core)) in
-    rw c.in_ok-ticket.ensures.entered (call_within (state_of c.args.core.now) (state_of c.take_all.new.core) c.args.call c.in_ok-caps.caps c.requires.local c.in_default.ensures (subst P c.descriptors.ensures c.in_ok-caps.ensures))
+    let s = state_of c.enter.new.core in
+    let taken = subst P c.descriptors.ensures c.in_ok-caps.ensures in
+    may_go s (record (peer_call (state_of c.take_all.new.core) c.args.call c.in_ok-caps.caps) { ticket = c.in_ok-ticket.ticket })
+    (rw c.in_ok-ticket.ensures.entered (call_within (state_of c.args.core.now) (state_of c.take_all.new.core) c.args.call c.in_ok-caps.caps c.requires.local c.in_default.ensures taken))
+    (call_in_hand_as (state_of c.args.core.now) (state_of c.take_all.new.core) c.args.call c.in_ok-caps.caps c.requires.local c.in_default.ensures taken s c.in_ok-ticket.ticket c.in_ok-ticket.ensures.entered c.in_ok-ticket.ensures.ticket)
 
-pub go_to_target-requires-clause-hand : goal.go_to_target-requires-clause-hand
-go_to_target-requires-clause-hand c =
-    let P : List Descriptor → Type 0 = λ t. TakeAll (state_of c.args.core.now) t (Ok (c.in_ok-caps.caps, state_of c.take_all.new.core)) in
-    call_in_hand_as (state_of c.args.core.now) (state_of c.take_all.new.core) c.args.call c.in_ok-caps.caps c.requires.local c.in_default.ensures (subst P c.descriptors.ensures c.in_ok-caps.ensures) (state_of c.enter.new.core) c.in_ok-ticket.ticket c.in_ok-ticket.ensures.entered c.in_ok-ticket.ensures.ticket
+pub route_to-requires-clause-within : goal.route_to-requires-clause-within
+route_to-requires-clause-within c =
+    let P : List Descriptor → Type 0 = λ t. TakeAll (state_of c.args.core.now) t (Ok (c.in_ok-caps.caps, state_of c.take_all.new.core)) in (
+      Some (origins.Answer c.args.call.question_id),
+      rw c.in_ok-ticket.ensures.entered (call_within (state_of c.args.core.now) (state_of c.take_all.new.core) c.args.call c.in_ok-caps.caps c.requires.local c.in_default.ensures (subst P c.descriptors.ensures c.in_ok-caps.ensures)),
+    )
 
-pub go_to_target-requires-clause-there : goal.go_to_target-requires-clause-there
-go_to_target-requires-clause-there c =
+pub route_to-requires-clause-there : goal.route_to-requires-clause-there
+route_to-requires-clause-there c =
     let P : List Descriptor → Type 0 = λ t. TakeAll (state_of c.args.core.now) t (Ok (c.in_ok-caps.caps, state_of c.take_all.new.core)) in
     rw c.in_ok-ticket.ensures.entered (call_target (state_of c.args.core.now) (state_of c.take_all.new.core) c.args.call c.in_ok-caps.caps c.requires.local c.in_default.ensures (subst P c.descriptors.ensures c.in_ok-caps.ensures))

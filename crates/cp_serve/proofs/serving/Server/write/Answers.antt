@@ -1,55 +1,57 @@
-use Rattle.std.proofs.Common.{List, [], ◌∷◌, ap, ◌∙◌, subst, arith}
-use Rattle.std.proofs.lemmas.Result.{err_from_is_err_and}
-use Rattle.cp_frame.specs.declared.mode.Mode.{Mode}
-use Rattle.cp_rpc.specs.declared.message.Message.{Message}
-use Rattle.cp_serve.specs.declared.serving.Server.{Server}
-use Rattle.cp_serve.specs.Output.{device, Writes, WritesPart}
-use Rattle.cp_serve.specs.Reached.{IsUnwritten}
+use Rattle.std.proofs.Common.{ℕ, List, sym, ◌∙◌, subst}
+use Rattle.std.proofs.lemmas.Result.{err_from_is_err_and, IfErr-weaker}
+use Rattle.std.specs.Io.KnownBytes.{Appends}
+use Rattle.cp_serve.specs.Output.{device}
+use Rattle.cp_serve.specs.Reached.{ahead}
 use Rattle.cp_serve.specs.WorkOf.{work_of}
-use Rattle.cp_serve.proofs.Written.{writes_next, part_next, unwritten_next}
+use Rattle.cp_serve.proofs.Working.{after_ok}
+use Rattle.cp_serve.proofs.Written.{writes_all}
+use Rattle.cp_serve.proofs.Landing.{after_err, either_on, unput_unwritten, wrote_all, wrote_part, wrote_beginning}
 use Rattle.cp_serve.proofs.serving.Server.write.Goals as goal
 
-pub returns-in_err-write_one-clause-part : goal.returns-in_err-write_one-clause-part
-returns-in_err-write_one-clause-part g c =
-    let l = c.loop-message in
+pub returns-in_err-write_whole-clause-part : goal.returns-in_err-write_whole-clause-part
+returns-in_err-write_whole-clause-part g c =
     let p = err_from_is_err_and c.from_residual.result c.from_residual.ensures.1 in
+    let sent = (work_of c.args.self.now.session).sent in
     let old = device g.W.Write.contents c.args.to.now in
-    let mid = device g.W.Write.contents l.to in
-    let new = device g.W.Write.contents c.write_one.new.to in
-    let items = c.deref-message-items.ensures.value ∙ c.take_sent-messages.ensures.sent in
-    let part = subst (λ (x : Mode). WritesPart x (c.message-item.result ∷ []) mid new) l.invariant.only.mode c.in_err-write_one.ensures.part in
-    rw p.1 (subst (λ (x : List Message). WritesPart c.args.self.now.mode x old new) items
-    (part_next c.deref-message-items.result.now l.message-index c.message-item.result old mid new c.loop-message-test.true c.message-item.is l.invariant.writes part))
+    let new = device g.W.Write.contents c.write_whole.new.to in
+    let before = c.clear.new.self.items in
+    let after = c.put-put.new.self.block.items in
+    let broken = c.in_err-write_whole.ensures.broken in
+    let splits = sym c.deref.ensures.value ∙ broken.splits in
+    rw p.1 (either_on c.put-put.result c.put-put.ensures.puts c.put-put.ensures.part
+    (λ puts. wrote_beginning c.args.self.now.mode sent old new before after c.clear.ensures.items (writes_all (ahead old before) (ahead old after) (puts old)) broken.sent broken.left splits broken.passes.appends)
+    (λ part. wrote_beginning c.args.self.now.mode sent old new before after c.clear.ensures.items (part old) broken.sent broken.left splits broken.passes.appends))
 
-pub returns-in_err-write_one-clause-stopped : goal.returns-in_err-write_one-clause-stopped
-returns-in_err-write_one-clause-stopped g c =
-    let l = c.loop-message in
+pub returns-in_err-write_whole-clause-stopped : goal.returns-in_err-write_whole-clause-stopped
+returns-in_err-write_whole-clause-stopped g c =
     let p = err_from_is_err_and c.from_residual.result c.from_residual.ensures.1 in
-    let old = device g.W.Write.contents c.args.to.now in
-    let mid = device g.W.Write.contents l.to in
-    let new = device g.W.Write.contents c.write_one.new.to in
-    let items = c.deref-message-items.ensures.value ∙ c.take_sent-messages.ensures.sent in
-    let fault = c.in_err-write_one.field-0.0 in
-    rw (p.1, p.2) (subst (λ (x : List Message). IsUnwritten c.args.self.now.at x old new fault) items
-    (unwritten_next c.deref-message-items.result.now l.message-index c.message-item.result c.args.self.now.at l.self.at old mid new c.loop-message-test.true c.message-item.is l.invariant.only.at l.invariant.writes.counted
-    fault c.in_err-write_one.ensures.stopped))
+    rw (p.1, p.2, c.in_err-write_whole.ensures.device) c.in_err-write_whole.ensures.broken.failed
 
-pub loop-message-preserved : goal.loop-message-preserved
-loop-message-preserved g c =
-    let l = c.loop-message in
+pub returns-clause-only : goal.returns-clause-only
+returns-clause-only g c =
+    after_ok c.put-put.result c.put-put.ensures.only (λ only. record { mode = only.mode; frames = only.frames; at = only.at; messages = only.messages })
+
+pub returns-clause-writes : goal.returns-clause-writes
+returns-clause-writes g c =
+    let sent = (work_of c.args.self.now.session).sent in
     let old = device g.W.Write.contents c.args.to.now in
-    let mid = device g.W.Write.contents l.to in
-    let new = device g.W.Write.contents c.write_one.new.to in
-    let same = c.in_ok-write_one.ensures.same in
-    let writes = subst (λ (x : Mode). Writes x (c.message-item.result ∷ []) mid new) l.invariant.only.mode c.in_ok-write_one.ensures.writes in
-    record {
-      only = record {
-        mode = ap (λ (s : Server). s.mode) same ∙ l.invariant.only.mode;
-        frames = ap (λ (s : Server). s.frames) same ∙ l.invariant.only.frames;
-        at = ap (λ (s : Server). s.at) same ∙ l.invariant.only.at;
-        messages = ap (λ (s : Server). s.messages) same ∙ l.invariant.only.messages;
-      };
-      session = ap (λ (s : Server). work_of s.session) same ∙ l.invariant.session;
-      counts = λ n e. omega (arith, ap (λ (s : Server). s.sent) same, l.invariant.counts n e);
-      writes = writes_next c.deref-message-items.result.now l.message-index c.message-item.result old mid new c.loop-message-test.true c.message-item.is l.invariant.writes writes;
-    }
+    let new = device g.W.Write.contents c.write_whole.new.to in
+    let before = c.clear.new.self.items in
+    let after = c.put-put.new.self.block.items in
+    let moved = subst (λ (x : List ℕ). Appends old.bytes new.bytes x) c.deref.ensures.value c.in_ok-write_whole.ensures.sent.0.appends in
+    after_ok c.put-put.result c.put-put.ensures.puts (λ puts. wrote_all c.args.self.now.mode sent old new before after c.clear.ensures.items puts moved c.in_ok-write_whole.ensures.sent.1)
+
+pub returns-clause-part : goal.returns-clause-part
+returns-clause-part g c =
+    let sent = (work_of c.args.self.now.session).sent in
+    let old = device g.W.Write.contents c.args.to.now in
+    let new = device g.W.Write.contents c.write_whole.new.to in
+    let before = c.clear.new.self.items in
+    let after = c.put-put.new.self.block.items in
+    let moved = subst (λ (x : List ℕ). Appends old.bytes new.bytes x) c.deref.ensures.value c.in_ok-write_whole.ensures.sent.0.appends in
+    after_err c.put-put.result c.put-put.ensures.part (λ part. wrote_part c.args.self.now.mode sent old new before after c.clear.ensures.items part moved c.in_ok-write_whole.ensures.sent.1)
+
+pub returns-clause-stopped : goal.returns-clause-stopped
+returns-clause-stopped g c =
+    IfErr-weaker c.put-put.result _ _ (λ fault h. unput_unwritten c.args.self.now.at (work_of c.args.self.now.session).sent (device g.W.Write.contents c.args.to.now) (device g.W.Write.contents c.write_whole.new.to) fault h) c.put-put.ensures.stopped

@@ -8,4 +8,4 @@ returns-in-Ok c = after_ok c.add.result c.add.ensures (λ did. record { result =
 
 pub returns-in_default : goal.returns-in_default
 returns-in_default c =
-    record { result = Err c.in-Err.fault; effects = []; vat = c.receive.new.self; step = c.in-Err.ensures; room = c.in_default.not-OutOfMemory; did = did_none (work_of c.args.self.now) c.receive.new.self _ refl }
+    record { result = Err c.in-Err.fault; effects = []; vat = c.receive_view.new.self; step = c.in-Err.ensures; room = c.in_default.not-OutOfMemory; did = did_none (work_of c.args.self.now) c.receive_view.new.self _ refl }

@@ -1,0 +1,58 @@
+use Rattle.std.proofs.Common.{Some}
+use Rattle.std.proofs.lemmas.Result.{err_from_is_err_and}
+use Rattle.cp_rpc.specs.Told.{told_call}
+use Rattle.cp_machine.specs.Answering.{call_faults, peer_call}
+use Rattle.cp_refs.specs.declared.call.Origin.TheVariants as origins
+use Rattle.cp_rules.proofs.Ready.{may_go}
+use Rattle.cp_state.specs.StateOf.{state_of}
+use Rattle.cp_vat.proofs.Judged.{unless_failed}
+use Rattle.cp_vat.proofs.Entering.{call_free, call_few, call_ticket, call_goes, call_fails, goes_to_target, goes_carrying}
+use Rattle.cp_vat.proofs.Ready.{call_within, call_in_hand_as, call_target, may_go_carrying}
+use Rattle.cp_vat.proofs.on_call.on_call_view.Goals as goal
+
+pub returns-in-Err : goal.returns-in-Err
+returns-in-Err c = unless_failed (call_faults (state_of c.args.core.now) (told_call (λ t. t) c.args.call.now)) _ c.in-Err.fault c.in-Err.ensures
+
+pub returns-in_err-caps : goal.returns-in_err-caps
+returns-in_err-caps c =
+    let p = err_from_is_err_and c.from_residual.result c.from_residual.ensures.1 in
+    rw (p.1, p.2) (call_fails (state_of c.args.core.now) (state_of c.take_all_view.new.core) (told_call (λ t. t) c.args.call.now) _ _ c.in_default.ensures c.in_err-caps.ensures)
+
+pub enter-requires-clause-free : goal.enter-requires-clause-free
+enter-requires-clause-free c =
+    call_free (state_of c.args.core.now) (state_of c.take_all_view.new.core) (told_call (λ t. t) c.args.call.now) c.in_ok-caps.caps c.in_default.ensures c.in_ok-caps.ensures
+
+pub enter-requires-clause-few : goal.enter-requires-clause-few
+enter-requires-clause-few c =
+    call_few (state_of c.args.core.now) (state_of c.take_all_view.new.core) (told_call (λ t. t) c.args.call.now) c.in_ok-caps.caps c.in_default.ensures c.in_ok-caps.ensures
+
+pub enter-requires-clause-ticket : goal.enter-requires-clause-ticket
+enter-requires-clause-ticket c =
+    call_ticket (state_of c.args.core.now) (state_of c.take_all_view.new.core) (told_call (λ t. t) c.args.call.now) c.in_ok-caps.caps c.in_default.ensures c.in_ok-caps.ensures
+
+pub returns : goal.returns
+returns c =
+    let call = told_call (λ t. t) c.args.call.now in
+    let s = state_of c.enter.new.core in
+    let u = record (peer_call (state_of c.take_all_view.new.core) call c.in_ok-caps.caps) { ticket = c.in_ok-ticket.ticket } in
+    call_goes (state_of c.args.core.now) (state_of c.take_all_view.new.core) call c.in_ok-caps.caps c.in_default.ensures c.in_ok-caps.ensures
+    s c.in_ok-ticket.ticket c.in_ok-ticket.ensures.entered c.in_ok-ticket.ensures.ticket _ _ _ _
+    (goes_to_target s u c.in_ok-route.route call.target c.in_ok-route.ensures _ _ _ _
+    (goes_carrying s u c.in_ok-content.content c.in_ok-route.route _ _ _ _ c.in_ok-content.ensures c.go.ensures.acts))
+
+pub go-requires : goal.go-requires
+go-requires c =
+    let s = state_of c.enter.new.core in
+    let u = record (peer_call (state_of c.take_all_view.new.core) (told_call (λ t. t) c.args.call.now) c.in_ok-caps.caps) { ticket = c.in_ok-ticket.ticket } in
+    may_go_carrying s u c.in_ok-content.content
+    (may_go s u (rw c.in_ok-ticket.ensures.entered (call_within (state_of c.args.core.now) (state_of c.take_all_view.new.core) (told_call (λ t. t) c.args.call.now) c.in_ok-caps.caps c.requires.local c.in_default.ensures c.in_ok-caps.ensures))
+    (call_in_hand_as (state_of c.args.core.now) (state_of c.take_all_view.new.core) (told_call (λ t. t) c.args.call.now) c.in_ok-caps.caps c.requires.local c.in_default.ensures c.in_ok-caps.ensures s c.in_ok-ticket.ticket c.in_ok-ticket.ensures.entered c.in_ok-ticket.ensures.ticket))
+
+pub route_to_view-requires-clause-within : goal.route_to_view-requires-clause-within
+route_to_view-requires-clause-within c = (
+  Some (origins.Answer c.args.call.now.question_id),
+  rw c.in_ok-ticket.ensures.entered (call_within (state_of c.args.core.now) (state_of c.take_all_view.new.core) (told_call (λ t. t) c.args.call.now) c.in_ok-caps.caps c.requires.local c.in_default.ensures c.in_ok-caps.ensures),
+)
+
+pub route_to_view-requires-clause-there : goal.route_to_view-requires-clause-there
+route_to_view-requires-clause-there c = rw c.in_ok-ticket.ensures.entered (call_target (state_of c.args.core.now) (state_of c.take_all_view.new.core) (told_call (λ t. t) c.args.call.now) c.in_ok-caps.caps c.requires.local c.in_default.ensures c.in_ok-caps.ensures)

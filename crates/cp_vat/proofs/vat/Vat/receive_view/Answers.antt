@@ -1,0 +1,25 @@
+use Rattle.cp_rpc.specs.Told.{told}
+use Rattle.cp_machine.specs.Step.{was_closed}
+use Rattle.cp_machine.specs.declared.event.Event.TheVariants as events
+use Rattle.cp_state.specs.StateOf.{state_of}
+use Rattle.cp_vat.proofs.Stepping.{message_steps, message_rests, message_within}
+use Rattle.cp_vat.proofs.vat.Vat.receive_view.Goals as goal
+
+pub returns-then-self : goal.returns-then-self
+returns-then-self c = was_closed (events.Receive (told c.args.message)) (rw (← c.self.view_is) c.if-self.true)
+
+pub returns : goal.returns
+returns c =
+    rw (← c.self.view_is)
+    (message_steps (told c.args.message) (state_of c.self.inside.core) (state_of c.receive_view-done.new.core) (state_of c.end_message.new.core) c.receive_view-done.result c.new-effects.result.items c.receive_view-done.new.effects.items c.end_message.result c.new-effects.ensures.items c.if-self.false c.receive_view-done.ensures c.end_message.ensures)
+
+pub invariant_of-self : goal.invariant_of-self
+invariant_of-self c =
+    message_rests (told c.args.message) (state_of c.self.inside.core) (state_of c.receive_view-done.new.core) (state_of c.end_message.new.core) c.receive_view-done.result c.new-effects.result.items c.receive_view-done.new.effects.items c.end_message.result c.new-effects.ensures.items c.self.invariant c.if-self.false c.receive_view-done.ensures c.end_message.ensures
+
+pub end_message-requires : goal.end_message-requires
+end_message-requires c =
+    message_within (told c.args.message) (state_of c.self.inside.core) (state_of c.receive_view-done.new.core) c.receive_view-done.result c.new-effects.result.items c.receive_view-done.new.effects.items c.self.invariant c.if-self.false c.receive_view-done.ensures
+
+pub receive_view-done-requires : goal.receive_view-done-requires
+receive_view-done-requires c = c.self.invariant c.if-self.false

@@ -1,0 +1,47 @@
+-- What is left to do of a Call or a Return, once it was checked.
+use Rattle.std.specs.Prelude.{◌≡◌, [], Option, Result, Ok, Err}
+use Rattle.cp_tree.specs.Node.{Node}
+use Rattle.cp_rpc.specs.declared.returned.Return.{Return}
+use Rattle.cp_rpc.specs.declared.target.Target.{Target}
+use Rattle.cp_refs.specs.declared.call.Origin.{Origin}
+use Rattle.cp_refs.specs.declared.route.Route.{Route}
+use Rattle.cp_refs.specs.declared.route.Route.TheVariants as routes
+use Rattle.cp_machine.specs.State.{State}
+use Rattle.cp_machine.specs.Then.{Done, Then}
+use Rattle.cp_machine.specs.Go.{Go, Underway}
+use Rattle.cp_machine.specs.Answering.{GoToTarget}
+use Rattle.cp_machine.specs.Asking.{OnReturn, Settles, TakeReturned}
+use Rattle.cp_machine.specs.declared.fault.PeerFault.{PeerFault}
+use Rattle.cp_order.specs.Within.{Within}
+use Rattle.cp_state.specs.declared.halt.Halt.{Halt}
+use Rattle.cp_state.specs.declared.halt.Halt.TheVariants as halts
+use Rattle.cp_vat.specs.Returning.{AwaitsReturn}
+use Rattle.cp_vat.specs.declared.on_return.Rest.{Rest}
+use Rattle.cp_vat.specs.declared.on_return.Rest.TheVariants as rests
+
+-- Nothing is left; or the question awaits its Return, and what taking in what was returned and settling it gives is what the Return does; or a
+-- fault was met.
+abbrev pub Begins : State → Return → Result Rest Halt → State → Type 0
+Begins old r (Ok rests.Nothing) new = OnReturn old r (Ok ([], new))
+Begins old r (Ok (rests.Settle forwards)) new =
+    AwaitsReturn new r.answer_id forwards
+    × ((out : Result Done PeerFault) → Then (TakeReturned new r.returned) (λ taken. Settles taken.1 r.answer_id forwards taken.0) out → OnReturn old r out)
+Begins old r (Err (halts.Fault fault)) new = OnReturn old r (Err fault)
+Begins old r (Err halts.OutOfMemory) new = Unit {0}
+
+-- This holds within an event, with a call in hand or with none.
+abbrev pub HoldsWithin : State → Type 0
+HoldsWithin s = (hand : Option Origin) × Within s hand []
+
+-- Whatever call takes this route does what the rule says of it.
+abbrev pub LeadsBy : (Underway → Result Done PeerFault → Type 0) → State → Route → Type 0
+LeadsBy Rule s route = (call : Underway) → (out : Result Done PeerFault) → Go s call route out → Rule call out
+
+-- it is the route of a call on this target
+abbrev pub Leads : State → Target → Route → Type 0
+Leads s target route = LeadsBy (λ call out. GoToTarget s call target out) s route
+
+-- The second tree is the content that a call carries which takes this route: the first. What a call carries that fails doesn't matter.
+abbrev pub Carries : Route → Node → Node → Type 0
+Carries (routes.Fail x) t carried = Unit {0}
+Carries route t carried = carried ≡ t

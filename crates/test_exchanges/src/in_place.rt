@@ -1,0 +1,165 @@
+//! What memory is taken for messages that are read in place.
+
+use cp_machine::{Effect, PeerFault, Reason, VatFault};
+use cp_stream::view_of;
+use cp_vat::Vat;
+use cp_words::{Limits, Segments};
+use std::alloc::Global;
+use std::process::Abort;
+
+/// A call q=0 on import:9, without a content, and words for one.
+const CALL: [u64; 21] = [
+    0x0001_0001_0000_0000,
+    2,
+    0x0003_0003_0000_0000,
+    0,
+    9,
+    0,
+    0x0001_0001_0000_0008,
+    0x0002_0000_0000_000c,
+    0,
+    9,
+    0,
+    0,
+    0,
+    0x1_0000_000c,
+    0x1_0000_000c,
+    0x1_0000_000c,
+    0x1_0000_000c,
+    1,
+    2,
+    3,
+    4,
+];
+
+/// The Return of a=0 with results, without a content, and words for one.
+const RETURN: [u64; 16] = [
+    0x0001_0001_0000_0000,
+    3,
+    0x0001_0002_0000_0000,
+    0,
+    0,
+    0x0002_0000_0000_0000,
+    0,
+    0,
+    0x1_0000_000c,
+    0x1_0000_000c,
+    0x1_0000_000c,
+    0x1_0000_000c,
+    1,
+    2,
+    3,
+    4,
+];
+
+/// No content, and one of four structs, as the pointer that a message has.
+const NONE: u64 = 0;
+
+const FOUR: u64 = 0x0004_0000_0000_0004;
+
+/// These words, with another one at a place. A growth that is refused once is asked for again.
+fn message(rt: &impl Abort, alloc: Global, words: &[u64], place: usize, word: u64) -> Segments {
+    let mut words = match Vec::from_slice(alloc, words) {
+        Ok(words) => words,
+        Err(_) => Vec::from_slice(alloc, words).expect(rt, "memory"),
+    };
+    *words.get_mut(place).expect(rt, "a place") = word;
+    Segments::one(words)
+}
+
+/// A call whose content is one struct deeper than a vat takes.
+fn deep_call(rt: &impl Abort, alloc: Global) -> Segments {
+    let mut words = [0x0001_0000_0000_0000; 74];
+    words[..13].copy_from_slice(&CALL[..13]);
+    words[73] = 0;
+    message(rt, alloc, &words, 11, 0x0001_0000_0000_0004)
+}
+
+/// The vat reports this fault of the message, or that memory ran out.
+fn expect_fault(rt: &impl Abort, mut vat: Vat, segments: &Segments, fault: PeerFault) {
+    let view = view_of(segments, Limits::standard()).expect(rt, "a message");
+    match vat.receive_view(view) {
+        Ok(acted) => match acted.effects.effects() {
+            [_, Effect::Closed(Reason::Fault(found))] => {
+                assert_eq!(rt; found.text(), fault.text());
+            }
+            _ => panic!(rt; "the vat goes on"),
+        },
+        Err(refusal) => assert!(rt; refusal == VatFault::OutOfMemory),
+    }
+}
+
+/// What a vat has that asked for the bootstrap object and gave the question up, unless memory ran out.
+fn finished(alloc: Global) -> Option<Vat> {
+    let mut vat = Vat::new(alloc, None);
+    vat.bootstrap().ok()?;
+    vat.finish(0).ok()?;
+    Some(vat)
+}
+
+/// A Return to a question that was given up has no effect.
+fn expect_nothing(rt: &impl Abort, alloc: Global, segments: &Segments) {
+    let view = view_of(segments, Limits::standard()).expect(rt, "a message");
+    if let Some(mut vat) = finished(alloc) {
+        let acted = vat.receive_view(view).expect(rt, "no memory is taken");
+        assert!(rt; acted.effects.effects().is_empty());
+    }
+}
+
+// This test and the next take as much memory: bench/memory/sweep.sh counts the growths of each.
+#[test]
+fn want_of_memory_at_faults_without_a_content(rt: HostRuntime) {
+    let alloc = rt.alloc();
+    let call = message(&rt, alloc, &CALL, 11, NONE);
+    expect_fault(&rt, Vat::new(alloc, None), &call, PeerFault::UnknownExport);
+    let more = message(&rt, alloc, &CALL, 11, NONE);
+    expect_fault(&rt, Vat::new(alloc, None), &more, PeerFault::UnknownExport);
+    let answer = message(&rt, alloc, &RETURN, 6, NONE);
+    expect_fault(
+        &rt,
+        Vat::new(alloc, None),
+        &answer,
+        PeerFault::UnknownQuestion,
+    );
+    expect_nothing(&rt, alloc, &answer);
+}
+
+#[test]
+fn want_of_memory_at_faults_with_a_content(rt: HostRuntime) {
+    let alloc = rt.alloc();
+    let call = message(&rt, alloc, &CALL, 11, FOUR);
+    expect_fault(&rt, Vat::new(alloc, None), &call, PeerFault::UnknownExport);
+    let deep = deep_call(&rt, alloc);
+    expect_fault(
+        &rt,
+        Vat::new(alloc, None),
+        &deep,
+        PeerFault::PayloadTooLarge,
+    );
+    let answer = message(&rt, alloc, &RETURN, 6, FOUR);
+    expect_fault(
+        &rt,
+        Vat::new(alloc, None),
+        &answer,
+        PeerFault::UnknownQuestion,
+    );
+    expect_nothing(&rt, alloc, &answer);
+}
+
+/// A content that is kept is made, unless memory runs out; then the vat is closed.
+#[test]
+fn want_of_memory_for_a_content_that_is_kept(rt: HostRuntime) {
+    let alloc = rt.alloc();
+    let segments = message(&rt, alloc, &RETURN, 6, FOUR);
+    let view = view_of(&segments, Limits::standard()).expect(&rt, "a message");
+    let mut vat = Vat::new(alloc, None);
+    if vat.bootstrap().is_ok() {
+        match vat.receive_view(view) {
+            Ok(acted) => assert!(rt; acted.effects.effects().len() == 1),
+            Err(refusal) => {
+                assert!(rt; refusal == VatFault::OutOfMemory);
+                assert!(rt; vat.promise().err() == Some(VatFault::Closed));
+            }
+        }
+    }
+}
