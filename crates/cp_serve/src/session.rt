@@ -108,7 +108,8 @@ impl Session {
         ensures sent { result.items ≡ (work_of self.old).sent }
         ensures none_left { work_of self.new ≡ written (work_of self.old) }
     {
-        mem::replace(&mut self.sent, Vec::new(self.alloc))
+        let none = Vec::new(self.alloc);
+        mem::replace(&mut self.sent, none)
     }
 
     /// Takes a message of the peer's, in place: what it leads to is worked off, and a round follows.
