@@ -20,11 +20,15 @@ use crate::area::{Area, Form};
 use crate::fault::TreeFault;
 use crate::view::{Part, View, part_at, root_counted, words_at};
 use crate::visits::Visits;
+use byteorder::{ByteOrder, LittleEndian};
 use cp_tree::{Body, Object, Tree, Whole};
 use cp_words::{ElementSize, Limits, Place, Segments, list_words};
 use std::alloc::{AllocError, Global};
 use std::marker::Brand;
 use std::sync::ledger::{Blank, Ledger};
+
+/// The words whose bytes are put together before they are copied.
+const BLOCK: usize = 64;
 
 /// Element `index`, of so many bits.
 fn element_of(words: &[u64], width: usize, index: u32) -> u64
@@ -74,23 +78,6 @@ fn quads_in(word: u64) -> [u32; 2]
     [(word % 0x1_0000_0000) as u32, (word / 0x1_0000_0000) as u32]
 }
 
-/// The bytes of eight words, from one on.
-fn bytes_in(words: &[u64], first: usize) -> [[u8; 8]; 8]
-    requires { first + 8 ≤ length words.now }
-    ensures { result ≡ map (λ k. to_le_bytes w64 (slice_index words.now (first + k))) (range_with_len 0 8) }
-{
-    [
-        words[first].to_le_bytes(),
-        words[first + 1].to_le_bytes(),
-        words[first + 2].to_le_bytes(),
-        words[first + 3].to_le_bytes(),
-        words[first + 4].to_le_bytes(),
-        words[first + 5].to_le_bytes(),
-        words[first + 6].to_le_bytes(),
-        words[first + 7].to_le_bytes(),
-    ]
-}
-
 /// The first so many bytes.
 pub(crate) fn bytes_of(alloc: Global, words: &[u64], count: u32) -> Result<Vec<u8>, AllocError>
     requires { words_for sizes.Byte count ≤ length words.now }
@@ -99,14 +86,15 @@ pub(crate) fn bytes_of(alloc: Global, words: &[u64], count: u32) -> Result<Vec<u
     let count = count as usize;
     let whole = (count + 7) / 8;
     let mut items = Vec::with_capacity(alloc, 8 * whole)?;
-    let mut i = 0;
-    'eights: while i + 8 <= whole {
-        items.extend_from_slice(bytes_in(words, i).as_flattened())?;
-        i += 8;
-    }
-    'rest: while i < whole {
-        items.extend_from_slice(&words[i].to_le_bytes())?;
-        i += 1;
+    // By way of the stack: what `items` had to be filled with first would be written twice.
+    let mut block = [0; 8 * BLOCK];
+    let mut left = &words[..whole];
+    'writing: while !left.is_empty() {
+        let (front, back) = left.split_at(left.len().min(BLOCK));
+        let buffer = &mut block[..8 * front.len()];
+        LittleEndian::write_u64_into(front, buffer);
+        items.extend_from_slice(buffer)?;
+        left = back;
     }
     items.truncate(count);
     Ok(items)

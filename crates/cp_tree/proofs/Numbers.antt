@@ -1,11 +1,11 @@
 -- Elements of words, a word at a time.
-use Rattle.std.proofs.Common.{◌≡◌, ℕ, zero, suc, ◌+◌, ◌*◌, ◌/◌, ◌%◌, ◌^◌, ◌<◌, ◌≤◌, ◌++◌, List, [], ◌∷◌, length, map, flat_map, take, refl, sym, ap, ◌∙◌, arith}
+use Rattle.std.proofs.Common.{◌≡◌, ℕ, zero, suc, ◌+◌, ◌*◌, ◌/◌, ◌%◌, ◌^◌, ◌<◌, ◌≤◌, ◌++◌, List, [], ◌∷◌, length, flat_map, take, refl, sym, ap, ◌∙◌, arith}
 use Rattle.std.proofs.Math.Nat.{add-mul, mul_assoc, mul_comm, mul-zero, mul-suc, mul-lt-mul_of_pos_right, pos_of_ne-zero, div-one, div-add-mod', div-eq_of_lt, mod-eq_of_lt}
 use Rattle.std.proofs.lemmas.Nat.{div-mul-add, mod-mul-add, mod_below}
 use Rattle.std.proofs.lemmas.List.{append_assoc, append-nil, get_or-take, length-take}
 use Rattle.std.proofs.lemmas.List.FromFn.{fill_by_all, map-range_with_len_more}
 use Rattle.std.proofs.lemmas.Grind.{flat_map-append}
-use Rattle.std.specs.List.{range_with_len}
+use Rattle.std.proofs.Math.Seq.{take-suc}
 use Rattle.std.specs.Prelude.{slice_index}
 use Rattle.std.specs.Int.{to_le_bytes, w64}
 use Rattle.cp_tree.specs.Elements.{element, numbers}
@@ -54,27 +54,16 @@ module _ (w per : ℕ) (ws : List ℕ) (i : ℕ) (whole : per * w ≡ 64) (some 
 pub bytes_in : (n : ℕ) → to_le_bytes w64 n ≡ numbers (n ∷ []) 8 8
 bytes_in n = rw (div-one n) refl
 
--- so many words' elements
-pub with_words : (w per : ℕ) (ws : List ℕ) (i : ℕ) → per * w ≡ 64 → 0 < per → (f : ℕ → List ℕ) → ((k : ℕ) → f k ≡ numbers (slice_index ws (i + k) ∷ []) w per) → (m : ℕ)
-    → numbers ws w (per * (i + m)) ≡ numbers ws w (per * i) ++ flat_map (λ (ns : List ℕ). ns) (map f (range_with_len 0 m))
-with_words w per ws i whole some f is zero =
-    let none : i + 0 ≡ i = omega arith in
-    ap (λ n. numbers ws w (per * n)) none ∙ sym (append-nil (numbers ws w (per * i)))
-with_words w per ws i whole some f is (suc m) =
-    let before = numbers ws w (per * i) in
-    let done = flat_map (λ (ns : List ℕ). ns) (map f (range_with_len 0 m)) in
-    let all = flat_map (λ (ns : List ℕ). ns) (map f (range_with_len 0 (suc m))) in
-    let after : suc m ≡ m + 1 = omega arith in
-    let next : i + m + 1 ≡ i + suc m = omega arith in
-    let more : all ≡ done ++ f m =
-    ap (λ n. flat_map (λ (ns : List ℕ). ns) (map f (range_with_len 0 n))) after ∙ ap (flat_map (λ (ns : List ℕ). ns)) (map-range_with_len_more f 0 m m (omega arith)) ∙ flat_map-append (λ (ns : List ℕ). ns) (map f (range_with_len 0 m)) (f m ∷ []) ∙ ap (λ ns. done ++ ns) (append-nil (f m)) in
-    let push : before ++ all ≡ before ++ done ++ numbers (slice_index ws (i + m) ∷ []) w per = ap (λ ns. before ++ ns) more ∙ sym (append_assoc before done (f m)) ∙ ap (λ ns. (before ++ done) ++ ns) (is m) in
-    sym (one_more_word w per ws (i + m) whole some (before ++ done) (before ++ all) (sym (with_words w per ws i whole some f is m)) push ∙ ap (λ n. numbers ws w (per * n)) next)
-
-pub eight_words : (ws : List ℕ) (i : ℕ) (old new : List ℕ) → old ≡ numbers ws 8 (8 * i) → new ≡ old ++ flat_map (λ (ns : List ℕ). ns) (map (λ k. to_le_bytes w64 (slice_index ws (i + k))) (range_with_len 0 8)) → new ≡ numbers ws 8 (8 * (i + 8))
-eight_words ws i old new so_far push =
-    push ∙ ap (λ ns. ns ++ flat_map (λ (xs : List ℕ). xs) (map (λ k. to_le_bytes w64 (slice_index ws (i + k))) (range_with_len 0 8))) so_far
-    ∙ sym (with_words 8 8 ws i refl (omega arith) (λ k. to_le_bytes w64 (slice_index ws (i + k))) (λ k. bytes_in (slice_index ws (i + k))) 8)
+-- the bytes of the first words
+pub first_bytes : (ws : List ℕ) (n : ℕ) → n ≤ length ws → flat_map (to_le_bytes w64) (take n ws) ≡ numbers ws 8 (8 * n)
+first_bytes ws zero le = refl
+first_bytes ws (suc m) le =
+    let word = slice_index ws m in
+    let before = flat_map (to_le_bytes w64) (take m ws) in
+    let after : m + 1 ≡ suc m = omega arith in
+    let more : flat_map (to_le_bytes w64) (take (suc m) ws) ≡ before ++ to_le_bytes w64 word =
+    ap (flat_map (to_le_bytes w64)) (take-suc ws m 0 (omega (arith, le))) ∙ flat_map-append (to_le_bytes w64) (take m ws) (word ∷ []) ∙ ap (λ ns. before ++ ns) (append-nil (to_le_bytes w64 word)) in
+    one_more_word 8 8 ws m refl (omega arith) before _ (first_bytes ws m (omega (arith, le))) (more ∙ ap (λ ns. before ++ ns) (bytes_in word)) ∙ ap (λ n. numbers ws 8 (8 * n)) after
 
 -- whole words are elements of themselves
 pub first_words : (ws : List ℕ) (n : ℕ) → n ≤ length ws → ((k : ℕ) → slice_index ws k < 2 ^ 64) → take n ws ≡ numbers ws 64 n
