@@ -1,12 +1,13 @@
 //! The parts on their happy paths.
 
 use cp_machine::PeerFault;
-use cp_refs::{Cap, Caps, Gate, Held, Origin, Request};
+use cp_refs::{Cap, Caps, Gate, Held, Origin, PromiseId, Request};
 use cp_state::{Exported, Gates, Gift, Hosted};
 use cp_tree::{Tree, Whole};
 use std::alloc::Global;
+use std::process::Abort;
 
-fn request(rt: &impl std::process::Abort, alloc: Global) -> Request {
+fn request(rt: &impl Abort, alloc: Global) -> Request {
     Request {
         interface: 7,
         method: 1,
@@ -35,32 +36,46 @@ fn exports_are_found_by_capability(rt: HostRuntime) {
     assert!(rt; exports.number(promise) == Some(second));
 }
 
+/// A call waits for a promise.
+fn hold(rt: &impl Abort, alloc: Global, gates: &mut Gates, promise: PromiseId) {
+    if !gates.has_ticket() {
+        panic!(rt; "no ticket");
+    }
+    let ticket = gates.enter();
+    let held = gates.hold(Held {
+        ticket,
+        origin: Origin::Own(promise),
+        request: request(rt, alloc),
+        gate: Gate::Promise(promise),
+    });
+    held.expect(rt, "memory");
+}
+
+/// The next call that leaves has this ticket, and goes to object 3.
+fn expect_next(rt: &impl Abort, gates: &mut Gates, ticket: u64) {
+    let next = gates.next().expect(rt, "memory").expect(rt, "a call");
+    assert!(rt; next.call.ticket == ticket && matches!(next.cap, Cap::Object(3)));
+    drop(next);
+}
+
+/// No call leaves any more, and what the gates gave is forgotten.
+fn forget(rt: &impl Abort, gates: &mut Gates) {
+    let next = gates.next().expect(rt, "memory");
+    assert!(rt; next.is_none());
+    gates.forget();
+}
+
 #[test]
 fn calls_leave_by_ticket(rt: HostRuntime) {
     let mut gates = Gates::new(rt.alloc());
-    for gate in [5u32, 4, 5] {
-        if !gates.has_ticket() {
-            return;
-        }
-        let ticket = gates.enter();
-        let held = Held {
-            ticket,
-            origin: Origin::Own(gate),
-            request: request(&rt, rt.alloc()),
-            gate: Gate::Promise(gate),
-        };
-        gates.hold(held).expect(&rt, "memory");
-    }
+    hold(&rt, rt.alloc(), &mut gates, 5);
+    hold(&rt, rt.alloc(), &mut gates, 4);
+    hold(&rt, rt.alloc(), &mut gates, 5);
     assert!(rt; gates.calls().count() == 3);
-    gates
-        .end(Gift::Promise(5, Cap::Object(3)))
-        .expect(&rt, "memory");
-    for ticket in [0u64, 2] {
-        let next = gates.next().expect(&rt, "memory").expect(&rt, "a call");
-        assert!(rt; next.call.ticket == ticket);
-        assert!(rt; matches!(next.cap, Cap::Object(3)));
-    }
-    assert!(rt; gates.next().expect(&rt, "memory").is_none());
-    gates.forget();
+    let ended = gates.end(Gift::Promise(5, Cap::Object(3)));
+    ended.expect(&rt, "memory");
+    expect_next(&rt, &mut gates, 0);
+    expect_next(&rt, &mut gates, 2);
+    forget(&rt, &mut gates);
     assert!(rt; gates.get(1).is_some());
 }

@@ -1,62 +1,111 @@
 //! What promises, imports, answers and questions came to, and the application's own promises.
 
 use cp_machine::PeerFault;
-use cp_refs::{Cap, Outcome, QuestionKind};
+use cp_refs::{Cap, Outcome, PromiseId, QuestionKind};
 use cp_state::{Halt, NumberedValues, OwnPromises};
 use cp_tables::TableFault;
+use std::process::Abort;
+
+/// Opens a promise.
+fn open(rt: &impl Abort, values: &mut NumberedValues) -> PromiseId {
+    values.open_promise().expect(rt, "a promise")
+}
+
+/// Settles a promise with an object.
+fn settle(rt: &impl Abort, values: &mut NumberedValues, id: PromiseId, object: u32) {
+    if values.values().promise(id).is_some() {
+        let settled = values.settle_promise(id, Cap::Object(object));
+        settled.expect(rt, "memory");
+    }
+}
+
+/// The promise is open.
+fn expect_open(rt: &impl Abort, values: &NumberedValues, id: PromiseId) {
+    assert!(rt; matches!(values.values().promise(id), Some(None)));
+}
+
+/// The promise came to this object.
+fn expect_object(rt: &impl Abort, values: &NumberedValues, id: PromiseId, object: u32) {
+    assert!(rt; matches!(values.values().promise(id), Some(Some(Cap::Object(k))) if *k == object));
+}
 
 #[test]
 fn promises_are_numbered(rt: HostRuntime) {
     let mut values = NumberedValues::new(rt.alloc());
-    let first = values.open_promise().expect(&rt, "a promise");
-    let second = values.open_promise().expect(&rt, "a promise");
+    let first = open(&rt, &mut values);
+    let second = open(&rt, &mut values);
     assert!(rt; first != second);
-    assert!(rt; matches!(values.values().promise(first), Some(None)));
-    if values.values().promise(first).is_some() {
-        let settled = values.settle_promise(first, Cap::Object(2));
-        settled.expect(&rt, "memory");
-    }
-    assert!(rt; matches!(values.values().promise(first), Some(Some(Cap::Object(2)))));
+    expect_open(&rt, &values, first);
+    settle(&rt, &mut values, first, 2);
+    expect_object(&rt, &values, first, 2);
     values.remove_promise(first);
     assert!(rt; values.values().promise(first).is_none());
-    assert!(rt; values.open_promise() == Ok(first));
+    assert!(rt; open(&rt, &mut values) == first);
 }
 
-#[test]
-fn imports_and_answers_come_to_something(rt: HostRuntime) {
-    let mut values = NumberedValues::new(rt.alloc());
-    values.put_import(5, None).expect(&rt, "memory");
-    assert!(rt; matches!(values.values().import(5), Some(None)));
-    values
-        .put_import(5, Some(Cap::Import(6)))
-        .expect(&rt, "memory");
-    assert!(rt; matches!(values.values().import(5), Some(Some(Cap::Import(6)))));
+/// Puts what an import came to.
+fn put_import(rt: &impl Abort, values: &mut NumberedValues, id: u32, value: Option<Cap>) {
+    let put = values.put_import(id, value);
+    put.expect(rt, "memory");
+}
+
+/// The import came to nothing yet.
+fn expect_no_value(rt: &impl Abort, values: &NumberedValues, id: u32) {
+    assert!(rt; matches!(values.values().import(id), Some(None)));
+}
+
+/// The import came to another one.
+fn expect_import(rt: &impl Abort, values: &NumberedValues, id: u32, other: u32) {
+    assert!(rt; matches!(values.values().import(id), Some(Some(Cap::Import(k))) if *k == other));
+}
+
+/// An import may be open, and come to something.
+fn check_imports(rt: &impl Abort, values: &mut NumberedValues) {
+    put_import(rt, values, 5, None);
+    expect_no_value(rt, values, 5);
+    put_import(rt, values, 5, Some(Cap::Import(6)));
+    expect_import(rt, values, 5, 6);
     values.remove_import(5);
     assert!(rt; values.values().import(5).is_none());
-    values
-        .put_answer(5, Some(Outcome::Canceled))
-        .expect(&rt, "memory");
+}
+
+/// An answer came to something, until it is taken out.
+fn check_answers(rt: &impl Abort, values: &mut NumberedValues) {
+    let put = values.put_answer(5, Some(Outcome::Canceled));
+    put.expect(rt, "memory");
     assert!(rt; matches!(values.values().answer(5), Some(Some(Outcome::Canceled))));
     values.remove_answer(5);
     assert!(rt; values.values().answer(5).is_none());
 }
 
 #[test]
+fn imports_and_answers_come_to_something(rt: HostRuntime) {
+    let mut values = NumberedValues::new(rt.alloc());
+    check_imports(&rt, &mut values);
+    check_answers(&rt, &mut values);
+}
+
+/// Settles a question, if it is there.
+fn cancel(rt: &impl Abort, values: &mut NumberedValues, id: u32) {
+    let settled = values.settle_question(id, Outcome::Canceled);
+    settled.expect(rt, "memory");
+}
+
+/// The question's messages are on the wire, and it is settled or not.
+fn expect_question(rt: &impl Abort, values: &NumberedValues, id: u32, is_settled: bool) {
+    let question = values.values().question(id).expect(rt, "a question");
+    assert!(rt; question.kind == QuestionKind::Wire && question.outcome.is_some() == is_settled);
+}
+
+#[test]
 fn questions_come_to_something(rt: HostRuntime) {
     let mut values = NumberedValues::new(rt.alloc());
-    values
-        .open_question(5, QuestionKind::Wire)
-        .expect(&rt, "memory");
-    let question = values.values().question(5).expect(&rt, "a question");
-    assert!(rt; question.kind == QuestionKind::Wire && question.outcome.is_none());
-    values
-        .settle_question(5, Outcome::Canceled)
-        .expect(&rt, "memory");
-    let question = values.values().question(5).expect(&rt, "a question");
-    assert!(rt; question.kind == QuestionKind::Wire && question.outcome.is_some());
-    values
-        .settle_question(6, Outcome::Canceled)
-        .expect(&rt, "memory");
+    let opened = values.open_question(5, QuestionKind::Wire);
+    opened.expect(&rt, "memory");
+    expect_question(&rt, &values, 5, false);
+    cancel(&rt, &mut values, 5);
+    expect_question(&rt, &values, 5, true);
+    cancel(&rt, &mut values, 6);
     assert!(rt; values.values().question(6).is_none());
     values.remove_question(5);
     assert!(rt; values.values().question(5).is_none());
