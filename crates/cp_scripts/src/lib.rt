@@ -1,0 +1,12 @@
+//! Scripts of exchanges: lines of events, read, and what follows each, as lines. Messages stand there as
+//! `show` prints them.
+#![tactic(auto)]
+
+mod effects;
+mod events;
+mod lines;
+mod messages;
+mod reader;
+
+pub use events::event_of;
+pub use lines::{Lines, segments_of};
