@@ -6,6 +6,7 @@ calls, answers, resolves and gives up what it knows of, and takes in the next me
 a number of its own as its interface, by which it is known where it arrives. After each move:
 
 - neither vat was at fault or closed, nor did memory run out;
+- with messages that are read in place, all that was answered and sent is the same;
 - each message that was sent is one that its sender may send, and each export's count is what it is owed: what the
   other end holds of it, what messages on the way name of it, and what those on the way back will lower it by;
 - one export's count and one import's are asked of the vats themselves, on copies;
@@ -220,6 +221,7 @@ class Player:
         """What an event gives: its answer, and the lines of its effects."""
         lines = self.tell(f"{ends} {event}")
         expect(lines[:1] == [event], f"nothing is told of: {event}")
+        expect("= in place" not in lines, "\n".join(["read in place, it goes otherwise:"] + lines))
         if lines[1:] and lines[1].startswith("= "):
             return lines[1][2:], lines[2:]
         return "nothing", lines[1:]

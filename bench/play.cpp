@@ -1,7 +1,8 @@
 // Plays events of vats, as docs/TESTING.md has their lines.
 // play FILE: prints what each event of a file gives.
 // play: two vats do what the lines of the input tell. `A EVENT` and `B EVENT` are done; `A? EVENT` and `B? EVENT` are tried on a copy, which is
-// dropped; `new` begins anew, with bootstrap object 0 at each end. Behind the lines of what a line gave stands a line with a point.
+// dropped; `new` begins anew, with bootstrap object 0 at each end. Each is done twice, with messages taken in as values, and read in place. Behind
+// the lines of what a line gave stands a line with a point, and before it, where the second gave something else, `= in place` and that.
 #include "bench_c.h"
 #include <fstream>
 #include <iostream>
@@ -22,10 +23,14 @@ static std::string play(const std::string& text, size_t skipped) {
 
 // A vat is kept as its events: the same events always give the same.
 struct Vat {
-  std::string text = "vat object:0\n";
+  std::string text;
   size_t events = 0;
 
-  std::string tried(const std::string& event) const { return play(text + event + "\n", events); }
+  std::string tried(const std::string& event) const {
+    std::string given = play("vat object:0\n" + text + event + "\n", events);
+    std::string in_place = play("vat object:0 in place\n" + text + event + "\n", events);
+    return in_place == given ? given : given + "= in place\n" + in_place;
+  }
   std::string done(const std::string& event) {
     std::string given = tried(event);
     text += event + "\n";

@@ -4,12 +4,19 @@ ghost use Rattle.std.specs.Prelude.{◌⊎◌, ℕ, List};
 ghost use Rattle.bench_c.specs.Given.{Gives, GivesNone};
 
 use crate::fill::fill;
-use cp_scripts::{Lines, event_of};
+use cp_scripts::{Lines, Taken, act, event_of};
 use cp_vat::Vat;
 use std::alloc::Global;
 
-/// A new vat, as the first line says: `vat`, or `vat object:N` with the object that it gives to a
-/// Bootstrap.
+/// What the first line says of the vat, and how it takes in messages.
+fn taken_of(line: &str) -> (&str, Taken) {
+    match line.strip_suffix(" in place") {
+        Some(line) => (line, Taken::InPlace),
+        None => (line, Taken::Owned),
+    }
+}
+
+/// A new vat, as its line says: `vat`, or `vat object:N` with the object that it gives to a Bootstrap.
 fn vat_of(alloc: Global, line: &str) -> Option<Vat> {
     if line == "vat" {
         return Some(Vat::new(alloc, None));
@@ -20,12 +27,16 @@ fn vat_of(alloc: Global, line: &str) -> Option<Vat> {
     }
 }
 
-/// Plays an event's line, tells what it gave, and says whether it is an event.
-fn play_line(alloc: Global, vat: &mut Vat, line: &str, given: &mut Lines) -> bool {
-    match event_of(alloc, line) {
-        Some(event) => {
-            given.push_line(line);
-            given.push_given(vat.act(event));
+/// Plays an event's line, tells what it gave, and says whether it is an event that can be played.
+fn play_line(alloc: Global, vat: &mut Vat, taken: Taken, line: &str, given: &mut Lines) -> bool {
+    let Some(event) = event_of(alloc, line) else {
+        given.push_line("= unread");
+        return false;
+    };
+    given.push_line(line);
+    match act(alloc, vat, event, taken) {
+        Some(acted) => {
+            given.push_given(acted);
             true
         }
         None => {
@@ -39,11 +50,12 @@ fn play_line(alloc: Global, vat: &mut Vat, line: &str, given: &mut Lines) -> boo
 fn play(alloc: Global, script: &str, skipped: usize) -> Lines {
     let mut given = Lines::with_frames(alloc);
     let mut lines = script.lines();
-    let Some(mut vat) = vat_of(alloc, lines.next().unwrap_or("")) else {
+    let (line, taken) = taken_of(lines.next().unwrap_or(""));
+    let Some(mut vat) = vat_of(alloc, line) else {
         return given;
     };
     for (place, line) in lines.enumerate() {
-        if !play_line(alloc, &mut vat, line, &mut given) {
+        if !play_line(alloc, &mut vat, taken, line, &mut given) {
             break;
         }
         if place < skipped {
@@ -55,9 +67,10 @@ fn play(alloc: Global, script: &str, skipped: usize) -> Lines {
 }
 
 /// Plays a script on a new vat. Its first line is `vat`, or `vat object:N` with the object that is given
-/// to a Bootstrap; each other is an event. Gives the number of bytes of the events' lines but the first
-/// `skipped`, with all that follows behind each, and puts what fits of them into the room. Where there
-/// is none, the script isn't UTF-8, or memory runs out, it gives 0, and the room stays as it was.
+/// to a Bootstrap, and behind that ` in place`, if the vat is to read messages in place; each other is an
+/// event. Gives the number of bytes of the events' lines but the first `skipped`, with all that follows
+/// behind each, and puts what fits of them into the room. Where there is none, the script isn't UTF-8, or
+/// memory runs out, it gives 0, and the room stays as it was.
 #[unsafe(no_mangle)]
 pub extern "C" fn cpb_play(alloc: Global, script: &[u8], skipped: usize, room: &mut [u8]) -> usize
     ensures { GivesNone result room.old room.new ⊎ ((lines : List ℕ) × Gives lines result room.old room.new) }

@@ -2,11 +2,13 @@
 //! `show` prints them.
 #![tactic(auto)]
 
+mod acting;
 mod effects;
 mod events;
 mod lines;
 mod messages;
 mod reader;
 
+pub use acting::{Taken, act};
 pub use events::event_of;
-pub use lines::{Lines, segments_of};
+pub use lines::Lines;

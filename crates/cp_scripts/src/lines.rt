@@ -167,7 +167,7 @@ impl Lines {
 }
 
 /// A message in one segment. `None` where it can't be written.
-pub fn segments_of(alloc: Global, message: &Message) -> Option<Segments> {
+pub(crate) fn segments_of(alloc: Global, message: &Message) -> Option<Segments> {
     let Ok(root) = tree_of(alloc, message) else {
         return None;
     };

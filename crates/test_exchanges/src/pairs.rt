@@ -1,10 +1,10 @@
 //! Scripts of two vats, played. A line that begins with A or B is what that vat does; `takes` is the
 //! next message that is on the way to it.
 
-use crate::playing::{Taken, act, expect_lines, read};
+use crate::playing::{expect_lines, read};
 use cp_machine::{Effect, Event};
 use cp_rpc::Message;
-use cp_scripts::Lines;
+use cp_scripts::{Lines, Taken, act};
 use cp_vat::Vat;
 use std::alloc::Global;
 use std::process::Abort;
@@ -59,7 +59,8 @@ impl End {
 /// Plays a line at one end. What it sends is then on the way to the other.
 fn turn(rt: &impl Abort, near: &mut End, far: &mut End, line: &str, lines: &mut Lines) {
     let event = near.event(rt, line, lines);
-    match act(rt, near.alloc, &mut near.vat, event, near.taken) {
+    let given = act(near.alloc, &mut near.vat, event, near.taken);
+    match given.expect(rt, "a message") {
         Ok(acted) => {
             lines.push_acted(&acted);
             far.comes(rt, acted.effects.into_effects());

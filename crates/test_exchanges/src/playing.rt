@@ -1,59 +1,17 @@
 //! Scripts, played. A line of a script is what comes to a vat, or what follows.
 
 use crate::running::expect_run;
-use cp_machine::{Acted, Event, Value, VatFault};
-use cp_rpc::Message;
-use cp_scripts::{Lines, event_of, segments_of};
-use cp_stream::view_of;
+use cp_machine::Event;
+use cp_scripts::{Lines, Taken, act, event_of};
 use cp_vat::Vat;
-use cp_words::Limits;
 use std::alloc::Global;
 use std::process::Abort;
-
-/// How a vat takes in a message.
-#[derive(Clone, Copy)]
-pub enum Taken {
-    Owned,
-    InPlace,
-}
 
 /// The event of a line.
 pub fn read(rt: &impl Abort, alloc: Global, line: &str) -> Event {
     match event_of(alloc, line) {
         Some(event) => event,
         None => panic!(rt; "it isn't an event: {line}"),
-    }
-}
-
-/// What a vat does with a message that it reads in place.
-fn receive(
-    rt: &impl Abort,
-    alloc: Global,
-    vat: &mut Vat,
-    message: &Message,
-) -> Result<Acted<Value>, VatFault> {
-    let segments = segments_of(alloc, message).expect(rt, "a message");
-    let view = view_of(&segments, Limits::standard()).expect(rt, "a message");
-    let Acted { effects, .. } = vat.receive_view(view)?;
-    let value = Value::Nothing;
-    Ok(Acted { value, effects })
-}
-
-/// What a vat does at an event.
-pub fn act(
-    rt: &impl Abort,
-    alloc: Global,
-    vat: &mut Vat,
-    event: Event,
-    taken: Taken,
-) -> Result<Acted<Value>, VatFault> {
-    match (event, taken) {
-        (Event::Receive(message), Taken::InPlace) => {
-            let acted = receive(rt, alloc, vat, &message);
-            drop(message);
-            acted
-        }
-        (event, _) => vat.act(event),
     }
 }
 
@@ -93,7 +51,8 @@ pub fn expect_next(rt: &impl Abort, alloc: Global, mut vat: Vat, script: &[&str]
             if !line.is_empty() && !is_told(line) {
                 lines.push_line(line);
                 let event = read(rt, alloc, line);
-                lines.push_given(act(rt, alloc, &mut vat, event, Taken::InPlace));
+                let given = act(alloc, &mut vat, event, Taken::InPlace);
+                lines.push_given(given.expect(rt, "a message"));
             }
         }
     }
