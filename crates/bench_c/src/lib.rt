@@ -1,4 +1,5 @@
-//! What the crates do, for programs in C that time it: `bench/` at the top of the repository has one.
+//! What the crates do, for programs in C that time it and compare it: `bench/` at the top of the
+//! repository has some.
 //!
 //! A slice crosses as a pointer and then a length, an allocator as nothing. An answer of 0 says that there
 //! was nothing, a fault, or no memory.
@@ -6,10 +7,12 @@
 
 mod fill;
 mod packed;
+mod play;
 mod read;
 mod write;
 
 pub use packed::{cpb_pack, cpb_unpack};
+pub use play::cpb_play;
 pub use read::{
     cpb_packed_frames, cpb_packed_frames_within, cpb_read_frames, cpb_read_frames_within,
 };

@@ -9,13 +9,16 @@ use cp_words::Limits;
 use std::alloc::Global;
 use std::process::Abort;
 
-/// A message was sent alone, as these bytes.
-fn expect_sent(rt: &impl Abort, alloc: Global, acted: &Acted<()>, mode: Mode, wanted: &str) {
-    let effects = acted.effects.effects();
-    assert!(rt; effects.len() == 1);
-    let Effect::Send(message) = &effects[0] else {
-        panic!(rt; "nothing was sent");
-    };
+/// The message that was sent, alone.
+fn sent<'a>(rt: &impl Abort, acted: &'a Acted<()>) -> &'a Message {
+    match acted.effects.effects() {
+        [Effect::Send(message)] => message,
+        _ => panic!(rt; "not one message was sent"),
+    }
+}
+
+/// The message is written as these bytes.
+fn expect_bytes(rt: &impl Abort, alloc: Global, message: &Message, mode: Mode, wanted: &str) {
     let mut to = Tap::new(Vec::new(alloc));
     let written = write_message(alloc, &mut to, message, mode, Limits::standard());
     assert!(rt; written.is_ok());
@@ -28,10 +31,13 @@ fn the_return_of_a_bootstrap(rt: HostRuntime) {
     let mut vat = Vat::new(rt.alloc(), Some(0));
     let message = Message::Bootstrap(Bootstrap { question_id: 0 });
     let acted = vat.receive(message).expect(&rt, "an answer");
+    drop(vat);
+    let message = sent(&rt, &acted);
     let plain = "000000000b0000000000000001000100030000000000000000000000020001000000000001000000\
         00000000000000000000000000000200030000000000000001000000170000000400000001000100\
         01000000000000000000000000000000";
     let packed = "100b500101010350020110010000400201031101175104010101010000";
-    expect_sent(&rt, rt.alloc(), &acted, Mode::Plain, plain);
-    expect_sent(&rt, rt.alloc(), &acted, Mode::Packed, packed);
+    expect_bytes(&rt, rt.alloc(), message, Mode::Plain, plain);
+    expect_bytes(&rt, rt.alloc(), message, Mode::Packed, packed);
+    drop(acted);
 }

@@ -1,6 +1,6 @@
 //! What memory is taken for messages that are read in place.
 
-use cp_machine::{Effect, PeerFault, Reason, VatFault};
+use cp_machine::{Acted, Effect, PeerFault, Reason, VatFault};
 use cp_stream::view_of;
 use cp_vat::Vat;
 use cp_words::{Limits, Segments};
@@ -75,34 +75,52 @@ fn deep_call(rt: &impl Abort, alloc: Global) -> Segments {
     message(rt, alloc, &words, 11, 0x0001_0000_0000_0004)
 }
 
-/// The vat reports this fault of the message, or that memory ran out.
-fn expect_fault(rt: &impl Abort, mut vat: Vat, segments: &Segments, fault: PeerFault) {
+/// What a new vat does with the message.
+fn receive(rt: &impl Abort, alloc: Global, segments: &Segments) -> Result<Acted<()>, VatFault> {
     let view = view_of(segments, Limits::standard()).expect(rt, "a message");
-    match vat.receive_view(view) {
-        Ok(acted) => match acted.effects.effects() {
-            [_, Effect::Closed(Reason::Fault(found))] => {
-                assert_eq!(rt; found.text(), fault.text());
-            }
-            _ => panic!(rt; "the vat goes on"),
-        },
+    let mut vat = Vat::new(alloc, None);
+    let acted = vat.receive_view(view);
+    drop(vat);
+    acted
+}
+
+/// The fault of the peer at which a vat closed.
+fn fault_of(rt: &impl Abort, acted: &Acted<()>) -> PeerFault {
+    match acted.effects.effects() {
+        [_, Effect::Closed(Reason::Fault(fault))] => *fault,
+        _ => panic!(rt; "the vat goes on"),
+    }
+}
+
+/// A new vat reports this fault of the message, or that memory ran out.
+fn expect_fault(rt: &impl Abort, alloc: Global, segments: &Segments, fault: PeerFault) {
+    match receive(rt, alloc, segments) {
+        Ok(acted) => {
+            assert!(rt; fault_of(rt, &acted) == fault);
+            drop(acted);
+        }
         Err(refusal) => assert!(rt; refusal == VatFault::OutOfMemory),
     }
 }
 
-/// What a vat has that asked for the bootstrap object and gave the question up, unless memory ran out.
+/// A vat that asked for the bootstrap object and gave the question up, unless memory ran out.
 fn finished(alloc: Global) -> Option<Vat> {
     let mut vat = Vat::new(alloc, None);
-    vat.bootstrap().ok()?;
-    vat.finish(0).ok()?;
-    Some(vat)
+    if vat.bootstrap().is_ok() && vat.finish(0).is_ok() {
+        return Some(vat);
+    }
+    drop(vat);
+    None
 }
 
 /// A Return to a question that was given up has no effect.
 fn expect_nothing(rt: &impl Abort, alloc: Global, segments: &Segments) {
-    let view = view_of(segments, Limits::standard()).expect(rt, "a message");
     if let Some(mut vat) = finished(alloc) {
+        let view = view_of(segments, Limits::standard()).expect(rt, "a message");
         let acted = vat.receive_view(view).expect(rt, "no memory is taken");
+        drop(vat);
         assert!(rt; acted.effects.effects().is_empty());
+        drop(acted);
     }
 }
 
@@ -111,55 +129,60 @@ fn expect_nothing(rt: &impl Abort, alloc: Global, segments: &Segments) {
 fn want_of_memory_at_faults_without_a_content(rt: HostRuntime) {
     let alloc = rt.alloc();
     let call = message(&rt, alloc, &CALL, 11, NONE);
-    expect_fault(&rt, Vat::new(alloc, None), &call, PeerFault::UnknownExport);
+    expect_fault(&rt, alloc, &call, PeerFault::UnknownExport);
+    drop(call);
     let more = message(&rt, alloc, &CALL, 11, NONE);
-    expect_fault(&rt, Vat::new(alloc, None), &more, PeerFault::UnknownExport);
+    expect_fault(&rt, alloc, &more, PeerFault::UnknownExport);
+    drop(more);
     let answer = message(&rt, alloc, &RETURN, 6, NONE);
-    expect_fault(
-        &rt,
-        Vat::new(alloc, None),
-        &answer,
-        PeerFault::UnknownQuestion,
-    );
+    expect_fault(&rt, alloc, &answer, PeerFault::UnknownQuestion);
     expect_nothing(&rt, alloc, &answer);
+    drop(answer);
 }
 
 #[test]
 fn want_of_memory_at_faults_with_a_content(rt: HostRuntime) {
     let alloc = rt.alloc();
     let call = message(&rt, alloc, &CALL, 11, FOUR);
-    expect_fault(&rt, Vat::new(alloc, None), &call, PeerFault::UnknownExport);
+    expect_fault(&rt, alloc, &call, PeerFault::UnknownExport);
+    drop(call);
     let deep = deep_call(&rt, alloc);
-    expect_fault(
-        &rt,
-        Vat::new(alloc, None),
-        &deep,
-        PeerFault::PayloadTooLarge,
-    );
+    expect_fault(&rt, alloc, &deep, PeerFault::PayloadTooLarge);
+    drop(deep);
     let answer = message(&rt, alloc, &RETURN, 6, FOUR);
-    expect_fault(
-        &rt,
-        Vat::new(alloc, None),
-        &answer,
-        PeerFault::UnknownQuestion,
-    );
+    expect_fault(&rt, alloc, &answer, PeerFault::UnknownQuestion);
     expect_nothing(&rt, alloc, &answer);
+    drop(answer);
 }
 
-/// A content that is kept is made, unless memory runs out; then the vat is closed.
-#[test]
-fn want_of_memory_for_a_content_that_is_kept(rt: HostRuntime) {
-    let alloc = rt.alloc();
-    let segments = message(&rt, alloc, &RETURN, 6, FOUR);
-    let view = view_of(&segments, Limits::standard()).expect(&rt, "a message");
-    let mut vat = Vat::new(alloc, None);
-    if vat.bootstrap().is_ok() {
-        match vat.receive_view(view) {
-            Ok(acted) => assert!(rt; acted.effects.effects().len() == 1),
-            Err(refusal) => {
-                assert!(rt; refusal == VatFault::OutOfMemory);
-                assert!(rt; vat.promise().err() == Some(VatFault::Closed));
-            }
+/// Whether a vat does nothing more.
+fn is_closed(vat: &mut Vat) -> bool {
+    matches!(vat.promise(), Err(VatFault::Closed))
+}
+
+/// A vat's question is settled by the message, unless memory runs out; then the vat is closed.
+fn expect_settled(rt: &impl Abort, vat: &mut Vat, segments: &Segments) {
+    let view = view_of(segments, Limits::standard()).expect(rt, "a message");
+    match vat.receive_view(view) {
+        Ok(acted) => {
+            assert!(rt; acted.effects.effects().len() == 1);
+            drop(acted);
+        }
+        Err(refusal) => {
+            assert!(rt; refusal == VatFault::OutOfMemory);
+            assert!(rt; is_closed(vat));
         }
     }
+}
+
+/// A content that is kept is made, unless memory runs out.
+#[test]
+fn want_of_memory_for_a_content_that_is_kept(rt: HostRuntime) {
+    let segments = message(&rt, rt.alloc(), &RETURN, 6, FOUR);
+    let mut vat = Vat::new(rt.alloc(), None);
+    if vat.bootstrap().is_ok() {
+        expect_settled(&rt, &mut vat, &segments);
+    }
+    drop(vat);
+    drop(segments);
 }

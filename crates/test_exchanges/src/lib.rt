@@ -27,14 +27,10 @@ mod playing;
 #[cfg(test)]
 mod promises;
 #[cfg(test)]
-mod reading;
-#[cfg(test)]
 mod references;
 #[cfg(test)]
 mod refusals;
 #[cfg(test)]
 mod running;
-#[cfg(test)]
-mod showing;
 #[cfg(test)]
 mod worlds;

@@ -2,9 +2,9 @@
 
 use crate::beginnings::{ANSWERED, ASKED, CALLED};
 use crate::playing::{expect, expect_next, prepare};
-use crate::reading::Reader;
 use cp_refs::{Cap, Caps, Request};
 use cp_rpc::{Bootstrap, Message};
+use cp_tree::Whole;
 use cp_vat::Vat;
 use std::alloc::Global;
 use std::process::Abort;
@@ -310,9 +310,12 @@ fn request_of(rt: &impl Abort, alloc: Global, first: u32, length: u32) -> Reques
         caps.push(Cap::Object(first.wrapping_add(i)))
             .expect(rt, "memory");
     }
-    let mut request = Reader::new(rt, alloc, "{(;) caps[]}").request();
-    request.caps = Caps::new(caps);
-    request
+    Request {
+        interface: 9,
+        method: 4,
+        content: Whole::null(),
+        caps: Caps::new(caps),
+    }
 }
 
 /// The peer, whose promise 7 is held, is sent so many objects, from 1000 on, in calls on its promise.

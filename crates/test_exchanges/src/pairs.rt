@@ -1,11 +1,10 @@
 //! Scripts of two vats, played. A line that begins with A or B is what that vat does; `takes` is the
 //! next message that is on the way to it.
 
-use crate::playing::{Taken, play};
-use crate::reading::Reader;
-use crate::showing::Lines;
+use crate::playing::{expect_lines, read};
 use cp_machine::{Effect, Event};
 use cp_rpc::Message;
+use cp_scripts::{Lines, Taken, act};
 use cp_vat::Vat;
 use std::alloc::Global;
 use std::process::Abort;
@@ -13,13 +12,17 @@ use std::process::Abort;
 /// One of two vats, and the messages that are on the way to it, the oldest first.
 #[derive(Drop)]
 struct End {
+    alloc: Global,
+    taken: Taken,
     vat: Vat,
     inbox: Vec<Message>,
 }
 
 impl End {
-    fn new(alloc: Global, bootstrap: Option<u32>) -> End {
+    fn new(alloc: Global, bootstrap: Option<u32>, taken: Taken) -> End {
         End {
+            alloc,
+            taken,
             vat: Vat::new(alloc, bootstrap),
             inbox: Vec::new(alloc),
         }
@@ -31,30 +34,38 @@ impl End {
         }
         self.inbox.remove(0)
     }
-}
 
-/// Plays a line at one end. What it sends is then on the way to the other.
-fn turn<R: Abort>(
-    rt: &R,
-    near: &mut End,
-    far: &mut End,
-    mut reader: Reader<R>,
-    taken: Taken,
-    lines: &mut Lines<R>,
-) {
-    let event = if reader.takes("takes") {
-        let message = near.next(rt);
+    /// The event of a line.
+    fn event(&mut self, rt: &impl Abort, line: &str, lines: &mut Lines) -> Event {
+        if line != "takes" {
+            return read(rt, self.alloc, line);
+        }
+        let message = self.next(rt);
         lines.push("< ");
         lines.push_message(&message);
         Event::Receive(message)
-    } else {
-        reader.event()
-    };
-    reader.end();
-    for effect in play(&mut near.vat, event, taken, lines) {
-        if let Effect::Send(message) = effect {
-            far.inbox.push(message).expect(rt, "memory");
+    }
+
+    /// What was sent is on the way to this end.
+    fn comes(&mut self, rt: &impl Abort, effects: Vec<Effect>) {
+        for effect in effects {
+            if let Effect::Send(message) = effect {
+                self.inbox.push(message).expect(rt, "memory");
+            }
         }
+    }
+}
+
+/// Plays a line at one end. What it sends is then on the way to the other.
+fn turn(rt: &impl Abort, near: &mut End, far: &mut End, line: &str, lines: &mut Lines) {
+    let event = near.event(rt, line, lines);
+    let given = act(near.alloc, &mut near.vat, event, near.taken);
+    match given.expect(rt, "a message") {
+        Ok(acted) => {
+            lines.push_acted(&acted);
+            far.comes(rt, acted.effects.into_effects());
+        }
+        Err(fault) => lines.push_fault(fault),
     }
 }
 
@@ -66,34 +77,29 @@ pub fn expect_pair(
     script: &[&str],
 ) {
     for taken in [Taken::Owned, Taken::InPlace] {
-        expect_taken(rt, alloc, bootstraps, script, taken);
+        let first = End::new(alloc, bootstraps.0, taken);
+        let second = End::new(alloc, bootstraps.1, taken);
+        expect_ends(rt, first, second, script);
     }
 }
 
-fn expect_taken(
-    rt: &impl Abort,
-    alloc: Global,
-    bootstraps: (Option<u32>, Option<u32>),
-    script: &[&str],
-    taken: Taken,
-) {
-    let mut first = End::new(alloc, bootstraps.0);
-    let mut second = End::new(alloc, bootstraps.1);
-    let mut lines = Lines::new(rt, alloc);
-    let mut wanted = Lines::new(rt, alloc);
+fn expect_ends(rt: &impl Abort, mut first: End, mut second: End, script: &[&str]) {
+    let mut lines = Lines::new(first.alloc);
+    let mut wanted = Lines::new(first.alloc);
     for part in script {
         for line in part.lines() {
             let line = line.trim();
             wanted.push_line(line);
-            let mut reader = Reader::new(rt, alloc, line);
-            if reader.takes("A ") {
+            if let Some(event) = line.strip_prefix("A ") {
                 lines.push_line(line);
-                turn(rt, &mut first, &mut second, reader, taken, &mut lines);
-            } else if reader.takes("B ") {
+                turn(rt, &mut first, &mut second, event, &mut lines);
+            } else if let Some(event) = line.strip_prefix("B ") {
                 lines.push_line(line);
-                turn(rt, &mut second, &mut first, reader, taken, &mut lines);
+                turn(rt, &mut second, &mut first, event, &mut lines);
             }
         }
     }
-    lines.expect(&wanted);
+    drop(first);
+    drop(second);
+    expect_lines(rt, &lines, &wanted);
 }

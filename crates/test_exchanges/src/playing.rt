@@ -1,40 +1,17 @@
 //! Scripts, played. A line of a script is what comes to a vat, or what follows.
 
-use crate::reading::Reader;
 use crate::running::expect_run;
-use crate::showing::Lines;
-use cp_machine::{Effect, Event};
+use cp_machine::Event;
+use cp_scripts::{Lines, Taken, act, event_of};
 use cp_vat::Vat;
 use std::alloc::Global;
 use std::process::Abort;
 
-/// How a vat takes in a message.
-#[derive(Clone, Copy)]
-pub enum Taken {
-    Owned,
-    InPlace,
-}
-
-/// Plays an event, adds the lines of what follows, and gives the effects.
-pub fn play(
-    vat: &mut Vat,
-    event: Event,
-    taken: Taken,
-    lines: &mut Lines<impl Abort>,
-) -> Vec<Effect> {
-    let acted = match (event, taken) {
-        (Event::Receive(message), Taken::InPlace) => lines.received(vat, &message),
-        (event, _) => vat.act(event),
-    };
-    match acted {
-        Ok(acted) => {
-            lines.push_acted(&acted);
-            acted.effects.into_effects()
-        }
-        Err(fault) => {
-            lines.push_fault(fault);
-            lines.no_effects()
-        }
+/// The event of a line.
+pub fn read(rt: &impl Abort, alloc: Global, line: &str) -> Event {
+    match event_of(alloc, line) {
+        Some(event) => event,
+        None => panic!(rt; "it isn't an event: {line}"),
     }
 }
 
@@ -42,13 +19,10 @@ pub fn play(
 pub fn prepare(rt: &impl Abort, alloc: Global, vat: &mut Vat, script: &str) {
     for line in script.lines() {
         let line = line.trim();
-        if line.is_empty() {
-            continue;
+        if !line.is_empty() {
+            let event = read(rt, alloc, line);
+            drop(vat.act(event).expect(rt, "what follows"));
         }
-        let mut reader = Reader::new(rt, alloc, line);
-        let event = reader.event();
-        reader.end();
-        drop(vat.act(event).expect(rt, "what follows"));
     }
 }
 
@@ -57,26 +31,33 @@ pub fn is_told(line: &str) -> bool {
     line.starts_with("> ") || line.starts_with("! ") || line.starts_with("= ")
 }
 
+/// These are the wanted lines.
+pub fn expect_lines(rt: &impl Abort, lines: &Lines, wanted: &Lines) {
+    let text = lines.text().expect(rt, "memory");
+    if wanted.text().expect(rt, "memory") != text {
+        panic!(rt; "it went so:\n{text}");
+    }
+}
+
 /// A vat, which reads messages in place, does what the script tells, whose parts stand one after another:
 /// each line of an event is played, and all that follows is compared with the lines behind it.
 pub fn expect_next(rt: &impl Abort, alloc: Global, mut vat: Vat, script: &[&str]) {
-    let mut lines = Lines::new(rt, alloc);
-    let mut wanted = Lines::new(rt, alloc);
+    let mut lines = Lines::new(alloc);
+    let mut wanted = Lines::new(alloc);
     for part in script {
         for line in part.lines() {
             let line = line.trim();
             wanted.push_line(line);
-            if line.is_empty() || is_told(line) {
-                continue;
+            if !line.is_empty() && !is_told(line) {
+                lines.push_line(line);
+                let event = read(rt, alloc, line);
+                let given = act(alloc, &mut vat, event, Taken::InPlace);
+                lines.push_given(given.expect(rt, "a message"));
             }
-            lines.push_line(line);
-            let mut reader = Reader::new(rt, alloc, line);
-            let event = reader.event();
-            reader.end();
-            drop(play(&mut vat, event, Taken::InPlace, &mut lines));
         }
     }
-    lines.expect(&wanted);
+    drop(vat);
+    expect_lines(rt, &lines, &wanted);
 }
 
 /// A new vat with this bootstrap object does what the script tells: by `run`, to which messages come as

@@ -1,6 +1,6 @@
 use Rattle.std.proofs.Common.{◌≡◌}
-use Rattle.test_exchanges.proofs.reading.Reader.+tree.Given as goal
+use Rattle.cp_scripts.proofs.reader.Reader.+tree.Given as goal
 
 -- each tree inside is of a lesser depth
 abbrev pub decreases-tree : goal.decreases-tree
-decreases-tree g l = l.depth
+decreases-tree l = l.depth

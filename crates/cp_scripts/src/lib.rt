@@ -1,0 +1,14 @@
+//! Scripts of exchanges: lines of events, read, and what follows each, as lines. Messages stand there as
+//! `show` prints them.
+#![tactic(auto)]
+
+mod acting;
+mod effects;
+mod events;
+mod lines;
+mod messages;
+mod reader;
+
+pub use acting::{Taken, act};
+pub use events::event_of;
+pub use lines::Lines;
