@@ -14,12 +14,12 @@ pub enum Reason {
     Fault(PeerFault),
 }
 
-/// What a vat asks of its user.
+/// What a vat asks of its user, who does what each effect asks in the order of the list.
 #[derive(Drop)]
 pub enum Effect {
-    /// This message goes to the peer.
+    /// Write this message to the peer.
     Send(Message),
-    /// This call goes to an object of the application, which answers it by its origin.
+    /// Hand this call to the object, and answer it by its origin, once, now or later.
     Deliver {
         object: u32,
         origin: Origin,
@@ -27,12 +27,12 @@ pub enum Effect {
         ticket: u64,
         call: Request,
     },
-    /// A question of the application came to this.
+    /// A question of the application came to this outcome. It stays until it is finished.
     Settled {
         question: u32,
         outcome: Outcome,
     },
-    /// The vat is closed. Nothing follows.
+    /// The vat is closed. Close the connection: nothing follows.
     Closed(Reason),
 }
 

@@ -17,8 +17,42 @@ use cp_state::Core;
 use std::alloc::Global;
 use std::marker::Model;
 
-/// One end of a connection. Each call is a step: it answers with its effects, in order, or refuses and
-/// changes nothing. Where a growth was refused it answers V10, and the vat is closed: V9 from then on.
+/// One end of a connection, without the connection: messages of the peer and calls of the application come
+/// in, and each gives its effects, in order.
+///
+/// # In which order calls are made
+///
+/// 1. `new` makes a vat, with the object that the peer's Bootstrap gets.
+/// 2. `receive`, or `receive_view` for one that is read in place, takes each message of the peer, in the order
+///    in which they came. The other calls may come between any two messages.
+/// 3. Do what the effects of each call ask, in order, and after those of all calls before it. If you call the
+///    vat while effects are left, as to `answer` a `Deliver`, put the new ones at the end of that queue.
+/// 4. After the effect `Closed`, or a V10, close the connection: each later call is refused (V9).
+///
+/// # Calls by what they are for
+///
+/// - The peer's messages: `receive`, `receive_view`.
+/// - Questions: `bootstrap` asks for the peer's object, and `call` calls a capability. Either gives a number,
+///   which `Cap::Pipelined` may name at once. `finish` gives the question up, once, before or after its outcome.
+/// - Calls that were delivered: `answer`, once for each.
+/// - Promises: `promise` makes one, `resolve` settles it, once, and `forget` drops it when nothing uses it.
+/// - Imports: `release` gives one back when nothing uses it.
+/// - `idle` gives the imports and the promises that nothing uses.
+///
+/// # What each effect asks
+///
+/// - `Send`: write this message to the peer.
+/// - `Deliver`: hand this call to the object, and `answer` it by its origin, now or later. The imports in its
+///   table stay until they are released.
+/// - `Settled`: a question came to this outcome. `finish` it when you need none of its paths any more; the
+///   imports that it named stay until they are released. A question that was finished has no `Settled`.
+/// - `Closed`: close the connection, for this reason. It is the last effect; a fault's Abort is the `Send`
+///   before it.
+///
+/// # Refusals
+///
+/// A call that is refused changes nothing and has no effects. But at V10 memory ran out, and the vat is closed
+/// without an Abort.
 #[derive(Drop)]
 pub struct Vat {
     core: Core,

@@ -1,11 +1,20 @@
-//! Cap'n Proto messages and two-party RPC: messages read from streams, looked at in place and written, and
-//! one end of a connection. List `jamdrosek` in crates.txt; it re-exports the proved crates below.
+//! Cap'n Proto messages and two-party RPC: read messages from streams, look at them in place, write them, serve
+//! objects, and run one end of a connection. List `jamdrosek` in crates.txt; it re-exports the proved crates below.
 //!
 //! # Read a stream of messages
 //!
-//! `read_message` reads exactly the bytes of the next frame. The program example_count is this:
+//! `read_message` reads exactly the bytes of the next frame. The program example_count:
 //!
 //! ```
+//! #![tactic(auto)]
+//!
+//! use anyhow::anyhow;
+//! use jamdrosek::{Limits, Message, Mode, StreamFault, Tap, read_message};
+//! use std::alloc::Global;
+//! use std::fs::File;
+//! use std::io::{BufReader, Read};
+//!
+//! /// Reads the stream to its end, one message at a time.
 //! fn count_calls<R: Read + Drop>(alloc: Global, stream: R) -> Result<u64, StreamFault> {
 //!     let mut stream = Tap::new(stream);
 //!     let mut calls = 0u64;
@@ -18,6 +27,14 @@
 //!     }
 //!     Ok(calls)
 //! }
+//!
+//! fn main(rt: HostRuntime) -> anyhow::Result<()> {
+//!     let alloc = rt.alloc();
+//!     let stream = BufReader::new(alloc, File::open(&rt, "client.bin")?)?;
+//!     let calls = count_calls(alloc, stream).map_err(|fault| anyhow!("{fault:?}"))?;
+//!     println!(rt; "{calls} calls")?;
+//!     Ok(())
+//! }
 //! ```
 //!
 //! Where the bytes come in pieces, as from a socket, `MessageReader::feed` takes any piece and gives the
@@ -25,10 +42,17 @@
 //!
 //! # Look at a message in place
 //!
-//! `view_of` checks the message of a frame, and copies nothing. The program example_view is this, and a
-//! loop over the frames that `FrameReader::feed` gives:
+//! `view_of` checks the message of a frame, and copies nothing. The program example_view:
 //!
 //! ```
+//! #![tactic(auto)]
+//!
+//! use anyhow::anyhow;
+//! use jamdrosek::message::ReturnedView;
+//! use jamdrosek::{FrameReader, Limits, MessageIn, MessageView, view_of};
+//! use std::fs;
+//!
+//! /// The question that a Return answers, and the first word of its results. Nothing is copied.
 //! fn answer(message: &MessageView<'_>) -> Option<(u32, u64)> {
 //!     let MessageIn::Return(answer) = message else {
 //!         return None;
@@ -38,16 +62,116 @@
 //!     };
 //!     Some((answer.answer_id, *results.content.words().first()?))
 //! }
+//!
+//! fn main(rt: HostRuntime) -> anyhow::Result<()> {
+//!     let limits = Limits::standard();
+//!     let bytes = fs::read(&rt, "server.bin")?;
+//!     let mut reader = FrameReader::plain(rt.alloc(), limits);
+//!     for (_, segments) in &reader.feed(&bytes).map_err(|fault| anyhow!("{fault:?}"))? {
+//!         let message = view_of(segments, limits).map_err(|fault| anyhow!("{fault:?}"))?;
+//!         if let Some((question, number)) = answer(&message) {
+//!             println!(rt; "question {question}: {number}")?;
+//!         }
+//!     }
+//!     reader.finish().map_err(|fault| anyhow!("{fault:?}"))
+//! }
 //! ```
 //!
 //! # Write a message
 //!
-//! `write_message` writes one frame, plain or packed. The program example_write is this, and a `Call`:
+//! `write_message` writes one frame, plain or packed. The program example_write:
 //!
 //! ```
-//! let message = call(alloc, 5, 1)?;
-//! let mut out = Tap::new(io::writer(&rt));
-//! let written = write_message(alloc, &mut out, &message, Mode::Packed, Limits::standard());
+//! #![tactic(auto)]
+//!
+//! use anyhow::anyhow;
+//! use jamdrosek::message::{Call, CapTable, Payload, SendResultsTo, Target};
+//! use jamdrosek::tree::{Body, Tree, Whole};
+//! use jamdrosek::{Limits, Message, Mode, Tap, write_message};
+//! use std::alloc::Global;
+//! use std::io;
+//!
+//! /// A call on import 1, whose params are a struct of one word.
+//! fn call(alloc: Global, question_id: u32, number: u64) -> anyhow::Result<Message> {
+//!     let params = Tree::Struct(Body {
+//!         words: vec![in alloc; number]?,
+//!         ptrs: Vec::new(alloc),
+//!     });
+//!     Ok(Message::Call(Call {
+//!         question_id,
+//!         interface_id: 0xe5a1_0000_0000_0002,
+//!         method_id: 0,
+//!         target: Target::ImportedCap(1),
+//!         params: Payload {
+//!             content: Whole::new(params).map_err(|_| anyhow!("no message can hold this"))?,
+//!             cap_table: CapTable::new(Vec::new(alloc)),
+//!         },
+//!         send_results_to: SendResultsTo::Caller,
+//!     }))
+//! }
+//!
+//! fn main(rt: HostRuntime) -> anyhow::Result<()> {
+//!     let alloc = rt.alloc();
+//!     let message = call(alloc, 5, 1)?;
+//!     let mut out = Tap::new(io::writer(&rt));
+//!     let written = write_message(alloc, &mut out, &message, Mode::Packed, Limits::standard());
+//!     written.map_err(|fault| anyhow!("{fault:?}"))
+//! }
+//! ```
+//!
+//! # Serve an object
+//!
+//! `serve` takes a connection's reader and writer, and the objects that its peer may call. An object of your own
+//! implements `Servant`. The program example_serve:
+//!
+//! ```
+//! #![tactic(auto)]
+//!
+//! use anyhow::anyhow;
+//! use jamdrosek::server::{Caps, Ids, Outcome, Reply, Request, Servant, Settled, serve};
+//! use jamdrosek::tree::{Body, Tree, Whole};
+//! use jamdrosek::{Mode, Tap};
+//! use std::alloc::{AllocError, Global};
+//! use std::fs::File;
+//! use std::io;
+//!
+//! /// Answers each call with twice the number that it is asked with.
+//! #[derive(Drop)]
+//! struct Doubler {
+//!     alloc: Global,
+//! }
+//!
+//! impl Servant for Doubler {
+//!     fn call(&mut self, _ticket: u64, request: Request) -> Result<Reply, AllocError> {
+//!         let number = request.content.tree().data().first().copied().unwrap_or(0);
+//!         let body = Body {
+//!             words: vec![in self.alloc; number.saturating_mul(2)]?,
+//!             ptrs: Vec::new(self.alloc),
+//!         };
+//!         Ok(Reply::Now {
+//!             outcome: Outcome::Results {
+//!                 content: Whole::new(Tree::Struct(body)).unwrap_or(Whole::null()),
+//!                 caps: Caps::new(Vec::new(self.alloc)),
+//!             },
+//!             gives_up: Ids::new(Vec::new(self.alloc)),
+//!         })
+//!     }
+//!
+//!     fn poll(&mut self) -> Result<Option<Settled>, AllocError> {
+//!         Ok(None)
+//!     }
+//! }
+//!
+//! fn main(rt: HostRuntime) -> anyhow::Result<()> {
+//!     let alloc = rt.alloc();
+//!     let mut objects: Vec<Box<dyn Servant>> = Vec::new(alloc);
+//!     objects.push(Box::new(alloc, Doubler { alloc })?)?;
+//!     let mut from = Tap::new(File::open(&rt, "client.bin")?);
+//!     let mut to = Tap::new(io::writer(&rt));
+//!     let served = serve(alloc, &mut from, &mut to, &mut objects, Mode::Plain);
+//!     served.map_err(|fault| anyhow!("{fault:?}"))?;
+//!     Ok(())
+//! }
 //! ```
 //!
 //! # Call an object
@@ -59,18 +183,14 @@
 //! let asked = client.bootstrap().map_err(refused)?;
 //! let object = Cap::Pipelined(asked.value, Path::new(Vec::new(alloc)));
 //! send(asked.effects.into_effects(), &mut to_server)?;
+//! let request = Request {
+//!     interface: 0xe5a1_0000_0000_0002,
+//!     method: 0,
+//!     content: number(alloc, 41)?,
+//!     caps: Caps::new(Vec::new(alloc)),
+//! };
 //! let called = client.call(object, request).map_err(refused)?;
-//! ```
-//!
-//! # Serve objects
-//!
-//! `serve` takes a connection's reader and writer, and the objects that its peer may call. An object of your own
-//! implements `Servant`. The program example_serve has one, and is this:
-//!
-//! ```
-//! let mut objects: Vec<Box<dyn Servant>> = Vec::new(alloc);
-//! objects.push(Box::new(alloc, Doubler { alloc })?)?;
-//! let served = serve(alloc, &mut from, &mut to, &mut objects, Mode::Plain);
+//! send(called.effects.into_effects(), &mut to_server)?;
 //! ```
 //!
 //! # The layers
@@ -90,8 +210,11 @@
 //! - `vat`: one end of a connection, with the capabilities, events and effects that it takes and gives.
 //! - `server`: objects served to the peer of one connection.
 //!
-//! Each module but `vat` and `server` is one crate, whole: `words` is cp_words, `message` is cp_rpc, and any other has its
-//! crate's name. The names that most programs need stand here too. `docs/PROVED.md` says what is proved of each.
+//! Each module but `vat` and `server` is one crate, whole: `words` is cp_words, `message` is cp_rpc, and any other
+//! has its crate's name. The names that most programs need are here too. `docs/PROVED.md` says what is proved of each.
+//!
+//! Each fault is an `Error`, whose text names it, and its place where it has one; `docs/PROFILE.md` has them all, with
+//! the limits.
 //!
 //! A program needs no other crate of these in crates.txt. A contract that cites a definition of one, as
 //! `Rattle.cp_stream.specs.Stream`, needs that crate listed as well.

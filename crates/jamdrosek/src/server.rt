@@ -8,6 +8,8 @@
 //! Object 0 of the list is what a bootstrap gives. A result that has `Cap::Object(k)` in its table gives object
 //! k. `Cap::Import(i)` in a call's table is an object of the peer's: an answer may pass it on, and names
 //! it in `gives_up` once your object doesn't need it any more. It is released when nothing else uses it.
+//! A call on a number past the list fails with `no such object`, and one whose answer the vat refuses with
+//! `bad outcome`.
 //!
 //! `Report` says how many messages were taken and sent, and why the vat closed, if it did. A `ServeFault`
 //! ends the serving: the messages can't be read on (the faults of `StreamFault`), or memory ran out.

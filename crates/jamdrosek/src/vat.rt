@@ -1,13 +1,18 @@
 //! One end of a connection (cp_vat), and what goes in and out of it.
 //!
 //! A `Vat` has no connection of its own. Give it each message of the peer by `receive`, or by `receive_view`
-//! as `view_of` reads it in place, in order, and do what its effects ask, in order:
+//! as `view_of` reads it in place, in order. Do what its effects ask, in order, and after those of the calls
+//! before it:
 //!
 //! - `Send`: write the message to the peer.
 //! - `Deliver`: the call goes to this object of yours. Answer it once by `answer` with its origin, at once
 //!   or later.
-//! - `Settled`: a question of yours came to this outcome. `finish` gives it up, and what it holds.
+//! - `Settled`: a question of yours came to this outcome. `finish` gives the question up; the imports that its
+//!   outcome named stay until you release them.
 //! - `Closed`: the connection is over. Every later call of the vat is refused (V9).
+//!
+//! A call that is refused (`VatFault`) changes nothing, and has no effects. At V10 memory ran out: the vat is closed
+//! then, and sends no Abort.
 //!
 //! `bootstrap` and `call` give a question's number. `Cap::Pipelined` with it is what it will give at a path
 //! of pointer fields, and may be called, or sent in a table, before it came. `promise` makes a promise of
