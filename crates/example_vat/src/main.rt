@@ -7,6 +7,7 @@ use jamdrosek::Message;
 use jamdrosek::tree::{Body, Tree, Whole};
 use jamdrosek::vat::{Acted, Cap, Caps, Effect, Outcome, Path, Request, Vat, VatFault};
 use std::alloc::Global;
+use std::collections::VecDeque;
 
 /// A struct of one word.
 fn number(alloc: Global, number: u64) -> anyhow::Result<Whole> {
@@ -41,34 +42,38 @@ fn send(effects: Vec<Effect>, on_the_way: &mut Vec<Message>) -> anyhow::Result<(
     Ok(())
 }
 
-/// The server takes a message in, and answers the calls that it delivers.
+/// The server takes a message in, and does what the effects ask, in order. What an answer leads to comes after them.
 fn serve(
     alloc: Global,
     server: &mut Vat,
     message: Message,
     back: &mut Vec<Message>,
 ) -> anyhow::Result<()> {
-    for effect in effects_of(server.receive(message))? {
+    let mut effects = VecDeque::from_vec(effects_of(server.receive(message))?);
+    for _ in 0..u64::MAX {
+        let Some(effect) = effects.pop_front() else {
+            break;
+        };
         match effect {
             Effect::Send(message) => back.push(message)?,
-            other => answer_call(alloc, server, &other, back)?,
+            other => effects.append(&mut answer_call(alloc, server, &other)?)?,
         }
     }
     Ok(())
 }
 
-/// Answers a call, if the effect delivers one.
+/// Answers a call, if the effect delivers one. Gives what that leads to.
 fn answer_call(
     alloc: Global,
     server: &mut Vat,
     effect: &Effect,
-    back: &mut Vec<Message>,
-) -> anyhow::Result<()> {
+) -> anyhow::Result<VecDeque<Effect>> {
     let Effect::Deliver { origin, call, .. } = effect else {
-        return Ok(());
+        return Ok(VecDeque::new(alloc));
     };
     let outcome = answer(alloc, call)?;
-    send(effects_of(server.answer(*origin, outcome))?, back)
+    let effects = effects_of(server.answer(*origin, outcome))?;
+    Ok(VecDeque::from_vec(effects))
 }
 
 /// The word of what a question came to, if the effect tells it.
