@@ -7,7 +7,6 @@ use jamdrosek::Message;
 use jamdrosek::tree::{Body, Tree, Whole};
 use jamdrosek::vat::{Acted, Cap, Caps, Effect, Outcome, Path, Request, Vat, VatFault};
 use std::alloc::Global;
-use std::collections::VecDeque;
 
 /// A struct of one word.
 fn number(alloc: Global, number: u64) -> anyhow::Result<Whole> {
@@ -42,38 +41,34 @@ fn send(effects: Vec<Effect>, on_the_way: &mut Vec<Message>) -> anyhow::Result<(
     Ok(())
 }
 
-/// The server takes a message in, and does what the effects ask, in order. What an answer leads to comes after them.
+/// The server takes a message in, and answers the calls that it delivers.
 fn serve(
     alloc: Global,
     server: &mut Vat,
     message: Message,
     back: &mut Vec<Message>,
 ) -> anyhow::Result<()> {
-    let mut effects = VecDeque::from_vec(effects_of(server.receive(message))?);
-    for _ in 0..u64::MAX {
-        let Some(effect) = effects.pop_front() else {
-            break;
-        };
+    for effect in effects_of(server.receive(message))? {
         match effect {
             Effect::Send(message) => back.push(message)?,
-            other => effects.append(&mut answer_call(alloc, server, &other)?)?,
+            other => answer_call(alloc, server, &other, back)?,
         }
     }
     Ok(())
 }
 
-/// Answers a call, if the effect delivers one. Gives what that leads to.
+/// Answers a call, if the effect delivers one.
 fn answer_call(
     alloc: Global,
     server: &mut Vat,
     effect: &Effect,
-) -> anyhow::Result<VecDeque<Effect>> {
+    back: &mut Vec<Message>,
+) -> anyhow::Result<()> {
     let Effect::Deliver { origin, call, .. } = effect else {
-        return Ok(VecDeque::new(alloc));
+        return Ok(());
     };
     let outcome = answer(alloc, call)?;
-    let effects = effects_of(server.answer(*origin, outcome))?;
-    Ok(VecDeque::from_vec(effects))
+    send(effects_of(server.answer(*origin, outcome))?, back)
 }
 
 /// The word of what a question came to, if the effect tells it.
