@@ -11,7 +11,7 @@ pub record GivesNone (number : ℕ) (old new : List ℕ) : Type 0 where
   pub number_is : number ≡ 0
   pub room_is : new ≡ old
 
--- There are so many items, and what fits of them was put into the room.
+-- There are this many items, and what fits of them was put into the room.
 pub record Gives (items : List ℕ) (number : ℕ) (old new : List ℕ) : Type 0 where
   pub number_is : number ≡ length items
   pub room_is : new ≡ over items old

@@ -9,7 +9,7 @@ use Rattle.cp_frame.specs.Reader.{Reader, StandsFor}
 use Rattle.bench_c.specs.Read.{IsOfKind}
 use Rattle.bench_c.specs.Write.{AreTreesOf, AreWritten}
 
--- Of the bytes, all but what is left were read: so many frames, each with what is asked for.
+-- Of the bytes, all but what is left were read: this many frames, each with what is asked for.
 pub record IsCounted (limits : Bounds) (mode : Mode) (kind : ℕ) (bytes : List ℕ) (reader : Reader) (number : ℕ) (left : List ℕ) : Type 0 where
   pub fed : List ℕ
   pub given : List (ℕ × List (List ℕ))

@@ -1,4 +1,5 @@
 pub mod Given
 pub mod Read
 pub mod Write
+pub mod Serve
 pub mod Kept

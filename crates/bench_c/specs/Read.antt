@@ -19,7 +19,7 @@ IsOfKind limits zero S = Unit {0}
 IsOfKind limits (suc zero) S = (m : Message) × Holds limits S m
 IsOfKind limits (suc (suc n)) S = (t : Node) × Root S limits t
 
--- Within the limits the stream is so many frames, and each has what is asked for.
+-- Within the limits the stream is this many frames, and each has what is asked for.
 pub record CountsWithin (limits : Bounds) (mode : Mode) (kind : ℕ) (b : List ℕ) (number : ℕ) : Type 0 where
   pub given : List (ℕ × List (List ℕ))
   pub frames : Frames mode limits b given []

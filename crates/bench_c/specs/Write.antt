@@ -14,11 +14,11 @@ abbrev pub AreTreesOf : Bounds → List (ℕ × List (List ℕ)) → List Node �
 AreTreesOf limits [] trees = trees ≡ []
 AreTreesOf limits (f ∷ frames) trees = (t : Node) × (ts : List Node) × (trees ≡ t ∷ ts) × Root f.1 limits t × AreTreesOf limits frames ts
 
--- the bytes are the frame of the segments that a tree is laid out in, of at most so many words; 0 counts as 1
+-- the bytes are the frame of the segments that a tree is laid out in, of at most this many words; 0 counts as 1
 abbrev pub IsFrameOf : ℕ → Bounds → Node → List ℕ → Type 0
 IsFrameOf words limits t b = (S : List (List ℕ)) × Layout S (record { words = words; segments = limits.segments }) t × Written modes.Plain limits S b
 
--- the bytes are the trees' frames, one after another, in segments of at most so many words
+-- the bytes are the trees' frames, one after another, in segments of at most this many words
 abbrev pub AreWritten : ℕ → Bounds → List Node → List ℕ → Type 0
 AreWritten words limits [] b = b ≡ []
 AreWritten words limits (t ∷ ts) b = (front : List ℕ) × (back : List ℕ) × (b ≡ front ++ back) × IsFrameOf words limits t front × AreWritten words limits ts back

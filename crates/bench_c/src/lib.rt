@@ -9,6 +9,7 @@ mod fill;
 mod packed;
 mod play;
 mod read;
+mod serve;
 mod write;
 
 pub use packed::{cpb_pack, cpb_unpack};
@@ -16,4 +17,5 @@ pub use play::cpb_play;
 pub use read::{
     cpb_packed_frames, cpb_packed_frames_within, cpb_read_frames, cpb_read_frames_within,
 };
+pub use serve::{Served, cpb_serve};
 pub use write::{cpb_write_frames, cpb_write_frames_within};

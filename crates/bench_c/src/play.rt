@@ -67,9 +67,9 @@ fn play(alloc: Global, script: &str, skipped: usize) -> Lines {
 }
 
 /// Plays a script on a new vat. Its first line is `vat`, or `vat object:N` with the object that is given
-/// to a Bootstrap, and behind that ` in place`, if the vat is to read messages in place; each other is an
+/// to a Bootstrap, and after that ` in place`, if the vat is to read messages in place; each other is an
 /// event. Gives the number of bytes of the events' lines but the first `skipped`, with all that follows
-/// behind each, and puts what fits of them into the room. Where there is none, the script isn't UTF-8, or
+/// after each, and puts what fits of them into the room. Where there is none, the script isn't UTF-8, or
 /// memory runs out, it gives 0, and the room stays as it was.
 #[unsafe(no_mangle)]
 pub extern "C" fn cpb_play(alloc: Global, script: &[u8], skipped: usize, room: &mut [u8]) -> usize

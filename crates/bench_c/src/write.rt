@@ -28,7 +28,7 @@ fn trees_of(alloc: Global, frames: &[(u64, Segments)], limits: Limits) -> Option
     Some(trees)
 }
 
-/// The frames of the trees, one after another, in segments of at most so many words, in place of what was
+/// The frames of the trees, one after another, in segments of at most this many words, in place of what was
 /// in `out`.
 fn write_all(alloc: Global, trees: &[Object], words: u32, limits: Limits, out: &mut Vec<u8>) -> bool
     ensures { IsTrue result → AreWritten words limits trees.now out.new.items }
@@ -99,7 +99,7 @@ pub extern "C" fn cpb_write_frames(
     )
 }
 
-/// What `cpb_write_frames` gives within limits on nesting and traversal, in segments of at most so many
+/// What `cpb_write_frames` gives within limits on nesting and traversal, in segments of at most this many
 /// words.
 #[unsafe(no_mangle)]
 pub extern "C" fn cpb_write_frames_within(

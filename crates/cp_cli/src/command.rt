@@ -25,7 +25,7 @@ pub(crate) enum Task<'a> {
     OnFile { plan: Plan, path: &'a str },
     /// This file's bytes are served.
     Loop { mode: Mode, path: &'a str },
-    /// So many connections on a port are served.
+    /// This many connections on a port are served.
     Serve { mode: Mode, port: u16, count: u32 },
 }
 

@@ -1,8 +1,8 @@
-//! A writer that takes so many bytes and no more.
+//! A writer that takes this many bytes and no more.
 
 use std::io::{self, ErrorKind, Write};
 
-/// A writer that takes so many bytes more, and then fails.
+/// A writer that takes this many bytes more, and then fails.
 #[derive(Drop)]
 pub(crate) struct Capped<W> {
     inner: W,
@@ -10,7 +10,7 @@ pub(crate) struct Capped<W> {
 }
 
 impl<W: Write> Capped<W> {
-    /// The writer, for so many bytes.
+    /// The writer, for this many bytes.
     pub(crate) fn new(inner: W, left: usize) -> Capped<W> {
         Capped { inner, left }
     }

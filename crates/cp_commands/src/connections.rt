@@ -12,7 +12,7 @@ use std::alloc::Global;
 use std::io::{self, Read, Write};
 use std::net::{Ipv4Addr, Net, Shutdown, SocketAddr, TcpListener, TcpStream};
 
-/// The most bytes that `loop_bytes` takes, and the most that it lets be answered: so many fit the
+/// The most bytes that `loop_bytes` takes, and the most that it lets be answered: this many fit the
 /// buffers of a connection whose ends take turns.
 pub const LONGEST_LOOP: usize = 16_384;
 

@@ -7,6 +7,7 @@ use cp_serve::ServeFault;
 use cp_stream::{Refusal, StreamFault};
 use cp_tree::WriteFault;
 use std::alloc::{AllocError, AllocFailed};
+use std::error::Error;
 use std::fmt;
 use std::io::{self, ErrorKind};
 
@@ -88,3 +89,5 @@ impl fmt::Display for Unserved {
         }
     }
 }
+
+impl Error for Unserved {}

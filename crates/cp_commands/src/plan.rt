@@ -22,11 +22,11 @@ pub enum Plan {
     Pack,
     /// Packed frames in the plain form, likewise.
     Unpack,
-    /// Each frame's tree in segments of at most so many words, in the same form.
+    /// Each frame's tree in segments of at most this many words, in the same form.
     Recut { mode: Mode, words: u32 },
 }
 
-/// How many bytes are asked for at once: at first and behind a frame, and behind a piece that ended no
+/// How many bytes are asked for at once: at first and after a frame, and after a piece that ended no
 /// frame half as many more.
 const PIECE: usize = 16_384;
 /// The most bytes that are asked for at once.
@@ -39,7 +39,7 @@ struct Progress {
     bytes: u64,
 }
 
-/// The last message's line, which the next is written over, and the room that frames are made in.
+/// The last message's line, which the next is written over, and the buffer in which frames are made.
 #[derive(Drop)]
 struct Last {
     line: String,
@@ -71,7 +71,7 @@ fn show<W: Write>(
     Ok(out.write_all(line.as_bytes())?)
 }
 
-/// Writes the frame's tree again, in segments of at most so many words, by way of `room`.
+/// Writes the frame's tree again, in segments of at most this many words, by way of `room`.
 fn recut<W: Write>(
     alloc: Global,
     segments: &Segments,
@@ -159,7 +159,7 @@ impl Plan {
             line: String::new(alloc),
             room: Vec::new(alloc),
         };
-        // A reader could go on for ever; no device gives so many pieces.
+        // A reader could go on for ever; no device gives this many pieces.
         for _ in 0..u64::MAX {
             let asked = most.min(piece.len());
             let length = match from.read(&mut piece[..asked]) {

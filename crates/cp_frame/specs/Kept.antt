@@ -32,7 +32,7 @@ KeepsUp mode limits statuses.Reading r = IsRest mode limits r
 KeepsUp mode limits statuses.Failed r = IsBlank r
 KeepsUp mode limits (statuses.Refusing fault) r = IsBlank r
 
--- a fault is told whatever comes: it was told before, or kept
+-- a fault is reported whatever comes: it was reported before, or kept
 abbrev pub IsToldBy : Status → FrameFault → Type 0
 IsToldBy statuses.Failed fault = fault ≡ faults.Failed
 IsToldBy (statuses.Refusing kept) fault = fault ≡ kept

@@ -54,7 +54,7 @@ body S ws = flat_map bytes_of S ++ bytes_of ws
 abbrev pub lists : List (Vec ℕ) → List (List ℕ)
 lists vs = map (λ v. v.items) vs
 
--- An error is want of memory, or a fault of the table.
+-- An error is an allocation failure, or a fault of the table.
 abbrev pub IsFaultOf : Bounds → List ℕ → FrameFault → Type 0
 IsFaultOf limits ns faults.OutOfMemory = Unit {0}
 IsFaultOf limits ns fault = NamesFault limits ns fault

@@ -9,7 +9,7 @@ use Rattle.cp_frame.specs.Stream.{Frames, HasFault, Open, Laid, numbers, named_s
 use Rattle.cp_packed.specs.Packed.{Packed}
 use Rattle.cp_frame.specs.Frame.{Frame}
 
--- A fault was told; or one was met behind frames and is told next; or the stream is read on, of which a rest of so many bytes goes on as these do.
+-- A fault was reported; or one was met after frames and is reported next; or the stream is read on, of which a rest of this many bytes goes on as these do.
 pub data State : Type 0 where
   failed : State
   refusing : FrameFault → State
@@ -28,13 +28,13 @@ abbrev pub GoesOnAs : Mode → List ℕ → List ℕ → Type 0
 GoesOnAs modes.Plain b other = b ≡ other
 GoesOnAs modes.Packed b other = (ws more : List ℕ) → Packed ws (b ++ more) ↔ Packed ws (other ++ more)
 
--- a state stands for a rest: it goes on as the rest does, and has come open so far; or the rest has the fault that is told next
+-- a state stands for a rest: it goes on as the rest does, and has come open so far; or the rest has the fault that is reported next
 abbrev pub Stands : Mode → Bounds → State → List ℕ → Type 0
 Stands mode limits failed b = ⊥
 Stands mode limits (refusing fault) b = HasFault mode limits b fault
 Stands mode limits (reading rest taken) b = GoesOnAs mode rest b × (taken ≡ length b) × Open mode limits b
 
--- The reader stands for a stream of which nothing but the rest b is still to be told.
+-- The reader stands for a stream of which nothing but the rest b is still to be reported.
 abbrev pub StandsFor : Reader → List ℕ → Type 0
 StandsFor r b = Stands r.mode r.limits r.state b
 
@@ -56,7 +56,7 @@ taken_of failed = 0
 taken_of (refusing fault) = 0
 taken_of (reading rest taken) = taken
 
--- The piece was read: what stood for b gave the frames of b and the piece, and stands for their rest. It keeps a fault of the rest only behind frames.
+-- The piece was read: what stood for b gave the frames of b and the piece, and stands for their rest. It keeps a fault of the rest only after frames.
 pub record Gives (old : Reader) (piece : List ℕ) (new : Reader) (given : List (ℕ × List (List ℕ))) : Type 0 where
   pub was_reading : IsReading old.state
   pub same_mode : new.mode ≡ old.mode
@@ -76,24 +76,24 @@ pub record GivesNext (old : Reader) (piece : List ℕ) (taken : ℕ) (segments :
   pub frame : (b : List ℕ) → StandsFor old b → Frame old.mode old.limits segments (b ++ front)
   pub fresh : StandsFor new []
 
--- why a fault is told for a piece: it was told before or kept, memory ran out, or the rest has it
+-- why a fault is reported for a piece: it was reported before or kept, memory ran out, or the rest has it
 abbrev pub IsToldFor : Reader → List ℕ → State → FrameFault → Type 0
 IsToldFor r piece failed fault = fault ≡ faults.Failed
 IsToldFor r piece (refusing kept) fault = fault ≡ kept
 IsToldFor r piece (reading rest taken) fault = (fault ≡ faults.OutOfMemory) ⊎ ((b : List ℕ) → StandsFor r b → HasFault r.mode r.limits (b ++ piece) fault)
 
--- A fault was told, and the reader has failed.
+-- A fault was reported, and the reader has failed.
 pub record Tells (old : Reader) (piece : List ℕ) (new : Reader) (fault : FrameFault) : Type 0 where
   pub told : IsToldFor old piece old.state fault
   pub failed : new.state ≡ failed
 
--- why a fault is told at the end: it was told before or kept, or the stream ends inside a frame
+-- why a fault is reported at the end: it was reported before or kept, or the stream ends inside a frame
 abbrev pub IsToldAtEnd : Reader → State → FrameFault → Type 0
 IsToldAtEnd r failed fault = fault ≡ faults.Failed
 IsToldAtEnd r (refusing kept) fault = fault ≡ kept
 IsToldAtEnd r (reading rest taken) fault = (fault ≡ faults.Truncated) × ((b : List ℕ) → StandsFor r b → b ≢ [])
 
--- The stream ended behind a frame, and the reader is as it was.
+-- The stream ended after a frame, and the reader is as it was.
 pub record EndsWell (old new : Reader) : Type 0 where
   pub was_reading : IsReading old.state
   pub same : new ≡ old
@@ -113,13 +113,13 @@ abbrev pub AreAllToCome : Mode → Bounds → List ℕ → ℕ → Type 0
 AreAllToCome modes.Plain limits b n = (S : List (List ℕ)) (more : List ℕ) → Frame modes.Plain limits S (b ++ more) → 8 * (length S / 2 + 1) ≤ length b → n ≡ length more
 AreAllToCome modes.Packed limits b n = Unit {0}
 
--- So many bytes, and at least one, are still to come before the rest is a frame.
+-- This many bytes, and at least one, are still to come before the rest is a frame.
 pub record IsNeeded (mode : Mode) (limits : Bounds) (b : List ℕ) (n : ℕ) : Type 0 where
   pub some : 0 < n
   pub to_come : (S : List (List ℕ)) (more : List ℕ) → Frame mode limits S (b ++ more) → n ≤ length more
   pub all : AreAllToCome mode limits b n
 
--- how many bytes a reader needs at the least: none where a fault was told or is told next
+-- how many bytes a reader needs at the least: none where a fault was reported or is reported next
 abbrev pub Needs : Reader → State → ℕ → Type 0
 Needs r failed n = n ≡ 0
 Needs r (refusing fault) n = n ≡ 0

@@ -20,7 +20,7 @@ use Rattle.cp_packed.specs.Unpacking.{IsPending, nothing, next, brought, laid, p
 abbrev pub words_in_order : OpenFrame → List ℕ
 words_in_order f = f.table.items ++ (flat_map (λ ws. ws) (lists f.segments.items) ++ f.words.items)
 
--- packed bytes for words, of which the last begins a raw run of so many more
+-- packed bytes for words, of which the last begins a raw run of this many more
 abbrev pub heads : List ℕ → ℕ → List ℕ
 heads [] run = []
 heads (w ∷ []) run = 255 ∷ (to_le_bytes w64 w ++ run ∷ [])

@@ -42,7 +42,7 @@ abbrev pub numbers : List ℕ → List ℕ
 numbers (a ∷ b ∷ c ∷ d ∷ more) = from_le_bytes w32 (a ∷ b ∷ c ∷ d ∷ []) ∷ numbers more
 numbers _ = []
 
--- the sizes among them: behind the number of segments less one, as many as there are segments
+-- the sizes among them: after the number of segments less one, as many as there are segments
 abbrev pub named_sizes : List ℕ → List ℕ
 named_sizes [] = []
 named_sizes (last ∷ sizes) = take (last + 1) sizes

@@ -18,13 +18,30 @@ pub enum FrameFault {
     Truncated,
     /// F4: a run of the packed form goes past the end of the frame.
     RunPastFrame,
-    /// F5: a fault was told before.
+    /// F5: a fault was reported before.
     Failed,
     /// F6: memory ran out.
     OutOfMemory,
 }
 
+impl FrameFault {
+    /// What the fault means.
+    fn meaning(self) -> &'static str {
+        match self {
+            FrameFault::TooManySegments =>
+                "a frame has more segments than the limit, 512 by the standard limits",
+            FrameFault::FrameTooLarge =>
+                "a frame has more words than the limit, 8,388,608 by the standard limits",
+            FrameFault::Truncated => "the stream ends inside a frame",
+            FrameFault::RunPastFrame => "a run of the packed form goes past the end of its frame",
+            FrameFault::Failed => "a fault was reported before",
+            FrameFault::OutOfMemory => "memory ran out",
+        }
+    }
+}
+
 impl fmt::Display for FrameFault {
+    /// Its name, and in the alternate form, `{:#}`, what it means too.
     fn fmt<W: fmt::Write>(&self, f: &mut fmt::Formatter<W>) -> fmt::Result {
         f.write_str(match self {
             FrameFault::TooManySegments => "F1 TooManySegments",
@@ -33,7 +50,12 @@ impl fmt::Display for FrameFault {
             FrameFault::RunPastFrame => "F4 RunPastFrame",
             FrameFault::Failed => "F5 Failed",
             FrameFault::OutOfMemory => "F6 OutOfMemory",
-        })
+        })?;
+        if f.alternate() {
+            f.write_str(": ")?;
+            f.write_str(self.meaning())?;
+        }
+        Ok(())
     }
 }
 

@@ -30,7 +30,7 @@ pub struct OpenFrame {
     pub total: u64,
     /// The segments that are whole.
     pub segments: Vec<Vec<u64>>,
-    /// The words of the segment behind them.
+    /// The words of the segment after them.
     pub words: Vec<u64>,
     /// The bytes of a word that isn't whole.
     pub part: Vec<u8>,
@@ -53,7 +53,7 @@ fn new_segment(alloc: Global, table: &[u64], segment: usize) -> Result<Vec<u64>,
     Vec::with_capacity(alloc, room)
 }
 
-/// The first segment, of so many words, of which nothing has come.
+/// The first segment, of this many words, of which nothing has come.
 fn first_segment(alloc: Global, size: usize, spare: &mut Spare) -> Result<Vec<u64>, AllocError>
     ensures items { IfOk result (λ v. v.items ≡ []) }
     ensures room { IfOk result (λ v. (vec_capacity v ≤ FIRST_ROOM) ⊎ (vec_capacity v ≡ vec_capacity spare.old.words)) }
@@ -276,7 +276,7 @@ impl OpenFrame {
         Ok(back)
     }
 
-    /// Takes words of a raw run, of which so many are to come, and groups of the packed form, up to the
+    /// Takes words of a raw run, of which this many are to come, and groups of the packed form, up to the
     /// end of the open segment.
     pub fn take_groups<'a>(
         &mut self,

@@ -23,7 +23,7 @@ use cp_words::{Limits, Segments};
 use std::alloc::{AllocError, Global};
 use std::marker::Model;
 
-/// Goes on reading, unless a fault was told, or is kept and told now.
+/// Goes on reading, unless a fault was reported, or is kept and reported now.
 fn go_on(status: &mut Status) -> Result<(), FrameFault>
     ensures ok { OnOk result ((status.old ≡ statuses.Reading) × (status.new ≡ statuses.Reading)) }
     ensures told { IfErr result (IsToldBy status.old) }
@@ -96,7 +96,7 @@ fn take_groups<'a>(
     rest.take_groups(alloc, limits, begun)
 }
 
-/// Takes a byte. What is behind it comes back.
+/// Takes a byte. What is after it comes back.
 fn take_byte<'a>(
     alloc: Global,
     limits: Limits,
@@ -326,9 +326,9 @@ impl FrameReader {
     ///
     /// `TooManySegments` (F1) comes with the byte that makes the number of segments known,
     /// `FrameTooLarge` (F2) with the byte that completes a size, and `RunPastFrame` (F4) with the
-    /// count, or the last byte of the frame, behind which words of a packed run are left. Behind
-    /// frames of the same piece each is kept, and told by the next call. `OutOfMemory` (F6) is told at once, and then the
-    /// frames of the piece are dropped. After a told fault each call answers `Failed` (F5).
+    /// count, or the last byte of the frame, after which words of a packed run are left. After
+    /// frames of the same piece each is kept, and reported by the next call. `OutOfMemory` (F6) is reported at once, and then the
+    /// frames of the piece are dropped. After a reported fault each call answers `Failed` (F5).
     pub fn feed(&mut self, piece: &[u8]) -> Result<Vec<(u64, Segments)>, FrameFault>
         ensures given { IfOk result (λ frames. Gives self.old piece.now self.new frames.items) }
         ensures told { IfErr result (Tells self.old piece.now self.new) }
@@ -347,7 +347,7 @@ impl FrameReader {
     /// number of the frame's bytes and what of the piece follows it, which comes next. `None` says that
     /// the piece was read to its end.
     ///
-    /// Faults come as `feed` tells them, but each frame is given before a fault behind it is met; so none is kept.
+    /// Faults come as `feed` tells them, but each frame is given before a fault after it is met; so none is kept.
     pub fn next<'a>(
         &mut self,
         piece: &'a [u8],
@@ -375,10 +375,10 @@ impl FrameReader {
         self.rest.frame.spare.keep(segments.into_first());
     }
 
-    /// Ends the stream. `Ok` says that it ended behind a frame, and then it may still go on.
+    /// Ends the stream. `Ok` says that it ended after a frame, and then it may still go on.
     ///
-    /// `Truncated` (F3) says that it ended inside one. A kept fault is told instead, and after a
-    /// told fault `Failed` (F5).
+    /// `Truncated` (F3) says that it ended inside one. A kept fault is reported instead, and after a
+    /// reported fault `Failed` (F5).
     pub fn finish(&mut self) -> Result<(), FrameFault>
         ensures ok { OnOk result (EndsWell self.old self.new) }
         ensures told { IfErr result (TellsAtEnd self.old self.new) }
@@ -394,8 +394,8 @@ impl FrameReader {
 
     /// How many bytes the open frame, or else the next, still needs at the least, however the stream
     /// goes on: in the plain form all that are left, once the segment table has come. A caller that
-    /// takes no more than this from its source never takes bytes behind the frame. It is 0 exactly
-    /// where a fault was told or is told next.
+    /// takes no more than this from its source never takes bytes after the frame. It is 0 exactly
+    /// where a fault was reported or is reported next.
     pub fn needs(&self) -> usize
         ensures { Needs self.now self.now.state result }
     {

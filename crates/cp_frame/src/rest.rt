@@ -1,4 +1,4 @@
-//! The rest of a stream: what has come of the frame behind those that were given.
+//! The rest of a stream: what has come of the frame after those that were given.
 
 ghost use Rattle.std.specs.Prelude.{◌≡◌, ◌⊎◌, ◌+◌, ◌<◌, ◌^◌, ◌++◌, ◌∷◌, ◌↔◌, [], IfOk, IsTrue, OnOk, IfErr, length, sum};
 ghost use Rattle.cp_frame.specs.Framed.{sizes_of};
@@ -53,7 +53,7 @@ impl Rest {
         self.frame.push_run(alloc, limits, run)
     }
 
-    /// Tells the fault that shows behind the words of a byte.
+    /// Tells the fault that shows after the words of a byte.
     fn check(&self, limits: Limits) -> Result<(), FrameFault>
         requires begun { IsBegun limits self.now.frame }
         requires no_part { self.now.frame.part.items ≡ [] }

@@ -25,8 +25,8 @@ const ROOM: usize = 65_536;
 /// How many words are packed before what stands in the room is written.
 const STEP: usize = 6_144;
 
-/// How many bytes stand in the room at most: what wasn't much yet, and what so many words are packed
-/// as, the last with a whole run behind it.
+/// How many bytes stand in the room at most: what wasn't much yet, and what this many words are packed
+/// as, the last with a whole run after it.
 const MOST: usize = ROOM + LONGEST * (STEP + 255);
 
 /// Writes words, as many at once as their bytes have room.
@@ -157,7 +157,7 @@ fn send_packed<W: Write>(
 /// specification, "Serialization Over a Stream" and "Packing"), in blocks of about 64 KiB that are
 /// made in `room`, which may be used again.
 ///
-/// Where the limits are passed, `TooManySegments` (F1) is told, or else `FrameTooLarge` (F2); and
+/// Where the limits are passed, `TooManySegments` (F1) is reported, or else `FrameTooLarge` (F2); and
 /// `OutOfMemory` (F6) where there is no room for a block. Then nothing was written. At `Ok(Err(..))`
 /// a call of the writer failed, or the room could not grow, and a beginning of the frame may have
 /// been written.

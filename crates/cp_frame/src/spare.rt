@@ -34,7 +34,7 @@ impl Spare {
         }
     }
 
-    /// A list for so many words: in this buffer, where its capacity is neither less than is asked for nor far
+    /// A list for this many words: in this buffer, where its capacity is neither less than is asked for nor far
     /// more than the words need, or else in one of that capacity.
     pub fn take(
         &mut self,
@@ -51,7 +51,7 @@ impl Spare {
         Ok(mem::replace(&mut self.words, Vec::new(alloc)))
     }
 
-    /// Moves a segment that will have so many words, and of which little has come, into this buffer, where
+    /// Moves a segment that will have this many words, and of which little has come, into this buffer, where
     /// it would have to grow in its own. Its own is kept.
     pub fn settle(&mut self, segment: &mut Vec<u64>, size: usize) -> Result<(), AllocError>
         ensures { OnOk result (segment.new.items ≡ segment.old.items) }

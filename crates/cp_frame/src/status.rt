@@ -6,8 +6,8 @@ use crate::fault::FrameFault;
 #[derive(Clone, Copy)]
 pub enum Status {
     Reading,
-    /// A fault was met behind frames, and is told next.
+    /// A fault was met after frames, and is reported next.
     Refusing(FrameFault),
-    /// A fault was told.
+    /// A fault was reported.
     Failed,
 }

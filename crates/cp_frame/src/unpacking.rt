@@ -50,7 +50,7 @@ fn take_byte(
 
 /// The words that packed bytes give, `limit` of them at most (encoding specification, "Packing").
 ///
-/// Where the whole words that the bytes lay are more, `FrameTooLarge` (F2) is told; or else
+/// Where the whole words that the bytes lay are more, `FrameTooLarge` (F2) is reported; or else
 /// `Truncated` (F3), where the bytes end inside a group.
 pub fn unpack(alloc: Global, bytes: &[u8], limit: usize) -> Result<Vec<u64>, FrameFault>
     ensures words { IfOk result (λ words. Packed words.items bytes.now) }

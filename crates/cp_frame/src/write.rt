@@ -63,7 +63,7 @@ pub fn count_words(segments: &[Vec<u64>], limits: Limits) -> Result<u64, FrameFa
     words_in(segments, limits.frame_words() as u64).ok_or(FrameFault::FrameTooLarge)
 }
 
-/// Writes the frame of the segments, in the plain form, behind what stands in `out`.
+/// Writes the frame of the segments, in the plain form, after what stands in `out`.
 fn write_plain(out: &mut Vec<u8>, segments: &[Vec<u64>], words: u64) -> Result<(), AllocError>
     requires some { 0 < length segments.now }
     requires few { length segments.now ≤ 512 }
@@ -137,10 +137,10 @@ fn write_packed(
     Ok(())
 }
 
-/// Writes the bytes of the segments' frame in the plain form, as `write_frame` gives them, behind what
+/// Writes the bytes of the segments' frame in the plain form, as `write_frame` gives them, after what
 /// stands in `out`.
 ///
-/// Where the limits are passed, `TooManySegments` (F1) is told, or else `FrameTooLarge` (F2). At an
+/// Where the limits are passed, `TooManySegments` (F1) is reported, or else `FrameTooLarge` (F2). At an
 /// `Err` nothing stands in `out`.
 pub fn write_behind(
     out: &mut Vec<u8>,
@@ -170,7 +170,7 @@ pub fn write_behind(
 /// Writes the bytes of the segments' frame as `write_frame` gives them, over what stands in `out`,
 /// whose room is used again.
 ///
-/// Where the limits are passed, `TooManySegments` (F1) is told, or else `FrameTooLarge` (F2). At an
+/// Where the limits are passed, `TooManySegments` (F1) is reported, or else `FrameTooLarge` (F2). At an
 /// `Err` nothing stands in `out`.
 pub fn write_over(
     alloc: Global,
@@ -201,7 +201,7 @@ pub fn write_over(
 /// "Packing"), with padding of zeros. In the packed form the table and each segment are packed as
 /// pieces of their own.
 ///
-/// Where the limits are passed, `TooManySegments` (F1) is told, or else `FrameTooLarge` (F2).
+/// Where the limits are passed, `TooManySegments` (F1) is reported, or else `FrameTooLarge` (F2).
 pub fn write_frame(
     alloc: Global,
     segments: &Segments,

@@ -110,7 +110,7 @@ old_target other = targets.ImportedCap 0
 abbrev pub disembargo_of : ℕ → Cap → Effect
 disembargo_of n cap = effects.Send (messages.Disembargo (record { context = contexts.SenderLoopback n; target = old_target cap }))
 
--- The call is the first behind those that were sent on the reference: a Disembargo follows them, and the call waits for its echo.
+-- The call is the first after those that were sent on the reference: a Disembargo follows them, and the call waits for its echo.
 abbrev pub FirstEmbargoed : State → Underway → Cap → Cap → Result Done PeerFault → Type 0
 FirstEmbargoed old call cap value out =
     Then

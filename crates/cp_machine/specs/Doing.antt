@@ -115,7 +115,7 @@ value_refusals s cap =
     ++ fault_if (not (cap_fits cap)) refusals.TooLarge
     ++ fault_if (not (has_import s cap)) refusals.UnknownImport
 
--- A value must not lead back to its own promise. The cycle is looked for behind the other tests of the promise and before those of the value.
+-- A value must not lead back to its own promise. The cycle is looked for after the other tests of the promise and before those of the value.
 abbrev pub Resolves : State → ℕ → Cap → Result OwnDone VatFault → Type 0
 Resolves old p cap out =
     (ComesTo old.values cap (caps.Promise p) × (out ≡ Err refusals.PromiseCycle))
@@ -124,7 +124,7 @@ Resolves old p cap out =
 abbrev pub DoResolve : State → ℕ → Cap → Result OwnDone VatFault → Type 0
 DoResolve old p cap out = Unless (resolve_refusals old p cap) (Resolves old p cap) out
 
--- `finish` gives a question up. Behind its outcome the question is gone; before it, it stays until then. The peer is told where the call was sent.
+-- `finish` gives a question up. After its outcome the question is gone; before it, it stays until then. The peer is told where the call was sent.
 abbrev pub told_if : Bool → Effect → List Effect
 told_if is_sent effect = if is_sent then (effect ∷ []) else []
 

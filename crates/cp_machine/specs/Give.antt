@@ -41,7 +41,7 @@ abbrev pub ResolvesEnd : State → Cap → Result (Resolution × State) PeerFaul
 ResolvesEnd old (caps.Broken x) out = out ≡ Ok (resolutions.Exception x, old)
 ResolvesEnd old other out = Then (SayEnd old other) (λ said out. out ≡ Ok (resolutions.Cap said.0, said.1)) out
 
--- A promise that is settled is told to the peer once, if it is exported.
+-- A promise that is settled is reported to the peer once, if it is exported.
 abbrev pub Tells : State → ℕ → Cap → Result Done PeerFault → Type 0
 Tells old p last out =
     (HasNoExport old (caps.Promise p) × (out ≡ Ok ([], old)))
@@ -101,7 +101,7 @@ given s a kept outcome returned =
           };
     }
 
--- the answer was given behind its Finish: it is gone
+-- the answer was given after its Finish: it is gone
 abbrev pub gone : State → ℕ → Outcome → State
 gone s a outcome =
     record (answer_over s a outcome) {
@@ -109,7 +109,7 @@ gone s a outcome =
       entries = record s.entries { answers = remove s.entries.answers a };
     }
 
--- An answer is given: its Return goes out, and the promises tied to it are settled. Behind its Finish the Return says that it was canceled.
+-- An answer is given: its Return goes out, and the promises tied to it are settled. After its Finish the Return says that it was canceled.
 abbrev pub GiveBy : State → ℕ → Outcome → AnswerEntry → Stage → Result Done PeerFault → Type 0
 GiveBy old a outcome kept stages.Open out =
     Then

@@ -63,10 +63,10 @@ pub record InOrder (turns : List Turn) : Type 0 where
   pub once : EachPair OtherTicket (exits_of turns)
   -- Each exit is of a call that entered, and goes by the route of its port as it then is. ("Call", "PromisedAnswer", "Resolve")
   pub by_ports : EachTurn ExitsByPorts turns
-  -- When the vat rests behind an event, every call that entered has left, or stands at an open embargo, or the route of its port is to wait.
+  -- When the vat rests after an event, every call that entered has left, or stands at an open embargo, or the route of its port is to wait.
   -- ("Disembargo", "Resolve")
   pub none_kept : EachTurn (λ past turn. AtRest past turn turn.cause) turns
-  -- Each outcome that is given is told in its turn, once, and no other is. ("Return", "Finish")
+  -- Each outcome that is given is reported in its turn, once, and no other is. ("Return", "Finish")
   pub told : AllByRecursion TellsItsGift turns
 
 -- these moments are a run whose turns are in order

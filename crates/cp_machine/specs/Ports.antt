@@ -77,7 +77,7 @@ is_there values (capability (caps.Import i)) = is_some (get values.imports i)
 is_there values (capability (caps.Pipelined q path)) = is_some (get values.questions q)
 is_there values (capability other) = true
 
--- behind how many turns it wasn't there
+-- after how many turns it wasn't there
 abbrev pub absences : Name → List Turn → ℕ
 absences name [] = 0
 absences name (turn ∷ past) = cond (is_there turn.after.values name) (absences name past) (suc (absences name past))
@@ -132,7 +132,7 @@ abbrev pub KeptRoute : State → Route → Route → Type 0
 KeptRoute s (routes.Wait gate) route = EndedRoute s.values gate (gave s.waiting.over gate) route
 KeptRoute s earlier route = route ≡ earlier
 
--- The route of a port behind these turns. While its life lasts it is that of what it names; past its end the port keeps the route it had earlier.
+-- The route of a port after these turns. While its life lasts it is that of what it names; past its end the port keeps the route it had earlier.
 abbrev pub LifeRoute : Bool → Turn → Name → (Route → Type 0) → Route → Type 0
 LifeRoute true turn name Earlier route = NameRoute turn.after.values name route
 LifeRoute false turn name Earlier route = (earlier : Route) × Earlier earlier × KeptRoute turn.after earlier route

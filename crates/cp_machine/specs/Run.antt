@@ -26,7 +26,7 @@ Steps old (moment ∷ more) new = (mid : State) × Step old moment.event moment.
 abbrev pub Run : Option ℕ → List Moment → Type 0
 Run bootstrap history = (last : State) × Steps (new_state bootstrap) history last
 
--- an effect that isn't a fault of the peer, and an answer that isn't want of memory
+-- an effect that isn't a fault of the peer, and an answer that isn't an allocation failure
 abbrev pub IsNoFault : Effect → Type 0
 IsNoFault (effects.Closed (reasons.Fault fault)) = ⊥
 IsNoFault other = Unit {0}

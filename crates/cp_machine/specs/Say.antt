@@ -16,7 +16,7 @@ use Rattle.cp_machine.specs.Room.{Fresh}
 use Rattle.cp_machine.specs.declared.fault.PeerFault.{PeerFault}
 use Rattle.cp_machine.specs.declared.fault.PeerFault.TheVariants as faults
 
--- What a capability comes to, if its way ends within so many steps: the first one that isn't a settled promise or a settled question.
+-- What a capability comes to, if its way ends within this many steps: the first one that isn't a settled promise or a settled question.
 abbrev pub end_by : (Cap → Option Cap) → Cap → Way → Option Cap
 end_by end_of c (ends route) = Some c
 end_by end_of c (leads next) = end_of next

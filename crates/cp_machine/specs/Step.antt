@@ -80,7 +80,7 @@ pub data Follows (mid : State) : List Effect → State → Type 0 where
   all_left : {rest : List Effect} {new : State} → Leave mid rest (Ok new) → Follows mid rest new
   found_full : {rest all : List Effect} {new : State} {fault : PeerFault} → Leave mid rest (Err fault) → all ≡ rest ++ aborts fault → new.is_closed ≡ true → Follows mid all new
 
--- One event, what it was answered with, its effects in order, and the state behind it.
+-- One event, what it was answered with, its effects in order, and the state after it.
 pub data Step (old : State) : Event → Result Value VatFault → List Effect → State → Type 0 where
   -- a closed vat refuses each event
   was_closed : (event : Event) → old.is_closed ≡ true → Step old event (Err refusals.Closed) [] old

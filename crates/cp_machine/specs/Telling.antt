@@ -1,4 +1,4 @@
--- What is given in a turn, and how it is told. (rpc.capnp: "Return", "Finish", "CapDescriptor".)
+-- What is given in a turn, and how it is reported. (rpc.capnp: "Return", "Finish", "CapDescriptor".)
 use Rattle.std.specs.Prelude.{◌≡◌, ◌⊎◌, ℕ, zero, suc, Bool, true, false, List, [], ◌∷◌, filter, Option, Some, None}
 use Rattle.std.specs.List.{Contains, AllZip}
 use Rattle.std.specs.FinMap.{get}
@@ -167,7 +167,7 @@ abbrev pub was_finished : {X : Type 0} → Option (Exchange X) → Bool
 was_finished None = false
 was_finished (Some entry) = is_finished entry.stage
 
--- An answer is told by a Return of its number that bears it, or says that it was canceled where a Finish came before. An own question is told by a
+-- An answer is reported by a Return of its number that bears it, or says that it was canceled where a Finish came before. An own question is reported by a
 -- Settled of its number that bears it, unless it was finished.
 abbrev pub AnswerTold : Turn → ℕ → Outcome → Bool → List Effect → Type 0
 AnswerTold turn a outcome true told = told ≡ return_of a returns.Canceled ∷ []
@@ -185,6 +185,6 @@ abbrev pub GiftTold : Turn → Option Gift → List Effect → Type 0
 GiftTold turn None told = told ≡ []
 GiftTold turn (Some gift) told = OriginTold turn gift.origin gift.outcome told
 
--- What is given in a turn is told in it, once, and nothing else is.
+-- What is given in a turn is reported in it, once, and nothing else is.
 abbrev pub TellsItsGift : Turn → Type 0
 TellsItsGift turn = (gift : Option Gift) × Gives turn gift × GiftTold turn gift (filter is_telling turn.effects)

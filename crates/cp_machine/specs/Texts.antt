@@ -5,7 +5,7 @@ use Rattle.cp_refs.specs.At.{failed}
 use Rattle.cp_machine.specs.declared.fault.PeerFault.{PeerFault}
 use Rattle.cp_machine.specs.declared.fault.PeerFault.TheVariants as faults
 
--- the reason that a peer is told for its fault
+-- the reason that a peer is given for its fault
 abbrev pub text_of : PeerFault → List ℕ
 text_of faults.QuestionInUse = codes "P1 question in use"
 text_of faults.UnknownQuestion = codes "P2 unknown question"

@@ -29,7 +29,7 @@ abbrev pub Unless : {A F : Type 0} → List F → (Result A F → Type 0) → Re
 Unless [] Rule out = Rule out
 Unless (fault ∷ faults) Rule out = out ≡ Err fault
 
--- this, with its effects behind others
+-- this, with its effects after others
 abbrev pub behind : List Effect → Done → Done
 behind effects done = (effects ++ done.0, done.1)
 

@@ -21,14 +21,14 @@ pub data Cause : Type 0 where
   goes : Held → Cause
   rests : Cause
 
--- a turn, with the states before and behind it and its effects in order
+-- a turn, with the states before and after it and its effects in order
 pub record Turn : Type 0 where
   pub cause : Cause
   pub before : State
   pub effects : List Effect
   pub after : State
 
--- The turns of a run stand in a list, the latest first; each of these puts its own before those that it is told. First those of waiting calls.
+-- The turns of a run stand in a list, the latest first; each of these puts its own before those that it is given. First those of waiting calls.
 abbrev pub leaving_turns : {old : State} {effects : List Effect} {out : Result State PeerFault} → Leave old effects out → List Turn → List Turn
 leaving_turns {old} (stays none) past = record { cause = rests; before = old; effects = []; after = with_over old none_over } ∷ past
 leaving_turns {old} (leaves {mid = mid} {first = first} call cap next went rest is) past =

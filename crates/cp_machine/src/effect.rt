@@ -3,6 +3,7 @@
 use crate::fault::PeerFault;
 use cp_refs::{Origin, Outcome, Request};
 use cp_rpc::{Exception, Message};
+use std::fmt;
 use std::marker::Model;
 
 /// Why a vat closed.
@@ -12,6 +13,15 @@ pub enum Reason {
     Peer(Exception),
     /// The peer was at fault.
     Fault(PeerFault),
+}
+
+impl fmt::Display for Reason {
+    fn fmt<W: fmt::Write>(&self, f: &mut fmt::Formatter<W>) -> fmt::Result {
+        match self {
+            Reason::Peer(exception) => write!(f, "aborted by the peer: {exception}"),
+            Reason::Fault(fault) => write!(f, "fault of the peer: {fault}"),
+        }
+    }
 }
 
 /// What a vat asks of its user, who does what each effect asks in the order of the list.

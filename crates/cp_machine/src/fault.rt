@@ -99,7 +99,31 @@ pub enum VatFault {
     UnknownImport,
 }
 
+impl VatFault {
+    /// What the fault means.
+    fn meaning(self) -> &'static str {
+        match self {
+            VatFault::UnknownQuestion =>
+                "no question of the application's, or a finished one; or a call that wasn't delivered, or was answered",
+            VatFault::UnknownPromise => "no promise, or one that the application didn't make",
+            VatFault::AlreadyResolved => "the promise was resolved before",
+            VatFault::PromiseCycle => "the value leads back to its own promise",
+            VatFault::Unsettled =>
+                "an open promise, or a pipelined capability where none is allowed",
+            VatFault::InUse => "the question, import or promise is in use",
+            VatFault::TooLarge =>
+                "more than 60 levels or a cost of 4,194,304 in a content, 1,024 descriptors, 16 operations in a path, or 65,536 bytes in a text",
+            VatFault::Full =>
+                "a table has 65,536 entries, a count is at its end, or no ticket is left",
+            VatFault::Closed => "the vat is closed",
+            VatFault::OutOfMemory => "memory ran out, and the vat is closed",
+            VatFault::UnknownImport => "the import isn't held",
+        }
+    }
+}
+
 impl fmt::Display for VatFault {
+    /// Its name, and in the alternate form, `{:#}`, what it means too.
     fn fmt<W: fmt::Write>(&self, f: &mut fmt::Formatter<W>) -> fmt::Result {
         f.write_str(match self {
             VatFault::UnknownQuestion => "V1 UnknownQuestion",
@@ -113,7 +137,12 @@ impl fmt::Display for VatFault {
             VatFault::Closed => "V9 Closed",
             VatFault::OutOfMemory => "V10 OutOfMemory",
             VatFault::UnknownImport => "V11 UnknownImport",
-        })
+        })?;
+        if f.alternate() {
+            f.write_str(": ")?;
+            f.write_str(self.meaning())?;
+        }
+        Ok(())
     }
 }
 

@@ -34,7 +34,7 @@ TurnKeeps =
 abbrev pub LeavesLocal : Type 0
 LeavesLocal = (old last : State) (all : List Effect) → Within old None [] → Leave old all (Ok last) → Local last
 
--- Behind the own part of each event, from where it holds between events, it holds within one.
+-- After the own part of each event, from where it holds between events, it holds within one.
 abbrev pub DoesWithin : Type 0
 DoesWithin = (old : State) (event : Event) (done : OwnDone) → Local old → Does old event (Ok done) → Within done.2 None []
 
@@ -46,6 +46,6 @@ abbrev pub StepKeeps : Type 0
 StepKeeps =
     (old new : State) (event : Event) (result : Result Value VatFault) (effects : List Effect) → Local old → new.is_closed ≡ false → Step old event result effects new → Local new
 
--- So it holds of an open vat behind every run.
+-- So it holds of an open vat after every run.
 abbrev pub RunsKeep : Type 0
 RunsKeep = (bootstrap : Option ℕ) (history : List Moment) (last : State) → Steps (new_state bootstrap) history last → last.is_closed ≡ false → Local last

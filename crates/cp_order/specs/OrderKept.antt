@@ -88,7 +88,7 @@ pub record AreOrderly (turns : List Turn) : Type 0 where
   pub by_ports : EachTurn ExitsByPorts turns
   pub none_kept : EachTurn (λ past turn. AtRest past turn turn.cause) turns
 
--- The invariant of a run: what holds behind each of its turns.
+-- The invariant of a run: what holds after each of its turns.
 pub record OrderHolds (past : List Turn) (s : State) : Type 0 where
   pub behind : IsBehind past s
   -- tickets of calls are below the next one, and the lives of their ports began before

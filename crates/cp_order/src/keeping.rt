@@ -16,13 +16,13 @@ pub fn turns_keep()
     ensures leave { LeavesLocal }
 {}
 
-/// Behind the own part of each event, from where it holds between events, it holds within one.
+/// After the own part of each event, from where it holds between events, it holds within one.
 pub fn events_keep()
     ensures does { DoesWithin }
     ensures receives { ReceivesWithin }
 {}
 
-/// So each step that leaves a vat open keeps what holds between events, and it holds behind every run
+/// So each step that leaves a vat open keeps what holds between events, and it holds after every run
 /// that leaves a new vat open.
 pub fn steps_keep()
     ensures steps { StepKeeps }

@@ -8,7 +8,7 @@ pub fn runs_are_orderly()
     ensures { RunsAreOrderly }
 {}
 
-/// So every run is in order: what is given in each of its turns is told in it too, once, and nothing
+/// So every run is in order: what is given in each of its turns is reported in it too, once, and nothing
 /// else is. A run that the vat ends by an Abort is in order up to there.
 pub fn runs_are_in_order()
     ensures { RunsAreInOrder }

@@ -2,7 +2,7 @@
 use Rattle.std.specs.Prelude.{◌≡◌, ℕ, List, [], ◌++◌, Option, Some, None}
 use Rattle.cp_packed.specs.Unpacking.{nothing, after, given}
 
--- A front of the bytes brings words, and leaves so many of a raw run to come.
+-- A front of the bytes brings words, and leaves this many of a raw run to come.
 pub record Decodes (bytes words : List ℕ) (run : ℕ) (left : List ℕ) : Type 0 where
   pub front : List ℕ
   pub whole : bytes ≡ front ++ left

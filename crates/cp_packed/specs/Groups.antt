@@ -3,7 +3,7 @@ use Rattle.std.specs.Prelude.{◌≡◌, ◌⊎◌, ℕ, ◌+◌, ◌-◌, ◌<�
 use Rattle.cp_packed.specs.Words.{AreWords}
 use Rattle.cp_packed.specs.Unpacking.{Pending, after, given}
 
--- nothing of a group, and so many words of a raw run still to come
+-- nothing of a group, and this many words of a raw run still to come
 abbrev pub running : ℕ → Pending
 running run = record { run = run; part = [] }
 
@@ -19,7 +19,7 @@ pub record TakesGroups (most : ℕ) (old : List ℕ) (run : ℕ) (left new : Lis
   pub ends : length new ≡ most → next ≡ 0
 
 -- The group that these bytes begin with brings more words than there is room for: a run of zero words, or the last word
--- that there is room for and a raw run behind it.
+-- that there is room for and a raw run after it.
 abbrev pub IsTooMuch : ℕ → List ℕ → Type 0
 IsTooMuch room back =
     ((slice_index back 0 ≡ 0) × (room < slice_index back 1 + 1))
@@ -33,7 +33,7 @@ IsAtEnd room run back =
     ⊎ ((0 < run) × ((length back < 8) ⊎ ((room ≡ 1) × (1 < run))))
     ⊎ ((run ≡ 0) × ((length back < 10) ⊎ IsTooMuch room back))
 
--- A front of the bytes was taken, and the words that it brings were put over the first of so many zeros. No run goes on.
+-- A front of the bytes was taken, and the words that it brings were put over the first of this many zeros. No run goes on.
 pub record FillsFront (most : ℕ) (left new : List ℕ) (filled : ℕ) (back : List ℕ) : Type 0 where
   pub words : List ℕ
   pub takes : TakesGroups most [] 0 left words 0 back

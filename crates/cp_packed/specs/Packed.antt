@@ -4,7 +4,7 @@ use Rattle.std.specs.List.{AllByRecursion, flat_map}
 use Rattle.std.specs.Int.{to_le_bytes, from_le_bytes, w64}
 use Rattle.cp_packed.specs.Words.{AreWords, bytes_of}
 
--- A word whose bytes that are zero needn't be written, a run of zero words, or a word with so many after it as they are.
+-- A word whose bytes that are zero needn't be written, a run of zero words, or a word with this many after it as they are.
 pub data Group : Type 0 where
   sparse : List (Option ℕ) → Group
   zeros : ℕ → Group

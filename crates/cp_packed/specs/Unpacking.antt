@@ -22,7 +22,7 @@ abbrev pub first_and : List ℕ → List ℕ → List ℕ
 first_and [] others = []
 first_and (x ∷ written) others = x ∷ others
 
--- so many bytes of a word, the lowest bit of the tag for the first, up to the first that is written and isn't there
+-- this many bytes of a word, the lowest bit of the tag for the first, up to the first that is written and isn't there
 unfoldable pub laid_by : ℕ → ℕ → List ℕ → List ℕ
 laid_by zero tag written = []
 laid_by (suc n) tag written = if tag % 2 == 0 then 0 ∷ laid_by n (tag / 2) written else first_and written (laid_by n (tag / 2) (drop 1 written))

@@ -13,7 +13,7 @@ use std::alloc::AllocError;
 const BLOCK: usize = 512;
 
 /// Takes words of a raw run, one of them at the least where it is there and finds room: one less than there is room for,
-/// where the run goes on behind them.
+/// where the run goes on after them.
 fn take_run<'a>(
     words: &mut Vec<u64>,
     run: &mut usize,
@@ -159,7 +159,7 @@ fn take_some<'a>(
 
 /// Takes words of a raw run, of which `run` are to come, and groups, while `words` has fewer than `most`: none that
 /// would bring more, or leave a raw run open there. Gives back the bytes that follow; a group that begins less than ten
-/// bytes before their end is among these. The error is want of memory.
+/// bytes before their end is among these. The error is an allocation failure.
 pub fn take_groups<'a>(
     words: &mut Vec<u64>,
     run: &mut usize,

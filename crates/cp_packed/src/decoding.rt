@@ -37,7 +37,7 @@ fn take_header<'a>(
 }
 
 /// The words that packed bytes give, if they do (encoding specification, "Packing"), read group by group, slowly: it is to compare
-/// `unpack` with. The error is want of memory.
+/// `unpack` with. The error is an allocation failure.
 pub fn decode(alloc: Global, bytes: &[u8]) -> Result<Option<Vec<u64>>, AllocError>
     ensures some { IfOk result (λ found. IfSome found (λ words. Packed words.items bytes.now)) }
     ensures only { (ws : List ℕ) → Packed ws bytes.now → IfOk result (λ found. IsTrue (is_some found)) }

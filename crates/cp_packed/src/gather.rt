@@ -266,7 +266,7 @@ static PLACES: [[u8; 8]; 256] = [
     [0, 1, 2, 3, 4, 5, 6, 7],
 ];
 
-/// The bytes, with eight zeros behind them.
+/// The bytes, with eight zeros after them.
 pub fn widened(bytes: &[u8; 8]) -> u8x16
     ensures { result ≡ bytes.now ++ replicate 8 0 }
 {

@@ -10,7 +10,7 @@ use std::alloc::{AllocError, Global};
 /// How many bytes a raw word has.
 const WORD: usize = 8;
 
-/// So many words that are all the same.
+/// This many words that are all the same.
 #[derive(Clone, Copy)]
 pub struct Run {
     /// The word that all are.
@@ -95,7 +95,7 @@ impl OpenGroup {
         }
     }
 
-    /// Takes one byte, and gives the words that it brings. The error is want of memory.
+    /// Takes one byte, and gives the words that it brings. The error is an allocation failure.
     pub fn take(&mut self, byte: u8) -> Result<Run, AllocError>
         requires { IsPending (pending_of self.old) }
         ensures state { OnOk result (pending_of self.new ≡ next (pending_of self.old) byte) }

@@ -1,7 +1,7 @@
 //! The packed form of words (encoding specification, "Packing"): groups written and taken, at once and
 //! byte by byte; and words of 64 bits as bytes.
 //!
-//! The one error is want of memory. What the vector or the group holds then isn't promised, so the caller lets it go.
+//! The one error is an allocation failure. What the vector or the group holds then isn't promised, so the caller lets it go.
 #![tactic(auto)]
 
 mod bulk;

@@ -12,10 +12,10 @@ use byteorder::{ByteOrder, LittleEndian};
 use std::alloc::{AllocError, Global};
 use std::simd::prelude::*;
 
-/// How many bytes a packed word takes at most: a tag, eight bytes, and how many words a raw run has behind it.
+/// How many bytes a packed word takes at most: a tag, eight bytes, and how many words a raw run has after it.
 pub const LONGEST: usize = 10;
 
-/// How many words a run has at most behind its first.
+/// How many words a run has at most after its first.
 const MOST: usize = 255;
 
 /// How many words are written at once.
@@ -31,7 +31,7 @@ fn count_zeros(word: u64) -> usize
         .count_ones() as usize
 }
 
-/// How many of these words a run of zero words takes behind its first.
+/// How many of these words a run of zero words takes after its first.
 fn zero_run(words: &[u64]) -> usize
     ensures few { result ≤ 255 }
     ensures within { result ≤ length words.now }
@@ -46,7 +46,7 @@ fn zero_run(words: &[u64]) -> usize
     words.len()
 }
 
-/// How many of these words a raw run takes behind its first.
+/// How many of these words a raw run takes after its first.
 fn raw_run(words: &[u64]) -> usize
     ensures few { result ≤ 255 }
     ensures within { result ≤ length words.now }
@@ -83,11 +83,11 @@ fn push_sparse(out: &mut Vec<u8>, mask: u8, bytes: &[u8; 8]) -> Result<(), Alloc
     Ok(())
 }
 
-/// Writes words behind what stands there, as they are: eight bytes each, the lowest first. The error is want of memory.
+/// Writes words after what stands there, as they are: eight bytes each, the lowest first. The error is an allocation failure.
 pub fn push_plain(out: &mut Vec<u8>, words: &[u64]) -> Result<(), AllocError>
     ensures { OnOk result (out.new.items ≡ out.old.items ++ bytes_of words.now) }
 {
-    // By way of the stack: room made behind `out` would be filled before it is written.
+    // By way of the stack: room made after `out` would be filled before it is written.
     let mut block = [0; 8 * BLOCK];
     let mut left = words;
     'writing: while !left.is_empty() {
@@ -100,7 +100,7 @@ pub fn push_plain(out: &mut Vec<u8>, words: &[u64]) -> Result<(), AllocError>
     Ok(())
 }
 
-/// Writes the group that words begin with, and gives back those behind it.
+/// Writes the group that words begin with, and gives back those after it.
 fn push_group<'a>(out: &mut Vec<u8>, words: &'a [u64]) -> Result<&'a [u64], AllocError>
     requires { 0 < length words.now }
     ensures group { IfOk result (λ back. PutsGroup out.old.items out.new.items words.now back.now) }
@@ -126,8 +126,8 @@ fn push_group<'a>(out: &mut Vec<u8>, words: &'a [u64]) -> Result<&'a [u64], Allo
     Ok(back)
 }
 
-/// Writes groups that words begin with behind what stands there, until no more than so many words are left, and gives
-/// these back. The error is want of memory.
+/// Writes groups that words begin with after what stands there, until no more than this many words are left, and gives
+/// these back. The error is an allocation failure.
 pub fn push_groups<'a>(
     out: &mut Vec<u8>,
     words: &'a [u64],
@@ -144,7 +144,7 @@ pub fn push_groups<'a>(
     Ok(left)
 }
 
-/// Writes words behind what stands there, packed as one piece. The error is want of memory.
+/// Writes words after what stands there, packed as one piece. The error is an allocation failure.
 pub fn push_packed(out: &mut Vec<u8>, words: &[u64]) -> Result<(), AllocError>
     ensures { OnOk result (PutsSpelt out.old.items out.new.items words.now) }
 {

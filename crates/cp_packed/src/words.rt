@@ -17,8 +17,8 @@ pub fn word_of(bytes: &[u8]) -> u64
 }
 
 /// Makes room for `taken` words that have come, where `missing` words are missing in all. Where there is too little, it makes
-/// room for as many as there are, or have come if these are more, but for no more than are missing. The error is want of
-/// memory.
+/// room for as many as there are, or have come if these are more, but for no more than are missing. The error is an
+/// allocation failure.
 pub fn make_room(words: &mut Vec<u64>, taken: usize, missing: usize) -> Result<(), AllocError>
     ensures items { OnOk result (words.new.items ≡ words.old.items) }
     ensures room { OnOk result (vec_len words.new + min taken missing ≤ vec_capacity words.new) }
@@ -31,8 +31,8 @@ pub fn make_room(words: &mut Vec<u64>, taken: usize, missing: usize) -> Result<(
     Ok(())
 }
 
-/// Takes the words of these bytes behind others, eight bytes each, the lowest first; bytes behind the last whole word
-/// are left out. The error is want of memory.
+/// Takes the words of these bytes after others, eight bytes each, the lowest first; bytes after the last whole word
+/// are left out. The error is an allocation failure.
 pub fn take_in(words: &mut Vec<u64>, bytes: &[u8]) -> Result<(), AllocError>
     ensures { OnOk result (words.new.items ≡ words.old.items ++ words_in bytes.now) }
 {

@@ -36,7 +36,7 @@ NamesNoSegment S s p =
     ⊎ ((place : ℕ) × (other : ℕ) × (start : ℕ) × (s' : ℕ) × (r : Pointer) × (k : Kind) × Holds S s p (pointers.Far true place other)
     × Holds S other place (pointers.Far false start s') × Holds S other (place + 1) r × IsPadTag r k × (length S ≤ s'))
 
--- G5: the word is a far pointer whose pad is inside, and has no pad's form
+-- G5: the word is a far pointer whose landing pad is inside, and hasn't the form of one
 abbrev pub HasBadPad : List (List ℕ) → ℕ → ℕ → Type 0
 HasBadPad S s p =
     ((place : ℕ) × (other : ℕ) × Holds S s p (pointers.Far false place other) × IsNoBody S other place)
@@ -81,7 +81,7 @@ IsRootPlace at = (at.segment ≡ 0) × (at.word ≡ 0)
 abbrev pub HasNoRoot : List (List ℕ) → Type 0
 HasNoRoot S = (length (segment S 0) ≡ 0) ⊎ Holds S 0 0 pointers.Null
 
--- the root is a capability; or its word, or the word of its pad that says what the body is, is a list pointer
+-- the root is a capability; or its word, or the word of its landing pad that says what the body is, is a list pointer
 abbrev pub RootIsNoStruct : List (List ℕ) → Type 0
 RootIsNoStruct S =
     ((i : ℕ) × Holds S 0 0 (pointers.Cap i))

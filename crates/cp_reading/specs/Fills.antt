@@ -36,6 +36,6 @@ abbrev pub IsListIn : Form → List ℕ → Node → Type 0
 IsListIn f ws (list es) = (forms.List (element_size es) (element_count es) ≡ f) × (es ≡ elements_of ws (element_size es) (element_count es))
 IsListIn f ws other = ⊥
 
--- a struct's words and pointers stand from word q of segment s on, so many of each
+-- a struct's words and pointers stand from word q of segment s on, this many of each
 abbrev pub IsBodyAt : List (List ℕ) → ℕ → ℕ → ℕ → ℕ → List ℕ × Nodes → Type 0
 IsBodyAt S s q d n b = (length b.0 ≡ d) × (count b.1 ≡ n) × (b.0 ≡ words_at S s q d) × EachDenotes S s (q + d) b.1

@@ -8,7 +8,7 @@ use Rattle.cp_reading.specs.declared.area.Form.{Form}
 use Rattle.cp_reading.specs.declared.area.Form.TheVariants as forms
 
 -- The word has a body of this form, whose parts begin at a word of segment s'. A composite list's elements begin
--- behind its tag, which says how many there are and of what size; together they take no more words than the list has.
+-- after its tag, which says how many there are and of what size; together they take no more words than the list has.
 abbrev pub Locates : List (List ℕ) → ℕ → ℕ → Form → ℕ → ℕ → Type 0
 Locates S s p (forms.Struct d n) s' start = HasBody S s p (kinds.Struct d n) (d + n) s' start
 Locates S s p (forms.List size n) s' start = HasBody S s p (kinds.List size n) (words_for size n) s' start

@@ -40,14 +40,14 @@ aim_here s p pointers.Null = None
 aim_here s p (pointers.Cap i) = None
 aim_here s p (pointers.Far double place other) = None
 
--- what the second word of a pad says that the body is
+-- what the second word of a landing pad says that the body is
 abbrev pub tag_kind_of : Option Pointer → Option Kind
 tag_kind_of (Some pointers.Null) = Some (kinds.Struct 0 0)
 tag_kind_of (Some (pointers.Struct (pos zero) d n)) = Some (kinds.Struct d n)
 tag_kind_of (Some (pointers.List (pos zero) size n)) = Some (kinds.List size n)
 tag_kind_of other = None
 
--- the body that a pad of two words names
+-- the body that a landing pad of two words names
 abbrev pub aim_second : Place → List (List ℕ) → ℕ → ℕ → Option Kind → Result Aim TreeFault
 aim_second at S start s' None = Err (faults.BadPad at)
 aim_second at S start s' (Some k) = if nat_lt s' (length S) then Ok (record { kind = k; segment = s'; start = Some start }) else Err (faults.NoSegment at)
@@ -80,7 +80,7 @@ abbrev pub aim_by : Place → List (List ℕ) → Pointer → Result Aim TreeFau
 aim_by at S (pointers.Far double place other) = aim_far at S double place other
 aim_by at S r = pad_or at (aim_here at.segment at.word r)
 
--- where a body begins, if so many words from there on lie in the segment
+-- where a body begins, if this many words from there on lie in the segment
 abbrev pub in_segment : List ℕ → ℕ → Option ℕ → Option ℕ
 in_segment ws size None = None
 in_segment ws size (Some start) = if nat_le (start + size) (length ws) then Some start else None
@@ -90,7 +90,7 @@ abbrev pub placed : Place → Option ℕ → Result ℕ TreeFault
 placed at None = Err (faults.OutOfBounds at)
 placed at (Some start) = Ok start
 
--- the elements behind a composite list's tag, of a list of so many words
+-- the elements after a composite list's tag, of a list of this many words
 abbrev pub tagged : Place → ℕ → ℕ → ℕ → Option Tag → Result Area TreeFault
 tagged at s size start None = Err (faults.BadTag at)
 tagged at s size start (Some tag) =
@@ -110,7 +110,7 @@ area_by at S aim = area_by_kind at (segment S aim.segment) aim.segment aim.start
 abbrev pub area_here : Place → List ℕ → Pointer → Result Area TreeFault
 area_here at ws r = pad_or at (aim_here at.segment at.word r) >>= λ aim. area_by_kind at ws aim.segment aim.start aim.kind
 
--- how the pointers of a body are read: of a segment, so many from a word on, with what is left
+-- how the pointers of a body are read: of a segment, this many from a word on, with what is left
 abbrev pub Kids : Type 0
 Kids = ℕ → ℕ → ℕ → ℕ → Read Nodes
 

@@ -22,7 +22,7 @@ abbrev mutual
   pointers_of_bodies no_bodies = 0
   pointers_of_bodies (body ws ts bs) = pointers_of_row ts + pointers_of_bodies bs
 
--- What a reading comes to, where so many words were visited before what it reads: what is left of the cost limit and how
+-- What a reading comes to, where this many words were visited before what it reads: what is left of the cost limit and how
 -- many words are visited then, or the fault.
 abbrev pub passed : {A : Type 0} → (A → ℕ) → ℕ → Read A → Result (ℕ × ℕ) TreeFault
 passed visited before (Ok x) = Ok (x.1, before + visited x.0)

@@ -87,7 +87,7 @@ fn aim_at(at: Place, pointer: Pointer) -> Option<Aim>
     }
 }
 
-/// What the second word of a pad says that the body is: a struct or list word with offset 0, where
+/// What the second word of a landing pad says that the body is: a struct or list word with offset 0, where
 /// a word of zero bits is a struct of size zero.
 fn tag_kind(second: Option<Pointer>) -> Option<Kind>
     ensures { result ≡ tag_kind_of second }
@@ -112,7 +112,7 @@ fn tag_kind(second: Option<Pointer>) -> Option<Kind>
     }
 }
 
-/// The body that a pad of two words names.
+/// The body that a landing pad of two words names.
 fn aim_by_two(
     lists: &[Vec<u64>],
     at: Place,
@@ -181,7 +181,7 @@ fn aim_by_far(
     pad_at(at, pad, pointer_at(lists, pad))
 }
 
-/// The body of a pad of one word.
+/// The body of a landing pad of one word.
 fn pad_at(at: Place, pad: Place, pointer: Option<Pointer>) -> Result<Aim, TreeFault>
     requires { pad.word < 2 ^ 63 }
     ensures aim { result ≡ pad_one at pad.segment pad.word pointer }

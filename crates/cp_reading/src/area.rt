@@ -16,11 +16,11 @@ pub(crate) enum Form {
     Struct { words: u16, ptrs: u16 },
     /// A list that is no composite one.
     List { size: ElementSize, count: u32 },
-    /// A composite list: so many elements, each of `words` data words and `ptrs` pointers.
+    /// A composite list: this many elements, each of `words` data words and `ptrs` pointers.
     Structs { words: u16, ptrs: u16, count: u32 },
 }
 
-/// A body, wholly inside its segment. The elements of a composite list start behind its tag.
+/// A body, wholly inside its segment. The elements of a composite list start after its tag.
 #[derive(Clone, Copy)]
 pub(crate) struct Area {
     pub form: Form,

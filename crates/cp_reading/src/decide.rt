@@ -1,4 +1,4 @@
-//! Whether a word denotes a given tree, told part by part: slow, for comparing with the reader.
+//! Whether a word denotes a given tree, part by part: slow, for comparing with the reader.
 
 ghost use Rattle.std.specs.Prelude.{◌≡◌, ◌<◌, ◌≤◌, ◌+◌, ◌*◌, ◌^◌, ℕ, List, length, map, Some, IfOk, IfSome, Decides};
 ghost use Rattle.cp_words.specs.Aims.{segment};
@@ -54,7 +54,7 @@ fn denotes(alloc: Global, lists: &[Vec<u64>], at: Place, tree: &Tree) -> Result<
 }
 
 /// Whether a message's root word denotes the tree (encoding specification, "Messages"), without limits. It goes over the
-/// tree part by part, slowly: it is to compare a reader with. The error is want of memory.
+/// tree part by part, slowly: it is to compare a reader with. The error is an allocation failure.
 pub fn root_denotes(alloc: Global, segments: &Segments, tree: &Tree) -> Result<bool, AllocError>
     ensures { IfOk result (λ b. Decides b (Denotes segments.now 0 0 (node_of tree.now))) }
 {

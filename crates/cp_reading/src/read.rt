@@ -30,7 +30,7 @@ use std::sync::ledger::{Blank, Ledger};
 /// The words whose bytes are put together before they are copied.
 const BLOCK: usize = 64;
 
-/// Element `index`, of so many bits.
+/// Element `index`, of this many bits.
 fn element_of(words: &[u64], width: usize, index: u32) -> u64
     requires some { 0 < width }
     requires fits { width ≤ 64 }
@@ -47,7 +47,7 @@ fn element_of(words: &[u64], width: usize, index: u32) -> u64
     }
 }
 
-/// The first so many bits.
+/// The first bits, this many.
 pub(crate) fn bits_of(alloc: Global, words: &[u64], count: u32) -> Result<Vec<bool>, AllocError>
     requires { words_for sizes.Bit count ≤ length words.now }
     ensures { IfOk result (λ v. v.items ≡ flags words.now count) }
@@ -78,7 +78,7 @@ fn quads_in(word: u64) -> [u32; 2]
     [(word % 0x1_0000_0000) as u32, (word / 0x1_0000_0000) as u32]
 }
 
-/// The first so many bytes.
+/// The first bytes, this many.
 pub(crate) fn bytes_of(alloc: Global, words: &[u64], count: u32) -> Result<Vec<u8>, AllocError>
     requires { words_for sizes.Byte count ≤ length words.now }
     ensures { IfOk result (λ v. v.items ≡ numbers words.now 8 count) }
@@ -100,7 +100,7 @@ pub(crate) fn bytes_of(alloc: Global, words: &[u64], count: u32) -> Result<Vec<u
     Ok(items)
 }
 
-/// The first so many numbers of two bytes.
+/// The first numbers of two bytes, this many.
 pub(crate) fn halves_of(alloc: Global, words: &[u64], count: u32) -> Result<Vec<u16>, AllocError>
     requires { words_for sizes.TwoBytes count ≤ length words.now }
     ensures { IfOk result (λ v. v.items ≡ numbers words.now 16 count) }
@@ -115,7 +115,7 @@ pub(crate) fn halves_of(alloc: Global, words: &[u64], count: u32) -> Result<Vec<
     Ok(items)
 }
 
-/// The first so many numbers of four bytes.
+/// The first numbers of four bytes, this many.
 pub(crate) fn quads_of(alloc: Global, words: &[u64], count: u32) -> Result<Vec<u32>, AllocError>
     requires { words_for sizes.FourBytes count ≤ length words.now }
     ensures { IfOk result (λ v. v.items ≡ numbers words.now 32 count) }
@@ -130,7 +130,7 @@ pub(crate) fn quads_of(alloc: Global, words: &[u64], count: u32) -> Result<Vec<u
     Ok(items)
 }
 
-/// The first so many words.
+/// The first words, this many.
 pub(crate) fn words_of(alloc: Global, words: &[u64], count: u32) -> Result<Vec<u64>, AllocError>
     requires { words_for sizes.EightBytes count ≤ length words.now }
     ensures { IfOk result (λ v. v.items ≡ numbers words.now 64 count) }
@@ -251,7 +251,7 @@ fn build_body<L: Ledger>(
     Ok(Body { words, ptrs })
 }
 
-/// The trees of so many pointer words, if there are any.
+/// The trees of this many pointer words, if there are any.
 #[cycle(build)]
 #[inline(always)]
 fn build_ptrs<L: Ledger>(
@@ -272,7 +272,7 @@ fn build_ptrs<L: Ledger>(
     build_row(alloc, lists, first, number, visits)
 }
 
-/// The trees of so many pointer words, from one on.
+/// The trees of this many pointer words, from one on.
 #[cycle(build)]
 fn build_row<L: Ledger>(
     alloc: Global,
@@ -342,13 +342,13 @@ pub(crate) fn whole_of<L: Ledger>(
 
 /// The message's tree, owned: what word 0 of segment 0 stands for (encoding specification,
 /// "Messages"). All that is reachable is checked against the limits before memory is taken. Each
-/// fault from G1 to G9 names the pointer word where it was met first; G10 is want of memory.
+/// fault from G1 to G9 names the pointer word where it was met first; G10 is an allocation failure.
 pub fn read_root(alloc: Global, segments: &Segments, limits: Limits) -> Result<Object, TreeFault>
     // What is read is the message's tree.
     ensures found { IfOk result (λ t. Root segments.now limits t) }
     // The message's tree is read, unless memory runs out.
     ensures only { (t : Node) → Root segments.now limits t → Answers result t }
-    // A fault is one that the message has, or want of memory.
+    // A fault is one that the message has, or an allocation failure.
     ensures fault { IfErr result (IsRefusalOf segments.now limits) }
 {
     read_uncounted::<Brand>(alloc, segments, limits, Blank::new(1))
@@ -372,7 +372,7 @@ fn read_uncounted<L: Ledger>(
 }
 
 /// As `read_root`, and counts each pointer word that it visits: all are gone over once to check
-/// them, and once more to build the tree. Words of pads aren't counted; a far pointer has at most
+/// them, and once more to build the tree. Words of landing pads aren't counted; a far pointer has at most
 /// two.
 pub fn read_counted<L: Ledger>(
     alloc: Global,
@@ -384,7 +384,7 @@ pub fn read_counted<L: Ledger>(
     ensures found { IfOk result (λ t. Root segments.now limits t) }
     // The message's tree is read, unless memory runs out.
     ensures only { (t : Node) → Root segments.now limits t → Answers result t }
-    // A fault is one that the message has, or want of memory.
+    // A fault is one that the message has, or an allocation failure.
     ensures fault { IfErr result (IsRefusalOf segments.now limits) }
     // A tree's root word is visited once, and each pointer word below it twice.
     ensures exact { IfOk result (λ t. visits.new ≡ visits.old + 1 + 2 * pointers t) }

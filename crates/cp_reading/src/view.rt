@@ -212,7 +212,7 @@ fn form_shape(form: Form) -> Shape
     }
 }
 
-/// So many words of a segment.
+/// This many words of a segment.
 pub(crate) fn words_at(lists: &[Vec<u64>], list: usize, start: usize, count: usize) -> &[u64]
     requires exists { list < length lists.now }
     requires within { start + count ≤ length (segment (words_of lists.now) list) }

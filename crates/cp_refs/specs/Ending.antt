@@ -19,7 +19,7 @@ is_led holds (ends route) = false
 is_led holds (leads c) = holds c
 is_led holds missing = false
 
--- whether the way of a capability ends after exactly so many others
+-- whether the way of a capability ends after exactly this many others
 abbrev pub ends_after : ℕ → ValueMaps → Cap → Bool
 ends_after zero values c = is_end (way values c)
 ends_after (suc n) values c = is_led (λ next. ends_after n values next) (way values c)

@@ -53,7 +53,7 @@ route_by route_of (ends route) = Some route
 route_by route_of (leads c) = route_of c
 route_by route_of missing = None
 
--- the route of a capability, if its way ends within so many steps
+-- the route of a capability, if its way ends within this many steps
 abbrev pub route_within : ℕ → ValueMaps → Cap → Option Route
 route_within zero values c = None
 route_within (suc n) values c = route_by (λ next. route_within n values next) (way values c)

@@ -10,7 +10,7 @@ use Rattle.cp_refs.specs.contracts.outcome.Outcome as outcome
 use Rattle.cp_refs.specs.declared.values.Question.{Question}
 use Rattle.cp_refs.specs.contracts.values.Question as question
 
--- The value of each promise and import, and the outcome of each answer and question. Each is None until it is told.
+-- The value of each promise and import, and the outcome of each answer and question. Each is None until it is reported.
 pub record ValueMaps : Type 0 where
   pub promises : Table (Option Cap)
   pub imports : Table (Option Cap)

@@ -57,7 +57,7 @@ impl Values {
     ghost use Rattle.cp_refs.specs.Route.{missing, way, promise_way, question_way, Routes, HasRoute};
     ghost use Rattle.cp_refs.specs.Steps.{StepsFrom};
 
-    /// Nothing is told yet.
+    /// Nothing is reported yet.
     pub fn new(alloc: Global) -> Values
         ensures { result ≡ record { promises = map.empty; imports = map.empty; answers = map.empty; questions = map.empty } }
     {

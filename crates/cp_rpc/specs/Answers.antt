@@ -32,6 +32,6 @@ abbrev pub Answers : Result Message SchemaFault → Message → Type 0
 Answers (Ok x) m = x ≡ m
 Answers (Err fault) m = fault ≡ faults.OutOfMemory
 
--- the fault is the first of these, or want of memory
+-- the fault is the first of these, or an allocation failure
 abbrev pub IsFirstFault : List SchemaFault → SchemaFault → Type 0
 IsFirstFault fs fault = (fault ≡ faults.OutOfMemory) ⊎ (first_of fs ≡ Some fault)

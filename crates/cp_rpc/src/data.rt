@@ -4,7 +4,7 @@ ghost use Rattle.std.specs.Prelude.{◌≡◌, ◌==◌, ◌<◌, ◌≤◌, ◌
 ghost use Rattle.cp_tree.specs.Elements.{element};
 ghost use Rattle.cp_rpc.specs.Made.{u16_part as u16_made, u32_part as u32_made, bit_part as bit_made};
 
-/// The `index`-th number of so many bits, counted from the section's start. What lies past its end
+/// The `index`-th number of this many bits, counted from the section's start. What lies past its end
 /// is zero.
 pub(crate) fn number_at(words: &[u64], width: usize, index: usize) -> u64
     requires some { 0 < width }

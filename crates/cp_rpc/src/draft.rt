@@ -86,7 +86,7 @@ pub(crate) fn triple_of<'a>(
     struct_with(alloc, words, vec![in alloc; first, second, third]?)
 }
 
-/// A composite list of these elements, each of so many data words and pointers.
+/// A composite list of these elements, each of this many data words and pointers.
 pub(crate) fn list_of<'a>(words: u16, ptrs: u16, items: Vec<DraftBody<'a>>) -> Draft<'a>
     ensures { draft_of result ≡ structs words ptrs (bodies_of (map draft_body_of items.entry.items)) }
 {

@@ -20,6 +20,7 @@ use crate::source::Source;
 use crate::text::{Text, TextView};
 use cp_tree::Draft;
 use std::alloc::{AllocError, Global};
+use std::fmt;
 
 /// `enum Type` of `struct Exception` of rpc.capnp.
 #[derive(Clone, Copy, PartialEq, Eq, Debug)]
@@ -45,6 +46,25 @@ pub struct Exception {
     pub reason: Text,
     /// `trace @4 :Text`.
     pub trace: Text,
+}
+
+impl fmt::Display for Exception {
+    /// Its type and its reason.
+    fn fmt<W: fmt::Write>(&self, f: &mut fmt::Formatter<W>) -> fmt::Result {
+        write!(f, "{}: {}", self.kind, self.reason.as_str())
+    }
+}
+
+impl fmt::Display for ExceptionKind {
+    fn fmt<W: fmt::Write>(&self, f: &mut fmt::Formatter<W>) -> fmt::Result {
+        match self {
+            ExceptionKind::Failed => f.write_str("failed"),
+            ExceptionKind::Overloaded => f.write_str("overloaded"),
+            ExceptionKind::Disconnected => f.write_str("disconnected"),
+            ExceptionKind::Unimplemented => f.write_str("unimplemented"),
+            ExceptionKind::Unknown(number) => write!(f, "type {}", number.number()),
+        }
+    }
 }
 
 /// An exception whose texts are read in place.

@@ -86,13 +86,30 @@ pub enum SchemaFault {
     OutOfMemory,
 }
 
+impl SchemaFault {
+    /// What the fault means.
+    fn meaning(self) -> &'static str {
+        match self {
+            SchemaFault::Kind(_) => "the field holds a pointer of another kind",
+            SchemaFault::Text(_) => "the field's bytes aren't UTF-8 that ends in a zero byte",
+            SchemaFault::OutOfMemory => "memory ran out",
+        }
+    }
+}
+
 impl fmt::Display for SchemaFault {
+    /// Its name and field, and in the alternate form, `{:#}`, what it means too.
     fn fmt<W: fmt::Write>(&self, f: &mut fmt::Formatter<W>) -> fmt::Result {
         match self {
-            SchemaFault::Kind(field) => write!(f, "S1 Kind {field}"),
-            SchemaFault::Text(field) => write!(f, "S2 Text {field}"),
-            SchemaFault::OutOfMemory => f.write_str("S3 OutOfMemory"),
+            SchemaFault::Kind(field) => write!(f, "S1 Kind {field}")?,
+            SchemaFault::Text(field) => write!(f, "S2 Text {field}")?,
+            SchemaFault::OutOfMemory => f.write_str("S3 OutOfMemory")?,
         }
+        if f.alternate() {
+            f.write_str(": ")?;
+            f.write_str(self.meaning())?;
+        }
+        Ok(())
     }
 }
 

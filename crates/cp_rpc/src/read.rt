@@ -50,7 +50,7 @@ pub fn message_of(alloc: Global, root: &Object) -> Result<Message, SchemaFault>
     ensures found { IfOk result (λ m. Says root.now m) }
     // What the tree says is read, unless memory runs out.
     ensures only { (m : Message) → Says root.now m → Answers result m }
-    // A fault is the first that the tree has, or want of memory.
+    // A fault is the first that the tree has, or an allocation failure.
     ensures fault { IfErr result (IsFirstFault (message_faults root.now)) }
 {
     let view = MessageIn::of(&Owned::of(root.tree()))?;

@@ -17,9 +17,9 @@ use std::alloc::{AllocError, Global};
 pub enum Look {
     Null,
     Struct,
-    /// A composite list of so many elements.
+    /// A composite list of this many elements.
     Items(usize),
-    /// A list of so many bytes.
+    /// A list of this many bytes.
     Bytes(usize),
     /// A capability, or any other list.
     Other,

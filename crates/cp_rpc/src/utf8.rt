@@ -33,7 +33,7 @@ fn block_at(words: &[u64], first: usize, end: usize) -> [u8; 64]
     block
 }
 
-/// Whether the first bytes that words hold, so many, are UTF-8.
+/// Whether the first bytes that words hold, this many, are UTF-8.
 fn is_utf8(words: &[u64], count: usize) -> bool
     requires small { count ≤ 2 ^ 32 }
     ensures { IsTrue result ↔ IsUtf8 (numbers words.now 8 count) }
@@ -46,7 +46,7 @@ fn is_utf8(words: &[u64], count: usize) -> bool
     checker.finish()
 }
 
-/// Whether the first bytes that words hold, so many, end in a zero byte and are UTF-8 before that.
+/// Whether the first bytes that words hold, this many, end in a zero byte and are UTF-8 before that.
 pub(crate) fn is_text(words: &[u64], count: usize) -> bool
     requires small { count ≤ 2 ^ 32 }
     ensures { result ≡ is_text (numbers words.now 8 count) }
@@ -61,7 +61,7 @@ pub(crate) fn is_text(words: &[u64], count: usize) -> bool
     is_utf8(words, last)
 }
 
-/// The text that the first bytes are, so many, which are UTF-8.
+/// The text that the first bytes are, this many, which are UTF-8.
 pub(crate) fn text_in(alloc: Global, words: &[u64], count: usize) -> Result<Text, AllocError>
     requires small { count ≤ 2 ^ 32 }
     requires text { IsUtf8 (numbers words.now 8 count) }

@@ -101,7 +101,7 @@ fn give_open(
     Ok(())
 }
 
-/// Gives an answer behind its Finish: its Return says that it was canceled.
+/// Gives an answer after its Finish: its Return says that it was canceled.
 fn give_finished(
     core: &mut Core,
     id: u32,

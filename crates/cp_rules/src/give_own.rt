@@ -16,7 +16,7 @@ use cp_refs::{Origin, Outcome};
 use cp_state::{Core, Gift, Halt};
 use cp_tables::Stage;
 
-/// Settles a question of the application's, which is told unless it finished the question.
+/// Settles a question of the application's, which is reported unless it finished the question.
 pub fn give_own(
     core: &mut Core,
     id: u32,

@@ -214,7 +214,7 @@ fn raised_of(resolution: &Resolution) -> Option<u32>
     }
 }
 
-/// How what a promise came to is told.
+/// How what a promise came to is reported.
 fn resolve_end(alloc: Global, exports: &mut Exported, last: &Cap) -> Result<Resolution, Halt>
     ensures said { (s : State) → Leaves (ResolvesEnd (with_exports s exports.old) last.now) result (with_exports s exports.new) }
     ensures back { IfOk result (λ r. lowered_back exports.new (given_back r) ≡ exports.old) }

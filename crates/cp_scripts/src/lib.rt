@@ -1,4 +1,4 @@
-//! Scripts of exchanges: lines of events, read, and what follows each, as lines. Messages stand there as
+//! Scripts of exchanges: lines of events, read, and what follows each, as lines. Messages are written as
 //! `show` prints them.
 #![tactic(auto)]
 

@@ -29,7 +29,7 @@ impl Lines {
         }
     }
 
-    /// Lines in which the frame of each message that is sent stands behind it.
+    /// Lines in which the frame of each message that is sent comes after it.
     pub fn with_frames(alloc: Global) -> Lines {
         let mut lines = Lines::new(alloc);
         lines.has_frames = true;
@@ -128,7 +128,7 @@ impl Lines {
         }
     }
 
-    /// Adds what stands behind the first word of a message's line.
+    /// Adds what comes after the first word of a message's line.
     fn push_behind(&mut self, word: &str, message: Message) {
         let mut line = Lines::new(self.alloc);
         line.push_message(&message);

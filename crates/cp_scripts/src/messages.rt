@@ -333,7 +333,7 @@ impl<'a> Reader<'a> {
         }
     }
 
-    /// The message of a frame, which stands there in hexadecimal.
+    /// The message of a frame, which is written in hexadecimal.
     fn frame(&mut self) -> Message {
         let frame = hex::decode(self.alloc, self.digits());
         match frame {

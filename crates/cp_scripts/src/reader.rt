@@ -44,7 +44,7 @@ impl<'a> Reader<'a> {
         self.rest.len()
     }
 
-    /// Takes a word off, if it stands next.
+    /// Takes a word off, if it is next.
     pub(crate) fn takes(&mut self, word: &str) -> bool {
         match self.rest.strip_prefix(word) {
             Some(rest) => {
@@ -117,7 +117,7 @@ impl<'a> Reader<'a> {
         false
     }
 
-    /// What stands before the next quote.
+    /// What comes before the next quote.
     fn quoted(&mut self) -> &'a str {
         match self.rest.split_once('"') {
             Some((text, rest)) => {

@@ -14,7 +14,7 @@ use Rattle.cp_refs.specs.declared.outcome.Outcome.TheVariants as outcomes
 abbrev pub exception_of : ExceptionKind → List ℕ → Exception
 exception_of kind reason = record { kind = kind; reason = reason; trace = [] }
 
--- what a call fails with that goes to an object which isn't there
+-- what a call fails with that goes to an object which doesn't exist
 abbrev pub no_such_object : Outcome
 no_such_object = outcomes.Failed (exception_of kinds.Failed (codes "no such object"))
 

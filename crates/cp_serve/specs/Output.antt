@@ -29,7 +29,7 @@ pub record Device : Type 0 where
   pub bytes : Option (List ℕ)
   pub failures : ℕ
 
--- the device behind a tap
+-- the device after a tap
 abbrev pub device : {T : Type 0} → (T → Option (List ℕ)) → Tap T → Device
 device known tap = record { bytes = known (inner_of tap); failures = failures_of tap }
 
@@ -78,7 +78,7 @@ pub record Output (objects : List Seen) (taken sent : List Message) (last : Work
   pub sends : Sends objects taken sent gave last others
   pub ends : (gave ≡ false) ⊎ IsSome last.closed
 
--- why no more messages are taken: the reader's bytes ended behind a message; or the vat closed; or 2^64 - 1 bytes or more were read
+-- why no more messages are taken: the reader's bytes ended after a message; or the vat closed; or 2^64 - 1 bytes or more were read
 abbrev pub IsOver : List ℕ → List ℕ → Option (List ℕ) → Work → Type 0
 IsOver bytes rest left w = ((rest ≡ []) × IsAtEnd left) ⊎ (IsSome w.closed ⊎ (2 ^ 64 - 1 ≤ length bytes))
 

@@ -15,6 +15,7 @@ use Rattle.cp_stream.specs.Read.{FailedOnce}
 use Rattle.cp_stream.specs.Write.{IsUnwrittenFor}
 use Rattle.cp_serve.specs.declared.fault.ServeFault.{ServeFault}
 use Rattle.cp_serve.specs.declared.fault.ServeFault.TheVariants as faults
+use Rattle.cp_serve.specs.declared.report.Report.{Report}
 use Rattle.cp_serve.specs.declared.serving.Server.{Server}
 use Rattle.cp_serve.specs.Servant.{Seen}
 use Rattle.cp_serve.specs.Work.{Work}
@@ -26,11 +27,15 @@ use Rattle.cp_serve.specs.Output.{Device, Writes, WritesPart, IsPlace, IsFaultOf
 abbrev pub ahead : Device → List ℕ → Device
 ahead to block = record { bytes = append_known to.bytes block; failures = to.failures }
 
--- a count goes on from another by so many, and stays at the greatest u64
+-- what a server reports
+abbrev pub report_of : Server → Report
+report_of s = record { messages = s.messages; sent = s.sent; closed = (work_of s.session).closed }
+
+-- a count goes on from another by this many, and stays at the greatest u64
 abbrev pub CountsMore : ℕ → ℕ → ℕ → Type 0
 CountsMore old k new = (n : ℕ) → old ≡ min n (2 ^ 64 - 1) → new ≡ min (n + k) (2 ^ 64 - 1)
 
--- Of these bytes messages were taken, and this is the rest; what the messages lead to was sent, and written behind what was held; and the server counts
+-- Of these bytes messages were taken, and this is the rest; what the messages lead to was sent, and written after what was held; and the server counts
 -- them.
 pub record Reached (mode : Mode) (start : List Seen) (held : Device) (bytes rest : List ℕ) (s : Server) (objects : List Seen) (to : Device) : Type 0 where
   pub taken : List Message
@@ -93,12 +98,12 @@ pub record TakesNone (rest : List ℕ) (old : Server) (piece : List ℕ) (new : 
   pub mode : new.mode ≡ old.mode
   pub sent : new.sent ≡ old.sent
 
--- a fault is told behind the messages that were taken: memory ran out, or the rest has it
+-- a fault is reported after the messages that were taken: memory ran out, or the rest has it
 abbrev pub IsRefusedAt : Mode → List ℕ → ℕ → StreamFault → Type 0
 IsRefusedAt mode rest place (streams.Refused at refusal) = (at ≡ place) × (IsMemory refusal ⊎ ((left : Option (List ℕ)) → IsFaultOfRest mode rest left refusal))
 IsRefusedAt mode rest place streams.Device = ⊥
 
--- why no message is taken: a fault is told, and no object was asked; or memory ran out
+-- why no message is taken: a fault is reported, and no object was asked; or memory ran out
 abbrev pub IsUntaken : Mode → List ℕ → ℕ → List Seen → List Seen → ServeFault → Type 0
 IsUntaken mode rest place objects others (faults.Stream fault) = IsRefusedAt mode rest place fault × (others ≡ objects)
 IsUntaken mode rest place objects others faults.OutOfMemory = Unit {0}
@@ -123,7 +128,7 @@ abbrev pub unput : ℕ → StreamFault → ServeFault
 unput at (streams.Refused place refusal) = faults.Stream (streams.Refused at refusal)
 unput at streams.Device = faults.OutOfMemory
 
--- why these messages aren't all put behind a block: one isn't laid out, or memory ran out
+-- why these messages aren't all put after a block: one isn't laid out, or memory ran out
 abbrev pub IsUnput : ℕ → List Message → ServeFault → Type 0
 IsUnput place sent (faults.Stream (streams.Refused at refusal)) = (at ≡ place) × IsOwnFault sent refusal
 IsUnput place sent (faults.Stream streams.Device) = ⊥
@@ -135,7 +140,7 @@ IsUnwritten place sent old new (faults.Stream (streams.Refused at refusal)) = (a
 IsUnwritten place sent old new (faults.Stream streams.Device) = FailedOnce old.failures new.failures
 IsUnwritten place sent old new faults.OutOfMemory = Unit {0}
 
--- the stream ends inside a frame, behind the messages that were taken
+-- the stream ends inside a frame, after the messages that were taken
 abbrev pub EndsInside : Mode → List ℕ → Option (List ℕ) → ℕ → ServeFault → Type 0
 EndsInside mode rest left place (faults.Stream (streams.Refused at refusal)) = (at ≡ place) × IsFaultOfRest mode rest left refusal
 EndsInside mode rest left place fault = ⊥

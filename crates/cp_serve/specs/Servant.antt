@@ -55,7 +55,7 @@ cell_takes n request =
     else (if asks_for request 0xe5a1000000000002 1 then (replies.Now (word_results n) imports, n)
     else (replies.Now no_such_method imports, n))
 
--- What an object answers to a call under a ticket, and what it is then. Nothing is said of a growth that was refused.
+-- What an object answers to a call under a ticket, and what it is then. Nothing is said of an allocation failure.
 abbrev pub Takes : Seen → ℕ → Request → Result Reply AllocError → Seen → Type 0
 Takes (desk due) ticket request (Ok reply) new = let taken = desk_takes due ticket request in (reply ≡ taken.0) × (new ≡ desk taken.1)
 Takes (cell n) ticket request (Ok reply) new = let taken = cell_takes n request in (reply ≡ taken.0) × (new ≡ cell taken.1)

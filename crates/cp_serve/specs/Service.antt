@@ -20,7 +20,7 @@ pub data Delivers (old : Work) (objects : List Seen) (k : ℕ) (origin : Origin)
       → Delivers old objects k origin ticket call new others
   to_none : length objects ≤ k → Answers old origin no_such_object new → others ≡ objects → Delivers old objects k origin ticket call new others
 
--- What an effect asks for is done. A message is written behind the others; a server asks nothing of its peer, so nothing is settled for it; and once the
+-- What an effect asks for is done. A message is written after the others; a server asks nothing of its peer, so nothing is settled for it; and once the
 -- vat closed, nothing more is done.
 abbrev pub Acts : Effect → Work → List Seen → Work → List Seen → Type 0
 Acts (effects.Send m) old objects new others = (new ≡ record old { sent = old.sent ++ m ∷ [] }) × (others ≡ objects)

@@ -29,7 +29,7 @@ pub record Work : Type 0 where
   pub sent : List Message
   pub closed : Option Reason
 
--- the vat did an event, and its effects go behind those that are still to be worked off
+-- the vat did an event, and its effects go after those that are still to be worked off
 abbrev pub Did : Work → State → List Effect → Work → Type 0
 Did old vat effects new = new ≡ record old { vat = vat; effects = old.effects ++ effects }
 
@@ -37,7 +37,7 @@ Did old vat effects new = new ≡ record old { vat = vat; effects = old.effects 
 abbrev pub IsReplaced : VatFault → Type 0
 IsReplaced fault = (fault ≢ refusals.Closed) × (fault ≢ refusals.OutOfMemory)
 
--- memory was there
+-- memory sufficed
 abbrev pub HasRoom : Result Value VatFault → Type 0
 HasRoom (Ok value) = Unit {0}
 HasRoom (Err fault) = fault ≢ refusals.OutOfMemory

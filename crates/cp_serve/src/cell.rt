@@ -26,7 +26,7 @@ pub struct Cell {
     number: u64,
 }
 
-/// The first data word of a struct; 0 where it isn't there.
+/// The first data word of a struct; 0 where it has none.
 fn first_word(content: &Whole) -> u64
     ensures { result ≡ first_word content.now }
 {
@@ -35,7 +35,9 @@ fn first_word(content: &Whole) -> u64
 
 impl Cell {
     /// A Cell that holds 0.
-    pub fn new(alloc: Global) -> Cell {
+    pub fn new(alloc: Global) -> Cell
+        ensures { result.number ≡ 0 }
+    {
         Cell { alloc, number: 0 }
     }
 }

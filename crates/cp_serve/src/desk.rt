@@ -1,6 +1,6 @@
 //! The Desk, an object that gives out another one.
 
-ghost use Rattle.std.specs.Prelude.{◌≡◌, map};
+ghost use Rattle.std.specs.Prelude.{◌≡◌, [], map};
 ghost use Rattle.cp_serve.specs.Servant.{polled, take_due};
 
 use crate::outcomes::{named_imports, no_such_method, object_results};
@@ -44,7 +44,9 @@ pub struct Desk {
 
 impl Desk {
     /// A Desk at which no call waits.
-    pub fn new(alloc: Global) -> Desk {
+    pub fn new(alloc: Global) -> Desk
+        ensures { result.due.items ≡ [] }
+    {
         Desk {
             alloc,
             due: Vec::new(alloc),

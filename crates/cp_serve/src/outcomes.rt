@@ -22,7 +22,7 @@ fn exception(alloc: Global, kind: ExceptionKind, reason: &str) -> Result<Excepti
     })
 }
 
-/// The exception of a call that goes to an object which isn't there.
+/// The exception of a call that goes to an object which doesn't exist.
 pub(crate) fn no_such_object(alloc: Global) -> Result<Outcome, AllocError>
     ensures { IfOk result (λ o. o ≡ no_such_object) }
 {

@@ -1,5 +1,7 @@
 //! An object whose answers are given beforehand.
 
+ghost use Rattle.std.specs.Prelude.{◌≡◌};
+
 use crate::servant::{Reply, Servant, Settled};
 use cp_refs::Request;
 use std::alloc::AllocError;
@@ -14,7 +16,10 @@ pub struct Script {
 
 impl Script {
     /// A Script that answers calls and polls by these, in order.
-    pub fn new(replies: Vec<Reply>, settled: Vec<Option<Settled>>) -> Script {
+    pub fn new(replies: Vec<Reply>, settled: Vec<Option<Settled>>) -> Script
+        ensures calls { result.replies.items ≡ replies.items }
+        ensures polls { result.settled.items ≡ settled.items }
+    {
         Script {
             replies: VecDeque::from_vec(replies),
             settled: VecDeque::from_vec(settled),

@@ -13,7 +13,7 @@ ghost use Rattle.cp_stream.specs.Reader.{IsAt};
 ghost use Rattle.cp_serve.specs.Servant.{Seen};
 ghost use Rattle.cp_serve.specs.Service.{written};
 ghost use Rattle.cp_serve.specs.Output.{Device, device, Writes, WritesPart, IsOver, IsServed, StopsFor, IsStopped};
-ghost use Rattle.cp_serve.specs.Reached.{Reached, Serves, ReadsOn, Fills, OnlyWrites, TakesNext, TakesNone, GoesOn, IsUntaken, IsUnput, IsUnwritten, IsUnended, EndsInside, EndsSo, EndsPart, CountsMore, ahead, placed, unput};
+ghost use Rattle.cp_serve.specs.Reached.{Reached, Serves, ReadsOn, Fills, OnlyWrites, TakesNext, TakesNone, GoesOn, IsUntaken, IsUnput, IsUnwritten, IsUnended, EndsInside, EndsSo, EndsPart, CountsMore, ahead, placed, unput, report_of};
 ghost use Rattle.cp_serve.specs.WorkOf.{work_of};
 
 use crate::fault::ServeFault;
@@ -114,16 +114,31 @@ impl Server {
         ensures served { IfOk result (λ report. (mode : Mode) → Serves mode (map (λ o. seen o) objects.old) (device W.contents to.old) [] self (map (λ o. seen o) objects.old) (device W.contents to.old) → IsServed mode (map (λ o. seen o) objects.old) (device R.remaining from.old) (device R.remaining from.new) (device W.contents to.old) (device W.contents to.new) report (map (λ o. seen o) objects.new)) }
         ensures stopped { IfErr result (λ fault. (mode : Mode) → Serves mode (map (λ o. seen o) objects.old) (device W.contents to.old) [] self (map (λ o. seen o) objects.old) (device W.contents to.old) → IsStopped mode (map (λ o. seen o) objects.old) (device R.remaining from.old) (device R.remaining from.new) (device W.contents to.old) (device W.contents to.new) (map (λ o. seen o) objects.new) fault) }
     {
+        // The server goes before the answer is looked at, so that it is dropped in one place.
+        let ended = self.run(from, to, objects);
+        let report = self.report();
+        ended?;
+        Ok(report)
+    }
+
+    /// Takes the messages and ends them.
+    fn run<R: Read, W: Write>(
+        &mut self,
+        from: &mut Tap<R>,
+        to: &mut Tap<W>,
+        objects: &mut [Box<dyn Servant>],
+    ) -> Result<(), ServeFault>
+        ensures served { IfOk result (λ _. (mode : Mode) → Serves mode (map (λ o. seen o) objects.old) (device W.contents to.old) [] self.old (map (λ o. seen o) objects.old) (device W.contents to.old) → IsServed mode (map (λ o. seen o) objects.old) (device R.remaining from.old) (device R.remaining from.new) (device W.contents to.old) (device W.contents to.new) (report_of self.new) (map (λ o. seen o) objects.new)) }
+        ensures stopped { IfErr result (λ fault. (mode : Mode) → Serves mode (map (λ o. seen o) objects.old) (device W.contents to.old) [] self.old (map (λ o. seen o) objects.old) (device W.contents to.old) → IsStopped mode (map (λ o. seen o) objects.old) (device R.remaining from.old) (device R.remaining from.new) (device W.contents to.old) (device W.contents to.new) (map (λ o. seen o) objects.new) fault) }
+    {
         self.take_all(from, to, objects)?;
         self.end_all(to, objects)?;
-        Ok(self.report())
+        Ok(())
     }
 
     /// What was done.
     fn report(self) -> Report
-        ensures messages { result.messages ≡ self.messages }
-        ensures sent { result.sent ≡ self.sent }
-        ensures closed { result.closed ≡ (work_of self.session).closed }
+        ensures { result ≡ report_of self }
     {
         Report {
             messages: self.messages,
@@ -184,7 +199,7 @@ impl Server {
     }
 
     /// Takes messages whose frames end in a piece, until the block is full or the vat closed, and puts what
-    /// they send behind the block. Gives what is left of the piece.
+    /// they send after the block. Gives what is left of the piece.
     fn fill_block<'a>(
         &mut self,
         piece: &'a [u8],
@@ -305,7 +320,7 @@ impl Server {
         put
     }
 
-    /// Puts the messages that were sent behind the block.
+    /// Puts the messages that were sent after the block.
     fn put(&mut self) -> Result<(), ServeFault>
         ensures only { OnOk result (OnlyWrites self.old self.new) }
         ensures session { OnOk result (work_of self.new.session ≡ written (work_of self.old.session)) }
@@ -321,7 +336,7 @@ impl Server {
         Ok(())
     }
 
-    /// Puts a message behind the block.
+    /// Puts a message after the block.
     fn put_one(&mut self, message: &Message) -> Result<(), ServeFault>
         ensures same { OnOk result (self.new ≡ record self.old { sent = min (self.old.sent + 1) (2 ^ 64 - 1); block = self.new.block }) }
         ensures puts { OnOk result ((to : Device) → Writes self.old.mode (message.now ∷ []) (ahead to self.old.block.items) (ahead to self.new.block.items)) }
@@ -356,7 +371,7 @@ impl Server {
         }
     }
 
-    /// A refusal, behind the messages that were taken.
+    /// A refusal, after the messages that were taken.
     fn refused(&self, refusal: Refusal) -> StreamFault
         ensures { result ≡ Refused self.now.at refusal }
     {
@@ -366,7 +381,7 @@ impl Server {
         }
     }
 
-    /// A fault, behind the messages that were taken.
+    /// A fault, after the messages that were taken.
     fn placed(&self, fault: StreamFault) -> StreamFault
         ensures { result ≡ placed self.now.at fault }
     {

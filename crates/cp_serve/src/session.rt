@@ -171,7 +171,7 @@ impl Session {
         Ok(gave)
     }
 
-    /// Puts effects behind those that are still to be worked off.
+    /// Puts effects after those that are still to be worked off.
     fn add(&mut self, effects: Effects) -> Result<(), AllocError>
         ensures { OnOk result (work_of self.new ≡ record (work_of self.old) { effects = (work_of self.old).effects ++ effects }) }
     {
@@ -213,7 +213,7 @@ impl Session {
         }
     }
 
-    /// Puts a message behind those that are still to be written.
+    /// Puts a message after those that are still to be written.
     fn send(&mut self, message: Message) -> Result<(), AllocError>
         ensures { OnOk result (work_of self.new ≡ record (work_of self.old) { sent = (work_of self.old).sent ++ message ∷ [] }) }
     {

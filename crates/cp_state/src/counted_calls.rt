@@ -136,7 +136,7 @@ impl Uses {
         }
     }
 
-    /// Counts what a call holds once more, or where a growth is refused nothing.
+    /// Counts what a call holds once more, or nothing where an allocation fails.
     fn raise(&mut self, held: &Held) -> Result<(), AllocError>
         ensures raised { OnOk result (IsMoreBy self.old self.new held.now) }
         ensures err { OnErr result (IsSameUses self.old self.new) }

@@ -37,7 +37,7 @@ impl Model for CountedValues {
 }
 
 impl CountedValues {
-    /// Nothing is told yet.
+    /// Nothing is reported yet.
     pub(crate) fn new(alloc: Global) -> CountedValues
         ensures { result ≡ record { promises = map.empty; imports = map.empty; answers = map.empty; questions = map.empty } }
     {

@@ -29,7 +29,7 @@ impl Counts {
         self.counts.get(id).copied().unwrap_or(0)
     }
 
-    /// Counts the number once more. A count that can't rise is refused as a growth is: there is no
+    /// Counts the number once more. A count that can't rise is refused as a failed allocation is: there is no
     /// memory for 2^64 capabilities.
     pub(crate) fn raise(&mut self, id: u32) -> Result<(), AllocError>
         ensures raised { OnOk result ((n : ℕ) → count_at self.new n ≡ count_at self.old n + once (id == n)) }

@@ -141,7 +141,7 @@ impl Exported {
         let _ = self.release(id, 1);
     }
 
-    /// Counts an export so many times less. At 0 it is gone.
+    /// Counts an export this many times less. At 0 it is gone.
     pub fn release(&mut self, id: u32, n: u32) -> Result<(), PeerFault>
         ensures released { released self.old id n ≡ leaving result self.new }
         ensures err { OnErr result (self.new ≡ self.old) }

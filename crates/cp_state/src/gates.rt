@@ -51,8 +51,8 @@ pub struct Next {
     pub cap: Cap,
 }
 
-/// The calls that wait, the gates that ended, and the ticket of the next call. Once a growth was
-/// refused in the middle of a change, each further change is refused.
+/// The calls that wait, the gates that ended, and the ticket of the next call. Once an allocation
+/// failed in the middle of a change, each further change is refused.
 #[derive(Drop)]
 pub struct Gates {
     alloc: Global,

@@ -3,15 +3,28 @@
 use cp_machine::{PeerFault, VatFault};
 use cp_tables::TableFault;
 use std::alloc::{AllocError, AllocFailed};
+use std::error::Error;
+use std::fmt;
 
 /// Why a part of an event wasn't done to its end.
 #[derive(Clone, Copy, PartialEq, Eq, Debug)]
 pub enum Halt {
     /// A rule of the machine answers this fault.
     Fault(PeerFault),
-    /// A growth was refused. What was changed stays so, and the vat is to be closed.
+    /// An allocation failed. What was changed stays so, and the vat is to be closed.
     OutOfMemory,
 }
+
+impl fmt::Display for Halt {
+    fn fmt<W: fmt::Write>(&self, f: &mut fmt::Formatter<W>) -> fmt::Result {
+        match self {
+            Halt::Fault(fault) => fault.fmt(f),
+            Halt::OutOfMemory => VatFault::OutOfMemory.fmt(f),
+        }
+    }
+}
+
+impl Error for Halt {}
 
 impl From<AllocError> for Halt {
     ghost use Rattle.std.specs.Prelude.{◌≡◌};

@@ -49,7 +49,7 @@ impl Holders {
         self.number(sought) > 0
     }
 
-    /// Counts what is named once more. A count that can't rise is refused as a growth is.
+    /// Counts what is named once more. A count that can't rise is refused as a failed allocation is.
     pub(crate) fn raise(&mut self, named: Option<Sought>) -> Result<(), AllocError>
         ensures raised { OnOk result (IsMore self.old self.new (times_named named)) }
         ensures err { OnErr result (IsSame self.old self.new) }
@@ -74,7 +74,7 @@ impl Holders {
         }
     }
 
-    /// Counts what the capabilities name once more each, or where a growth is refused nothing.
+    /// Counts what the capabilities name once more each, or nothing where an allocation fails.
     pub(crate) fn raise_all(&mut self, caps: &[Cap]) -> Result<(), AllocError>
         ensures raised { OnOk result (IsMore self.old self.new (times_in caps.now)) }
         ensures err { OnErr result (IsSame self.old self.new) }

@@ -42,7 +42,7 @@ impl NumberedValues {
     ghost use Rattle.cp_machine.specs.Room.{Fresh};
     ghost use Rattle.cp_state.specs.Halts.{Meets};
 
-    /// Nothing is told yet.
+    /// Nothing is reported yet.
     pub fn new(alloc: Global) -> NumberedValues
         ensures { result ≡ record { promises = map.empty; imports = map.empty; answers = map.empty; questions = map.empty } }
     {

@@ -72,7 +72,7 @@ pub record ReadsOn (mode : Mode) (limits : Bounds) (old new : Option (List ℕ))
   pub consumed : Consumes old new bytes
   pub stands : frames.StandsFor r bytes
 
--- Bytes are being written: so many of them went out, which the tap counts, and the others are left.
+-- Bytes are being written: this many of them went out, which the tap counts, and the others are left.
 pub record WritesOn {T : Type 0} (contents : T → Option (List ℕ)) (old new : Tap T) (b left : List ℕ) : Type 0 where
   pub sent : List ℕ
   pub splits : b ≡ sent ++ left

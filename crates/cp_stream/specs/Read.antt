@@ -49,7 +49,7 @@ RefusesMessage mode limits new b refusal =
 abbrev pub FailedOnce : ℕ → ℕ → Type 0
 FailedOnce old new = new ≡ (old + 1) % 2 ^ 64
 
--- A fault is told at 0, and what was read is refused for it; or the device failed in this call, as its tap counts.
+-- A fault is reported at 0, and what was read is refused for it; or the device failed in this call, as its tap counts.
 abbrev pub StopsAt : (List ℕ → Refusal → Type 0) → Option (List ℕ) → Option (List ℕ) → ℕ → ℕ → StreamFault → Type 0
 StopsAt why old new failures failed (faults.Refused at refusal) = (at ≡ 0) × (failed ≡ failures) × (b : List ℕ) × Consumes old new b × why b refusal
 StopsAt why old new failures failed faults.Device = FailedOnce failures failed × (b : List ℕ) × Consumes old new b
@@ -71,7 +71,7 @@ GivesNone (Ok (Some y)) = ⊥
 GivesNone (Ok None) = Unit {0}
 GivesNone (Err fault) = IsExcused fault
 
--- such a refusal was told; or the call is excused
+-- such a refusal was reported; or the call is excused
 abbrev pub TellsOnly : {X : Type 0} → (Refusal → Type 0) → Result (Option X) StreamFault → Type 0
 TellsOnly why (Ok x) = ⊥
 TellsOnly why (Err (faults.Refused at refusal)) = IsMemory refusal ⊎ why refusal

@@ -13,7 +13,7 @@ use Rattle.cp_stream.specs.declared.fault.StreamFault.{StreamFault}
 use Rattle.cp_stream.specs.declared.fault.StreamFault.TheVariants as faults
 use Rattle.cp_stream.specs.Stream.{Messages, HasFault}
 
--- A fault was told; or one was met behind messages and is told next; or the stream is read on, of which a rest of so many bytes goes on as these do.
+-- A fault was reported; or one was met after messages and is reported next; or the stream is read on, of which a rest of this many bytes goes on as these do.
 pub data State : Type 0 where
   failed : State
   refusing : Refusal → State
@@ -26,13 +26,13 @@ pub record Reader : Type 0 where
   pub state : State
   pub at : ℕ
 
--- a state stands for a rest: it goes on as the rest does, and has come open so far; or the rest has the fault that is told next
+-- a state stands for a rest: it goes on as the rest does, and has come open so far; or the rest has the fault that is reported next
 abbrev pub Stands : Mode → Bounds → State → List ℕ → Type 0
 Stands mode limits failed b = ⊥
 Stands mode limits (refusing refusal) b = HasFault mode limits b refusal
 Stands mode limits (reading rest taken) b = GoesOnAs mode rest b × (taken ≡ length b) × Open mode limits b
 
--- The reader stands for a stream of which nothing but the rest b is still to be told.
+-- The reader stands for a stream of which nothing but the rest b is still to be reported.
 abbrev pub StandsFor : Reader → List ℕ → Type 0
 StandsFor r b = Stands r.mode r.limits r.state b
 
@@ -59,7 +59,7 @@ pub record Reads (mode : Mode) (limits : Bounds) (b : List ℕ) (ms : List Messa
   pub splits : length b ≡ taken + length rest
   pub counts : CountsOn old taken new
 
--- The piece was read: what stood for b gave the messages of b and the piece, and stands for their rest. It keeps a fault of the rest only behind messages.
+-- The piece was read: what stood for b gave the messages of b and the piece, and stands for their rest. It keeps a fault of the rest only after messages.
 pub record Gives (old : Reader) (piece : List ℕ) (new : Reader) (given : List Message) : Type 0 where
   pub was_reading : IsReading old.state
   pub same_mode : new.mode ≡ old.mode
@@ -71,7 +71,7 @@ pub record Gives (old : Reader) (piece : List ℕ) (new : Reader) (given : List 
 abbrev pub IsMemory : Refusal → Type 0
 IsMemory refusal = (refusal ≡ refusals.Frame frames.OutOfMemory) ⊎ (refusal ≡ refusals.Schema schemas.OutOfMemory)
 
--- why a fault is told for a piece: it was told before or kept, memory ran out, or the rest has it
+-- why a fault is reported for a piece: it was reported before or kept, memory ran out, or the rest has it
 abbrev pub IsToldFor : Reader → List ℕ → State → Refusal → Type 0
 IsToldFor r piece failed refusal = refusal ≡ refusals.Frame frames.Failed
 IsToldFor r piece (refusing kept) refusal = refusal ≡ kept
@@ -82,19 +82,19 @@ abbrev pub IsAt : ℕ → (Refusal → Type 0) → StreamFault → Type 0
 IsAt at why (faults.Refused place refusal) = (place ≡ at) × why refusal
 IsAt at why faults.Device = ⊥
 
--- A fault was told, and the reader has failed.
+-- A fault was reported, and the reader has failed.
 pub record Tells (old : Reader) (piece : List ℕ) (new : Reader) (fault : StreamFault) : Type 0 where
   pub told : IsAt old.at (IsToldFor old piece old.state) fault
   pub failed : new.state ≡ failed
   pub same : new.at ≡ old.at
 
--- why a fault is told at the end: it was told before or kept, or the stream ends inside a frame
+-- why a fault is reported at the end: it was reported before or kept, or the stream ends inside a frame
 abbrev pub IsToldAtEnd : Reader → State → Refusal → Type 0
 IsToldAtEnd r failed refusal = refusal ≡ refusals.Frame frames.Failed
 IsToldAtEnd r (refusing kept) refusal = refusal ≡ kept
 IsToldAtEnd r (reading rest taken) refusal = (refusal ≡ refusals.Frame frames.Truncated) × ((b : List ℕ) → StandsFor r b → b ≢ [])
 
--- The stream ended behind a message, and the reader is as it was.
+-- The stream ended after a message, and the reader is as it was.
 pub record EndsWell (old new : Reader) : Type 0 where
   pub was_reading : IsReading old.state
   pub same : new ≡ old

@@ -19,7 +19,7 @@ pub record Fails {T : Type 0} (old new : Tap T) : Type 0 where
   pub failures : failures_of new ≡ (failures_of old + 1) % 2 ^ 64
   pub bytes : bytes_of new ≡ bytes_of old
 
--- so many bytes more went through, and no call failed
+-- this many bytes more went through, and no call failed
 pub record Moves {T : Type 0} (old new : Tap T) (count : ℕ) : Type 0 where
   pub failures : failures_of new ≡ failures_of old
   pub bytes : bytes_of new ≡ (bytes_of old + count) % 2 ^ 64

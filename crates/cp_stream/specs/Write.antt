@@ -21,7 +21,7 @@ use Rattle.cp_stream.specs.declared.tap.Tap.{Tap}
 use Rattle.cp_stream.specs.Tap.{inner_of, failures_of, bytes_of}
 use Rattle.cp_stream.specs.Read.{FailedOnce}
 
--- These are the segments that a message is laid out in, of at most so many words and at most so many; 0 words count as 1. Its tree says it, a message can hold the tree, and the tree and its layout are within the limits.
+-- These are the segments that a message is laid out in, each of at most this many words, and at most this many of them; 0 words count as 1. Its tree says it, a message can hold the tree, and the tree and its layout are within the limits.
 pub record IsLaidOutAs (limits : Bounds) (words segments : ℕ) (m : Message) (S : List (List ℕ)) : Type 0 where
   pub says : Says (message_made m) m
   pub shaped : Shaped (message_made m)
@@ -40,7 +40,7 @@ pub record IsWrittenAs (mode : Mode) (limits : Bounds) (words segments : ℕ) (m
   pub laid : IsLaidOutAs limits words segments m lists
   pub written : Written mode limits lists b
 
--- These bytes went out, and the tap counts them, which goes on at 0 behind the greatest u64.
+-- These bytes went out, and the tap counts them, which goes on at 0 after the greatest u64.
 pub record Passes {T : Type 0} (contents : T → Option (List ℕ)) (old new : Tap T) (b : List ℕ) : Type 0 where
   pub appends : Appends (contents (inner_of old)) (contents (inner_of new)) b
   pub counts : bytes_of new % 2 ^ 64 ≡ (bytes_of old + length b) % 2 ^ 64
@@ -58,7 +58,7 @@ pub record Breaks {T : Type 0} (contents : T → Option (List ℕ)) (old new : T
   pub passes : Passes contents old new sent
   pub failed : FailedOnce (failures_of old) (failures_of new)
 
--- the message went out as a frame, in segments of at most so many words and at most so many
+-- the message went out as a frame, in segments of at most this many words, and at most this many of them
 abbrev pub IsSent : {T : Type 0} → (T → Option (List ℕ)) → Mode → Bounds → ℕ → ℕ → Message → Tap T → Tap T → Type 0
 IsSent contents mode limits words segments m old new = (b : List ℕ) × IsWrittenAs mode limits words segments m b × Sends contents old new b
 
@@ -68,7 +68,7 @@ IsUnwrittenFor limits words segments m (refusals.Write fault) = IsNotLaidOut lim
 IsUnwrittenFor limits words segments m (refusals.Frame fault) = (fault ≡ frames.OutOfMemory) × (S : List (List ℕ)) × IsLaidOutAs limits words segments m S
 IsUnwrittenFor limits words segments m other = ⊥
 
--- A fault is told at 0, and nothing was written; or the writer failed while the frame went out.
+-- A fault is reported at 0, and nothing was written; or the writer failed while the frame went out.
 abbrev pub IsCutShort : {T : Type 0} → (T → Option (List ℕ)) → Mode → Bounds → ℕ → ℕ → Message → Tap T → Tap T → StreamFault → Type 0
 IsCutShort contents mode limits words segments m old new (faults.Refused at refusal) = (at ≡ 0) × (new ≡ old) × IsUnwrittenFor limits words segments m refusal
 IsCutShort contents mode limits words segments m old new faults.Device = (b : List ℕ) × IsWrittenAs mode limits words segments m b × Breaks contents old new b

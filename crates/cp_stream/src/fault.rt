@@ -36,7 +36,7 @@ pub enum StreamFault {
     Device,
 }
 
-/// A refusal behind so many bytes of accepted frames.
+/// A refusal after this many bytes of accepted frames.
 pub(crate) fn refused(at: u64, refusal: Refusal) -> StreamFault
     ensures { result ≡ Refused at refusal }
 {
@@ -74,7 +74,10 @@ impl Error for Refusal {}
 impl fmt::Display for StreamFault {
     fn fmt<W: fmt::Write>(&self, f: &mut fmt::Formatter<W>) -> fmt::Result {
         match self {
-            StreamFault::Refused { at, refusal } => write!(f, "refused at byte {at}: {refusal}"),
+            StreamFault::Refused { at, refusal } => {
+                write!(f, "refused at byte {at}: ")?;
+                refusal.fmt(f)
+            }
             StreamFault::Device => f.write_str("device failed"),
         }
     }

@@ -36,7 +36,7 @@ fn frame_reader(alloc: Global, mode: Mode, limits: Limits) -> FrameReader
     }
 }
 
-/// Reads at most so many bytes into a buffer, and says how many: 0 at the end alone.
+/// Reads at most this many bytes into a buffer, and says how many: 0 at the end alone.
 fn read_some<R: Read>(
     from: &mut Tap<R>,
     buffer: &mut [u8],
@@ -106,7 +106,7 @@ fn take_frame<R: Read>(
 /// Reads the next frame of a device: exactly its bytes. `None` says that the device ended before any
 /// byte (encoding specification, "Serialization Over a Stream").
 ///
-/// `Truncated` (F3) says that it ended inside a frame; F1, F2, F4 and F6 are told as by `FrameReader`,
+/// `Truncated` (F3) says that it ended inside a frame; F1, F2, F4 and F6 are reported as by `FrameReader`,
 /// all at 0. `Device` says that a call of the device failed. What was read is the front of its bytes.
 pub fn read_segments<R: Read>(
     alloc: Global,

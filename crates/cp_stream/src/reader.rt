@@ -170,8 +170,8 @@ impl MessageReader {
     /// order. After a fault each call answers `Failed` (F5).
     ///
     /// A fault of framing (F1, F2, F4), of a tree (G1 to G9) or of a message (S1, S2) that stands
-    /// behind messages of the same piece is kept, and told by the next call. Want of memory (F6, S3)
-    /// is told at once, and then the messages of the piece are dropped.
+    /// after messages of the same piece is kept, and reported by the next call. An allocation failure (F6, S3)
+    /// is reported at once, and then the messages of the piece are dropped.
     pub fn feed(&mut self, piece: &[u8]) -> Result<Vec<Message>, StreamFault>
         ensures given { IfOk result (λ ms. Gives self.old piece.now self.new ms.items) }
         ensures told { IfErr result (Tells self.old piece.now self.new) }
@@ -186,10 +186,10 @@ impl MessageReader {
         )
     }
 
-    /// Ends the stream. `Ok` says that it ended behind a message, and then it may still go on.
+    /// Ends the stream. `Ok` says that it ended after a message, and then it may still go on.
     ///
-    /// `Truncated` (F3) says that it ended inside a frame. A kept fault is told instead, and after a
-    /// told fault `Failed` (F5).
+    /// `Truncated` (F3) says that it ended inside a frame. A kept fault is reported instead, and after a
+    /// reported fault `Failed` (F5).
     pub fn finish(&mut self) -> Result<(), StreamFault>
         ensures ok { OnOk result (EndsWell self.old self.new) }
         ensures told { IfErr result (TellsAtEnd self.old self.new) }

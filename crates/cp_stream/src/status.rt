@@ -7,8 +7,8 @@ use crate::fault::Refusal;
 pub(crate) enum Status {
     /// The stream is read on.
     Reading,
-    /// A frame behind messages that were given holds none: this is told next.
+    /// A frame after messages that were given holds none: this is reported next.
     Refusing(Refusal),
-    /// A fault was told.
+    /// A fault was reported.
     Failed,
 }

@@ -8,7 +8,7 @@ ghost use Rattle.cp_stream.specs.Tap.{inner_of, failures_of, bytes_of, CountsRea
 use std::io::{Read, Result, Write};
 
 /// A reader or a writer, with the number of its calls that failed and of the bytes that went through,
-/// each of which goes on at 0 behind `u64::MAX`. A call failed if it gave an error of any kind, or if
+/// each of which goes on at 0 after `u64::MAX`. A call failed if it gave an error of any kind, or if
 /// it is a write that took 0 bytes.
 #[derive(Drop)]
 pub struct Tap<T> {

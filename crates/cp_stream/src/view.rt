@@ -43,7 +43,7 @@ pub(crate) fn message_in(
 
 /// The message of rpc.capnp that a frame's segments hold, read in place: the first pointer's tree, as
 /// `struct Message` (encoding specification, "Messages"). No memory is taken. A fault of reading the
-/// tree (G1 to G9), or else the first field that is at fault (S1, S2), is told at 0.
+/// tree (G1 to G9), or else the first field that is at fault (S1, S2), is reported at 0.
 pub fn view_of<'a>(segments: &'a Segments, limits: Limits) -> Result<MessageView<'a>, StreamFault>
     // What is viewed is the message that the segments hold.
     ensures found { IfOk result (λ v. Holds limits segments.now (told v)) }

@@ -61,12 +61,12 @@ fn frame_of(
     Ok(frame)
 }
 
-/// Writes a message as one frame, in segments of at most so many words as by
+/// Writes a message as one frame, in segments of at most this many words as by
 /// `cp_writing::write_segments` (encoding specification, "Serialization Over a Stream", "Packing").
 ///
 /// B2 if a list of it has 2^29 elements or words or more; else B1 if it nests deeper than the limit;
 /// else B2 if it costs more; else B4 if its segments have more words together than a frame may have;
-/// B3 and F6 if memory runs out. All are told at 0, before a byte is written. `Device` says that a
+/// B3 and F6 if memory runs out. All are reported at byte 0, before a byte is written. `Device` says that a
 /// call of the device failed, and then a beginning of the frame was written.
 pub fn write_message_in<W: Write>(
     alloc: Global,

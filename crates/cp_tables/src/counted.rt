@@ -27,7 +27,7 @@ impl<T> Counted<T> {
         Ok(())
     }
 
-    /// Counts so many times less, and says whether the entry goes.
+    /// Counts this many times less, and says whether the entry goes.
     pub(crate) fn lower(&mut self, n: u32) -> Result<bool, TableFault>
         ensures lowered { IfOk result (λ _. (n ≤ self.old.count) × (self.new ≡ record self.old { count = self.old.count - n })) }
         ensures goes { IfOk result (λ goes. IsTrue goes ↔ (n ≡ self.old.count)) }

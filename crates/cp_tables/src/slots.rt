@@ -105,7 +105,7 @@ impl<V> Slots<V> {
         }
         let key = self.slab.vacant_key();
         // The slab promises of its keys only that they are below its capacity, which memory alone
-        // bounds. So a key that is no number is told as want of memory.
+        // bounds. So a key that is no number is reported as an allocation failure.
         if key > u32::MAX as usize {
             return Err(TableFault::OutOfMemory);
         }

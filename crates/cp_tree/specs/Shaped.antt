@@ -2,7 +2,7 @@
 use Rattle.std.specs.Prelude.{◌≡◌, ℕ, ◌+◌, ◌*◌, ◌^◌, ◌<◌, List, length, All}
 use Rattle.cp_tree.specs.Node.{Elements, voids, bits, bytes, halves, quads, words, Node, null, cap, struct, list, ptrs, structs, Nodes, no_nodes, node, Bodies, no_bodies, body, count, number_of}
 
--- each number fits so many bits
+-- each number fits this many bits
 abbrev pub AllFit : ℕ → List ℕ → Type 0
 AllFit w ns = All (λ n. n < 2 ^ w) ns
 

@@ -25,7 +25,7 @@ fn spend(left: &mut Option<u64>, price: u64)
     }
 }
 
-/// Whether bodies nest no deeper than so many levels, and then what the tree leaves of a limit on
+/// Whether bodies nest no deeper than this many levels, and then what the tree leaves of a limit on
 /// cost.
 #[cycle(measure)]
 #[inline(always)]
@@ -91,7 +91,7 @@ fn bodies_nest(bodies: &[Body], price: u64, levels: u32, left: &mut Option<u64>)
     true
 }
 
-/// Whether bodies nest no deeper than so many levels, and then what the tree leaves of a limit on
+/// Whether bodies nest no deeper than this many levels, and then what the tree leaves of a limit on
 /// cost.
 #[cycle(draft_measure)]
 pub fn draft_nests(draft: &Draft, levels: u32, left: &mut Option<u64>) -> bool

@@ -20,7 +20,7 @@ fn element_fits(words: &[u64], ptrs: usize, d: u16, n: u16) -> bool
     words.len() == d as usize && ptrs == n as usize
 }
 
-/// Whether so many elements of a composite list take fewer than 2^29 words together.
+/// Whether this many elements of a composite list take fewer than 2^29 words together.
 fn elements_fit(count: usize, words: u16, ptrs: u16) -> bool
     ensures { Decides result (HasSizes words ptrs × (count < 2 ^ 30) × (count * (words + ptrs) < 2 ^ 29)) }
 {

@@ -14,7 +14,7 @@ pub enum Tree {
     /// A capability: its index in the message's capability table.
     Cap(u32),
     Struct(Body),
-    /// A list of so many elements without bits.
+    /// A list of this many elements without bits.
     Voids(u32),
     Bits(Vec<bool>),
     Bytes(Vec<u8>),

@@ -31,11 +31,11 @@ abbrev pub IsRefused : State → List Event → VatFault → Type 0
 IsRefused last [] fault = ⊥
 IsRefused last (event ∷ more) fault = (new : State) × Step last event (Err fault) [] new
 
--- There was no room for what the events give, and so none was done.
+-- There was no memory for what the events give, and so none was done.
 abbrev pub HadNoRoom : ℕ → VatFault → Type 0
 HadNoRoom number fault = (number ≡ 0) × (fault ≡ refusals.OutOfMemory)
 
--- How events ended of which a number was done and others were left: none was left, or the first of these was refused, which is told with its place.
+-- How events ended of which a number was done and others were left: none was left, or the first of these was refused, which is reported with its place.
 abbrev pub EndsBy : State → ℕ → List Event → Option (ℕ × VatFault) → Type 0
 EndsBy last number left None = left ≡ []
 EndsBy last number left (Some refused) = (refused.0 ≡ number) × (IsRefused last left refused.1 ⊎ HadNoRoom number refused.1)

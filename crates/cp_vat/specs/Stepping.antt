@@ -27,25 +27,25 @@ module _ {A : Type 0} where
   effects_of (Ok acted) = acted.effects
   effects_of (Err fault) = []
 
-  -- The application's call does its own part, with its effects behind those that were there; a refusal is the rule's, and changes nothing.
+  -- The application's call does its own part, with its effects after those before it; a refusal is the rule's, and changes nothing.
   abbrev pub Calls : (Result OwnDone VatFault → Type 0) → (A → Value) → State → Result A VatFault → List Effect → List Effect → State → Type 0
   Calls Rule value old (Ok x) before after new = (first : List Effect) × (after ≡ before ++ first) × Rule (Ok (value x, first, new))
   Calls Rule value old (Err refusals.OutOfMemory) before after new = Unit {0}
   Calls Rule value old (Err fault) before after new = Rule (Err fault) × (new ≡ old)
 
-  -- Behind what was done waiting calls left, with their effects behind it; or memory ran out, and the vat is closed.
+  -- After what was done waiting calls left, with their effects after it; or memory ran out, and the vat is closed.
   abbrev pub Ends : State → A → List Effect → Result (Acted A) VatFault → State → Type 0
   Ends mid value before (Ok acted) new =
       (acted.value ≡ value) × ((rest : List Effect) × (acted.effects ≡ before ++ rest) × Follows mid rest new)
   Ends mid value before (Err fault) new = (fault ≡ refusals.OutOfMemory) × (new.is_closed ≡ true)
 
-  -- So behind a call of the application. One that was refused is answered by its refusal: want of memory closes the vat, and any other changes nothing.
+  -- So after a call of the application. One that was refused is answered by its refusal: an allocation failure closes the vat, and any other changes nothing.
   abbrev pub CallEnds : State → Result A VatFault → List Effect → Result (Acted A) VatFault → State → Type 0
   CallEnds mid (Ok value) before result new = Ends mid value before result new
   CallEnds mid (Err fault) before result new =
       (result ≡ Err fault) × (fault ≡ refusals.OutOfMemory → new.is_closed ≡ true) × (fault ≢ refusals.OutOfMemory → new ≡ mid)
 
--- So behind a message. One at fault is answered by an Abort, and the vat is closed.
+-- So after a message. One at fault is answered by an Abort, and the vat is closed.
 abbrev pub MessageEnds : State → Result (Unit {0}) Halt → List Effect → Result (Acted (Unit {0})) VatFault → State → Type 0
 MessageEnds mid (Ok value) before result new = Ends mid value before result new
 MessageEnds mid (Err (halts.Fault fault)) before (Ok acted) new = (acted.effects ≡ aborts fault) × (new.is_closed ≡ true)

@@ -13,7 +13,7 @@ use cp_rules::take::answer_of;
 use cp_state::Core;
 use cp_tables::LIMIT;
 
-/// The first fault of a Call: its number, its target, room for its answer.
+/// The first fault of a Call: its number, its target, whether the answers and the tickets are full.
 pub(crate) fn check_call(core: &Core, call: &Call) -> Result<(), PeerFault>
     ensures { result ≡ judged (call_faults (state_of core.now) call.now) }
 {
@@ -27,7 +27,7 @@ pub(crate) fn check_call(core: &Core, call: &Call) -> Result<(), PeerFault>
     Ok(())
 }
 
-/// The fault of a target: an export that isn't there, or an answer that isn't kept or was finished.
+/// The fault of a target: an export that doesn't exist, or an answer that isn't kept or was finished.
 pub(crate) fn check_target(core: &Core, target: &Target) -> Result<(), PeerFault>
     ensures { result ≡ judged (target_faults (state_of core.now) target.now) }
 {

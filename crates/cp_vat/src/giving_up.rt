@@ -20,7 +20,7 @@ use cp_tables::Stage;
 use std::alloc::AllocError;
 
 /// Gives a question up. After its outcome the question is gone; before it, it stays until then. The
-/// peer is told where the call was sent.
+/// peer gets a Finish where the call was sent.
 pub(crate) fn finish(core: &mut Core, id: u32, effects: &mut Vec<Effect>) -> Result<(), VatFault>
     ensures { Calls (DoFinish (state_of core.old) id) (λ _. values.Nothing) (state_of core.old) result effects.old.items effects.new.items (state_of core.new) }
 {

@@ -165,7 +165,7 @@ fn go_back(
 }
 
 /// The first call after those that were sent on a reference: a Disembargo follows them, and the call
-/// waits for its echo. Where there is no room for the embargo nothing changes.
+/// waits for its echo. Where the table of embargoes is full nothing changes.
 fn put_embargo(
     core: &mut Core,
     call: Underway,

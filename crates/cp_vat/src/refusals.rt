@@ -14,7 +14,7 @@ use cp_refs::{Cap, Origin, Outcome, PromiseId, QuestionKind, Request};
 use cp_state::Core;
 use cp_tables::{LIMIT, Stage};
 
-/// What `call` is refused for, before its room on its route is looked at.
+/// What `call` is refused for, before full tables on its route are looked at.
 pub(crate) fn check_call(core: &Core, cap: &Cap, request: &Request) -> Result<(), VatFault>
     ensures { result ≡ judged (call_refusals (state_of core.now) cap.now request.now) }
 {
@@ -202,7 +202,7 @@ fn names_path(table: &[Cap]) -> bool
     false
 }
 
-/// Whether it is a path of an open local question, which the peer can't be told of.
+/// Whether it is a path of an open local question, which the peer doesn't know.
 fn is_local_path(core: &Core, cap: &Cap) -> bool
     ensures { result ≡ is_local_path (state_of core.now) cap.now }
 {

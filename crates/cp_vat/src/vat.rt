@@ -130,7 +130,7 @@ impl Vat {
     ///
     /// # Errors
     ///
-    /// V1 or V2 where a question or a promise that is named isn't there, V5 where the table names a
+    /// V1 or V2 where a question or a promise that is named doesn't exist, V5 where the table names a
     /// path of an open local question, V7 past the sizes, V8 where a table is full, V11 where an import
     /// isn't held.
     pub fn call(&mut self, cap: Cap, request: Request) -> Result<Acted<u32>, VatFault>
@@ -148,7 +148,7 @@ impl Vat {
     ///
     /// # Errors
     ///
-    /// V1 where the call wasn't delivered or was answered, or a question that is named isn't there, V2
+    /// V1 where the call wasn't delivered or was answered, or a question that is named doesn't exist, V2
     /// where a promise isn't, V5 where a path of a question is named, V7 past the sizes, V8 where a
     /// table is full, V11 where an import isn't held.
     pub fn answer(&mut self, origin: Origin, outcome: Outcome) -> Result<Acted<()>, VatFault>
@@ -182,8 +182,8 @@ impl Vat {
     ///
     /// # Errors
     ///
-    /// V1 where the value names a question that isn't there, V2 where the promise isn't the
-    /// application's or the value's isn't there, V3 where it is settled, V4 where the value leads back
+    /// V1 where the value names a question that doesn't exist, V2 where the promise isn't the
+    /// application's or the value's doesn't exist, V3 where it is settled, V4 where the value leads back
     /// to it, V5 where the value is a path of a question, V7 past the sizes, V8 where a table is full,
     /// V11 where the value's import isn't held.
     pub fn resolve(&mut self, promise: PromiseId, value: Cap) -> Result<Acted<()>, VatFault>
@@ -233,7 +233,7 @@ impl Vat {
     ///
     /// # Errors
     ///
-    /// V2 where it isn't there, V5 where it is open, V6 where it is in use.
+    /// V2 where it doesn't exist, V5 where it is open, V6 where it is in use.
     pub fn forget(&mut self, promise: PromiseId) -> Result<Acted<()>, VatFault>
         ensures { Step self.old (events.Forget promise) (answered (λ _. values.Nothing) result) (effects_of result) self.new }
     {

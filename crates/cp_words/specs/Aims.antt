@@ -10,7 +10,7 @@ use Rattle.cp_words.specs.declared.kind.Kind.TheVariants as kinds
 abbrev pub segment : List (List ℕ) → ℕ → List ℕ
 segment S s = slice_index_or S s []
 
--- so many words of a segment, from word q on
+-- this many words of a segment, from word q on
 abbrev pub words_at : List (List ℕ) → ℕ → ℕ → ℕ → List ℕ
 words_at S s q n = take n (drop q (segment S s))
 
@@ -18,7 +18,7 @@ words_at S s q n = take n (drop q (segment S s))
 abbrev pub Holds : List (List ℕ) → ℕ → ℕ → Pointer → Type 0
 Holds S s p r = (p < length (segment S s)) × (pointer_of (slice_index (segment S s) p) ≡ Some r)
 
--- A struct or list pointer: how far behind the word after it its body begins, and what the body is.
+-- A struct or list pointer: how far after the word after it its body begins, and what the body is.
 abbrev pub IsBodyPointer : Pointer → ℤ → Kind → Type 0
 IsBodyPointer (pointers.Struct offset d n) o k = (offset ≡ o) × (kinds.Struct d n ≡ k)
 IsBodyPointer (pointers.List offset size n) o k = (offset ≡ o) × (kinds.List size n ≡ k)
@@ -26,7 +26,7 @@ IsBodyPointer pointers.Null o k = ⊥
 IsBodyPointer (pointers.Far double place other) o k = ⊥
 IsBodyPointer (pointers.Cap i) o k = ⊥
 
--- The second word of a pad: a struct or list pointer with offset zero. All zero bits are the struct of size zero.
+-- The second word of a landing pad: a struct or list pointer with offset zero. All zero bits are the struct of size zero.
 abbrev pub IsPadTag : Pointer → Kind → Type 0
 IsPadTag pointers.Null k = kinds.Struct 0 0 ≡ k
 IsPadTag (pointers.Struct offset d n) k = (offset ≡ pos 0) × (kinds.Struct d n ≡ k)
@@ -42,13 +42,13 @@ pub record AimsHere (S : List (List ℕ)) (s p : ℕ) (k : Kind) (start : ℕ) :
   pub says : IsBodyPointer pointer offset k
   pub begins : pos start ≡ pos (p + 1) +ℤ offset
 
--- by a pad of one word, which stands for the pointer
+-- by a landing pad of one word, which stands for the pointer
 pub record AimsByPad (S : List (List ℕ)) (s p : ℕ) (k : Kind) (s' start : ℕ) : Type 0 where
   pub place : ℕ
   pub stands : Holds S s p (pointers.Far false place s')
   pub pad : AimsHere S s' place k start
 
--- by a pad of two words: where the body begins, and what it is
+-- by a landing pad of two words: where the body begins, and what it is
 pub record AimsByTwo (S : List (List ℕ)) (s p : ℕ) (k : Kind) (s' start : ℕ) : Type 0 where
   pub place : ℕ
   pub other : ℕ
@@ -63,7 +63,7 @@ pub record AimsByTwo (S : List (List ℕ)) (s p : ℕ) (k : Kind) (s' start : �
 abbrev pub Aims : List (List ℕ) → ℕ → ℕ → Kind → ℕ → ℕ → Type 0
 Aims S s p k s' start = (AimsHere S s p k start × (s' ≡ s)) ⊎ (AimsByPad S s p k s' start ⊎ AimsByTwo S s p k s' start)
 
--- the word aims at a body of so many words, which lies wholly inside its segment
+-- the word aims at a body of this many words, which lies wholly inside its segment
 pub record HasBody (S : List (List ℕ)) (s p : ℕ) (k : Kind) (size s' start : ℕ) : Type 0 where
   pub aims : Aims S s p k s' start
   pub inside : start + size ≤ length (segment S s')

@@ -25,21 +25,21 @@ pub enum ElementSize {
 pub enum Pointer {
     /// All 64 bits are zero.
     Null,
-    /// A struct: its body begins `offset` words behind the word after the pointer, with so many
-    /// data words and then so many pointers.
+    /// A struct: its body begins `offset` words after the word after the pointer, with this many
+    /// data words and then this many pointers.
     Struct {
         offset: i32,
         words: u16,
         ptrs: u16,
     },
     /// A list: its body begins as a struct's does. `count` is the number of elements, or for a
-    /// composite list the number of words behind its tag.
+    /// composite list the number of words after its tag.
     List {
         offset: i32,
         size: ElementSize,
         count: u32,
     },
-    /// The pointer stands elsewhere: `place` is the word of `segment` where its pad begins, which
+    /// The pointer stands elsewhere: `place` is the word of `segment` where its landing pad begins, which
     /// has two words if `double`.
     Far {
         double: bool,
@@ -213,7 +213,7 @@ fn bits_of(size: ElementSize) -> u64
     }
 }
 
-/// The words of a list's body: of so many elements, or for a composite list of so many words and
+/// The words of a list's body: of this many elements, or for a composite list of this many words and
 /// their tag.
 #[inline(always)]
 pub fn list_words(size: ElementSize, count: u32) -> u64

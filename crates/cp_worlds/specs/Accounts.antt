@@ -90,7 +90,7 @@ lowered_by lists (messages.Finish f) e = if f.release_result_caps then times e (
 lowered_by lists (messages.Unimplemented t) e = times e (resolve_named (told t))
 lowered_by lists other e = 0
 
--- Behind a Finish its number has no results: the next Finish of that number is about another answer.
+-- After a Finish its number has no results: the next Finish of that number is about another answer.
 abbrev pub results_behind : Message → (ℕ → List ℕ) → ℕ → List ℕ
 results_behind m results a = if finishes a m then [] else results a
 
@@ -102,7 +102,7 @@ abbrev pub new_account : List ℕ → Account
 new_account mentions = new_exchange mentions
 
 -- What a message does to a question that was sent: it is asked where there is none under its number, it is finished by true before its Return and by
--- false behind it. Nothing else is done with questions.
+-- false after it. Nothing else is done with questions.
 abbrev pub asked : List ℕ → Option Account → Option (Option Account)
 asked mentions None = Some (Some (new_account mentions))
 asked mentions (Some account) = None

@@ -114,7 +114,7 @@ import_count [] i = 0
 import_count (came m ∷ past) i = import_count past i + times i (taken_by past m)
 import_count (sent m ∷ past) i = import_count past i - given_up m i
 
--- the stage behind a Return, and behind a Finish: with both the entry is gone
+-- the stage after a Return, and after a Finish: with both the entry is gone
 abbrev pub stage_returned : Option Stage → Option Stage
 stage_returned (Some stages.Open) = Some stages.Returned
 stage_returned (Some stages.Finished) = None

@@ -63,7 +63,7 @@ abbrev pub standing_of : Option Account → Standing
 standing_of None = absent
 standing_of (Some account) = standing_at account.stage account.kept
 
--- how it will stand when its Call or Bootstrap came, and when its Finish came: by true before it was given, by either behind that
+-- how it will stand when its Call or Bootstrap came, and when its Finish came: by true before it was given, by either after that
 abbrev pub opened : Standing → Standing
 opened absent = ungiven
 opened other = mistaken

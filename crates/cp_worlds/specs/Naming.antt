@@ -22,7 +22,7 @@ use Rattle.cp_machine.specs.State.{State}
 use Rattle.cp_worlds.specs.Accounts.{accounts_of, is_given_up}
 use Rattle.cp_worlds.specs.Lane.{Reference, import_, path_to}
 
--- of each message on the way, with what stands before it and behind it
+-- of each message on the way, with what stands before it and after it
 abbrev pub EachOnWay : List Message → (List Message → Message → List Message → Type 0) → Type 0
 EachOnWay inbox Holds = (before behind : List Message) (m : Message) → inbox ≡ before ++ m ∷ behind → Holds before m behind
 

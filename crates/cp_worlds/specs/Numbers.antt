@@ -49,7 +49,7 @@ pub record ChangesKeep : Type 0 where
   pub counts : {old new : Counts} → Changes old new → AreCounts old.exports × AreCounts old.imports → AreCounts new.exports × AreCounts new.imports
   pub numbers : {old new : Counts} (e : ℕ) (cap : Cap) → Changes old new → IsNumberOf old.exports e cap → IsNumberOf new.exports e cap
 
--- the exports behind what a message lowers: a Release by its count, and a Finish that asks for it by what the answer's results named
+-- the exports after what a message lowers: a Release by its count, and a Finish that asks for it by what the answer's results named
 abbrev pub lowering : State → Message → Result (Table (Counted Cap)) PeerFault
 lowering s (messages.Release r) = released s.counts.exports r.id r.reference_count
 lowering s (messages.Finish f) =

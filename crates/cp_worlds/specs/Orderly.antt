@@ -65,11 +65,11 @@ abbrev pub IsHeldAlone : State → Origin → Type 0
 IsHeldAlone s (origins.Answer a) = Unit {0}
 IsHeldAlone s (origins.Own q) = IsHeldBack (get s.entries.questions q) × NoneWaits s.waiting.calls q
 
--- what was sent from state to state is as the accounts see it, and the state behind is orderly
+-- what was sent from state to state is as the accounts see it, and the state after is orderly
 abbrev pub Goes : State → List Effect → State → Type 0
 Goes old effects new = Sends old effects new × IsOrderly new
 
--- what came and was sent then is as the accounts see it, and the state behind is orderly
+-- what came and was sent then is as the accounts see it, and the state after is orderly
 abbrev pub Heeds : State → Message → List Effect → State → Type 0
 Heeds old m effects new = Hears old m effects new × IsOrderly new
 

@@ -122,7 +122,7 @@ abbrev pub AreDelivered : calling.Reference → List Delivery → Type 0
 AreDelivered (came_to (caps.Object k)) delivered = AllByRecursion (λ delivery. delivery.object ≡ k) delivered
 AreDelivered other delivered = delivered ≡ []
 
--- The only message of a kind on the way, with those before it and those behind it.
+-- The only message of a kind on the way, with those before it and those after it.
 pub record IsOnly (inbox : List Message) (is : Message → Bool) (before : List Message) (m : Message) (behind : List Message) : Type 0 where
   pub all : inbox ≡ before ++ m ∷ behind
   pub it : is m ≡ true
@@ -187,7 +187,7 @@ pub record Absent (here there : End) (ref : Reference) (made : List ℕ) : Type 
   pub none : IsAbsent here.vat there.vat ref
   pub unmade : made ≡ []
 
--- Its question's Call or Bootstrap is on the way: all are behind that.
+-- Its question's Call or Bootstrap is on the way: all are after that.
 pub record Unopened (here there : End) (ref : Reference) (made : List ℕ) : Type 0 where
   pub open_ : reference_of here.vat.values (cap_of ref) ≡ on_wire
   pub before : List Message
@@ -212,7 +212,7 @@ pub record Unsettled (here there : End) (ref : Reference) (made : List ℕ) : Ty
   pub no_back : back here there made ≡ []
   pub none_here : waits_here here made ≡ []
 
--- A Return or a Resolve on the way tells an object of its vat: those on the way back are behind it and go to that export, as those go that wait there.
+-- A Return or a Resolve on the way tells an object of its vat: those on the way back are after it and go to that export, as those go that wait there.
 pub record Told (here there : End) (ref : Reference) (made : List ℕ) : Type 0 where
   pub yet : IsYet here.vat ref made
   pub object : ℕ
@@ -256,7 +256,7 @@ pub record Marked (here there : End) (ref : Reference) (made : List ℕ) : Type 
   pub mark : mark_of here.vat (cap_of ref) ≡ Some None
   pub none_here : waits_here here made ≡ []
 
--- Its Disembargo is on the way there: the others wait here, and behind it there is none.
+-- Its Disembargo is on the way there: the others wait here, and after it there is none.
 pub record Embargoed (here there : End) (ref : Reference) (made : List ℕ) : Type 0 where
   pub comes : ComesBack here there ref made
   pub embargo : ℕ
@@ -269,7 +269,7 @@ pub record Embargoed (here there : End) (ref : Reference) (made : List ℕ) : Ty
   pub no_echo : list_any (is_echo embargo) here.inbox ≡ false
   pub waiting : AllWaitHere here made (λ g. g ≡ gates.Embargo embargo)
 
--- Its echo is on the way back: none is on the way there, and none behind the echo.
+-- Its echo is on the way back: none is on the way there, and none after the echo.
 pub record Echoed (here there : End) (ref : Reference) (made : List ℕ) : Type 0 where
   pub comes : ComesBack here there ref made
   pub embargo : ℕ

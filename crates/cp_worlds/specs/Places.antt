@@ -16,7 +16,7 @@ use Rattle.cp_worlds.specs.Ledger.{named_by}
 abbrev pub NoneFinished : State → Type 0
 NoneFinished s = (q : ℕ) → IfSome (get s.entries.questions q) (λ entry. is_finish_noted entry.stage ≡ false)
 
--- Behind the Resolve of an export nothing names that export, nor does the Resolve itself: its promise was settled.
+-- After the Resolve of an export nothing names that export, nor does the Resolve itself: its promise was settled.
 abbrev pub IsLastOf : State → Message → List Message → Type 0
 IsLastOf sender (messages.Resolve r) behind =
     (p : ℕ) × (value : Cap) × IsExport sender r.promise_id (caps.Promise p) × (get sender.values.promises p ≡ Some (Some value))

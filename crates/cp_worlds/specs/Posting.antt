@@ -28,7 +28,7 @@ pub record Hears (old : State) (m : Message) (effects : List Effect) (new : Stat
   pub usual : AreUsual (messages_sent effects)
   pub posts : Posts mid (messages_sent effects) (accounts_of new)
 
--- Two vats agree on behind what one of them sends, and behind a message that came and what is sent then.
+-- Two vats agree on after what one of them sends, and after a message that came and what is sent then.
 pub record KeepsBy : Type 0 where
   pub sends : {old new : State} {effects : List Effect} {other : Accounts} {to_one to_other : List Message} → Agree (accounts_of old) to_one other to_other
       → Sends old effects new → Agree (accounts_of new) to_one other (to_other ++ messages_sent effects)

@@ -15,7 +15,7 @@ BearsTicket s (origins.Answer a) ticket = (entry : Exchange AnswerEntry) × (get
 BearsTicket s (origins.Own q) ticket =
     (entry : Exchange QuestionEntry) × (get s.entries.questions q ≡ Some entry) × (entry.kept.ticket ≡ Some ticket) × (entry.kept.forwards ≡ None)
 
--- each ticket is lower than those behind it
+-- each ticket is lower than those after it
 abbrev pub AreRising : List ℕ → Type 0
 AreRising [] = Unit {0}
 AreRising (ticket ∷ more) = AllByRecursion (λ later. ticket < later) more × AreRising more

@@ -1,4 +1,4 @@
--- How calls wait on behind a promise that is settled, and behind one turn of waiting calls. (rpc.capnp: "Call", "Disembargo".)
+-- How calls wait on after a promise that is settled, and after one turn of waiting calls. (rpc.capnp: "Call", "Disembargo".)
 use Rattle.std.specs.Prelude.{◌≡◌, ℕ, false, List, [], ◌∷◌, Option, Some, None, IfSome, Ok}
 use Rattle.std.specs.Option.{option_map}
 use Rattle.std.specs.FinMap.{get}
@@ -34,7 +34,7 @@ use Rattle.cp_machine.specs.declared.entry.Tied.{Tied}
 abbrev pub NoneLeadsToOver : State → Type 0
 NoneLeadsToOver s = (cap : Cap) (gate : Gate) → Routes s.values cap (routes.Wait gate) → gave s.waiting.over gate ≡ None
 
--- Behind an open promise that is settled, calls wait on rightly, and no capability leads to a gate that is over.
+-- After an open promise that is settled, calls wait on rightly, and no capability leads to a gate that is over.
 pub record SettlingKeeps : Type 0 where
   pub rightly : (old : State) (ports : Table Port) (p : ℕ) (value : Cap) (done : Done) → WaitRightly old ports → NoneLeadsToOver old
       → get old.values.promises p ≡ Some None → Settle old p value (Ok done) → WaitRightly done.1 ports
@@ -80,7 +80,7 @@ abbrev pub MayGo : State → Table Port → Origin → Route → Type 0
 MayGo s ports origin (routes.Fail x) = IsUngiven s ports origin
 MayGo s ports origin other = Unit {0}
 
--- Behind any turn that finds room, calls wait on rightly, and no capability leads to a gate that is over.
+-- After any turn that finds room, calls wait on rightly, and no capability leads to a gate that is over.
 pub record TurnKeeps : Type 0 where
   pub rightly : (old mid : State) (ports : Table Port) (call : Held) (cap : Cap) (route : Route) (first : List Effect) → WaitRightly old ports → NoneLeadsToOver old
       → IsNext old call cap → Routes old.values cap route → MayGo old ports call.origin route

@@ -38,7 +38,7 @@ new_end bootstrap = record { vat = new_state bootstrap; inbox = [] }
 abbrev pub new_world : Option ℕ → Option ℕ → World
 new_world one other = record { first = new_end one; second = new_end other }
 
--- A move: the side at which it is made, the event with its answer and its effects, and the world behind it.
+-- A move: the side at which it is made, the event with its answer and its effects, and the world after it.
 pub record Move : Type 0 where
   pub side : Side
   pub moment : Moment
@@ -57,7 +57,7 @@ abbrev pub Takes : List Message → Event → List Message → Type 0
 Takes inbox (events.Receive m) rest = inbox ≡ m ∷ rest
 Takes inbox call rest = rest ≡ inbox
 
--- messages go to an end, behind those on the way
+-- messages go to an end, after those on the way
 abbrev pub with_mail : End → List Message → End
 with_mail there messages = record there { inbox = there.inbox ++ messages }
 
@@ -67,7 +67,7 @@ pub record Makes (old : World) (move : Move) : Type 0 where
   pub takes : Takes (end_of old move.side).inbox move.moment.event (end_of move.behind move.side).inbox
   pub sends : end_of move.behind (across move.side) ≡ with_mail (end_of old (across move.side)) (messages_sent move.moment.effects)
 
--- moves one after another, and the world behind them
+-- moves one after another, and the world after them
 abbrev pub Moves : World → List Move → Type 0
 Moves old [] = Unit {0}
 Moves old (move ∷ more) = Makes old move × Moves move.behind more

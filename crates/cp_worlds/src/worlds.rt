@@ -29,7 +29,7 @@ pub fn agreement_is_kept()
     ensures { Keeps }
 {}
 
-/// So they do behind all that one of them sends at once.
+/// So they do after all that one of them sends at once.
 pub fn agreement_follows()
     ensures { KeepsBy }
 {}

@@ -9,11 +9,11 @@ use Rattle.cp_writing.specs.Sheets.{Written}
 use Rattle.cp_writing.specs.Writing.{tree_by}
 use Rattle.cp_writing.specs.Writes.{FitsIn, IsCostFaultOf}
 
--- at most so many words in a segment, so many segments, and so many words in all as a frame may have
+-- at most this many words in a segment, this many segments, and this many words in all as a frame may have
 abbrev pub room_for : ℕ → ℕ → Bounds → Room
 room_for words segments limits = record { words = words; segments = segments; whole = limits.frame_words }
 
--- a tree written behind a blank word, its pointer, which begins segment 0
+-- a tree written after a blank word, its pointer, which begins segment 0
 abbrev pub laid_out : Room → Node → Written
 laid_out room t = tree_by room 0 0 t (record { full = []; last = 0 ∷ []; words = 1 })
 

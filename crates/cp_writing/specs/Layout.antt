@@ -15,16 +15,16 @@ pub record Filled : Type 0 where
   pub last : ℕ
   pub used : ℕ
 
--- at most so many words in a segment, and at most so many segments
+-- at most this many words in a segment, and at most this many segments
 pub record Room : Type 0 where
   pub words : ℕ
   pub segments : ℕ
 
--- a body of so many words fits into the last segment, in which its pointer stands
+-- a body of this many words fits into the last segment, in which its pointer stands
 abbrev pub FitsHere : Room → ℕ → ℕ → Filled → Type 0
 FitsHere room s size f = (s ≡ f.last) × (f.used + size ≤ room.words)
 
--- it fits there with a pad before it, where its pointer stands in another segment
+-- it fits there with a landing pad before it, where its pointer stands in another segment
 abbrev pub FitsBehindPad : Room → ℕ → ℕ → Filled → Type 0
 FitsBehindPad room s size f = (s ≢ f.last) × (f.used + 1 + size ≤ room.words)
 
@@ -35,7 +35,7 @@ pub record Follows (S : List (List ℕ)) (s p : ℕ) (k : Kind) (size : ℕ) (be
   pub behind : start ≡ before.used
   pub fills : after ≡ record { last = before.last; used = before.used + size }
 
--- The body follows a pad of one word, which follows what the last segment has.
+-- The body follows a landing pad of one word, which follows what the last segment has.
 pub record FollowsPad (S : List (List ℕ)) (s p : ℕ) (k : Kind) (size : ℕ) (before : Filled) (s' start : ℕ) (after : Filled) : Type 0 where
   pub aims : AimsByPad S s p k s' start
   pub last : s' ≡ before.last
@@ -43,7 +43,7 @@ pub record FollowsPad (S : List (List ℕ)) (s p : ℕ) (k : Kind) (size : ℕ) 
   pub behind : start ≡ before.used + 1
   pub fills : after ≡ record { last = before.last; used = before.used + 1 + size }
 
--- The pad and the body begin a new segment, and the one before it ends.
+-- The landing pad and the body begin a new segment, and the one before it ends.
 pub record Begins (S : List (List ℕ)) (s p : ℕ) (k : Kind) (size : ℕ) (before : Filled) (s' start : ℕ) (after : Filled) : Type 0 where
   pub aims : AimsByPad S s p k s' start
   pub ends : length (segment S before.last) ≡ before.used
@@ -56,10 +56,10 @@ pub record Begins (S : List (List ℕ)) (s p : ℕ) (k : Kind) (size : ℕ) (bef
 abbrev pub IsEnd : List (List ℕ) → ℕ → Filled → ℕ → Type 0
 IsEnd S s f end = ((s ≡ f.last) × (end ≡ f.used)) ⊎ ((s ≢ f.last) × (end ≡ length (segment S s)))
 
--- Where a body of so many words is placed whose pointer is word p of segment s. A body of no words is named directly, at
+-- Where a body of this many words is placed whose pointer is word p of segment s. A body of no words is named directly, at
 -- the end of its pointer's segment. What fits in the last segment, where its pointer stands, is named directly. Else a
--- pad with the body behind it is placed: in the last segment, if the pointer stands in another and both fit; else in a
--- new segment. Where no segment may be begun any more, the body goes to the end of the last one, behind a pad unless
+-- landing pad with the body after it is placed: in the last segment, if the pointer stands in another and both fit; else in a
+-- new segment. Where no segment may be begun any more, the body goes to the end of the last one, after a landing pad unless
 -- its pointer stands there.
 pub data Places (S : List (List ℕ)) (room : Room) (s p : ℕ) (k : Kind) (size : ℕ) (before : Filled) (s' start : ℕ) (after : Filled) : Type 0 where
   without_words : (none : size ≡ 0) (aims : AimsHere S s p k start) (same : s' ≡ s) (end : IsEnd S s before start) (fills : after ≡ before) → Places S room s p k size before s' start after
@@ -72,7 +72,7 @@ pub data Places (S : List (List ℕ)) (room : Room) (s p : ℕ) (k : Kind) (size
   last_behind_pad : (some : 0 < size) (not_here : ¬ (FitsHere room s size before)) (not_behind : ¬ (FitsBehindPad room s size before)) (no_more : room.segments ≤ before.last + 1) (other : s ≢ before.last)
       (follows : FollowsPad S s p k size before s' start after) → Places S room s p k size before s' start after
 
--- the words hold the elements, and the bits behind the last one are zero
+-- the words hold the elements, and the bits after the last one are zero
 pub record HoldElements (ws : List ℕ) (es : Elements) : Type 0 where
   pub elements : es ≡ elements_of ws (element_size es) (element_count es)
   pub padding : (k : ℕ) → element_count es * bits_of (element_size es) ≤ k → element ws 1 k ≡ 0
@@ -108,7 +108,7 @@ abbrev mutual
   LaysBodies S room s q d n (body ws ts bs) before after =
       (mid : Filled) × (ws ≡ words_at S s q d) × LaysRow S room s (q + d) ts before mid × LaysBodies S room s (q + d + n) d n bs mid after
 
--- The segments that a tree is written into: segment 0 begins with the root's pointer, and nothing stands behind what is
+-- The segments that a tree is written into: segment 0 begins with the root's pointer, and nothing stands after what is
 -- laid. A segment of no words counts as one of one word.
 pub record Layout (S : List (List ℕ)) (room : Room) (t : Node) : Type 0 where
   pub filled : Filled

@@ -8,7 +8,7 @@ abbrev pub value : ℕ → List ℕ → ℕ
 value base [] = 0
 value base (n ∷ ns) = n + base * value base ns
 
--- digits in groups of so many, and the number that each group is
+-- digits in groups of this many, and the number that each group is
 abbrev pub groups : ℕ → ℕ → List ℕ → List ℕ
 groups base per ns = map (λ k. value base (take per (drop (per * k) ns))) (range_with_len 0 ((length ns + (per - 1)) / per))
 
@@ -16,7 +16,7 @@ abbrev pub bit_of : Bool → ℕ
 bit_of true = 1
 bit_of false = 0
 
--- the words that hold the elements, with zero bits behind the last
+-- the words that hold the elements, with zero bits after the last
 abbrev pub packed : Elements → List ℕ
 packed (voids n) = []
 packed (bits bs) = groups 2 64 (map bit_of bs)

@@ -42,7 +42,7 @@ append ws F = record { full = F.full; last = F.last ++ ws; words = F.words + len
 abbrev pub begin : Written → Written
 begin F = record { full = F.full ++ F.last ∷ []; last = []; words = F.words }
 
--- the word of a pointer to a body that begins so many words behind it
+-- the word of a pointer to a body that begins this many words after it
 abbrev pub body_word : Kind → ℕ → ℕ
 body_word (kinds.Struct d n) o = word_of (pointers.Struct (pos o) d n)
 body_word (kinds.List size n) o = word_of (pointers.List (pos o) size n)
@@ -61,12 +61,12 @@ pub record Placed : Type 0 where
 abbrev pub here : ℕ → ℕ → Kind → Written → Placed
 here s p k F = record { sheet = put s p (body_word k (end_of F s - (p + 1))) F; at = record { segment = s; word = end_of F s } }
 
--- behind a pad, at the end of the last segment
+-- after a landing pad, at the end of the last segment
 abbrev pub behind_pad : ℕ → ℕ → Kind → Written → Placed
 behind_pad s p k F =
     record { sheet = append (body_word k 0 ∷ []) (put s p (word_of (pointers.Far false (length F.last) (length F.full))) F); at = record { segment = length F.full; word = length F.last + 1 } }
 
--- how many words a pad takes before a body whose pointer stands in a segment
+-- how many words a landing pad takes before a body whose pointer stands in a segment
 abbrev pub pad_for : ℕ → Written → ℕ
 pad_for s F = if s == length F.full then 0 else 1
 
@@ -110,10 +110,10 @@ abbrev pub Writes : {X : Type 0} → Room → Result X WriteFault → Written �
 Writes room (Ok x) wanted new = (new ≡ wanted) × KeepsTo room new
 Writes room (Err e) wanted new = Refuses room e wanted
 
--- a body was placed, or its pad is one word too many
+-- a body was placed, or its landing pad is one word too many
 abbrev pub Places : Room → Result Place WriteFault → Placed → Written → Type 0
 Places room result wanted new = Writes room result wanted.sheet new × IfOk result (λ at. at ≡ wanted.at)
 
--- so many words are there from a place on
+-- this many words are there from a place on
 abbrev pub IsRun : Written → Place → ℕ → Type 0
 IsRun F at n = (at.segment ≤ length F.full) × (at.word + n ≤ end_of F at.segment)

@@ -34,7 +34,7 @@ ptrs_placed room s p n F = place_by room s p (kinds.List sizes.Pointer n) n F
 abbrev pub structs_placed : Room → ℕ → ℕ → ℕ → ℕ → ℕ → Written → Placed
 structs_placed room s p d n k F = place_by room s p (kinds.List sizes.Composite (k * (d + n))) (k * (d + n) + 1) F
 
--- the words of a body were appended where it was placed, and what hangs on it begins some words behind its start
+-- the words of a body were appended where it was placed, and what hangs on it begins some words after its start
 abbrev pub begun : List ℕ → ℕ → Placed → Placed
 begun ws n x = record { sheet = append ws x.sheet; at = record { segment = x.at.segment; word = x.at.word + n } }
 

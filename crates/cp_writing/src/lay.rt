@@ -153,7 +153,7 @@ fn begin_structs(
     Ok(first)
 }
 
-/// Lays out a tree whose pointer stands at a place, if it nests no deeper than so many levels and costs
+/// Lays out a tree whose pointer stands at a place, if it nests no deeper than this many levels and costs
 /// no more than is left.
 #[cycle(lay)]
 pub(crate) fn lay(

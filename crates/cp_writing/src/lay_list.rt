@@ -34,7 +34,7 @@ pub(crate) fn place_list(
     sheet.place(room, at, kind, words)
 }
 
-/// Lays out so many elements without bits.
+/// Lays out this many elements without bits.
 pub(crate) fn lay_voids(
     sheet: &mut Sheet,
     room: Room,

@@ -13,7 +13,7 @@ use cp_words::{Kind, Place, Pointer, Segments, encode};
 use std::alloc::{AllocError, Global};
 use std::mem;
 
-/// How much may be written: at most so many words in a segment, so many segments, and so many words
+/// How much may be written: at most this many words in a segment, this many segments, and this many words
 /// in all of them together.
 #[derive(Clone, Copy)]
 pub(crate) struct Room {
@@ -23,7 +23,7 @@ pub(crate) struct Room {
 }
 
 /// What is written so far: the segments that are full, the last one, and the number of words of all.
-/// A segment is made with capacity for so many words.
+/// A segment is made with capacity for this many words.
 #[derive(Drop)]
 pub(crate) struct Sheet {
     alloc: Global,
@@ -33,7 +33,7 @@ pub(crate) struct Sheet {
     words: usize,
 }
 
-/// The word of a pointer to a body that begins so many words behind it.
+/// The word of a pointer to a body that begins this many words after it.
 fn body_word(kind: Kind, offset: usize) -> u64
     requires named { IsNamed kind }
     requires near { offset < 2 ^ 29 }
@@ -119,7 +119,7 @@ impl Sheet {
         }
     }
 
-    /// Counts so many more words.
+    /// Counts this many more words.
     #[inline(always)]
     fn count(&mut self, room: Room, words: usize) -> Result<(), WriteFault>
         requires within { self.old.words ≤ room.whole }
@@ -146,7 +146,7 @@ impl Sheet {
         Ok(())
     }
 
-    /// Appends so many blank words to the last segment.
+    /// Appends this many blank words to the last segment.
     #[inline(always)]
     pub fn append_blank(&mut self, room: Room, words: usize) -> Result<(), WriteFault>
         requires { KeepsTo room (written self.old) }
@@ -193,7 +193,7 @@ impl Sheet {
         Ok(())
     }
 
-    /// Ends the last segment and begins a new one, with room for a pad and a body of so many words.
+    /// Ends the last segment and begins a new one, with room for a landing pad and a body of this many words.
     #[cold]
     fn begin(&mut self, size: usize) -> Result<(), AllocError>
         requires { size < 2 ^ 60 }
@@ -204,7 +204,7 @@ impl Sheet {
         Ok(())
     }
 
-    /// Begins a new segment, if a body of so many words, whose pointer stands in a segment, doesn't fit
+    /// Begins a new segment, if a body of this many words, whose pointer stands in a segment, doesn't fit
     /// into the last one and a new one may be begun.
     #[inline(always)]
     fn make_room(&mut self, room: Room, segment: usize, size: usize) -> Result<(), AllocError>
@@ -239,7 +239,7 @@ impl Sheet {
         }
     }
 
-    /// Names a body by a pad, and gives where it is to be written: behind the pad, which is at the end
+    /// Names a body by a landing pad, and gives where it is to be written: after the landing pad, which is at the end
     /// of the last segment.
     #[cold]
     fn place_behind_pad(&mut self, room: Room, at: Place, kind: Kind) -> Result<Place, WriteFault>
@@ -263,7 +263,7 @@ impl Sheet {
         })
     }
 
-    /// Places a body of so many words, whose pointer stands at a place: directly, or behind a pad.
+    /// Places a body of this many words, whose pointer stands at a place: directly, or after a landing pad.
     /// Gives where it is to be written.
     #[inline(always)]
     pub fn place(

@@ -15,7 +15,7 @@ use cp_tree::{Draft, Object, WriteFault, draft_nests};
 use cp_words::{Limits, Place, Segments};
 use std::alloc::Global;
 
-/// A segment begins with room for so many words, if it may have them.
+/// A segment begins with room for this many words, if it may have them.
 const FIRST_WORDS: usize = 128;
 
 /// Whether the tree keeps to the limits on nesting and on cost.
@@ -34,7 +34,7 @@ fn keeps_to(draft: &Draft, limits: Limits) -> Result<(), WriteFault>
     }
 }
 
-/// The tree written into segments of at most so many words each, at most so many.
+/// The tree written into segments of at most this many words each, and of them at most this many.
 fn lay_out(
     alloc: Global,
     draft: &Draft,
@@ -71,9 +71,9 @@ fn lay_out(
     }
 }
 
-/// Writes a tree with lent parts, of one that a message can hold, into segments of at most so many
+/// Writes a tree with lent parts, of one that a message can hold, into segments of at most this many
 /// words, in the order of its pointers (encoding specification, "Messages", "Inter-Segment
-/// Pointers"). 0 counts as 1. What doesn't fit where its pointer stands goes behind a pad of one word;
+/// Pointers"). 0 counts as 1. What doesn't fit where its pointer stands goes after a landing pad of one word;
 /// a body that is larger than a segment has a segment of its own. B1 if the tree nests deeper than the
 /// limit, else B2 if it costs more, else B4 if its segments have more words together than a frame may
 /// have; B3 if memory runs out.
@@ -94,7 +94,7 @@ pub fn write_draft(
     Ok(sheet.into_segments()?)
 }
 
-/// Writes the tree into segments of at most so many words, as `write_draft` writes it lent.
+/// Writes the tree into segments of at most this many words, as `write_draft` writes it lent.
 pub fn write_segments(
     alloc: Global,
     object: &Object,

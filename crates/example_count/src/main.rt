@@ -1,7 +1,6 @@
 //! Counts the calls of a stream of messages.
 #![tactic(auto)]
 
-use anyhow::anyhow;
 use jamdrosek::{Limits, Message, Mode, StreamFault, Tap, read_message};
 use std::alloc::Global;
 use std::fs::File;
@@ -24,7 +23,7 @@ fn count_calls<R: Read + Drop>(alloc: Global, stream: R) -> Result<u64, StreamFa
 fn main(rt: HostRuntime) -> anyhow::Result<()> {
     let alloc = rt.alloc();
     let stream = BufReader::new(alloc, File::open(&rt, "client.bin")?)?;
-    let calls = count_calls(alloc, stream).map_err(|fault| anyhow!("{fault:?}"))?;
+    let calls = count_calls(alloc, stream)?;
     println!(rt; "{calls} calls")?;
     Ok(())
 }

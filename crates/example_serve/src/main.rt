@@ -1,7 +1,6 @@
 //! Serves an object of its own to a client whose messages are in a file, and writes its answers.
 #![tactic(auto)]
 
-use anyhow::anyhow;
 use jamdrosek::server::{Caps, Ids, Outcome, Reply, Request, Servant, Settled, serve};
 use jamdrosek::tree::{Body, Tree, Whole};
 use jamdrosek::{Mode, Tap};
@@ -42,7 +41,6 @@ fn main(rt: HostRuntime) -> anyhow::Result<()> {
     objects.push(Box::new(alloc, Doubler { alloc })?)?;
     let mut from = Tap::new(File::open(&rt, "client.bin")?);
     let mut to = Tap::new(io::writer(&rt));
-    let served = serve(alloc, &mut from, &mut to, &mut objects, Mode::Plain);
-    served.map_err(|fault| anyhow!("{fault:?}"))?;
+    serve(alloc, &mut from, &mut to, &mut objects, Mode::Plain)?;
     Ok(())
 }

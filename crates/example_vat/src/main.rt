@@ -5,7 +5,7 @@
 use anyhow::anyhow;
 use jamdrosek::Message;
 use jamdrosek::tree::{Body, Tree, Whole};
-use jamdrosek::vat::{Acted, Cap, Caps, Effect, Outcome, Path, Request, Vat, VatFault};
+use jamdrosek::vat::{Acted, Cap, Caps, Effect, Origin, Outcome, Path, Request, Vat, VatFault};
 use std::alloc::Global;
 
 /// A struct of one word.
@@ -41,34 +41,39 @@ fn send(effects: Vec<Effect>, on_the_way: &mut Vec<Message>) -> anyhow::Result<(
     Ok(())
 }
 
-/// The server takes a message in, and answers the calls that it delivers.
+/// The server takes a message in, does what the effects ask, and then answers the calls among them. So none waits
+/// when the next message comes.
 fn serve(
     alloc: Global,
     server: &mut Vat,
     message: Message,
     back: &mut Vec<Message>,
 ) -> anyhow::Result<()> {
+    let mut calls = Vec::new(alloc);
     for effect in effects_of(server.receive(message))? {
         match effect {
             Effect::Send(message) => back.push(message)?,
-            other => answer_call(alloc, server, &other, back)?,
+            other => keep_call(other, &mut calls)?,
         }
+    }
+    for (origin, call) in calls {
+        let outcome = answer(alloc, &call)?;
+        send(effects_of(server.answer(origin, outcome))?, back)?;
     }
     Ok(())
 }
 
-/// Answers a call, if the effect delivers one.
-fn answer_call(
-    alloc: Global,
-    server: &mut Vat,
-    effect: &Effect,
-    back: &mut Vec<Message>,
-) -> anyhow::Result<()> {
-    let Effect::Deliver { origin, call, .. } = effect else {
-        return Ok(());
-    };
-    let outcome = answer(alloc, call)?;
-    send(effects_of(server.answer(*origin, outcome))?, back)
+/// Keeps a call that is to be answered, if the effect delivers one.
+fn keep_call(effect: Effect, calls: &mut Vec<(Origin, Request)>) -> anyhow::Result<()> {
+    if let Effect::Deliver { origin, call, .. } = effect {
+        calls.push((origin, call))?;
+    }
+    Ok(())
+}
+
+/// The effects of a message or an answer.
+fn effects_of(given: Result<Acted<()>, VatFault>) -> anyhow::Result<Vec<Effect>> {
+    Ok(given?.effects.into_effects())
 }
 
 /// The word of what a question came to, if the effect tells it.
@@ -82,18 +87,6 @@ fn word_told(effect: &Effect, asked: u32) -> Option<u64> {
     }
 }
 
-/// The effects of a message or an answer.
-fn effects_of(given: Result<Acted<()>, VatFault>) -> anyhow::Result<Vec<Effect>> {
-    match given {
-        Ok(acted) => Ok(acted.effects.into_effects()),
-        Err(fault) => Err(refused(fault)),
-    }
-}
-
-fn refused(fault: VatFault) -> anyhow::Error {
-    anyhow!("{fault:?}")
-}
-
 fn main(rt: HostRuntime) -> anyhow::Result<()> {
     let alloc = rt.alloc();
     let mut server = Vat::new(alloc, Some(0));
@@ -101,7 +94,7 @@ fn main(rt: HostRuntime) -> anyhow::Result<()> {
     let mut to_server = Vec::new(alloc);
     let mut to_client = Vec::new(alloc);
 
-    let asked = client.bootstrap().map_err(refused)?;
+    let asked = client.bootstrap()?;
     let object = Cap::Pipelined(asked.value, Path::new(Vec::new(alloc)));
     send(asked.effects.into_effects(), &mut to_server)?;
     let request = Request {
@@ -110,7 +103,7 @@ fn main(rt: HostRuntime) -> anyhow::Result<()> {
         content: number(alloc, 41)?,
         caps: Caps::new(Vec::new(alloc)),
     };
-    let called = client.call(object, request).map_err(refused)?;
+    let called = client.call(object, request)?;
     send(called.effects.into_effects(), &mut to_server)?;
 
     for message in to_server {

@@ -1,7 +1,6 @@
 //! Looks at each message of a stream in place: the first number that a Return has as its results.
 #![tactic(auto)]
 
-use anyhow::anyhow;
 use jamdrosek::message::ReturnedView;
 use jamdrosek::{FrameReader, Limits, MessageIn, MessageView, view_of};
 use std::fs;
@@ -21,11 +20,11 @@ fn main(rt: HostRuntime) -> anyhow::Result<()> {
     let limits = Limits::standard();
     let bytes = fs::read(&rt, "server.bin")?;
     let mut reader = FrameReader::plain(rt.alloc(), limits);
-    for (_, segments) in &reader.feed(&bytes).map_err(|fault| anyhow!("{fault:?}"))? {
-        let message = view_of(segments, limits).map_err(|fault| anyhow!("{fault:?}"))?;
+    for (_, segments) in &reader.feed(&bytes)? {
+        let message = view_of(segments, limits)?;
         if let Some((question, number)) = answer(&message) {
             println!(rt; "question {question}: {number}")?;
         }
     }
-    reader.finish().map_err(|fault| anyhow!("{fault:?}"))
+    Ok(reader.finish()?)
 }

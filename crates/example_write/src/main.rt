@@ -31,6 +31,6 @@ fn main(rt: HostRuntime) -> anyhow::Result<()> {
     let alloc = rt.alloc();
     let message = call(alloc, 5, 1)?;
     let mut out = Tap::new(io::writer(&rt));
-    let written = write_message(alloc, &mut out, &message, Mode::Packed, Limits::standard());
-    written.map_err(|fault| anyhow!("{fault:?}"))
+    let limits = Limits::standard();
+    Ok(write_message(alloc, &mut out, &message, Mode::Packed, limits)?)
 }

@@ -8,7 +8,6 @@
 //! ```
 //! #![tactic(auto)]
 //!
-//! use anyhow::anyhow;
 //! use jamdrosek::{Limits, Message, Mode, StreamFault, Tap, read_message};
 //! use std::alloc::Global;
 //! use std::fs::File;
@@ -31,7 +30,7 @@
 //! fn main(rt: HostRuntime) -> anyhow::Result<()> {
 //!     let alloc = rt.alloc();
 //!     let stream = BufReader::new(alloc, File::open(&rt, "client.bin")?)?;
-//!     let calls = count_calls(alloc, stream).map_err(|fault| anyhow!("{fault:?}"))?;
+//!     let calls = count_calls(alloc, stream)?;
 //!     println!(rt; "{calls} calls")?;
 //!     Ok(())
 //! }
@@ -47,7 +46,6 @@
 //! ```
 //! #![tactic(auto)]
 //!
-//! use anyhow::anyhow;
 //! use jamdrosek::message::ReturnedView;
 //! use jamdrosek::{FrameReader, Limits, MessageIn, MessageView, view_of};
 //! use std::fs;
@@ -67,13 +65,13 @@
 //!     let limits = Limits::standard();
 //!     let bytes = fs::read(&rt, "server.bin")?;
 //!     let mut reader = FrameReader::plain(rt.alloc(), limits);
-//!     for (_, segments) in &reader.feed(&bytes).map_err(|fault| anyhow!("{fault:?}"))? {
-//!         let message = view_of(segments, limits).map_err(|fault| anyhow!("{fault:?}"))?;
+//!     for (_, segments) in &reader.feed(&bytes)? {
+//!         let message = view_of(segments, limits)?;
 //!         if let Some((question, number)) = answer(&message) {
 //!             println!(rt; "question {question}: {number}")?;
 //!         }
 //!     }
-//!     reader.finish().map_err(|fault| anyhow!("{fault:?}"))
+//!     Ok(reader.finish()?)
 //! }
 //! ```
 //!
@@ -114,8 +112,8 @@
 //!     let alloc = rt.alloc();
 //!     let message = call(alloc, 5, 1)?;
 //!     let mut out = Tap::new(io::writer(&rt));
-//!     let written = write_message(alloc, &mut out, &message, Mode::Packed, Limits::standard());
-//!     written.map_err(|fault| anyhow!("{fault:?}"))
+//!     let limits = Limits::standard();
+//!     Ok(write_message(alloc, &mut out, &message, Mode::Packed, limits)?)
 //! }
 //! ```
 //!
@@ -127,7 +125,6 @@
 //! ```
 //! #![tactic(auto)]
 //!
-//! use anyhow::anyhow;
 //! use jamdrosek::server::{Caps, Ids, Outcome, Reply, Request, Servant, Settled, serve};
 //! use jamdrosek::tree::{Body, Tree, Whole};
 //! use jamdrosek::{Mode, Tap};
@@ -168,8 +165,7 @@
 //!     objects.push(Box::new(alloc, Doubler { alloc })?)?;
 //!     let mut from = Tap::new(File::open(&rt, "client.bin")?);
 //!     let mut to = Tap::new(io::writer(&rt));
-//!     let served = serve(alloc, &mut from, &mut to, &mut objects, Mode::Plain);
-//!     served.map_err(|fault| anyhow!("{fault:?}"))?;
+//!     serve(alloc, &mut from, &mut to, &mut objects, Mode::Plain)?;
 //!     Ok(())
 //! }
 //! ```
@@ -180,7 +176,7 @@
 //! example_vat has two of them, and answers what this calls:
 //!
 //! ```
-//! let asked = client.bootstrap().map_err(refused)?;
+//! let asked = client.bootstrap()?;
 //! let object = Cap::Pipelined(asked.value, Path::new(Vec::new(alloc)));
 //! send(asked.effects.into_effects(), &mut to_server)?;
 //! let request = Request {
@@ -189,7 +185,7 @@
 //!     content: number(alloc, 41)?,
 //!     caps: Caps::new(Vec::new(alloc)),
 //! };
-//! let called = client.call(object, request).map_err(refused)?;
+//! let called = client.call(object, request)?;
 //! send(called.effects.into_effects(), &mut to_server)?;
 //! ```
 //!

@@ -66,7 +66,7 @@ fn expect_done(
 }
 
 /// A plain file is refused at this byte, for this fault. `check` says the same, and `show` writes the
-/// lines of what stands before.
+/// lines of what comes before.
 fn expect_refused(rt: &impl Abort, alloc: Global, plain: &str, lines: &str, at: u64, fault: &str) {
     let said = format!(in alloc; "refused at byte {at}: {fault}\n").expect(rt, "memory");
     expect_done(
@@ -413,7 +413,7 @@ const FINISH: &str =
 const IN_TWO: &str = "0100000001000000 0400000000000000 0200000001000000 0000000001000100 \
      0400000000000000 0000000001000000 0700000000000000";
 
-/// The same by a pad of two words.
+/// The same by a landing pad of two words.
 const IN_THREE: &str = "0200000001000000 0200000003000000 0600000001000000 0200000002000000 \
      0000000001000100 0400000000000000 0000000001000000 0700000000000000";
 
@@ -444,7 +444,7 @@ fn files_have_many_frames(rt: HostRuntime) {
     drop(lines);
 }
 
-/// A frame behind another is refused for this fault, and the other's line is written.
+/// A frame after another is refused for this fault, and the other's line is written.
 fn expect_refused_second(rt: &impl Abort, alloc: Global, frame: &str, fault: &str) {
     let stream = format!(in alloc; "{FINISH} {frame}").expect(rt, "memory");
     expect_refused(rt, alloc, stream.as_str(), FINISH_LINE, 40, fault);
@@ -575,7 +575,7 @@ fn packed_frames_are_shown(rt: HostRuntime) {
     );
 }
 
-/// A finish in segments of at most so many words is this frame, and in one segment again itself.
+/// A finish in segments of at most this many words is this frame, and in one segment again itself.
 fn expect_recut(rt: &impl Abort, alloc: Global, words: u32, frame: &str) {
     let mode = Mode::Plain;
     expect_file(rt, alloc, Plan::Recut { mode, words }, FINISH, frame);
@@ -602,7 +602,7 @@ fn trees_are_recut(rt: HostRuntime) {
     expect_made(&rt, rt.alloc(), Plan::Recut { mode, words }, packed, packed);
 }
 
-/// A frame of so many nested structs of one pointer.
+/// A frame of this many nested structs of one pointer.
 fn nested(rt: &impl Abort, alloc: Global, depth: u8) -> String {
     let words = depth as u16 + 1;
     let mut frame = format!(in alloc; "00000000{words:02x}000000").expect(rt, "memory");
@@ -707,7 +707,7 @@ fn expect_memory_told(rt: &impl Abort, alloc: Global, plan: Plan, bytes: &[u8]) 
     drop(said);
 }
 
-// With memory enough no growth is refused. `rt try --test --fail-alloc N` refuses the Nth.
+// With ample memory no allocation fails. `rt try --test --fail-alloc N` fails the Nth.
 #[test]
 fn want_of_memory_is_told(rt: HostRuntime) {
     let words = 3;

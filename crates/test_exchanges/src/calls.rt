@@ -92,7 +92,7 @@ const A_BOOTSTRAP_FAILS_WITHOUT_AN_OBJECT: &str = "
     > return a=0 releaseParamCaps=false exception failed \"no bootstrap\"
 ";
 
-/// What a bootstrap fails with is told.
+/// What a bootstrap fails with is reported.
 const WHAT_A_BOOTSTRAP_FAILS_WITH_IS_TOLD: &str = "
     < return a=0 releaseParamCaps=false exception unknown:7 \"x\"
     ! settled question:0 exception unknown:7 \"x\"

@@ -169,7 +169,7 @@ const AN_ECHO_WITHOUT_AN_EMBARGO: &str = "
     ! closed P8 unknown embargo
 ";
 
-/// Behind an embargo a call waits for a promise.
+/// After an embargo a call waits for a promise.
 const BEHIND_AN_EMBARGO_A_CALL_WAITS_FOR_A_PROMISE: &str = "
     promise
     = promise:0

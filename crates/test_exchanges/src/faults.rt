@@ -1,4 +1,4 @@
-//! What the peer does wrong, and what it is told.
+//! What the peer does wrong, and what it is answered.
 
 use crate::beginnings::{ANSWERED, CALLED, HOLDING_7};
 use crate::playing::expect;

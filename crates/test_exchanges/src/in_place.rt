@@ -57,7 +57,7 @@ const NONE: u64 = 0;
 
 const FOUR: u64 = 0x0004_0000_0000_0004;
 
-/// These words, with another one at a place. A growth that is refused once is asked for again.
+/// These words, with another one at a place. An allocation that fails once is tried again.
 fn message(rt: &impl Abort, alloc: Global, words: &[u64], place: usize, word: u64) -> Segments {
     let mut words = match Vec::from_slice(alloc, words) {
         Ok(words) => words,
@@ -124,7 +124,7 @@ fn expect_nothing(rt: &impl Abort, alloc: Global, segments: &Segments) {
     }
 }
 
-// This test and the next take as much memory: bench/memory/sweep.sh counts the growths of each.
+// This test and the next take as much memory: bench/memory/sweep.sh counts the allocations of each.
 #[test]
 fn want_of_memory_at_faults_without_a_content(rt: HostRuntime) {
     let alloc = rt.alloc();

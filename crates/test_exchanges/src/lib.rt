@@ -1,4 +1,4 @@
-//! Exchanges of a vat with its peer, and of two vats. Each is a script: what comes, and behind it all
+//! Exchanges of a vat with its peer, and of two vats. Each is a script: what comes, and after it all
 //! that follows.
 #![tactic(auto)]
 

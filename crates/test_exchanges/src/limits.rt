@@ -9,7 +9,7 @@ use cp_vat::Vat;
 use std::alloc::Global;
 use std::process::Abort;
 
-/// A text so many times.
+/// A text this many times.
 fn repeated(rt: &impl Abort, alloc: Global, part: &str, times: usize) -> String {
     let mut text = String::new(alloc);
     for _ in 0..times {
@@ -18,7 +18,7 @@ fn repeated(rt: &impl Abort, alloc: Global, part: &str, times: usize) -> String 
     text
 }
 
-/// So many structs, one in another.
+/// This many structs, one in another.
 fn nested(rt: &impl Abort, alloc: Global, depth: usize) -> String {
     let mut text = repeated(rt, alloc, "(;", depth);
     text.push_str("null").expect(rt, "memory");
@@ -38,7 +38,7 @@ fn filled(rt: &impl Abort, alloc: Global, script: &str, filling: &str) -> String
     text
 }
 
-/// A vat with the bootstrap object 0 does what the script tells, with this text in the place of each
+/// A vat with the bootstrap object 0 does what the script says, with this text in the place of each
 /// `%`.
 fn expect_filled(rt: &impl Abort, alloc: Global, before: &str, script: &str, filling: &String) {
     let script = filled(rt, alloc, script, filling.as_str());
@@ -71,7 +71,7 @@ const LARGER_CALL_IS_MADE: &str = "
     = refused TooLarge
 ";
 
-/// A small content with a table of so many.
+/// A small content with a table of this many.
 fn table(rt: &impl Abort, alloc: Global, length: usize) -> String {
     let mut text = String::from_str(alloc, "(;) caps[none").expect(rt, "memory");
     let more = repeated(rt, alloc, ",none", length.saturating_sub(1));
@@ -303,7 +303,7 @@ fn many_promises(rt: HostRuntime) {
     expect_next(&rt, rt.alloc(), vat, &[script]);
 }
 
-/// A request of method 4 of interface 9, with a table of so many objects, from this one on.
+/// A request of method 4 of interface 9, with a table of this many objects, from this one on.
 fn request_of(rt: &impl Abort, alloc: Global, first: u32, length: u32) -> Request {
     let mut caps = Vec::new(alloc);
     for i in 0..length {
@@ -318,7 +318,7 @@ fn request_of(rt: &impl Abort, alloc: Global, first: u32, length: u32) -> Reques
     }
 }
 
-/// The peer, whose promise 7 is held, is sent so many objects, from 1000 on, in calls on its promise.
+/// The peer, whose promise 7 is held, is sent this many objects, from 1000 on, in calls on its promise.
 fn export(rt: &impl Abort, alloc: Global, vat: &mut Vat, count: u32) {
     let mut sent = 0;
     for _ in 0..64 {
@@ -344,7 +344,7 @@ fn many_exports(rt: HostRuntime) {
     ";
     prepare(&rt, rt.alloc(), &mut vat, before);
     export(&rt, rt.alloc(), &mut vat, 65_534);
-    // What is refused leaves no question, no mark, no export and no ticket behind.
+    // What is refused leaves no question, no mark, no export and no ticket.
     let script = "
         call import:8 {(;) caps[object:1000,object:999]}
         = refused Full
@@ -386,7 +386,7 @@ fn tied_promises_with_many_exports(rt: HostRuntime) {
     ";
     prepare(&rt, rt.alloc(), &mut vat, before);
     export(&rt, rt.alloc(), &mut vat, 65_532);
-    // The first promise finds room, the second doesn't, and so the first is open as before.
+    // The first promise fits, the second doesn't, and so the first is open as before.
     let script = "
         answer answer:1 {(;cap:0,cap:1) caps[object:998,object:999]}
         = refused Full

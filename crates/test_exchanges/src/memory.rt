@@ -1,4 +1,4 @@
-//! Allocation failures. With ample memory there are none: bench/memory/sweep.sh refuses each growth of
+//! Allocation failures. With ample memory there are none: bench/memory/sweep.sh fails each allocation of
 //! the test.
 
 use cp_machine::{Event, VatFault};
@@ -25,7 +25,7 @@ const SCRIPT: &str = "
     idle
 ";
 
-/// The event of a line. Where a growth is refused, it is read again.
+/// The event of a line. Where an allocation fails, it is read again.
 fn read(rt: &impl Abort, alloc: Global, line: &str) -> Event {
     match event_of(alloc, line) {
         Some(event) => event,
@@ -33,7 +33,7 @@ fn read(rt: &impl Abort, alloc: Global, line: &str) -> Event {
     }
 }
 
-/// Plays an event, and says whether the vat is closed then. A growth that is refused is reported by V10, and
+/// Plays an event, and says whether the vat is closed then. An allocation failure is reported by V10, and
 /// closes it.
 fn play(rt: &impl Abort, vat: &mut Vat, event: Event, was_closed: bool) -> bool {
     match vat.act(event) {

@@ -69,7 +69,7 @@ fn turn(rt: &impl Abort, near: &mut End, far: &mut End, line: &str, lines: &mut 
     }
 }
 
-/// Two vats with these bootstrap objects do what the script tells, however they take in messages.
+/// Two vats with these bootstrap objects do what the script says, however they take in messages.
 pub fn expect_pair(
     rt: &impl Abort,
     alloc: Global,

@@ -26,7 +26,7 @@ pub fn prepare(rt: &impl Abort, alloc: Global, vat: &mut Vat, script: &str) {
     }
 }
 
-/// Whether a line tells what follows.
+/// Whether a line says what follows.
 pub fn is_told(line: &str) -> bool {
     line.starts_with("> ") || line.starts_with("! ") || line.starts_with("= ")
 }
@@ -39,8 +39,8 @@ pub fn expect_lines(rt: &impl Abort, lines: &Lines, wanted: &Lines) {
     }
 }
 
-/// A vat, which reads messages in place, does what the script tells, whose parts stand one after another:
-/// each line of an event is played, and all that follows is compared with the lines behind it.
+/// A vat, which reads messages in place, does what the script says, whose parts come one after another:
+/// each line of an event is played, and all that follows is compared with the lines after it.
 pub fn expect_next(rt: &impl Abort, alloc: Global, mut vat: Vat, script: &[&str]) {
     let mut lines = Lines::new(alloc);
     let mut wanted = Lines::new(alloc);
@@ -60,7 +60,7 @@ pub fn expect_next(rt: &impl Abort, alloc: Global, mut vat: Vat, script: &[&str]
     expect_lines(rt, &lines, &wanted);
 }
 
-/// A new vat with this bootstrap object does what the script tells: by `run`, to which messages come as
+/// A new vat with this bootstrap object does what the script says: by `run`, to which messages come as
 /// values, and event by event, where it reads them in place.
 pub fn expect(rt: &impl Abort, alloc: Global, bootstrap: Option<u32>, script: &[&str]) {
     expect_run(rt, alloc, bootstrap, script);

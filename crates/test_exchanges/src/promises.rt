@@ -230,13 +230,13 @@ const AN_UNKNOWN_RESOLVE_OF_NULL_CHANGES_NOTHING: &str = "
     < unimplemented (0500000000000000;(0000000000000000;(0000000000000000;null)))
 ";
 
-/// A broken promise is told, what comes before.
+/// A broken promise is reported, what comes before.
 const A_BROKEN_PROMISE_IS_TOLD_BEFORE: &str = "
     promise
     = promise:0
 ";
 
-/// A broken promise is told, what comes after.
+/// A broken promise is reported, what comes after.
 const A_BROKEN_PROMISE_IS_TOLD_AFTER: &str = "
     answer answer:1 {(;cap:0) caps[promise:0]}
     > return a=1 releaseParamCaps=false results {(;cap:0) caps[senderPromise:1]}

@@ -63,7 +63,7 @@ const WHAT_IS_NOT_THERE_IS_REFUSED: &str = "
     = refused UnknownImport
 ";
 
-/// An answer names what is there and is given once.
+/// An answer names what exists and is given once.
 const AN_ANSWER_NAMES_WHAT_IS_THERE_AND_IS_GIVEN_ONCE: &str = "
     answer answer:1 {(;cap:0) caps[promise:5]}
     = refused UnknownPromise

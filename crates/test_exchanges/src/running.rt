@@ -7,7 +7,7 @@ use cp_vat::run;
 use std::alloc::Global;
 use std::process::Abort;
 
-/// A script's events with their lines, and the lines of all that it tells up to its first refusal.
+/// A script's events with their lines, and the lines of all that it says up to its first refusal.
 #[derive(Drop)]
 struct Script<'a> {
     lines: Vec<&'a str>,
@@ -55,7 +55,7 @@ fn given(rt: &impl Abort, alloc: Global, lines: &[&str], ran: &Ran) -> Lines {
     given
 }
 
-/// All events of a script are run on a new vat, which does what the script tells up to the first refusal.
+/// All events of a script are run on a new vat, which does what the script says up to the first refusal.
 pub fn expect_run(rt: &impl Abort, alloc: Global, bootstrap: Option<u32>, parts: &[&str]) {
     let script = read_all(rt, alloc, parts);
     let ran = run(alloc, bootstrap, script.events);

@@ -216,7 +216,7 @@ const A_NUMBER_GOES_TO_ANOTHER_KIND_WHILE_ITS_RETURN_IS_ON_THE_WAY: &str = "
     ! deliver object:5 for answer:1 ticket 2 i=0000000000000009 m=4 {(;) caps[]}
 ";
 
-/// A promise is resolved behind the return that names it.
+/// A promise is resolved after the return that names it.
 const A_PROMISE_IS_RESOLVED_BEHIND_THE_RETURN_THAT_NAMES_IT: &str = "
     A bootstrap
     = question:0

@@ -56,7 +56,7 @@ pub fn expect_bytes(rt: &impl Abort, bytes: &[u8], wanted: &[u8]) {
     assert_eq!(rt; bytes, wanted);
 }
 
-/// The frame took so many bytes, and its segments are these.
+/// The frame took this many bytes, and its segments are these.
 fn expect_frame(rt: &impl Abort, frame: &(u64, Segments), taken: usize, segments: &[&[u64]]) {
     assert!(rt; frame.0 == taken as u64);
     let lists = frame.1.lists();
@@ -88,7 +88,7 @@ pub fn fed(reader: &mut FrameReader, bytes: &[u8]) -> Result<usize, FrameFault> 
     Ok(reader.feed(bytes)?.len())
 }
 
-/// These bytes bring so many frames, or the fault.
+/// These bytes bring this many frames, or the fault.
 pub fn expect_fed(
     rt: &impl Abort,
     reader: &mut FrameReader,
@@ -98,12 +98,12 @@ pub fn expect_fed(
     assert_eq!(rt; fed(reader, bytes), told);
 }
 
-/// So many bytes and words are held.
+/// This many bytes and words are held.
 pub fn expect_held(rt: &impl Abort, reader: &FrameReader, held: (usize, usize)) {
     assert_eq!(rt; reader.held(), held);
 }
 
-/// This is told at the end.
+/// This is reported at the end.
 pub fn expect_end(rt: &impl Abort, reader: &mut FrameReader, told: Result<(), FrameFault>) {
     assert_eq!(rt; reader.finish(), told);
 }
@@ -118,7 +118,7 @@ pub fn segments_of(rt: &impl Abort, mut reader: FrameReader, bytes: &[u8]) -> Se
     frame.1
 }
 
-/// The frames of these bytes, of which so many come with the front. The bytes end behind a frame.
+/// The frames of these bytes, of which this many come with the front. The bytes end after a frame.
 fn frames_of(
     rt: &impl Abort,
     alloc: Global,
@@ -185,7 +185,7 @@ pub fn expect_short(rt: &impl Abort, mut reader: FrameReader, bytes: &[u8]) {
     drop(reader);
 }
 
-/// These bytes bring a frame, which took so many bytes, and whose segments are these.
+/// These bytes bring a frame, which took this many bytes, and whose segments are these.
 fn expect_one(
     rt: &impl Abort,
     reader: &mut FrameReader,
@@ -280,7 +280,7 @@ fn a_message_may_be_given_back_inside_a_frame(rt: HostRuntime) {
     drop(reader);
 }
 
-/// A frame, and a number of segments behind it that is too large.
+/// A frame, and a number of segments after it that is too large.
 fn faulty_stream() -> [u8; 44] {
     let mut stream = [0xff; 44];
     stream[..40].copy_from_slice(&FINISH);
@@ -305,7 +305,7 @@ fn a_fault_behind_a_frame_is_told_at_the_end(rt: HostRuntime) {
     drop(reader);
 }
 
-/// The next frame of a piece took so many bytes, and its segments hold these words, one after another. It is
+/// The next frame of a piece took this many bytes, and its segments hold these words, one after another. It is
 /// given back, and what follows it comes back.
 pub fn expect_next<'a>(
     rt: &impl Abort,
@@ -448,7 +448,7 @@ fn expect_large(rt: &impl Abort, frames: &[(u64, Segments)]) {
 /// The table of such a frame.
 const LARGE_TABLE: [u8; 8] = [0, 0, 0, 0, 0x40, 0x0d, 0x03, 0];
 
-/// The last of so many pieces more brings the frame.
+/// The last of this many pieces more brings the frame.
 fn expect_large_behind(rt: &impl Abort, mut reader: FrameReader, piece: &[u8], more: u32) {
     for _ in 1..more {
         expect_fed(rt, &mut reader, piece, Ok(0));
@@ -554,7 +554,7 @@ fn a_frame_is_written_over_another(rt: HostRuntime) {
     drop(out);
 }
 
-/// A frame is written behind what is in `out`.
+/// A frame is written after what is in `out`.
 fn expect_behind(rt: &impl Abort, alloc: Global, out: &mut Vec<u8>, bytes: &[u8]) {
     let segments = segments_of(rt, new_reader(alloc), bytes);
     let written = write_behind(out, &segments, Limits::standard());
@@ -598,7 +598,7 @@ fn a_frame_goes_out_to_a_writer(rt: HostRuntime) {
     drop(room);
 }
 
-// With memory enough no growth is refused. `rt try --test --fail-alloc N` refuses the Nth.
+// With ample memory no allocation fails. `rt try --test --fail-alloc N` fails the Nth.
 #[test]
 fn want_of_memory_is_told_and_then_failed(rt: HostRuntime) {
     let mut reader = new_reader(rt.alloc());

@@ -29,7 +29,7 @@ fn expect_unpacked(rt: &impl Abort, alloc: Global, bytes: &[u8], words: &[u64]) 
     drop(unpacked);
 }
 
-/// Packed bytes of at most so many words are told to have this fault.
+/// Packed bytes of at most this many words are reported to have this fault.
 fn expect_fault(rt: &impl Abort, alloc: Global, bytes: &[u8], limit: usize, fault: FrameFault) {
     assert!(rt; unpack(alloc, bytes, limit).err() == Some(fault));
 }
@@ -130,7 +130,7 @@ fn go_round(alloc: Global, words: &[u64]) -> Result<usize, FrameFault> {
     written.map(|frame| frame.len())
 }
 
-// With memory enough no growth is refused. `rt try --test --fail-alloc N` refuses the Nth of each
+// With ample memory no allocation fails. `rt try --test --fail-alloc N` fails the Nth of each
 // of the three tests below.
 #[test]
 fn want_of_memory_is_told_in_packing(rt: HostRuntime) {
@@ -140,7 +140,7 @@ fn want_of_memory_is_told_in_packing(rt: HostRuntime) {
     }
 }
 
-/// The words. A growth that is refused once is asked for again.
+/// The words. An allocation that fails once is tried again.
 fn words_again(rt: &impl Abort, alloc: Global, words: &[u64]) -> Vec<u64> {
     match words.to_vec(alloc) {
         Ok(list) => list,
@@ -148,7 +148,7 @@ fn words_again(rt: &impl Abort, alloc: Global, words: &[u64]) -> Vec<u64> {
     }
 }
 
-/// Two segments. A growth that is refused once is asked for again.
+/// Two segments. An allocation that fails once is tried again.
 fn two_segments(rt: &impl Abort, alloc: Global) -> Segments {
     let mut lists = match Vec::with_capacity(alloc, 2) {
         Ok(lists) => lists,
@@ -177,7 +177,7 @@ fn want_of_memory_leaves_nothing_written(rt: HostRuntime) {
     drop(segments);
 }
 
-/// A frame goes out in so many bytes, or none of it where memory runs out.
+/// A frame goes out in this many bytes, or none of it where memory runs out.
 fn send(
     rt: &impl Abort,
     alloc: Global,

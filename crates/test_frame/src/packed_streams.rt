@@ -15,7 +15,7 @@ fn new_reader(alloc: Global) -> FrameReader {
     FrameReader::packed(alloc, Limits::standard())
 }
 
-/// The bytes bring one frame, which took so many bytes, and whose segments hold these words, one
+/// The bytes bring one frame, which took this many bytes, and whose segments hold these words, one
 /// after another.
 fn expect_frame(
     rt: &impl Abort,
@@ -71,7 +71,7 @@ fn expect_bytes(rt: &impl Abort, alloc: Global, bytes: &[u8], words: &[u64]) {
     drop(reader);
 }
 
-/// The words of packed bytes behind those of the segment table.
+/// The words of packed bytes after those of the segment table.
 fn words_behind(rt: &impl Abort, alloc: Global, bytes: &[u8], table: usize) -> Vec<u64> {
     let words = unpack(alloc, bytes, 600).expect(rt, "words");
     let behind = words[table.min(words.len())..].to_vec(alloc);
@@ -103,7 +103,7 @@ fn packed_frames_are_taken_one_by_one(rt: HostRuntime) {
     drop((reader, stream, finish, release));
 }
 
-/// Packed words behind the table of a frame of one segment.
+/// Packed words after the table of a frame of one segment.
 fn expect_segment(rt: &impl Abort, alloc: Global, words: &[u64]) {
     let mut bytes = pack(alloc, &[(words.len() as u64) << 32]).expect(rt, "memory");
     let behind = pack(alloc, words).expect(rt, "memory");
@@ -159,7 +159,7 @@ fn what_is_held_follows_the_packed_bytes(rt: HostRuntime) {
     drop(reader);
 }
 
-/// A frame comes, and the fault of what stands behind it is kept.
+/// A frame comes, and the fault of what stands after it is kept.
 fn expect_kept(rt: &impl Abort, alloc: Global, stream: &[u8], fault: FrameFault) {
     let mut reader = new_reader(alloc);
     expect_fed(rt, &mut reader, stream, Ok(1));
@@ -204,7 +204,7 @@ fn faults_of_the_table_are_told_with_a_byte(rt: HostRuntime) {
     expect_fault(&rt, rt.alloc(), &[0xff, 0, 0, 0, 0, 1, 0, 0x80, 0], large)
 }
 
-/// The bytes bring frames of the first of these lengths: so many.
+/// The bytes bring frames of the first of these lengths: this many.
 fn expect_lengths(
     rt: &impl Abort,
     reader: &mut FrameReader,
@@ -221,7 +221,7 @@ fn expect_lengths(
     count
 }
 
-/// Three frames of these lengths come, and nothing behind them.
+/// Three frames of these lengths come, and nothing after them.
 fn expect_three(rt: &impl Abort, alloc: Global, (front, back): (&[u8], &[u8]), lengths: [u64; 3]) {
     let mut reader = new_reader(alloc);
     let first = expect_lengths(rt, &mut reader, front, &lengths);
@@ -241,7 +241,7 @@ fn packed_frames_follow_one_another(rt: HostRuntime) {
     drop(stream);
 }
 
-// With memory enough no growth is refused. `rt try --test --fail-alloc N` refuses the Nth.
+// With ample memory no allocation fails. `rt try --test --fail-alloc N` fails the Nth.
 #[test]
 fn want_of_memory_is_told_in_a_packed_stream(rt: HostRuntime) {
     let mut reader = new_reader(rt.alloc());

@@ -74,7 +74,7 @@ pub fn messages_of(alloc: Global, bytes: &[u8], mode: Mode) -> Result<Vec<Messag
     Ok(messages)
 }
 
-/// A message's frame, in segments of at most so many words.
+/// A message's frame, in segments of at most this many words.
 pub fn frame_of(
     alloc: Global,
     message: &Message,

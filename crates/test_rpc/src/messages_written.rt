@@ -442,7 +442,7 @@ fn found_root(alloc: Global, words: &[u64]) -> Option<Object> {
     cp_reading::read_root(alloc, &segments, Limits::standard()).ok()
 }
 
-/// The same. A growth that is refused once is asked for again.
+/// The same. An allocation that fails once is tried again.
 fn root_again(rt: &impl Abort, alloc: Global, words: &[u64]) -> Object {
     match found_root(alloc, words) {
         Some(root) => root,
@@ -464,7 +464,7 @@ fn is_read_again(alloc: Global, root: &Object) -> bool {
     }
 }
 
-// With memory enough no growth is refused. `rt try --test --fail-alloc N` refuses the Nth of each
+// With ample memory no allocation fails. `rt try --test --fail-alloc N` fails the Nth of each
 // of the three tests below.
 #[test]
 fn want_of_memory_while_messages_are_read(rt: HostRuntime) {
@@ -474,7 +474,7 @@ fn want_of_memory_while_messages_are_read(rt: HostRuntime) {
     }
 }
 
-/// The message of a root. A growth that is refused once is asked for again.
+/// The message of a root. An allocation that fails once is tried again.
 fn message_again(rt: &impl Abort, alloc: Global, root: &Object) -> Message {
     match message_of(alloc, root) {
         Ok(message) => message,
@@ -513,7 +513,7 @@ fn want_of_memory_while_trees_are_made(rt: HostRuntime) {
     }
 }
 
-/// A message's copy. A growth that is refused once is asked for again.
+/// A message's copy. An allocation that fails once is tried again.
 fn copy_again(rt: &impl Abort, alloc: Global, message: &Message) -> Message {
     match message.copy(alloc) {
         Ok(copy) => copy,

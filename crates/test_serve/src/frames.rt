@@ -71,7 +71,7 @@ pub const ADD_MOST: Frame = (
      0100000000000000 0400000001000000 0000000000000000 ffffffffffffffff",
 );
 
-/// It adds a number that isn't there.
+/// It adds a number that its params lack.
 pub const ADD_NONE: Frame = (
     "call q=4 to=answer:1[0] i=e5a1000000000002 m=0 results=caller params={(;) caps[]}",
     "0000000011000000 0000000001000100 0200000000000000 0000000003000300 0400000000000000 \

@@ -95,7 +95,7 @@ pub fn expect_lines(rt: &impl Abort, alloc: Global, bytes: &[u8], mode: Mode, wa
     }
 }
 
-/// So many messages were taken, and so many sent.
+/// This many messages were taken, and this many sent.
 pub fn expect_report(rt: &impl Abort, report: &Report, messages: usize, wanted: &str) {
     assert!(rt; report.messages == messages as u64);
     assert!(rt; report.sent == wanted.lines().count() as u64);

@@ -216,7 +216,7 @@ fn replying(rt: &impl Abort, alloc: Global, outcome: Outcome, imports: &[u32]) -
     Script::new(replies, Vec::new(alloc))
 }
 
-/// Imports that are given up are released once, and only those that are there.
+/// Imports that are given up are released once, and only those that exist.
 const RELEASED: &str = "\
 return a=0 releaseParamCaps=false results {cap:0 caps[senderHosted:0]}
 return a=1 releaseParamCaps=false results {null caps[]}
@@ -240,7 +240,7 @@ return a=1 releaseParamCaps=false results {(;cap:0) caps[senderHosted:1]}
 return a=2 releaseParamCaps=false exception failed \"no such object\"
 ";
 
-/// Results that name a promise which isn't there.
+/// Results that name a promise which doesn't exist.
 const BAD: &str = "\
 return a=0 releaseParamCaps=false results {cap:0 caps[senderHosted:0]}
 return a=1 releaseParamCaps=false exception failed \"bad outcome\"

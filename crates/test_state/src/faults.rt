@@ -48,6 +48,7 @@ fn texts(rt: HostRuntime) {
         &mut text,
         &[PeerFault::QuestionInUse, PeerFault::PeerLacksLevelOne],
     );
+    writeln!(text, "{:#}", VatFault::InUse).expect(&rt, "memory");
     assert_eq!(rt;
         text.as_str(),
         "\
@@ -69,6 +70,7 @@ V10 OutOfMemory
 V11 UnknownImport
 P1 question in use
 P12 peer lacks level 1
+V6 InUse: the question, import or promise is in use
 "
     );
 }

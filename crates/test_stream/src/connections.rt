@@ -277,7 +277,7 @@ fn messages_are_written_as_they_were_read(rt: HostRuntime) {
     drop(frame);
 }
 
-/// Writes a finish in segments of at most so many words.
+/// Writes a finish in segments of at most this many words.
 fn write_finish(
     rt: &impl Abort,
     alloc: Global,
@@ -291,14 +291,14 @@ fn write_finish(
     done
 }
 
-/// The bytes of a finish in segments of at most so many words.
+/// The bytes of a finish in segments of at most this many words.
 fn cut_finish(rt: &impl Abort, alloc: Global, words: u32) -> Vec<u8> {
     let mut to = Tap::new(Vec::new(alloc));
     write_finish(rt, alloc, &mut to, words, Limits::standard()).expect(rt, "written");
     to.into_inner()
 }
 
-/// The bytes of a finish in segments of at most so many words are these.
+/// The bytes of a finish in segments of at most this many words are these.
 fn expect_cut(rt: &impl Abort, alloc: Global, words: u32, wanted: &[u8]) {
     let bytes = cut_finish(rt, alloc, words);
     expect_bytes(rt, &bytes, wanted);
@@ -355,7 +355,7 @@ fn what_passes_the_limits_is_not_written(rt: HostRuntime) {
     assert!(rt; fault_within(&rt, rt.alloc(), 2, 6).0.is_none());
 }
 
-/// A writer that takes so many bytes a call, and fails once, at one of its calls.
+/// A writer that takes this many bytes a call, and fails once, at one of its calls.
 #[derive(Drop)]
 struct Sink {
     bytes: Vec<u8>,
@@ -393,7 +393,7 @@ fn sink_of(alloc: Global, most: usize, fails_at: u64, takes_none: bool) -> Tap<S
     })
 }
 
-/// A plain frame's message is written as the frame, in so many calls of a writer that takes so many
+/// A plain frame's message is written as the frame, in this many calls of a writer that takes this many
 /// bytes a call.
 fn expect_calls(rt: &impl Abort, alloc: Global, frame: &[u8], most: usize, calls: u64) {
     let mut to = sink_of(alloc, most, 0, false);
@@ -403,7 +403,7 @@ fn expect_calls(rt: &impl Abort, alloc: Global, frame: &[u8], most: usize, calls
     drop(sink);
 }
 
-/// So many calls failed, and these bytes went through.
+/// This many calls failed, and these bytes went through.
 fn expect_taken(rt: &impl Abort, to: Tap<Sink>, failures: u64, bytes: &[u8]) -> Sink {
     assert!(rt; to.failures() == failures);
     assert!(rt; to.bytes() == bytes.len() as u64);
@@ -423,7 +423,7 @@ fn a_writer_may_take_a_byte_a_call(rt: HostRuntime) {
     }
 }
 
-/// A writer that fails behind this front of a plain frame took the front alone.
+/// A writer that fails after this front of a plain frame took the front alone.
 fn expect_front(rt: &impl Abort, alloc: Global, frame: &[u8], front: &[u8], takes_none: bool) {
     let mut to = sink_of(alloc, 1, front.len() as u64 + 1, takes_none);
     assert!(rt; forward(rt, alloc, frame, &mut to) == Err(StreamFault::Device));
@@ -527,7 +527,7 @@ fn lying_frames<'a>() -> [(Mode, &'a [u8]); 4] {
     ]
 }
 
-// With memory enough no growth is refused. `rt try --test --fail-alloc N` refuses the Nth of each
+// With ample memory no allocation fails. `rt try --test --fail-alloc N` fails the Nth of each
 // of the four tests below.
 #[test]
 fn want_of_memory_while_a_message_is_read(rt: HostRuntime) {
@@ -570,7 +570,7 @@ fn want_of_memory_while_a_packed_stream_is_fed(rt: HostRuntime) {
     drop(reader);
 }
 
-/// Writes a message in segments of at most so many words. Where memory runs out, nothing goes out.
+/// Writes a message in segments of at most this many words. Where memory runs out, nothing goes out.
 fn expect_whole_or_none(rt: &impl Abort, alloc: Global, message: &Message, mode: Mode, words: u32) {
     let mut to = Tap::new(std::io::sink());
     let done = write_message_in(alloc, &mut to, message, mode, words, Limits::standard());

@@ -93,6 +93,11 @@ fn texts(rt: HostRuntime) {
         ],
     );
     append(&rt, &mut text, &[BadCapability]);
+    let deep = StreamFault::Refused {
+        at: 8,
+        refusal: Refusal::Tree(TreeFault::NestingLimit(at)),
+    };
+    writeln!(text, "{deep:#}").expect(&rt, "memory");
     assert_eq!(rt;
         text.as_str(),
         "\
@@ -124,6 +129,7 @@ refused at byte 8: G4 NoSegment segment 2 word 30
 refused at byte 0: B1 TooDeep
 device failed
 a capability word with one of bits 2 to 31 set
+refused at byte 8: G8 NestingLimit segment 2 word 30: structs and lists nest deeper than the limit, 64 levels by the standard limits
 "
     );
 }

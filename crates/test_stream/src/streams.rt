@@ -97,19 +97,19 @@ fn feed(rt: &impl Abort, reader: &mut MessageReader, piece: &[u8], found: &mut V
     drop(messages);
 }
 
-/// A piece brings so many messages.
+/// A piece brings this many messages.
 fn expect_count(rt: &impl Abort, reader: &mut MessageReader, piece: &[u8], count: usize) {
     let messages = reader.feed(piece).expect(rt, "messages");
     assert!(rt; messages.len() == count);
     drop(messages);
 }
 
-/// The fault that is told for a piece.
+/// The fault that is reported for a piece.
 fn told(reader: &mut MessageReader, piece: &[u8]) -> Option<StreamFault> {
     reader.feed(piece).err()
 }
 
-/// This fault, or none, is told for a piece.
+/// This fault, or none, is reported for a piece.
 fn expect_fed(
     rt: &impl Abort,
     reader: &mut MessageReader,
@@ -119,17 +119,17 @@ fn expect_fed(
     assert_eq!(rt; told(reader, piece), fault);
 }
 
-/// This fault, or none, is told at the end.
+/// This fault, or none, is reported at the end.
 pub(crate) fn expect_end(rt: &impl Abort, reader: &mut MessageReader, fault: Option<StreamFault>) {
     assert_eq!(rt; reader.finish().err(), fault);
 }
 
-/// A refusal behind so many bytes.
+/// A refusal after this many bytes.
 pub(crate) fn at(at: u64, refusal: Refusal) -> StreamFault {
     StreamFault::Refused { at, refusal }
 }
 
-/// The two messages come, of which so many come with the front.
+/// The two messages come, of which this many come with the front.
 fn expect_both(rt: &impl Abort, alloc: Global, (front, back): (&[u8], &[u8]), early: usize) {
     let mut reader = new_reader(alloc);
     let mut found = Vec::new(alloc);
@@ -167,7 +167,7 @@ fn a_message_may_lie_in_two_segments(rt: HostRuntime) {
     drop(found);
 }
 
-/// A message comes with the stream, and the fault behind it with the next piece.
+/// A message comes with the stream, and the fault after it with the next piece.
 fn expect_kept(rt: &impl Abort, alloc: Global, stream: &[u8], refusal: Refusal) {
     let mut reader = new_reader(alloc);
     expect_count(rt, &mut reader, stream, 1);
@@ -176,7 +176,7 @@ fn expect_kept(rt: &impl Abort, alloc: Global, stream: &[u8], refusal: Refusal) 
     drop(reader);
 }
 
-/// A message comes with the stream, and the fault behind it at the end.
+/// A message comes with the stream, and the fault after it at the end.
 fn expect_kept_to_the_end(rt: &impl Abort, alloc: Global, stream: &[u8], refusal: Refusal) {
     let mut reader = new_reader(alloc);
     expect_count(rt, &mut reader, stream, 1);
@@ -185,7 +185,7 @@ fn expect_kept_to_the_end(rt: &impl Abort, alloc: Global, stream: &[u8], refusal
     drop(reader);
 }
 
-/// The fault is told at once where no message comes.
+/// The fault is reported at once where no message comes.
 fn expect_told(rt: &impl Abort, alloc: Global, bytes: &[u8], refusal: Refusal) {
     let mut reader = new_reader(alloc);
     expect_fed(rt, &mut reader, bytes, Some(at(0, refusal)));
@@ -205,7 +205,7 @@ fn a_fault_behind_a_message_is_kept(rt: HostRuntime) {
     }
 }
 
-/// A stream that ends inside a message, behind other bytes, is truncated there.
+/// A stream that ends inside a message, after other bytes, is truncated there.
 fn expect_truncated(rt: &impl Abort, alloc: Global, before: &[u8], front: &[u8]) {
     let mut reader = new_reader(alloc);
     expect_fed(rt, &mut reader, before, None);
@@ -238,7 +238,7 @@ pub(crate) fn is_memory(fault: StreamFault) -> bool {
     )
 }
 
-/// A reader that met want of memory has failed behind the same bytes.
+/// A reader that met an allocation failure has failed after the same bytes.
 pub(crate) fn expect_failed(rt: &impl Abort, reader: &mut MessageReader, fault: StreamFault) {
     assert!(rt; is_memory(fault));
     let StreamFault::Refused { at: behind, .. } = fault else {
@@ -248,7 +248,7 @@ pub(crate) fn expect_failed(rt: &impl Abort, reader: &mut MessageReader, fault: 
     expect_end(rt, reader, Some(at(behind, FAILED)));
 }
 
-// With memory enough no growth is refused. `rt try --test --fail-alloc N` refuses the Nth.
+// With ample memory no allocation fails. `rt try --test --fail-alloc N` fails the Nth.
 #[test]
 fn want_of_memory_is_told_and_then_failed(rt: HostRuntime) {
     let mut reader = new_reader(rt.alloc());
@@ -319,13 +319,13 @@ impl Write for Failing {
     }
 }
 
-/// So many calls failed, and so many bytes went through.
+/// This many calls failed, and this many bytes went through.
 fn expect_counts(rt: &impl Abort, tap: &Tap<Failing>, failures: u64, bytes: u64) {
     assert!(rt; tap.failures() == failures);
     assert!(rt; tap.bytes() == bytes);
 }
 
-/// Writes bytes, of which so many are taken, if any.
+/// Writes bytes, of which this many are taken, if any.
 fn expect_taken(rt: &impl Abort, tap: &mut Tap<Failing>, bytes: &[u8], taken: Option<usize>) {
     assert!(rt; tap.write(bytes).ok() == taken);
 }
@@ -394,7 +394,7 @@ pub(crate) fn read(alloc: Global, from: &mut Tap<Source>, mode: Mode) -> Result<
     read_message(alloc, from, mode, Limits::standard()).map(|found| found.is_some())
 }
 
-/// A message is read, or none is there, or this fault is told.
+/// A message is read, or none is there, or this fault is reported.
 pub(crate) fn expect_read(
     rt: &impl Abort,
     alloc: Global,
@@ -423,7 +423,7 @@ fn expect_two(rt: &impl Abort, alloc: Global, mode: Mode, frame: &[u8]) {
     drop(stream);
 }
 
-/// A device that ends with this front of a frame is refused behind the front's bytes.
+/// A device that ends with this front of a frame is refused after the front's bytes.
 fn expect_refused_behind(rt: &impl Abort, alloc: Global, mode: Mode, front: &[u8]) {
     let mut from = tap_of(front, 0);
     let truncated = at(0, Refusal::Frame(FrameFault::Truncated));
@@ -432,7 +432,7 @@ fn expect_refused_behind(rt: &impl Abort, alloc: Global, mode: Mode, front: &[u8
     drop(from);
 }
 
-/// A device that ends inside a frame is refused behind the frame's bytes that it had.
+/// A device that ends inside a frame is refused after the frame's bytes that it had.
 pub(crate) fn expect_cut_short(rt: &impl Abort, alloc: Global, mode: Mode, frame: &[u8]) {
     for length in 1..frame.len() {
         expect_refused_behind(rt, alloc, mode, &frame[..length]);
@@ -452,7 +452,7 @@ fn exactly_one_frame_is_read(rt: HostRuntime) {
     }
 }
 
-/// A frame's message is read from a device that fails at that call, or the failure is told.
+/// A frame's message is read from a device that fails at that call, or the failure is reported.
 fn expect_read_or_device(rt: &impl Abort, alloc: Global, mode: Mode, frame: &[u8], call: u64) {
     let mut from = tap_of(frame, call);
     let found = read(alloc, &mut from, mode);

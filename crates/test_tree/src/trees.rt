@@ -43,7 +43,7 @@ fn lists_of(alloc: Global, lists: &[&str]) -> Result<Vec<Vec<u64>>, AllocError> 
     Ok(all)
 }
 
-/// Segments, each by its words. A growth that is refused once is asked for again.
+/// Segments, each by its words. An allocation that fails once is tried again.
 pub fn segments(rt: &impl Abort, alloc: Global, lists: &[&str]) -> Segments {
     let all = match lists_of(alloc, lists) {
         Ok(all) => all,
@@ -52,7 +52,7 @@ pub fn segments(rt: &impl Abort, alloc: Global, lists: &[&str]) -> Segments {
     Segments::new(all).ok().expect(rt, "a segment")
 }
 
-/// The struct that these segments hold. A growth that is refused once is asked for again.
+/// The struct that these segments hold. An allocation that fails once is tried again.
 pub fn object_of(rt: &impl Abort, alloc: Global, segments: &Segments) -> Object {
     match read_root(alloc, segments, Limits::standard()) {
         Ok(object) => object,
@@ -212,7 +212,7 @@ fn a_pad_of_zero_bits_is_an_empty_struct(rt: HostRuntime) {
     assert!(rt; fault_of(&rt, rt.alloc(), &one_word, 64, 8_388_608).is_some());
 }
 
-/// Whether a struct of this pointer and no data, with these words behind it, holds the tree.
+/// Whether a struct of this pointer and no data, with these words after it, holds the tree.
 fn holds(rt: &impl Abort, alloc: Global, pointer: &str, words: &str, tree: Tree) -> bool {
     let whole = Tree::Struct(body(rt, alloc, &[], [tree]));
     let text = format!(in alloc; "0000000000000100 {pointer} {words}").expect(rt, "memory");
@@ -341,7 +341,7 @@ fn faults_have_their_places(rt: HostRuntime) {
     }
 }
 
-/// So many nested structs of one pointer, then a null pointer.
+/// This many nested structs of one pointer, then a null pointer.
 fn nested_text(alloc: Global, depth: usize) -> Result<String, AllocError> {
     let mut text = String::with_capacity(alloc, 2_048)?;
     for _ in 0..depth {
@@ -351,7 +351,7 @@ fn nested_text(alloc: Global, depth: usize) -> Result<String, AllocError> {
     Ok(text)
 }
 
-/// The same. A growth that is refused once is asked for again.
+/// The same. An allocation that fails once is tried again.
 fn nested(rt: &impl Abort, alloc: Global, depth: usize) -> String {
     match nested_text(alloc, depth) {
         Ok(text) => text,
@@ -545,7 +545,7 @@ fn reads_again(rt: &impl Abort, alloc: Global, lists: &[&str]) -> bool {
     is_same
 }
 
-// With memory enough no growth is refused. `rt try --test --fail-alloc N` refuses the Nth of each
+// With ample memory no allocation fails. `rt try --test --fail-alloc N` fails the Nth of each
 // of the five tests below.
 #[test]
 fn want_of_memory_for_a_message(rt: HostRuntime) {

@@ -59,7 +59,7 @@ fn are_read_back(rt: &impl Abort, alloc: Global, segments: &Segments, object: &O
     is_read && is_written
 }
 
-/// Whether the tree is written so, with at most so many words in a segment, and its segments are
+/// Whether the tree is written so, with at most this many words in a segment, and its segments are
 /// read back.
 fn writes(rt: &impl Abort, alloc: Global, tree: Tree, max_words: u32, wanted: &[&str]) -> bool {
     let object = object(rt, tree);
@@ -157,7 +157,7 @@ fn each_kind_is_written(rt: HostRuntime) {
     assert!(rt; writes(&rt, rt.alloc(), tree, 8_388_608, &[ALL_KINDS]));
 }
 
-/// An object with each kind of tree. A growth that is refused once is asked for again.
+/// An object with each kind of tree. An allocation that fails once is tried again.
 fn object_of_all_kinds(rt: &impl Abort, alloc: Global) -> Object {
     let segments = segments(rt, alloc, &[ALL_KINDS]);
     let object = object_of(rt, alloc, &segments);
@@ -327,7 +327,7 @@ fn writes_segments_again(alloc: Global, object: &Object, max_words: u32) -> bool
     are_same
 }
 
-// With memory enough no growth is refused. `rt try --test --fail-alloc N` refuses the Nth of each
+// With ample memory no allocation fails. `rt try --test --fail-alloc N` fails the Nth of each
 // of the three tests below.
 #[test]
 fn want_of_memory_while_segments_are_written(rt: HostRuntime) {
@@ -370,7 +370,7 @@ fn want_of_memory_while_one_segment_is_written(rt: HostRuntime) {
     drop(object);
 }
 
-/// A struct of more words than a segment begins with room for. A growth that is refused once is asked for again.
+/// A struct of more words than a segment begins with room for. An allocation that fails once is tried again.
 fn object_of_many_words(rt: &impl Abort, alloc: Global) -> Object {
     let words = match Vec::from_slice(alloc, &[7; 300]) {
         Ok(words) => words,

@@ -72,7 +72,7 @@ fn uneven_elements_are_handed_back(rt: HostRuntime) {
     drop(back);
 }
 
-/// Whether so many voids are held.
+/// Whether this many voids are held.
 fn holds_voids(count: u32) -> bool {
     Whole::new(Tree::Voids(count)).is_ok()
 }
@@ -135,7 +135,7 @@ fn child_copies_again(alloc: Global, source: &Object, list: &Whole) -> bool {
     }
 }
 
-/// The list that these segments hold in that struct. A growth that is refused once is asked for again.
+/// The list that these segments hold in that struct. An allocation that fails once is tried again.
 fn list_of(rt: &impl Abort, alloc: Global, segments: &Segments) -> Whole {
     let root = View::root(segments, Limits::standard()).expect(rt, "a root");
     match root.child(0).tree(alloc) {
@@ -144,7 +144,7 @@ fn list_of(rt: &impl Abort, alloc: Global, segments: &Segments) -> Whole {
     }
 }
 
-// With memory enough no growth is refused. `rt try --test --fail-alloc N` refuses the Nth.
+// With ample memory no allocation fails. `rt try --test --fail-alloc N` fails the Nth.
 #[test]
 fn want_of_memory_while_trees_are_copied(rt: HostRuntime) {
     let alloc = rt.alloc();

@@ -106,7 +106,7 @@ fn words_are_written(rt: HostRuntime) {
     expect_word(&rt, encode(Pointer::Cap(7)), 0x0000_0007_0000_0003);
 }
 
-/// A body has so many words.
+/// A body has this many words.
 fn expect_counted(rt: &impl Abort, size: ElementSize, count: u32, words: u64) {
     assert_eq!(rt; list_words(size, count), words, "of {size:?}");
 }
@@ -155,7 +155,7 @@ fn segments_are_held(rt: HostRuntime) {
     drop(segments);
 }
 
-/// The first list has so many words.
+/// The first list has this many words.
 fn expect_first(rt: &impl Abort, segments: Segments, length: usize) {
     let list = segments.into_first();
     assert!(rt; list.len() == length);

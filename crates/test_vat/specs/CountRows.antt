@@ -110,7 +110,7 @@ given_up =
     ∷ faults_by (return_message 0 returns.Canceled) faults.UnknownQuestion
     ∷ []
 
--- a call on an own object is given up, and ends with its answer, of which nobody is told
+-- a call on an own object is given up, and ends with its answer, which is reported to nobody
 abbrev pub given_up_here : List Moment
 given_up_here =
     does (events.Call (caps.Object 3) small_request) (values.Question 0) (effects.Deliver 3 (origins.Own 0) 0 small_request ∷ [])

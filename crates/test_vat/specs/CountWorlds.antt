@@ -1,4 +1,4 @@
--- Worlds of two vats in which what is owed, expected and orderly is told one by one, and such as no moves come to.
+-- Worlds of two vats in which what is owed, expected and orderly is said one by one, and such as no moves come to.
 use Rattle.std.specs.Prelude.{◌≡◌, true, false, List, [], ◌∷◌, ◌++◌, Some, None}
 use Rattle.std.specs.FinMap.{insert}
 use Rattle.cp_tree.specs.Node.{cap}
@@ -55,7 +55,7 @@ pub record IsNextExpected (w : World) : Type 0 where
   pub no_finish : IsExpected (accounts_of w.first.vat) (finish_message 0 true) → ⊥
   pub no_bootstrap : IsExpected (accounts_of w.second.vat) (bootstrap_message 0) → ⊥
 
--- the world with more messages to the second vat behind those on the way, and with these alone
+-- the world with more messages to the second vat after those on the way, and with these alone
 abbrev pub with_more : World → List Message → World
 with_more w messages = record w { second = with_mail w.second messages }
 

@@ -30,7 +30,7 @@ use Rattle.cp_machine.specs.declared.event.Value.TheVariants as values
 use Rattle.cp_machine.specs.declared.fault.PeerFault.{PeerFault}
 use Rattle.cp_machine.specs.declared.fault.PeerFault.TheVariants as faults
 
--- a message at fault comes behind a Bootstrap, and behind a call on its object
+-- a message at fault comes after a Bootstrap, and after a call on its object
 abbrev after_bootstrap : Message → PeerFault → List Moment
 after_bootstrap m fault = bootstrap_comes ∷ faults_by m fault ∷ []
 
@@ -156,7 +156,7 @@ long_transform = bootstrap_comes ∷ call_comes ∷ comes (small_call 2 (long_ta
 abbrev pub longer_transform : List Moment
 longer_transform = after_call (small_call 2 (long_target 17)) faults.PayloadTooLarge
 
--- a tree of so many structs, one in another
+-- a tree of this many structs, one in another
 abbrev pub nested : ℕ → Node
 nested zero = null
 nested (suc depth) = struct [] (node (nested depth) no_nodes)
@@ -168,7 +168,7 @@ deep_content =
 abbrev pub deeper_content : List Moment
 deeper_content = after_bootstrap (call_message 1 (on_import 0) (nested 61) []) faults.PayloadTooLarge
 
--- an exception whose reason has so many bytes
+-- an exception whose reason has this many bytes
 abbrev pub wordy : ℕ → Exception
 wordy n = failed (replicate n 120)
 

@@ -97,7 +97,7 @@ echo_message = disembargo_message (on_import 0) (contexts.ReceiverLoopback 0)
 abbrev calls_behind : ℕ → Moment
 calls_behind q = does (events.Call given_cap small_request) (values.Question q) (sends embargo_message ∷ [])
 
--- The calls that were sent come back and are delivered. Behind them comes the echo, and lets the one that waits go.
+-- The calls that were sent come back and are delivered. After them comes the echo, and lets the one that waits go.
 abbrev comes_back : ℕ → ℕ → ℕ → Moment
 comes_back k a ticket = comes (small_call a (on_import 0)) (effects.Deliver k (origins.Answer a) ticket small_request ∷ [])
 
@@ -124,7 +124,7 @@ begins =
     ∷ (at_second, answers_back 0 1)
     ∷ (at_first, bootstrap_settles) ∷ []
 
--- The third is made behind it, and waits until the two have come back.
+-- The third is made after it, and waits until the two have come back.
 abbrev pub lane_of_three_calls : List (Side × Moment)
 lane_of_three_calls =
     begins
@@ -144,7 +144,7 @@ lane_without_embargo =
     ++ (at_second, comes (small_call 4 (on_answer 1 0)) (sends (small_call 2 (on_import 0)) ∷ []))
     ∷ (at_first, comes_back 3 2 6) ∷ []
 
--- Behind the three calls the loan is given back, and the same numbers stand for another object.
+-- After the three calls the loan is given back, and the same numbers stand for another object.
 abbrev pub lane_again : List (Side × Moment)
 lane_again =
     (at_first, does (events.Finish 1) values.Nothing (sends (finish_message 1 false) ∷ []))
@@ -165,7 +165,7 @@ lane_again =
     ∷ (at_second, echoes)
     ∷ (at_first, embargo_ends 4 7 9) ∷ []
 
--- The three calls are delivered in order at object 3, with an embargo or without one, and three more behind the first three at object 4.
+-- The three calls are delivered in order at object 3, with an embargo or without one, and three more after the first three at object 4.
 abbrev pub ThreeInOrder : List Move → Type 0
 ThreeInOrder moves = IsLane two_vats moves lane_of_three_calls at_first given_reference 3 (1 ∷ 2 ∷ 3 ∷ [])
 

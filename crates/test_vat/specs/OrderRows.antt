@@ -38,7 +38,7 @@ change_at i change [] = []
 change_at zero change (turn ∷ past) = change turn ++ past
 change_at (suc i) change (turn ∷ past) = turn ∷ change_at i change past
 
--- the turn of the latest call before the one before it; a call that goes twice, goes elsewhere or doesn't go; and an outcome that isn't told
+-- the turn of the latest call before the one before it; a call that goes twice, goes elsewhere or doesn't go; and an outcome that isn't reported
 abbrev pub other_way : List Turn → List Turn
 other_way turns = swap turns 1 2
 

@@ -32,7 +32,7 @@ promise_made p = does events.Promise (values.Promise p) []
 abbrev answers : Cap → List Effect → Moment
 answers c effects = does (events.Answer (origins.Answer 1) (outcomes.Results one_object (c ∷ []))) values.Nothing effects
 
--- an open promise is exported, calls wait at it, and they go when it is resolved, behind the Resolve
+-- an open promise is exported, calls wait at it, and they go when it is resolved, after the Resolve
 abbrev promise_resolves : List Moment → List Moment
 promise_resolves more =
     promise_made 0
@@ -74,7 +74,7 @@ resolve_unknown =
     ∷ []
     )
 
--- one that is broken is told so, and calls that wait at it fail with its exception
+-- one that is broken is reported as broken, and calls that wait at it fail with its exception
 abbrev pub promise_broken : List Moment
 promise_broken =
     promise_made 0

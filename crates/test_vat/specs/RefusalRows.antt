@@ -18,7 +18,7 @@ use Rattle.test_vat.specs.RowWords.{does, refusal, bootstrap_message, return_mes
 abbrev calls : Cap → List Cap → Event
 calls c table = events.Call c (request no_content table)
 
--- what isn't there: a question, a promise, an import, also in a table; the first of these is told
+-- what isn't there: a question, a promise, an import, also in a table; the first of these is reported
 abbrev pub strangers_named : List Moment
 strangers_named =
     refusal (calls (caps.Pipelined 5 []) (caps.Promise 5 ∷ [])) refusals.UnknownQuestion

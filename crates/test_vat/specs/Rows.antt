@@ -72,7 +72,7 @@ strange_echo = strange (disembargo_message (on_import 0) (contexts.ReceiverLoopb
 abbrev pub strange_unimplemented : List Moment
 strange_unimplemented = strange (messages.Unimplemented (struct (2 ∷ []) no_nodes)) faults.PeerLacksLevelOne
 
--- the same behind a Bootstrap
+-- the same after a Bootstrap
 abbrev pub late_return : List Moment
 late_return = bootstrap_comes ∷ strange_return
 

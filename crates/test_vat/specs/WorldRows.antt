@@ -9,7 +9,7 @@ use Rattle.cp_machine.specs.declared.event.Value.TheVariants as values
 use Rattle.cp_worlds.specs.World.{World, Side, at_first, at_second, new_world, Move, Moves, last_of}
 use Rattle.test_vat.specs.RowWords.{comes, does, return_message, finish_message, sends, results, bootstrap_comes, bootstrap_does}
 
--- a move without the world behind it
+-- a move without the world after it
 abbrev pub turn_of : Move → Side × Moment
 turn_of move = (move.side, move.moment)
 

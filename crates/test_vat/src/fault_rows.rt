@@ -28,7 +28,7 @@ pub fn strange_descriptors()
     ensures itself { Run (Some 0) rows.itself_named }
 {}
 
-/// Of several faults the first is told.
+/// Of several faults the first is reported.
 pub fn first_faults()
     ensures number { Run (Some 0) rows.number_first }
     ensures target { Run (Some 0) rows.target_first }

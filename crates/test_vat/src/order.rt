@@ -6,7 +6,7 @@ ghost use Rattle.test_vat.specs.Rows as rows;
 ghost use Rattle.test_vat.specs.OrderRows as order_rows;
 ghost use Rattle.test_vat.specs.OrderRows.{IsOrderedUnless};
 
-/// A Bootstrap's answer is told once.
+/// A Bootstrap's answer is reported once.
 pub fn bootstrap_in_order()
     ensures { RunsInOrder (Some 0) rows.bootstrap_answered }
 {}
@@ -17,7 +17,7 @@ pub fn pipelined_waits_in_order()
 {}
 
 /// A call that waited leaves by the route of what the answer gave. Twice, elsewhere or not at all it
-/// isn't in order, nor is it where the answer isn't told.
+/// isn't in order, nor is it where the answer isn't reported.
 pub fn pipelined_leaves_in_order()
     ensures in_order { RunsInOrder (Some 0) order_rows.one_in_order }
     ensures once { IsOrderedUnless order_rows.one_in_order order_rows.going_twice }

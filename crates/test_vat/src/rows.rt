@@ -11,7 +11,7 @@ pub fn bootstraps()
     ensures asked { Run None rows.bootstrap_asked }
 {}
 
-/// What a Bootstrap of the application's gives is told to it, and an exception stays what it is.
+/// What a Bootstrap of the application's gives is reported to it, and an exception stays what it is.
 pub fn bootstrap_returns()
     ensures given { Run None rows.bootstrap_returned }
     ensures failed { Run None rows.bootstrap_failed }
@@ -51,7 +51,7 @@ pub fn pipelined_waits()
     ensures { Run (Some 0) rows.pipelined_waits }
 {}
 
-/// A call that waits leaves when the answer is given, behind its Return.
+/// A call that waits leaves when the answer is given, after its Return.
 pub fn pipelined_leaves()
     ensures one { Run (Some 0) rows.pipelined }
     ensures in_order { Run (Some 0) rows.pipelined_in_order }
@@ -70,7 +70,7 @@ pub fn closed_vat()
     ensures { Run None rows.aborted }
 {}
 
-/// Want of memory closes the vat.
+/// An allocation failure closes the vat.
 pub fn out_of_memory()
     ensures { Run None rows.ran_out_of_memory }
 {}

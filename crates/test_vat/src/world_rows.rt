@@ -12,7 +12,7 @@ pub fn finish_before_return()
 {}
 
 /// Three calls on what another call will give are delivered in order, where that gives an object of
-/// their own vat: two come back through the peer, and the third waits at an embargo or comes behind
+/// their own vat: two come back through the peer, and the third waits at an embargo or comes after
 /// them. So they are again when the same numbers stand for another object.
 pub fn lane_of_three_calls()
     ensures in_order { LaneOfThreeCalls }

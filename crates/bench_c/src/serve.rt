@@ -1,0 +1,160 @@
+//! A server over bytes in memory.
+
+ghost use Rattle.std.specs.Prelude.{◌≡◌, ◌⊎◌, IfOk, map};
+ghost use Rattle.std.specs.Io.{ReadsAtMost};
+ghost use Rattle.std.specs.Io.KnownBytes.{ReadConsumes};
+ghost use Rattle.bench_c.specs.Given.{GivesNone};
+ghost use Rattle.bench_c.specs.Serve.{IsUnserved, GivesServed, mode_of, how_ended, cap_of, reply_of};
+
+use crate::fill::fill;
+use cp_frame::Mode;
+use cp_machine::Ids;
+use cp_refs::{Cap, Caps, Outcome};
+use cp_serve::{Cell, Desk, Reply, Report, Script, Servant, ServeFault, serve};
+use cp_stream::{StreamFault, Tap};
+use cp_tree::{Tree, Whole};
+use std::alloc::{AllocError, Global};
+use std::io::{self, Read};
+
+/// What was written, and how the server ended.
+#[repr(C)]
+#[derive(Drop)]
+pub struct Served {
+    /// The number of bytes.
+    pub written: usize,
+    /// 0 where the messages ended, 1 where the vat closed, 2 where what was read is refused, 3 where a
+    /// device failed, 4 where memory ran out.
+    pub how: u8,
+}
+
+/// Where memory ran out before a server began.
+const UNSERVED: Served = Served { written: 0, how: 4 };
+
+/// Serves a Script, a Cell and a Desk, objects 0 to 2, to a peer that sends these bytes, in pieces of at
+/// most this many (0 counts as 1). Of the Script's first calls each is answered with a capability, which
+/// the next number of `named` says: an object, or from 2^32 on an import, counted from there; 0 leaves it
+/// without an answer, as each later call is left. Says how many bytes were written and how that ended, and puts
+/// what fits of them into the room. Where memory runs out before it begins, nothing is written, and
+/// the room stays as it was.
+#[unsafe(no_mangle)]
+pub extern "C" fn cpb_serve(
+    alloc: Global,
+    bytes: &[u8],
+    packed: bool,
+    piece: usize,
+    named: &[u64],
+    room: &mut [u8],
+) -> Served
+    ensures { IsUnserved result room.old room.new ⊎ GivesServed (mode_of packed) bytes.now result room.old room.new }
+{
+    let Ok(written) = Vec::with_capacity(alloc, room.len()) else {
+        return UNSERVED;
+    };
+    let (Ok(script), Ok(cell), Ok(desk)) = (
+        script_of(alloc, named),
+        Box::new(alloc, Cell::new(alloc)),
+        Box::new(alloc, Desk::new(alloc)),
+    ) else {
+        return UNSERVED;
+    };
+    let mut objects: Vec<Box<dyn Servant>> = Vec::new(alloc);
+    let first_two = objects.push(script).and(objects.push(cell));
+    if first_two.and(objects.push(desk)).is_err() {
+        return UNSERVED;
+    }
+    let mut from = Tap::new(Pieces { left: bytes, piece });
+    let mut to = Tap::new(written);
+    let ended = serve(alloc, &mut from, &mut to, &mut objects, mode_of(packed));
+    let written = to.into_inner();
+    fill(room, &written);
+    Served {
+        written: written.len(),
+        how: how_ended(&ended),
+    }
+}
+
+/// The form that bytes are in.
+fn mode_of(packed: bool) -> Mode
+    ensures { result ≡ mode_of packed }
+{
+    if packed { Mode::Packed } else { Mode::Plain }
+}
+
+/// How a server ended, as a number.
+fn how_ended(ended: &Result<Report, ServeFault>) -> u8
+    ensures { result ≡ how_ended ended.now }
+{
+    match ended {
+        Ok(report) => report.closed.is_some() as u8,
+        Err(ServeFault::Stream(StreamFault::Refused { .. })) => 2,
+        Err(ServeFault::Stream(StreamFault::Device)) => 3,
+        Err(ServeFault::OutOfMemory) => 4,
+    }
+}
+
+/// A reader that gives at most this many bytes at once.
+#[derive(Drop)]
+struct Pieces<'a> {
+    left: &'a [u8],
+    piece: usize,
+}
+
+impl<'a> Read for Pieces<'a> {
+    ghost use Rattle.std.specs.Prelude.{Some};
+
+    ghost remaining = { λ p. Some p.left.now };
+
+    fn read(&mut self, buf: &mut [u8]) -> io::Result<usize>
+        ensures bound { ReadsAtMost result buf.new }
+        ensures bytes { ReadConsumes (Some self.old.left.now) (Some self.new.left.now) result buf.new }
+    {
+        let most = self.left.len().min(self.piece.max(1));
+        let mut piece = &self.left[..most];
+        let count = piece.read(buf)?;
+        self.left = &self.left[count..];
+        Ok(count)
+    }
+}
+
+/// The Script.
+fn script_of(alloc: Global, named: &[u64]) -> Result<Box<Script>, AllocError> {
+    let script = Script::new(replies_of(alloc, named)?, Vec::new(alloc));
+    Ok(Box::new(alloc, script)?)
+}
+
+/// What the Script answers its first calls with.
+fn replies_of(alloc: Global, named: &[u64]) -> Result<Vec<Reply>, AllocError>
+    ensures { IfOk result (λ replies. replies.items ≡ map reply_of named.now) }
+{
+    let mut replies = Vec::new(alloc);
+    for number in named {
+        replies.push(reply_of(alloc, *number)?)?;
+    }
+    Ok(replies)
+}
+
+/// What a number of `named` says.
+fn reply_of(alloc: Global, number: u64) -> Result<Reply, AllocError>
+    ensures { IfOk result (λ reply. reply ≡ reply_of number) }
+{
+    if number == 0 {
+        return Ok(Reply::Later);
+    }
+    Ok(Reply::Now {
+        outcome: Outcome::Results {
+            content: Whole::from_shaped(Tree::Cap(0)),
+            caps: Caps::new(vec![in alloc; cap_of(number)]?),
+        },
+        gives_up: Ids::new(Vec::new(alloc)),
+    })
+}
+
+/// The object of a number, or from 2^32 on the import.
+fn cap_of(number: u64) -> Cap
+    ensures { result ≡ cap_of number }
+{
+    match u32::try_from(number) {
+        Ok(object) => Cap::Object(object),
+        Err(_) => Cap::Import((number % 0x1_0000_0000) as u32),
+    }
+}
