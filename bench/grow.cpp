@@ -3,7 +3,7 @@
 //   small     a Finish; SIZE says nothing
 //   data      a Call with SIZE bytes of data
 //   texts     a Call with a list of structs of a word and a text, SIZE bytes together
-//   segments  a Call with 65,280 texts, in SIZE segments: all but the first hold texts, each behind a far pointer
+//   segments  a Call with 65,280 texts, in SIZE segments: all but the first hold texts, each reached by a far pointer
 //   nesting   a Call with a list of chains of structs, 65,536 structs together, so that structs and lists nest SIZE levels deep
 #include "whole.hpp"
 #include <unistd.h>

@@ -24,7 +24,7 @@ def filling(sizes):
     return [(size, max(1, 32 * MEGA // size)) for size in sizes]
 
 
-# What grows: the jobs, and each size of a message with how often it stands in the file.
+# What grows: the jobs, and each size of a message with its number in the file.
 KINDS = {
     "data": (["check", "check --packed", "pack", "unpack"], filling([KILO, 32 * KILO, MEGA, 4 * MEGA, 16 * MEGA, 32 * MEGA])),
     "texts": (["check", "show", "pack"], filling([KILO, 32 * KILO, MEGA, 4 * MEGA, 16 * MEGA, 32 * MEGA])),

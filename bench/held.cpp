@@ -45,7 +45,7 @@ struct Held {
 };
 
 static Held held(const Peer& peer) {
-  session::serve(peer);  // what the program itself keeps is there
+  session::serve(peer);  // so that what the program itself keeps isn't counted
   size_t before = live;
   peak = last = live;
   session::serve(peer);

@@ -79,7 +79,7 @@ class Message:
         self.call = int(interface.group(1), 16) if interface else None
 
 
-# What is told of a vat by its messages alone.
+# What a vat's messages alone say of it.
 
 
 class Entry:

@@ -131,7 +131,7 @@ inline Peer times(uint32_t count, const Peer& one) {
   return all;
 }
 
-// A call whose params have so many words that a program can tell it by their allocation.
+// A call whose params are so large that a program recognises it by their allocation.
 constexpr uint32_t MARK_WORDS = 1237;
 
 inline Peer mark() {
@@ -183,7 +183,7 @@ inline size_t serve(const Peer& peer) {
   return served.written;
 }
 
-// The same, and what the server sends is looked at: nothing failed.
+// The same, and tests that nothing failed in what the server sends.
 inline void check(const Peer& peer) {
   std::vector<capnp::word> room(ROOM / 8);
   auto served = cpb_serve(peer.bytes.data(), peer.bytes.size(), false, SIZE_MAX, peer.named.data(), peer.named.size(),

@@ -1,8 +1,8 @@
 // What an event of a server costs, by the number of entries of its vat's tables, and a call of the reference library's server beside it.
-// Usage: vat [RUNS]     nanoseconds of processor time, each the least of so many runs (9)
+// Usage: vat [RUNS]     nanoseconds of processor time, each the least of RUNS runs (9)
 //        vat counts     serves a short stream for each row of the same, for counts.py
 //        vat worst      microseconds of single messages of at most 64 KiB
-// Events of a kind stand between marks: messages that are known by an allocation of theirs (session.hpp), at which the clock is read.
+// Events of a kind come between marks: messages that are recognised by an allocation of theirs (session.hpp), at which the clock is read.
 #include "desk.hpp"
 #include "session.hpp"
 #include <capnp/rpc-twoparty.h>
@@ -316,7 +316,7 @@ static double least(Job job) {
   return best;
 }
 
-// A connection whose peer has sent these bytes, until so many messages were written.
+// A connection whose peer has sent these bytes, until this number of messages was written.
 class Memory final : public kj::AsyncIoStream {
   kj::ArrayPtr<const kj::byte> left;
   uint32_t awaited;
@@ -359,7 +359,7 @@ class Memory final : public kj::AsyncIoStream {
 
 std::vector<kj::byte> Memory::room(session::ROOM);
 
-// The reference's server takes a stream in, and sends so many messages.
+// The reference's server takes a stream in, and sends this number of messages.
 static size_t serve_by_reference(const Peer& peer, uint32_t awaited) {
   kj::EventLoop loop;
   kj::WaitScope scope(loop);

@@ -1,4 +1,4 @@
-// A whole message looked at by the reference library, as `capnp_cli check` does it: each field, each pointer, each word.
+// A whole message read by the reference library, as `capnp_cli check` does it: each field, each pointer, each word.
 #pragma once
 #include <capnp/any.h>
 #include <capnp/message.h>
@@ -93,7 +93,7 @@ inline uint64_t message(rpc::Message::Reader message) {
   }
 }
 
-// What is written into room that is large enough.
+// What is written into a buffer that is large enough.
 struct Room final : kj::BufferedOutputStream {
   uint8_t *start, *at, *end;
   Room(uint8_t* room, size_t size) : start(room), at(room), end(room + size) {}

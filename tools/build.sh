@@ -1,9 +1,9 @@
 #!/usr/bin/env bash
-# tools/build.sh CRATE..    proves these crates and those that they stand on, as far as they aren't up to date, and builds
+# tools/build.sh CRATE..    proves these crates and those that they use, where they aren't up to date, and builds
 #                           the programs and static libraries among them. It says on standard error what it does.
 #
 # `rt lib` holds the locks of all libraries below a crate until it ends, and nearly all crates share one. So that crates are
-# proved side by side, each is in a room of its own: a copy of the sources, and links to what the libraries below came to.
+# proved side by side, each is in a folder of its own: a copy of the sources, and links to the libraries that it uses, built.
 # The crate's out/, where rt keeps what it proved, is moved there and back.
 set -eu
 . "$(dirname "${BASH_SOURCE[0]}")/crates.sh"

@@ -6,7 +6,7 @@ declare -a order locks
 say() { printf '%s\n' "$*" >&2; }
 fail() { say "$*"; exit 2; }
 
-read_crates() { # what each crate stands on in this repository, and the file that tells that it is built
+read_crates() { # the libraries of each crate in this repository, and the file that shows that it is built
     local line head it own out libraries
     while IFS= read -r line; do
         line=${line%%#*} own=''
@@ -30,7 +30,7 @@ visit() {
     order+=("$1")
 }
 
-closure() { # CRATE..: sets order to them and those that they stand on, lowest first, and stands to the same of each alone
+closure() { # CRATE..: sets order to them and those that they use, lowest first, and stands to the same of each alone
     local it whole
     for it; do [ -n "${uses[$it]+there}" ] || fail "crates.txt has no crate $it"; done
     seen=() order=()

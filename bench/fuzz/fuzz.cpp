@@ -1,7 +1,7 @@
 // Reading, writing and unpacking of bytes that nobody vouches for, over the static library bench_c.
 //
 // An input is one byte and the rest. The byte says of what form the rest is (plain frames, packed ones, or words), within
-// which limits it is looked at, and in segments of how many words it is written again. Besides cutting and joining, as
+// which limits it is read, and in segments of how many words it is written again. Besides cutting and joining, as
 // libFuzzer does, inputs are changed by words: a pointer's offset, size or kind, a table's number, a bit. Packed inputs
 // are unpacked for that and packed again, so that the change arrives at the reader.
 #include "../bench_c.h"
@@ -27,7 +27,7 @@ enum Form { Plain, Packed, Words, Forms };
 const char* const NAMES[Forms] = {"plain frames", "packed frames", "words"};
 
 // What an input's first byte says. A message that refers to its parts many times over takes as long as the limits allow, so
-// most inputs are looked at within small ones, and one of 64 within the standard ones.
+// most inputs are read within small ones, and one of 64 within the standard ones.
 struct Head {
   int form;
   bool standard;
@@ -61,7 +61,7 @@ void fail(const char* what) {
   std::abort();
 }
 
-// What takes long to look at within the standard limits takes longer to build and write, and few of such inputs are built.
+// What takes long to read within the standard limits takes longer to build and write, and few of such inputs are built.
 bool is_long(const Head& head, std::chrono::steady_clock::time_point before) {
   static unsigned turn = 0;
   return head.standard && std::chrono::steady_clock::now() - before > std::chrono::milliseconds(1) && ++turn % 64 != 0;

@@ -4,7 +4,7 @@
 // A session is a row of random messages. It is made while it is played, so that its numbers mostly fit what came back; one of four
 // then has frames dropped, repeated or swapped, and one of eight bytes changed. It is served whole, by pieces of random sizes, and
 // packed by pieces: the bytes that come back must be the same each time, and be messages that answer those that were sent. A
-// session that takes longer than its limit, breaks one of these or leaves memory behind is reported with its number.
+// session that takes longer than its limit, breaks one of these or leaks memory is reported with its number.
 #include "session.hpp"
 #include <malloc.h>
 #include <cstdio>

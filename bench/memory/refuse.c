@@ -1,5 +1,5 @@
-// Preloaded into a program, refuses one of its growths: the one whose number, from 1, is in REFUSE. Writes how many
-// there were to the file that COUNT names.
+// Preloaded into a program, makes one of its allocations fail: the one whose number, from 1, is in REFUSE. Writes their
+// number to the file that COUNT names.
 #define _GNU_SOURCE
 #include <dlfcn.h>
 #include <stdio.h>

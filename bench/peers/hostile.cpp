@@ -1,5 +1,5 @@
 // Peers at fault, and messages at the edge of a limit, with `capnp_cli serve`. Usage: hostile PORT
-// Each session sends its messages, and reads all that comes back: at a fault one Abort with its text, and nothing behind it; at
+// Each session sends its messages, and reads all that comes back: at a fault one Abort with its text, and nothing after it; at
 // an edge no Abort. The status is 0 if each went so. It prints the milliseconds of those that take long.
 #include "../connect.hpp"
 #include <capnp/message.h>
@@ -64,7 +64,7 @@ struct Script {
   }
 };
 
-// A chain of structs, so many levels deep.
+// A chain of structs of this depth.
 void nest(capnp::AnyPointer::Builder place, int levels) {
   for (; levels > 0; levels--) place = place.initAsAnyStruct(0, 1).getPointerSection()[0];
 }
@@ -89,7 +89,7 @@ Bytes play(unsigned port, const Bytes& bytes) {
   return back;
 }
 
-// The reason of the last message, if it is an Abort. None stands before it.
+// The reason of the last message, if it is an Abort. There is none before it.
 std::string abort_of(const Bytes& back) {
   kj::ArrayInputStream input(kj::arrayPtr(back.data(), back.size()));
   std::string reason;

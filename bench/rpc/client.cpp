@@ -3,10 +3,10 @@
 //   seq          one call of Cell.add after another
 //   window       64 calls of Cell.add under way at a time
 //   pipeline     Desk.now, and Cell.add on what it will give, in one round trip; each counts as one call
-//   large        one call of Cell.add after another, whose params hold 1 MiB that the Cell doesn't look at
+//   large        one call of Cell.add after another, whose params hold 1 MiB that the Cell doesn't read
 //   raw-seq      as seq, by frames made beforehand over a bare socket, so that nearly all the time is the server's
 //   raw-window   as window, by such frames
-//   raw-full     as raw-seq, behind 60,000 calls that were answered and not finished, so that the server's tables are nearly full
+//   raw-full     as raw-seq, after 60,000 calls that were answered and not finished, so that the server's tables are nearly full
 // The status is 0 if the Cell's number is right in the end.
 #include "../connect.hpp"
 #include "desk.capnp.h"
@@ -107,7 +107,7 @@ class Socket {
     }
   }
 
-  // The words of the next frame behind its header, until the next call.
+  // The words of the next frame after its header, until the next call.
   kj::ArrayPtr<const capnp::word> frame() {
     for (;;) {
       if (input.size() - from >= 8) {

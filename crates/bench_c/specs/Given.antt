@@ -1,4 +1,4 @@
--- What a call gives: a number, and items in room of the caller's.
+-- What a call gives: a number, and items in a buffer of the caller's.
 use Rattle.std.specs.Prelude.{◌≡◌, ℕ, ◌≤◌, List, ◌++◌, length, take, drop}
 use Rattle.cp_packed.specs.Packed.{Packed, Spelt}
 
@@ -6,12 +6,12 @@ use Rattle.cp_packed.specs.Packed.{Packed, Spelt}
 abbrev pub over : {A : Type 0} → List A → List A → List A
 over items room = take (length room) items ++ drop (length items) room
 
--- There is nothing, and the room is as it was.
+-- There is nothing, and the buffer is as it was.
 pub record GivesNone (number : ℕ) (old new : List ℕ) : Type 0 where
   pub number_is : number ≡ 0
   pub room_is : new ≡ old
 
--- There are this many items, and what fits of them was put into the room.
+-- There are this many items, and what fits of them was put into the buffer.
 pub record Gives (items : List ℕ) (number : ℕ) (old new : List ℕ) : Type 0 where
   pub number_is : number ≡ length items
   pub room_is : new ≡ over items old

@@ -31,7 +31,7 @@ pub record IsRewritten (words : ℕ) (limits : Bounds) (b : List ℕ) (turns : �
   pub are_trees : AreTreesOf limits given trees
   pub written : 0 < turns → AreWritten words limits trees out
 
--- the same, with their number, and what fits of them in the room
+-- the same, with their number, and what fits of them in the buffer
 abbrev pub GivesWrittenWithin : ℕ → Bounds → List ℕ → ℕ → ℕ → List ℕ → List ℕ → Type 0
 GivesWrittenWithin words limits b turns number old new = (out : List ℕ) × IsRewritten words limits b turns out × Gives out number old new
 

@@ -27,7 +27,7 @@ fn vat_of(alloc: Global, line: &str) -> Option<Vat> {
     }
 }
 
-/// Plays an event's line, tells what it gave, and says whether it is an event that can be played.
+/// Plays an event's line, adds what it gave, and says whether it is an event that can be played.
 fn play_line(alloc: Global, vat: &mut Vat, taken: Taken, line: &str, given: &mut Lines) -> bool {
     let Some(event) = event_of(alloc, line) else {
         given.push_line("= unread");
@@ -46,7 +46,7 @@ fn play_line(alloc: Global, vat: &mut Vat, taken: Taken, line: &str, given: &mut
     }
 }
 
-/// Plays a script on a new vat, and tells what each event but the first ones gave.
+/// Plays a script on a new vat, and gives what each event but the first ones gave.
 fn play(alloc: Global, script: &str, skipped: usize) -> Lines {
     let mut given = Lines::with_frames(alloc);
     let mut lines = script.lines();
@@ -69,8 +69,8 @@ fn play(alloc: Global, script: &str, skipped: usize) -> Lines {
 /// Plays a script on a new vat. Its first line is `vat`, or `vat object:N` with the object that is given
 /// to a Bootstrap, and after that ` in place`, if the vat is to read messages in place; each other is an
 /// event. Gives the number of bytes of the events' lines but the first `skipped`, with all that follows
-/// after each, and puts what fits of them into the room. Where there is none, the script isn't UTF-8, or
-/// memory runs out, it gives 0, and the room stays as it was.
+/// after each, and puts what fits of them into the buffer. Where there is none, the script isn't UTF-8, or
+/// memory runs out, it gives 0, and the buffer stays as it was.
 #[unsafe(no_mangle)]
 pub extern "C" fn cpb_play(alloc: Global, script: &[u8], skipped: usize, room: &mut [u8]) -> usize
     ensures { GivesNone result room.old room.new ⊎ ((lines : List ℕ) × Gives lines result room.old room.new) }

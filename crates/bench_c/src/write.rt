@@ -66,7 +66,7 @@ fn rewrite(alloc: Global, bytes: &[u8], turns: u32, words: u32, limits: Limits) 
     Some(out)
 }
 
-/// Gives the number of the bytes that were written, and puts what fits of them into the room.
+/// Gives the number of the bytes that were written, and puts what fits of them into the buffer.
 fn give(written: &Option<Vec<u8>>, room: &mut [u8]) -> usize
     ensures some { IfSome written.now (λ out. Gives out.items result room.old room.new) }
     ensures none { written.now ≡ None → GivesNone result room.old room.new }
@@ -81,8 +81,8 @@ fn give(written: &Option<Vec<u8>>, room: &mut [u8]) -> usize
 }
 
 /// A plain stream's frames are read into owned trees, and these are written as frames `turns` times. Gives
-/// the number of bytes of a turn, and puts what fits of the last into the room. Where a frame has no tree
-/// it gives 0, and the room stays as it was.
+/// the number of bytes of a turn, and puts what fits of the last into the buffer. Where a frame has no tree
+/// it gives 0, and the buffer stays as it was.
 #[unsafe(no_mangle)]
 pub extern "C" fn cpb_write_frames(
     alloc: Global,

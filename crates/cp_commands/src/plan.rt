@@ -39,9 +39,11 @@ struct Progress {
     bytes: u64,
 }
 
-/// The last message's line, which the next is written over, and the buffer in which frames are made.
+/// The last message's line, which the next is written over, the buffer in which frames are made, and
+/// where both grow.
 #[derive(Drop)]
 struct Last {
+    alloc: Global,
     line: String,
     room: Vec<u8>,
 }
@@ -104,11 +106,11 @@ impl Plan {
     /// Does the command on a frame.
     fn take<W: Write>(
         &self,
-        alloc: Global,
         segments: &Segments,
         last: &mut Last,
         out: &mut W,
     ) -> Result<(), Stop> {
+        let alloc = last.alloc;
         match self {
             Plan::Show { limits, .. } => show(alloc, segments, *limits, &mut last.line, out),
             Plan::Check { limits, .. } => Ok(check_of(segments, *limits)?),
@@ -120,10 +122,9 @@ impl Plan {
         }
     }
 
-    /// Does the command on each frame that ends in the piece. Tells whether one does.
+    /// Does the command on each frame that ends in the piece. Says whether one does.
     fn take_piece<W: Write>(
         &self,
-        alloc: Global,
         reader: &mut FrameReader,
         piece: &[u8],
         last: &mut Last,
@@ -135,7 +136,7 @@ impl Plan {
             let Some((taken, segments, back)) = reader.next(left)? else {
                 break;
             };
-            self.take(alloc, &segments, last, out)?;
+            self.take(&segments, last, out)?;
             reader.reuse(segments);
             progress.frames = progress.frames.saturating_add(1);
             progress.bytes = progress.bytes.saturating_add(taken);
@@ -156,6 +157,7 @@ impl Plan {
         let mut piece = vec![in alloc; 0u8; LARGEST_PIECE]?;
         let mut most = PIECE;
         let mut last = Last {
+            alloc,
             line: String::new(alloc),
             room: Vec::new(alloc),
         };
@@ -168,14 +170,7 @@ impl Plan {
                 Err(error) if error.kind() == ErrorKind::Interrupted => continue,
                 Err(error) => return Err(Stop::Reading(error)),
             };
-            let ended = self.take_piece(
-                alloc,
-                &mut reader,
-                &piece[..length],
-                &mut last,
-                out,
-                progress,
-            )?;
+            let ended = self.take_piece(&mut reader, &piece[..length], &mut last, out, progress)?;
             most = if ended { PIECE } else { asked + PIECE / 2 };
         }
         Err(Stop::Reading(io::Error::from(ErrorKind::Other)))

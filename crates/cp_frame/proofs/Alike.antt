@@ -25,7 +25,7 @@ alike_back a b h = λ ws more. ((h ws more).1, (h ws more).0)
 pub alike_both : (a b c : List ℕ) → GoesOnAs modes.Packed a b → GoesOnAs modes.Packed b c → GoesOnAs modes.Packed a c
 alike_both a b c h k = λ ws more. (λ p. (k ws more).0 ((h ws more).0 p), λ p. (h ws more).1 ((k ws more).1 p))
 
--- the same bytes behind both
+-- the same bytes after both
 more_of : (a b x ws more : List ℕ) → ((us rest : List ℕ) → Packed us (a ++ rest) → Packed us (b ++ rest)) → Packed ws ((a ++ x) ++ more) → Packed ws ((b ++ x) ++ more)
 more_of a b x ws more h p =
     subst (λ (c : List ℕ). Packed ws c) (sym (append_assoc b x more)) (h ws (x ++ more) (subst (λ (c : List ℕ). Packed ws c) (append_assoc a x more) p))
@@ -60,7 +60,7 @@ alike_fault limits a b faults.RunPastFrame h n r = (r.0, r.1, r.2, r.3, n, alike
 alike_fault limits a b faults.Failed h n k = absurd k.2
 alike_fault limits a b faults.OutOfMemory h n k = absurd k.2
 
--- a front of a longer rest stands in the rest, or goes on behind it
+-- a front of a longer rest stands in the rest, or goes on after it
 pub no_front_behind : (limits : Bounds) (a b x : List ℕ) → GoesOnAs modes.Packed a b → NoFront modes.Packed limits b → NoFront modes.Packed limits (a ++ x) → NoFront modes.Packed limits (b ++ x)
 no_front_behind limits a b x h n k S front y e m = go (two_fronts b x front y e)
   where

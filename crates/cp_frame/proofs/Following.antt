@@ -63,7 +63,7 @@ none_packed limits r s left back h are t (inl c) few =
     let same : rest_of s.frame ≡ rest_of r.frame = t.2.words ∙ ap (λ (b : List ℕ). rest_of r.frame ++ bytes_of (given (pending_of r.group) b)) none ∙ append-nil (rest_of r.frame) in
     absurd ((open_rest limits r.frame h.frame).no_front _ (rest_of s.frame) [] (sym same ∙ sym (append-nil (rest_of s.frame))) (complete_frame limits s.frame c.0))
 
--- a fault behind them is one of the whole
+-- a fault after them is one of the whole
 pub fault_behind : (limits : Bounds) (r s : Rest) (left back : List ℕ) (fault : FrameFault) → InPacked limits r → AreBytes left → TakesFront limits r left s back → InPacked limits s
     → (fault ≡ faults.OutOfMemory) ⊎ HasThere modes.Packed limits s back fault → (fault ≡ faults.OutOfMemory) ⊎ HasThere modes.Packed limits r left fault
 fault_behind limits r s left back fault h are t k (inl e) = inl e
@@ -107,7 +107,7 @@ through_packed limits r s piece left h are f k none =
     let bytes = subst (λ (c : List ℕ). AreBytes c) all are in
     record { begun = k; keeps = λ b m. subst (λ (c : List ℕ). KeptFor modes.Packed limits s (b ++ c)) (sym all) (keeps_front limits r s f.0 b h bytes f.2 k m) }
 
--- what was taken behind the same bytes, where no more is left than there was
+-- what was taken after the same bytes, where no more is left than there was
 pub taken_between : (a b left back : List ℕ) → a ++ back ≡ b ++ left → length back ≤ length left → (front : List ℕ) × (left ≡ front ++ back) × (a ≡ b ++ front)
 taken_between a [] left back e few = (a, sym e, refl)
 taken_between [] (x ∷ b) left back e few = absurd (omega (arith, few, ap (λ (c : List ℕ). length c) e, length-append b left))
@@ -141,7 +141,7 @@ ends_whole limits f h piece back taken S none t empty =
       empty = empty;
     }
 
--- a fault that was told of the numbers of a plain frame is the stream's, or want of memory
+-- a fault that was told of the numbers of a plain frame is the stream's, or an allocation failure
 pub told_plain : (limits : Bounds) (b : List ℕ) (fault : FrameFault) → IsFaultOf limits (numbers b) fault → (fault ≡ faults.OutOfMemory) ⊎ HasFault modes.Plain limits b fault
 told_plain limits b fault h = by (memory_or limits (numbers b) fault h)
   where

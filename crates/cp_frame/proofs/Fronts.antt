@@ -67,7 +67,7 @@ byte_front limits r s x h =
       taken = h.taken;
     }
 
--- bytes behind those that the rest has
+-- bytes after those that the rest has
 front_brings : (limits : Bounds) (r : Rest) (b : List ℕ) → InPacked limits r
     → Brings nothing (bytes_for modes.Packed r ++ b) (words_in_order r.frame ++ given (pending_of r.group) b) (after (pending_of r.group) b)
 front_brings limits r b h =
@@ -147,7 +147,7 @@ ends_front limits r s front b h l m k e f =
       form = (ws, subst (λ (c : List ℕ). Framed (lists s.frame.segments.items) c) (m.words ∙ sym (front_bytes limits r front h)) plain.form, subst (λ (c : List ℕ). Packed ws c) (append-nil (b ++ front)) there);
     }
 
--- more bytes behind a stream
+-- more bytes after a stream
 pub frames_more : (mode : Mode) (limits : Bounds) (b a x : List ℕ) (given : List (ℕ × List (List ℕ))) (rest : List ℕ) → Frames mode limits (b ++ a) given rest → Frames mode limits (b ++ (a ++ x)) given (rest ++ x)
 frames_more mode limits b a x given rest h =
     subst (λ (c : List ℕ). Frames mode limits c given (rest ++ x)) (append_assoc b a x)

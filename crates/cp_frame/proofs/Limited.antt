@@ -14,7 +14,7 @@ use Rattle.cp_packed.proofs.Unpacks.{packed_brings}
 use Rattle.cp_packed.proofs.Laying.{pending_nothing, pending_after, laid_at_most}
 use Rattle.cp_frame.proofs.Certain.{are_front, laid_is}
 
--- a front, and one behind it
+-- a front, and one after it
 pub within_both : (limit : ℕ) (old mid new left middle back : List ℕ) (p q r : Pending) → TakesWithin limit old p left mid q middle → TakesWithin limit mid q middle new r back → TakesWithin limit old p left new r back
 within_both limit old mid new left middle back p q r h k = record {
   front = h.front ++ k.front;
@@ -26,7 +26,7 @@ within_both limit old mid new left middle back p q r h k = record {
   within = k.within;
 }
 
--- a front, and a byte behind it
+-- a front, and a byte after it
 pub within_byte : (limit : ℕ) (old mid new left middle back : List ℕ) (x : ℕ) (p q r : Pending) → TakesWithin limit old p left mid q middle → middle ≡ x ∷ back → TakesWithin limit mid q (x ∷ []) new r []
     → TakesWithin limit old p left new r back
 within_byte limit old mid new left middle back x p q r h m k =

@@ -1,4 +1,4 @@
--- Bytes that go out to a writer, behind others.
+-- Bytes that go out to a writer, after others.
 use Rattle.std.proofs.Common.{◌≡◌, ℕ, ◌+◌, ◌<◌, ◌≤◌, List, [], ◌++◌, length, take, get_or, Option, Some, None, Result, Ok, Err, OnOk, refl, sym, ap, subst, ◌∙◌, append_assoc}
 use Rattle.std.proofs.lemmas.List.{append-nil}
 use Rattle.std.specs.Global.{Vec}
@@ -39,7 +39,7 @@ pub record SendsFront (old new : Option (List ℕ)) (before after words left : L
   pub appends : Appends old new sent
   pub puts : PutsFront before (sent ++ after) words left
 
--- groups, and more behind them
+-- groups, and more after them
 front_both : (old mid new words left back : List ℕ) → PutsFront old mid words left → PutsFront mid new left back → PutsFront old new words back
 front_both old mid new words left back h k = record {
   front = h.front ++ k.front;

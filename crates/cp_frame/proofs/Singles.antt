@@ -22,7 +22,7 @@ use Rattle.cp_frame.proofs.Filling.{length_lists}
 use Rattle.cp_packed.proofs.Bytes.{words_in_is, take_small}
 use Rattle.cp_frame.proofs.Ends.{inside, framed_by, empty_open, empty_rest}
 
--- a segment behind the word that is its table
+-- a segment after the word that is its table
 single_framed : (w : ℕ) (ws : List ℕ) → w < 2 ^ 64 → w % 2 ^ 32 ≡ 0 → w / 2 ^ 32 ≡ length ws → AreWords ws → Framed (ws ∷ []) (to_le_bytes w64 w ++ bytes_of ws)
 single_framed w ws h none size k =
     let framed = framed_by (w ∷ []) (ws ∷ []) (h, tt) (omega (arith, none)) (omega (arith, none)) (k, tt)

@@ -158,7 +158,7 @@ fault_of_words limits r x fault h k m = by m
 pub pending_taken : (limits : Bounds) (r s : Rest) (x : ℕ) → InPacked limits r → x < 256 → TakesByte limits r x s → IsPending (pending_of s.group)
 pending_taken limits r s x h k m = subst (λ (p : Pending). IsPending p) (sym m.group) (pending_step r.group.run r.group.part.items x h.pending k)
 
--- a fault that shows behind the words
+-- a fault that shows after the words
 pub fault_behind : (limits : Bounds) (r s : Rest) (x : ℕ) (fault : FrameFault) → InPacked limits r → x < 256 → TakesByte limits r x s
     → ((fault ≡ faults.RunPastFrame) × IsComplete limits s.frame × (0 < length s.group.part.items + s.group.run)) ⊎ NamesFault limits (numbers (rest_of s.frame ++ laid (pending_of s.group))) fault
     → HasFault modes.Packed limits (bytes_for modes.Packed r ++ x ∷ []) fault

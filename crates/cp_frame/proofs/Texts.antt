@@ -91,7 +91,7 @@ laid_less zero (t ∷ p) h w =
     omega (arith, laid_few 8 t (p ++ 0 ∷ []), ap (λ (b : List ℕ). length b) more.1, length-append (laid_by 8 t p) (0 ∷ more.0))
 laid_less (suc n) part h w = h.short
 
--- the words of a rest, and what is laid behind them
+-- the words of a rest, and what is laid after them
 pub laid_words : (b ws : List ℕ) (p : Pending) → Brings nothing b ws p → all_laid b ≡ bytes_of ws ++ laid p
 laid_words b ws p h = ap (λ (us : List ℕ). bytes_of us ++ laid (after nothing b)) h.words ∙ ap (λ (s : Pending). bytes_of ws ++ laid s) h.open_then
 

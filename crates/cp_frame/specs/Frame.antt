@@ -37,7 +37,7 @@ IsWritten modes.Packed S b =
     (head : List ℕ) × (front : List ℕ) × (pieces : List (List ℕ))
     × (padded_table S ≡ bytes_of head) × Spelt head front × AllZip Spelt S pieces × (b ≡ front ++ flat_map (λ piece. piece) pieces)
 
--- the same as it is, after bytes that stand there
+-- the same as it is, after the bytes that are held
 abbrev pub IsWrittenBehind : List (List ℕ) → List ℕ → List ℕ → Type 0
 IsWrittenBehind S old new = new ≡ old ++ (padded_table S ++ flat_map bytes_of S)
 
@@ -46,7 +46,7 @@ pub record Written (mode : Mode) (limits : Bounds) (S : List (List ℕ)) (b : Li
   pub within : IsWithin limits S
   pub form : IsWritten mode S b
 
--- what is written of these segments, as it is, stands after the bytes that stood there
+-- what is written of these segments, as it is, comes after the bytes held before
 abbrev pub WrittenBehind : Bounds → List (List ℕ) → List ℕ → List ℕ → Type 0
 WrittenBehind limits S old new = (frame : List ℕ) × (new ≡ old ++ frame) × Written modes.Plain limits S frame
 

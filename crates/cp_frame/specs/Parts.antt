@@ -21,7 +21,7 @@ halves (w ∷ ws) = w % 2 ^ 32 ∷ w / 2 ^ 32 ∷ halves ws
 abbrev pub count_of : List ℕ → ℕ
 count_of table = slice_index table 0 % 2 ^ 32 + 1
 
--- all words of the table are there
+-- all words of the table have come
 abbrev pub IsWholeTable : List ℕ → Type 0
 IsWholeTable table = count_of table / 2 < length table
 

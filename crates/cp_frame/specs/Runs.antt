@@ -27,7 +27,7 @@ ReadsAll = (old new : Reader) (pieces : List (List ℕ)) (given : List (ℕ × L
     → StandsFor old b → Fed old pieces given new
     → (rest : List ℕ) × Frames old.mode old.limits (b ++ joined pieces) given rest × StandsFor new rest
 
--- a fault told for a piece, memory aside, is that of the rest of the stream that all pieces make
+-- a fault reported for a piece, memory aside, is that of the rest of the stream that all pieces make
 abbrev pub TellsAll : Type 0
 TellsAll = (old mid new : Reader) (pieces : List (List ℕ)) (piece : List ℕ) (given : List (ℕ × List (List ℕ))) (fault : FrameFault) (b : List ℕ)
     → StandsFor old b → Fed old pieces given mid → IsReading mid.state → Tells mid piece new fault → fault ≢ faults.OutOfMemory

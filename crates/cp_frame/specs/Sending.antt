@@ -11,15 +11,15 @@ use Rattle.cp_packed.specs.Packing.{PutsSpelt}
 abbrev pub SendsForm : Mode → List (List ℕ) → Option (List ℕ) → Option (List ℕ) → Type 0
 SendsForm mode S old new = (b : List ℕ) × IsWritten mode S b × Appends old new b
 
--- what stood in the room went out, but for what stands there now
+-- what the buffer held went out, but for what it holds now
 abbrev pub Moves : Option (List ℕ) → Option (List ℕ) → List ℕ → List ℕ → Type 0
 Moves old new before after = (sent : List ℕ) × Appends old new sent × (before ≡ sent ++ after)
 
--- the words were written packed after what stood in the room, and of both together this went out, and that stands there now
+-- the words were written packed after what the buffer held; of both together this went out, and the buffer holds that now
 abbrev pub SendsSpelt : Option (List ℕ) → Option (List ℕ) → List ℕ → List ℕ → List ℕ → Type 0
 SendsSpelt old new before after words = (sent : List ℕ) × Appends old new sent × PutsSpelt before (sent ++ after) words
 
--- the table of these segments was written packed after what stood there
+-- the table of these segments was written packed after what was held
 abbrev pub PutsTable : List (List ℕ) → List ℕ → List ℕ → Type 0
 PutsTable S old new = (head : List ℕ) × (padded_table S ≡ bytes_of head) × PutsSpelt old new head
 

@@ -11,7 +11,7 @@ use Rattle.cp_frame.specs.Stream.{numbers}
 use Rattle.cp_frame.specs.declared.rest.Rest.{Rest}
 use Rattle.cp_packed.specs.Unpacking.{nothing, after, given, laid, pending_of}
 
--- The bytes begin with a table of one segment, of a size within the limits, and its words are there.
+-- The bytes begin with a table of one segment, of a size within the limits, and its words have come.
 pub record BeginsWithOne (limits : Bounds) (bytes : List ℕ) (size : ℕ) : Type 0 where
   pub table : to_le_bytes w64 (2 ^ 32 * size) ≡ take 8 bytes
   pub one : 1 ≤ limits.segments

@@ -47,17 +47,17 @@ abbrev pub named_sizes : List ℕ → List ℕ
 named_sizes [] = []
 named_sizes (last ∷ sizes) = take (last + 1) sizes
 
--- the number of segments is there, and passes the limit
+-- the number of segments has come, and passes the limit
 abbrev pub NamesTooMany : Bounds → List ℕ → Type 0
 NamesTooMany limits [] = ⊥
 NamesTooMany limits (last ∷ sizes) = limits.segments < last + 1
 
--- it doesn't, but the sizes that are there pass the limit together
+-- it doesn't, but the sizes that have come pass the limit together
 abbrev pub NamesTooMuch : Bounds → List ℕ → Type 0
 NamesTooMuch limits [] = ⊥
 NamesTooMuch limits (last ∷ sizes) = (last + 1 ≤ limits.segments) × (limits.frame_words < sum (take (last + 1) sizes))
 
--- the table's fault, by the numbers of it that are there
+-- the table's fault, by the numbers of it that have come
 abbrev pub NamesFault : Bounds → List ℕ → FrameFault → Type 0
 NamesFault limits ns faults.TooManySegments = NamesTooMany limits ns
 NamesFault limits ns faults.FrameTooLarge = NamesTooMuch limits ns

@@ -38,7 +38,7 @@ pub struct OpenFrame {
     pub spare: Spare,
 }
 
-/// A segment of which nothing has come. A large one begins with less room than it will need, since
+/// A segment of which nothing has come. A large one begins with less capacity than it will need, since
 /// its bytes may never come.
 fn new_segment(alloc: Global, table: &[u64], segment: usize) -> Result<Vec<u64>, AllocError>
     requires { IsWholeTable table.now }
@@ -129,7 +129,7 @@ fn take_word<'a>(part: &mut Vec<u8>, left: &'a [u8]) -> Result<(Option<u64>, &'a
     Ok((Some(word), back))
 }
 
-/// The segments. One alone leaves the vector its room, for the next frame's.
+/// The segments. One alone leaves the vector its capacity, for the next frame's.
 fn take_lists(alloc: Global, segments: &mut Vec<Vec<u64>>) -> Segments
     requires { 0 < length segments.old.items }
     ensures all { result ≡ lists segments.old.items }
@@ -254,7 +254,7 @@ impl OpenFrame {
         Ok(())
     }
 
-    /// Takes the group of a table that names one segment, and no fault, if it is there.
+    /// Takes the group of a table that names one segment, and no fault, if it has come.
     pub fn take_table_group<'a>(
         &mut self,
         alloc: Global,

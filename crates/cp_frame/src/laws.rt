@@ -16,7 +16,7 @@ pub fn one_fault()
     ensures stays { (mode : Mode) → FaultStays mode }
 {}
 
-/// What a reader gives and tells doesn't depend on the pieces in which a stream comes.
+/// What a reader gives and reports doesn't depend on the pieces in which a stream comes.
 pub fn any_cut()
     ensures all { ReadsAll }
     ensures told { TellsAll }

@@ -1,6 +1,6 @@
 //! The two forms of a stream.
 
-/// How frames stand on a stream.
+/// The form of the frames of a stream.
 #[derive(Clone, Copy, PartialEq, Eq, Debug)]
 pub enum Mode {
     /// The segment table and the segments, as they are (encoding specification, "Serialization Over a Stream").

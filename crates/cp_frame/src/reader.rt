@@ -80,7 +80,7 @@ fn give(alloc: Global, limits: Limits, rest: &mut Rest) -> Option<(u64, Segments
     }
 }
 
-/// Takes the group of a segment table and whole groups, as far as they are there. What is left comes
+/// Takes the group of a segment table and whole groups, as far as they have come. What is left comes
 /// back.
 fn take_groups<'a>(
     alloc: Global,
@@ -347,7 +347,7 @@ impl FrameReader {
     /// number of the frame's bytes and what of the piece follows it, which comes next. `None` says that
     /// the piece was read to its end.
     ///
-    /// Faults come as `feed` tells them, but each frame is given before a fault after it is met; so none is kept.
+    /// Faults come as `feed` reports them, but each frame is given before a fault after it is met; so none is kept.
     pub fn next<'a>(
         &mut self,
         piece: &'a [u8],

@@ -85,7 +85,7 @@ impl Rest {
         self.check(limits)
     }
 
-    /// Takes the group of a segment table that names one segment, and no fault, if it is there and
+    /// Takes the group of a segment table that names one segment, and no fault, if it has come and
     /// nothing has come of the frame.
     pub fn take_table<'a>(
         &mut self,

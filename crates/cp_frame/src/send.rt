@@ -22,14 +22,14 @@ use std::io::{self, Write};
 /// How many bytes are written at once.
 const ROOM: usize = 65_536;
 
-/// How many words are packed before what stands in the room is written.
+/// How many words are packed before what the buffer holds is written.
 const STEP: usize = 6_144;
 
-/// How many bytes stand in the room at most: what wasn't much yet, and what this many words are packed
+/// How many bytes the buffer holds at most: what wasn't much yet, and what this many words are packed
 /// as, the last with a whole run after it.
 const MOST: usize = ROOM + LONGEST * (STEP + 255);
 
-/// Writes words, as many at once as their bytes have room.
+/// Writes words, as many at once as fit the buffer.
 fn send_words<W: Write>(to: &mut W, room: &mut [u8], words: &[u64]) -> io::Result<()>
     requires some { 8 ≤ length room.old }
     ensures { OnOk result (Appends (W.contents to.old) (W.contents to.new) (bytes_of words.now)) }
@@ -92,7 +92,7 @@ fn send_plain<W: Write>(
     Ok(send_lists(to, room, segments))
 }
 
-/// Writes what stands in the room, where it is much.
+/// Writes what the buffer holds, where it is much.
 fn flush<W: Write>(to: &mut W, room: &mut Vec<u8>) -> io::Result<()>
     ensures { OnOk result (Moves (W.contents to.old) (W.contents to.new) room.old.items room.new.items) }
 {
@@ -103,7 +103,7 @@ fn flush<W: Write>(to: &mut W, room: &mut Vec<u8>) -> io::Result<()>
     Ok(())
 }
 
-/// Writes words, packed as one piece, of which what isn't much yet stays in the room.
+/// Writes words, packed as one piece, of which what isn't much yet stays in the buffer.
 fn send_packed_words<W: Write>(to: &mut W, room: &mut Vec<u8>, words: &[u64]) -> io::Result<()>
     ensures { OnOk result (SendsSpelt (W.contents to.old) (W.contents to.new) room.old.items room.new.items words.now) }
 {
@@ -115,7 +115,7 @@ fn send_packed_words<W: Write>(to: &mut W, room: &mut Vec<u8>, words: &[u64]) ->
     Ok(())
 }
 
-/// Writes the words of all segments, each packed as one piece, and what stands in the room before.
+/// Writes the words of all segments, each packed as one piece, and what the buffer held before.
 fn send_packed_lists<W: Write>(
     to: &mut W,
     room: &mut Vec<u8>,
@@ -158,8 +158,8 @@ fn send_packed<W: Write>(
 /// made in `room`, which may be used again.
 ///
 /// Where the limits are passed, `TooManySegments` (F1) is reported, or else `FrameTooLarge` (F2); and
-/// `OutOfMemory` (F6) where there is no room for a block. Then nothing was written. At `Ok(Err(..))`
-/// a call of the writer failed, or the room could not grow, and a beginning of the frame may have
+/// `OutOfMemory` (F6) where there is no memory for a block. Then nothing was written. At `Ok(Err(..))`
+/// a call of the writer failed, or the buffer couldn't grow, and a beginning of the frame may have
 /// been written.
 pub fn send_frame<W: Write>(
     alloc: Global,

@@ -30,7 +30,7 @@ fn size_of_one(limits: Limits, bytes: &[u8]) -> Option<usize>
     }
 }
 
-/// Takes the frame that the bytes begin with, if it has one segment and is there whole: the number of
+/// Takes the frame that the bytes begin with, if it has one segment and has come whole: the number of
 /// its bytes, the segment, and what follows it. The segment takes the spare buffer, where that suits it.
 pub fn take_whole<'a>(
     alloc: Global,

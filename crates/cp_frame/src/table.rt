@@ -20,7 +20,7 @@ pub fn count(table: &[u64]) -> usize
     (table[0] % 0x1_0000_0000) as usize + 1
 }
 
-/// All words of the table are there.
+/// All words of the table have come.
 pub fn is_whole(table: &[u64]) -> bool
     ensures { IsTrue result ↔ IsWholeTable table.now }
 {

@@ -11,7 +11,7 @@ use crate::fault::FrameFault;
 use cp_packed::{OpenGroup, take_groups};
 use std::alloc::{AllocError, Global};
 
-/// Takes groups at once, where none has come in part and there is room for a word.
+/// Takes groups at once, where none has come in part and a word more fits.
 fn take_front<'a>(
     words: &mut Vec<u64>,
     group: &mut OpenGroup,

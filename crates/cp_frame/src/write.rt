@@ -63,7 +63,7 @@ pub fn count_words(segments: &[Vec<u64>], limits: Limits) -> Result<u64, FrameFa
     words_in(segments, limits.frame_words() as u64).ok_or(FrameFault::FrameTooLarge)
 }
 
-/// Writes the frame of the segments, in the plain form, after what stands in `out`.
+/// Writes the frame of the segments, in the plain form, after what `out` holds.
 fn write_plain(out: &mut Vec<u8>, segments: &[Vec<u64>], words: u64) -> Result<(), AllocError>
     requires some { 0 < length segments.now }
     requires few { length segments.now ≤ 512 }
@@ -138,10 +138,10 @@ fn write_packed(
 }
 
 /// Writes the bytes of the segments' frame in the plain form, as `write_frame` gives them, after what
-/// stands in `out`.
+/// `out` holds.
 ///
 /// Where the limits are passed, `TooManySegments` (F1) is reported, or else `FrameTooLarge` (F2). At an
-/// `Err` nothing stands in `out`.
+/// `Err` `out` is empty.
 pub fn write_behind(
     out: &mut Vec<u8>,
     segments: &Segments,
@@ -167,11 +167,11 @@ pub fn write_behind(
     }
 }
 
-/// Writes the bytes of the segments' frame as `write_frame` gives them, over what stands in `out`,
-/// whose room is used again.
+/// Writes the bytes of the segments' frame as `write_frame` gives them, over what `out` holds,
+/// whose buffer is used again.
 ///
 /// Where the limits are passed, `TooManySegments` (F1) is reported, or else `FrameTooLarge` (F2). At an
-/// `Err` nothing stands in `out`.
+/// `Err` `out` is empty.
 pub fn write_over(
     alloc: Global,
     out: &mut Vec<u8>,

@@ -91,7 +91,7 @@ with_mark s (caps.Import i) embargo = record s { marks = record s.marks { import
 with_mark s (caps.Pipelined q path) embargo = record s { marks = record s.marks { paths = insert s.marks.paths (q ∷ path) embargo } }
 with_mark s other embargo = s
 
--- there is room for the mark of an import, and for 65,536 marked paths
+-- the mark of an import fits, and so do 65,536 marked paths
 abbrev pub has_mark_room : State → Cap → Bool
 has_mark_room s (caps.Pipelined q path) = ltb (len s.marks.paths) 65536
 has_mark_room s other = true
@@ -165,7 +165,7 @@ Opens old cap request out =
 abbrev pub not_all : (Cap → Bool) → List Cap → Bool
 not_all test table = not (list_all test table)
 
--- what a call is refused for, before its room on its route is looked at
+-- what a call is refused for, before full tables on its route are looked at
 abbrev pub call_refusals : State → Cap → Request → List VatFault
 call_refusals s cap request =
     fault_if (not_all (has_question s) (cap ∷ request.caps)) refusals.UnknownQuestion

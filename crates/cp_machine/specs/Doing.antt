@@ -124,7 +124,7 @@ Resolves old p cap out =
 abbrev pub DoResolve : State → ℕ → Cap → Result OwnDone VatFault → Type 0
 DoResolve old p cap out = Unless (resolve_refusals old p cap) (Resolves old p cap) out
 
--- `finish` gives a question up. After its outcome the question is gone; before it, it stays until then. The peer is told where the call was sent.
+-- `finish` gives a question up. After its outcome the question is gone; before it, it stays until then. The peer gets a Finish where the call was sent.
 abbrev pub told_if : Bool → Effect → List Effect
 told_if is_sent effect = if is_sent then (effect ∷ []) else []
 
@@ -178,6 +178,6 @@ DoForget old p out =
     (λ out. out ≡ Ok (values.Nothing, [], without_promise old p))
     out
 
--- `idle` tells the imports and the promises that aren't in use, and changes nothing.
+-- `idle` gives the imports and the promises that aren't in use, and changes nothing.
 abbrev pub DoIdle : State → Result OwnDone VatFault → Type 0
 DoIdle old out = out ≡ Ok (values.Idle (idle_imports old) (idle_promises old), [], old)

@@ -149,7 +149,7 @@ without_question s q =
       marks = record s.marks { paths = retain_keys s.marks.paths (λ key. not (is_path_of q key)) };
     }
 
--- An own question is settled: the application is told, unless it finished the question.
+-- An own question is settled, which is reported to the application unless it finished the question.
 abbrev pub GiveOwnBy : State → ℕ → Outcome → Stage → Result Done PeerFault → Type 0
 GiveOwnBy old q outcome stages.Open out = out ≡ Ok (effects.Settled q outcome ∷ [], question_settled old q outcome)
 GiveOwnBy old q outcome stages.Finished out = out ≡ Ok ([], without_question (question_over old q outcome) q)

@@ -38,7 +38,7 @@ GoesByItsPort turns exit = (port : Port) × (port_of (calls_of turns) exit.ticke
 abbrev pub ExitsByPorts : List Turn → Turn → Type 0
 ExitsByPorts past turn = AllByRecursion (GoesByItsPort (turn ∷ past)) (exits_in turn)
 
--- the call stands at an embargo that is open
+-- the call waits at an embargo that is open
 abbrev pub IsEmbargoed : State → ℕ → Type 0
 IsEmbargoed s ticket =
     (call : Held) × (n : ℕ) × (get s.waiting.calls ticket ≡ Some call) × (call.gate ≡ gates.Embargo n) × IsSome (get s.marks.embargoes n)
@@ -46,7 +46,7 @@ IsEmbargoed s ticket =
 abbrev pub has_left : List Exit → ℕ → Bool
 has_left exits ticket = list_any (λ exit. exit.ticket == ticket) exits
 
--- a call left, or stands at an open embargo, or the route of its port is to wait
+-- a call left, or waits at an open embargo, or the route of its port is to wait
 abbrev pub LeftOrWaits : List Turn → State → Called → Type 0
 LeftOrWaits turns s call =
     (has_left (exits_of turns) call.ticket ≡ true) ⊎ (IsEmbargoed s call.ticket ⊎ ((gate : Gate) × PortRoute turns call.port (routes.Wait gate)))
@@ -63,7 +63,7 @@ pub record InOrder (turns : List Turn) : Type 0 where
   pub once : EachPair OtherTicket (exits_of turns)
   -- Each exit is of a call that entered, and goes by the route of its port as it then is. ("Call", "PromisedAnswer", "Resolve")
   pub by_ports : EachTurn ExitsByPorts turns
-  -- When the vat rests after an event, every call that entered has left, or stands at an open embargo, or the route of its port is to wait.
+  -- When the vat rests after an event, every call that entered has left, or waits at an open embargo, or the route of its port is to wait.
   -- ("Disembargo", "Resolve")
   pub none_kept : EachTurn (λ past turn. AtRest past turn turn.cause) turns
   -- Each outcome that is given is reported in its turn, once, and no other is. ("Return", "Finish")

@@ -44,7 +44,7 @@ caps_given (Some outcome) = caps_of outcome
 abbrev pub waiting_calls : State → List Held
 waiting_calls s = values s.waiting.calls
 
--- The capabilities that are the value of a promise, stand in a kept answer or in an unfinished question's results, or in a waiting call's table.
+-- The capabilities that are the value of a promise, are in a kept answer or in an unfinished question's results, or in a waiting call's table.
 abbrev pub kept_caps : State → List Cap
 kept_caps s =
     flat_map option_to_list (values s.values.promises)
@@ -112,7 +112,7 @@ is_own (Some entry) = not (is_some entry.kept.forwards) && is_unfinished entry.s
 abbrev pub is_own_question : State → ℕ → Bool
 is_own_question s q = is_own (get s.entries.questions q)
 
--- a capability whose question is the application's, whose promise is there, whose import is held
+-- a capability whose question is the application's, whose promise exists, whose import is held
 abbrev pub has_question : State → Cap → Bool
 has_question s (caps.Pipelined q path) = is_own_question s q
 has_question s other = true
@@ -130,7 +130,7 @@ abbrev pub is_pipelined : Cap → Bool
 is_pipelined (caps.Pipelined q path) = true
 is_pipelined other = false
 
--- A path of an open local question, which the peer can't be told of.
+-- A path of an open local question, which the peer doesn't know.
 abbrev pub is_open_here : QuestionKind → Option Outcome → Bool
 is_open_here kinds.Local None = true
 is_open_here kind outcome = false

@@ -70,7 +70,7 @@ IsTicketOf s (origins.Own q) ticket =
     (entry : Exchange QuestionEntry) × (get s.entries.questions q ≡ Some entry) × IsTrue (is_open_stage entry.stage) × (entry.kept.ticket ≡ Some ticket)
     × (entry.kept.forwards ≡ None)
 
--- A waiting call stands under its ticket, which is that of its origin, and was given before.
+-- A waiting call is kept under its ticket, which is that of its origin, and was given before.
 pub record IsWaiting (s : State) (ticket : ℕ) (call : Held) : Type 0 where
   pub ticketed : call.ticket ≡ ticket
   pub given : ticket < s.next_ticket
@@ -97,7 +97,7 @@ IsTiedRightly s p =
 abbrev pub HasNoTied : Exchange AnswerEntry → Type 0
 HasNoTied entry = IsTrue (not (is_open_stage entry.stage)) → entry.kept.tied ≡ []
 
--- What is exported is an object, or a promise that is there.
+-- What is exported is an object, or a promise that exists.
 abbrev pub IsExportable : State → Cap → Type 0
 IsExportable s (caps.Object k) = Unit {0}
 IsExportable s (caps.Promise p) = IsTrue (is_some (get s.values.promises p))
@@ -107,7 +107,7 @@ IsExportable s other = ⊥
 abbrev pub AreOne : State → Type 0
 AreOne s = (e f : ℕ) (one other : Counted Cap) → get s.counts.exports e ≡ Some one → get s.counts.exports f ≡ Some other → one.kept ≡ other.kept → e ≡ f
 
--- What a capability names is there: its promise, its import, its question.
+-- What a capability names exists: its promise, its import, its question.
 abbrev pub IsThere : State → Cap → Type 0
 IsThere s (caps.Promise p) = IsTrue (is_some (get s.values.promises p))
 IsThere s (caps.Import i) = IsTrue (is_some (get s.counts.imports i))
@@ -227,14 +227,14 @@ pub record Local (s : State) : Type 0 where
   -- open promises are the application's or tied to one answer
   pub tied : (p : ℕ) → IsTiedRightly s p
   pub untied : (a : ℕ) → IfSome (get s.entries.answers a) HasNoTied
-  -- what the application made is there
+  -- what the application made exists
   pub owned : (p : ℕ) → set.contains s.entries.own_promises p ≡ true → is_some (get s.values.promises p) ≡ true
   -- exports are counted, each for one capability
   pub counts : AreCounts s.counts.exports
   pub imported : AreCounts s.counts.imports
   pub exports : (e : ℕ) → IfSome (get s.counts.exports e) (λ entry. IsExportable s entry.kept)
   pub one_export : AreOne s
-  -- what is kept is there, and its way ends
+  -- what is kept exists, and its way ends
   pub there : AllByRecursion (IsThere s) (all_caps s)
   pub ends : AllByRecursion (HasRoute s.values) (all_caps s)
   -- an embargo leads to an object or a promise of this end

@@ -69,7 +69,7 @@ entry_by s other = None
 abbrev pub entry_of : Turn → Option Entry
 entry_of turn = entry_by turn.before turn.cause
 
--- what is named is there: the answer is kept, the promise, the import or the question stands
+-- what is named exists: the answer is kept, the promise, the import or the question has an entry
 abbrev pub is_there : ValueMaps → Name → Bool
 is_there values (answer_path a path) = is_some (get values.answers a)
 is_there values (capability (caps.Promise p)) = is_some (get values.promises p)
@@ -82,7 +82,7 @@ abbrev pub absences : Name → List Turn → ℕ
 absences name [] = 0
 absences name (turn ∷ past) = cond (is_there turn.after.values name) (absences name past) (suc (absences name past))
 
--- The port of a call: what it names, in one life of its number. Two lives are told apart by how often it wasn't there before.
+-- The port of a call: what it names, in one life of its number. Two lives differ by how often the number had no entry before.
 pub record Port : Type 0 where
   pub name : Name
   pub life : ℕ

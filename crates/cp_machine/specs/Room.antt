@@ -30,7 +30,7 @@ use Rattle.cp_machine.specs.declared.fault.PeerFault.TheVariants as faults
 abbrev pub has_room : {X : Type 0} → Table X → Bool
 has_room table = ltb (len table) 65536
 
--- any number that is free, where there is room
+-- any number that is free, where the table isn't full
 pub data Fresh {X : Type 0} (table : Table X) : Result ℕ PeerFault → Type 0 where
   free : (n : ℕ) → get table n ≡ None → n < 2 ^ 32 → has_room table ≡ true → Fresh table (Ok n)
   full : has_room table ≡ false → Fresh table (Err faults.TableFull)

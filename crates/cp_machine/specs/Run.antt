@@ -31,10 +31,10 @@ abbrev pub IsNoFault : Effect → Type 0
 IsNoFault (effects.Closed (reasons.Fault fault)) = ⊥
 IsNoFault other = Unit {0}
 
-abbrev pub IsNoWant : Result Value VatFault → Type 0
-IsNoWant (Err refusals.OutOfMemory) = ⊥
-IsNoWant other = Unit {0}
+abbrev pub IsNoAllocationFailure : Result Value VatFault → Type 0
+IsNoAllocationFailure (Err refusals.OutOfMemory) = ⊥
+IsNoAllocationFailure other = Unit {0}
 
 -- A run is accepted if the peer was at no fault and memory didn't run out.
 abbrev pub IsAccepted : List Moment → Type 0
-IsAccepted history = AllByRecursion (λ moment. IsNoWant moment.result × AllByRecursion IsNoFault moment.effects) history
+IsAccepted history = AllByRecursion (λ moment. IsNoAllocationFailure moment.result × AllByRecursion IsNoFault moment.effects) history

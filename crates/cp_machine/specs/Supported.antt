@@ -43,7 +43,7 @@ abbrev pub is_supported_way_back : SendResultsTo → Bool
 is_supported_way_back results_to.Caller = true
 is_supported_way_back other = false
 
--- what was returned stands in the Return
+-- what was returned is in the Return
 abbrev pub is_supported_returned : Returned → Bool
 is_supported_returned (returns.Results p) = list_all is_supported_descriptor p.cap_table
 is_supported_returned (returns.Exception x) = true

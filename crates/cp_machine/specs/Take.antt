@@ -98,7 +98,7 @@ Take old (descriptors.Unknown n) out = ⊥
 abbrev pub TakeAll : State → List Descriptor → Result (List Cap × State) PeerFault → Type 0
 TakeAll old table out = Each Take old table out
 
--- An export is lowered by so much; at 0 it is gone.
+-- An export is lowered by this number; at 0 it is gone.
 abbrev pub less_by : Table (Counted Cap) → ℕ → ℕ → Option (Counted Cap) → Table (Counted Cap)
 less_by exports e n None = exports
 less_by exports e n (Some entry) = if entry.count == n then remove exports e else insert exports e (record entry { count = entry.count - n })
@@ -111,7 +111,7 @@ abbrev pub lowered : Table (Counted Cap) → List ℕ → Table (Counted Cap)
 lowered exports [] = exports
 lowered exports (e ∷ ids) = lowered (lowered_by exports e 1) ids
 
--- how often a number stands in a list
+-- how often a number is in a list
 abbrev pub times : ℕ → List ℕ → ℕ
 times e ids = length (filter (λ id. id == e) ids)
 

@@ -124,7 +124,7 @@ CauseGives turn other gift = gift ≡ failed_in turn
 abbrev pub Gives : Turn → Option Gift → Type 0
 Gives turn gift = CauseGives turn turn.cause gift
 
--- A capability leads to another one if that stands on its way.
+-- A capability leads to another one if that is on its way.
 abbrev pub LeadsBy : (Cap → Type 0) → Way → Type 0
 LeadsBy Next (leads next) = Next next
 LeadsBy Next (ends route) = ⊥
@@ -156,7 +156,7 @@ Bears turn returned (outcomes.Results content table) =
 Bears turn returned (outcomes.Failed x) = returned ≡ returns.Exception x
 Bears turn returned outcomes.Canceled = returned ≡ returns.Canceled
 
--- the effects that tell an outcome
+-- the effects that report an outcome
 abbrev pub is_telling : Effect → Bool
 is_telling (effects.Send (messages.Return r)) = true
 is_telling (effects.Settled q outcome) = true

@@ -38,7 +38,7 @@ abbrev pub Each : {A B : Type 0} → (State → A → Result (B × State) PeerFa
 Each Rule old [] out = out ≡ Ok ([], old)
 Each Rule old (x ∷ xs) out = Then (Rule old x) (λ first. Then (Each Rule first.1 xs) (λ rest out. out ≡ Ok (first.0 ∷ rest.0, rest.1))) out
 
--- what a call of the application is refused for where it needs room that isn't there
+-- what a call of the application is refused for where a table is full
 abbrev pub refused_full : {A : Type 0} → Result A PeerFault → Result A VatFault
 refused_full (Ok x) = Ok x
 refused_full (Err fault) = Err refusals.Full

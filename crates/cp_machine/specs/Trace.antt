@@ -28,7 +28,7 @@ pub record Turn : Type 0 where
   pub effects : List Effect
   pub after : State
 
--- The turns of a run stand in a list, the latest first; each of these puts its own before those that it is given. First those of waiting calls.
+-- The turns of a run are in a list, the latest first; each of these puts its own before those that it is given. First those of waiting calls.
 abbrev pub leaving_turns : {old : State} {effects : List Effect} {out : Result State PeerFault} → Leave old effects out → List Turn → List Turn
 leaving_turns {old} (stays none) past = record { cause = rests; before = old; effects = []; after = with_over old none_over } ∷ past
 leaving_turns {old} (leaves {mid = mid} {first = first} call cap next went rest is) past =

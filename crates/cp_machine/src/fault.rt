@@ -13,7 +13,7 @@ pub enum PeerFault {
     UnknownQuestion,
     /// P3: a Finish, a target or a receiverAnswer of an answer that isn't kept, or whose Finish came.
     UnknownAnswer,
-    /// P4: a target, a receiverHosted or a lowering of an export that isn't there.
+    /// P4: a target, a receiverHosted or a lowering of an export that doesn't exist.
     UnknownExport,
     /// P5: what one message lowers an export by, all together, passes its count.
     ReleaseTooLarge,

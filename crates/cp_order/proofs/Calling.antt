@@ -310,7 +310,7 @@ module _ (s : State) (h : Within s None []) (still : s.waiting.over ≡ none_ove
   wire_goes (caps.Promise p) mid done is marks goes = never_wired is
   wire_goes (caps.Broken x) mid done is marks goes = never_wired is
 
-  -- back to this end, behind an embargo
+  -- back to this end, after an embargo
   module _ (n : ℕ) where
     waits_at : Within (held_at (called s q kinds.Local) (own_call s q request) (gates.Embargo n)) None []
     waits_at =

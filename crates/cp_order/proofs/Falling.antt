@@ -1,4 +1,4 @@
--- Waiting calls leave in so many turns at most.
+-- Waiting calls leave in this many turns at most.
 use Rattle.std.specs.Prelude.{◌≡◌, refl, ℕ, zero, suc, ◌+◌, ◌≤◌, ◌<◌, List, [], ◌∷◌, Option, Some, None, is_some, Ok}
 use Rattle.std.specs.List.{sum_by}
 use Rattle.std.specs.FinMap.{remove, values}

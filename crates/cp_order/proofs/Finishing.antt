@@ -121,7 +121,7 @@ module _ {s : State} (h : Within s None []) (q : ℕ) (entry : Exchange Question
           waited_for = h.waited_for;
         }
 
-  -- behind it
+  -- after it
   pub returned_leaves : entry.stage ≡ stages.Returned → Within (without_question s q) None []
   returned_leaves at =
       own_leaves h q entry was own (alone_none (origins.Own q)) (none_waits h (origins.Own q) no_ticket)

@@ -326,7 +326,7 @@ fit_exports s exports c f = f
 pub to_give_exports : (s : State) (exports : Table (Counted Cap)) (hand : Option Origin) (a : ℕ) → IsToGive s hand a → IsToGive (with_exports s exports) hand a
 to_give_exports s exports hand a to = record { alone = to.alone; waits = to.waits; forwarded = to.forwarded }
 
--- behind the exports that its Return names
+-- after the exports that its Return names
 open_given : (s mid : State) (hand : Option Origin) (a : ℕ) (outcome : Outcome) (entry : Exchange AnswerEntry) (returned : Returned) (done : Done)
     → OnlyExports s hand [] mid → get s.entries.answers a ≡ Some entry → IsToGive s hand a → AllByRecursion (IsFit s) (caps_of outcome)
     → SettleTied (given mid a entry.kept outcome returned) outcome entry.kept.tied (Ok done) → Within done.1 None []

@@ -42,7 +42,7 @@ module _ (s new : State) (promises : (p : ℕ) → is_some (get s.values.promise
     there_stays (caps.Pipelined q path) h = questions q h
     there_stays (caps.Broken x) h = tt
 
--- an entry that was there is there behind a new one
+-- an entry that was there is there after a new one
 pub put_stays : {X : Type 0} (m : Table X) (k : ℕ) (v : X) (q : ℕ) → is_some (get m q) ≡ true → is_some (get (insert m k v) q) ≡ true
 put_stays m k v q there = by (k == q) refl
   where

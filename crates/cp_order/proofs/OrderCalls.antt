@@ -258,7 +258,7 @@ module _ (old : State) (q : ℕ) (request : Request) (cap : Cap) (within : Withi
               (λ gate m fits at. same_gate (mark_of old cap) mark gate fits ∙ at) (λ gate m fits at. sym (same_gate (mark_of old cap) mark gate fits) ∙ at) [] (λ s. refl)
               (rw (ap (λ d. d.1) e) at then))
 
-      -- the first one behind those that were sent: a Disembargo goes out, and it waits for the echo
+      -- the first one after those that were sent: a Disembargo goes out, and it waits for the echo
       module _ (n : ℕ) (unused : get old.marks.embargoes n ≡ None) (mark : mark_of old cap ≡ Some None) where
         abbrev opened : State
         opened =

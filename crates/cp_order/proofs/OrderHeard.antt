@@ -165,7 +165,7 @@ tied_settles (tied ∷ more) s outcome done is =
     by mid last set stays deeper x (inl one) = subst (λ t. is_settled (get last.values.promises t.promise) ≡ true) (single_is tied x one.0 one.1 one.2) (stays tied.promise set)
     by mid last set stays deeper x (inr other) = deeper x other
 
--- so a promise that is open behind an answer that was given is tied to another one
+-- so a promise that is open after an answer that was given is tied to another one
 last_by : (s : State) (a : ℕ) (outcome : Outcome) (entry : Exchange AnswerEntry) (done : Done) → get s.entries.answers a ≡ Some entry
     → ((b : ℕ) → (a == b) ≡ false → get done.1.entries.answers b ≡ get s.entries.answers b)
     → ((x : Tied) → Contains entry.kept.tied x → is_settled (get done.1.values.promises x.promise) ≡ true) → TiedLast s done.1
@@ -247,7 +247,7 @@ module _ (old : State) (exports : Table (Counted Cap)) (r : Return) (entry : Exc
       → Brings (return_turn old r first mid) r.returned outcome → AskedGives (return_turn old r first mid) r (Some entry) gift
   gives_open first mid gift outcome same brought = rw (open_) (outcome, same, brought)
 
-  -- what leads on behind what was taken in
+  -- what leads on after what was taken in
   leads_back : (s : State) (first : List Effect) (mid : State) → s.values.promises ≡ taken.1.values.promises
       → ((q : ℕ) (x : Question) → get s.values.questions q ≡ Some x → get taken.1.values.questions q ≡ Some x) → (c last : Cap) → ComesTo s.values c last → LeadsTo old.values c last
   leads_back s first mid promises questions =

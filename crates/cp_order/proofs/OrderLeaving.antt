@@ -61,7 +61,7 @@ module _ (past : List Turn) (old : State) (call : Held) (cap : Cap) (first : Lis
   went_holds (routes.Wait g) way goes = waits_holds g way goes
   went_holds (routes.Fail x) way goes = gone_holds (routes.Fail x) way goes tt
 
-  -- The invariant holds behind the turn of a call that goes.
+  -- The invariant holds after the turn of a call that goes.
   pub goes_holds : GoTo (without_call old call) (underway call) cap (Ok (first, mid)) → OrderHolds (going old call first mid ∷ past) mid
   goes_holds goes = went_holds goes.0 goes.1 goes.2
 
@@ -71,7 +71,7 @@ GoesWithin =
     (old mid : State) (call : Held) (cap : Cap) (first : List Effect) → Within old None [] → IsNext old call cap
     → GoTo (without_call old call) (underway call) cap (Ok (first, mid)) → Within mid None []
 
--- what holds behind all turns of waiting calls
+-- what holds after all turns of waiting calls
 abbrev pub LeftInOrder : List Turn → Result State PeerFault → Type 0
 LeftInOrder turns (Ok last) = OrderHolds turns last
 LeftInOrder turns (Err fault) = AreOrderly turns

@@ -1,4 +1,4 @@
--- What calls name, and where gates lead, behind a turn.
+-- What calls name, and where gates lead, after a turn.
 use Rattle.std.specs.Prelude.{◌≡◌, ◌⊎◌, refl, ℕ, zero, suc, true, false, List, Option, Some, None, is_some, IsSome}
 use Rattle.std.specs.Option.{option_map}
 use Rattle.std.specs.FinMap.{get}

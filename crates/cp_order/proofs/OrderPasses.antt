@@ -1,4 +1,4 @@
--- Where calls wait on behind a turn: values are given and kept, and no open one goes without its gate being over.
+-- Where calls wait on after a turn: values are given and kept, and no open one goes without its gate being over.
 use Rattle.std.specs.Prelude.{◌≡◌, ◌⊎◌, refl, ℕ, zero, suc, ◌≤◌, Bool, true, false, List, Option, Some, None, is_some}
 use Rattle.std.specs.Option.{option_map}
 use Rattle.std.specs.FinMap.{get}

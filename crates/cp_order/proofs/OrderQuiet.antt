@@ -44,7 +44,7 @@ module _ (past : List Turn) (event : Event) (value : Value) (old : State) (first
         at_rest = tt;
       }
 
-  -- The invariant holds behind it.
+  -- The invariant holds after it.
   pub quiet_holds : Passes old mid → Sound old → Sound mid → OrderHolds past old → OrderHolds (owning event value old first mid ∷ past) mid
   quiet_holds passes sound later h = turned_holds past turn sound later passes h quiet_turned
 

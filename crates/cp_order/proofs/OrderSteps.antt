@@ -111,7 +111,7 @@ leave_local keeps {old = old} (stays none) within = within_is_local old within n
 leave_local keeps {old = old} (leaves {mid = mid} {first = first} call cap next goes rest is) within = leave_local keeps rest (keeps old mid call cap first within next goes)
 leave_local keeps (finds_no_room call cap next goes) within = tt
 
--- Behind an event the invariant holds, or the vat is closed and its turns were in order.
+-- After an event the invariant holds, or the vat is closed and its turns were in order.
 abbrev pub HoldsOrClosed : List Turn → State → Type 0
 HoldsOrClosed past s = (Local s × OrderHolds past s) ⊎ ((s.is_closed ≡ true) × AreOrderly past)
 

@@ -1,4 +1,4 @@
--- What holds behind a turn, from what the turn did.
+-- What holds after a turn, from what the turn did.
 use Rattle.std.specs.Prelude.{◌≡◌, ◌≢◌, ◌⊎◌, refl, ℕ, ◌<◌, ◌≤◌, ◌==◌, ◌||◌, cond, Bool, true, false, List, [], ◌∷◌, ◌++◌, Option, Some, None, IfSome, IsSome}
 use Rattle.std.specs.List.{AllByRecursion}
 use Rattle.std.specs.FinMap.{get}
@@ -25,7 +25,7 @@ pub record IsHeldNow (past : List Turn) (turn : Turn) (ticket : ℕ) (call : Hel
       → get turn.after.waiting.over.embargoes n ≡ None → held.gate ≡ gates.Embargo n → call.gate ≡ gates.Embargo n
   pub late : (exit : Exit) → HasGone past turn.before exit → AreOfOne (turn ∷ past) exit.ticket ticket → exit.ticket < ticket
 
--- A call that leaves in this turn, behind those of its port that left before.
+-- A call that leaves in this turn, after those of its port that left before.
 pub record ExitsNow (past : List Turn) (turn : Turn) (exit : Exit) : Type 0 where
   pub gone : HasGone (turn ∷ past) turn.after exit
   pub by_port : GoesByItsPort (turn ∷ past) exit
@@ -248,7 +248,7 @@ module _ (past : List Turn) (turn : Turn) (sound : Sound turn.before) (later : S
         none_kept = (t.at_rest, h.orderly.none_kept);
       }
 
-  -- The invariant holds behind the turn.
+  -- The invariant holds after the turn.
   pub turned_holds : OrderHolds (turn ∷ past) turn.after
   turned_holds =
       record {

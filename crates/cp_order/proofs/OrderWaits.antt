@@ -1,4 +1,4 @@
--- Calls that wait on behind a turn wait for their ports.
+-- Calls that wait on after a turn wait for their ports.
 use Rattle.std.specs.Prelude.{◌≡◌, refl, ℕ, suc, ◌<◌, ◌≤◌, ◌==◌, cond, Bool, true, false, List, [], ◌∷◌, Option, Some, None, IfSome}
 use Rattle.std.specs.Option.{option_map}
 use Rattle.std.proofs.Common.{arith}
@@ -76,7 +76,7 @@ back_by past calls s ticket (Some entry) next low = rw (are_other entry.ticket t
 pub port_before : (past : List Turn) (turn : Turn) (ticket : ℕ) → ticket < turn.before.next_ticket → port_of (calls_of (turn ∷ past)) ticket ≡ port_of (calls_of past) ticket
 port_before past turn ticket low = back_by past (calls_of past) turn.before ticket (entry_of turn) (enters_next turn) low
 
--- A life that lasts behind a turn lasted before it, and what it names is there.
+-- A life that lasts after a turn lasted before it, and what it names is there.
 lasts_by : (b : Bool) (n life : ℕ) → life ≤ n → cond b n (suc n) ≡ life → (n ≡ life) × (b ≡ true)
 lasts_by true n life low e = (e, refl)
 lasts_by false n life low e = absurd (never low e)

@@ -58,7 +58,7 @@ module _ (values : ValueMaps) (p : ℕ) (v : Option Cap) (open_ : get values.pro
   off_it (caps.Pipelined q path) other = refl
   off_it (caps.Broken x) other = refl
 
-  -- what comes to anything but the promise has a route behind it
+  -- what comes to anything but the promise has a route after it
   avoids_by : (n : ℕ) (c last : Cap) (w : Way) → ((d : Cap) → end_within n values d ≡ Some last → HasRoute (with_value values p v) d)
       → is_promise p last ≡ false
       → way values c ≡ w → end_by (λ d. end_within n values d) c w ≡ Some last → HasRoute (with_value values p v) c

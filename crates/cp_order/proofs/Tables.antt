@@ -237,7 +237,7 @@ pub not_met : {F : Type 0} (holds : Bool) (fault : F) → fault_if holds fault �
 not_met true fault h = absurd (cc)
 not_met false fault h = refl
 
--- an entry behind a change is the new one, or an old one
+-- an entry after a change is the new one, or an old one
 pub put_cases : {X : Type 0} (m : Table X) (k q : ℕ) (new v : X) → get (insert m k new) q ≡ Some v
     → ((k ≡ q) × (new ≡ v)) ⊎ (((k == q) ≡ false) × (get m q ≡ Some v))
 put_cases m k q new v is = by (k == q) refl

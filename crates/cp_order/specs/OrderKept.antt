@@ -81,7 +81,7 @@ abbrev pub IsBehind : List Turn → State → Type 0
 IsBehind [] s = Unit {0}
 IsBehind (turn ∷ past) s = turn.after ≡ s
 
--- These turns are in order, as far as they go and but for what they tell.
+-- These turns are in order, as far as they go and but for what they report.
 pub record AreOrderly (turns : List Turn) : Type 0 where
   pub rising : EachPair (Rises (calls_of turns)) (exits_of turns)
   pub once : EachPair OtherTicket (exits_of turns)
@@ -107,6 +107,6 @@ pub record OrderHolds (past : List Turn) (s : State) : Type 0 where
 abbrev pub RunsAreInOrder : Type 0
 RunsAreInOrder = (bootstrap : Option ℕ) (history : List Moment) (run : Run bootstrap history) → InOrder (trace_of bootstrap history run)
 
--- They are, but for what they tell.
+-- They are, but for what they report.
 abbrev pub RunsAreOrderly : Type 0
 RunsAreOrderly = (bootstrap : Option ℕ) (history : List Moment) (run : Run bootstrap history) → AreOrderly (trace_of bootstrap history run)

@@ -41,7 +41,7 @@ HasQuestionPlace s hand q entry =
     IsTrue (is_open_stage entry.stage)
     → one_if (is_in_hand hand (origins.Own q)) + waiting_of s (origins.Own q) + one_if entry.kept.is_delivered + one_if entry.kept.is_sent ≡ 1
 
--- A waiting call stands under its ticket, which is that of its origin, and was given before.
+-- A waiting call is kept under its ticket, which is that of its origin, and was given before.
 abbrev pub WaitsFor : State → ℕ → Held → Type 0
 WaitsFor s ticket call = (call.ticket ≡ ticket) × (ticket < s.next_ticket) × IsTicketOf s call.origin ticket
 
@@ -73,7 +73,7 @@ AllKept P s = AreKept P s.values s.waiting.calls s.marks.embargoes s.counts.expo
 abbrev pub IsPlain : Cap → Type 0
 IsPlain cap = is_pipelined cap ≡ false
 
--- What a promise, an import or an outcome may come to: it names no path of a question, it is there, and its way ends.
+-- What a promise, an import or an outcome may come to: it names no path of a question, it exists, and its way ends.
 abbrev pub IsFit : State → Cap → Type 0
 IsFit s cap = IsPlain cap × IsThere s cap × HasRoute s.values cap
 
@@ -115,7 +115,7 @@ pub record Within (s : State) (hand : Option Origin) (next : List Tied) : Type 0
   pub imported : AreCounts s.counts.imports
   pub exports : (e : ℕ) → IfSome (get s.counts.exports e) (λ entry. IsExportable s entry.kept)
   pub one_export : AreOne s
-  -- what is kept is there, and its way ends
+  -- what is kept exists, and its way ends
   pub there : AllKept (IsThere s) s
   pub ends : AllKept (HasRoute s.values) s
   -- an embargo leads to an object or a promise of this end, nothing came to a question's path, and no call waits for a finished question

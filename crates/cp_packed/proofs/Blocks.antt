@@ -1,4 +1,4 @@
--- Groups taken over zeros: what one brings, and one behind others.
+-- Groups taken over zeros: what one brings, and one after others.
 use Rattle.std.proofs.Common.{◌≡◌, ℕ, zero, suc, ◌+◌, ◌-◌, ◌<◌, ◌≤◌, List, [], ◌∷◌, ◌++◌, length, take, drop, slice_set, replicate, refl, sym, ◌∙◌, ap, subst, append_assoc, length-append, arith}
 use Rattle.std.proofs.lemmas.List.{append-nil, replicate-append-replicate, drop_all}
 use borrow.Rule.Slice.PartMut.{put_mid, post_of, Post-is}
@@ -43,7 +43,7 @@ takes_behind most room old left words back h fits = record {
   ends = λ e. refl;
 }
 
--- what is still zero behind the words
+-- what is still zero after the words
 pub zeros_behind : (most filled : ℕ) (left new back : List ℕ) → FillsFront most left new filled back → drop filled new ≡ replicate (most - filled) 0
 zeros_behind most filled left new back h =
     ap (λ (n : ℕ). drop n new) (sym h.count) ∙ ap (λ (ws : List ℕ). drop (length h.words) ws) h.puts ∙ drop-append_seam h.words (replicate (most - filled) 0)
@@ -68,7 +68,7 @@ tail_put n xs ys h =
     let none : post_of n (length xs - n) xs ≡ [] = Post-is n (length xs) xs h ∙ drop_all (length xs) xs (omega arith) in
     ap (λ (zs : List ℕ). take n xs ++ (ys ++ zs)) none ∙ ap (λ (zs : List ℕ). take n xs ++ zs) (append-nil ys)
 
--- groups taken behind words, into zeros that were made for them
+-- groups taken after words, into zeros that were made for them
 pub takes_block : (most room start filled : ℕ) (old left part new back : List ℕ) → start ≡ length old → FillsFront room left part filled back → length old + room ≤ most → new ≡ take (start + filled) (old ++ part)
     → TakesGroups most old 0 left new 0 back
 takes_block most room start filled old left part new back s h fits p =

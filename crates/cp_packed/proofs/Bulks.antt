@@ -21,7 +21,7 @@ takes_none most old left run h k = record {
   ends = λ e. absurd (omega (arith, e, h));
 }
 
--- a front, and one behind it
+-- a front, and one after it
 pub takes_both : (most : ℕ) (old mid new left middle back : List ℕ) (run further next : ℕ) → TakesGroups most old run left mid further middle → TakesGroups most mid further middle new next back
     → TakesGroups most old run left new next back
 takes_both most old mid new left middle back run further next h k =

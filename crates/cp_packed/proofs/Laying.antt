@@ -142,7 +142,7 @@ laid_long (suc n) t p h k = go (cases_eq (t % 2) 0) p k (λ r l. laid_long n (t 
         let odd : t % 2 ≡ 1 = omega (arith, e) in
         ap (λ (b : List ℕ). length b) (laid_odd n t (y ∷ p) odd) ∙ ap (λ (m : ℕ). suc m) (more p (omega (arith, k, ones_step t, odd)))
 
--- bytes behind those that the tag names change nothing
+-- bytes after those that the tag names change nothing
 pub laid_front : (n t : ℕ) (p q : List ℕ) → t < 2 ^ n → ones t ≤ length p → laid_by n t (p ++ q) ≡ laid_by n t p
 unfolding laid_by
 laid_front zero t p q h k = refl

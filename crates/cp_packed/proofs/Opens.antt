@@ -93,7 +93,7 @@ brings_both p q r a b ws vs h k = record {
   open_then = after-append p a b ∙ ap (λ (s : Pending). after s b) h.open_then ∙ k.open_then;
 }
 
--- the bytes behind a tag, up to the last but one
+-- the bytes after a tag, up to the last but one
 pub feeds_part : (t : ℕ) (p q : List ℕ) → suc (length p + length q) < header_of t → Brings (record { run = 0; part = t ∷ p }) q [] (record { run = 0; part = t ∷ (p ++ q) })
 feeds_part t p [] h = record { words = refl; open_then = ap (λ (r : List ℕ). let s : Pending = record { run = 0; part = t ∷ r } in s) (sym (append-nil p)) }
 feeds_part t p (x ∷ q) h =

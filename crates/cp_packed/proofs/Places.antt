@@ -165,6 +165,6 @@ kept_by (x ∷ base) more n =
     let next : suc (length base) + n ≡ suc (length base + n) = omega arith in
     ap (λ (m : ℕ). take m (x ∷ (base ++ more))) next ∙ ap (λ (b : List ℕ). x ∷ b) (kept_by base more n)
 
--- bytes of which the first count, behind others
+-- bytes of which the first count, after others
 pub counted : (base more some : List ℕ) (s n : ℕ) → s ≡ length base → n ≡ length some → take (length some) more ≡ some → take (s + n) (base ++ more) ≡ base ++ some
 counted base more some s n b c h = ap (λ (m : ℕ). take (m + n) (base ++ more)) b ∙ ap (λ (m : ℕ). take (length base + m) (base ++ more)) c ∙ kept_by base more (length some) ∙ ap (λ (x : List ℕ). base ++ x) h

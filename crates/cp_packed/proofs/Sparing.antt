@@ -282,7 +282,7 @@ raw_bytes out a b d e word run t n h k l m =
     let second : d ≡ out ++ t ∷ (word ++ n ∷ []) = l ∙ ap (λ (x : List ℕ). x ++ n ∷ []) first ∙ append_assoc out (t ∷ word) (n ∷ []) in
     m ∙ ap (λ (x : List ℕ). x ++ run) second ∙ append_assoc out (t ∷ (word ++ n ∷ [])) run ∙ ap (λ (x : List ℕ). out ++ t ∷ x) (append_assoc word (n ∷ []) run)
 
--- what is kept of room behind other bytes
+-- what is kept of room after other bytes
 pub kept_room : (s n k : ℕ) (x base more room others rest w : List ℕ) → x ≡ base ++ more → s ≡ length base → s + n ≤ k → n ≤ length room → take n room ≡ w
     → take (s + n) (take k ((take s x ++ (room ++ others)) ++ rest)) ≡ base ++ w
 kept_room s n k x base more room others rest w e z h l g =

@@ -5,7 +5,7 @@ use Rattle.std.proofs.lemmas.List.{append-nil, take_at, set_at}
 use Rattle.cp_packed.specs.Unpacking.{laid_by}
 use Rattle.cp_packed.proofs.Unpacks.{laid_even, laid_odd}
 
--- The bytes before a place stand, and none behind it yet.
+-- The bytes before a place stand, and none after it yet.
 pub record Spreads (tag : ℕ) (written bytes : List ℕ) (bits : ℕ) (left : List ℕ) (place : ℕ) : Type 0 where
   pub front : List ℕ
   pub behind : ℕ
@@ -60,7 +60,7 @@ pub spread_zero : (tag : ℕ) (written bytes : List ℕ) (bits : ℕ) (left : Li
     → Spreads tag written (set bytes place 0) (bits / 2) left (place + 1)
 spread_zero tag written bytes bits left place h = zero_by tag written bytes bits left place h.behind h.front h.long h.all h.stand h.are
 
--- zeros behind a word's bytes change nothing
+-- zeros after a word's bytes change nothing
 padded_at : (front : List ℕ) (n i : ℕ) → get_or (front ++ replicate n 0) i 0 ≡ get_or front i 0
 padded_at [] zero i = refl
 padded_at [] (suc n) zero = refl

@@ -7,7 +7,7 @@ use Rattle.cp_packed.specs.Unpacking.{Pending, after, given}
 abbrev pub running : ℕ → Pending
 running run = record { run = run; part = [] }
 
--- A front of the bytes was taken, with the words that it brings: no more than there is room for, and as many only where no run goes on.
+-- A front of the bytes was taken, with the words that it brings: no more than fit, and as many only where no run goes on.
 pub record TakesGroups (most : ℕ) (old : List ℕ) (run : ℕ) (left new : List ℕ) (next : ℕ) (back : List ℕ) : Type 0 where
   pub front : List ℕ
   pub whole : left ≡ front ++ back
@@ -18,15 +18,15 @@ pub record TakesGroups (most : ℕ) (old : List ℕ) (run : ℕ) (left new : Lis
   pub within : length new ≤ most
   pub ends : length new ≡ most → next ≡ 0
 
--- The group that these bytes begin with brings more words than there is room for: a run of zero words, or the last word
--- that there is room for and a raw run after it.
+-- The group that these bytes begin with brings more words than fit: a run of zero words, or the last word
+-- that fits and a raw run after it.
 abbrev pub IsTooMuch : ℕ → List ℕ → Type 0
 IsTooMuch room back =
     ((slice_index back 0 ≡ 0) × (room < slice_index back 1 + 1))
     ⊎ ((slice_index back 0 ≡ 255) × (room ≡ 1) × (0 < slice_index back 9))
 
--- Nothing more is taken at once: there is no room; or of a raw run the next word isn't there, or it would be the last that
--- there is room for and the run goes on; or of a group ten bytes aren't there, or it brings too much.
+-- Nothing more is taken at once: no word fits; or of a raw run the next word hasn't come, or it would be the last that
+-- fits and the run goes on; or of a group ten bytes haven't come, or it brings too much.
 abbrev pub IsAtEnd : ℕ → ℕ → List ℕ → Type 0
 IsAtEnd room run back =
     (room ≡ 0)

@@ -56,7 +56,7 @@ abbrev pub StartsWithout : (ℕ → Type 0) → List ℕ → Type 0
 StartsWithout P [] = Unit {0}
 StartsWithout P (w ∷ ws) = P w → ⊥
 
--- a run of fewer than 256 words doesn't stand before a word that it could take
+-- a run of fewer than 256 words doesn't end before a word that it could take
 abbrev pub IsLongest : Group → List ℕ → Type 0
 IsLongest (sparse bytes) after = Unit {0}
 IsLongest (zeros more) after = (more ≡ 255) ⊎ StartsWithout (λ w. w ≡ 0) after

@@ -6,7 +6,7 @@ use Rattle.cp_packed.specs.Packed.{Group, IsGroup, IsSparing, IsLongest, spellin
 abbrev pub bytes_that_count : List ℕ → List (Option ℕ)
 bytes_that_count bytes = map (λ b. if b == 0 then None else Some b) bytes
 
--- A group was written after what stood there: words begin with those that it gives, and it is as the writer makes it.
+-- A group was appended: words begin with those that it gives, and it is as the writer makes it.
 pub record PutsGroup (old new words back : List ℕ) : Type 0 where
   pub group : Group
   pub is : IsGroup group
@@ -21,6 +21,6 @@ pub record PutsFront (old out words left : List ℕ) : Type 0 where
   pub text : out ≡ old ++ front
   pub goes : (b : List ℕ) → Spelt left b → Spelt words (front ++ b)
 
--- the words were written packed after what stood there
+-- the words were appended packed
 abbrev pub PutsSpelt : List ℕ → List ℕ → List ℕ → Type 0
 PutsSpelt old new words = (bytes : List ℕ) × Spelt words bytes × (new ≡ old ++ bytes)

@@ -17,12 +17,12 @@ nothing = record { run = 0; part = [] }
 abbrev pub header_of : ℕ → ℕ
 header_of tag = if tag == 0 then 2 else (if tag == 255 then 10 else suc (count_ones tag))
 
--- the first of these bytes, if one is there, and then others
+-- the first of these bytes, if there is one, and then others
 abbrev pub first_and : List ℕ → List ℕ → List ℕ
 first_and [] others = []
 first_and (x ∷ written) others = x ∷ others
 
--- this many bytes of a word, the lowest bit of the tag for the first, up to the first that is written and isn't there
+-- this many bytes of a word, the lowest bit of the tag for the first, up to the first that is written and hasn't come
 unfoldable pub laid_by : ℕ → ℕ → List ℕ → List ℕ
 laid_by zero tag written = []
 laid_by (suc n) tag written = if tag % 2 == 0 then 0 ∷ laid_by n (tag / 2) written else first_and written (laid_by n (tag / 2) (drop 1 written))

@@ -1,4 +1,4 @@
-//! Groups of the packed form taken at once, as far as they are there and their words find room.
+//! Groups of the packed form taken at once, as far as they have come and their words fit.
 
 ghost use Rattle.std.specs.Prelude.{◌≡◌, ◌<◌, ◌-◌, IfOk, length, replicate};
 ghost use Rattle.cp_packed.specs.Groups.{TakesGroups, IsAtEnd, FillsFront};
@@ -12,7 +12,7 @@ use std::alloc::AllocError;
 /// How many words are made at once for groups that are taken one after another.
 const BLOCK: usize = 512;
 
-/// Takes words of a raw run, one of them at the least where it is there and finds room: one less than there is room for,
+/// Takes words of a raw run, one of them at the least where it has come and fits: one fewer than fit,
 /// where the run goes on after them.
 fn take_run<'a>(
     words: &mut Vec<u64>,
@@ -37,7 +37,7 @@ fn take_run<'a>(
     Ok(back)
 }
 
-/// Takes a group, up to the further words of a raw run, if it is there and finds room.
+/// Takes a group, up to the further words of a raw run, if it has come and fits.
 fn take_header<'a>(
     words: &mut Vec<u64>,
     run: &mut usize,
@@ -75,8 +75,8 @@ fn take_header<'a>(
     Ok(back)
 }
 
-/// Takes a run of zero words or a group of one word into words that are zero, if it is there and finds
-/// room: how many words it fills, and what follows it.
+/// Takes a run of zero words or a group of one word into words that are zero, if it has come and
+/// fits: how many words it fills, and what follows it.
 fn take_short<'a>(room: &mut [u64], left: &'a [u8]) -> (usize, &'a [u8])
     requires some { 0 < length room.old }
     requires zeros { room.old ≡ replicate (length room.old) 0 }
@@ -138,7 +138,7 @@ fn take_block<'a>(words: &mut Vec<u64>, most: usize, left: &'a [u8]) -> Result<&
     Ok(back)
 }
 
-/// Takes groups, one of them at the least where it is there and finds room.
+/// Takes groups, one of them at the least where it has come and fits.
 fn take_some<'a>(
     words: &mut Vec<u64>,
     run: &mut usize,

@@ -83,11 +83,11 @@ fn push_sparse(out: &mut Vec<u8>, mask: u8, bytes: &[u8; 8]) -> Result<(), Alloc
     Ok(())
 }
 
-/// Writes words after what stands there, as they are: eight bytes each, the lowest first. The error is an allocation failure.
+/// Appends words as they are: eight bytes each, the lowest first. The error is an allocation failure.
 pub fn push_plain(out: &mut Vec<u8>, words: &[u64]) -> Result<(), AllocError>
     ensures { OnOk result (out.new.items ≡ out.old.items ++ bytes_of words.now) }
 {
-    // By way of the stack: room made after `out` would be filled before it is written.
+    // By way of the stack: capacity made in `out` would be filled before it is written.
     let mut block = [0; 8 * BLOCK];
     let mut left = words;
     'writing: while !left.is_empty() {
@@ -126,7 +126,7 @@ fn push_group<'a>(out: &mut Vec<u8>, words: &'a [u64]) -> Result<&'a [u64], Allo
     Ok(back)
 }
 
-/// Writes groups that words begin with after what stands there, until no more than this many words are left, and gives
+/// Appends groups that words begin with, until no more than this many words are left, and gives
 /// these back. The error is an allocation failure.
 pub fn push_groups<'a>(
     out: &mut Vec<u8>,
@@ -144,7 +144,7 @@ pub fn push_groups<'a>(
     Ok(left)
 }
 
-/// Writes words after what stands there, packed as one piece. The error is an allocation failure.
+/// Appends words, packed as one piece. The error is an allocation failure.
 pub fn push_packed(out: &mut Vec<u8>, words: &[u64]) -> Result<(), AllocError>
     ensures { OnOk result (PutsSpelt out.old.items out.new.items words.now) }
 {

@@ -266,7 +266,7 @@ static SOURCES: [[u8; 8]; 256] = [
     [0, 1, 2, 3, 4, 5, 6, 7],
 ];
 
-/// The bytes of a word, where all that are written are there.
+/// The bytes of a word, where all that are written have come.
 pub fn scattered(tag: u8, written: &[u8]) -> [u8; 8]
     requires { 8 ≤ length written.now }
     ensures { result ≡ laid_by 8 tag written.now }

@@ -16,8 +16,8 @@ pub fn word_of(bytes: &[u8]) -> u64
     LittleEndian::read_u64(bytes)
 }
 
-/// Makes room for `taken` words that have come, where `missing` words are missing in all. Where there is too little, it makes
-/// room for as many as there are, or have come if these are more, but for no more than are missing. The error is an
+/// Makes capacity for `taken` words that have come, where `missing` words are missing in all. Where there is too little, it makes
+/// capacity for as many as there are, or have come if these are more, but for no more than are missing. The error is an
 /// allocation failure.
 pub fn make_room(words: &mut Vec<u64>, taken: usize, missing: usize) -> Result<(), AllocError>
     ensures items { OnOk result (words.new.items ≡ words.old.items) }

@@ -47,7 +47,7 @@ prunes_body S s p (list es) s' q l f = (s', q, l, f)
 prunes_body S s p (ptrs ts) s' q l f = (s', q, l, f)
 prunes_body S s p (structs d n bs) s' q l f = (s', q, l, f)
 
--- so many null pointers
+-- this many null pointers
 pub nulls : ℕ → Nodes
 nulls zero = no_nodes
 nulls (suc n) = node null (nulls n)

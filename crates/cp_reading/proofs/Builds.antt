@@ -136,7 +136,7 @@ struct-shape (structs d n bs) s = absurd s
 pub pointers-shape : (t : Node) (d n : ℕ) → IsStruct t → shapes.Struct d n ≡ shape_of t → count (row_of t) ≡ n
 pointers-shape t d n s e = let k = struct-shape t s in let same : shapes.Struct d n ≡ shapes.Struct k.0 (count (row_of t)) = e ∙ k.1 in cc
 
--- the words visited to build the first so many trees of a row
+-- the words visited to build the first n trees of a row
 abbrev pub first_pointers : Nodes → ℕ → ℕ
 first_pointers no_nodes i = 0
 first_pointers (node t ts) zero = 0

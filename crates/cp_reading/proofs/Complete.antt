@@ -11,15 +11,15 @@ use Rattle.cp_tree.specs.Node.{Elements, voids, Node, null, cap, struct, list, p
 use Rattle.cp_words.specs.Aims.{segment, IsBodyPointer, IsPadTag, AimsHere, AimsByPad, AimsByTwo, Aims}
 use Rattle.cp_reading.specs.Locates.{Locates}
 use Rattle.cp_reading.specs.Denotes.{Denotes, EachDenotes, EachBody}
-use Rattle.cp_reading.specs.Reading.{◌>>=◌, Kids, row_by, bodies_by, start_of, in_segment, area_by, aim_here, tag_kind_of, aim_by, pad_or, filled, price, IsWhole, body_by, toll, pointer_by, kids_at, tree_at, rows_at}
-use Rattle.cp_reading.specs.declared.aim.Aim.{Aim}
+use Rattle.cp_reading.specs.Reading.{◌>>=◌, Kids, row_by, bodies_by, start_of, in_segment, area_by, target_here, tag_kind_of, target_by, or_bad_pad, filled, price, IsWhole, body_by, budget_after, pointer_by, kids_at, tree_at, rows_at}
+use Rattle.cp_reading.specs.declared.target.Target.{Target}
 use Rattle.cp_words.specs.declared.kind.Kind.{Kind}
 use Rattle.cp_words.specs.declared.kind.Kind.TheVariants as kinds
 use Rattle.cp_reading.specs.declared.area.Form.{Form}
 use Rattle.cp_reading.specs.declared.area.Form.TheVariants as forms
 use Rattle.cp_words.specs.declared.place.Place.{Place}
 use Rattle.cp_reading.proofs.Checks.{aimed}
-use Rattle.cp_reading.proofs.Entries.{entered_ok}
+use Rattle.cp_reading.proofs.Charges.{charged_ok}
 use Rattle.cp_reading.specs.Fills.{IsBody, form_of, Fills}
 use Rattle.cp_reading.proofs.Fills.{form_of-whole, inner_depth, inner_cost, depth-body, cost-body}
 
@@ -47,7 +47,7 @@ exists_if S s place h = go (nat_lt s (length S)) refl
         absurd (omega arith)
 
 -- what a pointer that aims at a body says
-says_kind : (s p : ℕ) (r : Pointer) (offset : ℤ) (k : Kind) (start : ℕ) → IsBodyPointer r offset k → start_of p offset ≡ Some start → aim_here s p r ≡ Some (record { kind = k; segment = s; start = Some start })
+says_kind : (s p : ℕ) (r : Pointer) (offset : ℤ) (k : Kind) (start : ℕ) → IsBodyPointer r offset k → start_of p offset ≡ Some start → target_here s p r ≡ Some (record { kind = k; segment = s; start = Some start })
 says_kind s p (pointers.Struct o d n) offset k start h b = rw (h.0, h.1, b)
 says_kind s p (pointers.List o size n) offset k start h b = rw (h.0, h.1, b)
 says_kind s p pointers.Null offset k start h b = absurd h
@@ -67,16 +67,16 @@ module _ (S : List (List ℕ)) (s p : ℕ) where
 
   -- the word holds a pointer that aims there
   unfoldable pub Found : Kind → ℕ → ℕ → Type 0
-  Found k s' start = (r : Pointer) × (pointer_of (slice_index (segment S s) p) ≡ Some r) × (aim_by at S r ≡ Ok (record { kind = k; segment = s'; start = Some start }))
+  Found k s' start = (r : Pointer) × (pointer_of (slice_index (segment S s) p) ≡ Some r) × (target_by at S r ≡ Ok (record { kind = k; segment = s'; start = Some start }))
 
   found_here : (k : Kind) (start : ℕ) → AimsHere S s p k start → Found k s start
   unfolding Found
   found_here k start a = go a.pointer a.stands.1 (says_kind s p a.pointer a.offset k start a.says (begins_start p a.offset start a.begins)) a.says
     where
-      go : (r : Pointer) → pointer_of (slice_index (segment S s) p) ≡ Some r → aim_here s p r ≡ Some (record { kind = k; segment = s; start = Some start }) → IsBodyPointer r a.offset k
-          → (r : Pointer) × (pointer_of (slice_index (segment S s) p) ≡ Some r) × (aim_by at S r ≡ Ok (record { kind = k; segment = s; start = Some start }))
-      go (pointers.Struct o d n) is e says = (pointers.Struct o d n, is, ap (pad_or at) e)
-      go (pointers.List o size n) is e says = (pointers.List o size n, is, ap (pad_or at) e)
+      go : (r : Pointer) → pointer_of (slice_index (segment S s) p) ≡ Some r → target_here s p r ≡ Some (record { kind = k; segment = s; start = Some start }) → IsBodyPointer r a.offset k
+          → (r : Pointer) × (pointer_of (slice_index (segment S s) p) ≡ Some r) × (target_by at S r ≡ Ok (record { kind = k; segment = s; start = Some start }))
+      go (pointers.Struct o d n) is e says = (pointers.Struct o d n, is, ap (or_bad_pad at) e)
+      go (pointers.List o size n) is e says = (pointers.List o size n, is, ap (or_bad_pad at) e)
       go pointers.Null is e says = absurd says
       go (pointers.Cap i) is e says = absurd says
       go (pointers.Far double place other) is e says = absurd says
@@ -109,22 +109,22 @@ module _ (S : List (List ℕ)) (s p : ℕ) where
   -- the word holds a pointer that leads to this body
   pub record Led (f : Form) (s' start : ℕ) : Type 0 where
     pub pointer : Pointer
-    pub aim : Aim
+    pub target : Target
     pub says : pointer_of (slice_index (segment S s) p) ≡ Some pointer
-    pub aims : aim_by at S pointer ≡ Ok aim
-    pub area : area_by at S aim ≡ Ok (record { form = f; segment = s'; start = start })
+    pub aims : target_by at S pointer ≡ Ok target
+    pub area : area_by at S target ≡ Ok (record { form = f; segment = s'; start = start })
 
   pub led : (f : Form) (s' start : ℕ) → IsWhole f → Locates S s p f s' start → Led f s' start
   unfolding Found
   led (forms.Struct d n) s' start w l =
       let a = aims_found (kinds.Struct d n) s' start l.aims in
-      record { pointer = a.0; aim = record { kind = kinds.Struct d n; segment = s'; start = Some start }; says = a.1; aims = a.2; area = rw (fits (segment S s') (d + n) start l.inside) refl }
+      record { pointer = a.0; target = record { kind = kinds.Struct d n; segment = s'; start = Some start }; says = a.1; aims = a.2; area = rw (fits (segment S s') (d + n) start l.inside) refl }
   led (forms.Structs d n k) s' start w l =
       let a = aims_found (kinds.List sizes.Composite l.0) s' l.1 l.2.aims in
       let room : nat_lt l.0 (k * (d + n)) ≡ false = grind (arith, nat_tests, l.4) in
       record {
         pointer = a.0;
-        aim = record { kind = kinds.List sizes.Composite l.0; segment = s'; start = Some l.1 };
+        target = record { kind = kinds.List sizes.Composite l.0; segment = s'; start = Some l.1 };
         says = a.1;
         aims = a.2;
         area = rw (fits (segment S s') (l.0 + 1) l.1 l.2.inside, l.3, room, l.5) refl;
@@ -132,81 +132,81 @@ module _ (S : List (List ℕ)) (s p : ℕ) where
   led (forms.List sizes.Composite n) s' start w l = absurd w
   led (forms.List size n) s' start w l =
       let a = aims_found (kinds.List size n) s' start l.aims in
-      record { pointer = a.0; aim = record { kind = kinds.List size n; segment = s'; start = Some start }; says = a.1; aims = a.2; area = rw (fits (segment S s') (words_for size n) start l.inside) refl }
+      record { pointer = a.0; target = record { kind = kinds.List size n; segment = s'; start = Some start }; says = a.1; aims = a.2; area = rw (fits (segment S s') (words_for size n) start l.inside) refl }
 
-pub toll_taken : (at : Place) (n price left : ℕ) → 0 < n → price ≤ left → toll at n price left ≡ Ok (left - price)
-toll_taken at n price left deep room =
+pub charge_taken : (at : Place) (n price budget : ℕ) → 0 < n → price ≤ budget → budget_after at n price budget ≡ Ok (budget - price)
+charge_taken at n price budget deep room =
     let a : (n == 0) ≡ false = grind (arith, nat_tests) in
-    let b : nat_lt left price ≡ false = grind (arith, nat_tests) in
+    let b : nat_lt budget price ≡ false = grind (arith, nat_tests) in
     rw (a, b)
 
 -- A word leads to a body, and the body is read where one level less and its price less are left.
-body_read : (S : List (List ℕ)) (s p n left : ℕ) (t : Node) (s' q : ℕ) → IsBody t → Locates S s p (form_of t) s' q → depth t ≤ n → cost t ≤ left
-    → filled (rows_at (n - 1) S) S (form_of t) s' q (left - price (form_of t)) ≡ Ok (t, left - price (form_of t) - inner_cost t)
-    → tree_at n S s p left ≡ Ok (t, left - cost t)
-body_read S s p n left t s' q b l deep dear e =
+body_read : (S : List (List ℕ)) (s p n budget : ℕ) (t : Node) (s' q : ℕ) → IsBody t → Locates S s p (form_of t) s' q → depth t ≤ n → cost t ≤ budget
+    → filled (rows_at (n - 1) S) S (form_of t) s' q (budget - price (form_of t)) ≡ Ok (t, budget - price (form_of t) - inner_cost t)
+    → tree_at n S s p budget ≡ Ok (t, budget - cost t)
+body_read S s p n budget t s' q b l deep dear e =
     let h = led S s p (form_of t) s' q (form_of-whole t) l in
     let d = depth-body t b in
     let c = cost-body t b in
-    let paid = toll_taken (at S s p) n (price (form_of t)) left (omega arith) (omega arith) in
-    let rest : left - price (form_of t) - inner_cost t ≡ left - cost t = omega arith in
-    ap (pointer_by (at S s p) (kids_at n S) S left) h.says
-    ∙ aimed (at S s p) (kids_at n S) S left h.pointer h.aim h.aims
-    ∙ ap (λ r. r >>= body_by (at S s p) (kids_at n S) S left) h.area
-    ∙ rw (entered_ok (at S s p) S (price (form_of t)) left n _ paid) (e ∙ ap (λ m. Ok (t, m)) rest)
+    let paid = charge_taken (at S s p) n (price (form_of t)) budget (omega arith) (omega arith) in
+    let rest : budget - price (form_of t) - inner_cost t ≡ budget - cost t = omega arith in
+    ap (pointer_by (at S s p) (kids_at n S) S budget) h.says
+    ∙ aimed (at S s p) (kids_at n S) S budget h.pointer h.target h.aims
+    ∙ ap (λ r. r >>= body_by (at S s p) (kids_at n S) S budget) h.area
+    ∙ rw (charged_ok (at S s p) S (price (form_of t)) budget n _ paid) (e ∙ ap (λ m. Ok (t, m)) rest)
 
 -- a list without pointers
-list_filled : (es : Elements) (kids : Kids) (S : List (List ℕ)) (s q left : ℕ) → Fills S s q (list es) → filled kids S (form_of (list es)) s q left ≡ Ok (list es, left - 0)
-list_filled (voids n) kids S s q left h = let none : left - 0 ≡ left = omega arith in rw none refl
-list_filled es kids S s q left h = let none : left - 0 ≡ left = omega arith in rw none (ap (λ e. Ok (list e, left)) (sym h))
+list_filled : (es : Elements) (kids : Kids) (S : List (List ℕ)) (s q budget : ℕ) → Fills S s q (list es) → filled kids S (form_of (list es)) s q budget ≡ Ok (list es, budget - 0)
+list_filled (voids n) kids S s q budget h = let none : budget - 0 ≡ budget = omega arith in rw none refl
+list_filled es kids S s q budget h = let none : budget - 0 ≡ budget = omega arith in rw none (ap (λ e. Ok (list e, budget)) (sym h))
 
 mutual
   unfolding row_by bodies_by
 
   -- a tree that is denoted within the limits is read, and its cost is taken
-  pub complete : (t : Node) (n : ℕ) (S : List (List ℕ)) (s p left : ℕ) → Denotes S s p t → depth t ≤ n → cost t ≤ left → tree_at n S s p left ≡ Ok (t, left - cost t)
-  complete null n S s p left h deep dear = let e : left - 0 ≡ left = omega arith in rw (h.1, e)
-  complete (cap i) n S s p left h deep dear = let e : left - 0 ≡ left = omega arith in rw (h.1, e)
-  complete (struct ws ts) n S s p left h deep dear =
-      let rest = left - (1 + length ws + count ts) in
+  pub complete : (t : Node) (n : ℕ) (S : List (List ℕ)) (s p budget : ℕ) → Denotes S s p t → depth t ≤ n → cost t ≤ budget → tree_at n S s p budget ≡ Ok (t, budget - cost t)
+  complete null n S s p budget h deep dear = let e : budget - 0 ≡ budget = omega arith in rw (h.1, e)
+  complete (cap i) n S s p budget h deep dear = let e : budget - 0 ≡ budget = omega arith in rw (h.1, e)
+  complete (struct ws ts) n S s p budget h deep dear =
+      let rest = budget - (1 + length ws + count ts) in
       let row = complete_row ts (n - 1) S h.0 (h.1 + length ws) rest h.3.1 (omega (arith, deep)) (omega (arith, dear)) in
-      body_read S s p n left (struct ws ts) h.0 h.1 tt h.2 deep dear (rw row (ap (λ w. Ok (struct w ts, rest - total_cost ts)) (sym h.3.0)))
-  complete (list es) n S s p left h deep dear = body_read S s p n left (list es) h.0 h.1 tt h.2 deep dear (list_filled es (rows_at (n - 1) S) S h.0 h.1 (left - price (form_of (list es))) h.3)
-  complete (ptrs ts) n S s p left h deep dear =
+      body_read S s p n budget (struct ws ts) h.0 h.1 tt h.2 deep dear (rw row (ap (λ w. Ok (struct w ts, rest - total_cost ts)) (sym h.3.0)))
+  complete (list es) n S s p budget h deep dear = body_read S s p n budget (list es) h.0 h.1 tt h.2 deep dear (list_filled es (rows_at (n - 1) S) S h.0 h.1 (budget - price (form_of (list es))) h.3)
+  complete (ptrs ts) n S s p budget h deep dear =
       let size : (count ts * 64 + 63) / 64 ≡ count ts = omega arith in
-      let rest = left - (1 + (count ts * 64 + 63) / 64) in
+      let rest = budget - (1 + (count ts * 64 + 63) / 64) in
       let row = complete_row ts (n - 1) S h.0 h.1 rest h.3 (omega (arith, deep)) (omega (arith, dear)) in
-      body_read S s p n left (ptrs ts) h.0 h.1 tt h.2 deep dear (rw row)
-  complete (structs d c bs) n S s p left h deep dear =
-      let rest = left - (2 + number_of bs * (1 + d + c)) in
+      body_read S s p n budget (ptrs ts) h.0 h.1 tt h.2 deep dear (rw row)
+  complete (structs d c bs) n S s p budget h deep dear =
+      let rest = budget - (2 + number_of bs * (1 + d + c)) in
       let rows = complete_bodies bs d c (n - 1) S h.0 h.1 rest h.3 (omega (arith, deep)) (omega (arith, dear)) in
-      body_read S s p n left (structs d c bs) h.0 h.1 tt h.2 deep dear (rw rows)
+      body_read S s p n budget (structs d c bs) h.0 h.1 tt h.2 deep dear (rw rows)
 
-  pub complete_row : (ts : Nodes) (n : ℕ) (S : List (List ℕ)) (s p left : ℕ) → EachDenotes S s p ts → greatest_depth ts ≤ n → total_cost ts ≤ left → rows_at n S s (count ts) p left ≡ Ok (ts, left - total_cost ts)
-  complete_row no_nodes n S s p left h deep dear = let e : left - 0 ≡ left = omega arith in rw e
-  complete_row (node t ts) n S s p left h deep dear =
-      let one = complete t n S s p left h.0 (omega (arith, deep)) (omega (arith, dear)) in
-      let others = complete_row ts n S s (p + 1) (left - cost t) h.1 (omega (arith, deep)) (omega (arith, dear)) in
-      let e : left - cost t - total_cost ts ≡ left - (cost t + total_cost ts) = omega arith in
+  pub complete_row : (ts : Nodes) (n : ℕ) (S : List (List ℕ)) (s p budget : ℕ) → EachDenotes S s p ts → greatest_depth ts ≤ n → total_cost ts ≤ budget → rows_at n S s (count ts) p budget ≡ Ok (ts, budget - total_cost ts)
+  complete_row no_nodes n S s p budget h deep dear = let e : budget - 0 ≡ budget = omega arith in rw e
+  complete_row (node t ts) n S s p budget h deep dear =
+      let one = complete t n S s p budget h.0 (omega (arith, deep)) (omega (arith, dear)) in
+      let others = complete_row ts n S s (p + 1) (budget - cost t) h.1 (omega (arith, deep)) (omega (arith, dear)) in
+      let e : budget - cost t - total_cost ts ≡ budget - (cost t + total_cost ts) = omega arith in
       rw (one, others, e)
 
-  pub complete_bodies : (bs : Bodies) (d c n : ℕ) (S : List (List ℕ)) (s q left : ℕ) → EachBody S s q d c bs → deepest_body bs ≤ n → body_cost bs ≤ left
-      → bodies_by (rows_at n S s) S s d c (number_of bs) q left ≡ Ok (bs, left - body_cost bs)
-  complete_bodies no_bodies d c n S s q left h deep dear = let e : left - 0 ≡ left = omega arith in rw e
-  complete_bodies (body ws ts bs) d c n S s q left h deep dear =
-      let row = complete_row ts n S s (q + d) left h.3 (omega (arith, deep)) (omega (arith, dear)) in
-      let row' : rows_at n S s c (q + d) left ≡ Ok (ts, left - total_cost ts) = rw h.1 at row in
-      let others = complete_bodies bs d c n S s (q + d + c) (left - total_cost ts) h.4 (omega (arith, deep)) (omega (arith, dear)) in
-      let e : left - total_cost ts - body_cost bs ≡ left - (total_cost ts + body_cost bs) = omega arith in
-      rw (row', others, e) (ap (λ w. Ok (body w ts bs, left - (total_cost ts + body_cost bs))) (sym h.2))
+  pub complete_bodies : (bs : Bodies) (d c n : ℕ) (S : List (List ℕ)) (s q budget : ℕ) → EachBody S s q d c bs → deepest_body bs ≤ n → body_cost bs ≤ budget
+      → bodies_by (rows_at n S s) S s d c (number_of bs) q budget ≡ Ok (bs, budget - body_cost bs)
+  complete_bodies no_bodies d c n S s q budget h deep dear = let e : budget - 0 ≡ budget = omega arith in rw e
+  complete_bodies (body ws ts bs) d c n S s q budget h deep dear =
+      let row = complete_row ts n S s (q + d) budget h.3 (omega (arith, deep)) (omega (arith, dear)) in
+      let row' : rows_at n S s c (q + d) budget ≡ Ok (ts, budget - total_cost ts) = rw h.1 at row in
+      let others = complete_bodies bs d c n S s (q + d + c) (budget - total_cost ts) h.4 (omega (arith, deep)) (omega (arith, dear)) in
+      let e : budget - total_cost ts - body_cost bs ≡ budget - (total_cost ts + body_cost bs) = omega arith in
+      rw (row', others, e) (ap (λ w. Ok (body w ts bs, budget - (total_cost ts + body_cost bs))) (sym h.2))
 
 -- a body that stands there is read
-pub fills_read : (t : Node) (n : ℕ) (S : List (List ℕ)) (s q left : ℕ) → Fills S s q t → inner_depth t ≤ n → inner_cost t ≤ left → filled (rows_at n S) S (form_of t) s q left ≡ Ok (t, left - inner_cost t)
-fills_read null n S s q left h deep dear = absurd h
-fills_read (cap i) n S s q left h deep dear = absurd h
-fills_read (struct ws ts) n S s q left h deep dear =
-    let row = complete_row ts n S s (q + length ws) left h.1 deep dear in
-    rw row (ap (λ w. Ok (struct w ts, left - total_cost ts)) (sym h.0))
-fills_read (list es) n S s q left h deep dear = list_filled es (rows_at n S) S s q left h
-fills_read (ptrs ts) n S s q left h deep dear = let row = complete_row ts n S s q left h deep dear in rw row refl
-fills_read (structs d c bs) n S s q left h deep dear = let rows = complete_bodies bs d c n S s q left h deep dear in rw rows refl
+pub fills_read : (t : Node) (n : ℕ) (S : List (List ℕ)) (s q budget : ℕ) → Fills S s q t → inner_depth t ≤ n → inner_cost t ≤ budget → filled (rows_at n S) S (form_of t) s q budget ≡ Ok (t, budget - inner_cost t)
+fills_read null n S s q budget h deep dear = absurd h
+fills_read (cap i) n S s q budget h deep dear = absurd h
+fills_read (struct ws ts) n S s q budget h deep dear =
+    let row = complete_row ts n S s (q + length ws) budget h.1 deep dear in
+    rw row (ap (λ w. Ok (struct w ts, budget - total_cost ts)) (sym h.0))
+fills_read (list es) n S s q budget h deep dear = list_filled es (rows_at n S) S s q budget h
+fills_read (ptrs ts) n S s q budget h deep dear = let row = complete_row ts n S s q budget h deep dear in rw row refl
+fills_read (structs d c bs) n S s q budget h deep dear = let rows = complete_bodies bs d c n S s q budget h deep dear in rw rows refl

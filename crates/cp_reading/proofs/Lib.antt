@@ -1,6 +1,6 @@
 pub mod Nears
 pub mod Checks
-pub mod Entries
+pub mod Charges
 pub mod Fills
 pub mod Sound
 pub mod Complete

@@ -8,10 +8,10 @@ use Rattle.cp_words.specs.declared.pointer.Pointer.TheVariants as pointers
 use Rattle.cp_words.specs.declared.pointer.Tag.{Tag}
 use Rattle.cp_words.specs.declared.pointer.ElementSize.TheVariants as sizes
 use Rattle.cp_words.specs.Aims.{segment, Holds, IsBodyPointer, IsPadTag, Aims}
-use Rattle.cp_reading.specs.Faults.{kind_words, StartsBefore, HasNoRoom, FaultBy}
+use Rattle.cp_reading.specs.Faults.{kind_words, StartsBefore, IsOutOfBounds, FaultBy}
 use Rattle.cp_reading.specs.Pruned.{IsReachable}
-use Rattle.cp_reading.specs.Reading.{◌>>=◌, start_of, in_segment, placed, tagged, aim_here, tag_kind_of, aim_second, aim_two, pad_or, pad_one, aim_far, aim_by, area_by_kind, area_by}
-use Rattle.cp_reading.specs.declared.aim.Aim.{Aim}
+use Rattle.cp_reading.specs.Reading.{◌>>=◌, start_of, in_segment, placed, tagged, target_here, tag_kind_of, target_second, target_by_two, or_bad_pad, target_by_one, target_by_far, target_by, area_by_kind, area_by}
+use Rattle.cp_reading.specs.declared.target.Target.{Target}
 use Rattle.cp_words.specs.declared.kind.Kind.{Kind}
 use Rattle.cp_words.specs.declared.kind.Kind.TheVariants as kinds
 use Rattle.cp_reading.specs.declared.area.Area.{Area}
@@ -21,7 +21,7 @@ use Rattle.cp_reading.specs.declared.fault.TreeFault.{TreeFault}
 use Rattle.cp_reading.specs.declared.fault.TreeFault.TheVariants as faults
 use Rattle.cp_reading.proofs.Sound.{ok_is, passed, inside_is, placed_is, tag_sound, aim_sound}
 
--- a step that failed, or the one behind it did
+-- a step that failed, or the one after it did
 pub bind_err : {A B : Type 0} (r : Result A TreeFault) (f : A → Result B TreeFault) (e : TreeFault) → (r >>= f) ≡ Err e → (r ≡ Err e) ⊎ ((x : A) × (r ≡ Ok x) × (f x ≡ Err e))
 bind_err (Ok x) f e h = inr (x, refl, h)
 bind_err (Err d) f e h = let is : d ≡ e = cc in inl (rw is refl)
@@ -50,10 +50,10 @@ module _ (S : List (List ℕ)) (s p : ℕ) (deep dear : Type 0) (reach : IsReach
   Faulty = FaultBy S deep dear
 
   -- the pad of one word
-  one_fails : (place s' : ℕ) (e : TreeFault) → Holds S s p (pointers.Far false place s') → place < length (segment S s') → (o : Option Pointer) → pointer_of (slice_index (segment S s') place) ≡ o → pad_one at s' place o ≡ Err e → Faulty e
+  one_fails : (place s' : ℕ) (e : TreeFault) → Holds S s p (pointers.Far false place s') → place < length (segment S s') → (o : Option Pointer) → pointer_of (slice_index (segment S s') place) ≡ o → target_by_one at s' place o ≡ Err e → Faulty e
   one_fails place s' e h within o is f = subst Faulty (pad_is o f) (reach, inl (place, s', h, (within, no_body o is f)))
     where
-      pad_is : (o : Option Pointer) → pad_one at s' place o ≡ Err e → faults.BadPad at ≡ e
+      pad_is : (o : Option Pointer) → target_by_one at s' place o ≡ Err e → faults.BadPad at ≡ e
       pad_is None f = err_is f
       pad_is (Some pointers.Null) f = err_is f
       pad_is (Some (pointers.Cap i)) f = err_is f
@@ -61,7 +61,7 @@ module _ (S : List (List ℕ)) (s p : ℕ) (deep dear : Type 0) (reach : IsReach
       pad_is (Some (pointers.Struct o d n)) f = cc
       pad_is (Some (pointers.List o size n)) f = cc
 
-      no_body : (o : Option Pointer) → pointer_of (slice_index (segment S s') place) ≡ o → pad_one at s' place o ≡ Err e → (r : Pointer) (i : ℤ) (k : Kind) → pointer_of (slice_index (segment S s') place) ≡ Some r → IsBodyPointer r i k → ⊥
+      no_body : (o : Option Pointer) → pointer_of (slice_index (segment S s') place) ≡ o → target_by_one at s' place o ≡ Err e → (r : Pointer) (i : ℤ) (k : Kind) → pointer_of (slice_index (segment S s') place) ≡ Some r → IsBodyPointer r i k → ⊥
       no_body None is f r i k says b = let wrong : ◌≡◌ {A = Option Pointer} None (Some r) = sym is ∙ says in cc
       no_body (Some pointers.Null) is f r i k says b = let same : ◌≡◌ {A = Option Pointer} (Some pointers.Null) (Some r) = sym is ∙ says in let q : pointers.Null ≡ r = cc in subst (λ x. IsBodyPointer x i k) (sym q) b
       no_body (Some (pointers.Cap j)) is f r i k says b = let same : ◌≡◌ {A = Option Pointer} (Some (pointers.Cap j)) (Some r) = sym is ∙ says in let q : pointers.Cap j ≡ r = cc in subst (λ x. IsBodyPointer x i k) (sym q) b
@@ -87,17 +87,17 @@ module _ (S : List (List ℕ)) (s p : ℕ) (deep dear : Type 0) (reach : IsReach
     bad : (e : TreeFault) → faults.BadPad at ≡ e → NoPad → Faulty e
     bad e is none = subst Faulty is (reach, inr (place, other, h, room, none))
 
-    second_fails : (start s' : ℕ) (e : TreeFault) → word_at place ≡ Some (pointers.Far false start s') → (o : Option Kind) → tag_kind_of (word_at (place + 1)) ≡ o → aim_second at S start s' o ≡ Err e → Faulty e
+    second_fails : (start s' : ℕ) (e : TreeFault) → word_at place ≡ Some (pointers.Far false start s') → (o : Option Kind) → tag_kind_of (word_at (place + 1)) ≡ o → target_second at S start s' o ≡ Err e → Faulty e
     second_fails start s' e f None t g = bad e (err_is g) (λ begin s'' r k first second tag. no_tag (word_at (place + 1)) r k t second tag)
     second_fails start s' e f (Some k) t g = go (tested (nat_lt s' (length S)) _ _ e g)
       where
-        go : ((nat_lt s' (length S) ≡ true) × (◌≡◌ {A = Result Aim TreeFault} (Ok (record { kind = k; segment = s'; start = Some start })) (Err e))) ⊎ ((nat_lt s' (length S) ≡ false) × (faults.NoSegment at ≡ e)) → Faulty e
+        go : ((nat_lt s' (length S) ≡ true) × (◌≡◌ {A = Result Target TreeFault} (Ok (record { kind = k; segment = s'; start = Some start })) (Err e))) ⊎ ((nat_lt s' (length S) ≡ false) × (faults.NoSegment at ≡ e)) → Faulty e
         go (inl x) = let wrong = x.1 in cc
         go (inr x) =
             let tag = tag_sound (word_at (place + 1)) k t in
             subst Faulty x.1 (reach, inr (place, other, start, s', tag.0, k, h, (omega (arith, room), f), (room, tag.1), tag.2, grind (arith, nat_tests, x.0)))
 
-    two_fails : (one : Option Pointer) (e : TreeFault) → word_at place ≡ one → aim_two at S one (word_at (place + 1)) ≡ Err e → Faulty e
+    two_fails : (one : Option Pointer) (e : TreeFault) → word_at place ≡ one → target_by_two at S one (word_at (place + 1)) ≡ Err e → Faulty e
     two_fails None e f g = bad e (err_is g) (λ start s' r k first second tag. let wrong : ◌≡◌ {A = Option Pointer} None (Some (pointers.Far false start s')) = sym f ∙ first in cc)
     two_fails (Some pointers.Null) e f g = bad e (err_is g) (λ start s' r k first second tag. let wrong : ◌≡◌ {A = Option Pointer} (Some pointers.Null) (Some (pointers.Far false start s')) = sym f ∙ first in cc)
     two_fails (Some (pointers.Cap i)) e f g = bad e (err_is g) (λ start s' r k first second tag. let wrong : ◌≡◌ {A = Option Pointer} (Some (pointers.Cap i)) (Some (pointers.Far false start s')) = sym f ∙ first in cc)
@@ -107,28 +107,28 @@ module _ (S : List (List ℕ)) (s p : ℕ) (deep dear : Type 0) (reach : IsReach
     two_fails (Some (pointers.Far false start s')) e f g = second_fails start s' e f (tag_kind_of (word_at (place + 1))) refl g
 
   -- a far pointer
-  far_fails : (double : Bool) (place other : ℕ) (e : TreeFault) → Holds S s p (pointers.Far double place other) → aim_far at S double place other ≡ Err e → Faulty e
+  far_fails : (double : Bool) (place other : ℕ) (e : TreeFault) → Holds S s p (pointers.Far double place other) → target_by_far at S double place other ≡ Err e → Faulty e
   far_fails false place other e h f = go (tested (nat_lt other (length S)) _ _ e f)
     where
-      inside : other < length S → ((nat_lt place (length (segment S other)) ≡ true) × (pad_one at other place (pointer_of (slice_index (segment S other) place)) ≡ Err e)) ⊎ ((nat_lt place (length (segment S other)) ≡ false) × (faults.OutOfBounds at ≡ e)) → Faulty e
+      inside : other < length S → ((nat_lt place (length (segment S other)) ≡ true) × (target_by_one at other place (pointer_of (slice_index (segment S other) place)) ≡ Err e)) ⊎ ((nat_lt place (length (segment S other)) ≡ false) × (faults.OutOfBounds at ≡ e)) → Faulty e
       inside exists (inl x) = one_fails place other e h (grind (arith, nat_tests, x.0)) _ refl x.1
       inside exists (inr x) = subst Faulty x.1 (reach, inl (place, other, h, exists, grind (arith, nat_tests, x.0)))
 
-      go : ((nat_lt other (length S) ≡ true) × (cond (nat_lt place (length (segment S other))) (pad_one at other place (pointer_of (slice_index (segment S other) place))) (Err (faults.OutOfBounds at)) ≡ Err e)) ⊎ ((nat_lt other (length S) ≡ false) × (faults.NoSegment at ≡ e)) → Faulty e
+      go : ((nat_lt other (length S) ≡ true) × (cond (nat_lt place (length (segment S other))) (target_by_one at other place (pointer_of (slice_index (segment S other) place))) (Err (faults.OutOfBounds at)) ≡ Err e)) ⊎ ((nat_lt other (length S) ≡ false) × (faults.NoSegment at ≡ e)) → Faulty e
       go (inl x) = inside (grind (arith, nat_tests, x.0)) (tested (nat_lt place (length (segment S other))) _ _ e x.1)
       go (inr x) = subst Faulty x.1 (reach, inl (false, place, other, h, grind (arith, nat_tests, x.0)))
   far_fails true place other e h f = go (tested (nat_lt other (length S)) _ _ e f)
     where
-      inside : other < length S → ((nat_lt (place + 1) (length (segment S other)) ≡ true) × (aim_two at S (pointer_of (slice_index (segment S other) place)) (pointer_of (slice_index (segment S other) (place + 1))) ≡ Err e)) ⊎ ((nat_lt (place + 1) (length (segment S other)) ≡ false) × (faults.OutOfBounds at ≡ e)) → Faulty e
+      inside : other < length S → ((nat_lt (place + 1) (length (segment S other)) ≡ true) × (target_by_two at S (pointer_of (slice_index (segment S other) place)) (pointer_of (slice_index (segment S other) (place + 1))) ≡ Err e)) ⊎ ((nat_lt (place + 1) (length (segment S other)) ≡ false) × (faults.OutOfBounds at ≡ e)) → Faulty e
       inside exists (inl x) = two_fails place other h (grind (arith, nat_tests, x.0)) _ e refl x.1
       inside exists (inr x) = subst Faulty x.1 (reach, inr (inl (place, other, h, exists, grind (arith, nat_tests, x.0))))
 
-      go : ((nat_lt other (length S) ≡ true) × (cond (nat_lt (place + 1) (length (segment S other))) (aim_two at S (pointer_of (slice_index (segment S other) place)) (pointer_of (slice_index (segment S other) (place + 1)))) (Err (faults.OutOfBounds at)) ≡ Err e)) ⊎ ((nat_lt other (length S) ≡ false) × (faults.NoSegment at ≡ e)) → Faulty e
+      go : ((nat_lt other (length S) ≡ true) × (cond (nat_lt (place + 1) (length (segment S other))) (target_by_two at S (pointer_of (slice_index (segment S other) place)) (pointer_of (slice_index (segment S other) (place + 1)))) (Err (faults.OutOfBounds at)) ≡ Err e)) ⊎ ((nat_lt other (length S) ≡ false) × (faults.NoSegment at ≡ e)) → Faulty e
       go (inl x) = inside (grind (arith, nat_tests, x.0)) (tested (nat_lt (place + 1) (length (segment S other))) _ _ e x.1)
       go (inr x) = subst Faulty x.1 (reach, inl (true, place, other, h, grind (arith, nat_tests, x.0)))
 
   -- what the way to a body says
-  pub aim_fails : (r : Pointer) (e : TreeFault) → Holds S s p r → aim_by at S r ≡ Err e → (((x : ℕ) → r ≡ pointers.Cap x → ⊥) × (r ≡ pointers.Null → ⊥)) → Faulty e
+  pub aim_fails : (r : Pointer) (e : TreeFault) → Holds S s p r → target_by at S r ≡ Err e → (((x : ℕ) → r ≡ pointers.Cap x → ⊥) × (r ≡ pointers.Null → ⊥)) → Faulty e
   aim_fails (pointers.Far double place other) e h f other_kind = far_fails double place other e h f
   aim_fails pointers.Null e h f other_kind = absurd (other_kind.1 refl)
   aim_fails (pointers.Cap i) e h f other_kind = absurd (other_kind.0 i refl)
@@ -139,52 +139,52 @@ module _ (S : List (List ℕ)) (s p : ℕ) (deep dear : Type 0) (reach : IsReach
   abbrev Before : Type 0
   Before = StartsBefore S s p ⊎ ((place : ℕ) × (other : ℕ) × Holds S s p (pointers.Far false place other) × StartsBefore S other place)
 
-  here_before : (t q : ℕ) (r : Pointer) (aim : Aim) → Holds S t q r → aim_here t q r ≡ Some aim → aim.start ≡ None → StartsBefore S t q
-  here_before t q pointers.Null aim h e none = cc
-  here_before t q (pointers.Cap i) aim h e none = cc
-  here_before t q (pointers.Far double place other) aim h e none = cc
-  here_before t q (pointers.Struct offset d n) aim h e none =
-      let is : record { kind = kinds.Struct d n; segment = t; start = start_of q offset } ≡ aim = cc in
-      let first : start_of q offset ≡ None = ap (λ (a : Aim). a.start) is ∙ none in
+  here_before : (t q : ℕ) (r : Pointer) (target : Target) → Holds S t q r → target_here t q r ≡ Some target → target.start ≡ None → StartsBefore S t q
+  here_before t q pointers.Null target h e none = cc
+  here_before t q (pointers.Cap i) target h e none = cc
+  here_before t q (pointers.Far double place other) target h e none = cc
+  here_before t q (pointers.Struct offset d n) target h e none =
+      let is : record { kind = kinds.Struct d n; segment = t; start = start_of q offset } ≡ target = cc in
+      let first : start_of q offset ≡ None = ap (λ (a : Target). a.start) is ∙ none in
       (pointers.Struct offset d n, offset, kinds.Struct d n, h, (refl, refl), start_none q offset first)
-  here_before t q (pointers.List offset size n) aim h e none =
-      let is : record { kind = kinds.List size n; segment = t; start = start_of q offset } ≡ aim = cc in
-      let first : start_of q offset ≡ None = ap (λ (a : Aim). a.start) is ∙ none in
+  here_before t q (pointers.List offset size n) target h e none =
+      let is : record { kind = kinds.List size n; segment = t; start = start_of q offset } ≡ target = cc in
+      let first : start_of q offset ≡ None = ap (λ (a : Target). a.start) is ∙ none in
       (pointers.List offset size n, offset, kinds.List size n, h, (refl, refl), start_none q offset first)
 
-  pub aim_before : (r : Pointer) (aim : Aim) → Holds S s p r → aim_by at S r ≡ Ok aim → aim.start ≡ None → Before
-  aim_before pointers.Null aim h e none = cc
-  aim_before (pointers.Cap i) aim h e none = cc
-  aim_before (pointers.Struct offset d n) aim h e none = inl (here_before s p (pointers.Struct offset d n) aim h (ap (λ x. Some x) (ok_is e)) none)
-  aim_before (pointers.List offset size n) aim h e none = inl (here_before s p (pointers.List offset size n) aim h (ap (λ x. Some x) (ok_is e)) none)
-  aim_before (pointers.Far false place other) aim h e none =
-      let k = passed (nat_lt other (length S)) _ _ aim e in
-      let j = passed (nat_lt place (length (segment S other))) _ _ aim k.1 in
+  pub aim_before : (r : Pointer) (target : Target) → Holds S s p r → target_by at S r ≡ Ok target → target.start ≡ None → Before
+  aim_before pointers.Null target h e none = cc
+  aim_before (pointers.Cap i) target h e none = cc
+  aim_before (pointers.Struct offset d n) target h e none = inl (here_before s p (pointers.Struct offset d n) target h (ap (λ x. Some x) (ok_is e)) none)
+  aim_before (pointers.List offset size n) target h e none = inl (here_before s p (pointers.List offset size n) target h (ap (λ x. Some x) (ok_is e)) none)
+  aim_before (pointers.Far false place other) target h e none =
+      let k = passed (nat_lt other (length S)) _ _ target e in
+      let j = passed (nat_lt place (length (segment S other))) _ _ target k.1 in
       go (grind (arith, nat_tests, j.0)) (pointer_of (slice_index (segment S other) place)) refl j.1
     where
-      padded : (o : Option Aim) (r : Pointer) → place < length (segment S other) → pointer_of (slice_index (segment S other) place) ≡ Some r → aim_here other place r ≡ o → pad_or at o ≡ Ok aim → Before
+      padded : (o : Option Target) (r : Pointer) → place < length (segment S other) → pointer_of (slice_index (segment S other) place) ≡ Some r → target_here other place r ≡ o → or_bad_pad at o ≡ Ok target → Before
       padded None r within says g f = cc
       padded (Some a) r within says g f =
-          let is : a ≡ aim = ok_is f in
-          inr (place, other, h, here_before other place r a (within, says) g (ap (λ (a : Aim). a.start) is ∙ none))
+          let is : a ≡ target = ok_is f in
+          inr (place, other, h, here_before other place r a (within, says) g (ap (λ (a : Target). a.start) is ∙ none))
 
-      go : place < length (segment S other) → (o : Option Pointer) → pointer_of (slice_index (segment S other) place) ≡ o → pad_one at other place o ≡ Ok aim → Before
+      go : place < length (segment S other) → (o : Option Pointer) → pointer_of (slice_index (segment S other) place) ≡ o → target_by_one at other place o ≡ Ok target → Before
       go within None says f = cc
-      go within (Some r) says f = padded (aim_here other place r) r within says refl f
-  aim_before (pointers.Far true place other) aim h e none =
-      let k = passed (nat_lt other (length S)) _ _ aim e in
-      let j = passed (nat_lt (place + 1) (length (segment S other))) _ _ aim k.1 in
+      go within (Some r) says f = padded (target_here other place r) r within says refl f
+  aim_before (pointers.Far true place other) target h e none =
+      let k = passed (nat_lt other (length S)) _ _ target e in
+      let j = passed (nat_lt (place + 1) (length (segment S other))) _ _ target k.1 in
       two (pointer_of (slice_index (segment S other) place)) (tag_kind_of (pointer_of (slice_index (segment S other) (place + 1)))) refl j.1
     where
-      second : (start s' : ℕ) (o : Option Kind) → aim_second at S start s' o ≡ Ok aim → Before
+      second : (start s' : ℕ) (o : Option Kind) → target_second at S start s' o ≡ Ok target → Before
       second start s' None f = cc
       second start s' (Some k) f =
-          let j = passed (nat_lt s' (length S)) _ _ aim f in
-          let begun : Some start ≡ aim.start = ap (λ (a : Aim). a.start) (ok_is j.1) in
+          let j = passed (nat_lt s' (length S)) _ _ target f in
+          let begun : Some start ≡ target.start = ap (λ (a : Target). a.start) (ok_is j.1) in
           let wrong : ◌≡◌ {A = Option ℕ} (Some start) None = begun ∙ none in
           cc
 
-      two : (one : Option Pointer) (o : Option Kind) → tag_kind_of (pointer_of (slice_index (segment S other) (place + 1))) ≡ o → aim_two at S one (pointer_of (slice_index (segment S other) (place + 1))) ≡ Ok aim → Before
+      two : (one : Option Pointer) (o : Option Kind) → tag_kind_of (pointer_of (slice_index (segment S other) (place + 1))) ≡ o → target_by_two at S one (pointer_of (slice_index (segment S other) (place + 1))) ≡ Ok target → Before
       two None o t f = cc
       two (Some pointers.Null) o t f = cc
       two (Some (pointers.Cap i)) o t f = cc
@@ -194,7 +194,7 @@ module _ (S : List (List ℕ)) (s p : ℕ) (deep dear : Type 0) (reach : IsReach
       two (Some (pointers.Far false start s')) o t f = second start s' (tag_kind_of (pointer_of (slice_index (segment S other) (place + 1)))) f
 
   -- what a body that isn't inside says
-  no_room : (e : TreeFault) → faults.OutOfBounds at ≡ e → HasNoRoom S s p → Faulty e
+  no_room : (e : TreeFault) → faults.OutOfBounds at ≡ e → IsOutOfBounds S s p → Faulty e
   no_room e is room = subst Faulty is (reach, room)
 
   -- where a body begins, or the fault
@@ -234,5 +234,5 @@ module _ (S : List (List ℕ)) (s p : ℕ) (deep dear : Type 0) (reach : IsReach
       go (inl g) = placed_fails (kinds.List size n) s' (words_for size n) o e refl before aims g
       go (inr g) = let wrong = g.2 in cc
 
-  pub area_fails : (r : Pointer) (aim : Aim) (e : TreeFault) → Holds S s p r → aim_by at S r ≡ Ok aim → area_by at S aim ≡ Err e → Faulty e
-  area_fails r aim e h aims f = kind_fails aim.segment aim.start aim.kind e (aim_before r aim h aims) (aim_sound S s p r aim h aims) f
+  pub area_fails : (r : Pointer) (target : Target) (e : TreeFault) → Holds S s p r → target_by at S r ≡ Ok target → area_by at S target ≡ Err e → Faulty e
+  area_fails r target e h aims f = kind_fails target.segment target.start target.kind e (aim_before r target h aims) (aim_sound S s p r target h aims) f

@@ -7,7 +7,7 @@ use Rattle.cp_words.specs.Aims.{segment}
 use Rattle.cp_reading.specs.Near.{Near}
 use Rattle.cp_reading.specs.Reading.{◌>>=◌, Kids, start_of, area_by, body_by, pointer_by, word_by}
 use Rattle.cp_reading.specs.Visited.{passed, pointers}
-use Rattle.cp_reading.specs.declared.aim.Aim.{Aim}
+use Rattle.cp_reading.specs.declared.target.Target.{Target}
 use Rattle.cp_words.specs.declared.kind.Kind.TheVariants as kinds
 use Rattle.cp_reading.specs.declared.area.Area.{Area}
 use Rattle.cp_words.specs.declared.place.Place.{Place}
@@ -39,20 +39,20 @@ pub near_list : (at : Place) (w : ℕ) → w % 4 ≡ 1
 near_list at w kind = record { pointer = pointers.List (offset_of w) (size_of (high_of w % 8)) (high_of w / 8); says = says_list w kind; aims = λ S. refl }
 
 -- what is read of such a word
-pub near_read : (at : Place) (w : ℕ) (aim : Aim) → Near at w aim → (kids : Option Kids) (S : List (List ℕ)) (left : ℕ) → pointer_by at kids S left (pointer_of w) ≡ (area_by at S aim >>= body_by at kids S left)
-near_read at w aim n kids S left = rw n.says (aimed at kids S left n.pointer aim (n.aims S))
+pub near_read : (at : Place) (w : ℕ) (target : Target) → Near at w target → (kids : Option Kids) (S : List (List ℕ)) (budget : ℕ) → pointer_by at kids S budget (pointer_of w) ≡ (area_by at S target >>= body_by at kids S budget)
+near_read at w target n kids S budget = rw n.says (aimed at kids S budget n.pointer target (n.aims S))
 
-module _ (at : Place) (w : ℕ) (kids : Option Kids) (S : List (List ℕ)) (left before : ℕ) (stands : slice_index (segment S at.segment) at.word ≡ w) where
+module _ (at : Place) (w : ℕ) (kids : Option Kids) (S : List (List ℕ)) (budget before : ℕ) (stands : slice_index (segment S at.segment) at.word ≡ w) where
   -- a word of zero bits leaves all
-  pub null_left : w ≡ 0 → passed pointers before (word_by kids S at.segment at.word left) ≡ Ok (left, before)
-  null_left none = ap (λ x. passed pointers before (pointer_by at kids S left (pointer_of x))) stands ∙ ap (λ o. passed pointers before (pointer_by at kids S left o)) (says_null w none) ∙ rw add-zero refl
+  pub null_left : w ≡ 0 → passed pointers before (word_by kids S at.segment at.word budget) ≡ Ok (budget, before)
+  null_left none = ap (λ x. passed pointers before (pointer_by at kids S budget (pointer_of x))) stands ∙ ap (λ o. passed pointers before (pointer_by at kids S budget o)) (says_null w none) ∙ rw add-zero refl
 
-  module _ (aim : Aim) (near : Near at w aim) where
-    word_is : word_by kids S at.segment at.word left ≡ (area_by at S aim >>= body_by at kids S left)
-    word_is = ap (λ x. pointer_by at kids S left (pointer_of x)) stands ∙ near_read at w aim near kids S left
+  module _ (target : Target) (near : Near at w target) where
+    word_is : word_by kids S at.segment at.word budget ≡ (area_by at S target >>= body_by at kids S budget)
+    word_is = ap (λ x. pointer_by at kids S budget (pointer_of x)) stands ∙ near_read at w target near kids S budget
 
-    pub near_fails : (e : TreeFault) → area_by at S aim ≡ Err e → passed pointers before (word_by kids S at.segment at.word left) ≡ Err e
-    near_fails e h = ap (passed pointers before) (word_is ∙ ap (λ o. o >>= body_by at kids S left) h)
+    pub near_fails : (e : TreeFault) → area_by at S target ≡ Err e → passed pointers before (word_by kids S at.segment at.word budget) ≡ Err e
+    near_fails e h = ap (passed pointers before) (word_is ∙ ap (λ o. o >>= body_by at kids S budget) h)
 
-    pub near_body : (a : Area) → area_by at S aim ≡ Ok a → passed pointers before (word_by kids S at.segment at.word left) ≡ passed pointers before (body_by at kids S left a)
-    near_body a h = ap (passed pointers before) (word_is ∙ ap (λ o. o >>= body_by at kids S left) h)
+    pub near_body : (a : Area) → area_by at S target ≡ Ok a → passed pointers before (word_by kids S at.segment at.word budget) ≡ passed pointers before (body_by at kids S budget a)
+    near_body a h = ap (passed pointers before) (word_is ∙ ap (λ o. o >>= body_by at kids S budget) h)

@@ -8,7 +8,7 @@ use Rattle.cp_reading.proofs.Sound.{ok_is}
 pub denotes_one : (S : List (List ℕ)) (s p : ℕ) (t u : Node) → Denotes S s p t → Denotes S s p u → t ≡ u
 denotes_one S s p t u h k =
     let n = max (depth t) (depth u) in
-    let left = max (cost t) (cost u) in
-    let one = complete t n S s p left h (omega arith) (omega arith) in
-    let other = complete u n S s p left k (omega arith) (omega arith) in
+    let budget = max (cost t) (cost u) in
+    let one = complete t n S s p budget h (omega arith) (omega arith) in
+    let other = complete u n S s p budget k (omega arith) (omega arith) in
     ap (λ (x : Node × ℕ). x.0) (ok_is (sym one ∙ other))

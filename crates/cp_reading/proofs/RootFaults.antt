@@ -10,8 +10,8 @@ use Rattle.cp_tree.specs.Node.{Node, null, cap, struct, list, ptrs, structs, dep
 use Rattle.cp_words.specs.Aims.{segment, Holds}
 use Rattle.cp_reading.specs.Faults.{FaultBy, RootIsNoStruct, IsFaultOf}
 use Rattle.cp_reading.specs.Pruned.{Prunes, Pruned, root}
-use Rattle.cp_reading.specs.Reading.{◌>>=◌, Read, tag_kind_of, aim_here, aim_second, aim_two, pad_or, pad_one, aim_by, area_by, body_by, kids_at, tree_at, rooted, root_by, root_of, top}
-use Rattle.cp_reading.specs.declared.aim.Aim.{Aim}
+use Rattle.cp_reading.specs.Reading.{◌>>=◌, Read, tag_kind_of, target_here, target_second, target_by_two, or_bad_pad, target_by_one, target_by, area_by, body_by, kids_at, tree_at, rooted, root_by, root_of, top}
+use Rattle.cp_reading.specs.declared.target.Target.{Target}
 use Rattle.cp_words.specs.declared.kind.Kind.{Kind}
 use Rattle.cp_words.specs.declared.kind.Kind.TheVariants as kinds
 use Rattle.cp_reading.specs.declared.fault.TreeFault.{TreeFault}
@@ -53,15 +53,15 @@ module _ (S : List (List ℕ)) (limits : Bounds) where
   is_fault faults.OutOfMemory h = absurd h
 
   -- the root's pointer says a list
-  here_list : (s p : ℕ) (r : Pointer) (aim : Aim) (size : ElementSize) (n : ℕ) → aim_here s p r ≡ Some aim → aim.kind ≡ kinds.List size n → (o : ℤ) × (r ≡ pointers.List o size n)
-  here_list s p pointers.Null aim size n e k = cc
-  here_list s p (pointers.Cap i) aim size n e k = cc
-  here_list s p (pointers.Far double place other) aim size n e k = cc
-  here_list s p (pointers.Struct o d m) aim size n e k =
-      let is : kinds.Struct d m ≡ aim.kind = ap (λ (a : Aim). a.kind) (some_is e) in
+  here_list : (s p : ℕ) (r : Pointer) (target : Target) (size : ElementSize) (n : ℕ) → target_here s p r ≡ Some target → target.kind ≡ kinds.List size n → (o : ℤ) × (r ≡ pointers.List o size n)
+  here_list s p pointers.Null target size n e k = cc
+  here_list s p (pointers.Cap i) target size n e k = cc
+  here_list s p (pointers.Far double place other) target size n e k = cc
+  here_list s p (pointers.Struct o d m) target size n e k =
+      let is : kinds.Struct d m ≡ target.kind = ap (λ (a : Target). a.kind) (some_is e) in
       let wrong : kinds.Struct d m ≡ kinds.List size n = is ∙ k in cc
-  here_list s p (pointers.List o z m) aim size n e k =
-      let is : kinds.List z m ≡ kinds.List size n = ap (λ (a : Aim). a.kind) (some_is e) ∙ k in
+  here_list s p (pointers.List o z m) target size n e k =
+      let is : kinds.List z m ≡ kinds.List size n = ap (λ (a : Target). a.kind) (some_is e) ∙ k in
       let a : z ≡ size = cc in let b : m ≡ n = cc in (o, rw (a, b) refl)
 
   tag_list : (o : Option Pointer) (size : ElementSize) (n : ℕ) → tag_kind_of o ≡ Some (kinds.List size n) → (i : ℤ) × (o ≡ Some (pointers.List i size n))
@@ -78,41 +78,41 @@ module _ (S : List (List ℕ)) (limits : Bounds) where
   tag_list (Some (pointers.List (pos (suc x)) z m)) size n e = cc
   tag_list (Some (pointers.List (negsuc x) z m)) size n e = cc
 
-  root_list : (r : Pointer) (aim : Aim) (size : ElementSize) (n : ℕ) → Holds S 0 0 r → aim_by top S r ≡ Ok aim → aim.kind ≡ kinds.List size n → RootIsNoStruct S
-  root_list pointers.Null aim size n h e k = cc
-  root_list (pointers.Cap i) aim size n h e k = cc
-  root_list (pointers.Struct o d m) aim size n h e k = let r = here_list 0 0 (pointers.Struct o d m) aim size n (ap (λ x. Some x) (ok_is e)) k in let wrong = r.1 in cc
-  root_list (pointers.List o z m) aim size n h e k =
-      let r = here_list 0 0 (pointers.List o z m) aim size n (ap (λ x. Some x) (ok_is e)) k in
+  root_list : (r : Pointer) (target : Target) (size : ElementSize) (n : ℕ) → Holds S 0 0 r → target_by top S r ≡ Ok target → target.kind ≡ kinds.List size n → RootIsNoStruct S
+  root_list pointers.Null target size n h e k = cc
+  root_list (pointers.Cap i) target size n h e k = cc
+  root_list (pointers.Struct o d m) target size n h e k = let r = here_list 0 0 (pointers.Struct o d m) target size n (ap (λ x. Some x) (ok_is e)) k in let wrong = r.1 in cc
+  root_list (pointers.List o z m) target size n h e k =
+      let r = here_list 0 0 (pointers.List o z m) target size n (ap (λ x. Some x) (ok_is e)) k in
       inr (r.0, size, n, inl (subst (Holds S 0 0) r.1 h))
-  root_list (pointers.Far false place other) aim size n h e k =
-      let i = passed (nat_lt other (length S)) _ _ aim e in
-      let j = passed (nat_lt place (length (segment S other))) _ _ aim i.1 in
+  root_list (pointers.Far false place other) target size n h e k =
+      let i = passed (nat_lt other (length S)) _ _ target e in
+      let j = passed (nat_lt place (length (segment S other))) _ _ target i.1 in
       go (grind (arith, nat_tests, j.0)) (pointer_of (slice_index (segment S other) place)) refl j.1
     where
-      padded : (o : Option Aim) (r : Pointer) → place < length (segment S other) → pointer_of (slice_index (segment S other) place) ≡ Some r → aim_here other place r ≡ o → pad_or top o ≡ Ok aim → RootIsNoStruct S
+      padded : (o : Option Target) (r : Pointer) → place < length (segment S other) → pointer_of (slice_index (segment S other) place) ≡ Some r → target_here other place r ≡ o → or_bad_pad top o ≡ Ok target → RootIsNoStruct S
       padded None r within says g f = cc
       padded (Some a) r within says g f =
-          let l = here_list other place r a size n g (ap (λ (x : Aim). x.kind) (ok_is f) ∙ k) in
+          let l = here_list other place r a size n g (ap (λ (x : Target). x.kind) (ok_is f) ∙ k) in
           inr (l.0, size, n, inr (inl (place, other, h, (within, says ∙ ap (λ x. Some x) l.1))))
 
-      go : place < length (segment S other) → (o : Option Pointer) → pointer_of (slice_index (segment S other) place) ≡ o → pad_one top other place o ≡ Ok aim → RootIsNoStruct S
+      go : place < length (segment S other) → (o : Option Pointer) → pointer_of (slice_index (segment S other) place) ≡ o → target_by_one top other place o ≡ Ok target → RootIsNoStruct S
       go within None says f = cc
-      go within (Some r) says f = padded (aim_here other place r) r within says refl f
-  root_list (pointers.Far true place other) aim size n h e k =
-      let i = passed (nat_lt other (length S)) _ _ aim e in
-      let j = passed (nat_lt (place + 1) (length (segment S other))) _ _ aim i.1 in
+      go within (Some r) says f = padded (target_here other place r) r within says refl f
+  root_list (pointers.Far true place other) target size n h e k =
+      let i = passed (nat_lt other (length S)) _ _ target e in
+      let j = passed (nat_lt (place + 1) (length (segment S other))) _ _ target i.1 in
       two (grind (arith, nat_tests, j.0)) (pointer_of (slice_index (segment S other) place)) j.1
     where
-      second : place + 1 < length (segment S other) → (start s' : ℕ) (o : Option Kind) → tag_kind_of (pointer_of (slice_index (segment S other) (place + 1))) ≡ o → aim_second top S start s' o ≡ Ok aim → RootIsNoStruct S
+      second : place + 1 < length (segment S other) → (start s' : ℕ) (o : Option Kind) → tag_kind_of (pointer_of (slice_index (segment S other) (place + 1))) ≡ o → target_second top S start s' o ≡ Ok target → RootIsNoStruct S
       second within start s' None t f = cc
       second within start s' (Some q) t f =
-          let j = passed (nat_lt s' (length S)) _ _ aim f in
-          let is : q ≡ kinds.List size n = ap (λ (a : Aim). a.kind) (ok_is j.1) ∙ k in
+          let j = passed (nat_lt s' (length S)) _ _ target f in
+          let is : q ≡ kinds.List size n = ap (λ (a : Target). a.kind) (ok_is j.1) ∙ k in
           let l = tag_list (pointer_of (slice_index (segment S other) (place + 1))) size n (t ∙ ap (λ x. Some x) is) in
           inr (l.0, size, n, inr (inr (place, other, h, (within, l.1))))
 
-      two : place + 1 < length (segment S other) → (one : Option Pointer) → aim_two top S one (pointer_of (slice_index (segment S other) (place + 1))) ≡ Ok aim → RootIsNoStruct S
+      two : place + 1 < length (segment S other) → (one : Option Pointer) → target_by_two top S one (pointer_of (slice_index (segment S other) (place + 1))) ≡ Ok target → RootIsNoStruct S
       two within None f = cc
       two within (Some pointers.Null) f = cc
       two within (Some (pointers.Cap i)) f = cc
@@ -122,28 +122,28 @@ module _ (S : List (List ℕ)) (limits : Bounds) where
       two within (Some (pointers.Far false start s')) f = second within start s' (tag_kind_of (pointer_of (slice_index (segment S other) (place + 1)))) refl f
 
   -- what the root's body is read as
-  abbrev read_of : Aim → Read Node
-  read_of aim = area_by top S aim >>= body_by top (kids_at limits.nesting S) S limits.traversal
+  abbrev read_of : Target → Read Node
+  read_of target = area_by top S target >>= body_by top (kids_at limits.nesting S) S limits.traversal
 
   -- a fault of reading the message's tree is one that it has
   pub root_faulted : (e : TreeFault) → root_of limits.nesting limits.traversal S ≡ Err e → IsFaultOf S limits e
   unfolding root_of
   root_faulted e h = empty (length (segment S 0) == 0) refl h
     where
-      of_kind : 0 < length (segment S 0) → (r : Pointer) → pointer_of (slice_index (segment S 0) 0) ≡ Some r → (aim : Aim) → aim_by top S r ≡ Ok aim → (k : Kind) → aim.kind ≡ k → rooted k (read_of aim) ≡ Err e → IsFaultOf S limits e
-      of_kind within r says aim aims (kinds.List size n) is f = subst (IsFaultOf S limits) (err_is f) ((refl, refl), root_list r aim size n (within, says) aims is)
-      of_kind within r says aim aims (kinds.Struct d n) is f = go (bind_err (read_of aim) _ e f)
+      of_kind : 0 < length (segment S 0) → (r : Pointer) → pointer_of (slice_index (segment S 0) 0) ≡ Some r → (target : Target) → target_by top S r ≡ Ok target → (k : Kind) → target.kind ≡ k → rooted k (read_of target) ≡ Err e → IsFaultOf S limits e
+      of_kind within r says target aims (kinds.List size n) is f = subst (IsFaultOf S limits) (err_is f) ((refl, refl), root_list r target size n (within, says) aims is)
+      of_kind within r says target aims (kinds.Struct d n) is f = go (bind_err (read_of target) _ e f)
         where
-          go : (read_of aim ≡ Err e) ⊎ ((x : Node × ℕ) × (read_of aim ≡ Ok x) × (◌≡◌ {A = Result Node TreeFault} (Ok x.0) (Err e))) → IsFaultOf S limits e
+          go : (read_of target ≡ Err e) ⊎ ((x : Node × ℕ) × (read_of target ≡ Ok x) × (◌≡◌ {A = Result Node TreeFault} (Ok x.0) (Err e))) → IsFaultOf S limits e
           go (inr g) = let wrong = g.2 in cc
           go (inl g) =
-              let same : tree_at limits.nesting S 0 0 limits.traversal ≡ read_of aim = rw says (aimed top (kids_at limits.nesting S) S limits.traversal r aim aims) in
+              let same : tree_at limits.nesting S 0 0 limits.traversal ≡ read_of target = rw says (aimed top (kids_at limits.nesting S) S limits.traversal r target aims) in
               is_fault e (FaultBy-map S e deep_root dear_root (faulted limits.nesting S 0 0 limits.traversal e root within (same ∙ g)))
 
-      aims : 0 < length (segment S 0) → (r : Pointer) → pointer_of (slice_index (segment S 0) 0) ≡ Some r → (((x : ℕ) → r ≡ pointers.Cap x → ⊥) × (r ≡ pointers.Null → ⊥)) → (aim_by top S r >>= λ aim. rooted aim.kind (read_of aim)) ≡ Err e → IsFaultOf S limits e
-      aims within r says kind f = go (bind_err (aim_by top S r) _ e f)
+      aims : 0 < length (segment S 0) → (r : Pointer) → pointer_of (slice_index (segment S 0) 0) ≡ Some r → (((x : ℕ) → r ≡ pointers.Cap x → ⊥) × (r ≡ pointers.Null → ⊥)) → (target_by top S r >>= λ target. rooted target.kind (read_of target)) ≡ Err e → IsFaultOf S limits e
+      aims within r says kind f = go (bind_err (target_by top S r) _ e f)
         where
-          go : (aim_by top S r ≡ Err e) ⊎ ((x : Aim) × (aim_by top S r ≡ Ok x) × (rooted x.kind (read_of x) ≡ Err e)) → IsFaultOf S limits e
+          go : (target_by top S r ≡ Err e) ⊎ ((x : Target) × (target_by top S r ≡ Ok x) × (rooted x.kind (read_of x) ≡ Err e)) → IsFaultOf S limits e
           go (inl g) = is_fault e (aim_fails S 0 0 _ _ root r e (within, says) g kind)
           go (inr g) = of_kind within r says g.0 g.1 g.0.kind refl g.2
 

@@ -9,9 +9,9 @@ use Rattle.cp_tree.specs.Node.{Node, null, cap, struct, list, ptrs, structs, cou
 use Rattle.cp_words.specs.Aims.{segment, Aims}
 use Rattle.cp_reading.specs.Denotes.{Root}
 use Rattle.cp_reading.specs.Near.{Near}
-use Rattle.cp_reading.specs.Reading.{◌>>=◌, Read, Kids, aim_by, area_by, area_by_kind, placed, in_segment, entered, filled, body_by, tree_at, kids_at, rooted, root_by, root_of, top}
+use Rattle.cp_reading.specs.Reading.{◌>>=◌, Read, Kids, target_by, area_by, area_by_kind, placed, in_segment, charged, filled, body_by, tree_at, kids_at, rooted, root_by, root_of, top}
 use Rattle.cp_reading.specs.Visited.{passed}
-use Rattle.cp_reading.specs.declared.aim.Aim.{Aim}
+use Rattle.cp_reading.specs.declared.target.Target.{Target}
 use Rattle.cp_words.specs.declared.kind.Kind.{Kind}
 use Rattle.cp_words.specs.declared.kind.Kind.TheVariants as kinds
 use Rattle.cp_reading.specs.declared.area.Area.{Area}
@@ -28,9 +28,9 @@ stands_within S s' start k (inr (inl a)) = a.stands.0
 stands_within S s' start k (inr (inr a)) = a.stands.0
 
 -- a body of a struct's form is read as a struct
-struct_is : (kids : Kids) (S : List (List ℕ)) (d n s q left : ℕ) (x : Node × ℕ) → filled kids S (forms.Struct d n) s q left ≡ Ok x → IsStruct x.0
-struct_is kids S d n s q left x e =
-    let k = bind_ok (kids s n (q + d) left) _ x e in
+struct_is : (kids : Kids) (S : List (List ℕ)) (d n s q budget : ℕ) (x : Node × ℕ) → filled kids S (forms.Struct d n) s q budget ≡ Ok x → IsStruct x.0
+struct_is kids S d n s q budget x e =
+    let k = bind_ok (kids s n (q + d) budget) _ x e in
     subst (λ (y : Node × ℕ). IsStruct y.0) (ok_is k.2) tt
 
 module _ (n b : ℕ) (S : List (List ℕ)) where
@@ -40,7 +40,7 @@ module _ (n b : ℕ) (S : List (List ℕ)) where
       let j = bind_ok (area_by_kind top (segment S s) s o (kinds.Struct d c)) (body_by top (kids_at n S) S b) x e in
       let k = bind_ok (placed top (in_segment (segment S s) (d + c) o)) _ j.0 j.1 in
       let read = subst (λ (a : Area). body_by top (kids_at n S) S b a ≡ Ok x) (sym (ok_is k.2)) j.2 in
-      let into = bind_ok (entered top (kids_at n S) (1 + d + c) b) _ x read in
+      let into = bind_ok (charged top (kids_at n S) (1 + d + c) b) _ x read in
       struct_is into.0.0 S d c s k.0 into.0.1 x into.2
 
   -- what a tree that is given says of the root word
@@ -55,16 +55,16 @@ module _ (n b : ℕ) (S : List (List ℕ)) where
           let r = sound n S 0 0 b x within e in
           subst (Root S limits) is (record { denoted = r.denoted; is_struct = struct'; not_deeper = rw deep r.nests; not_dearer = rw dear (omega (arith, r.costs)) })
 
-      of_kind : 0 < length (segment S 0) → (aim : Aim) (k : Kind) → aim.kind ≡ k → tree_at n S 0 0 b ≡ (area_by top S aim >>= body_by top (kids_at n S) S b) → rooted k (area_by top S aim >>= body_by top (kids_at n S) S b) ≡ Ok t → Root S limits t
-      of_kind within aim (kinds.Struct d c) is same e =
-          let x = bind_ok (area_by top S aim >>= body_by top (kids_at n S) S b) (λ x. Ok x.0) t e in
-          let read = subst (λ (k : Kind). (area_by_kind top (segment S aim.segment) aim.segment aim.start k >>= body_by top (kids_at n S) S b) ≡ Ok x.0) is x.1 in
-          took within x.0 (kind_is aim.segment d c aim.start x.0 read) (same ∙ x.1) (ok_is x.2)
-      of_kind within aim (kinds.List size c) is same e = cc
+      of_kind : 0 < length (segment S 0) → (target : Target) (k : Kind) → target.kind ≡ k → tree_at n S 0 0 b ≡ (area_by top S target >>= body_by top (kids_at n S) S b) → rooted k (area_by top S target >>= body_by top (kids_at n S) S b) ≡ Ok t → Root S limits t
+      of_kind within target (kinds.Struct d c) is same e =
+          let x = bind_ok (area_by top S target >>= body_by top (kids_at n S) S b) (λ x. Ok x.0) t e in
+          let read = subst (λ (k : Kind). (area_by_kind top (segment S target.segment) target.segment target.start k >>= body_by top (kids_at n S) S b) ≡ Ok x.0) is x.1 in
+          took within x.0 (kind_is target.segment d c target.start x.0 read) (same ∙ x.1) (ok_is x.2)
+      of_kind within target (kinds.List size c) is same e = cc
 
-      aims : 0 < length (segment S 0) → (r : Pointer) → pointer_of (slice_index (segment S 0) 0) ≡ Some r → (aim_by top S r >>= λ aim. rooted aim.kind (area_by top S aim >>= body_by top (kids_at n S) S b)) ≡ Ok t → Root S limits t
+      aims : 0 < length (segment S 0) → (r : Pointer) → pointer_of (slice_index (segment S 0) 0) ≡ Some r → (target_by top S r >>= λ target. rooted target.kind (area_by top S target >>= body_by top (kids_at n S) S b)) ≡ Ok t → Root S limits t
       aims within r says e =
-          let k = bind_ok (aim_by top S r) _ t e in
+          let k = bind_ok (target_by top S r) _ t e in
           let same : tree_at n S 0 0 b ≡ (area_by top S k.0 >>= body_by top (kids_at n S) S b) = rw says (aimed top (kids_at n S) S b r k.0 k.1) in
           of_kind within k.0 k.0.kind refl same k.2
 
@@ -77,35 +77,35 @@ module _ (n b : ℕ) (S : List (List ℕ)) where
       kinds within (Some (pointers.Far double place other)) is e = aims within (pointers.Far double place other) is e
 
   -- the root word's pointer leads to its body
-  root_led : (r : Pointer) (aim : Aim) → aim_by top S r ≡ Ok aim → root_by (kids_at n S) S b (Some r) ≡ rooted aim.kind (area_by top S aim >>= body_by top (kids_at n S) S b)
-  root_led pointers.Null aim h = cc
-  root_led (pointers.Cap i) aim h = cc
-  root_led (pointers.Struct o d c) aim h = ap (λ q. q >>= λ a. rooted a.kind (area_by top S a >>= body_by top (kids_at n S) S b)) h
-  root_led (pointers.List o size c) aim h = ap (λ q. q >>= λ a. rooted a.kind (area_by top S a >>= body_by top (kids_at n S) S b)) h
-  root_led (pointers.Far double place other) aim h = ap (λ q. q >>= λ a. rooted a.kind (area_by top S a >>= body_by top (kids_at n S) S b)) h
+  root_led : (r : Pointer) (target : Target) → target_by top S r ≡ Ok target → root_by (kids_at n S) S b (Some r) ≡ rooted target.kind (area_by top S target >>= body_by top (kids_at n S) S b)
+  root_led pointers.Null target h = cc
+  root_led (pointers.Cap i) target h = cc
+  root_led (pointers.Struct o d c) target h = ap (λ q. q >>= λ a. rooted a.kind (area_by top S a >>= body_by top (kids_at n S) S b)) h
+  root_led (pointers.List o size c) target h = ap (λ q. q >>= λ a. rooted a.kind (area_by top S a >>= body_by top (kids_at n S) S b)) h
+  root_led (pointers.Far double place other) target h = ap (λ q. q >>= λ a. rooted a.kind (area_by top S a >>= body_by top (kids_at n S) S b)) h
 
   -- the root word's struct body, step by step
-  pub root_steps : (r : Pointer) (aim : Aim) (d c : ℕ) (a : Area) → 0 < length (segment S 0) → pointer_of (slice_index (segment S 0) 0) ≡ Some r → aim_by top S r ≡ Ok aim
-      → aim.kind ≡ kinds.Struct d c → area_by top S aim ≡ Ok a → root_of n b S ≡ (body_by top (kids_at n S) S b a >>= λ x. Ok x.0)
+  pub root_steps : (r : Pointer) (target : Target) (d c : ℕ) (a : Area) → 0 < length (segment S 0) → pointer_of (slice_index (segment S 0) 0) ≡ Some r → target_by top S r ≡ Ok target
+      → target.kind ≡ kinds.Struct d c → area_by top S target ≡ Ok a → root_of n b S ≡ (body_by top (kids_at n S) S b a >>= λ x. Ok x.0)
   unfolding root_of
-  root_steps r aim d c a within says aims kind area =
+  root_steps r target d c a within says aims kind area =
       let some : (length (segment S 0) == 0) ≡ false = grind (arith, nat_tests) in
-      rw (some, says) (root_led r aim aims
-      ∙ ap (λ (k : Kind). rooted k (area_by top S aim >>= body_by top (kids_at n S) S b)) kind
+      rw (some, says) (root_led r target aims
+      ∙ ap (λ (k : Kind). rooted k (area_by top S target >>= body_by top (kids_at n S) S b)) kind
       ∙ ap (λ (q : Result Area TreeFault). q >>= body_by top (kids_at n S) S b >>= λ x. Ok x.0) area)
 
-  module _ (w : ℕ) (aim : Aim) (d c : ℕ) (within : 0 < length (segment S 0)) (stands : slice_index (segment S 0) 0 ≡ w) (near : Near top w aim) (kind : aim.kind ≡ kinds.Struct d c) where
+  module _ (w : ℕ) (target : Target) (d c : ℕ) (within : 0 < length (segment S 0)) (stands : slice_index (segment S 0) 0 ≡ w) (near : Near top w target) (kind : target.kind ≡ kinds.Struct d c) where
     -- the body of a root word that is a struct word
-    pub root_near : (a : Area) → area_by top S aim ≡ Ok a → root_of n b S ≡ (body_by top (kids_at n S) S b a >>= λ x. Ok x.0)
-    root_near a area = root_steps near.pointer aim d c a within (ap pointer_of stands ∙ near.says) (near.aims S) kind area
+    pub root_near : (a : Area) → area_by top S target ≡ Ok a → root_of n b S ≡ (body_by top (kids_at n S) S b a >>= λ x. Ok x.0)
+    root_near a area = root_steps near.pointer target d c a within (ap pointer_of stands ∙ near.says) (near.aims S) kind area
 
-    pub root_near_fails : (e : TreeFault) → area_by top S aim ≡ Err e → root_of n b S ≡ Err e
+    pub root_near_fails : (e : TreeFault) → area_by top S target ≡ Err e → root_of n b S ≡ Err e
     unfolding root_of
     root_near_fails e area =
         let some : (length (segment S 0) == 0) ≡ false = grind (arith, nat_tests) in
         let says : pointer_of (slice_index (segment S 0) 0) ≡ Some near.pointer = ap pointer_of stands ∙ near.says in
-        rw (some, says) (root_led near.pointer aim (near.aims S)
-        ∙ ap (λ (k : Kind). rooted k (area_by top S aim >>= body_by top (kids_at n S) S b)) kind
+        rw (some, says) (root_led near.pointer target (near.aims S)
+        ∙ ap (λ (k : Kind). rooted k (area_by top S target >>= body_by top (kids_at n S) S b)) kind
         ∙ ap (λ (q : Result Area TreeFault). q >>= body_by top (kids_at n S) S b >>= λ x. Ok x.0) area)
 
   -- the message's tree is given
@@ -119,21 +119,12 @@ module _ (n b : ℕ) (S : List (List ℕ)) where
   root_given limits (struct ws ts) deep dear r =
       let d = r.denoted in
       let a = aims_found S 0 0 (kinds.Struct (length ws) (count ts)) d.0 d.1 d.2.aims in
-      let aim : Aim = record { kind = kinds.Struct (length ws) (count ts); segment = d.0; start = Some d.1 } in
+      let target : Target = record { kind = kinds.Struct (length ws) (count ts); segment = d.0; start = Some d.1 } in
       let within = stands_within S d.0 d.1 (kinds.Struct (length ws) (count ts)) d.2.aims in
       let some : (length (segment S 0) == 0) ≡ false = grind (arith, nat_tests) in
       let read = complete (struct ws ts) n S 0 0 b d (rw (← deep) r.not_deeper) (rw (← dear) r.not_dearer) in
-      let same : tree_at n S 0 0 b ≡ (area_by top S aim >>= body_by top (kids_at n S) S b) = rw a.1 (aimed top (kids_at n S) S b a.0 aim a.2) in
-      rw (some, a.1) (root_led a.0 aim a.2 ∙ ap (λ q. q >>= λ x. Ok x.0) (sym same ∙ read))
-
--- What a check left was read.
-pub read_left : {A : Type 0} (visited : A → ℕ) (before left visits : ℕ) (r : Read A) → passed visited before r ≡ Ok (left, visits) → (x : A) × (r ≡ Ok (x, left)) × (visits ≡ before + visited x)
-read_left visited before left visits (Ok x) e =
-    let is : (x.1, before + visited x.0) ≡ (left, visits) = ok_is e in
-    let l : x.1 ≡ left = ap (λ p. p.0) is in
-    let v : before + visited x.0 ≡ visits = ap (λ p. p.1) is in
-    (x.0, rw (← l) refl, sym v)
-read_left visited before left visits (Err d) e = cc
+      let same : tree_at n S 0 0 b ≡ (area_by top S target >>= body_by top (kids_at n S) S b) = rw a.1 (aimed top (kids_at n S) S b a.0 target a.2) in
+      rw (some, a.1) (root_led a.0 target a.2 ∙ ap (λ q. q >>= λ x. Ok x.0) (sym same ∙ read))
 
 -- a fault of a check is one of reading
 pub read_fault : {A : Type 0} (visited : A → ℕ) (before : ℕ) (r : Read A) (d : TreeFault) → passed visited before r ≡ Err d → r ≡ Err d

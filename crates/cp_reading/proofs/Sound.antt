@@ -14,8 +14,8 @@ use Rattle.cp_words.specs.Aims.{segment, Holds, IsPadTag, AimsHere, Aims, words_
 use Rattle.cp_reading.specs.Locates.{Locates}
 use Rattle.cp_tree.specs.Elements.{elements_of}
 use Rattle.cp_reading.specs.Denotes.{Denotes, EachDenotes, EachBody}
-use Rattle.cp_reading.specs.Reading.{◌>>=◌, Read, Kids, row_by, bodies_by, start_of, in_segment, placed, tagged, aim_here, tag_kind_of, aim_second, aim_two, pad_or, pad_one, aim_by, area_by_kind, area_by, entered, filled, price, body_words, IsWhole, body_by, pointer_by, word_by, kids_at, tree_at, rows_at}
-use Rattle.cp_reading.specs.declared.aim.Aim.{Aim}
+use Rattle.cp_reading.specs.Reading.{◌>>=◌, Read, Kids, row_by, bodies_by, start_of, in_segment, placed, tagged, target_here, tag_kind_of, target_second, target_by_two, or_bad_pad, target_by_one, target_by, area_by_kind, area_by, charged, filled, price, body_words, IsWhole, body_by, pointer_by, word_by, kids_at, tree_at, rows_at}
+use Rattle.cp_reading.specs.declared.target.Target.{Target}
 use Rattle.cp_words.specs.declared.kind.Kind.{Kind}
 use Rattle.cp_words.specs.declared.kind.Kind.TheVariants as kinds
 use Rattle.cp_reading.specs.declared.area.Area.{Area}
@@ -78,24 +78,24 @@ tag_sound (Some (pointers.List (pos (suc m)) size n)) k e = cc
 tag_sound (Some (pointers.List (negsuc m) size n)) k e = cc
 
 module _ (S : List (List ℕ)) where
-  here_sound : (s p : ℕ) (r : Pointer) (aim : Aim) → Holds S s p r → aim_here s p r ≡ Some aim → (start : ℕ) → aim.start ≡ Some start → AimsHere S s p aim.kind start × (aim.segment ≡ s)
-  here_sound s p pointers.Null aim h e = cc
-  here_sound s p (pointers.Cap i) aim h e = cc
-  here_sound s p (pointers.Far double place other) aim h e = cc
-  here_sound s p (pointers.Struct offset d n) aim h e =
-      let P : Aim → Type 0 = λ a. (start : ℕ) → a.start ≡ Some start → AimsHere S s p a.kind start × (a.segment ≡ s) in
-      let is : record { kind = kinds.Struct d n; segment = s; start = start_of p offset } ≡ aim = cc in
+  here_sound : (s p : ℕ) (r : Pointer) (target : Target) → Holds S s p r → target_here s p r ≡ Some target → (start : ℕ) → target.start ≡ Some start → AimsHere S s p target.kind start × (target.segment ≡ s)
+  here_sound s p pointers.Null target h e = cc
+  here_sound s p (pointers.Cap i) target h e = cc
+  here_sound s p (pointers.Far double place other) target h e = cc
+  here_sound s p (pointers.Struct offset d n) target h e =
+      let P : Target → Type 0 = λ a. (start : ℕ) → a.start ≡ Some start → AimsHere S s p a.kind start × (a.segment ≡ s) in
+      let is : record { kind = kinds.Struct d n; segment = s; start = start_of p offset } ≡ target = cc in
       subst P is (λ start b. (record { pointer = pointers.Struct offset d n; offset = offset; stands = h; says = (refl, refl); begins = start_begins p offset start b }, refl))
-  here_sound s p (pointers.List offset size n) aim h e =
-      let P : Aim → Type 0 = λ a. (start : ℕ) → a.start ≡ Some start → AimsHere S s p a.kind start × (a.segment ≡ s) in
-      let is : record { kind = kinds.List size n; segment = s; start = start_of p offset } ≡ aim = cc in
+  here_sound s p (pointers.List offset size n) target h e =
+      let P : Target → Type 0 = λ a. (start : ℕ) → a.start ≡ Some start → AimsHere S s p a.kind start × (a.segment ≡ s) in
+      let is : record { kind = kinds.List size n; segment = s; start = start_of p offset } ≡ target = cc in
       subst P is (λ start b. (record { pointer = pointers.List offset size n; offset = offset; stands = h; says = (refl, refl); begins = start_begins p offset start b }, refl))
 
   module _ (s p : ℕ) where
     abbrev at : Place
     at = record { segment = s; word = p }
 
-    abbrev Right : Aim → Type 0
+    abbrev Right : Target → Type 0
     Right a = (start : ℕ) → a.start ≡ Some start → Aims S s p a.kind a.segment start
 
     module _ (place other : ℕ) (stands : Holds S s p (pointers.Far true place other)) (room : place + 1 < length (segment S other)) where
@@ -118,48 +118,48 @@ module _ (S : List (List ℕ)) where
             says = says;
           })))
 
-      second_sound : (start s' : ℕ) (two : Option Pointer) (aim : Aim) → word_at place ≡ Some (pointers.Far false start s') → word_at (place + 1) ≡ two
-          → (o : Option Kind) → tag_kind_of two ≡ o → aim_second at S start s' o ≡ Ok aim → Right aim
-      second_sound start s' two aim f g None t e = cc
-      second_sound start s' two aim f g (Some k) t e =
-          let j = passed (nat_lt s' (length S)) _ _ aim e in
+      second_sound : (start s' : ℕ) (two : Option Pointer) (target : Target) → word_at place ≡ Some (pointers.Far false start s') → word_at (place + 1) ≡ two
+          → (o : Option Kind) → tag_kind_of two ≡ o → target_second at S start s' o ≡ Ok target → Right target
+      second_sound start s' two target f g None t e = cc
+      second_sound start s' two target f g (Some k) t e =
+          let j = passed (nat_lt s' (length S)) _ _ target e in
           let q = tag_sound two k t in
           subst Right (ok_is j.1) (by_two start s' q.0 k f (rw g q.1) q.2 j.0)
 
-      two_sound : (one two : Option Pointer) (aim : Aim) → word_at place ≡ one → word_at (place + 1) ≡ two → aim_two at S one two ≡ Ok aim → Right aim
-      two_sound None two aim f g e = cc
-      two_sound (Some pointers.Null) two aim f g e = cc
-      two_sound (Some (pointers.Cap i)) two aim f g e = cc
-      two_sound (Some (pointers.Struct offset d n)) two aim f g e = cc
-      two_sound (Some (pointers.List offset size n)) two aim f g e = cc
-      two_sound (Some (pointers.Far true start s')) two aim f g e = cc
-      two_sound (Some (pointers.Far false start s')) two aim f g e = second_sound start s' two aim f g (tag_kind_of two) refl e
+      two_sound : (one two : Option Pointer) (target : Target) → word_at place ≡ one → word_at (place + 1) ≡ two → target_by_two at S one two ≡ Ok target → Right target
+      two_sound None two target f g e = cc
+      two_sound (Some pointers.Null) two target f g e = cc
+      two_sound (Some (pointers.Cap i)) two target f g e = cc
+      two_sound (Some (pointers.Struct offset d n)) two target f g e = cc
+      two_sound (Some (pointers.List offset size n)) two target f g e = cc
+      two_sound (Some (pointers.Far true start s')) two target f g e = cc
+      two_sound (Some (pointers.Far false start s')) two target f g e = second_sound start s' two target f g (tag_kind_of two) refl e
 
-    one_sound : (place s' : ℕ) (aim : Aim) → Holds S s p (pointers.Far false place s') → place < length (segment S s')
-        → (o : Option Pointer) → pointer_of (slice_index (segment S s') place) ≡ o → pad_one at s' place o ≡ Ok aim → Right aim
-    one_sound place s' aim stands within None f e = cc
-    one_sound place s' aim stands within (Some r) f e = go (aim_here s' place r) refl e
+    one_sound : (place s' : ℕ) (target : Target) → Holds S s p (pointers.Far false place s') → place < length (segment S s')
+        → (o : Option Pointer) → pointer_of (slice_index (segment S s') place) ≡ o → target_by_one at s' place o ≡ Ok target → Right target
+    one_sound place s' target stands within None f e = cc
+    one_sound place s' target stands within (Some r) f e = go (target_here s' place r) refl e
       where
-        go : (m : Option Aim) → aim_here s' place r ≡ m → pad_or at m ≡ Ok aim → Right aim
+        go : (m : Option Target) → target_here s' place r ≡ m → or_bad_pad at m ≡ Ok target → Right target
         go None g e = cc
         go (Some a) g e =
             subst Right (ok_is e) (λ start b.
             let h = here_sound s' place r a (within, f) g start b in
             subst (λ x. Aims S s p a.kind x start) (sym h.1) (inr (inl (record { place = place; stands = stands; pad = h.0 }))))
 
-    pub aim_sound : (r : Pointer) (aim : Aim) → Holds S s p r → aim_by at S r ≡ Ok aim → Right aim
-    aim_sound (pointers.Far false place s') aim h e =
-        let k = passed (nat_lt s' (length S)) _ _ aim e in
-        let j = passed (nat_lt place (length (segment S s'))) _ _ aim k.1 in
-        one_sound place s' aim h (grind (arith, nat_tests, j.0)) _ refl j.1
-    aim_sound (pointers.Far true place other) aim h e =
-        let k = passed (nat_lt other (length S)) _ _ aim e in
-        let j = passed (nat_lt (place + 1) (length (segment S other))) _ _ aim k.1 in
-        two_sound place other h (grind (arith, nat_tests, j.0)) _ _ aim refl refl j.1
-    aim_sound pointers.Null aim h e = cc
-    aim_sound (pointers.Cap i) aim h e = cc
-    aim_sound (pointers.Struct offset d n) aim h e = λ start b. let k = here_sound s p (pointers.Struct offset d n) aim h (ap (λ x. Some x) (ok_is e)) start b in inl (k.0, k.1)
-    aim_sound (pointers.List offset size n) aim h e = λ start b. let k = here_sound s p (pointers.List offset size n) aim h (ap (λ x. Some x) (ok_is e)) start b in inl (k.0, k.1)
+    pub aim_sound : (r : Pointer) (target : Target) → Holds S s p r → target_by at S r ≡ Ok target → Right target
+    aim_sound (pointers.Far false place s') target h e =
+        let k = passed (nat_lt s' (length S)) _ _ target e in
+        let j = passed (nat_lt place (length (segment S s'))) _ _ target k.1 in
+        one_sound place s' target h (grind (arith, nat_tests, j.0)) _ refl j.1
+    aim_sound (pointers.Far true place other) target h e =
+        let k = passed (nat_lt other (length S)) _ _ target e in
+        let j = passed (nat_lt (place + 1) (length (segment S other))) _ _ target k.1 in
+        two_sound place other h (grind (arith, nat_tests, j.0)) _ _ target refl refl j.1
+    aim_sound pointers.Null target h e = cc
+    aim_sound (pointers.Cap i) target h e = cc
+    aim_sound (pointers.Struct offset d n) target h e = λ start b. let k = here_sound s p (pointers.Struct offset d n) target h (ap (λ x. Some x) (ok_is e)) start b in inl (k.0, k.1)
+    aim_sound (pointers.List offset size n) target h e = λ start b. let k = here_sound s p (pointers.List offset size n) target h (ap (λ x. Some x) (ok_is e)) start b in inl (k.0, k.1)
 
     -- the body that was found is located there
     pub record Found (a : Area) : Type 0 where
@@ -201,41 +201,41 @@ module _ (S : List (List ℕ)) where
         let b = placed_in place s' (words_for size n) o k.0 k.1 in
         subst Found (ok_is k.2) (record { located = record { aims = aims k.0 b.0; inside = b.1 }; inside = b.1; whole = tt })
 
-    pub area_sound : (aim : Aim) (a : Area) → Right aim → area_by at S aim ≡ Ok a → Found a
+    pub area_sound : (target : Target) (a : Area) → Right target → area_by at S target ≡ Ok a → Found a
     unfolding AimsAt
-    area_sound aim a right e = kind_sound at aim.segment aim.start aim.kind a right e
+    area_sound target a right e = kind_sound at target.segment target.start target.kind a right e
 
 -- what reading a word gives
-pub record Reads (S : List (List ℕ)) (s n p left : ℕ) (x : Node × ℕ) : Type 0 where
+pub record Reads (S : List (List ℕ)) (s n p budget : ℕ) (x : Node × ℕ) : Type 0 where
   pub denoted : Denotes S s p x.0
   pub nests : depth x.0 ≤ n
-  pub costs : left ≡ x.1 + cost x.0
+  pub costs : budget ≡ x.1 + cost x.0
 
 -- what reading a row gives
-pub record ReadsRow (S : List (List ℕ)) (s n k p left : ℕ) (x : Nodes × ℕ) : Type 0 where
+pub record ReadsRow (S : List (List ℕ)) (s n k p budget : ℕ) (x : Nodes × ℕ) : Type 0 where
   pub denoted : EachDenotes S s p x.0
   pub counts : count x.0 ≡ k
   pub nests : greatest_depth x.0 ≤ n
-  pub costs : left ≡ x.1 + total_cost x.0
+  pub costs : budget ≡ x.1 + total_cost x.0
 
 -- what reading the bodies of a composite list gives
-pub record ReadsBodies (S : List (List ℕ)) (s m k q d n left : ℕ) (x : Bodies × ℕ) : Type 0 where
+pub record ReadsBodies (S : List (List ℕ)) (s m k q d n budget : ℕ) (x : Bodies × ℕ) : Type 0 where
   pub denoted : EachBody S s q d n x.0
   pub counts : number_of x.0 ≡ k
   pub nests : deepest_body x.0 ≤ m
-  pub costs : left ≡ x.1 + body_cost x.0
+  pub costs : budget ≡ x.1 + body_cost x.0
 
 -- what reading a body gives
-pub record ReadsBody (S : List (List ℕ)) (s m q left : ℕ) (f : Form) (x : Node × ℕ) : Type 0 where
+pub record ReadsBody (S : List (List ℕ)) (s m q budget : ℕ) (f : Form) (x : Node × ℕ) : Type 0 where
   pub fills : Fills S s q x.0
   pub is_body : IsBody x.0
   pub form : form_of x.0 ≡ f
   pub nests : inner_depth x.0 ≤ m
-  pub costs : left ≡ x.1 + inner_cost x.0
+  pub costs : budget ≡ x.1 + inner_cost x.0
 
 -- rows are read, of a segment
 unfoldable pub RowsRead : List (List ℕ) → ℕ → ℕ → (ℕ → ℕ → ℕ → Read Nodes) → Type 0
-RowsRead S s m k = (size p left : ℕ) (y : Nodes × ℕ) → p + size ≤ length (segment S s) → k size p left ≡ Ok y → ReadsRow S s m size p left y
+RowsRead S s m k = (size p budget : ℕ) (y : Nodes × ℕ) → p + size ≤ length (segment S s) → k size p budget ≡ Ok y → ReadsRow S s m size p budget y
 
 -- kids read the rows of trees that nest no deeper than n - 1
 KidsRead : List (List ℕ) → ℕ → Option Kids → Type 0
@@ -246,16 +246,16 @@ pub width : (S : List (List ℕ)) (s d q : ℕ) → q + d ≤ length (segment S 
 width S s d q room = simp (length-take, length-drop) (omega arith)
 
 module _ (S : List (List ℕ)) (s n : ℕ) where
-  module _ (read : ℕ → ℕ → Read Node) (reads : (p left : ℕ) (x : Node × ℕ) → p < length (segment S s) → read p left ≡ Ok x → Reads S s n p left x) where
-    row_sound : (k p left : ℕ) (y : Nodes × ℕ) → p + k ≤ length (segment S s) → row_by read k p left ≡ Ok y → ReadsRow S s n k p left y
+  module _ (read : ℕ → ℕ → Read Node) (reads : (p budget : ℕ) (x : Node × ℕ) → p < length (segment S s) → read p budget ≡ Ok x → Reads S s n p budget x) where
+    row_sound : (k p budget : ℕ) (y : Nodes × ℕ) → p + k ≤ length (segment S s) → row_by read k p budget ≡ Ok y → ReadsRow S s n k p budget y
     unfolding row_by
-    row_sound zero p left y room e = subst (ReadsRow S s n 0 p left) (ok_is e) (record { denoted = tt; counts = refl; nests = omega arith; costs = omega arith })
-    row_sound (suc k) p left y room e =
-        let first = bind_ok (read p left) _ y e in
+    row_sound zero p budget y room e = subst (ReadsRow S s n 0 p budget) (ok_is e) (record { denoted = tt; counts = refl; nests = omega arith; costs = omega arith })
+    row_sound (suc k) p budget y room e =
+        let first = bind_ok (read p budget) _ y e in
         let more = bind_ok (row_by read k (p + 1) first.0.1) _ y first.2 in
-        let one = reads p left first.0 (omega arith) first.1 in
+        let one = reads p budget first.0 (omega arith) first.1 in
         let others = row_sound k (p + 1) first.0.1 more.0 (omega arith) more.1 in
-        subst (ReadsRow S s n (suc k) p left) (ok_is more.2) (record {
+        subst (ReadsRow S s n (suc k) p budget) (ok_is more.2) (record {
           denoted = (one.denoted, others.denoted);
           counts = ap suc others.counts;
           nests = omega (arith, one.nests, others.nests);
@@ -263,16 +263,16 @@ module _ (S : List (List ℕ)) (s n : ℕ) where
         })
 
   module _ (kids : ℕ → ℕ → ℕ → Read Nodes) (rows : RowsRead S s n kids) (d c : ℕ) where
-    bodies_sound : (k q left : ℕ) (y : Bodies × ℕ) → q + k * (d + c) ≤ length (segment S s) → bodies_by kids S s d c k q left ≡ Ok y → ReadsBodies S s n k q d c left y
+    bodies_sound : (k q budget : ℕ) (y : Bodies × ℕ) → q + k * (d + c) ≤ length (segment S s) → bodies_by kids S s d c k q budget ≡ Ok y → ReadsBodies S s n k q d c budget y
     unfolding bodies_by RowsRead
-    bodies_sound zero q left y room e = subst (ReadsBodies S s n 0 q d c left) (ok_is e) (record { denoted = tt; counts = refl; nests = omega arith; costs = omega arith })
-    bodies_sound (suc k) q left y room e =
+    bodies_sound zero q budget y room e = subst (ReadsBodies S s n 0 q d c budget) (ok_is e) (record { denoted = tt; counts = refl; nests = omega arith; costs = omega arith })
+    bodies_sound (suc k) q budget y room e =
         let here : q + d + c + k * (d + c) ≤ length (segment S s) = omega arith in
-        let first = bind_ok (kids c (q + d) left) _ y e in
+        let first = bind_ok (kids c (q + d) budget) _ y e in
         let more = bind_ok (bodies_by kids S s d c k (q + d + c) first.0.1) _ y first.2 in
-        let row = rows c (q + d) left first.0 (omega arith) first.1 in
+        let row = rows c (q + d) budget first.0 (omega arith) first.1 in
         let others = bodies_sound k (q + d + c) first.0.1 more.0 here more.1 in
-        subst (ReadsBodies S s n (suc k) q d c left) (ok_is more.2) (record {
+        subst (ReadsBodies S s n (suc k) q d c budget) (ok_is more.2) (record {
           denoted = (width S s d q (omega arith), row.counts, refl, row.denoted, others.denoted);
           counts = ap suc others.counts;
           nests = omega (arith, row.nests, others.nests);
@@ -284,14 +284,14 @@ pub elements-made : (ws : List ℕ) (size : ElementSize) (n : ℕ) → element_c
 elements-made ws sizes.Void n = refl
 elements-made ws size n = length-map-range_with_len _ 0 n
 
-module _ (S : List (List ℕ)) (s q m left : ℕ) (kids : Kids) (rows : RowsRead S s m (kids s)) where
-  filled_sound : (f : Form) (x : Node × ℕ) → q + body_words f ≤ length (segment S s) → IsWhole f → filled kids S f s q left ≡ Ok x → ReadsBody S s m q left f x
+module _ (S : List (List ℕ)) (s q m budget : ℕ) (kids : Kids) (rows : RowsRead S s m (kids s)) where
+  filled_sound : (f : Form) (x : Node × ℕ) → q + body_words f ≤ length (segment S s) → IsWhole f → filled kids S f s q budget ≡ Ok x → ReadsBody S s m q budget f x
   unfolding RowsRead
   filled_sound (forms.Struct d c) x room w e =
-      let k = bind_ok (kids s c (q + d) left) _ x e in
-      let row = rows c (q + d) left k.0 (omega arith) k.1 in
+      let k = bind_ok (kids s c (q + d) budget) _ x e in
+      let row = rows c (q + d) budget k.0 (omega arith) k.1 in
       let wide = width S s d q (omega arith) in
-      subst (ReadsBody S s m q left (forms.Struct d c)) (ok_is k.2) (record {
+      subst (ReadsBody S s m q budget (forms.Struct d c)) (ok_is k.2) (record {
         fills = (rw wide refl, rw wide row.denoted);
         is_body = tt;
         form = rw (wide, row.counts) refl;
@@ -299,9 +299,9 @@ module _ (S : List (List ℕ)) (s q m left : ℕ) (kids : Kids) (rows : RowsRead
         costs = row.costs;
       })
   filled_sound (forms.Structs d c n) x room w e =
-      let k = bind_ok (bodies_by (kids s) S s d c n q left) _ x e in
-      let bodies = bodies_sound S s m (kids s) rows d c n q left k.0 room k.1 in
-      subst (ReadsBody S s m q left (forms.Structs d c n)) (ok_is k.2) (record {
+      let k = bind_ok (bodies_by (kids s) S s d c n q budget) _ x e in
+      let bodies = bodies_sound S s m (kids s) rows d c n q budget k.0 room k.1 in
+      subst (ReadsBody S s m q budget (forms.Structs d c n)) (ok_is k.2) (record {
         fills = bodies.denoted;
         is_body = tt;
         form = rw bodies.counts refl;
@@ -310,9 +310,9 @@ module _ (S : List (List ℕ)) (s q m left : ℕ) (kids : Kids) (rows : RowsRead
       })
   filled_sound (forms.List sizes.Pointer c) x room w e =
       let size : (c * 64 + 63) / 64 ≡ c = omega arith in
-      let k = bind_ok (kids s c q left) _ x e in
-      let row = rows c q left k.0 (omega arith) k.1 in
-      subst (ReadsBody S s m q left (forms.List sizes.Pointer c)) (ok_is k.2) (record {
+      let k = bind_ok (kids s c q budget) _ x e in
+      let row = rows c q budget k.0 (omega arith) k.1 in
+      subst (ReadsBody S s m q budget (forms.List sizes.Pointer c)) (ok_is k.2) (record {
         fills = row.denoted;
         is_body = tt;
         form = rw row.counts refl;
@@ -320,10 +320,10 @@ module _ (S : List (List ℕ)) (s q m left : ℕ) (kids : Kids) (rows : RowsRead
         costs = row.costs;
       })
   filled_sound (forms.List sizes.Composite c) x room w e = absurd w
-  filled_sound (forms.List sizes.Void c) x room w e = subst (ReadsBody S s m q left (forms.List sizes.Void c)) (ok_is e) (record { fills = refl; is_body = tt; form = refl; nests = omega arith; costs = omega arith })
+  filled_sound (forms.List sizes.Void c) x room w e = subst (ReadsBody S s m q budget (forms.List sizes.Void c)) (ok_is e) (record { fills = refl; is_body = tt; form = refl; nests = omega arith; costs = omega arith })
   filled_sound (forms.List size c) x room w e =
       let made = elements-made (words_at S s q (words_for size c)) size c in
-      subst (ReadsBody S s m q left (forms.List size c)) (ok_is e) (record {
+      subst (ReadsBody S s m q budget (forms.List size c)) (ok_is e) (record {
         fills = rw made refl;
         is_body = tt;
         form = rw made refl;
@@ -332,32 +332,32 @@ module _ (S : List (List ℕ)) (s q m left : ℕ) (kids : Kids) (rows : RowsRead
       })
 
 -- the way in was free
-pub entered_is : (at : Place) (kids : Option Kids) (price left : ℕ) (x : Kids × ℕ) → entered at kids price left ≡ Ok x → (kids ≡ Some x.0) × (left ≡ x.1 + price)
-entered_is at None price left x e = cc
-entered_is at (Some k) price left x e =
-    let j = not_stopped (nat_lt left price) (Ok (k, left - price)) _ x e in
-    let room : price ≤ left = grind (arith, nat_tests, j.0) in
-    let P : Kids × ℕ → Type 0 = λ y. (Some k ≡ Some y.0) × (left ≡ y.1 + price) in
+pub charged_is : (at : Place) (kids : Option Kids) (price budget : ℕ) (x : Kids × ℕ) → charged at kids price budget ≡ Ok x → (kids ≡ Some x.0) × (budget ≡ x.1 + price)
+charged_is at None price budget x e = cc
+charged_is at (Some k) price budget x e =
+    let j = not_stopped (nat_lt budget price) (Ok (k, budget - price)) _ x e in
+    let room : price ≤ budget = grind (arith, nat_tests, j.0) in
+    let P : Kids × ℕ → Type 0 = λ y. (Some k ≡ Some y.0) × (budget ≡ y.1 + price) in
     subst P (ok_is j.1) (refl, omega arith)
 
-module _ (S : List (List ℕ)) (s p n left : ℕ) (kids : Option Kids) (reads : KidsRead S n kids) (within : p < length (segment S s)) where
+module _ (S : List (List ℕ)) (s p n budget : ℕ) (kids : Option Kids) (reads : KidsRead S n kids) (within : p < length (segment S s)) where
   abbrev here : Place
   here = record { segment = s; word = p }
 
   -- what the way in leads to
-  way_in : (price : ℕ) (x : Kids × ℕ) → entered here kids price left ≡ Ok x → (m : ℕ) × (n ≡ suc m) × ((s' : ℕ) → RowsRead S s' m (x.0 s')) × (left ≡ x.1 + price)
+  way_in : (price : ℕ) (x : Kids × ℕ) → charged here kids price budget ≡ Ok x → (m : ℕ) × (n ≡ suc m) × ((s' : ℕ) → RowsRead S s' m (x.0 s')) × (budget ≡ x.1 + price)
   unfolding KidsRead
   way_in price x e =
-      let j = entered_is here kids price left x e in
+      let j = charged_is here kids price budget x e in
       let r : KidsRead S n (Some x.0) = subst (KidsRead S n) j.0 reads in
       go r j.1
     where
-      go : KidsRead S n (Some x.0) → left ≡ x.1 + price → (m : ℕ) × (n ≡ suc m) × ((s' : ℕ) → RowsRead S s' m (x.0 s')) × (left ≡ x.1 + price)
+      go : KidsRead S n (Some x.0) → budget ≡ x.1 + price → (m : ℕ) × (n ≡ suc m) × ((s' : ℕ) → RowsRead S s' m (x.0 s')) × (budget ≡ x.1 + price)
       go r c = (r.0, r.1, r.2, c)
 
-  body_sound : (a : Area) (x : Node × ℕ) → Found S s p a → body_by here kids S left a ≡ Ok x → Reads S s n p left x
+  body_sound : (a : Area) (x : Node × ℕ) → Found S s p a → body_by here kids S budget a ≡ Ok x → Reads S s n p budget x
   body_sound a x f e =
-      let into = bind_ok (entered here kids (price a.form) left) _ x e in
+      let into = bind_ok (charged here kids (price a.form) budget) _ x e in
       let w = way_in (price a.form) into.0 into.1 in
       let b = filled_sound S a.segment a.start w.0 into.0.1 into.0.0 (w.2 a.segment) a.form x f.inside f.whole into.2 in
       let deep = depth-body x.0 b.is_body in
@@ -369,34 +369,34 @@ module _ (S : List (List ℕ)) (s p n left : ℕ) (kids : Option Kids) (reads : 
         costs = omega (arith, dear, same, b.costs, w.3);
       }
 
-  word_sound : (x : Node × ℕ) → word_by kids S s p left ≡ Ok x → Reads S s n p left x
+  word_sound : (x : Node × ℕ) → word_by kids S s p budget ≡ Ok x → Reads S s n p budget x
   word_sound x e = go (pointer_of (slice_index (segment S s) p)) refl e
     where
-      aimed_at : (r : Pointer) → pointer_of (slice_index (segment S s) p) ≡ Some r → (aim_by here S r >>= area_by here S >>= body_by here kids S left) ≡ Ok x → Reads S s n p left x
+      aimed_at : (r : Pointer) → pointer_of (slice_index (segment S s) p) ≡ Some r → (target_by here S r >>= area_by here S >>= body_by here kids S budget) ≡ Ok x → Reads S s n p budget x
       aimed_at r says e =
-          let j = bind_ok (aim_by here S r >>= area_by here S) (body_by here kids S left) x e in
-          let k = bind_ok (aim_by here S r) (area_by here S) j.0 j.1 in
+          let j = bind_ok (target_by here S r >>= area_by here S) (body_by here kids S budget) x e in
+          let k = bind_ok (target_by here S r) (area_by here S) j.0 j.1 in
           body_sound j.0 x (area_sound S s p k.0 j.0 (aim_sound S s p r k.0 (within, says) k.1) k.2) j.2
 
-      go : (o : Option Pointer) → pointer_of (slice_index (segment S s) p) ≡ o → pointer_by here kids S left o ≡ Ok x → Reads S s n p left x
+      go : (o : Option Pointer) → pointer_of (slice_index (segment S s) p) ≡ o → pointer_by here kids S budget o ≡ Ok x → Reads S s n p budget x
       go None says e = cc
-      go (Some pointers.Null) says e = subst (Reads S s n p left) (ok_is e) (record { denoted = (within, says); nests = omega arith; costs = omega arith })
-      go (Some (pointers.Cap i)) says e = subst (Reads S s n p left) (ok_is e) (record { denoted = (within, says); nests = omega arith; costs = omega arith })
+      go (Some pointers.Null) says e = subst (Reads S s n p budget) (ok_is e) (record { denoted = (within, says); nests = omega arith; costs = omega arith })
+      go (Some (pointers.Cap i)) says e = subst (Reads S s n p budget) (ok_is e) (record { denoted = (within, says); nests = omega arith; costs = omega arith })
       go (Some (pointers.Struct offset d k)) says e = aimed_at (pointers.Struct offset d k) says e
       go (Some (pointers.List offset size k)) says e = aimed_at (pointers.List offset size k) says e
       go (Some (pointers.Far double place other)) says e = aimed_at (pointers.Far double place other) says e
 
 -- what reading gives is denoted, nests no deeper than n, and was paid for
-pub sound : (n : ℕ) (S : List (List ℕ)) (s p left : ℕ) (x : Node × ℕ) → p < length (segment S s) → tree_at n S s p left ≡ Ok x → Reads S s n p left x
+pub sound : (n : ℕ) (S : List (List ℕ)) (s p budget : ℕ) (x : Node × ℕ) → p < length (segment S s) → tree_at n S s p budget ≡ Ok x → Reads S s n p budget x
 unfolding kids_at KidsRead RowsRead
-sound zero S s p left x within e = word_sound S s p 0 left None refl within x e
-sound (suc n) S s p left x within e =
-    word_sound S s p (suc n) left (Some (rows_at n S)) (n, refl, λ s' size q rest y room f. row_sound S s' n (tree_at n S s') (λ r more z h g. sound n S s' r more z h g) size q rest y room f) within x e
+sound zero S s p budget x within e = word_sound S s p 0 budget None refl within x e
+sound (suc n) S s p budget x within e =
+    word_sound S s p (suc n) budget (Some (rows_at n S)) (n, refl, λ s' size q rest y room f. row_sound S s' n (tree_at n S s') (λ r more z h g. sound n S s' r more z h g) size q rest y room f) within x e
 
 -- so is a row, and a body
 pub rows_sound : (n : ℕ) (S : List (List ℕ)) (s : ℕ) → RowsRead S s n (rows_at n S s)
 unfolding RowsRead
 rows_sound n S s size q rest y room f = row_sound S s n (tree_at n S s) (λ r more z h g. sound n S s r more z h g) size q rest y room f
 
-pub within_sound : (n : ℕ) (S : List (List ℕ)) (s q left : ℕ) (f : Form) (x : Node × ℕ) → q + body_words f ≤ length (segment S s) → IsWhole f → filled (rows_at n S) S f s q left ≡ Ok x → ReadsBody S s n q left f x
-within_sound n S s q left f x room w e = filled_sound S s q n left (rows_at n S) (rows_sound n S s) f x room w e
+pub within_sound : (n : ℕ) (S : List (List ℕ)) (s q budget : ℕ) (f : Form) (x : Node × ℕ) → q + body_words f ≤ length (segment S s) → IsWhole f → filled (rows_at n S) S f s q budget ≡ Ok x → ReadsBody S s n q budget f x
+within_sound n S s q budget f x room w e = filled_sound S s q n budget (rows_at n S) (rows_sound n S s) f x room w e

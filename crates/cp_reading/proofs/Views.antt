@@ -7,20 +7,20 @@ use Rattle.cp_words.specs.declared.pointer.Pointer.{Pointer}
 use Rattle.cp_tree.specs.Node.{voids, Node, null, cap, struct, list, ptrs, structs, Nodes, no_nodes, node, Bodies, no_bodies, body, count, number_of, greatest_depth, deepest_body, cost, total_cost, body_cost}
 use Rattle.cp_words.specs.Aims.{segment, words_at}
 use Rattle.cp_reading.specs.Denotes.{EachDenotes, EachBody}
-use Rattle.cp_reading.specs.Parts.{form_shape_of, part_node, IsPart}
-use Rattle.cp_reading.specs.Reading.{◌>>=◌, pointer_read, area_here, Read, Kids, entered, filled, bodies_by, price, body_words, lent_words, IsWhole, IsWithin, IsRootArea, top, body_by, kids_at, rows_at, most_nesting, most_traversal, node_in, tree_read, area_read}
+use Rattle.cp_reading.specs.Viewed.{form_shape_of, viewed_node, IsViewed}
+use Rattle.cp_reading.specs.Reading.{◌>>=◌, pointer_read, area_here, Read, Kids, charged, filled, bodies_by, price, body_words, lent_words, IsWhole, IsWithin, IsRootArea, top, body_by, kids_at, rows_at, most_nesting, most_traversal, node_in, tree_read, area_read}
 use Rattle.cp_tree.specs.Seen.{shape_of, node_at, body_at, part_of, AreWordsOf}
 use Rattle.cp_reading.specs.declared.area.Area.{Area}
 use Rattle.cp_reading.specs.declared.area.Form.{Form}
 use Rattle.cp_reading.specs.declared.area.Form.TheVariants as forms
 use Rattle.cp_words.specs.declared.place.Place.{Place}
 use Rattle.cp_reading.specs.declared.fault.TreeFault.{TreeFault}
-use Rattle.cp_reading.specs.declared.view.Part.{Part}
-use Rattle.cp_reading.specs.declared.view.Part.TheVariants as parts
+use Rattle.cp_reading.specs.declared.view.Viewed.{Viewed}
+use Rattle.cp_reading.specs.declared.view.Viewed.TheVariants as viewed
 use Rattle.cp_reading.proofs.Complete.{complete, fills_read}
 use Rattle.cp_reading.specs.Fills.{IsBody, form_of, Fills}
 use Rattle.cp_reading.proofs.Fills.{inner_depth, inner_cost}
-use Rattle.cp_reading.proofs.Sound.{ReadsBody, elements-made, width, bind_ok, ok_is, within_sound, entered_is}
+use Rattle.cp_reading.proofs.Sound.{ReadsBody, elements-made, width, bind_ok, ok_is, within_sound, charged_is}
 
 -- a reading that went well
 pub ok_of : {A : Type 0} (r : Result A TreeFault) → is_ok r ≡ true → (x : A) × (r ≡ Ok x)
@@ -41,13 +41,13 @@ pub some_is : {A : Type 0} {x y : A} → Some x ≡ Some y → x ≡ y
 some_is e = cc
 
 -- A body that was paid for is read within the greatest limits too.
-pub body_again : (S : List (List ℕ)) (at : Place) (n left : ℕ) (a : Area) (x : Node × ℕ) → n ≤ most_nesting → left ≤ most_traversal → IsWithin S a → body_by at (kids_at n S) S left a ≡ Ok x
+pub body_again : (S : List (List ℕ)) (at : Place) (n budget : ℕ) (a : Area) (x : Node × ℕ) → n ≤ most_nesting → budget ≤ most_traversal → IsWithin S a → body_by at (kids_at n S) S budget a ≡ Ok x
     → area_read S a ≡ Ok (x.0, most_traversal - inner_cost x.0)
 unfolding kids_at
-body_again S at zero left a x deep dear w e = cc
-body_again S at (suc m) left a x deep dear w e =
-    let into = bind_ok (entered at (Some (rows_at m S)) (price a.form) left) _ x e in
-    let paid = entered_is at (Some (rows_at m S)) (price a.form) left into.0 into.1 in
+body_again S at zero budget a x deep dear w e = cc
+body_again S at (suc m) budget a x deep dear w e =
+    let into = bind_ok (charged at (Some (rows_at m S)) (price a.form) budget) _ x e in
+    let paid = charged_is at (Some (rows_at m S)) (price a.form) budget into.0 into.1 in
     let same : rows_at m S ≡ into.0.0 = some_is paid.0 in
     let read = subst (λ (k : Kids). filled k S a.form a.segment a.start into.0.1 ≡ Ok x) (sym same) into.2 in
     let b = within_sound m S a.segment a.start into.0.1 a.form x w.1 w.2 read in
@@ -57,7 +57,7 @@ body_again S at (suc m) left a x deep dear w e =
 -- the root's body is read within the greatest limits too
 pub root_again : (n b : ℕ) (S : List (List ℕ)) (a : Area) (r : IsRootArea n b S a) → n ≤ 256 → b ≤ 67108864 → area_read S a ≡ Ok (r.tree, most_traversal - inner_cost r.tree)
 unfolding most_nesting most_traversal
-root_again n b S a r deep dear = body_again S top n b a (r.tree, r.left) deep dear r.within r.body
+root_again n b S a r deep dear = body_again S top n b a (r.tree, r.budget) deep dear r.within r.body
 
 pub node_at-past : (ts : Nodes) (i : ℕ) → count ts ≤ i → node_at ts i ≡ null
 node_at-past no_nodes i past = refl
@@ -71,7 +71,7 @@ body_at-past (body ws ts bs) (suc i) past = body_at-past bs i (omega arith)
 
 -- a pointer of a row is read by itself
 pub row_part : (S : List (List ℕ)) (s p : ℕ) (ts : Nodes) (i : ℕ) → i < count ts → EachDenotes S s p ts → greatest_depth ts ≤ most_nesting → total_cost ts ≤ most_traversal
-    → (left : ℕ) × (tree_read S s (p + i) ≡ Ok (node_at ts i, left))
+    → (budget : ℕ) × (tree_read S s (p + i) ≡ Ok (node_at ts i, budget))
 row_part S s p no_nodes i within h deep dear = absurd (omega arith)
 row_part S s p (node t ts) zero within h deep dear =
     let e : p + 0 ≡ p = omega arith in
@@ -103,7 +103,7 @@ parts_of (forms.Structs d n k) = k
 -- What a body's tree says, by its form.
 module _ (S : List (List ℕ)) (s q : ℕ) where
   struct_part : (t : Node) (d n i : ℕ) → Fills S s q t → IsBody t → form_of t ≡ forms.Struct d n → inner_depth t ≤ most_nesting → inner_cost t ≤ most_traversal → i < n
-      → (left : ℕ) × (tree_read S s (q + d + i) ≡ Ok (part_of t i, left))
+      → (budget : ℕ) × (tree_read S s (q + d + i) ≡ Ok (part_of t i, budget))
   struct_part null d n i h b f deep dear within = absurd b
   struct_part (cap k) d n i h b f deep dear within = absurd b
   struct_part (list es) d n i h b f deep dear within = cc
@@ -115,7 +115,7 @@ module _ (S : List (List ℕ)) (s q : ℕ) where
       rw (← wide) (row_part S s (q + length ws) ts i (rw many within) h.1 deep dear)
 
   pointer_part : (t : Node) (n i : ℕ) → Fills S s q t → IsBody t → form_of t ≡ forms.List sizes.Pointer n → inner_depth t ≤ most_nesting → inner_cost t ≤ most_traversal → i < n
-      → (left : ℕ) × (tree_read S s (q + i) ≡ Ok (part_of t i, left))
+      → (budget : ℕ) × (tree_read S s (q + i) ≡ Ok (part_of t i, budget))
   pointer_part null n i h b f deep dear within = absurd b
   pointer_part (cap k) n i h b f deep dear within = absurd b
   pointer_part (struct ws ts) n i h b f deep dear within = cc
@@ -127,7 +127,7 @@ module _ (S : List (List ℕ)) (s q : ℕ) where
       row_part S s q ts i (rw many within) h deep dear
 
   element_of : (t : Node) (d n k i : ℕ) → Fills S s q t → IsBody t → form_of t ≡ forms.Structs d n k → inner_depth t ≤ most_nesting → inner_cost t ≤ most_traversal → i < k
-      → (left : ℕ) × (area_read S (record { form = forms.Struct d n; segment = s; start = q + i * (d + n) }) ≡ Ok (part_of t i, left))
+      → (budget : ℕ) × (area_read S (record { form = forms.Struct d n; segment = s; start = q + i * (d + n) }) ≡ Ok (part_of t i, budget))
   element_of null d n k i h b f deep dear within = absurd b
   element_of (cap j) d n k i h b f deep dear within = absurd b
   element_of (struct ws ts) d n k i h b f deep dear within = cc
@@ -163,64 +163,64 @@ shape-form (ptrs ts) b = refl
 shape-form (structs d n bs) b = refl
 
 -- The words that a body's tree has are those at its start.
-words_are : (kids : Kids) (S : List (List ℕ)) (f : Form) (s q left : ℕ) (x : Node × ℕ) → q + body_words f ≤ length (segment S s) → IsWhole f → filled kids S f s q left ≡ Ok x
+words_are : (kids : Kids) (S : List (List ℕ)) (f : Form) (s q budget : ℕ) (x : Node × ℕ) → q + body_words f ≤ length (segment S s) → IsWhole f → filled kids S f s q budget ≡ Ok x
     → AreWordsOf (words_at S s q (lent_words f)) x.0
-words_are kids S (forms.Struct d n) s q left x room w e =
-    let k = bind_ok (kids s n (q + d) left) _ x e in
+words_are kids S (forms.Struct d n) s q budget x room w e =
+    let k = bind_ok (kids s n (q + d) budget) _ x e in
     subst (λ (y : Node × ℕ). AreWordsOf (words_at S s q d) y.0) (ok_is k.2) refl
-words_are kids S (forms.Structs d n c) s q left x room w e =
-    let k = bind_ok (bodies_by (kids s) S s d n c q left) _ x e in
+words_are kids S (forms.Structs d n c) s q budget x room w e =
+    let k = bind_ok (bodies_by (kids s) S s d n c q budget) _ x e in
     subst (λ (y : Node × ℕ). AreWordsOf (words_at S s q 0) y.0) (ok_is k.2) refl
-words_are kids S (forms.List sizes.Pointer n) s q left x room w e =
-    let k = bind_ok (kids s n q left) _ x e in
+words_are kids S (forms.List sizes.Pointer n) s q budget x room w e =
+    let k = bind_ok (kids s n q budget) _ x e in
     subst (λ (y : Node × ℕ). AreWordsOf (words_at S s q 0) y.0) (ok_is k.2) refl
-words_are kids S (forms.List sizes.Composite n) s q left x room w e = absurd w
-words_are kids S (forms.List sizes.Void n) s q left x room w e =
+words_are kids S (forms.List sizes.Composite n) s q budget x room w e = absurd w
+words_are kids S (forms.List sizes.Void n) s q budget x room w e =
     let none : (n * 0 + 63) / 64 ≡ 0 = omega arith in
     subst (λ (y : Node × ℕ). AreWordsOf (words_at S s q (words_for sizes.Void n)) y.0) (ok_is e) (rw none refl)
-words_are kids S (forms.List size n) s q left x room w e =
+words_are kids S (forms.List size n) s q budget x room w e =
     let wide = width S s (words_for size n) q room in
     let made = elements-made (words_at S s q (words_for size n)) size n in
     subst (λ (y : Node × ℕ). AreWordsOf (words_at S s q (words_for size n)) y.0) (ok_is e) (rw made (wide, refl))
 
 -- What a part that is a body says. Its kind and sizes are its form's.
-module _ (S : List (List ℕ)) (p : Part) (a : Area) (is : p ≡ parts.Body a) (part : IsPart S p) where
-  own : IsPart S (parts.Body a)
-  own = subst (IsPart S) is part
+module _ (S : List (List ℕ)) (p : Viewed) (a : Area) (is : p ≡ viewed.Body a) (part : IsViewed S p) where
+  own : IsViewed S (viewed.Body a)
+  own = subst (IsViewed S) is part
 
   reads : (x : Node × ℕ) × (area_read S a ≡ Ok x) × ReadsBody S a.segment most_nesting a.start most_traversal a.form x
   reads = area_reads S a own.0 own.2
 
-  node-is : part_node S p ≡ reads.0.0
-  node-is = ap (part_node S) is ∙ ap node_in reads.1
+  node-is : viewed_node S p ≡ reads.0.0
+  node-is = ap (viewed_node S) is ∙ ap node_in reads.1
 
-  pub part-shape : form_shape_of a.form ≡ shape_of (part_node S p)
+  pub part-shape : form_shape_of a.form ≡ shape_of (viewed_node S p)
   part-shape = rw node-is (sym (shape-form reads.0.0 reads.2.is_body ∙ ap form_shape_of reads.2.form))
 
-  pub part-words : AreWordsOf (words_at S a.segment a.start (lent_words a.form)) (part_node S p)
+  pub part-words : AreWordsOf (words_at S a.segment a.start (lent_words a.form)) (viewed_node S p)
   part-words = rw node-is (words_are (rows_at most_nesting S) S a.form a.segment a.start most_traversal reads.0 own.0.1 own.0.2 reads.1)
 
-  pub part-end : (i : ℕ) → parts_of a.form ≤ i → null ≡ part_of (part_node S p) i
+  pub part-end : (i : ℕ) → parts_of a.form ≤ i → null ≡ part_of (viewed_node S p) i
   part-end i past = rw node-is (sym (part-past reads.0.0 i reads.2.is_body (rw reads.2.form past)))
 
-  pub part-struct : (d n i : ℕ) → a.form ≡ forms.Struct d n → i < n → (left : ℕ) × (tree_read S a.segment (a.start + d + i) ≡ Ok (part_of (part_node S p) i, left))
+  pub part-struct : (d n i : ℕ) → a.form ≡ forms.Struct d n → i < n → (budget : ℕ) × (tree_read S a.segment (a.start + d + i) ≡ Ok (part_of (viewed_node S p) i, budget))
   part-struct d n i f within = rw node-is (struct_part S a.segment a.start reads.0.0 d n i reads.2.fills reads.2.is_body (reads.2.form ∙ f) reads.2.nests (omega (arith, reads.2.costs)) within)
 
-  pub part-pointer : (n i : ℕ) → a.form ≡ forms.List sizes.Pointer n → i < n → (left : ℕ) × (tree_read S a.segment (a.start + i) ≡ Ok (part_of (part_node S p) i, left))
+  pub part-pointer : (n i : ℕ) → a.form ≡ forms.List sizes.Pointer n → i < n → (budget : ℕ) × (tree_read S a.segment (a.start + i) ≡ Ok (part_of (viewed_node S p) i, budget))
   part-pointer n i f within = rw node-is (pointer_part S a.segment a.start reads.0.0 n i reads.2.fills reads.2.is_body (reads.2.form ∙ f) reads.2.nests (omega (arith, reads.2.costs)) within)
 
   pub part-element : (d n k i : ℕ) → a.form ≡ forms.Structs d n k → i < k
-      → (left : ℕ) × (area_read S (record { form = forms.Struct d n; segment = a.segment; start = a.start + i * (d + n) }) ≡ Ok (part_of (part_node S p) i, left))
+      → (budget : ℕ) × (area_read S (record { form = forms.Struct d n; segment = a.segment; start = a.start + i * (d + n) }) ≡ Ok (part_of (viewed_node S p) i, budget))
   part-element d n k i f within = rw node-is (element_of S a.segment a.start reads.0.0 d n k i reads.2.fills reads.2.is_body (reads.2.form ∙ f) reads.2.nests (omega (arith, reads.2.costs)) within)
 
 -- what was read at a word, or of a body
-pub read-node : (r : Read Node) (t : Node) (left : ℕ) → r ≡ Ok (t, left) → node_in r ≡ t
-read-node r t left e = rw e refl
+pub read-node : (r : Read Node) (t : Node) (budget : ℕ) → r ≡ Ok (t, budget) → node_in r ≡ t
+read-node r t budget e = rw e refl
 
 -- The body that a pointer was found to have, of a pointer that was read: it is a view's part, and its tree is the pointer's.
 module _ (S : List (List ℕ)) (at : Place) (r : Pointer) (ws : List ℕ) (a : Area) where
   found-again : pointer_read S at r ≡ area_here at (segment S at.segment) r >>= body_by at (kids_at most_nesting S) S most_traversal → is_ok (pointer_read S at r) ≡ true → ws ≡ segment S at.segment → area_here at ws r ≡ Ok a → IsWithin S a
-      → (x : Node × ℕ) × (pointer_read S at r ≡ Ok x) × (left : ℕ) × (area_read S a ≡ Ok (x.0, left))
+      → (x : Node × ℕ) × (pointer_read S at r ≡ Ok x) × (budget : ℕ) × (area_read S a ≡ Ok (x.0, budget))
   found-again leads checked same is within =
       let k = ok_of (pointer_read S at r) checked in
       let there : area_here at (segment S at.segment) r ≡ Ok a = subst (λ list. area_here at list r ≡ Ok a) same is in
@@ -237,7 +237,7 @@ module _ (S : List (List ℕ)) (at : Place) (r : Pointer) (ws : List ℕ) (a : A
       ap node_in k.3 ∙ sym (ap node_in k.1)
 
   pub found-part : pointer_read S at r ≡ area_here at (segment S at.segment) r >>= body_by at (kids_at most_nesting S) S most_traversal → is_ok (pointer_read S at r) ≡ true → ws ≡ segment S at.segment → area_here at ws r ≡ Ok a
-      → a.segment ≡ at.segment → at.segment < length S → a.start + body_words a.form ≤ length ws → IsWhole a.form → a.start + body_words a.form < 2 ^ 63 → IsPart S (parts.Body a)
+      → a.segment ≡ at.segment → at.segment < length S → a.start + body_words a.form ≤ length ws → IsWhole a.form → a.start + body_words a.form < 2 ^ 63 → IsViewed S (viewed.Body a)
   found-part leads checked same is here exists room whole small =
       let within = found-within same here exists room whole in
       (within, small, ok_is_ok _ _ (found-again leads checked same is within).3)

@@ -49,8 +49,8 @@ StartsBefore S s p = (r : Pointer) × (o : ℤ) × (k : Kind) × Holds S s p r �
 
 -- G3: the landing pad of a far pointer isn't inside its segment, which exists; or the body begins before its segment, or
 -- ends after it; or a composite list's elements take more words than it has.
-abbrev pub HasNoRoom : List (List ℕ) → ℕ → ℕ → Type 0
-HasNoRoom S s p =
+abbrev pub IsOutOfBounds : List (List ℕ) → ℕ → ℕ → Type 0
+IsOutOfBounds S s p =
     ((place : ℕ) × (other : ℕ) × Holds S s p (pointers.Far false place other) × (other < length S) × (length (segment S other) ≤ place))
     ⊎ (((place : ℕ) × (other : ℕ) × Holds S s p (pointers.Far true place other) × (other < length S) × (length (segment S other) ≤ place + 1))
     ⊎ ((StartsBefore S s p ⊎ ((place : ℕ) × (other : ℕ) × Holds S s p (pointers.Far false place other) × StartsBefore S other place))
@@ -64,7 +64,7 @@ HasBadTag S s p = (size : ℕ) × (s' : ℕ) × (tag : ℕ) × Aims S s p (kinds
 
 -- A fault with a place names a reachable word that has it. One of a limit says that something is too deep, or too dear.
 abbrev pub FaultBy : List (List ℕ) → Type 0 → Type 0 → TreeFault → Type 0
-FaultBy S deep dear (faults.OutOfBounds at) = IsReachable S at.segment at.word × HasNoRoom S at.segment at.word
+FaultBy S deep dear (faults.OutOfBounds at) = IsReachable S at.segment at.word × IsOutOfBounds S at.segment at.word
 FaultBy S deep dear (faults.NoSegment at) = IsReachable S at.segment at.word × NamesNoSegment S at.segment at.word
 FaultBy S deep dear (faults.BadPad at) = IsReachable S at.segment at.word × HasBadPad S at.segment at.word
 FaultBy S deep dear (faults.BadTag at) = IsReachable S at.segment at.word × HasBadTag S at.segment at.word

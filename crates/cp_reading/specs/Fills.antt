@@ -23,7 +23,7 @@ form_of (ptrs ts) = forms.List sizes.Pointer (count ts)
 form_of (structs d n bs) = forms.Structs d n (number_of bs)
 form_of other = forms.Structs 0 0 0
 
--- the tree's body stands from word q of segment s on
+-- the tree's body begins at word q of segment s
 abbrev pub Fills : List (List ℕ) → ℕ → ℕ → Node → Type 0
 Fills S s q (struct ws ts) = (ws ≡ words_at S s q (length ws)) × EachDenotes S s (q + length ws) ts
 Fills S s q (list es) = es ≡ elements_of (words_at S s q (words_for (element_size es) (element_count es))) (element_size es) (element_count es)

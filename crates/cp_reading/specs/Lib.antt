@@ -3,7 +3,7 @@ pub mod Denotes
 pub mod Reading
 pub mod Near
 pub mod Visited
-pub mod Parts
+pub mod Viewed
 pub mod Pruned
 pub mod Faults
 pub mod Fills

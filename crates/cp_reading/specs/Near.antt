@@ -3,17 +3,17 @@ use Rattle.std.specs.Prelude.{◌≡◌, ℕ, List, Some, Result, Ok}
 use Rattle.cp_words.specs.Word.{pointer_of}
 use Rattle.cp_words.specs.declared.pointer.Pointer.{Pointer}
 use Rattle.cp_tree.specs.Node.{Node}
-use Rattle.cp_reading.specs.Reading.{◌>>=◌, aim_by, body_by, kids_at, top}
-use Rattle.cp_reading.specs.declared.aim.Aim.{Aim}
+use Rattle.cp_reading.specs.Reading.{◌>>=◌, target_by, body_by, kids_at, top}
+use Rattle.cp_reading.specs.declared.target.Target.{Target}
 use Rattle.cp_reading.specs.declared.area.Area.{Area}
 use Rattle.cp_words.specs.declared.place.Place.{Place}
 use Rattle.cp_reading.specs.declared.fault.TreeFault.{TreeFault}
 
--- The word at this place aims at this body, whatever else the segments hold.
-pub record Near (at : Place) (word : ℕ) (aim : Aim) : Type 0 where
+-- The word at this place leads to this body, whatever else the segments hold.
+pub record Near (at : Place) (word : ℕ) (target : Target) : Type 0 where
   pub pointer : Pointer
   pub says : pointer_of word ≡ Some pointer
-  pub aims : (S : List (List ℕ)) → aim_by at S pointer ≡ Ok aim
+  pub aims : (S : List (List ℕ)) → target_by at S pointer ≡ Ok target
 
 -- what the root's body is read as, within limits of nesting and traversal
 abbrev pub root_read : ℕ → ℕ → List (List ℕ) → Area → Result Node TreeFault

@@ -45,7 +45,7 @@ IsPointerOf (forms.List sizes.Pointer n) q p = (i : ℕ) × (i < n) × (p ≡ q 
 IsPointerOf (forms.List size n) q p = ⊥
 IsPointerOf (forms.Structs d n k) q p = (j : ℕ) × (j < k) × (i : ℕ) × (i < n) × (p ≡ q + j * (d + n) + d + i)
 
--- A pointer word is reachable if it is the root, or stands in the body of a reachable word.
+-- A pointer word is reachable if it is the root, or is in the body of a reachable word.
 pub data IsReachable (S : List (List ℕ)) : ℕ → ℕ → Type 0 where
   root : IsReachable S 0 0
   below : {s p : ℕ} (form : Form) (s' start place : ℕ) (above : IsReachable S s p) (body : Locates S s p form s' start) (pointer : IsPointerOf form start place) → IsReachable S s' place

@@ -8,7 +8,7 @@ use Rattle.cp_words.specs.declared.pointer.Tag.{Tag}
 use Rattle.cp_tree.specs.Node.{Node, null, cap, struct, list, ptrs, structs, Nodes, no_nodes, node, Bodies, no_bodies, body}
 use Rattle.cp_words.specs.Aims.{segment, words_at}
 use Rattle.cp_tree.specs.Elements.{elements_of}
-use Rattle.cp_reading.specs.declared.aim.Aim.{Aim}
+use Rattle.cp_reading.specs.declared.target.Target.{Target}
 use Rattle.cp_words.specs.declared.kind.Kind.{Kind}
 use Rattle.cp_words.specs.declared.kind.Kind.TheVariants as kinds
 use Rattle.cp_reading.specs.declared.area.Area.{Area}
@@ -33,12 +33,12 @@ start_of p (pos n) = Some (p + 1 + n)
 start_of p (negsuc n) = if nat_le n p then Some (p - n) else None
 
 -- the body of a pointer at word p of segment s
-abbrev pub aim_here : ℕ → ℕ → Pointer → Option Aim
-aim_here s p (pointers.Struct offset d n) = Some (record { kind = kinds.Struct d n; segment = s; start = start_of p offset })
-aim_here s p (pointers.List offset size n) = Some (record { kind = kinds.List size n; segment = s; start = start_of p offset })
-aim_here s p pointers.Null = None
-aim_here s p (pointers.Cap i) = None
-aim_here s p (pointers.Far double place other) = None
+abbrev pub target_here : ℕ → ℕ → Pointer → Option Target
+target_here s p (pointers.Struct offset d n) = Some (record { kind = kinds.Struct d n; segment = s; start = start_of p offset })
+target_here s p (pointers.List offset size n) = Some (record { kind = kinds.List size n; segment = s; start = start_of p offset })
+target_here s p pointers.Null = None
+target_here s p (pointers.Cap i) = None
+target_here s p (pointers.Far double place other) = None
 
 -- what the second word of a landing pad says that the body is
 abbrev pub tag_kind_of : Option Pointer → Option Kind
@@ -48,37 +48,37 @@ tag_kind_of (Some (pointers.List (pos zero) size n)) = Some (kinds.List size n)
 tag_kind_of other = None
 
 -- the body that a landing pad of two words names
-abbrev pub aim_second : Place → List (List ℕ) → ℕ → ℕ → Option Kind → Result Aim TreeFault
-aim_second at S start s' None = Err (faults.BadPad at)
-aim_second at S start s' (Some k) = if nat_lt s' (length S) then Ok (record { kind = k; segment = s'; start = Some start }) else Err (faults.NoSegment at)
+abbrev pub target_second : Place → List (List ℕ) → ℕ → ℕ → Option Kind → Result Target TreeFault
+target_second at S start s' None = Err (faults.BadPad at)
+target_second at S start s' (Some k) = if nat_lt s' (length S) then Ok (record { kind = k; segment = s'; start = Some start }) else Err (faults.NoSegment at)
 
-abbrev pub aim_two : Place → List (List ℕ) → Option Pointer → Option Pointer → Result Aim TreeFault
-aim_two at S (Some (pointers.Far false start s')) second = aim_second at S start s' (tag_kind_of second)
-aim_two at S first second = Err (faults.BadPad at)
+abbrev pub target_by_two : Place → List (List ℕ) → Option Pointer → Option Pointer → Result Target TreeFault
+target_by_two at S (Some (pointers.Far false start s')) second = target_second at S start s' (tag_kind_of second)
+target_by_two at S first second = Err (faults.BadPad at)
 
-abbrev pub pad_or : Place → Option Aim → Result Aim TreeFault
-pad_or at None = Err (faults.BadPad at)
-pad_or at (Some aim) = Ok aim
+abbrev pub or_bad_pad : Place → Option Target → Result Target TreeFault
+or_bad_pad at None = Err (faults.BadPad at)
+or_bad_pad at (Some target) = Ok target
 
-abbrev pub pad_one : Place → ℕ → ℕ → Option Pointer → Result Aim TreeFault
-pad_one at s p None = Err (faults.BadPad at)
-pad_one at s p (Some r) = pad_or at (aim_here s p r)
+abbrev pub target_by_one : Place → ℕ → ℕ → Option Pointer → Result Target TreeFault
+target_by_one at s p None = Err (faults.BadPad at)
+target_by_one at s p (Some r) = or_bad_pad at (target_here s p r)
 
--- the body at which a far pointer aims
-abbrev pub aim_far : Place → List (List ℕ) → Bool → ℕ → ℕ → Result Aim TreeFault
-aim_far at S false place s' =
+-- the body to which a far pointer leads
+abbrev pub target_by_far : Place → List (List ℕ) → Bool → ℕ → ℕ → Result Target TreeFault
+target_by_far at S false place s' =
     if nat_lt s' (length S) then
-    (if nat_lt place (length (segment S s')) then pad_one at s' place (pointer_of (slice_index (segment S s') place)) else Err (faults.OutOfBounds at))
+    (if nat_lt place (length (segment S s')) then target_by_one at s' place (pointer_of (slice_index (segment S s') place)) else Err (faults.OutOfBounds at))
     else Err (faults.NoSegment at)
-aim_far at S true place s' =
+target_by_far at S true place s' =
     if nat_lt s' (length S) then
-    (if nat_lt (place + 1) (length (segment S s')) then aim_two at S (pointer_of (slice_index (segment S s') place)) (pointer_of (slice_index (segment S s') (place + 1))) else Err (faults.OutOfBounds at))
+    (if nat_lt (place + 1) (length (segment S s')) then target_by_two at S (pointer_of (slice_index (segment S s') place)) (pointer_of (slice_index (segment S s') (place + 1))) else Err (faults.OutOfBounds at))
     else Err (faults.NoSegment at)
 
--- the body at which a pointer aims: at its own word, or where a far pointer leads
-abbrev pub aim_by : Place → List (List ℕ) → Pointer → Result Aim TreeFault
-aim_by at S (pointers.Far double place other) = aim_far at S double place other
-aim_by at S r = pad_or at (aim_here at.segment at.word r)
+-- the body to which a pointer leads: at its own word, or where a far pointer leads
+abbrev pub target_by : Place → List (List ℕ) → Pointer → Result Target TreeFault
+target_by at S (pointers.Far double place other) = target_by_far at S double place other
+target_by at S r = or_bad_pad at (target_here at.segment at.word r)
 
 -- where a body begins, if this many words from there on lie in the segment
 abbrev pub in_segment : List ℕ → ℕ → Option ℕ → Option ℕ
@@ -102,13 +102,13 @@ area_by_kind at ws s start (kinds.Struct d n) = placed at (in_segment ws (d + n)
 area_by_kind at ws s start (kinds.List sizes.Composite n) = placed at (in_segment ws (n + 1) start) >>= λ q. tagged at s n q (tag_of (slice_index ws q))
 area_by_kind at ws s start (kinds.List size n) = placed at (in_segment ws (words_for size n) start) >>= λ q. Ok (record { form = forms.List size n; segment = s; start = q })
 
--- the body at which a pointer aims, if it is wholly inside its segment
-abbrev pub area_by : Place → List (List ℕ) → Aim → Result Area TreeFault
-area_by at S aim = area_by_kind at (segment S aim.segment) aim.segment aim.start aim.kind
+-- the body to which a pointer leads, if it is wholly inside its segment
+abbrev pub area_by : Place → List (List ℕ) → Target → Result Area TreeFault
+area_by at S target = area_by_kind at (segment S target.segment) target.segment target.start target.kind
 
--- the body of a pointer that aims into its own segment, which has these words
+-- the body of a pointer that leads into its own segment, which has these words
 abbrev pub area_here : Place → List ℕ → Pointer → Result Area TreeFault
-area_here at ws r = pad_or at (aim_here at.segment at.word r) >>= λ aim. area_by_kind at ws aim.segment aim.start aim.kind
+area_here at ws r = or_bad_pad at (target_here at.segment at.word r) >>= λ target. area_by_kind at ws target.segment target.start target.kind
 
 -- how the pointers of a body are read: of a segment, this many from a word on, with what is left
 abbrev pub Kids : Type 0
@@ -116,20 +116,20 @@ Kids = ℕ → ℕ → ℕ → ℕ → Read Nodes
 
 -- the trees of the pointer words from p on
 unfoldable pub row_by : (ℕ → ℕ → Read Node) → ℕ → ℕ → ℕ → Read Nodes
-row_by read zero p left = Ok (no_nodes, left)
-row_by read (suc n) p left = read p left >>= λ t. row_by read n (p + 1) t.1 >>= λ ts. Ok (node t.0 ts.0, ts.1)
+row_by read zero p budget = Ok (no_nodes, budget)
+row_by read (suc n) p budget = read p budget >>= λ t. row_by read n (p + 1) t.1 >>= λ ts. Ok (node t.0 ts.0, ts.1)
 
 -- the bodies from word q of segment s on, each of d words and n pointers
 unfoldable pub bodies_by : (ℕ → ℕ → ℕ → Read Nodes) → List (List ℕ) → ℕ → ℕ → ℕ → ℕ → ℕ → ℕ → Read Bodies
-bodies_by kids S s d n zero q left = Ok (no_bodies, left)
-bodies_by kids S s d n (suc k) q left = kids n (q + d) left >>= λ ts. bodies_by kids S s d n k (q + d + n) ts.1 >>= λ bs. Ok (body (words_at S s q d) ts.0 bs.0, bs.1)
+bodies_by kids S s d n zero q budget = Ok (no_bodies, budget)
+bodies_by kids S s d n (suc k) q budget = kids n (q + d) budget >>= λ ts. bodies_by kids S s d n k (q + d + n) ts.1 >>= λ bs. Ok (body (words_at S s q d) ts.0 bs.0, bs.1)
 
 -- the tree of a body of this form, whose parts begin at word q of segment s
 abbrev pub filled : Kids → List (List ℕ) → Form → ℕ → ℕ → ℕ → Read Node
-filled kids S (forms.Struct d n) s q left = kids s n (q + d) left >>= λ ts. Ok (struct (words_at S s q d) ts.0, ts.1)
-filled kids S (forms.List sizes.Pointer n) s q left = kids s n q left >>= λ ts. Ok (ptrs ts.0, ts.1)
-filled kids S (forms.List size n) s q left = Ok (list (elements_of (words_at S s q (words_for size n)) size n), left)
-filled kids S (forms.Structs d n k) s q left = bodies_by (kids s) S s d n k q left >>= λ bs. Ok (structs d n bs.0, bs.1)
+filled kids S (forms.Struct d n) s q budget = kids s n (q + d) budget >>= λ ts. Ok (struct (words_at S s q d) ts.0, ts.1)
+filled kids S (forms.List sizes.Pointer n) s q budget = kids s n q budget >>= λ ts. Ok (ptrs ts.0, ts.1)
+filled kids S (forms.List size n) s q budget = Ok (list (elements_of (words_at S s q (words_for size n)) size n), budget)
+filled kids S (forms.Structs d n k) s q budget = bodies_by (kids s) S s d n k q budget >>= λ bs. Ok (structs d n bs.0, bs.1)
 
 -- what a body costs, apart from what hangs on it
 abbrev pub price : Form → ℕ
@@ -138,27 +138,27 @@ price (forms.List size n) = 1 + words_for size n
 price (forms.Structs d n k) = 2 + k * (1 + d + n)
 
 -- The way into a body: first the depth is checked, then the cost is taken.
-abbrev pub entered : Place → Option Kids → ℕ → ℕ → Result (Kids × ℕ) TreeFault
-entered at None price left = Err (faults.NestingLimit at)
-entered at (Some kids) price left = if nat_lt left price then Err (faults.TraversalLimit at) else Ok (kids, left - price)
+abbrev pub charged : Place → Option Kids → ℕ → ℕ → Result (Kids × ℕ) TreeFault
+charged at None price budget = Err (faults.NestingLimit at)
+charged at (Some kids) price budget = if nat_lt budget price then Err (faults.TraversalLimit at) else Ok (kids, budget - price)
 
 -- the same way in, of a depth
-abbrev pub toll : Place → ℕ → ℕ → ℕ → Result ℕ TreeFault
-toll at n price left = if n == 0 then Err (faults.NestingLimit at) else (if nat_lt left price then Err (faults.TraversalLimit at) else Ok (left - price))
+abbrev pub budget_after : Place → ℕ → ℕ → ℕ → Result ℕ TreeFault
+budget_after at n price budget = if n == 0 then Err (faults.NestingLimit at) else (if nat_lt budget price then Err (faults.TraversalLimit at) else Ok (budget - price))
 
 -- the tree of a body
 abbrev pub body_by : Place → Option Kids → List (List ℕ) → ℕ → Area → Read Node
-body_by at kids S left a = entered at kids (price a.form) left >>= λ e. filled e.0 S a.form a.segment a.start e.1
+body_by at kids S budget a = charged at kids (price a.form) budget >>= λ e. filled e.0 S a.form a.segment a.start e.1
 
 abbrev pub pointer_by : Place → Option Kids → List (List ℕ) → ℕ → Option Pointer → Read Node
-pointer_by at kids S left None = Err (faults.BadCapability at)
-pointer_by at kids S left (Some pointers.Null) = Ok (null, left)
-pointer_by at kids S left (Some (pointers.Cap i)) = Ok (cap i, left)
-pointer_by at kids S left (Some r) = aim_by at S r >>= area_by at S >>= body_by at kids S left
+pointer_by at kids S budget None = Err (faults.BadCapability at)
+pointer_by at kids S budget (Some pointers.Null) = Ok (null, budget)
+pointer_by at kids S budget (Some (pointers.Cap i)) = Ok (cap i, budget)
+pointer_by at kids S budget (Some r) = target_by at S r >>= area_by at S >>= body_by at kids S budget
 
 -- one pointer word
 abbrev pub word_by : Option Kids → List (List ℕ) → ℕ → ℕ → ℕ → Read Node
-word_by kids S s p left = pointer_by (record { segment = s; word = p }) kids S left (pointer_of (slice_index (segment S s) p))
+word_by kids S s p budget = pointer_by (record { segment = s; word = p }) kids S budget (pointer_of (slice_index (segment S s) p))
 
 -- how the pointers of a body are read, where bodies may nest that deep
 unfoldable pub kids_at : ℕ → List (List ℕ) → Option Kids
@@ -167,7 +167,7 @@ kids_at (suc n) S = Some (λ s. row_by (word_by (kids_at n S) S s))
 
 -- the tree at a word, with bodies nested no deeper than the first number
 abbrev pub tree_at : ℕ → List (List ℕ) → ℕ → ℕ → ℕ → Read Node
-tree_at n S s p left = word_by (kids_at n S) S s p left
+tree_at n S s p budget = word_by (kids_at n S) S s p budget
 
 abbrev pub rows_at : ℕ → List (List ℕ) → Kids
 rows_at n S s = row_by (tree_at n S s)
@@ -176,16 +176,16 @@ rows_at n S s = row_by (tree_at n S s)
 abbrev pub top : Place
 top = record { segment = 0; word = 0 }
 
--- the root aims at a struct
+-- the root leads to a struct
 abbrev pub rooted : Kind → Read Node → Result Node TreeFault
 rooted (kinds.Struct d n) read = read >>= λ x. Ok x.0
 rooted (kinds.List size n) read = Err (faults.RootKind top)
 
 abbrev pub root_by : Option Kids → List (List ℕ) → ℕ → Option Pointer → Result Node TreeFault
-root_by kids S left None = Err (faults.BadCapability top)
-root_by kids S left (Some pointers.Null) = Err (faults.NoRoot top)
-root_by kids S left (Some (pointers.Cap i)) = Err (faults.RootKind top)
-root_by kids S left (Some r) = aim_by top S r >>= λ aim. rooted aim.kind (area_by top S aim >>= body_by top kids S left)
+root_by kids S budget None = Err (faults.BadCapability top)
+root_by kids S budget (Some pointers.Null) = Err (faults.NoRoot top)
+root_by kids S budget (Some (pointers.Cap i)) = Err (faults.RootKind top)
+root_by kids S budget (Some r) = target_by top S r >>= λ target. rooted target.kind (area_by top S target >>= body_by top kids S budget)
 
 -- the message's tree, or the first fault
 unfoldable pub root_of : ℕ → ℕ → List (List ℕ) → Result Node TreeFault
@@ -233,7 +233,7 @@ tree_read S s p = tree_at most_nesting S s p most_traversal
 
 -- what a struct, list or far pointer leads to
 abbrev pub pointer_read : List (List ℕ) → Place → Pointer → Read Node
-pointer_read S at r = aim_by at S r >>= area_by at S >>= body_by at (kids_at most_nesting S) S most_traversal
+pointer_read S at r = target_by at S r >>= area_by at S >>= body_by at (kids_at most_nesting S) S most_traversal
 
 abbrev pub area_read : List (List ℕ) → Area → Read Node
 area_read S a = filled (rows_at most_nesting S) S a.form a.segment a.start most_traversal
@@ -241,7 +241,7 @@ area_read S a = filled (rows_at most_nesting S) S a.form a.segment a.start most_
 -- The root is what the body was read as, within the limits.
 pub record IsRootArea (nesting traversal : ℕ) (S : List (List ℕ)) (a : Area) : Type 0 where
   pub tree : Node
-  pub left : ℕ
+  pub budget : ℕ
   pub within : IsWithin S a
-  pub body : body_by top (kids_at nesting S) S traversal a ≡ Ok (tree, left)
+  pub body : body_by top (kids_at nesting S) S traversal a ≡ Ok (tree, budget)
   pub root : root_of nesting traversal S ≡ Ok tree

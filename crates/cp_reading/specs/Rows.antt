@@ -3,11 +3,11 @@ use Rattle.std.specs.Prelude.{ℕ, List}
 use Rattle.cp_words.specs.declared.pointer.ElementSize.{ElementSize}
 use Rattle.cp_words.specs.declared.pointer.ElementSize.TheVariants as sizes
 use Rattle.cp_tree.specs.Node.{Node, struct, ptrs, structs, Nodes, no_nodes, Bodies, no_bodies}
-use Rattle.cp_reading.specs.Parts.{part_node}
+use Rattle.cp_reading.specs.Viewed.{viewed_node}
 use Rattle.cp_reading.specs.declared.area.Area.{Area}
 use Rattle.cp_reading.specs.declared.area.Form.TheVariants as forms
 use Rattle.cp_words.specs.declared.place.Place.{Place}
-use Rattle.cp_reading.specs.declared.view.Part.TheVariants as parts
+use Rattle.cp_reading.specs.declared.view.Viewed.TheVariants as viewed
 
 -- the pointers of a struct or of a list of pointers
 abbrev pub row_of : Node → Nodes
@@ -36,4 +36,4 @@ structs_at at d n k = record { form = forms.Structs d n k; segment = at.segment;
 
 -- the trees that n pointer words from a place on stand for
 abbrev pub trees_from : List (List ℕ) → Place → ℕ → Nodes
-trees_from S at n = row_of (part_node S (parts.Body (struct_at at 0 n)))
+trees_from S at n = row_of (viewed_node S (viewed.Body (struct_at at 0 n)))

@@ -30,5 +30,5 @@ passed visited before (Err e) = Err e
 
 -- what a check answers: what is left after it and the words visited then, or its fault
 abbrev pub answered : Result (Unit {0}) TreeFault → ℕ → ℕ → Result (ℕ × ℕ) TreeFault
-answered (Ok done) left visits = Ok (left, visits)
-answered (Err e) left visits = Err e
+answered (Ok done) budget visits = Ok (budget, visits)
+answered (Err e) budget visits = Err e

@@ -1,13 +1,13 @@
 //! Bodies, and where they lie.
 
-ghost use Rattle.std.specs.Prelude.{◌≡◌, ◌<◌, ◌≤◌, ◌+◌, ◌*◌, ◌^◌, length, true, Some, is_some, is_ok, IfSome, IfOk, IfErr, OnOk, OnErr, Ok, Err, slice_index};
-ghost use Rattle.cp_words.specs.Word.{tag_of, words_for};
+ghost use Rattle.std.specs.Prelude.{◌≡◌, ◌<◌, ◌≤◌, ◌+◌, ◌*◌, ◌^◌, length, true, Some, is_some, is_ok, IfOk, Ok, slice_index};
+ghost use Rattle.cp_words.specs.Word.{tag_of};
 ghost use Rattle.cp_words.specs.Aims.{segment};
 ghost use Rattle.cp_tree.specs.NodeOf.{words_of};
-ghost use Rattle.cp_reading.specs.Reading.{in_segment, start_of, placed, tagged, area_by, area_here, price, body_words, lent_words, toll, IsWhole, IsWithin};
+ghost use Rattle.cp_reading.specs.Reading.{in_segment, start_of, placed, tagged, area_by, area_here, price, body_words, lent_words, IsWhole, IsWithin};
 
-use crate::aim::{Aim, segment_at};
 use crate::fault::TreeFault;
+use crate::target::{Target, segment_at};
 use cp_words::{ElementSize, Kind, Place, Pointer, decode_tag, list_words};
 
 /// What a body is.
@@ -61,69 +61,22 @@ impl Form {
     }
 }
 
-/// Where a body begins, if it lies wholly inside its segment.
+/// The body to which a pointer leads, if it lies wholly inside its segment.
 #[inline(always)]
-fn inside(at: Place, words: &[u64], size: usize, start: Option<usize>) -> Result<usize, TreeFault>
-    ensures place { result ≡ placed at (in_segment words.now size start) }
-    ensures room { IfOk result (λ p. p + size ≤ length words.now) }
-    ensures small { IfOk result (λ p. p + size < 2 ^ 63) }
-{
-    match start {
-        Some(start) if start <= words.len() && size <= words.len() - start => Ok(start),
-        _ => Err(TreeFault::OutOfBounds(at)),
-    }
-}
-
-/// The elements of a composite list, by its tag.
-#[inline(always)]
-fn elements_at(
-    lists: &[Vec<u64>],
-    at: Place,
-    list: usize,
-    tag: usize,
-    size: u32,
-) -> Result<Area, TreeFault>
-    requires exists { list < length lists.now }
-    requires room { tag + (size + 1) ≤ length (segment (words_of lists.now) list) }
-    requires small { tag + (size + 1) < 2 ^ 63 }
-    ensures area { result ≡ tagged at list size tag (tag_of (slice_index (segment (words_of lists.now) list) tag)) }
-    ensures within { IfOk result (IsWithin (words_of lists.now)) }
+pub(crate) fn area_of(segments: &[Vec<u64>], at: Place, target: Target) -> Result<Area, TreeFault>
+    requires exists { target.segment < length segments.now }
+    ensures area { result ≡ area_by at (words_of segments.now) target }
+    ensures within { IfOk result (IsWithin (words_of segments.now)) }
     ensures small { IfOk result (λ a. a.start + body_words a.form < 2 ^ 63) }
 {
-    let Some(parts) = decode_tag(segment_at(lists, list)[tag]) else {
-        return Err(TreeFault::BadTag(at));
-    };
-    let each = parts.words as u64 + parts.ptrs as u64;
-    if parts.count as u64 * each > size as u64 {
-        return Err(TreeFault::OutOfBounds(at));
-    }
-    Ok(Area {
-        form: Form::Structs {
-            words: parts.words,
-            ptrs: parts.ptrs,
-            count: parts.count,
-        },
-        segment: list,
-        start: tag + 1,
-    })
-}
-
-/// The body at which a pointer aims, if it lies wholly inside its segment.
-#[inline(always)]
-pub(crate) fn area_of(lists: &[Vec<u64>], at: Place, aim: Aim) -> Result<Area, TreeFault>
-    requires exists { aim.segment < length lists.now }
-    ensures area { result ≡ area_by at (words_of lists.now) aim }
-    ensures within { IfOk result (IsWithin (words_of lists.now)) }
-    ensures small { IfOk result (λ a. a.start + body_words a.form < 2 ^ 63) }
-{
-    let words = segment_at(lists, aim.segment);
-    let (form, size) = match aim.kind {
+    let words = segment_at(segments, target.segment);
+    let (form, size) = match target.kind {
         Kind::List {
             size: ElementSize::Composite,
             count,
         } => {
-            let tag = inside(at, words, count as usize + 1, aim.start)?;
-            return elements_at(lists, at, aim.segment, tag, count);
+            let tag = inside(at, words, count as usize + 1, target.start)?;
+            return elements_at(segments, at, target.segment, tag, count);
         }
         Kind::Struct { words, ptrs } => {
             (Form::Struct { words, ptrs }, words as usize + ptrs as usize)
@@ -132,61 +85,22 @@ pub(crate) fn area_of(lists: &[Vec<u64>], at: Place, aim: Aim) -> Result<Area, T
             (Form::List { size, count }, list_words(size, count) as usize)
         }
     };
-    let start = inside(at, words, size, aim.start)?;
+    let start = inside(at, words, size, target.start)?;
     Ok(Area {
         form,
-        segment: aim.segment,
+        segment: target.segment,
         start,
     })
 }
 
-/// Where a body begins that was found to begin in its segment.
-#[inline(always)]
-fn start_again(word: usize, offset: i32) -> usize
-    requires small { word < 2 ^ 63 }
-    requires checked { is_some (start_of word offset) ≡ true }
-    ensures { start_of word offset ≡ Some result }
-{
-    if offset >= 0 {
-        word + 1 + offset as usize
-    } else {
-        word + 1 - (-i64::from(offset)) as usize
-    }
-}
-
-/// The elements of a composite list whose tag was checked.
-#[inline(always)]
-fn elements_again(list: &[u64], at: Place, tag: usize, size: u32) -> Area
-    requires room { tag + (size + 1) ≤ length list.now }
-    requires checked { is_ok (tagged at at.segment size tag (tag_of (slice_index list.now tag))) ≡ true }
-    ensures area { tagged at at.segment size tag (tag_of (slice_index list.now tag)) ≡ Ok result }
-    ensures within { result.start + body_words result.form ≤ length list.now }
-    ensures small { result.start + body_words result.form < 2 ^ 63 }
-    ensures whole { IsWhole result.form }
-    ensures here { result.segment ≡ at.segment }
-{
-    let Some(parts) = decode_tag(list[tag]) else {
-        unreachable!();
-    };
-    Area {
-        form: Form::Structs {
-            words: parts.words,
-            ptrs: parts.ptrs,
-            count: parts.count,
-        },
-        segment: at.segment,
-        start: tag + 1,
-    }
-}
-
-/// The body of a pointer that aims into its own segment and was checked: no bound is looked at
+/// The body of a pointer that leads into its own segment and was checked: no bound is looked at
 /// again.
 #[inline(always)]
-pub(crate) fn area_again(list: &[u64], at: Place, pointer: Pointer) -> Area
+pub(crate) fn area_again(words: &[u64], at: Place, pointer: Pointer) -> Area
     requires small { at.word < 2 ^ 63 }
-    requires checked { is_ok (area_here at list.now pointer) ≡ true }
-    ensures area { area_here at list.now pointer ≡ Ok result }
-    ensures within { result.start + body_words result.form ≤ length list.now }
+    requires checked { is_ok (area_here at words.now pointer) ≡ true }
+    ensures area { area_here at words.now pointer ≡ Ok result }
+    ensures within { result.start + body_words result.form ≤ length words.now }
     ensures small { result.start + body_words result.form < 2 ^ 63 }
     ensures whole { IsWhole result.form }
     ensures here { result.segment ≡ at.segment }
@@ -201,7 +115,7 @@ pub(crate) fn area_again(list: &[u64], at: Place, pointer: Pointer) -> Area
             offset,
             size: ElementSize::Composite,
             count,
-        } => return elements_again(list, at, start_again(at.word, offset), count),
+        } => return elements_again(words, at, start_again(at.word, offset), count),
         Pointer::List {
             offset,
             size,
@@ -216,22 +130,88 @@ pub(crate) fn area_again(list: &[u64], at: Place, pointer: Pointer) -> Area
     }
 }
 
-/// The way into a body: structs and lists may nest so deep, and the price is taken from what is
-/// left.
+/// The elements of a composite list, by its tag.
 #[inline(always)]
-pub(crate) fn pay(at: Place, depth: u32, price: u64, left: &mut u64) -> Result<(), TreeFault>
-    ensures paid { IfOk result (λ _. toll at depth price left.old ≡ Ok left.new) }
-    ensures cost { OnOk result (left.new + price ≡ left.old) }
-    ensures deep { IfOk result (λ _. 0 < depth) }
-    ensures refused { IfErr result (λ e. toll at depth price left.old ≡ Err e) }
-    ensures kept { OnErr result (left.new ≡ left.old) }
+fn elements_at(
+    segments: &[Vec<u64>],
+    at: Place,
+    index: usize,
+    tag: usize,
+    size: u32,
+) -> Result<Area, TreeFault>
+    requires exists { index < length segments.now }
+    requires inside { tag + (size + 1) ≤ length (segment (words_of segments.now) index) }
+    requires small { tag + (size + 1) < 2 ^ 63 }
+    ensures area { result ≡ tagged at index size tag (tag_of (slice_index (segment (words_of segments.now) index) tag)) }
+    ensures within { IfOk result (IsWithin (words_of segments.now)) }
+    ensures small { IfOk result (λ a. a.start + body_words a.form < 2 ^ 63) }
 {
-    if depth == 0 {
-        return Err(TreeFault::NestingLimit(at));
+    let Some(elements) = decode_tag(segment_at(segments, index)[tag]) else {
+        return Err(TreeFault::BadTag(at));
+    };
+    let each = elements.words as u64 + elements.ptrs as u64;
+    if elements.count as u64 * each > size as u64 {
+        return Err(TreeFault::OutOfBounds(at));
     }
-    if *left < price {
-        return Err(TreeFault::TraversalLimit(at));
+    Ok(Area {
+        form: Form::Structs {
+            words: elements.words,
+            ptrs: elements.ptrs,
+            count: elements.count,
+        },
+        segment: index,
+        start: tag + 1,
+    })
+}
+
+/// Where a body begins, if it lies wholly inside its segment.
+#[inline(always)]
+fn inside(at: Place, words: &[u64], size: usize, start: Option<usize>) -> Result<usize, TreeFault>
+    ensures place { result ≡ placed at (in_segment words.now size start) }
+    ensures inside { IfOk result (λ p. p + size ≤ length words.now) }
+    ensures small { IfOk result (λ p. p + size < 2 ^ 63) }
+{
+    match start {
+        Some(start) if start <= words.len() && size <= words.len() - start => Ok(start),
+        _ => Err(TreeFault::OutOfBounds(at)),
     }
-    *left -= price;
-    Ok(())
+}
+
+/// The elements of a composite list whose tag was checked.
+#[inline(always)]
+fn elements_again(words: &[u64], at: Place, tag: usize, size: u32) -> Area
+    requires inside { tag + (size + 1) ≤ length words.now }
+    requires checked { is_ok (tagged at at.segment size tag (tag_of (slice_index words.now tag))) ≡ true }
+    ensures area { tagged at at.segment size tag (tag_of (slice_index words.now tag)) ≡ Ok result }
+    ensures within { result.start + body_words result.form ≤ length words.now }
+    ensures small { result.start + body_words result.form < 2 ^ 63 }
+    ensures whole { IsWhole result.form }
+    ensures here { result.segment ≡ at.segment }
+{
+    let Some(elements) = decode_tag(words[tag]) else {
+        unreachable!();
+    };
+    Area {
+        form: Form::Structs {
+            words: elements.words,
+            ptrs: elements.ptrs,
+            count: elements.count,
+        },
+        segment: at.segment,
+        start: tag + 1,
+    }
+}
+
+/// Where a body begins that was found to begin in its segment.
+#[inline(always)]
+fn start_again(word: usize, offset: i32) -> usize
+    requires small { word < 2 ^ 63 }
+    requires checked { is_some (start_of word offset) ≡ true }
+    ensures { start_of word offset ≡ Some result }
+{
+    if offset >= 0 {
+        word + 1 + offset as usize
+    } else {
+        word + 1 - (-i64::from(offset)) as usize
+    }
 }

@@ -1,6 +1,6 @@
 //! Whether a word denotes a given tree, part by part: slow, for comparing with the reader.
 
-ghost use Rattle.std.specs.Prelude.{◌≡◌, ◌<◌, ◌≤◌, ◌+◌, ◌*◌, ◌^◌, ℕ, List, length, map, Some, IfOk, IfSome, Decides};
+ghost use Rattle.std.specs.Prelude.{◌≡◌, ◌<◌, ◌≤◌, ◌+◌, ◌*◌, ◌^◌, ℕ, length, map, Some, IfOk, IfSome, Decides};
 ghost use Rattle.cp_words.specs.Aims.{segment};
 ghost use Rattle.cp_reading.specs.Locates.{Locates};
 ghost use Rattle.cp_reading.specs.Denotes.{Denotes, EachDenotes, EachBody};
@@ -9,72 +9,72 @@ ghost use Rattle.cp_tree.specs.NodeOf.{node_of, body_of, nodes_of, bodies_of, wo
 ghost use Rattle.cp_reading.specs.Reading.{body_words, IsWhole, IsWithin};
 ghost use Rattle.cp_reading.specs.declared.area.Form.{Form};
 
-use crate::aim::{aim_of, pointer_at, segment_at};
 use crate::area::{Area, Form, area_of};
 use crate::decide_list::{list_count, list_holds};
+use crate::target::{pointer_at, segment_at, target_of};
 use crate::view::words_at;
 use cp_tree::{Body, Tree};
 use cp_words::{ElementSize, Place, Pointer, Segments};
 use std::alloc::{AllocError, Global};
-
-/// The body that a pointer word has.
-fn body_found(lists: &[Vec<u64>], at: Place) -> Option<Area>
-    requires { at.word < length (segment (words_of lists.now) at.segment) }
-    ensures within { IfSome result (IsWithin (words_of lists.now)) }
-    ensures small { IfSome result (λ a. a.start + body_words a.form < 2 ^ 63) }
-    ensures located { IfSome result (λ a. Locates (words_of lists.now) at.segment at.word a.form a.segment a.start) }
-    ensures only { (f : Form) (s' start : ℕ) → IsWhole f → Locates (words_of lists.now) at.segment at.word f s' start → result ≡ Some (record { form = f; segment = s'; start = start }) }
-{
-    let pointer = pointer_at(lists, at)?;
-    let Ok(aim) = aim_of(lists, at, pointer) else {
-        return None;
-    };
-    let Ok(area) = area_of(lists, at, aim) else {
-        return None;
-    };
-    Some(area)
-}
-
-/// Whether a pointer word denotes the tree.
-#[cycle(decide)]
-fn denotes(alloc: Global, lists: &[Vec<u64>], at: Place, tree: &Tree) -> Result<bool, AllocError>
-    requires { at.word < length (segment (words_of lists.now) at.segment) }
-    ensures { IfOk result (λ b. Decides b (Denotes (words_of lists.now) at.segment at.word (node_of tree.now))) }
-{
-    match tree {
-        Tree::Null => Ok(matches!(pointer_at(lists, at), Some(Pointer::Null))),
-        Tree::Cap(index) => Ok(
-            matches!(pointer_at(lists, at), Some(Pointer::Cap(i)) if i == *index),
-        ),
-        _ => match body_found(lists, at) {
-            Some(area) => fills(alloc, lists, area, tree),
-            None => Ok(false),
-        },
-    }
-}
 
 /// Whether a message's root word denotes the tree (encoding specification, "Messages"), without limits. It goes over the
 /// tree part by part, slowly: it is to compare a reader with. The error is an allocation failure.
 pub fn root_denotes(alloc: Global, segments: &Segments, tree: &Tree) -> Result<bool, AllocError>
     ensures { IfOk result (λ b. Decides b (Denotes segments.now 0 0 (node_of tree.now))) }
 {
-    let lists = segments.lists();
-    if segment_at(lists, 0).is_empty() {
+    let segments = segments.lists();
+    if segment_at(segments, 0).is_empty() {
         return Ok(false);
     }
     let root = Place {
         segment: 0,
         word: 0,
     };
-    denotes(alloc, lists, root, tree)
+    denotes(alloc, segments, root, tree)
+}
+
+/// Whether a pointer word denotes the tree.
+#[cycle(decide)]
+fn denotes(alloc: Global, segments: &[Vec<u64>], at: Place, tree: &Tree) -> Result<bool, AllocError>
+    requires { at.word < length (segment (words_of segments.now) at.segment) }
+    ensures { IfOk result (λ b. Decides b (Denotes (words_of segments.now) at.segment at.word (node_of tree.now))) }
+{
+    match tree {
+        Tree::Null => Ok(matches!(pointer_at(segments, at), Some(Pointer::Null))),
+        Tree::Cap(index) => Ok(
+            matches!(pointer_at(segments, at), Some(Pointer::Cap(i)) if i == *index),
+        ),
+        _ => match body_found(segments, at) {
+            Some(area) => fills(alloc, segments, area, tree),
+            None => Ok(false),
+        },
+    }
+}
+
+/// The body that a pointer word has.
+fn body_found(segments: &[Vec<u64>], at: Place) -> Option<Area>
+    requires { at.word < length (segment (words_of segments.now) at.segment) }
+    ensures within { IfSome result (IsWithin (words_of segments.now)) }
+    ensures small { IfSome result (λ a. a.start + body_words a.form < 2 ^ 63) }
+    ensures located { IfSome result (λ a. Locates (words_of segments.now) at.segment at.word a.form a.segment a.start) }
+    ensures only { (f : Form) (s' start : ℕ) → IsWhole f → Locates (words_of segments.now) at.segment at.word f s' start → result ≡ Some (record { form = f; segment = s'; start = start }) }
+{
+    let pointer = pointer_at(segments, at)?;
+    let Ok(target) = target_of(segments, at, pointer) else {
+        return None;
+    };
+    let Ok(area) = area_of(segments, at, target) else {
+        return None;
+    };
+    Some(area)
 }
 
 /// Whether a body is the tree's.
 #[cycle(decide)]
-fn fills(alloc: Global, lists: &[Vec<u64>], area: Area, tree: &Tree) -> Result<bool, AllocError>
-    requires within { IsWithin (words_of lists.now) area }
+fn fills(alloc: Global, segments: &[Vec<u64>], area: Area, tree: &Tree) -> Result<bool, AllocError>
+    requires within { IsWithin (words_of segments.now) area }
     requires small { area.start + body_words area.form < 2 ^ 63 }
-    ensures { IfOk result (λ b. Decides b ((form_of (node_of tree.now) ≡ area.form) × Fills (words_of lists.now) area.segment area.start (node_of tree.now))) }
+    ensures { IfOk result (λ b. Decides b ((form_of (node_of tree.now) ≡ area.form) × Fills (words_of segments.now) area.segment area.start (node_of tree.now))) }
 {
     let first = Place {
         segment: area.segment,
@@ -82,10 +82,10 @@ fn fills(alloc: Global, lists: &[Vec<u64>], area: Area, tree: &Tree) -> Result<b
     };
     match (tree, area.form) {
         (Tree::Struct(body), Form::Struct { words, ptrs }) => {
-            body_holds(alloc, lists, first, words, ptrs, body)
+            body_holds(alloc, segments, first, words, ptrs, body)
         }
         (Tree::Ptrs(items), form) => match list_count(form, ElementSize::Pointer, items.len()) {
-            Some(_) => row_holds(alloc, lists, first, items),
+            Some(_) => row_holds(alloc, segments, first, items),
             None => Ok(false),
         },
         (
@@ -99,29 +99,29 @@ fn fills(alloc: Global, lists: &[Vec<u64>], area: Area, tree: &Tree) -> Result<b
             if *words != d || *ptrs != n || items.len() != count as usize {
                 return Ok(false);
             }
-            bodies_hold(alloc, lists, first, d, n, items)
+            bodies_hold(alloc, segments, first, d, n, items)
         }
         (tree, form) => {
-            let words = words_at(lists, area.segment, area.start, form.lent_words());
+            let words = words_at(segments, area.segment, area.start, form.lent_words());
             list_holds(alloc, form, words, tree)
         }
     }
 }
 
-/// Whether a struct of such a size stands at a place.
+/// Whether a struct of such a size is at a place.
 #[cycle(decide)]
 fn body_holds(
     alloc: Global,
-    lists: &[Vec<u64>],
+    segments: &[Vec<u64>],
     first: Place,
     words: u16,
     ptrs: u16,
     body: &Body,
 ) -> Result<bool, AllocError>
-    requires exists { first.segment < length lists.now }
-    requires within { first.word + words + ptrs ≤ length (segment (words_of lists.now) first.segment) }
+    requires exists { first.segment < length segments.now }
+    requires within { first.word + words + ptrs ≤ length (segment (words_of segments.now) first.segment) }
     requires small { first.word + words + ptrs < 2 ^ 63 }
-    ensures { IfOk result (λ b. Decides b (IsBodyAt (words_of lists.now) first.segment first.word words ptrs (body_of body.now))) }
+    ensures { IfOk result (λ b. Decides b (IsBodyAt (words_of segments.now) first.segment first.word words ptrs (body_of body.now))) }
 {
     let row = Place {
         segment: first.segment,
@@ -130,28 +130,28 @@ fn body_holds(
     if body.words.len() != words as usize || body.ptrs.len() != ptrs as usize {
         return Ok(false);
     }
-    if words_at(lists, first.segment, first.word, words as usize) != body.words.as_slice() {
+    if words_at(segments, first.segment, first.word, words as usize) != body.words.as_slice() {
         return Ok(false);
     }
-    row_holds(alloc, lists, row, &body.ptrs)
+    row_holds(alloc, segments, row, &body.ptrs)
 }
 
 /// Whether the words from a place on denote the trees, one after another.
 #[cycle(decide)]
 fn row_holds(
     alloc: Global,
-    lists: &[Vec<u64>],
+    segments: &[Vec<u64>],
     first: Place,
     trees: &[Tree],
 ) -> Result<bool, AllocError>
-    requires exists { first.segment < length lists.now }
-    requires within { first.word + length trees.now ≤ length (segment (words_of lists.now) first.segment) }
+    requires exists { first.segment < length segments.now }
+    requires within { first.word + length trees.now ≤ length (segment (words_of segments.now) first.segment) }
     requires small { first.word + length trees.now < 2 ^ 63 }
-    ensures { IfOk result (λ b. Decides b (EachDenotes (words_of lists.now) first.segment first.word (nodes_of (map node_of trees.now)))) }
+    ensures { IfOk result (λ b. Decides b (EachDenotes (words_of segments.now) first.segment first.word (nodes_of (map node_of trees.now)))) }
 {
     let mut at = first;
     for tree in trees {
-        if !denotes(alloc, lists, at, tree)? {
+        if !denotes(alloc, segments, at, tree)? {
             return Ok(false);
         }
         at.word += 1;
@@ -159,24 +159,24 @@ fn row_holds(
     Ok(true)
 }
 
-/// Whether structs of such a size stand at a place, one after another.
+/// Whether structs of such a size are at a place, one after another.
 #[cycle(decide)]
 fn bodies_hold(
     alloc: Global,
-    lists: &[Vec<u64>],
+    segments: &[Vec<u64>],
     first: Place,
     words: u16,
     ptrs: u16,
     bodies: &[Body],
 ) -> Result<bool, AllocError>
-    requires exists { first.segment < length lists.now }
-    requires within { first.word + length bodies.now * (words + ptrs) ≤ length (segment (words_of lists.now) first.segment) }
+    requires exists { first.segment < length segments.now }
+    requires within { first.word + length bodies.now * (words + ptrs) ≤ length (segment (words_of segments.now) first.segment) }
     requires small { first.word + length bodies.now * (words + ptrs) < 2 ^ 63 }
-    ensures { IfOk result (λ b. Decides b (EachBody (words_of lists.now) first.segment first.word words ptrs (bodies_of (map body_of bodies.now)))) }
+    ensures { IfOk result (λ b. Decides b (EachBody (words_of segments.now) first.segment first.word words ptrs (bodies_of (map body_of bodies.now)))) }
 {
     let mut at = first;
     for body in bodies {
-        if !body_holds(alloc, lists, at, words, ptrs, body)? {
+        if !body_holds(alloc, segments, at, words, ptrs, body)? {
             return Ok(false);
         }
         at.word += words as usize + ptrs as usize;

@@ -8,10 +8,31 @@ ghost use Rattle.cp_reading.specs.Reading.{lent_words};
 ghost use Rattle.cp_reading.specs.declared.area.Form.TheVariants as forms;
 
 use crate::area::Form;
-use crate::read::{bits_of, bytes_of, halves_of, quads_of, words_of};
+use crate::elements::{bits_of, bytes_of, halves_of, quads_of, words_of};
 use cp_tree::Tree;
 use cp_words::ElementSize;
 use std::alloc::{AllocError, Global};
+
+/// Whether the words of a body are those of a list without pointers.
+pub(crate) fn list_holds(
+    alloc: Global,
+    form: Form,
+    words: &[u64],
+    tree: &Tree,
+) -> Result<bool, AllocError>
+    requires { length words.now ≡ lent_words form }
+    ensures { IfOk result (λ b. Decides b (IsListIn form words.now (node_of tree.now))) }
+{
+    match tree {
+        Tree::Voids(count) => Ok(list_count(form, ElementSize::Void, *count as usize).is_some()),
+        Tree::Bits(items) => bits_hold(alloc, form, words, items),
+        Tree::Bytes(items) => bytes_hold(alloc, form, words, items),
+        Tree::Halves(items) => halves_hold(alloc, form, words, items),
+        Tree::Quads(items) => quads_hold(alloc, form, words, items),
+        Tree::Words(items) => words_hold(alloc, form, words, items),
+        _ => Ok(false),
+    }
+}
 
 /// How many elements a list has, if a body's form is such a list.
 pub(crate) fn list_count(form: Form, size: ElementSize, count: usize) -> Option<u32>
@@ -80,25 +101,4 @@ fn words_hold(alloc: Global, form: Form, words: &[u64], items: &[u64]) -> Result
         return Ok(false);
     };
     Ok(words_of(alloc, words, count)?.as_slice() == items)
-}
-
-/// Whether the words of a body are those of a list without pointers.
-pub(crate) fn list_holds(
-    alloc: Global,
-    form: Form,
-    words: &[u64],
-    tree: &Tree,
-) -> Result<bool, AllocError>
-    requires { length words.now ≡ lent_words form }
-    ensures { IfOk result (λ b. Decides b (IsListIn form words.now (node_of tree.now))) }
-{
-    match tree {
-        Tree::Voids(count) => Ok(list_count(form, ElementSize::Void, *count as usize).is_some()),
-        Tree::Bits(items) => bits_hold(alloc, form, words, items),
-        Tree::Bytes(items) => bytes_hold(alloc, form, words, items),
-        Tree::Halves(items) => halves_hold(alloc, form, words, items),
-        Tree::Quads(items) => quads_hold(alloc, form, words, items),
-        Tree::Words(items) => words_hold(alloc, form, words, items),
-        _ => Ok(false),
-    }
 }

@@ -5,7 +5,7 @@ use std::alloc::{AllocError, AllocFailed};
 use std::error::Error;
 use std::fmt;
 
-/// What is wrong with a message's words, and the pointer word that is to blame: one that stands in
+/// What is wrong with a message's words, and the pointer word that is to blame: one that is in
 /// a body, or segment 0 word 0 for the root.
 #[derive(Clone, Copy, PartialEq, Eq, Debug)]
 pub enum TreeFault {
@@ -16,7 +16,7 @@ pub enum TreeFault {
     /// G3: a body or a far pointer's landing pad isn't wholly inside its segment, or a composite list's
     /// elements overrun its words.
     OutOfBounds(Place),
-    /// G4: a far pointer names a segment that isn't there.
+    /// G4: a far pointer names a segment that doesn't exist.
     NoSegment(Place),
     /// G5: a far pointer's landing pad hasn't the form of one.
     BadPad(Place),

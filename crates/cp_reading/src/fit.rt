@@ -4,16 +4,16 @@ ghost use Rattle.std.specs.Prelude.{All};
 ghost use Rattle.cp_tree.specs.NodeOf.{words_of};
 ghost use Rattle.cp_tree.specs.Shaped.{AllFit};
 
-/// The words of a segment fit 64 bits.
-fn list_fits(_list: &[u64])
-    ensures { AllFit 64 _list.now }
-{}
-
-/// The words of all segments do. Nothing is looked at.
-pub(crate) fn lists_fit(lists: &[Vec<u64>])
-    ensures { All (AllFit 64) (words_of lists.now) }
+/// The words of all segments fit 64 bits. Nothing is looked at: the type of each says so, in the loop alone.
+pub(crate) fn segments_fit(segments: &[Vec<u64>])
+    ensures { All (AllFit 64) (words_of segments.now) }
 {
-    for list in lists {
-        list_fits(list);
+    for words in segments {
+        words_fit(words);
     }
 }
+
+/// The words of one segment do.
+fn words_fit(_words: &[u64])
+    ensures { AllFit 64 _words.now }
+{}

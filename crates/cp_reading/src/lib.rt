@@ -2,16 +2,18 @@
 //! owned value.
 #![tactic(auto)]
 
-mod aim;
 mod area;
+mod build;
 mod check;
 mod decide;
 mod decide_list;
+mod elements;
 mod fault;
 mod fit;
 mod measure;
 mod near;
 mod read;
+mod target;
 mod view;
 mod visits;
 

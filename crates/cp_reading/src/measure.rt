@@ -3,8 +3,8 @@
 ghost use Rattle.std.specs.Prelude.{◌≡◌, ◌<◌, ◌≤◌, Decides};
 ghost use Rattle.cp_tree.specs.Node.{depth, cost};
 
-use crate::check::{TOP, check_body};
-use crate::view::{Part, View};
+use crate::check::{Checker, TOP};
+use crate::view::{View, Viewed};
 use crate::visits::Visits;
 use std::marker::Brand;
 use std::sync::ledger::{Blank, Ledger};
@@ -29,11 +29,15 @@ fn fits_uncounted<L: Ledger>(view: &View, nesting: u32, traversal: u64, blank: B
     requires some { 0 < blank.parts }
     ensures { Decides result ((depth view.now ≤ nesting) × (cost view.now ≤ traversal)) }
 {
-    let (lists, part) = view.place();
-    let Part::Body(area) = part else {
+    let (segments, part) = view.place();
+    let Viewed::Body(area) = part else {
         return true;
     };
-    let mut left = traversal;
     let mut visits = Visits::<L>::new(blank);
-    check_body(lists, TOP, area, nesting, &mut left, &mut visits).is_ok()
+    let mut checker = Checker {
+        segments,
+        budget: traversal,
+        visits: &mut visits,
+    };
+    checker.check_body(TOP, area, nesting).is_ok()
 }

@@ -7,17 +7,17 @@ ghost use Rattle.cp_reading.specs.Faults.{IsFaultOf};
 ghost use Rattle.cp_tree.specs.Node.{Node};
 ghost use Rattle.cp_reading.specs.Visited.{pointers};
 ghost use Rattle.cp_tree.specs.NodeOf.{words_of};
-ghost use Rattle.cp_reading.specs.Reading.{tree_read, pointer_read, area_read, node_in, body_words, IsWithin};
-ghost use Rattle.cp_reading.specs.Parts.{form_shape_of, part_node, IsPart};
+ghost use Rattle.cp_reading.specs.Reading.{tree_read, pointer_read, node_in};
+ghost use Rattle.cp_reading.specs.Viewed.{form_shape_of, viewed_node, IsViewed};
 ghost use Rattle.cp_tree.specs.Seen.{part_of};
-ghost use Rattle.cp_reading.specs.declared.view.Part.TheVariants.{Body};
+ghost use Rattle.cp_reading.specs.declared.view.Viewed.TheVariants.{Body};
 
-use crate::aim::{aim_of, pointer_at, segment_at};
 use crate::area::{Area, Form, area_again, area_of};
-use crate::check::check_root;
+use crate::build::whole_of;
+use crate::check::Checker;
 use crate::fault::TreeFault;
-use crate::fit::lists_fit;
-use crate::read::whole_of;
+use crate::fit::segments_fit;
+use crate::target::{pointer_at, segment_at, target_of};
 use crate::visits::Visits;
 use cp_tree::{Shape, Whole};
 use cp_words::{ElementSize, Limits, Place, Pointer, Segments};
@@ -27,7 +27,7 @@ use std::sync::ledger::{Blank, Ledger};
 
 /// What a view shows: a tree without a body, or one with a body.
 #[derive(Clone, Copy)]
-pub(crate) enum Part {
+pub(crate) enum Viewed {
     Null,
     Cap(u32),
     Body(Area),
@@ -36,8 +36,8 @@ pub(crate) enum Part {
 /// A tree of a message that is read where it lies, without copying. Contracts see it as its tree.
 #[derive(Drop)]
 pub struct View<'a> {
-    lists: &'a [Vec<u64>],
-    part: Part,
+    segments: &'a [Vec<u64>],
+    part: Viewed,
 }
 
 impl<'a> Model for View<'a> {
@@ -49,12 +49,12 @@ impl<'a> Model for View<'a> {
     ghost coded = { tree_code };
 
     ghost use Rattle.cp_tree.specs.NodeOf.{words_of};
-    ghost use Rattle.cp_reading.specs.Parts.{part_node, IsPart};
+    ghost use Rattle.cp_reading.specs.Viewed.{viewed_node, IsViewed};
     ghost use Rattle.cp_tree.specs.Shaped.{Shaped};
 
-    ghost view = { λ v. part_node (words_of v.lists.now) v.part };
+    ghost view = { λ v. viewed_node (words_of v.segments.now) v.part };
 
-    ghost invariant = { λ v. IsPart (words_of v.lists.now) v.part × Shaped (part_node (words_of v.lists.now) v.part) };
+    ghost invariant = { λ v. IsViewed (words_of v.segments.now) v.part × Shaped (viewed_node (words_of v.segments.now) v.part) };
 }
 
 impl<'a> View<'a> {
@@ -63,7 +63,7 @@ impl<'a> View<'a> {
     ghost use Rattle.cp_reading.specs.Faults.{IsFaultOf};
     ghost use Rattle.cp_tree.specs.Node.{Node};
     ghost use Rattle.cp_tree.specs.NodeOf.{words_of};
-    ghost use Rattle.cp_reading.specs.Parts.{part_node, IsPart};
+    ghost use Rattle.cp_reading.specs.Viewed.{viewed_node, IsViewed};
     ghost use Rattle.cp_tree.specs.Seen.{shape_of, part_of, AreWordsOf};
     ghost use Rattle.cp_tree.specs.Shaped.{Shaped};
 
@@ -86,7 +86,7 @@ impl<'a> View<'a> {
         ensures { result ≡ self.now }
     {
         View {
-            lists: self.lists,
+            segments: self.segments,
             part: self.part,
         }
     }
@@ -97,9 +97,9 @@ impl<'a> View<'a> {
         ensures { result ≡ shape_of self.now }
     {
         match self.part {
-            Part::Null => Shape::Null,
-            Part::Cap(index) => Shape::Cap(index),
-            Part::Body(area) => form_shape(area.form),
+            Viewed::Null => Shape::Null,
+            Viewed::Cap(index) => Shape::Cap(index),
+            Viewed::Body(area) => form_shape(area.form),
         }
     }
 
@@ -109,10 +109,15 @@ impl<'a> View<'a> {
     pub fn words(&self) -> &'a [u64]
         ensures { AreWordsOf result.now self.now }
     {
-        let Part::Body(area) = self.part else {
+        let Viewed::Body(area) = self.part else {
             return &[];
         };
-        words_at(self.lists, area.segment, area.start, area.form.lent_words())
+        words_at(
+            self.segments,
+            area.segment,
+            area.start,
+            area.form.lent_words(),
+        )
     }
 
     /// Part `i` of the tree: a struct's pointer, or an element of a list of pointers or of a
@@ -122,10 +127,10 @@ impl<'a> View<'a> {
         ensures { result ≡ part_of self.now i }
     {
         View {
-            lists: self.lists,
+            segments: self.segments,
             part: match self.part {
-                Part::Body(area) => part_in(self.lists, area, i),
-                Part::Null | Part::Cap(_) => Part::Null,
+                Viewed::Body(area) => child_in(self.segments, area, i),
+                Viewed::Null | Viewed::Cap(_) => Viewed::Null,
             },
         }
     }
@@ -139,18 +144,12 @@ impl<'a> View<'a> {
 
     /// Where the tree lies.
     #[inline]
-    pub(crate) fn place(&self) -> (&'a [Vec<u64>], Part)
-        ensures tree { part_node (words_of result.0.now) result.1 ≡ self.now }
-        ensures part { IsPart (words_of result.0.now) result.1 }
+    pub(crate) fn place(&self) -> (&'a [Vec<u64>], Viewed)
+        ensures tree { viewed_node (words_of result.0.now) result.1 ≡ self.now }
+        ensures part { IsViewed (words_of result.0.now) result.1 }
+        ensures shaped { Shaped self.now }
     {
-        (self.lists, self.part)
-    }
-
-    /// What was read in words fits them again. This says so and does nothing.
-    pub(crate) fn holds_a_shaped_tree(&self)
-        ensures { Shaped self.now }
-    {
-        let _part = self.part;
+        (self.segments, self.part)
     }
 }
 
@@ -166,12 +165,17 @@ pub(crate) fn root_counted<'a, L: Ledger>(
     ensures exact { IfOk result (λ t. visits.new ≡ visits.old + 1 + pointers t) }
     ensures few { visits.new ≤ visits.old + 1 + limits.traversal }
 {
-    let lists = segments.lists();
-    lists_fit(lists);
-    let area = check_root(lists, limits.nesting(), limits.traversal(), visits)?;
+    let segments = segments.lists();
+    segments_fit(segments);
+    let mut checker = Checker {
+        segments,
+        budget: limits.traversal() as u64,
+        visits,
+    };
+    let area = checker.check_root(limits.nesting())?;
     Ok(View {
-        lists,
-        part: Part::Body(area),
+        segments,
+        part: Viewed::Body(area),
     })
 }
 
@@ -213,46 +217,46 @@ fn form_shape(form: Form) -> Shape
 }
 
 /// This many words of a segment.
-pub(crate) fn words_at(lists: &[Vec<u64>], list: usize, start: usize, count: usize) -> &[u64]
-    requires exists { list < length lists.now }
-    requires within { start + count ≤ length (segment (words_of lists.now) list) }
-    ensures { result.now ≡ words_at (words_of lists.now) list start count }
+pub(crate) fn words_at(segments: &[Vec<u64>], index: usize, start: usize, count: usize) -> &[u64]
+    requires exists { index < length segments.now }
+    requires within { start + count ≤ length (segment (words_of segments.now) index) }
+    ensures { result.now ≡ words_at (words_of segments.now) index start count }
 {
-    &segment_at(lists, list)[start..start + count]
+    &segment_at(segments, index)[start..start + count]
 }
 
 /// Part `i` of a body that was checked.
-fn part_in(lists: &[Vec<u64>], area: Area, i: u32) -> Part
-    requires { IsPart (words_of lists.now) (Body area) }
-    ensures node { part_node (words_of lists.now) result ≡ part_of (part_node (words_of lists.now) (Body area)) i }
-    ensures part { IsPart (words_of lists.now) result }
+fn child_in(segments: &[Vec<u64>], area: Area, i: u32) -> Viewed
+    requires { IsViewed (words_of segments.now) (Body area) }
+    ensures node { viewed_node (words_of segments.now) result ≡ part_of (viewed_node (words_of segments.now) (Body area)) i }
+    ensures part { IsViewed (words_of segments.now) result }
 {
     let segment = area.segment;
     match area.form {
         Form::Struct { words, ptrs } => {
             if i >= ptrs as u32 {
-                return Part::Null;
+                return Viewed::Null;
             }
             let word = area.start + words as usize + i as usize;
-            part_at(lists, Place { segment, word })
+            viewed_at(segments, Place { segment, word })
         }
         Form::List { size, count } => match size {
             ElementSize::Pointer => {
                 if i >= count {
-                    return Part::Null;
+                    return Viewed::Null;
                 }
                 let word = area.start + i as usize;
-                part_at(lists, Place { segment, word })
+                viewed_at(segments, Place { segment, word })
             }
-            _ => Part::Null,
+            _ => Viewed::Null,
         },
         Form::Structs { words, ptrs, count } => {
             if i >= count {
-                return Part::Null;
+                return Viewed::Null;
             }
             let start = area.start + i as usize * (words as usize + ptrs as usize);
             let form = Form::Struct { words, ptrs };
-            Part::Body(Area {
+            Viewed::Body(Area {
                 form,
                 segment,
                 start,
@@ -263,51 +267,51 @@ fn part_in(lists: &[Vec<u64>], area: Area, i: u32) -> Part
 
 /// What a pointer word that was checked stands for.
 #[inline(always)]
-pub(crate) fn part_at(lists: &[Vec<u64>], at: Place) -> Part
-    requires exists { at.segment < length lists.now }
-    requires within { at.word < length (segment (words_of lists.now) at.segment) }
-    requires checked { is_ok (tree_read (words_of lists.now) at.segment at.word) ≡ true }
-    ensures node { part_node (words_of lists.now) result ≡ node_in (tree_read (words_of lists.now) at.segment at.word) }
-    ensures part { IsPart (words_of lists.now) result }
+pub(crate) fn viewed_at(segments: &[Vec<u64>], at: Place) -> Viewed
+    requires exists { at.segment < length segments.now }
+    requires within { at.word < length (segment (words_of segments.now) at.segment) }
+    requires checked { is_ok (tree_read (words_of segments.now) at.segment at.word) ≡ true }
+    ensures node { viewed_node (words_of segments.now) result ≡ node_in (tree_read (words_of segments.now) at.segment at.word) }
+    ensures part { IsViewed (words_of segments.now) result }
 {
-    match pointer_at(lists, at) {
-        None | Some(Pointer::Null) => Part::Null,
-        Some(Pointer::Cap(index)) => Part::Cap(index),
-        Some(pointer) => body_at(lists, at, pointer),
+    match pointer_at(segments, at) {
+        None | Some(Pointer::Null) => Viewed::Null,
+        Some(Pointer::Cap(index)) => Viewed::Cap(index),
+        Some(pointer) => body_at(segments, at, pointer),
     }
 }
 
 /// The body of a struct, list or far pointer that was checked.
 #[inline(always)]
-fn body_at(lists: &[Vec<u64>], at: Place, pointer: Pointer) -> Part
-    requires exists { at.segment < length lists.now }
+fn body_at(segments: &[Vec<u64>], at: Place, pointer: Pointer) -> Viewed
+    requires exists { at.segment < length segments.now }
     requires small { at.word < 2 ^ 63 }
-    requires checked { is_ok (pointer_read (words_of lists.now) at pointer) ≡ true }
-    ensures node { part_node (words_of lists.now) result ≡ node_in (pointer_read (words_of lists.now) at pointer) }
-    ensures part { IsPart (words_of lists.now) result }
+    requires checked { is_ok (pointer_read (words_of segments.now) at pointer) ≡ true }
+    ensures node { viewed_node (words_of segments.now) result ≡ node_in (pointer_read (words_of segments.now) at pointer) }
+    ensures part { IsViewed (words_of segments.now) result }
 {
-    let list = segment_at(lists, at.segment);
+    let words = segment_at(segments, at.segment);
     match pointer {
-        Pointer::Struct { .. } => Part::Body(area_again(list, at, pointer)),
-        Pointer::List { .. } => Part::Body(area_again(list, at, pointer)),
-        _ => far_body(lists, at, pointer),
+        Pointer::Struct { .. } => Viewed::Body(area_again(words, at, pointer)),
+        Pointer::List { .. } => Viewed::Body(area_again(words, at, pointer)),
+        _ => far_body(segments, at, pointer),
     }
 }
 
 /// The body of a pointer that was checked, wherever it leads.
 #[cold]
-fn far_body(lists: &[Vec<u64>], at: Place, pointer: Pointer) -> Part
-    requires exists { at.segment < length lists.now }
+fn far_body(segments: &[Vec<u64>], at: Place, pointer: Pointer) -> Viewed
+    requires exists { at.segment < length segments.now }
     requires small { at.word < 2 ^ 63 }
-    requires checked { is_ok (pointer_read (words_of lists.now) at pointer) ≡ true }
-    ensures node { part_node (words_of lists.now) result ≡ node_in (pointer_read (words_of lists.now) at pointer) }
-    ensures part { IsPart (words_of lists.now) result }
+    requires checked { is_ok (pointer_read (words_of segments.now) at pointer) ≡ true }
+    ensures node { viewed_node (words_of segments.now) result ≡ node_in (pointer_read (words_of segments.now) at pointer) }
+    ensures part { IsViewed (words_of segments.now) result }
 {
-    let Ok(aim) = aim_of(lists, at, pointer) else {
-        return Part::Null;
+    let Ok(target) = target_of(segments, at, pointer) else {
+        return Viewed::Null;
     };
-    match area_of(lists, at, aim) {
-        Ok(area) => Part::Body(area),
-        Err(_) => Part::Null,
+    match area_of(segments, at, target) {
+        Ok(area) => Viewed::Body(area),
+        Err(_) => Viewed::Null,
     }
 }

@@ -2,3 +2,4 @@ pub mod Paths
 pub mod Walks
 pub mod TicketLemmas
 pub mod Queueing
+pub mod Keeping

@@ -5,7 +5,7 @@ use Rattle.cp_tree.specs.Node.{Node, null}
 use Rattle.cp_tree.specs.Seen.{pointee_of}
 use Rattle.cp_refs.specs.At.{node_along}
 
--- a null pointer has none but null behind it
+-- a null pointer has none but null after it
 node_along-null : (path : List ℕ) → node_along null path ≡ null
 node_along-null [] = refl
 node_along-null (field ∷ path) = node_along-null path

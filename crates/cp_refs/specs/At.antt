@@ -20,7 +20,7 @@ null_capability = failed (codes "null capability")
 abbrev pub canceled : Exception
 canceled = failed (codes "canceled")
 
--- What stands at the end of a path of pointer fields. Each field needs a struct; else, and past a struct's end, it is null.
+-- What is at the end of a path of pointer fields. Each field needs a struct; else, and past a struct's end, it is null.
 abbrev pub node_along : Node → List ℕ → Node
 node_along t [] = t
 node_along t (field ∷ path) = node_along (pointee_of t field) path

@@ -1,4 +1,5 @@
 pub mod At
+pub mod Kept
 pub mod Values
 pub mod Route
 pub mod Steps

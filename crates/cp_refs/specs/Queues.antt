@@ -29,7 +29,7 @@ queue_of queues key = option_map_or (λ queue. queue) (get queues key) empty
 abbrev pub is_queued : Table (FinSet nat_cmp) → ℕ → ℕ → Bool
 is_queued queues key ticket = contains (queue_of queues key) ticket
 
--- Each call stands under its ticket. Those whose gate was ended are calls that wait, and each other one is in its gate's queue.
+-- Each call is kept under its ticket. Those whose gate was ended are calls that wait, and each other one is in its gate's queue.
 pub record AreQueued (calls : Table Held) (queues : Table (FinSet nat_cmp)) (ended : FinSet nat_cmp) : Type 0 where
   pub ticketed : (ticket : ℕ) → IfSome (get calls ticket) (λ call. call.ticket ≡ ticket)
   pub waited : (ticket : ℕ) → IsTrue (contains ended ticket) → IsSome (get calls ticket)

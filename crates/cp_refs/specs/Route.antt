@@ -25,7 +25,7 @@ promise_way p None = missing
 promise_way p (Some None) = ends (routes.Wait (gates.Promise p))
 promise_way p (Some (Some value)) = leads value
 
--- what a question will give is asked for on the wire where the question is there, and else waited for
+-- what a question will give is asked for on the wire where the question exists, and else waited for
 abbrev pub open_way : QuestionKind → ℕ → List ℕ → Route
 open_way kinds.Wire q path = routes.Pipe q path
 open_way kinds.Local q path = routes.Wait (gates.Question q path)
@@ -62,6 +62,6 @@ route_within (suc n) values c = route_by (λ next. route_within n values next) (
 abbrev pub Routes : ValueMaps → Cap → Route → Type 0
 Routes values c route = (n : ℕ) × (route_within n values c ≡ Some route)
 
--- the way of a capability ends, and the promises and the question on it are there
+-- the way of a capability ends, and the promises and the question on it exist
 abbrev pub HasRoute : ValueMaps → Cap → Type 0
 HasRoute values c = (n : ℕ) × IsSome (route_within n values c)

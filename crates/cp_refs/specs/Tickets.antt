@@ -9,10 +9,10 @@ use Rattle.std.specs.declared.cmp.Reverse.{Reverse}
 abbrev pub tickets_of : List (Reverse ℕ) → List ℕ
 tickets_of items = map (λ r. r.0) items
 
--- how often a ticket stands in a list
+-- how often a ticket is in a list
 abbrev pub times : ℕ → List ℕ → ℕ
 times t ts = sum_by (λ k. if k == t then 1 else 0) ts
 
--- they are a heap, and each stands there once
+-- they are a heap, and each is in it once
 abbrev pub AreTickets : List (Reverse ℕ) → Type 0
 AreTickets items = IsHeap (λ x y. nat_cmp y.0 x.0) items × ((t : ℕ) → times t (tickets_of items) ≤ 1)

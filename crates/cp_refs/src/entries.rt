@@ -79,7 +79,7 @@ impl<V> Entries<V> {
         }
     }
 
-    /// Puts the entry under the number, in place of one that was there. Where memory runs out the entry
+    /// Puts the entry under the number, in place of an earlier one. Where memory runs out the entry
     /// comes back.
     pub(crate) fn put(&mut self, id: u64, entry: V) -> Result<(), AllocFailed<V>>
     where

@@ -5,7 +5,9 @@
 mod call;
 mod cap;
 mod entries;
+mod kept_outcome;
 mod outcome;
+mod pointers;
 mod route;
 mod tickets;
 mod values;
@@ -14,7 +16,8 @@ mod walk;
 
 pub use call::{Held, Origin, Request};
 pub use cap::{Cap, Caps, Path, PromiseId};
-pub use outcome::{Outcome, at};
+pub use kept_outcome::KeptOutcome;
+pub use outcome::Outcome;
 pub use route::{Gate, Route};
 pub use values::{Question, QuestionKind, Values};
 pub use waiting::Waiting;

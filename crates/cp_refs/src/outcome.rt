@@ -3,7 +3,7 @@
 ghost use Rattle.std.specs.Prelude.{◌≡◌, MatchOption, IfOk};
 ghost use Rattle.cp_tree.specs.Node.{null};
 ghost use Rattle.cp_tree.specs.NodeOf.{node_of};
-ghost use Rattle.cp_refs.specs.At.{failed, null_capability, node_along, cap_in, cap_at};
+ghost use Rattle.cp_refs.specs.At.{failed, null_capability, node_along, cap_in};
 ghost use Rattle.cp_refs.specs.declared.cap.Cap.TheVariants.{None};
 
 use crate::cap::{Cap, Caps};
@@ -56,7 +56,7 @@ pub(crate) fn null_capability(alloc: Global) -> Result<Exception, AllocError>
     failed(alloc, "null capability")
 }
 
-/// What stands at the end of a path of pointer fields. `None` is null.
+/// What is at the end of a path of pointer fields. `None` is null.
 fn tree_along<'a>(tree: &'a Tree, path: &[u16]) -> Option<&'a Tree>
     ensures { MatchOption result (node_along (node_of tree.now) path.now ≡ null) (λ t. node_of t.now ≡ node_along (node_of tree.now) path.now) }
 {
@@ -67,27 +67,12 @@ fn tree_along<'a>(tree: &'a Tree, path: &[u16]) -> Option<&'a Tree>
     Some(reached)
 }
 
-/// The capability at a path of results. `None` is null.
-pub(crate) fn cap_along<'a>(content: &'a Whole, caps: &'a Caps, path: &[u16]) -> Option<&'a Cap>
-    ensures { MatchOption result (cap_in caps.now (node_along content.now path.now) ≡ None) (λ c. c.now ≡ cap_in caps.now (node_along content.now path.now)) }
+/// The capability at a path of a tree, with this table. `None` is null.
+pub(crate) fn cap_along<'a>(tree: &Tree, caps: &'a Caps, path: &[u16]) -> Option<&'a Cap>
+    ensures { MatchOption result (cap_in caps.now (node_along (node_of tree.now) path.now) ≡ None) (λ c. c.now ≡ cap_in caps.now (node_along (node_of tree.now) path.now)) }
 {
-    let Tree::Cap(index) = tree_along(content.tree(), path)? else {
+    let Tree::Cap(index) = tree_along(tree, path)? else {
         return None;
     };
     caps.caps().get(*index as usize)
-}
-
-/// What an outcome gives at a path of pointer fields (rpc.capnp, `PromisedAnswer.transform`): of
-/// results the capability there, of an exception one that fails with it.
-pub fn at(alloc: Global, outcome: &Outcome, path: &[u16]) -> Result<Cap, AllocError>
-    ensures { IfOk result (λ c. c ≡ cap_at outcome.now path.now) }
-{
-    match outcome {
-        Outcome::Results { content, caps } => match cap_along(content, caps, path) {
-            Some(cap) => cap.copy(alloc),
-            None => Ok(Cap::None),
-        },
-        Outcome::Failed(exception) => Ok(Cap::Broken(exception.copy(alloc)?)),
-        Outcome::Canceled => Ok(Cap::Broken(failed(alloc, "canceled")?)),
-    }
 }

@@ -39,7 +39,7 @@ impl Tickets {
         }
     }
 
-    /// Puts in a ticket that isn't there.
+    /// Puts in a ticket that isn't in the set.
     pub(crate) fn insert(&mut self, ticket: u64) -> Result<(), AllocError>
         requires { set.contains self.old ticket ≡ false }
         ensures put { OnOk result (self.new ≡ set.insert self.old ticket) }

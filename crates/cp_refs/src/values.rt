@@ -1,12 +1,11 @@
 //! What promises, imports, answers and questions came to.
 
 ghost use Rattle.std.specs.Prelude.{◌≡◌, IfOk};
-ghost use Rattle.cp_refs.specs.At.{cap_at};
 ghost use Rattle.cp_refs.specs.Route.{open_way};
-ghost use Rattle.cp_refs.specs.Steps.{IsStepOf};
 
 use crate::cap::{Cap, Path, PromiseId};
-use crate::outcome::{Outcome, cap_along, failed, null_capability};
+use crate::kept_outcome::KeptOutcome;
+use crate::outcome::null_capability;
 use crate::route::{Gate, Route};
 use crate::walk::{Pace, Walk};
 use cp_tables::Entries;
@@ -28,7 +27,7 @@ pub enum QuestionKind {
 pub struct Question {
     pub kind: QuestionKind,
     /// `None` while it is open.
-    pub outcome: Option<Outcome>,
+    pub outcome: Option<KeptOutcome>,
 }
 
 /// What each promise, import, answer and question came to. Contracts see it as four maps.
@@ -37,7 +36,7 @@ pub struct Values {
     alloc: Global,
     promises: Entries<Option<Cap>>,
     imports: Entries<Option<Cap>>,
-    answers: Entries<Option<Outcome>>,
+    answers: Entries<Option<KeptOutcome>>,
     questions: Entries<Question>,
 }
 
@@ -85,7 +84,7 @@ impl Values {
     }
 
     /// What an answer came to.
-    pub fn answer(&self, id: u32) -> Option<&Option<Outcome>>
+    pub fn answer(&self, id: u32) -> Option<&Option<KeptOutcome>>
         ensures { option_copied result ≡ map.get self.now.answers id }
     {
         self.answers.get(id)
@@ -113,7 +112,7 @@ impl Values {
     }
 
     /// What each answer came to, with its number, rising.
-    pub fn answers(&self) -> Iter<'_, u32, Option<Outcome>>
+    pub fn answers(&self) -> Iter<'_, u32, Option<KeptOutcome>>
         ensures { result ≡ map.entries self.now.answers }
     {
         self.answers.iter()
@@ -161,8 +160,8 @@ impl Values {
     pub fn put_answer(
         &mut self,
         id: u32,
-        outcome: Option<Outcome>,
-    ) -> Result<Option<Option<Outcome>>, AllocFailed<Option<Outcome>>>
+        outcome: Option<KeptOutcome>,
+    ) -> Result<Option<Option<KeptOutcome>>, AllocFailed<Option<KeptOutcome>>>
         ensures value { IfOk result (λ old. old ≡ map.get self.old.answers id) }
         ensures put { OnOk result (self.new ≡ record self.old { answers = map.insert self.old.answers id outcome }) }
         ensures back { IfErr result (λ failed. failed.value ≡ outcome) }
@@ -171,7 +170,7 @@ impl Values {
         self.answers.replace(id, outcome)
     }
 
-    /// Puts a question and what it came to, and gives the one that was there. Where memory runs out
+    /// Puts a question and what it came to, and gives the earlier one. Where memory runs out
     /// the question comes back.
     pub fn put_question(
         &mut self,
@@ -203,7 +202,7 @@ impl Values {
     }
 
     /// Takes an answer out.
-    pub fn remove_answer(&mut self, id: u32) -> Option<Option<Outcome>>
+    pub fn remove_answer(&mut self, id: u32) -> Option<Option<KeptOutcome>>
         ensures value { result ≡ map.get self.old.answers id }
         ensures removed { self.new ≡ record self.old { answers = map.remove self.old.answers id } }
     {
@@ -221,7 +220,7 @@ impl Values {
     /// Where a call on a capability goes. Promises and questions that came to something are
     /// followed.
     pub fn route(&self, cap: &Cap) -> Result<Route, AllocError>
-        // The way ends, and what it names is there.
+        // The way ends, and what it names exists.
         requires { HasRoute self.now cap.now }
         ensures { IfOk result (λ r. Routes self.now cap.now r) }
     {
@@ -271,26 +270,8 @@ impl Values {
         };
         match &question.outcome {
             None => Ok(Step::Ends(open_route(self.alloc, question.kind, id, path)?)),
-            Some(outcome) => step_of_outcome(self.alloc, outcome, path.fields()),
+            Some(outcome) => outcome.step(self.alloc, path.fields()),
         }
-    }
-}
-
-/// The step of what an outcome gives at a path.
-fn step_of_outcome<'a>(
-    alloc: Global,
-    outcome: &'a Outcome,
-    path: &[u16],
-) -> Result<Step<'a>, AllocError>
-    ensures { IfOk result (IsStepOf (cap_at outcome.now path.now)) }
-{
-    match outcome {
-        Outcome::Results { content, caps } => match cap_along(content, caps, path) {
-            Some(cap) => Ok(Step::Leads(cap)),
-            None => Ok(Step::Ends(Route::Fail(null_capability(alloc)?))),
-        },
-        Outcome::Failed(exception) => Ok(Step::Ends(Route::Fail(exception.copy(alloc)?))),
-        Outcome::Canceled => Ok(Step::Ends(Route::Fail(failed(alloc, "canceled")?))),
     }
 }
 

@@ -7,7 +7,7 @@ use Rattle.cp_tree.specs.DraftOf.{draft_body_of}
 use Rattle.cp_tree.specs.declared.draft.DraftBody.{DraftBody}
 use Rattle.cp_rpc.specs.Made.{body_made, list_made}
 
--- one more struct is made behind those that were made
+-- one more struct is made after those that were made
 pub made_more : {X : Type 0} (made : X → Node) (xs : List X) (i : ℕ) (d : X) (bs more : List DraftBody) (b : DraftBody) → i < length xs
     → map draft_body_of bs ≡ map body_made (map made (take i xs)) → draft_body_of b ≡ body_made (made (get_or xs i d)) → more ≡ bs ++ b ∷ []
     → map draft_body_of more ≡ map body_made (map made (take (i + 1) xs))

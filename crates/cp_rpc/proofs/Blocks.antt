@@ -1,4 +1,4 @@
--- Bytes that are tested block by block, with zeros behind the last.
+-- Bytes that are tested block by block, with zeros after the last.
 use Rattle.std.proofs.Common.{◌≡◌, ℕ, zero, suc, ◌+◌, ◌-◌, ◌*◌, ◌<◌, ◌≤◌, ◌==◌, ◌&&◌, nat_lt, Bool, true, false, List, [], ◌∷◌, ◌++◌, length, map, take, drop, get_or, IsUtf8, IsTrue, ◌↔◌, refl, sym, ap, ◌∙◌, subst, arith}
 use Rattle.std.proofs.lemmas.Bool.Decides.{nat_tests}
 use Rattle.std.proofs.lemmas.List.{get_or-drop, take-append-drop}
@@ -25,7 +25,7 @@ split f a (suc m) n =
     let e2 : a + suc m ≡ a + 1 + m = omega arith in
     rw (e, e2) (ap (λ l. f a ∷ l) (split f (a + 1) m n))
 
--- the first so many values of a function, and then more of them
+-- the first n values of a function, and then more of them
 pub range-append : {X : Type 0} (f : ℕ → X) (m n : ℕ) → map f (range_with_len 0 (m + n)) ≡ map f (range_with_len 0 m) ++ map (λ k. f (m + k)) (range_with_len 0 n)
 range-append f m n =
     let e : 0 + m ≡ m + 0 = omega arith in
@@ -64,7 +64,7 @@ boundary ws n m h = (rw (length-map-range_with_len (byte_before ws n) 0 m) h, λ
     large_none : {x : ℕ} → x ≡ 0 → 128 ≤ x → ⊥
     large_none e l = omega (arith, e, l)
 
--- zeros behind a text don't matter
+-- zeros after a text don't matter
 pub padded : (ws : List ℕ) (n m : ℕ) → n ≤ m → IsUtf8 (map (byte_before ws n) (range_with_len 0 m)) ↔ IsUtf8 (numbers ws 8 n)
 padded ws n m h =
     let all = map (byte_before ws n) (range_with_len 0 m) in

@@ -28,7 +28,7 @@ id_first id n h k = omega arith
 pub id_third : (id n : ℕ) → IsU32 id → IsU16 n → u16_of ((u32_part 0 id + u16_part 2 n) ∷ []) 2 ≡ n
 id_third id n h k = omega arith
 
--- a number of 16 bits, and 32 bits behind it
+-- a number of 16 bits, and 32 bits after it
 pub which_first : (n id : ℕ) → IsU16 n → IsU32 id → u16_of ((u16_part 0 n + u32_part 1 id) ∷ []) 0 ≡ n
 which_first n id h k = omega arith
 

@@ -12,7 +12,7 @@ abbrev pub first_of : List SchemaFault → Option SchemaFault
 first_of [] = None
 first_of (f ∷ fs) = Some f
 
--- There are no faults, and what was answered tells what is said; or the first fault was answered.
+-- There are no faults, and what was answered says what is said; or the first fault was answered.
 abbrev pub Gives : {V X : Type 0} → (V → X) → X → List SchemaFault → Result V SchemaFault → Type 0
 Gives told said faults (Ok v) = (faults ≡ []) × (told v ≡ said)
 Gives told said faults (Err f) = first_of faults ≡ Some f

@@ -107,7 +107,7 @@ abbrev pub target_pointer : Target → Node
 target_pointer (targets.PromisedAnswer p) = promised_answer_made p
 target_pointer other = null
 
--- MessageTarget: one data word and one pointer; the member is u16 number 2, importedCap u32 number 0; promisedAnswer stands at pointer 0
+-- MessageTarget: one data word and one pointer; the member is u16 number 2, importedCap u32 number 0; promisedAnswer is at pointer 0
 abbrev pub target_made : Target → Node
 target_made t = struct_made ((u32_part 0 (target_id t) + u16_part 2 (target_number t)) ∷ []) (target_pointer t ∷ [])
 
@@ -185,7 +185,7 @@ returned_pointer (returns.AcceptFromThirdParty t) = t
 returned_pointer other = null
 
 -- Return: two data words and one pointer; answerId is u32 number 0, releaseParamCaps bit 32, set where it is false, the member u16 number 3,
--- takeFromOtherQuestion u32 number 2; the member's struct or tree stands at pointer 0
+-- takeFromOtherQuestion u32 number 2; the member's struct or tree is at pointer 0
 abbrev pub return_made : Return → Node
 return_made r =
     struct_made
@@ -203,7 +203,7 @@ resolution_pointer (resolutions.Cap d) = descriptor_made d
 resolution_pointer (resolutions.Exception e) = exception_made e
 resolution_pointer (resolutions.Unknown n) = null
 
--- Resolve: one data word and one pointer; promiseId is u32 number 0, the member u16 number 2, and stands at pointer 0
+-- Resolve: one data word and one pointer; promiseId is u32 number 0, the member u16 number 2, and is at pointer 0
 abbrev pub resolve_made : Resolve → Node
 resolve_made r = struct_made ((u32_part 0 r.promise_id + u16_part 2 (resolution_number r.resolution)) ∷ []) (resolution_pointer r.resolution ∷ [])
 
@@ -264,6 +264,6 @@ member_made (messages.Bootstrap b) = bootstrap_made b
 member_made (messages.Disembargo d) = disembargo_made d
 member_made (messages.Other n t) = t
 
--- Message: one data word and one pointer; the member is u16 number 0, and stands at pointer 0
+-- Message: one data word and one pointer; the member is u16 number 0, and is at pointer 0
 abbrev pub message_made : Message → Node
 message_made m = struct_made (u16_part 0 (message_number m) ∷ []) (member_made m ∷ [])

@@ -169,7 +169,7 @@ finish_said ws = record { question_id = u32_of ws 0; release_result_caps = not (
 abbrev pub release_said : List ℕ → Release
 release_said ws = record { id = u32_of ws 0; reference_count = u32_of ws 1 }
 
--- Message: its member is u16 number 0, and stands at pointer 0: unimplemented 0, any tree; abort 1, call 2, return 3, finish 4, resolve 5,
+-- Message: its member is u16 number 0, and is at pointer 0: unimplemented 0, any tree; abort 1, call 2, return 3, finish 4, resolve 5,
 -- release 6, bootstrap 8 and disembargo 13, a struct; any other one, any tree.
 abbrev pub message_by : ℕ → Node → Message
 message_by n member =

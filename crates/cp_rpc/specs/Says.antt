@@ -5,7 +5,7 @@ use Rattle.cp_rpc.specs.Said.{message_said}
 use Rattle.cp_rpc.specs.Faulty.{message_faults}
 use Rattle.cp_rpc.specs.declared.message.Message.{Message}
 
--- The tree says the message: its fields say it, and none that the message has is at fault. What stands past the known fields, and what belongs
+-- The tree says the message: its fields say it, and none that the message has is at fault. What is past the known fields, and what belongs
 -- to members that aren't chosen, doesn't matter.
 pub record Says (t : Node) (m : Message) : Type 0 where
   pub sound : message_faults t ≡ []

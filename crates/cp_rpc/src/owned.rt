@@ -21,7 +21,7 @@ pub(crate) enum Part<'a> {
     Body(&'a Body),
 }
 
-/// A part of an owned tree that a message can hold, looked at where it stands. Contracts see it as
+/// A part of an owned tree that a message can hold, looked at where it is. Contracts see it as
 /// its tree.
 #[derive(Drop)]
 pub(crate) struct Owned<'a> {

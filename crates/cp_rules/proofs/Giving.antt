@@ -144,7 +144,7 @@ given_open old said new id outcome kept returned before pushed after is_said was
   (Ok (returned, said), is_said, (Ok (settles.0, new), settles.2, refl)),
 )
 
--- an answer is given behind its Finish: its Return says that it was canceled, and then its tied promises are settled
+-- an answer is given after its Finish: its Return says that it was canceled, and then its tied promises are settled
 pub given_canceled : (old new : State) (id : ℕ) (outcome : Outcome) (kept : AnswerEntry) (before pushed after : List Effect) → pushed ≡ before ++ return_of id returns.Canceled ∷ []
     → (first : List Effect) × (after ≡ pushed ++ first) × SettleTied (gone old id outcome) outcome kept.tied (Ok (first, new))
     → (first : List Effect) × (after ≡ before ++ first) × GiveBy old id outcome kept stages.Finished (Ok (first, new))

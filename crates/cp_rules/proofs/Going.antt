@@ -21,7 +21,7 @@ use Rattle.cp_machine.specs.Go.{NoneOver, IsNext, without_call, underway, GoTo, 
 use Rattle.cp_machine.specs.declared.effect.Effect.{Effect}
 use Rattle.cp_machine.specs.declared.fault.PeerFault.{PeerFault}
 
--- what leaves from now on, behind what left, leaves from the start
+-- what leaves from now on, after what left, leaves from the start
 abbrev pub LeavesFrom : State → State → List Effect → Type 0
 LeavesFrom start now done = (rest : List Effect) (out : Result State PeerFault) → Leave now rest out → Leave start (done ++ rest) out
 

@@ -57,7 +57,7 @@ before_twice : {B : Type 0} (done more : List B) (out : Result (List B × State)
 before_twice done more (Ok rest) = ap (λ l. Ok (l, rest.1)) (sym (append_assoc done more rest.0))
 before_twice done more (Err fault) = refl
 
--- a loop over what is done one by one: what the rest gives, behind what was done, the whole gives
+-- a loop over what is done one by one: what the rest gives, after what was done, the whole gives
 module _ {A B : Type 0} (Rule : State → A → Result (B × State) PeerFault → Type 0) (start now : State) (xs : List A) (i : ℕ) (done : List B) (goes_on : (out : Result (List B × State) PeerFault) → Each Rule now (drop i xs) out → Each Rule start xs (before done out)) where
   pub each_step : (x : A) (y : B) (more : List B) (later : State) → i < length xs → x ≡ get_or xs i x → Rule now x (Ok (y, later)) → more ≡ done ++ y ∷ [] → (out : Result (List B × State) PeerFault) → Each Rule later (drop (i + 1) xs) out → Each Rule start xs (before more out)
   each_step x y more later inside is first pushed out rest =

@@ -81,14 +81,14 @@ given_as core now exports id outcome copied kept returned ids settled values ans
     ) in
     rw (is_gates, is_answers, is_ids, is_values, is_ended, is_copied) (sym (ap after is))
 
--- so behind its Finish
-pub gone_as : (core now left : Core) (id : ℕ) (outcome : Outcome) (settled : List Settled) (ended gates : Queue)
+-- so after its Finish
+pub gone_as : (core now left : Core) (id : ℕ) (outcome copied : Outcome) (settled : List Settled) (ended gates : Queue)
     → now ≡ record core { values = record core.values { promises = now.values.promises }; exports = now.exports }
-    → ended ≡ with_over now.gates (over_with now.gates.waiting.over (gifts.Answer id outcome))
+    → ended ≡ with_over now.gates (over_with now.gates.waiting.over (gifts.Answer id copied)) → copied ≡ outcome
     → state_of left ≡ without_answer (state_of (record now { gates = ended })) id
     → gates ≡ with_over left.gates (over_settled left.gates.waiting.over settled)
     → settling (gone (state_of core) id outcome) now.values.promises now.exports settled ≡ state_of (record left { gates = gates })
-gone_as core now left id outcome settled ended gates is is_ended is_left is_gates =
+gone_as core now left id outcome copied settled ended gates is is_ended is_copied is_left is_gates =
     let over : State → State = λ s. record s { waiting = record s.waiting { over = over_settled s.waiting.over settled } } in
     let after : Core → State = λ n. over (without_answer (state_of (record n { gates = with_over n.gates (over_with n.gates.waiting.over (gifts.Answer id outcome)) })) id) in
-    rw (is_gates) (sym (ap after is) ∙ sym (ap (λ q. over (without_answer (state_of (record now { gates = q })) id)) is_ended) ∙ sym (ap over is_left))
+    rw (is_gates) (sym (ap after is) ∙ sym (ap (λ q. over (without_answer (state_of (record now { gates = q })) id)) (is_ended ∙ ap (λ o. with_over now.gates (over_with now.gates.waiting.over (gifts.Answer id o))) is_copied)) ∙ sym (ap over is_left))

@@ -20,7 +20,7 @@ pub record MayGo (s : State) (call : machine.Underway) : Type 0 where
   pub ungiven : IsUngiven s call.origin
   pub ends : AllEnd s.values call.request.caps
 
--- Waiting calls left, with their effects after those that were there; or one found a table full.
+-- Waiting calls left, with their effects after those before them; or one found a table full.
 abbrev pub AllLeave : State → Result (Unit {0}) Halt → List Effect → List Effect → State → Type 0
 AllLeave old (Ok x) before after new = (rest : List Effect) × (after ≡ before ++ rest) × Leave old rest (Ok new)
 AllLeave old (Err (halts.Fault fault)) before after new = (rest : List Effect) × (after ≡ before ++ rest) × Leave old rest (Err fault)

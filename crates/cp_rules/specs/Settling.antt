@@ -42,7 +42,7 @@ settling s promises exports settled =
       waiting = record s.waiting { over = over_settled s.waiting.over settled };
     }
 
--- what was done, with its effects after those that were there, is what the rule says; or it is the fault that was met; where memory ran out anything is
+-- what was done, with its effects after those before it, is what the rule says; or it is the fault that was met; where memory ran out anything is
 abbrev pub Settles : {A : Type 0} → (Result Done PeerFault → Type 0) → Result A Halt → List Effect → List Effect → (A → State) → Type 0
 Settles Rule (Ok x) before after new = (first : List Effect) × (after ≡ before ++ first) × Rule (Ok (first, new x))
 Settles Rule (Err (halts.Fault fault)) before after new = Rule (Err fault)

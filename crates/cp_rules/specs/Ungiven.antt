@@ -24,7 +24,7 @@ AllEnd values table = AllByRecursion (HasRoute values) table
 abbrev pub AreOpenOnce : Table (Option Cap) → List Tied → Type 0
 AreOpenOnce promises tied = (p : ℕ) → tied_to p tied ≤ one_if (is_unsettled (get promises p))
 
--- The answer or the question is there and isn't given, and the promises that are tied to the answer are open.
+-- The answer or the question exists and isn't given, and the promises that are tied to the answer are open.
 abbrev pub IsUngiven : State → Origin → Type 0
 IsUngiven s (origins.Answer a) =
     (entry : Exchange AnswerEntry) × (get s.entries.answers a ≡ Some entry) × IsTrue (is_open_stage entry.stage) × AreOpenOnce s.values.promises entry.kept.tied

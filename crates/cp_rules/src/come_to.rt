@@ -6,13 +6,13 @@ ghost use Rattle.cp_refs.specs.Route.{HasRoute, missing, question_way, way};
 ghost use Rattle.cp_machine.specs.Say.{ComesTo};
 ghost use Rattle.cp_rules.specs.Leading.{LeadsTo};
 
-use cp_refs::{Cap, Path, Question, Values, at};
+use cp_refs::{Cap, Path, Question, Values};
 use std::alloc::{AllocError, Global};
 
 /// What a capability comes to: the first one on its way that is neither a settled promise nor a path
 /// of a settled question.
 pub fn come_to(alloc: Global, values: &Values, cap: &Cap) -> Result<Cap, AllocError>
-    // Its way ends, and what it names is there.
+    // Its way ends, and what it names exists.
     requires { HasRoute values.now cap.now }
     ensures { IfOk result (λ last. ComesTo values.now cap.now last) }
 {
@@ -95,6 +95,6 @@ fn next_of_path(
     };
     match &question.outcome {
         None => Ok(None),
-        Some(outcome) => Ok(Some(at(alloc, outcome, path.fields())?)),
+        Some(outcome) => Ok(Some(outcome.at(alloc, path.fields())?)),
     }
 }

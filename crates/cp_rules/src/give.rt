@@ -20,7 +20,7 @@ use crate::lower::lower_back;
 use crate::say::{mentioned, say_all};
 use crate::settle::{Settled, end_gates, settle_tied};
 use cp_machine::{Effect, Mentions};
-use cp_refs::{Origin, Outcome, Values};
+use cp_refs::{KeptOutcome, Origin, Outcome, Values};
 use cp_rpc::{Message, Payload, Return, Returned};
 use cp_state::{Core, Exported, Gift, Halt};
 use cp_tables::Stage;
@@ -79,23 +79,20 @@ fn give_open(
     ensures acts { (kept : AnswerEntry) → map.get core.old.answers id ≡ Some (record { stage = stages.Open; kept = kept }) → Acts (GiveBy (state_of core.old) id outcome kept stages.Open) result effects.old.items effects.new.items (state_of core.new) }
     ensures unchanged { IfFault result (core.new ≡ core.old) }
 {
-    let said = returned(
-        core.alloc,
-        core.values.values(),
-        &mut core.exports,
-        &outcome,
-    )?;
+    let kept = KeptOutcome::of(core.alloc, &outcome)?;
+    let gift = KeptOutcome::of(core.alloc, &outcome)?;
+    let said = returned(core.alloc, core.values.values(), &mut core.exports, outcome)?;
     let ids = mentions(core.alloc, &said)?;
     effects.push(return_effect(id, said))?;
-    let settled = match settle_promises(core, id, &outcome, effects) {
+    let settled = match settle_promises(core, id, &kept, effects) {
         Ok(settled) => settled,
         Err(halt) => {
             lower_back(&mut core.exports, ids.ids());
             return Err(halt);
         }
     };
-    core.gates.end(Gift::Answer(id, outcome.copy(core.alloc)?))?;
-    core.values.put_answer(id, Some(outcome))?;
+    core.gates.end(Gift::Answer(id, gift))?;
+    core.values.put_answer(id, Some(kept))?;
     note_given(core.alloc, &mut core.answers, id, ids);
     end_gates(core.alloc, &mut core.gates, &settled)?;
     Ok(())
@@ -113,9 +110,10 @@ fn give_finished(
     ensures acts { (kept : AnswerEntry) → map.get core.old.answers id ≡ Some (record { stage = stages.Finished; kept = kept }) → Acts (GiveBy (state_of core.old) id outcome kept stages.Finished) result effects.old.items effects.new.items (state_of core.new) }
     ensures unchanged { IfFault result (core.new ≡ core.old) }
 {
+    let kept = KeptOutcome::of(core.alloc, &outcome)?;
     effects.push(return_effect(id, Returned::Canceled))?;
-    let settled = settle_promises(core, id, &outcome, effects)?;
-    core.gates.end(Gift::Answer(id, outcome))?;
+    let settled = settle_promises(core, id, &kept, effects)?;
+    core.gates.end(Gift::Answer(id, kept))?;
     remove_answer(core, id);
     end_gates(core.alloc, &mut core.gates, &settled)?;
     Ok(())
@@ -126,7 +124,7 @@ fn give_finished(
 fn settle_promises(
     core: &mut Core,
     id: u32,
-    outcome: &Outcome,
+    outcome: &KeptOutcome,
     effects: &mut Vec<Effect>,
 ) -> Result<Vec<Settled>, Halt>
     requires ungiven { IsUngiven (state_of core.old) (Origin.Answer id) }
@@ -159,25 +157,24 @@ fn return_effect(answer_id: u32, returned: Returned) -> Effect
     }))
 }
 
-/// How an outcome is returned.
+/// How an outcome is returned. Its content goes into the Return.
 fn returned(
     alloc: Global,
     values: &Values,
     exports: &mut Exported,
-    outcome: &Outcome,
+    outcome: Outcome,
 ) -> Result<Returned, Halt>
-    requires { AllEnd values.now (caps_of outcome.now) }
-    ensures said { (s : State) → Leaves (Returns (with_parts s values.now exports.old) outcome.now) result (with_parts s values.now exports.new) }
+    requires { AllEnd values.now (caps_of outcome) }
+    ensures said { (s : State) → Leaves (Returns (with_parts s values.now exports.old) outcome) result (with_parts s values.now exports.new) }
     ensures back { IfOk result (λ r. lowered_back exports.new (returned_mentions r) ≡ exports.old) }
     ensures unchanged { IfFault result (exports.new ≡ exports.old) }
 {
     match outcome {
         Outcome::Results { content, caps } => {
-            let content = content.copy(alloc)?;
             let cap_table = say_all(alloc, values, exports, caps.caps())?;
             Ok(Returned::Results(Payload { content, cap_table }))
         }
-        Outcome::Failed(x) => Ok(Returned::Exception(x.copy(alloc)?)),
+        Outcome::Failed(x) => Ok(Returned::Exception(x)),
         Outcome::Canceled => Ok(Returned::Canceled),
     }
 }

@@ -1,10 +1,10 @@
 //! How outcomes are given to the application's questions.
 
-ghost use Rattle.std.specs.Prelude.{◌≡◌, Some};
+ghost use Rattle.std.specs.Prelude.{◌≡◌, Some, OnOk};
 ghost use Rattle.std.specs.FinMap as map;
 ghost use Rattle.cp_tables.specs.declared.exchange.Exchange.{Exchange};
 ghost use Rattle.cp_tables.specs.declared.exchange.Stage.TheVariants as stages;
-ghost use Rattle.cp_machine.specs.Give.{GiveOwn, GiveOwnBy, question_over};
+ghost use Rattle.cp_machine.specs.Give.{GiveOwn, GiveOwnBy, question_over, without_question};
 ghost use Rattle.cp_machine.specs.declared.entry.QuestionEntry.{QuestionEntry};
 ghost use Rattle.cp_state.specs.Halts.{Acts, IfFault};
 ghost use Rattle.cp_state.specs.StateOf.{state_of};
@@ -12,9 +12,10 @@ ghost use Rattle.cp_rules.specs.Ungiven.{IsUngiven};
 
 use crate::entry::remove_question;
 use cp_machine::Effect;
-use cp_refs::{Origin, Outcome};
+use cp_refs::{KeptOutcome, Origin, Outcome};
 use cp_state::{Core, Gift, Halt};
 use cp_tables::Stage;
+use std::alloc::AllocError;
 
 /// Settles a question of the application's, which is reported unless it finished the question.
 pub fn give_own(
@@ -32,11 +33,7 @@ pub fn give_own(
     };
     match question.stage {
         Stage::Open => settle_question(core, id, outcome, effects),
-        Stage::Finished => {
-            core.gates.end(Gift::Question(id, outcome))?;
-            remove_question(core, id);
-            Ok(())
-        }
+        Stage::Finished => Ok(end_question(core, id, &outcome)?),
         Stage::Returned => unreachable!(),
     }
 }
@@ -51,13 +48,24 @@ fn settle_question(
     ensures acts { (kept : QuestionEntry) → map.get core.old.questions id ≡ Some (record { stage = stages.Open; kept = kept }) → Acts (GiveOwnBy (state_of core.old) id outcome stages.Open) result effects.old.items effects.new.items (state_of core.new) }
     ensures unchanged { IfFault result (core.new ≡ core.old) }
 {
-    core.gates
-        .end(Gift::Question(id, outcome.copy(core.alloc)?))?;
-    core.values.settle_question(id, outcome.copy(core.alloc)?)?;
+    let gift = KeptOutcome::of(core.alloc, &outcome)?;
+    core.gates.end(Gift::Question(id, gift))?;
+    let kept = KeptOutcome::of(core.alloc, &outcome)?;
+    core.values.settle_question(id, kept)?;
     let _ = core.questions.note_return(id);
     effects.push(Effect::Settled {
         question: id,
         outcome,
     })?;
+    Ok(())
+}
+
+/// Ends the gate of a question that was finished, and takes the question out.
+fn end_question(core: &mut Core, id: u32, outcome: &Outcome) -> Result<(), AllocError>
+    ensures { OnOk result (state_of core.new ≡ without_question (question_over (state_of core.old) id outcome.now) id) }
+{
+    let gift = KeptOutcome::of(core.alloc, outcome)?;
+    core.gates.end(Gift::Question(id, gift))?;
+    remove_question(core, id);
     Ok(())
 }

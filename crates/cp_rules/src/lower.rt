@@ -34,7 +34,7 @@ pub(crate) fn lower_back(exports: &mut Exported, ids: &[u32])
     }
 }
 
-/// Whether each of these exports is there.
+/// Whether each of these is an export.
 fn are_there(exports: &Exported, ids: &[u32]) -> bool
     ensures { list_any (λ e. is_none (map.get exports.now e)) ids.now ≡ not result }
 {

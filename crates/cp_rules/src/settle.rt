@@ -18,7 +18,7 @@ ghost use Rattle.cp_rules.specs.Settling.{Settles, lowered_back, over_settled, r
 use crate::come_to::come_to;
 use crate::say::{mention, say_end};
 use cp_machine::{Effect, Tied};
-use cp_refs::{Cap, Outcome, PromiseId, at};
+use cp_refs::{Cap, KeptOutcome, PromiseId};
 use cp_rpc::{Exception, ExceptionKind, Message, Resolution, Resolve, Text};
 use cp_state::{Core, Exported, Gates, Gift, Halt, Hosted, NumberedValues};
 use std::alloc::{AllocError, Global};
@@ -63,7 +63,7 @@ pub(crate) fn settle_tied(
     alloc: Global,
     values: &mut NumberedValues,
     exports: &mut Exported,
-    outcome: &Outcome,
+    outcome: &KeptOutcome,
     tied: &[Tied],
     effects: &mut Vec<Effect>,
 ) -> Result<Vec<Settled>, Halt>
@@ -75,7 +75,7 @@ pub(crate) fn settle_tied(
 {
     let mut settled = Vec::new(alloc);
     for one in tied {
-        let value = at(alloc, outcome, one.path.fields())?;
+        let value = outcome.at(alloc, one.path.fields())?;
         match settle_value(alloc, values, exports, one.promise, value, effects) {
             Ok(one) => settled.push(one)?,
             Err(halt) => {

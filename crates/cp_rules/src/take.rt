@@ -13,7 +13,7 @@ ghost use Rattle.cp_state.specs.StateOf.{state_of};
 use crate::promised::{path_of, path_of_view};
 use cp_machine::{ImportKind, PeerFault, Tied};
 use cp_reading::View;
-use cp_refs::{Cap, Caps, Outcome, Path, at};
+use cp_refs::{Cap, Caps, KeptOutcome, Path};
 use cp_rpc::{CapTableView, Descriptor, DescriptorView};
 use cp_state::{Core, Halt};
 use cp_tables::{LIMIT, Stage};
@@ -81,7 +81,7 @@ pub fn take_view(core: &mut Core, descriptor: &DescriptorView<View>) -> Result<C
 }
 
 /// What an answer came to that is kept and whose Finish hasn't come.
-pub fn answer_of(core: &Core, id: u32) -> Option<&Option<Outcome>>
+pub fn answer_of(core: &Core, id: u32) -> Option<&Option<KeptOutcome>>
     ensures { option_copied result ≡ answer_of (state_of core.now) id }
 {
     let entry = core.answers.get(id)?;
@@ -142,7 +142,7 @@ fn take_answer(core: &mut Core, id: u32, path: Path) -> Result<Cap, Halt>
     match answer_of(core, id) {
         None => Err(Halt::Fault(PeerFault::UnknownAnswer)),
         Some(None) => tie(core, id, path),
-        Some(Some(outcome)) => Ok(at(core.alloc, outcome, path.fields())?),
+        Some(Some(outcome)) => Ok(outcome.at(core.alloc, path.fields())?),
     }
 }
 

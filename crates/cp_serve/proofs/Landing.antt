@@ -357,7 +357,7 @@ pub either_on : {T E C P Q : Type 0} (r : Result T E) → OnOk r P → OnErr r Q
 either_on (Ok x) h k f g = f h
 either_on (Err e) h k f g = g k
 
--- What was put behind a block that was begun anew is written.
+-- What was put after a block that was begun anew is written.
 module _ (mode : Mode) (sent : List Message) (old new : Device) (before after : List ℕ) (none : before ≡ []) where
   pub wrote_all : ((to : Device) → Writes mode sent (ahead to before) (ahead to after)) → Appends old.bytes new.bytes after → new.failures ≡ old.failures → Writes mode sent old new
   wrote_all puts moved same =

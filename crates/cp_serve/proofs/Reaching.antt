@@ -284,7 +284,7 @@ takes_next s rest piece taken S read back m session at messages {objects = objec
       sent = refl;
     }
 
--- the server reads on behind what it wrote
+-- the server reads on after what it wrote
 pub reads_after : (s new : Server) → ReadsOn [] s → new.frames ≡ s.frames → new.mode ≡ s.mode → (work_of new.session).closed ≡ None → ReadsOn [] new
 reads_after s new on f m is_open = record {
   frames_mode = ap (λ (r : frames.Reader). r.mode) f ∙ on.frames_mode ∙ sym m;
@@ -459,7 +459,7 @@ module _ {mode : Mode} {start : List Seen} {held : Device} where
   pub fills_all : (bytes piece left : List ℕ) {s : Server} {objects : List Seen} {to : Device} → (fed : List ℕ) × (piece ≡ fed ++ left) × Serves mode start held (bytes ++ fed) s objects to → Fills mode start held bytes piece left s objects to
   fills_all bytes piece left h = (h.0, h.1, inl h.2)
 
-  -- the whole piece was read, and what a message that it ends leads to wasn't all put behind the block
+  -- the whole piece was read, and what a message that it ends leads to wasn't all put after the block
   pub stops_behind : (bytes fed rest left piece back : List ℕ) (from upto : Device) (s s2 : Server) {objects others : List Seen} (to to' : Device) → piece ≡ fed ++ left
       → Reached mode start held (bytes ++ fed) rest s objects to → (work_of s.session).closed ≡ None → (next : TakesNext rest s left objects s2 back others)
       → WritesPart s2.mode (work_of s2.session).sent to to' → (fault : ServeFault) → IsUnput s2.at (work_of s2.session).sent fault
@@ -490,6 +490,6 @@ reads_nothing a b c bytes buffer n h k e =
     let none : take n buffer ≡ [] = ap (λ (m : ℕ). take m buffer) e in
     subst (λ (x : List ℕ). Consumes a c x) (append-nil bytes) (Consumes-trans a b c bytes [] h (subst (λ (x : List ℕ). Consumes b c x) none k))
 
--- so many pieces, of a byte or more each
+-- this many pieces, of a byte or more each
 pub one_more_piece : (bytes piece : List ℕ) (pieces n : ℕ) → pieces ≤ length bytes → n ≡ length piece → n ≢ 0 → pieces + 1 ≤ length (bytes ++ piece)
 one_more_piece bytes piece pieces n h e some = omega (arith, h, e, some, length-append bytes piece)

@@ -47,7 +47,7 @@ received_both : (a b : List Moment) → received (a ++ b) ≡ received a ++ rece
 received_both [] b = refl
 received_both (m ∷ a) b = ap (λ (x : List Message). received_by m.event x) (received_both a b) ∙ received_one m.event (received a) (received b)
 
--- The vat did events, and their effects went behind those that were to be worked off.
+-- The vat did events, and their effects went after those that were to be worked off.
 record Adds (old new : Work) (ms : List Message) : Type 0 where
   history : List Moment
   steps : Steps old.vat history new.vat

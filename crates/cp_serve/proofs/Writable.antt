@@ -20,7 +20,7 @@ use Rattle.cp_vat.proofs.Costing.{message_cost}
 use Rattle.cp_serve.specs.Servant.{Seen}
 use Rattle.cp_serve.specs.Work.{Work}
 use Rattle.cp_serve.specs.History.{effects_of, sent_by}
-use Rattle.cp_serve.specs.Output.{Starts, IsWantOfMemory}
+use Rattle.cp_serve.specs.Output.{Starts, IsAllocationFailure}
 use Rattle.cp_serve.specs.Reached.{IsOwnFault}
 use Rattle.cp_serve.proofs.Running.{Ran, ran_takes, ran_closes}
 
@@ -77,7 +77,7 @@ module _ (m : Message) (writes_ : IsWritable m) where
   cheap : cost (message_made m) ≤ 8388608
   cheap = at_most (cost (message_made m)) 8388608 (both_true _ _ writes_).1
 
-  for_memory : (refusal : Refusal) → IsUnwrittenFor standard standard.frame_words 1 m refusal → IsWantOfMemory refusal
+  for_memory : (refusal : Refusal) → IsUnwrittenFor standard standard.frame_words 1 m refusal → IsAllocationFailure refusal
   for_memory (refusals.Frame fault) h = inl (inl (ap refusals.Frame h.0))
   for_memory (refusals.Tree fault) h = absurd h
   for_memory (refusals.Schema fault) h = absurd h
@@ -90,8 +90,8 @@ module _ (m : Message) (writes_ : IsWritable m) where
   for_memory (refusals.Write writes.TooManyWords) (inr h) =
       absurd (not_too_many standard 8388608 (u16_part 0 (message_number m) ∷ []) (node (member_made m) no_nodes) (omega arith) h.0 cheap h.1)
 
--- a message that is sent isn't written for want of memory alone
-pub only_memory : {objects : List Seen} {taken sent : List Message} (ends : Work → Type 0) → Starts objects taken sent ends → (refusal : Refusal) → IsOwnFault sent refusal → IsWantOfMemory refusal
+-- a message that is sent is written, unless an allocation fails
+pub only_memory : {objects : List Seen} {taken sent : List Message} (ends : Work → Type 0) → Starts objects taken sent ends → (refusal : Refusal) → IsOwnFault sent refusal → IsAllocationFailure refusal
 only_memory ends starts refusal h =
     let all = subst (AllByRecursion IsWritable) h.among.2 (starts_write ends starts) in
     for_memory h.message (one_writes h.among.0 h.among.1 h.message all) refusal h.unwritten

@@ -62,7 +62,7 @@ module _ {mode : Mode} where
     appends = subst (λ (x : List ℕ). Appends old.bytes new.bytes x) (sym (append-nil h.bytes)) h.appends;
   }
 
-  -- a part behind what was all written, whatever was to follow
+  -- a part after what was all written, whatever was to follow
   pub part_after : (a b more : List Message) (old mid new : Device) → Writes mode a old mid → WritesPart mode b mid new → WritesPart mode (a ++ (b ++ more)) old new
   part_after a b more old mid new h k = record {
     first = a ++ k.first;
@@ -106,7 +106,7 @@ own_within a b c refusal h = record {
 pub own_behind : (a b : List Message) (refusal : Refusal) → IsOwnFault b refusal → IsOwnFault (a ++ b) refusal
 own_behind a b refusal h = subst (λ (x : List Message). IsOwnFault (a ++ x) refusal) (append-nil b) (own_within a b [] refusal h)
 
--- the first messages were put behind a block, and the next wasn't
+-- the first messages were put after a block, and the next wasn't
 pub unput_next : (items : List Message) (i : ℕ) (m : Message) (place before : ℕ) → i < length items → m ≡ get_or items i m → before ≡ place → (fault : ServeFault) → IsUnput before (m ∷ []) fault
     → IsUnput place items fault
 unput_next items i m place before h e p (serving.Stream (faults.Refused at refusal)) why =
@@ -129,7 +129,7 @@ module _ (mode : Mode) (limits : Bounds) (m : Message) (old new : Tap (Vec ℕ G
         grown to.bytes first.items last.items b
         (ap (λ (v : Vec ℕ Global). v.items) is_last ∙ h ∙ ap (λ (v : Vec ℕ Global). v.items ++ b) is_first)
 
-    -- a message that was put behind a block
+    -- a message that was put after a block
     pub sent_writes : IsSent held_by mode limits limits.frame_words 1 m old new → (to : Device) → Writes mode (m ∷ []) (ahead to first.items) (ahead to last.items)
     sent_writes h to = record {
       bytes = h.0;

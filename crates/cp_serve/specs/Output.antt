@@ -143,15 +143,15 @@ pub record IsCutOff (mode : Mode) (objects : List Seen) (bytes : List ℕ) (left
   pub writes : WritesPart mode sent old new
 
 -- memory ran out: for what is read, or for what is written
-abbrev pub IsWantOfMemory : Refusal → Type 0
-IsWantOfMemory refusal = IsMemory refusal ⊎ (refusal ≡ refusals.Write writes.OutOfMemory)
+abbrev pub IsAllocationFailure : Refusal → Type 0
+IsAllocationFailure refusal = IsMemory refusal ⊎ (refusal ≡ refusals.Write writes.OutOfMemory)
 
 -- Why a run stopped, of which these bytes were read: their rest has the fault; or a device's call failed, or memory ran out, and the run was cut off. Each
 -- message that is sent can be written.
 abbrev pub StopsFor : Mode → List Seen → List ℕ → Device → Device → Device → Device → List Seen → ServeFault → Type 0
 StopsFor mode objects bytes from left old new others (faults.Stream (streams.Refused at refusal)) =
     IsRefused mode objects bytes left.bytes old new at refusal others
-    ⊎ ((cut : IsCutOff mode objects bytes left.bytes old new) × IsWantOfMemory refusal × IsPlace bytes cut.rest at)
+    ⊎ ((cut : IsCutOff mode objects bytes left.bytes old new) × IsAllocationFailure refusal × IsPlace bytes cut.rest at)
 StopsFor mode objects bytes from left old new others (faults.Stream streams.Device) =
     (FailedOnce from.failures left.failures ⊎ FailedOnce old.failures new.failures) × IsCutOff mode objects bytes left.bytes old new
 StopsFor mode objects bytes from left old new others faults.OutOfMemory = IsCutOff mode objects bytes left.bytes old new

@@ -104,7 +104,7 @@ module _ {K : Type 0} (f : K → List ℕ) where
   find-above p [] h = refl
   find-above p (e ∷ es) h = ap (λ r. cond (is_eq r) (Some e.1) (find (slice_cmp nat_cmp) p (flat es))) h.0 ∙ find-above p es h.1
 
-  -- the rest behind an entry finds what is found, but that entry
+  -- the rest after an entry finds what is found, but that entry
   pub find-rest : (e : K × Option ℕ) (es : List (K × Option ℕ)) → AllByRecursion (λ y. S (f e.0) (f y) ≡ Less) (keys_of es) → (q : List ℕ)
       → find (slice_cmp nat_cmp) q (flat es) ≡ cond (is_eq (S q (f e.0))) None (find (slice_cmp nat_cmp) q (flat (e ∷ es)))
   find-rest e es above q =

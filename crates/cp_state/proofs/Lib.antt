@@ -10,3 +10,4 @@ pub mod Counting
 pub mod Holding
 pub mod Keeping
 pub mod Asking
+pub mod Tables

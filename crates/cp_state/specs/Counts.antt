@@ -32,7 +32,7 @@ times_named named s = once (is_named s named)
 abbrev pub times_in : List Cap → Sought → ℕ
 times_in caps s = count_by (is_sought s) caps
 
--- each is held so much more often, so much less often, or as often
+-- each is held this much more often, this much less often, or as often
 abbrev pub IsMore : Holders → Holders → (Sought → ℕ) → Type 0
 IsMore old new times = (s : Sought) → number_of new s ≡ number_of old s + times s
 

@@ -39,7 +39,7 @@ Leaves Rule (Ok x) new = Rule (Ok (x, new))
 Leaves Rule (Err (halts.Fault fault)) new = Rule (Err fault)
 Leaves Rule (Err halts.OutOfMemory) new = Unit {0}
 
--- so with the effects after those that were there
+-- so with the effects after those before it
 abbrev pub Acts : (Result Done PeerFault → Type 0) → Result (Unit {0}) Halt → List Effect → List Effect → State → Type 0
 Acts Rule (Ok x) before after new = (first : List Effect) × (after ≡ before ++ first) × Rule (Ok (first, new))
 Acts Rule (Err (halts.Fault fault)) before after new = Rule (Err fault)
@@ -69,10 +69,10 @@ IfFault (Err (halts.Fault fault)) Holds = Holds
 IfFault (Err halts.OutOfMemory) Holds = Unit {0}
 
 -- nothing but an allocation failure stops it
-abbrev pub OnlyWant : {A : Type 0} → Result A Halt → Type 0
-OnlyWant (Ok x) = Unit {0}
-OnlyWant (Err (halts.Fault fault)) = ⊥
-OnlyWant (Err halts.OutOfMemory) = Unit {0}
+abbrev pub OnlyAllocationFails : {A : Type 0} → Result A Halt → Type 0
+OnlyAllocationFails (Ok x) = Unit {0}
+OnlyAllocationFails (Err (halts.Fault fault)) = ⊥
+OnlyAllocationFails (Err halts.OutOfMemory) = Unit {0}
 
 -- so of a rule that only leaves a state
 abbrev pub Becomes : Result State PeerFault → Result (Unit {0}) Halt → State → Type 0

@@ -14,7 +14,7 @@ use Rattle.cp_state.specs.declared.sought.Sought.TheVariants as sought
 use Rattle.cp_state.specs.declared.holders.Holders.{Holders}
 use Rattle.cp_state.specs.declared.counted_calls.Uses.{Uses}
 
--- the capabilities that are the value of a promise, or stand in what an answer or a question came to
+-- the capabilities that are the value of a promise, or are in what an answer or a question came to
 abbrev pub kept_by : ValueMaps → List Cap
 kept_by v = flat_map option_to_list (values v.promises) ++ flat_map caps_given (values v.answers) ++ flat_map (λ question. caps_given question.outcome) (values v.questions)
 
@@ -29,7 +29,7 @@ values_of_others v i = flat_map (λ entry. value_unless i entry) (entries v.impo
 abbrev pub times_held : {X : Type 0} → (X → Sought → ℕ) → Table X → Sought → ℕ
 times_held times table s = sum_by (λ x. times x s) (values table)
 
--- It is counted how often each is the value of a promise or stands in what an answer or a question came to, and how often each is the value of an import.
+-- It is counted how often each is the value of a promise or is in what an answer or a question came to, and how often each is the value of an import.
 pub record AreHeld (v : ValueMaps) (kept imported : Holders) : Type 0 where
   pub kept_so_often :
       (s : Sought)
@@ -41,7 +41,7 @@ abbrev pub own_uses : Option (Option Cap) → ℕ → ℕ
 own_uses None i = 0
 own_uses (Some value) i = times_in (option_to_list value) (sought.Import i)
 
--- It is counted how often each stands in calls' tables, and how many calls wait for each.
+-- It is counted how often each is in calls' tables, and how many calls wait for each.
 pub record AreHeldByCalls (calls : Table Held) (uses : Uses) : Type 0 where
   pub named : (s : Sought) → number_of uses.named s ≡ times_held (λ call. times_in call.request.caps) calls s
   pub awaited : (s : Sought) → number_of uses.awaited s ≡ times_held (λ call. times_named (awaited_at call.gate)) calls s

@@ -18,6 +18,6 @@ by_fields fields es = from_entries (map (λ e. (fields e.0, e.1)) es)
 abbrev pub fields_of : Vec ℕ → List ℕ
 fields_of key = key.items
 
--- the keys are in order, and none stands twice
+-- the keys are in order, and none is there twice
 abbrev pub AreInOrder : BTreeMap (Vec ℕ) (Option ℕ) → Type 0
 AreInOrder marks = IsOrdered (λ x y. slice_cmp nat_cmp (fields_of x) (fields_of y)) marks

@@ -64,7 +64,7 @@ impl CountedCalls {
         self.calls.calls()
     }
 
-    /// Whether it stands in a call's table.
+    /// Whether it is in a call's table.
     pub(crate) fn is_named(&self, sought: Sought) -> bool
         ensures { result ≡ list_any (is_sought sought) (flat_map (λ call. call.request.caps) (map.values self.now.calls)) }
     {

@@ -9,7 +9,7 @@ ghost use Rattle.cp_state.specs.Held.{kept_by, import_values, values_of_others, 
 
 use crate::holders::{Holders, caps_of_outcome, caps_of_question, caps_of_value};
 use crate::sought::Sought;
-use cp_refs::{Cap, Outcome, PromiseId, Question, Values};
+use cp_refs::{Cap, KeptOutcome, PromiseId, Question, Values};
 use std::alloc::{AllocError, Global};
 use std::marker::Model;
 
@@ -55,7 +55,7 @@ impl CountedValues {
         &self.values
     }
 
-    /// Whether it is the value of a promise, or stands in what an answer or a question came to.
+    /// Whether it is the value of a promise, or is in what an answer or a question came to.
     pub(crate) fn is_kept(&self, sought: Sought) -> bool
         ensures { result ≡ list_any (is_sought sought) (kept_by self.now) }
     {
@@ -119,7 +119,11 @@ impl CountedValues {
     }
 
     /// Puts what an answer came to.
-    pub(crate) fn put_answer(&mut self, id: u32, outcome: Option<Outcome>) -> Result<(), AllocError>
+    pub(crate) fn put_answer(
+        &mut self,
+        id: u32,
+        outcome: Option<KeptOutcome>,
+    ) -> Result<(), AllocError>
         ensures put { OnOk result (self.new ≡ record self.old { answers = map.insert self.old.answers id outcome }) }
         ensures err { OnErr result (self.new ≡ self.old) }
     {

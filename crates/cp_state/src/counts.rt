@@ -6,7 +6,7 @@ ghost use Rattle.cp_state.specs.Counts.{count_at, once};
 use cp_tables::Entries;
 use std::alloc::{AllocError, Global};
 
-/// How often numbers were counted. One that is counted 0 times takes no room.
+/// How often numbers were counted. One that is counted 0 times takes no memory.
 #[derive(Drop)]
 pub(crate) struct Counts {
     counts: Entries<u64>,

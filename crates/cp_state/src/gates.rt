@@ -12,7 +12,7 @@ ghost use Rattle.cp_state.specs.Overs.{over_of, gate_of, bare_gate, over_with, N
 
 use crate::counted_calls::CountedCalls;
 use crate::sought::Sought;
-use cp_refs::{Cap, Gate, Held, Outcome, Path, PromiseId, at};
+use cp_refs::{Cap, Gate, Held, KeptOutcome, Path, PromiseId};
 use cp_tables::Entries;
 use std::alloc::{AllocError, Global};
 use std::collections::btree_map::Iter;
@@ -21,9 +21,9 @@ use std::marker::Model;
 /// What ends a gate, with what the gate gives.
 #[derive(Drop)]
 pub enum Gift {
-    Answer(u32, Outcome),
+    Answer(u32, KeptOutcome),
     Promise(PromiseId, Cap),
-    Question(u32, Outcome),
+    Question(u32, KeptOutcome),
     Embargo(u32, Cap),
 }
 
@@ -107,7 +107,7 @@ impl Gates {
         self.calls.calls()
     }
 
-    /// Whether it stands in a waiting call's table.
+    /// Whether it is in a waiting call's table.
     pub(crate) fn is_named(&self, sought: Sought) -> bool
         ensures { result ≡ list_any (is_sought sought) (flat_map (λ call. call.request.caps) (map.values self.now.waiting.calls)) }
     {
@@ -231,9 +231,9 @@ impl Gates {
 /// What the gates gave that ended.
 #[derive(Drop)]
 struct Overs {
-    answers: Entries<Outcome>,
+    answers: Entries<KeptOutcome>,
     promises: Entries<Cap>,
-    questions: Entries<Outcome>,
+    questions: Entries<KeptOutcome>,
     embargoes: Entries<Cap>,
 }
 
@@ -297,13 +297,13 @@ fn given(alloc: Global, cap: Option<&Cap>) -> Result<Option<Cap>, AllocError>
 
 fn given_at(
     alloc: Global,
-    outcome: Option<&Outcome>,
+    outcome: Option<&KeptOutcome>,
     path: &Path,
 ) -> Result<Option<Cap>, AllocError>
     ensures { IfOk result (λ given. given ≡ option_map (λ outcome. cap_at outcome path.now) (option_copied outcome.entry)) }
 {
     match outcome {
-        Some(outcome) => Ok(Some(at(alloc, outcome, path.fields())?)),
+        Some(outcome) => Ok(Some(outcome.at(alloc, path.fields())?)),
         None => Ok(None),
     }
 }

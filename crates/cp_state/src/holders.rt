@@ -8,7 +8,7 @@ ghost use Rattle.cp_state.specs.declared.sought.Sought.{Sought};
 
 use crate::counts::Counts;
 use crate::sought::Sought;
-use cp_refs::{Cap, Outcome, Question};
+use cp_refs::{Cap, KeptOutcome, Question};
 use std::alloc::{AllocError, Global};
 
 /// How often each import, each promise and each question's paths are held.
@@ -106,12 +106,12 @@ pub(crate) fn caps_of_value(value: &Option<Cap>) -> &[Cap]
 }
 
 /// The capabilities of an outcome.
-pub(crate) fn caps_of_outcome(outcome: &Option<Outcome>) -> &[Cap]
+pub(crate) fn caps_of_outcome(outcome: &Option<KeptOutcome>) -> &[Cap]
     ensures { result.now ≡ caps_given outcome.now }
 {
     match outcome {
-        Some(Outcome::Results { caps, .. }) => caps.caps(),
-        _ => &[],
+        Some(outcome) => outcome.caps(),
+        None => &[],
     }
 }
 

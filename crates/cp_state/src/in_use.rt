@@ -72,7 +72,7 @@ impl Core {
         Ok(Ids::new(idle))
     }
 
-    /// Whether it is the value of a promise, stands in a kept answer or in an unfinished question's
+    /// Whether it is the value of a promise, is in a kept answer or in an unfinished question's
     /// results, or in a waiting call's table.
     fn is_kept(&self, sought: Sought) -> bool
         ensures { result ≡ list_any (is_sought sought) (kept_caps (state_of self.now)) }

@@ -11,7 +11,7 @@ use crate::counted_values::CountedValues;
 use crate::halt::Halt;
 use crate::sought::Sought;
 use cp_machine::PeerFault;
-use cp_refs::{Cap, Outcome, PromiseId, Question, QuestionKind, Values};
+use cp_refs::{Cap, KeptOutcome, PromiseId, Question, QuestionKind, Values};
 use cp_tables::{Embargoes, LIMIT};
 use std::alloc::{AllocError, Global};
 use std::marker::Model;
@@ -59,7 +59,7 @@ impl NumberedValues {
         self.values.values()
     }
 
-    /// Whether it is the value of a promise, or stands in what an answer or a question came to.
+    /// Whether it is the value of a promise, or is in what an answer or a question came to.
     pub(crate) fn is_kept(&self, sought: Sought) -> bool
         ensures { result ≡ list_any (is_sought sought) (kept_by self.now) }
     {
@@ -97,7 +97,7 @@ impl NumberedValues {
         Ok(id)
     }
 
-    /// Settles a promise that is there.
+    /// Settles a promise that exists.
     pub fn settle_promise(&mut self, id: PromiseId, value: Cap) -> Result<(), AllocError>
         requires { IsSome (map.get self.old.promises id) }
         ensures put { OnOk result (self.new ≡ record self.old { promises = map.insert self.old.promises id (Some value) }) }
@@ -106,7 +106,7 @@ impl NumberedValues {
         self.values.put_promise(id, Some(value))
     }
 
-    /// Opens a promise again that was settled, if it is there.
+    /// Opens a promise again that was settled, if it exists.
     pub fn reopen_promise(&mut self, id: PromiseId) -> Result<(), AllocError>
         ensures put { OnOk result (self.new ≡ record self.old { promises = with_change self.old.promises id (λ _. None) }) }
         ensures err { OnErr result (self.new ≡ self.old) }
@@ -141,7 +141,7 @@ impl NumberedValues {
     }
 
     /// Puts what an answer came to.
-    pub fn put_answer(&mut self, id: u32, outcome: Option<Outcome>) -> Result<(), AllocError>
+    pub fn put_answer(&mut self, id: u32, outcome: Option<KeptOutcome>) -> Result<(), AllocError>
         ensures put { OnOk result (self.new ≡ record self.old { answers = map.insert self.old.answers id outcome }) }
         ensures err { OnErr result (self.new ≡ self.old) }
     {
@@ -169,8 +169,8 @@ impl NumberedValues {
         )
     }
 
-    /// Puts what a question came to, if it is there.
-    pub fn settle_question(&mut self, id: u32, outcome: Outcome) -> Result<(), AllocError>
+    /// Puts what a question came to, if it exists.
+    pub fn settle_question(&mut self, id: u32, outcome: KeptOutcome) -> Result<(), AllocError>
         ensures put { OnOk result (self.new ≡ record self.old { questions = with_change self.old.questions id (λ question. record question { outcome = Some outcome }) }) }
         ensures err { OnErr result (self.new ≡ self.old) }
     {

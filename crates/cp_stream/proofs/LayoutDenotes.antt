@@ -7,7 +7,7 @@ use Rattle.cp_words.specs.declared.kind.Kind.{Kind}
 use Rattle.cp_words.specs.declared.kind.Kind.TheVariants as kinds
 use Rattle.cp_words.specs.Aims.{segment, Holds, HasBody}
 use Rattle.cp_reading.specs.Denotes.{Denotes, EachDenotes, EachBody}
-use Rattle.cp_writing.specs.Layout.{Filled, Room, Follows, FollowsPad, Begins, IsEnd, Places, without_words, here, behind_pad, in_new, last_here, last_behind_pad, Lays, LaysRow, LaysBodies, Layout}
+use Rattle.cp_writing.specs.Layout.{Filled, Room, Follows, FollowsPad, Begins, IsEnd, Places, without_words, here, after_pad, in_new, last_here, last_after_pad, Lays, LaysRow, LaysBodies, Layout}
 use Rattle.cp_tree.specs.Node.{Node, null, cap, struct, list, ptrs, structs, Nodes, no_nodes, node, Bodies, no_bodies, body, count, number_of, element_size, element_count}
 use Rattle.cp_tree.specs.Shaped.{Shaped, EachShaped, EachEven}
 
@@ -58,10 +58,10 @@ module _ (S : List (List ℕ)) where
           earlier = earlier;
         }
     lies (here some here_fits follows) fits = followed here_fits.0 follows fits
-    lies (behind_pad some not_here pad_fits follows) fits = followed_pad follows fits
+    lies (after_pad some not_here pad_fits follows) fits = followed_pad follows fits
     lies (in_new some not_here not_behind more begins) fits = began begins fits
     lies (last_here some not_here not_behind no_more same follows) fits = followed same follows fits
-    lies (last_behind_pad some not_here not_behind no_more other follows) fits = followed_pad follows fits
+    lies (last_after_pad some not_here not_behind no_more other follows) fits = followed_pad follows fits
 
   -- a struct of size zero has its body where its pointer stands
   empty_struct : (s p : ℕ) → Holds S s p (pointers.Struct (negsuc 0) 0 0) → HasBody S s p (kinds.Struct 0 0) 0 s p

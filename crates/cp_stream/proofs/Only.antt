@@ -107,7 +107,7 @@ why mode limits new b frames.OutOfMemory h = memory refl
 is_memory : (fault : FrameFault) → fault ≡ frames.OutOfMemory → IsMemory (refusals.Frame fault)
 is_memory fault e = inl (ap refusals.Frame e)
 
--- bytes that begin with a frame are refused for want of memory alone
+-- bytes that begin with a frame are refused only where an allocation fails
 front_memory : (mode : Mode) (limits : Bounds) (bytes : List ℕ) (new : Option (List ℕ)) (b : List ℕ) (refusal : Refusal) (S : List (List ℕ)) (front back : List ℕ) → bytes ≡ front ++ back → Frame mode limits S front
     → Consumes (Some bytes) new b → RefusesFrame mode limits new b refusal → IsMemory refusal
 front_memory mode limits bytes new b (refusals.Frame fault) S front back e f h k = go (why mode limits new b fault k)

@@ -9,7 +9,7 @@ use Rattle.cp_stream.specs.Stream.{Messages, IsFrameOf, Holds}
 use Rattle.cp_stream.specs.Reader.{CountsOn}
 use Rattle.cp_stream.specs.Kept.{ReadsFirst}
 
--- a message behind others
+-- a message after others
 pub messages_push : (mode : Mode) (limits : Bounds) (b : List ℕ) (ms : List Message) (front back : List ℕ) (m : Message)
     → Messages mode limits b ms (front ++ back) → IsFrameOf mode limits front m → Messages mode limits b (ms ++ m ∷ []) back
 messages_push mode limits b [] front back m h k = (front, back, h, k, refl)

@@ -68,7 +68,7 @@ split (x ∷ b) piece (y ∷ front) back e =
     split_more x y b piece front back first (inl h) = inl (h.0, (cc (first, h.1)), h.2)
     split_more x y b piece front back first (inr h) = inr (h.0, cc (first, h.1))
 
--- no frame ends with fewer bytes than these behind the rest
+-- no frame ends with fewer bytes than these after the rest
 abbrev pub NoneSooner : Reader → ℕ → Type 0
 NoneSooner r n = (b piece : List ℕ) → IsReading r.state → StandsFor r b → length piece < n → NoFront r.mode r.limits (b ++ piece)
 

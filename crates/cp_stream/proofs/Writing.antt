@@ -46,7 +46,7 @@ module _ {T : Type 0} (contents : T → Option (List ℕ)) where
   moves_some old new zero some h = absurd (omega (arith, some))
   moves_some old new (suc n) some h = h
 
-  -- so many of the bytes that were left went out
+  -- this many of the bytes that were left went out
   pub writes_more : (old mid new : Tap T) (b left : List ℕ) (count : ℕ) → WritesOn contents old mid b left → count ≤ length left
       → Appends (contents (inner_of mid)) (contents (inner_of new)) (take count left) → 0 < count → CountsWrite {E = Unit {0}} mid new (Ok count) → WritesOn contents old new b (take (length left - count) (drop count left))
   writes_more old mid new b left count h bound more some counted =

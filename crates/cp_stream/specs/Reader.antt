@@ -100,7 +100,7 @@ pub record EndsWell (old new : Reader) : Type 0 where
   pub same : new ≡ old
   pub nothing : (b : List ℕ) → StandsFor old b → b ≡ []
 
--- The end told a fault, and the reader has failed.
+-- The end reported a fault, and the reader has failed.
 pub record TellsAtEnd (old new : Reader) (fault : StreamFault) : Type 0 where
   pub told : IsAt old.at (IsToldAtEnd old old.state) fault
   pub failed : new.state ≡ failed

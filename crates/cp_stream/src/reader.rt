@@ -35,7 +35,7 @@ fn read_messages(
     Ok(())
 }
 
-/// Gives the last of the frames back to their reader, for its room.
+/// Gives the last of the frames back to their reader, for its buffer.
 fn give_back(frames: &mut FrameReader, mut given: Vec<(u64, Segments)>)
     ensures { frames.new ≡ frames.old }
 {
@@ -169,7 +169,7 @@ impl MessageReader {
     /// Reads the next piece of the stream. Gives each message whose frame's last byte it brings, in
     /// order. After a fault each call answers `Failed` (F5).
     ///
-    /// A fault of framing (F1, F2, F4), of a tree (G1 to G9) or of a message (S1, S2) that stands
+    /// A fault of framing (F1, F2, F4), of a tree (G1 to G9) or of a message (S1, S2) that comes
     /// after messages of the same piece is kept, and reported by the next call. An allocation failure (F6, S3)
     /// is reported at once, and then the messages of the piece are dropped.
     pub fn feed(&mut self, piece: &[u8]) -> Result<Vec<Message>, StreamFault>

@@ -1,4 +1,4 @@
-//! How a reader of messages stands.
+//! The status of a reader of messages.
 
 use crate::fault::Refusal;
 

@@ -82,7 +82,7 @@ impl<V> Entries<V> {
         }
     }
 
-    /// Puts the entry under the number, in place of one that was there.
+    /// Puts the entry under the number, in place of an earlier one.
     pub fn put(&mut self, id: u32, entry: V) -> Result<(), AllocError>
     where
         V: Drop,
@@ -93,7 +93,7 @@ impl<V> Entries<V> {
         Ok(())
     }
 
-    /// Puts the entry under the number, and gives the one that was there. Where memory runs out the
+    /// Puts the entry under the number, and gives the earlier one. Where memory runs out the
     /// entry comes back.
     pub fn replace(&mut self, id: u32, entry: V) -> Result<Option<V>, AllocFailed<V>>
         ensures value { IfOk result (λ old. old ≡ map.get self.old id) }

@@ -106,7 +106,7 @@ impl<T: Drop> Exports<T> {
     /// finds the table full, and `OutOfMemory` for a new one.
     pub fn raise(&mut self, id: Option<u32>, kept: T) -> Result<u32, TableFault>
         // Each fault comes exactly at its cause: `Full` where the table is, for a new export, or the
-        // count, for one that is there.
+        // count, for one that exists.
         ensures unknown { IsErrOf result TableFault.Unknown ↔ IsSomeAnd id (λ k. map.get self.old k ≡ None) }
         ensures full { IsErrOf result TableFault.Full ↔ MatchOption id (map.len self.old ≡ LIMIT) (λ k. count_of self.old k ≡ u32.MAX) }
 
@@ -115,7 +115,7 @@ impl<T: Drop> Exports<T> {
         ensures opened { IfNone id (IfOk result (λ k. self.new ≡ map.insert self.old k (new_counted kept))) }
         ensures else_opened { IfNone id (map.len self.old ≢ LIMIT → IsOkUnless result TableFault.OutOfMemory) }
 
-        // One that is there.
+        // One that exists already.
         ensures raised { IfSome id (λ k. IfOk result (λ same. (same ≡ k) × (self.new ≡ with_count self.old k (count_of self.old k + 1)))) }
         ensures else_raised { IfSome id (λ k. IsSome (map.get self.old k) → count_of self.old k ≢ u32.MAX → IsOk result) }
         ensures err { OnErr result (self.new ≡ self.old) }

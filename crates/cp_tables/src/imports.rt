@@ -113,14 +113,14 @@ impl<T: Drop> Imports<T> {
     /// `Full` where its count is at 2^32 - 1 or a new one finds the table full, and `OutOfMemory`
     /// for a new one.
     pub fn raise(&mut self, id: u32, kept: T) -> Result<(), TableFault>
-        // The table is full for a new import, or the count for one that is there.
+        // The table is full for a new import, or the count for one that exists.
         ensures full { IsErrOf result TableFault.Full ↔ MatchOption (map.get self.old id) (map.len self.old ≡ LIMIT) (λ import. import.count ≡ u32.MAX) }
 
         // A new import, unless memory runs out.
         ensures opened { map.get self.old id ≡ None → OnOk result (self.new ≡ map.insert self.old id (new_counted kept)) }
         ensures else_opened { map.get self.old id ≡ None → map.len self.old ≢ LIMIT → IsOkUnless result TableFault.OutOfMemory }
 
-        // One that is there.
+        // One that exists already.
         ensures raised { IsSome (map.get self.old id) → OnOk result (self.new ≡ with_count self.old id (count_of self.old id + 1)) }
         ensures else_raised { IsSome (map.get self.old id) → count_of self.old id ≢ u32.MAX → IsOk result }
         ensures err { OnErr result (self.new ≡ self.old) }

@@ -13,7 +13,7 @@ enum Step {
     Finish,
 }
 
-/// What a step of this entry told is what is wanted.
+/// What a step of this entry answered is what is wanted.
 fn expect_told(
     rt: &impl Abort,
     id: u32,
@@ -23,19 +23,19 @@ fn expect_told(
     assert_eq!(rt; told, want, "at {id}");
 }
 
-/// The stage that this entry is at, if it is there.
+/// The stage that this entry is at, if it exists.
 fn expect_stage(rt: &impl Abort, id: u32, exchange: Option<&Exchange<()>>, want: Option<Stage>) {
     let stage = exchange.map(|exchange| exchange.stage);
     assert_eq!(rt; stage, want, "at {id}");
 }
 
-/// The count that this entry is at, if it is there.
+/// The count that this entry is at, if it exists.
 fn expect_count(rt: &impl Abort, id: u32, counted: Option<&Counted<()>>, want: Option<u32>) {
     let count = counted.map(|counted| counted.count);
     assert_eq!(rt; count, want, "at {id}");
 }
 
-/// What is kept with an entry that is there.
+/// What is kept with an entry that exists.
 fn expect_kept(rt: &impl Abort, exchange: Option<&Exchange<u8>>, want: u8) {
     assert!(rt; exchange.map(|exchange| exchange.kept) == Some(want));
 }

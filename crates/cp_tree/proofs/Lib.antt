@@ -1,9 +1,6 @@
 pub mod Trees
-pub mod Lists
 pub mod Shapes
 pub mod Pointees
 pub mod PartsShaped
 pub mod Numbers
-pub mod Deeper
 pub mod Spending
-pub mod Drafts

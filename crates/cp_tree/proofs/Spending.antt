@@ -1,14 +1,9 @@
 -- What trees leave of a limit on cost.
-use Rattle.std.proofs.Common.{◌≡◌, ℕ, ◌+◌, ◌*◌, ◌-◌, ◌<◌, ◌≤◌, List, length, map, drop, get_or, Bool, true, false, Option, Some, None, nat_le, is_some, Decides, if◌then◌else◌, refl, sym, ap, ◌∙◌, arith}
+use Rattle.std.proofs.Common.{◌≡◌, ℕ, ◌+◌, ◌*◌, ◌-◌, ◌<◌, ◌≤◌, List, Bool, true, false, Option, Some, None, nat_le, is_some, Decides, if◌then◌else◌, refl, sym, ap, ◌∙◌, arith}
 use Rattle.std.specs.Bool.{OnTrue}
-use Rattle.std.proofs.lemmas.List.{at_drop_more}
 use Rattle.std.proofs.lemmas.Bool.Decides.{nat_tests}
 use Rattle.cp_tree.specs.Node.{Node, Nodes, node, Bodies, body, depth, greatest_depth, deepest_body, cost, total_cost, body_cost, number_of}
-use Rattle.cp_tree.specs.NodeOf.{node_of, body_of, nodes_of, bodies_of}
 use Rattle.cp_tree.specs.Spent.{spent}
-use Rattle.cp_tree.specs.declared.tree.Tree.{Tree}
-use Rattle.cp_tree.specs.declared.tree.Body.{Body}
-use Rattle.cp_tree.proofs.Trees.{body_of-is}
 
 pub spent-0 : (left : Option ℕ) → spent left 0 ≡ left
 unfolding spent
@@ -28,24 +23,6 @@ spent-fits limit cost left e = go (nat_le cost limit) (λ k. grind (arith, nat_t
     go : (b : Bool) → Decides b (cost ≤ limit) → left ≡ (if b then Some (limit - cost) else None) → Decides (is_some left) (cost ≤ limit)
     go true d k = rw k d
     go false d k = rw k d
-
--- the trees and the structs that a loop has still before it
-pub next_of : {X : Type 0} (f : X → Node) (xs : List X) (i : ℕ) (x : X) → i < length xs → x ≡ get_or xs i x → nodes_of (map f (drop i xs)) ≡ node (f x) (nodes_of (map f (drop (i + 1) xs)))
-next_of {X} f xs i x within is = at_drop_more (λ (ys : List X). nodes_of (map f ys)) xs i x within ∙ ap (λ (y : X). node (f y) (nodes_of (map f (drop (i + 1) xs)))) (sym is)
-
-pub next_body_of : {X : Type 0} (f : X → List ℕ × Nodes) (xs : List X) (i : ℕ) (x : X) (ws : List ℕ) (ts : Nodes) → i < length xs → x ≡ get_or xs i x → f x ≡ (ws, ts)
-    → bodies_of (map f (drop i xs)) ≡ body ws ts (bodies_of (map f (drop (i + 1) xs)))
-next_body_of {X} f xs i x ws ts within is seen =
-    at_drop_more (λ (ys : List X). bodies_of (map f ys)) xs i x within
-    ∙ ap (λ (y : X). body (f y).0 (f y).1 (bodies_of (map f (drop (i + 1) xs)))) (sym is)
-    ∙ ap (λ (p : List ℕ × Nodes). body p.0 p.1 (bodies_of (map f (drop (i + 1) xs)))) seen
-
-pub next_tree : (ts : List Tree) (i : ℕ) (t : Tree) → i < length ts → t ≡ get_or ts i t → nodes_of (map node_of (drop i ts)) ≡ node (node_of t) (nodes_of (map node_of (drop (i + 1) ts)))
-next_tree = next_of node_of
-
-pub next_body : (bs : List Body) (i : ℕ) (b : Body) → i < length bs → b ≡ get_or bs i b
-    → bodies_of (map body_of (drop i bs)) ≡ body b.words.items (nodes_of (map node_of b.ptrs.items)) (bodies_of (map body_of (drop (i + 1) bs)))
-next_body bs i b within is = next_body_of body_of bs i b _ _ within is (body_of-is b)
 
 -- what is left is of the limit, and nothing is left where the cost passes it
 pub spent-some : (limit cost left : ℕ) (rest : Option ℕ) → rest ≡ spent (Some limit) cost → rest ≡ Some left → (cost ≤ limit) × (left ≤ limit)

@@ -1,4 +1,4 @@
--- A tree as a list of steps that build it, which gives it back: a `Model` tells its values apart by such a code.
+-- A tree as a list of steps that build it, which gives it back: a `Model` distinguishes its values by such a code.
 use Rattle.std.specs.Prelude.{◌≡◌, ℕ, zero, suc, List, [], ◌∷◌, ◌++◌, Bool, true, false, map, ◌==◌}
 use Rattle.std.specs.Coded.{Coded, code_by, coded_list, coded_ℕ}
 use Rattle.std.proofs.Common.{refl, ap, ◌∙◌}

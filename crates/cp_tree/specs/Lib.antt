@@ -5,4 +5,5 @@ pub mod Elements
 pub mod Seen
 pub mod Shaped
 pub mod DraftOf
+pub mod Lent
 pub mod Spent

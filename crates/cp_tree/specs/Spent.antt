@@ -1,7 +1,7 @@
 -- What is left of a limit on cost.
 use Rattle.std.specs.Prelude.{ℕ, ◌-◌, Option, Some, None, nat_le, if◌then◌else◌}
 
--- what is left once so much more is spent; None where that passes it
+-- what is left once this much more is spent; None where that passes it
 unfoldable pub spent : Option ℕ → ℕ → Option ℕ
 spent None cost = None
 spent (Some left) cost = if nat_le cost left then Some (left - cost) else None

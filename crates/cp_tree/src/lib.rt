@@ -3,8 +3,8 @@
 
 mod copy;
 mod draft;
-mod draft_copy;
 mod fault;
+mod lent;
 mod measure;
 mod shape;
 mod shaped;
@@ -14,7 +14,8 @@ mod whole;
 pub use copy::tree_copy;
 pub use draft::{Draft, DraftBody};
 pub use fault::WriteFault;
-pub use measure::{draft_nests, fits};
+pub use lent::{BodiesRef, BodyRef, ListRef, RowRef, StructsRef, Top, TreeRef};
+pub use measure::{fits, nests};
 pub use shape::Shape;
 pub use tree::{Body, Tree};
 pub use whole::{Object, Whole};

@@ -1,6 +1,7 @@
 //! Owned trees.
 
 use crate::copy::tree_copy;
+use crate::lent::TreeRef;
 use crate::shaped::is_shaped;
 use crate::tree::Tree;
 use std::alloc::{AllocError, Global};
@@ -109,7 +110,7 @@ impl Whole {
         ensures { IfOk result (λ w. w ≡ self.now) }
     {
         Ok(Whole {
-            tree: tree_copy(alloc, &self.tree)?,
+            tree: tree_copy(alloc, TreeRef::Tree(&self.tree))?,
         })
     }
 
@@ -161,7 +162,7 @@ impl Object {
     {
         Ok(Whole {
             tree: match self.tree.pointer(i) {
-                Some(tree) => tree_copy(alloc, tree)?,
+                Some(tree) => tree_copy(alloc, TreeRef::Tree(tree))?,
                 None => Tree::Null,
             },
         })
@@ -172,7 +173,7 @@ impl Object {
         ensures { IfOk result (λ o. o ≡ self.now) }
     {
         Ok(Object {
-            tree: tree_copy(alloc, &self.tree)?,
+            tree: tree_copy(alloc, TreeRef::Tree(&self.tree))?,
         })
     }
 

@@ -19,7 +19,7 @@ use Rattle.cp_state.specs.declared.halt.Halt.TheVariants as halts
 use Rattle.cp_vat.specs.Stepping.{answered, effects_of, Calls, Ends, CallEnds, MessageEnds, Rests}
 
 module _ {A : Type 0} (value : A → Value) (event : Event) (old : State) where
-  -- A call that is refused for want of memory says nothing; any other refusal is the rule's, and changes nothing.
+  -- A call that an allocation failure refuses says nothing; any other refusal is the rule's, and changes nothing.
   refusal_of : (mid : State) (fault : VatFault) (before after : List Effect) → Calls (Does old event) value old (Err fault) before after mid
       → (fault ≡ refusals.OutOfMemory) ⊎ ((fault ≢ refusals.OutOfMemory) × Does old event (Err fault) × (mid ≡ old))
   refusal_of mid refusals.OutOfMemory before after h = inl refl
@@ -52,13 +52,13 @@ module _ {A : Type 0} (value : A → Value) (event : Event) (old : State) where
       followed mid new x after result still (done.0, done.1 ∙ ap (λ l. l ++ done.0) nothing, done.2) ended
   call_steps mid new (Err fault) none after result nothing still done ended = was_refused mid new fault after result still (refusal_of mid fault none after done) ended
 
-  -- behind it the vat rests, if it did before
+  -- after it the vat rests, if it did before
   pub call_rests : (mid new : State) (done : Result A VatFault) (none after : List Effect) (result : Result (Acted A) VatFault) → none ≡ [] → Rests old → old.is_closed ≡ false
       → Calls (Does old event) value old done none after mid → CallEnds mid done after result new → Rests new
   call_rests mid new done none after result nothing rested still acts ended open_ =
       step_keeps old new event (answered value result) (effects_of result) (rested still) open_ (call_steps mid new done none after result nothing still acts ended)
 
-  -- behind its own part it holds within the event
+  -- after its own part it holds within the event
   pub call_within : (mid : State) (done : Result A VatFault) (none after : List Effect) → Rests old → old.is_closed ≡ false → Calls (Does old event) value old done none after mid
       → IfOk done (λ _. Within mid None [])
   call_within mid (Ok x) none after rested still acts = does_within old event (value x, acts.0, mid) (rested still) acts.2
@@ -80,13 +80,13 @@ module _ (m : Message) (old : State) where
   message_steps mid new (Err (halts.Fault fault)) none after (Err refusal) nothing still done ended = rw ended.0 (ran_out (events.Receive m) still ended.1)
   message_steps mid new (Err halts.OutOfMemory) none after result nothing still done ended = rw ended.0 (ran_out (events.Receive m) still ended.1)
 
-  -- behind it the vat rests, if it did before
+  -- after it the vat rests, if it did before
   pub message_rests : (mid new : State) (done : Result (Unit {0}) Halt) (none after : List Effect) (result : Result (Acted (Unit {0})) VatFault) → none ≡ [] → Rests old → old.is_closed ≡ false
       → Acts (Receives old m) done none after mid → MessageEnds mid done after result new → Rests new
   message_rests mid new done none after result nothing rested still acts ended open_ =
       step_keeps old new (events.Receive m) (answered (λ _. values.Nothing) result) (effects_of result) (rested still) open_ (message_steps mid new done none after result nothing still acts ended)
 
-  -- behind its own part it holds within the event
+  -- after its own part it holds within the event
   pub message_within : (mid : State) (done : Result (Unit {0}) Halt) (none after : List Effect) → Rests old → old.is_closed ≡ false → Acts (Receives old m) done none after mid
       → IfOk done (λ _. Within mid None [])
   message_within mid (Ok x) none after rested still acts = receives_within old m (acts.0, mid) (rested still) acts.2

@@ -67,7 +67,7 @@ module _ (old : State) (call : Underway) (cap : Cap) where
   mark_stops halts.OutOfMemory before after mid new stopped = tt
 
   module _ (mid : State) (is : marked old cap (mark_of old cap) ≡ Ok mid) where
-    -- the call went behind its mark
+    -- the call went after its mark
     pub marked_goes : (r : Result (Unit {0}) Halt) (before after : List Effect) (new : State) → Acts (GoTo mid call cap) r before after new → Acts (GoMarked old call cap) r before after new
     marked_goes r before after new acts = acts_by (GoTo mid call cap) (GoMarked old call cap) r before after new (λ out went. (Ok mid, sym is, went)) acts
 

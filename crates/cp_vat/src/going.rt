@@ -10,7 +10,7 @@ ghost use Rattle.cp_rules.specs.Going.{MayGo, underway_of};
 ghost use Rattle.cp_vat.specs.Ways.{GoMarked, WayEnds, kind_of, seen, value_kind};
 
 use cp_machine::Effect;
-use cp_refs::{Cap, Gate, Path, Question, QuestionKind, Request, Route, Values, at};
+use cp_refs::{Cap, Gate, Path, Question, QuestionKind, Request, Route, Values};
 use cp_rpc::{Context, Disembargo, Message, Target};
 use cp_rules::go::{Underway, go, go_to};
 use cp_rules::promised::promised_answer;
@@ -87,7 +87,7 @@ fn path_reference(
         return Ok(Reference::Plain);
     };
     match &question.outcome {
-        Some(outcome) => Ok(Reference::CameTo(at(alloc, outcome, path.fields())?)),
+        Some(outcome) => Ok(Reference::CameTo(outcome.at(alloc, path.fields())?)),
         None => match question.kind {
             QuestionKind::Wire => Ok(Reference::OnWire),
             QuestionKind::Local => Ok(Reference::Plain),

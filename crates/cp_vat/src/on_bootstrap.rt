@@ -3,7 +3,7 @@
 ghost use Rattle.std.specs.Prelude.{◌≡◌, ◌≢◌, None, IfOk, OnOk};
 ghost use Rattle.std.specs.FinMap as map;
 ghost use Rattle.cp_machine.specs.Answering.{bootstrap_outcome, with_answer, OnBootstrap};
-ghost use Rattle.cp_state.specs.Halts.{Acts, OnlyWant};
+ghost use Rattle.cp_state.specs.Halts.{Acts, OnlyAllocationFails};
 ghost use Rattle.cp_state.specs.StateOf.{state_of};
 
 use cp_machine::{AnswerEntry, Effect, Mentions, PeerFault, TiedPromises};
@@ -35,7 +35,7 @@ pub(crate) fn open_answer(core: &mut Core, id: u32, ticket: Option<u64>) -> Resu
     requires free { map.get core.old.answers id ≡ None }
     requires few { map.len core.old.answers ≢ LIMIT }
     ensures opened { OnOk result (state_of core.new ≡ with_answer (state_of core.old) id ticket) }
-    ensures want { OnlyWant result }
+    ensures memory { OnlyAllocationFails result }
 {
     core.answers.open(
         id,

@@ -8,7 +8,7 @@ ghost use Rattle.cp_machine.specs.Take.{answer_of};
 ghost use Rattle.cp_machine.specs.Supported.{is_supported, is_supported_target};
 ghost use Rattle.cp_rpc.specs.Told.{told_call, told_target};
 ghost use Rattle.cp_rpc.specs.declared.message.Message.TheVariants as messages;
-ghost use Rattle.cp_state.specs.Halts.{Acts, OnlyWant};
+ghost use Rattle.cp_state.specs.Halts.{Acts, OnlyAllocationFails};
 ghost use Rattle.cp_state.specs.StateOf.{state_of};
 ghost use Rattle.cp_vat.specs.Receiving.{Carries, HoldsWithin, Leads, LeadsBy};
 
@@ -16,7 +16,7 @@ use crate::checks::{check_call, check_call_view};
 use crate::on_bootstrap::open_answer;
 use cp_machine::Effect;
 use cp_reading::View;
-use cp_refs::{Gate, Origin, Path, Request, Route, at};
+use cp_refs::{Gate, Origin, Path, Request, Route};
 use cp_rpc::{Call, CallView, Payload, Target, TargetView};
 use cp_rules::go::{Underway, go};
 use cp_rules::promised::{path_of, path_of_view};
@@ -101,7 +101,7 @@ fn enter(core: &mut Core, id: u32) -> Result<u64, Halt>
     ensures entered { OnOk result (state_of core.new ≡ entered (state_of core.old) id) }
     ensures ticket { IfOk result (λ ticket. ticket ≡ core.old.gates.next_ticket) }
     ensures free { IfOk result (λ ticket. map.get core.new.gates.waiting.calls ticket ≡ None) }
-    ensures want { OnlyWant result }
+    ensures memory { OnlyAllocationFails result }
 {
     let ticket = core.gates.enter();
     open_answer(core, id, Some(ticket))?;
@@ -164,7 +164,7 @@ fn route_to_answer(core: &Core, id: u32, path: Path) -> Result<Route, AllocError
         None => unreachable!(),
         Some(None) => Ok(Route::Wait(Gate::Answer(id, path))),
         Some(Some(outcome)) => {
-            let cap = at(core.alloc, outcome, path.fields())?;
+            let cap = outcome.at(core.alloc, path.fields())?;
             core.values.values().route(&cap)
         }
     }

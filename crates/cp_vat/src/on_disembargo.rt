@@ -15,7 +15,7 @@ ghost use Rattle.cp_state.specs.StateOf.{state_of};
 use crate::checks::{check_target, check_target_view};
 use cp_machine::{Effect, PeerFault};
 use cp_reading::View;
-use cp_refs::{Cap, Path, at};
+use cp_refs::{Cap, Path};
 use cp_rpc::{Context, Disembargo, DisembargoView, Message, Target, TargetView};
 use cp_rules::come_to::come_to;
 use cp_rules::promised::{path_of, path_of_view};
@@ -150,7 +150,7 @@ fn echo_answer(
         None => unreachable!(),
         Some(None) => Err(Halt::Fault(PeerFault::DisembargoTarget)),
         Some(Some(outcome)) => {
-            let cap = at(core.alloc, outcome, path.fields())?;
+            let cap = outcome.at(core.alloc, path.fields())?;
             echo(core, number, &cap, effects)
         }
     }

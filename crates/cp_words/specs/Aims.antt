@@ -59,11 +59,11 @@ pub record AimsByTwo (S : List (List ℕ)) (s p : ℕ) (k : Kind) (s' start : �
   pub second : Holds S other (place + 1) pointer
   pub says : IsPadTag pointer k
 
--- the word aims at a body of this kind, which begins at a word of segment s'
+-- the word leads to a body of this kind, which begins at a word of segment s'
 abbrev pub Aims : List (List ℕ) → ℕ → ℕ → Kind → ℕ → ℕ → Type 0
 Aims S s p k s' start = (AimsHere S s p k start × (s' ≡ s)) ⊎ (AimsByPad S s p k s' start ⊎ AimsByTwo S s p k s' start)
 
--- the word aims at a body of this many words, which lies wholly inside its segment
+-- the word leads to a body of this many words, which lies wholly inside its segment
 pub record HasBody (S : List (List ℕ)) (s p : ℕ) (k : Kind) (size s' start : ℕ) : Type 0 where
   pub aims : Aims S s p k s' start
   pub inside : start + size ≤ length (segment S s')

@@ -1,4 +1,4 @@
--- The lists of a message's words.
+-- The segments of a message, as lists of words.
 use Rattle.std.specs.Prelude.{ℕ, List, [], ◌∷◌, map}
 use Rattle.cp_words.specs.declared.segments.Lists.{Lists}
 

@@ -1,4 +1,4 @@
-//! What pointer words aim at.
+//! What pointer words lead to.
 
 use crate::pointer::ElementSize;
 

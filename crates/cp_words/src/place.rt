@@ -1,4 +1,4 @@
-//! Where a word stands.
+//! Where a word is.
 
 use std::fmt;
 

@@ -39,7 +39,7 @@ pub enum Pointer {
         size: ElementSize,
         count: u32,
     },
-    /// The pointer stands elsewhere: `place` is the word of `segment` where its landing pad begins, which
+    /// The pointer is in another place: `place` is the word of `segment` where its landing pad begins, which
     /// has two words if `double`.
     Far {
         double: bool,

@@ -6,13 +6,13 @@ ghost use Rattle.cp_words.specs.Segments.{words_of};
 use std::marker::Model;
 use std::slice;
 
-/// One or more lists of words, numbered from 0. Contracts see them as the list of these lists.
+/// One or more segments, each a list of words, numbered from 0. Contracts see them as the list of these lists.
 #[derive(Drop)]
 pub struct Segments {
     lists: Lists,
 }
 
-/// The lists. Most messages have one, which needs no vector around it.
+/// The segments. Most messages have one, which needs no vector around it.
 #[derive(Drop)]
 enum Lists {
     One(Vec<u64>),
@@ -28,7 +28,7 @@ impl Model for Segments {
 }
 
 impl Segments {
-    /// Holds the lists. No list at all is handed back.
+    /// Holds the segments. None at all are given back.
     pub fn new(lists: Vec<Vec<u64>>) -> Result<Segments, Vec<Vec<u64>>>
         ensures held { IfOk result (λ s. s ≡ map (λ v. v.items) lists.items) }
         ensures some { IfOk result (λ s. 0 < length s) }
@@ -51,7 +51,7 @@ impl Segments {
         }
     }
 
-    /// The lists, lent.
+    /// The segments, lent.
     pub fn lists(&self) -> &[Vec<u64>]
         ensures all { map (λ v. v.items) result.now ≡ self.now }
         ensures some { 0 < length result.now }

@@ -25,7 +25,7 @@ usual_more (x ∷ ms) m all one = (all.0, usual_more ms m all.1 one)
 returns_more : (q : ℕ) (ms : List Message) (m : Message) → returns_of q (ms ++ m ∷ []) ≡ returns_of q ms ++ return_of q m
 returns_more q ms m = flat_map-append (return_of q) ms (m ∷ []) ∙ ap (λ r. returns_of q ms ++ r) (append-nil (return_of q m))
 
--- Results behind messages on the way are those of an answer that was given and will be so, and none else.
+-- Results after messages on the way are those of an answer that was given and will be so, and none else.
 abbrev Matches : List ℕ → Standing → Type 0
 Matches results (given named) = results ≡ named
 Matches results mistaken = Unit {0}
@@ -333,7 +333,7 @@ came_counts one new other to_one to_other m agree step e =
     ∙ heard_results a (opens a m) (finishes a m) (is_releasing m) (one.answers a) (other.questions a) to_one (returns_of a to_other) (agree.lives_back a)) in
     omega (arith, step.exports e, agree.counts e, same)
 
--- No other Return of a question is on the way behind one that comes.
+-- No other Return of a question is on the way after one that comes.
 none_behind : (i : ℕ) (stage : Stage) (named : List ℕ) (rs : List (List ℕ)) (W : Standing) → FitsAt stage (named ∷ rs) W → total i rs ≡ 0
 none_behind i stage named [] W h = refl
 none_behind i stages.Open named (r ∷ rs) W h = absurd h

@@ -1,4 +1,4 @@
--- Calls wait on rightly behind an exception that is given to whom a call's outcome is for.
+-- Calls wait on rightly after an exception that is given to whom a call's outcome is for.
 use Rattle.std.specs.Prelude.{◌≡◌, refl, ℕ, ◌==◌, Bool, true, false, List, Option, Some, None, IfSome, Ok}
 use Rattle.std.specs.Option.{option_map}
 use Rattle.std.specs.FinMap.{get, insert, remove}
@@ -341,7 +341,7 @@ module _ (s : State) (ports : Table Port) (q : ℕ) (x : Exception) (alone : Nob
   finished_over h (gates.Question r path) e = question_gone h r path (q == r) refl e
   finished_over h (gates.Embargo n) e = absurd e
 
--- behind what is given calls wait on rightly
+-- after what is given calls wait on rightly
 abbrev KeepsOn : State → State → Table Port → Type 0
 KeepsOn s mid ports = (WaitRightly s ports → WaitRightly mid ports) × NoOpenOver mid
 

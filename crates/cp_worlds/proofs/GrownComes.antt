@@ -314,7 +314,7 @@ module _ {s : State} (h : Within s None []) where
         λ other at. open_same s.values (without_question s q).values other.kept.tied refl (tied_open h a other at),
       )
 
--- A Return of an own question settles it; one of a question that forwards answers its call, behind a Finish.
+-- A Return of an own question settles it; one of a question that forwards answers its call, after a Finish.
 finish_grows : (s : State) (q : ℕ) → Grown s (finish_of q false ∷ []) s
 finish_grows s q =
     record {

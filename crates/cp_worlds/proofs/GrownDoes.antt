@@ -176,7 +176,7 @@ marked_marks s mid cap None is = by (has_mark_room s cap) is
 pub marks_grow : {s new : State} → Marks s new → Grown s [] new
 marks_grow {s = s} {new = new} h = same_grows s new h.values h.exports h.entries h.next h.embargoes
 
--- A call that is the first behind those that were sent: its embargo is new, and its loop is sent.
+-- A call that is the first after those that were sent: its embargo is new, and its loop is sent.
 loop_of : (n m : ℕ) (cap : Cap) (embargoes : Table Cap) (value : Cap) (b : Bool) → (n == m) ≡ b → get embargoes n ≡ None
     → one_if (is_some (get (insert embargoes n value) m))
     ≡ one_if (is_some (get embargoes m)) + count_by (is_loop m) (messages_sent (disembargo_of n cap ∷ []))

@@ -55,7 +55,7 @@ use Rattle.cp_worlds.proofs.LaneAllOwns.{SameOwns, IsNoCall, does_owns, receives
 abbrev pub made_now : State → Reference → Event → Result Value VatFault → List ℕ
 made_now s ref event result = if called_on ref event then ticket_if result s.next_ticket else []
 
--- Waiting calls leave, behind an event's own part.
+-- Waiting calls leave, after an event's own part.
 leave_here : (s mid last : State) (first more : List Effect) (inbox : List Message) (there : End) (ref : Reference) (made : List ℕ) (delivered : List Delivery)
     → Midway mid inbox (with_mail there (messages_sent first)) → SameOwns s mid
     → LaneHolds (record { vat = mid; inbox = inbox }) (with_mail there (messages_sent first)) ref made (delivered ++ lane_delivered s there.vat made first)

@@ -115,7 +115,7 @@ disembargo_untold : (d : Disembargo) (ref : Reference) → tells ref (messages.D
 disembargo_untold d (import_ i) = refl
 disembargo_untold d (path_to q path) = refl
 
--- What holds of both ends, and behind the move.
+-- What holds of both ends, and after the move.
 module _ (here : End) (s last : State) (inbox rest sent : List Message) (here_local : Local here.vat) (here_none : NoneFinished here.vat) (local_ : Local s) (none : NoneFinished s)
     (orderly : IsOrderly s) (agree : Agree (accounts_of s) inbox (accounts_of here.vat) here.inbox) (starts : StartsThere here s inbox) (local_last : Local last)
     (agree_last : Agree (accounts_of last) rest (accounts_of here.vat) sent) where

@@ -219,7 +219,7 @@ module _ (s : State) (left : NoneLeft s) (call : Underway) (done : Done) where
       by (inr same) =
           given_by (get s.values.answers q) at (subst (λ o. GoToAnswer s call q (path_of (map (λ field. ops.GetPointerField field) path)) o (Ok done)) same goes)
 
--- A Call of the lane is taken: `old` is the vat before its answer was opened, and `s` behind that.
+-- A Call of the lane is taken: `old` is the vat before its answer was opened, and `s` after that.
 module _ (here : End) (old s : State) (c : Call) (rest : List Message) (call : Underway) (from : call.origin ≡ origins.Answer c.question_id)
     (calls : s.waiting.calls ≡ old.waiting.calls) (asked : s.entries.questions ≡ old.entries.questions)
     (opened_stay : PlacesStay old s) (over_stay : OverStays old s) (open_stay : (ref : Reference) (gate : Gate) → IsOpenPlace old ref gate → IsOpenPlace s ref gate)

@@ -11,7 +11,7 @@ use Rattle.cp_worlds.specs.Phases.{IsOnly}
 abbrev pub IsFront : (Message → Type 0) → List Message → List Message → Type 0
 IsFront Apart old new = (new ≡ old) ⊎ ((m : Message) × (old ≡ m ∷ new) × Apart m)
 
--- the only message of a kind, where others come behind it, or another one is taken
+-- the only message of a kind, where others come after it, or another one is taken
 any_both : (is : Message → Bool) (xs ys : List Message) → list_any is xs ≡ false → list_any is ys ≡ false → list_any is (xs ++ ys) ≡ false
 any_both is xs ys one more = list_any-append is xs ys ∙ ap (λ b. b || list_any is ys) one ∙ more
 
@@ -97,7 +97,7 @@ none_of_front is x rest none = by (is x) refl none
     by true t h = absurd (true≢false (rw t at h))
     by false t h = t
 
--- one that comes behind others
+-- one that comes after others
 pub only_later : {ms : List Message} {is : Message → Bool} {before : List Message} {m : Message} {behind : List Message} (inbox : List Message) → list_any is inbox ≡ false
     → IsOnly ms is before m behind → IsOnly (inbox ++ ms) is (inbox ++ before) m behind
 only_later {is = is} {before = before} {m = m} {behind = behind} inbox none only =

@@ -52,7 +52,7 @@ use Rattle.cp_worlds.proofs.LaneOpens.{HeardKept}
 use Rattle.cp_worlds.proofs.LaneHeard.{plain_apart}
 use Rattle.cp_worlds.proofs.LaneStart.{StartsThere, known_there, held_there}
 
--- Behind the Finish of an answer that was given, none of its number is given until its next opening came.
+-- After the Finish of an answer that was given, none of its number is given until its next opening came.
 abbrev IsNotGiven : Standing → Type 0
 IsNotGiven (given mentions) = ⊥
 IsNotGiven other = Unit {0}

@@ -30,7 +30,7 @@ use Rattle.cp_worlds.proofs.NewWorlds.{new_agree, new_orderly}
 use Rattle.cp_worlds.proofs.NewVats.{new_looped, new_lanes, new_quiet, new_tickets}
 use Rattle.cp_worlds.proofs.Wholly.{first_open}
 
--- what holds behind all moves
+-- what holds after all moves
 module _ (keep : MovesKeep) where
   all_keep : (moves : List Move) (w : World) → StillHolds w → Moves w moves → AreOpen (last_of w moves) → AreStill moves → (side : Side) (ref : Reference) (m : List ℕ)
       (all : List Delivery) → CallsHold (end_of w side) (end_of w (across side)) ref m all

@@ -249,7 +249,7 @@ module _ (s : State) (inbox : List Message) (there : End) (local_ : Local s) (th
         (inr
         (delivered_free here there ref made t new (messages_sent done) (is_more (rw (is) tt)) p d refl refl (ap messages_sent is) was (same_here calls ∙ was) mark delivered_ lane))
 
-    -- It waits, behind those that do.
+    -- It waits, after those that do.
     module _ (gate : Gate)
         (put : new.waiting.calls ≡ insert s.waiting.calls t (record { ticket = t; origin = origins.Own q; request = request; gate = gate })) where
       abbrev held : Held
@@ -326,7 +326,7 @@ module _ (s : State) (inbox : List Message) (there : End) (local_ : Local s) (th
             (none_given)
             (inr (held_local here there ref made t new (messages_sent done) its_more_ held_here no_calls silent mark p open_ (waiting_more (λ g. g ≡ p.gate) at) delivered_ lane))
 
-      -- behind a Disembargo
+      -- after a Disembargo
       pub marked_lane : (p : Marked here there ref made) (n : ℕ) → done ≡ disembargo_of n cap ∷ [] → gate ≡ gates.Embargo n → get s.marks.embargoes n ≡ None
           → mark_of new cap ≡ Some (Some n) → InLane here there ref made delivered_ → MadeThen
       marked_lane p n is at closed mark lane =

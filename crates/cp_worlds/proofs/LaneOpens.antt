@@ -69,7 +69,7 @@ none_of : {X : Type 0} (o : Option X) → is_some o ≡ false → o ≡ None
 none_of None is = refl
 none_of (Some x) is = absurd (true≢false is)
 
--- No answer was finished before it was given, also behind what is taken in.
+-- No answer was finished before it was given, also after what is taken in.
 left_put : (s : State) (a : ℕ) (entry : Exchange AnswerEntry) → is_finish_noted entry.stage ≡ false → NoneLeft s → (b : ℕ)
     → IfSome (get (insert s.entries.answers a entry) b) (λ x. is_finish_noted x.stage ≡ false)
 left_put s a entry not left =

@@ -32,7 +32,7 @@ use Rattle.cp_worlds.proofs.PartsHere.{silent_here}
 use Rattle.cp_worlds.proofs.RefsCalm.{RefCalm, IsPathOf, other_calm, path_comes, lane_stays}
 use Rattle.cp_worlds.proofs.LaneTurns.{lane_delivered, none_delivered}
 
--- What a part keeps in which no call of the lane moves and that leaves its reference alone, also behind a message that has nothing to do with the lane.
+-- What a part keeps in which no call of the lane moves and that leaves its reference alone, also after a message that has nothing to do with the lane.
 module _ (here there : End) (ref : Reference) (made : List ℕ) (mid : State) (inbox : List Message) (effects : List Effect)
     (level : LevelHere here there made mid inbox (messages_sent effects)) (refs : RefCalm here.vat effects mid ref)
     (exports : (e : ℕ) (cap : Cap) → IsExport here.vat e cap → IsExport mid e cap) (front : IsFront (IsApartHere here there ref made) here.inbox inbox) where

@@ -273,7 +273,7 @@ module _ (s : State) (q : ℕ) (request : Request) (none : NoneFinished s) (fres
         (its_wait gate (held_at mid call gate) refl) (λ r other. refl) (λ n open_. refl) tt (inl refl) (here_yet (question_at kinds.Local cap mid h)))
     local_goes (routes.Fail x) done goes = fails_by x goes.0 goes.0.stage done goes.1 refl goes.2
 
-  -- the first behind those that were sent: it waits for an echo
+  -- the first after those that were sent: it waits for an echo
   abbrev pub with_embargo : Cap → Cap → ℕ → State
   with_embargo cap value n = with_mark (record (called s q kinds.Local) { marks = record s.marks { embargoes = insert s.marks.embargoes n value } }) cap (Some n)
 

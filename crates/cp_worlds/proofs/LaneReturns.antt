@@ -1,5 +1,5 @@
 -- A Return that comes keeps each lane of its own end: paths of its question are told, and one that forwarded a call has none.
--- `return_comes` says so of the message's own part, behind which waiting calls leave.
+-- `return_comes` says so of the message's own part, after which waiting calls leave.
 use Rattle.std.specs.Prelude.{◌≡◌, refl, ℕ, ◌==◌, ◌||◌, not, if◌then◌else◌, Bool, true, false, List, [], ◌∷◌, ◌++◌, Option, Some, None, option_map, Result, Ok}
 use Rattle.std.specs.List.{list_any}
 use Rattle.std.specs.FinMap.{get, get-empty, get-retain_keys, slice_cmp-IsAntisymmetric, nat_cmp-IsAntisymmetric}

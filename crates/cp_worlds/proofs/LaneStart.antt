@@ -181,7 +181,7 @@ starts_there here there holds local_ agree =
       unmarked = unmarked_at here.vat holds.local_;
     }
 
--- What is known where places stay until the end of the move, and all is well behind it.
+-- What is known where places stay until the end of the move, and all is well after it.
 pub known_there : (here : End) (s last : State) (inbox left sent : List Message) → StartsThere here s inbox → PlacesStay s last → Local last
     → Agree (accounts_of last) left (accounts_of here.vat) sent → IsThere here s last inbox
 known_there here s last inbox left sent starts stay local_ agree =

@@ -1,4 +1,4 @@
--- Calls wait on rightly behind waiting calls that leave.
+-- Calls wait on rightly after waiting calls that leave.
 use Rattle.std.specs.Prelude.{◌≡◌, refl, ℕ, List, Option, Some, None, IfSome, Result, Ok, Err}
 use Rattle.std.specs.Option.{option_map}
 use Rattle.std.specs.Ordering.{nat_cmp}

@@ -1,4 +1,4 @@
--- What waiting calls wait for, behind an outcome or a value that moves routes.
+-- What waiting calls wait for, after an outcome or a value that moves routes.
 use Rattle.std.specs.Prelude.{◌≡◌, refl, ℕ, zero, suc, if◌then◌else◌, Bool, false, List, Option, Some, None, IfSome}
 use Rattle.std.specs.FinMap.{get}
 use Rattle.std.proofs.Common.{ap, sym, ◌∙◌}

@@ -1,4 +1,4 @@
--- Numbers of exports behind each list of moves of two vats.
+-- Numbers of exports after each list of moves of two vats.
 use Rattle.std.specs.Prelude.{◌≡◌, refl, ℕ, ◌+◌, ◌<◌, false, List, [], ◌∷◌, Option, Some, None, is_some, IsTrue, Result}
 use Rattle.std.specs.FinMap.{get, empty}
 use Rattle.std.proofs.Common.{arith, inl, inr, sym, true≢false}

@@ -166,7 +166,7 @@ module _ (w : World) (move : Move) (holds : StillHolds w) (makes : Makes w move)
       (delivered_among (made ++ (if is_side acting side then made_by (end_of w side).vat ref move.moment else []))
       (all ++ (if is_side acting side then flat_map (delivery_of (end_of w side).vat (end_of w (across side)).vat) move.moment.effects else [])))
 
-  -- what holds behind it
+  -- what holds after it
   behind : StillHolds move.behind
   behind = still_kept w move holds makes open_ still
 

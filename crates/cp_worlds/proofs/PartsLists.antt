@@ -14,7 +14,7 @@ use Rattle.cp_machine.proofs.Basics.{none_out, is_equal, put_at, gone_at}
 use Rattle.cp_worlds.specs.Phases.{of_lane}
 use Rattle.cp_worlds.proofs.LaneLists.{lane_flat, lane_cons}
 
--- what stands before an entry, and behind it
+-- what stands before an entry, and after it
 pub record PlacedIn {X : Type 0} (es all : List (ℕ × X)) (k : ℕ) (v : X) : Type 0 where
   pub front : List (ℕ × X)
   pub back : List (ℕ × X)
@@ -109,7 +109,7 @@ vals_both : {X : Type 0} (xs ys : List (ℕ × X)) → vals (xs ++ ys) ≡ vals 
 vals_both [] ys = refl
 vals_both (x ∷ xs) ys = ap (λ zs. x.1 ∷ zs) (vals_both xs ys)
 
--- The calls of a lane among values: without one that is none of it, with one before the others, and with one behind them.
+-- The calls of a lane among values: without one that is none of it, with one before the others, and with one after them.
 module _ {X : Type 0} (made : List ℕ) (f : X → List ℕ) where
   abbrev pub lane_in : List (ℕ × X) → List ℕ
   lane_in es = of_lane made (flat_map f (vals es))

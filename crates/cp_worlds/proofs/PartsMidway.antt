@@ -1,4 +1,4 @@
--- What holds of a vat and its peer at each point of an event: behind its own part, and behind each turn of waiting calls.
+-- What holds of a vat and its peer at each point of an event: after its own part, and after each turn of waiting calls.
 use Rattle.std.specs.Prelude.{◌≡◌, refl, ℕ, true, false, List, [], ◌∷◌, Some, None, Ok}
 use Rattle.std.specs.FinMap.{get}
 use Rattle.std.proofs.Common.{sym, true≢false}

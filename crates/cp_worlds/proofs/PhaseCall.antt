@@ -236,7 +236,7 @@ module _ (here there : End) (ref : Reference) (made : List ℕ) (t : ℕ) (mid :
         are : AreDelivered (reference_of mid.values (cap_of ref)) (delivered ++ d ∷ [])
         are = rw (h.reference ∙ p.came) (all_both (λ delivery. delivery.object ≡ p.object) delivered (d ∷ []) (rw (p.came) at lane.delivered_) (at, tt))
 
-    -- It waits here, behind those that do.
+    -- It waits here, after those that do.
     module _ (held_here : waits_here here_then more ≡ waits_here here made ++ t ∷ []) (no_calls : sent_in mid more ms ≡ []) where
       whole_held : (delivered : List Delivery) → IsWhole here there made delivered → IsWhole here_then there_then more (delivered ++ [])
       whole_held delivered whole =

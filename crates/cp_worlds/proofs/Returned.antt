@@ -37,7 +37,7 @@ use Rattle.cp_worlds.proofs.Plainly.{IsPlainTable}
 use Rattle.cp_worlds.proofs.Giving.{answer_goes}
 use Rattle.cp_worlds.proofs.Taking.{TakenIn, taken_none, take_all_in, take_all_plain}
 
--- A Return is noted, and behind a Finish the question is gone.
+-- A Return is noted, and after a Finish the question is gone.
 returned_step : (table : Table (Exchange QuestionEntry)) (q p : ℕ) (kept : QuestionEntry) (b : Bool) → (q == p) ≡ b → get table q ≡ Some (new_exchange kept) → kept.is_sent ≡ true
     → asked_account (get (insert table q (record { stage = stages.Returned; kept = kept })) p)
     ≡ (if b then question_returned (asked_account (get table p)) else asked_account (get table p))

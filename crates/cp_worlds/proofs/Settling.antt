@@ -1,4 +1,4 @@
--- Calls wait on rightly behind a promise that is settled.
+-- Calls wait on rightly after a promise that is settled.
 use Rattle.std.specs.Prelude.{◌≡◌, refl, ℕ, zero, suc, ◌+◌, ◌==◌, cond, Bool, true, false, List, [], ◌∷◌, Some, None, Ok}
 use Rattle.std.specs.FinMap.{get, insert}
 use Rattle.std.proofs.Common.{arith, inl, inr, ap, subst, sym, ◌∙◌, true≢false}

@@ -157,7 +157,7 @@ step_moved {old = old} {new = new} inbox rest local_ none front takes still open
     record { arrived = m ∷ []; took = takes; moved = rw (all) (follows_moved within open_ own follows) }
 step_moved inbox rest local_ none front takes still open_ (faulted m was does closed) = closed_open closed open_
 
--- The two ends behind it.
+-- The two ends after it.
 any_back : (p : Message → Bool) (xs ys : List Message) → list_any p (xs ++ ys) ≡ false → list_any p ys ≡ false
 any_back p xs ys none = or_second (list_any p xs) (list_any p ys) (sym (list_any-append p xs ys) ∙ none)
 

@@ -1,4 +1,4 @@
--- Two vats agree behind all that one of them sends.
+-- Two vats agree after all that one of them sends.
 use Rattle.std.specs.Prelude.{List, [], ◌∷◌, ◌++◌}
 use Rattle.std.proofs.Common.{append_assoc}
 use Rattle.std.proofs.lemmas.List.{append-nil}

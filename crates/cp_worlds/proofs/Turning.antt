@@ -1,4 +1,4 @@
--- Calls wait on rightly behind one turn.
+-- Calls wait on rightly after one turn.
 use Rattle.std.specs.Prelude.{◌≡◌, refl, ℕ, zero, suc, ◌==◌, Bool, true, false, List, Option, Some, None, IfSome, Ok}
 use Rattle.std.specs.FinMap.{get, remove}
 use Rattle.std.proofs.Common.{ap, sym, ◌∙◌}

@@ -1,4 +1,4 @@
--- Two vats agree behind each list of moves.
+-- Two vats agree after each list of moves.
 use Rattle.std.specs.Prelude.{◌≡◌, refl, ℕ, Bool, true, false, List, [], ◌∷◌, ◌++◌, Option, Result, Ok, Err}
 use Rattle.std.proofs.Common.{ap, sym, ◌∙◌, true≢false}
 use Rattle.cp_tables.specs.Counted.{count_of}
@@ -40,7 +40,7 @@ no_message old events.Idle out inbox rest does takes = takes
 pub closed_open : {A : Type 0} {b : Bool} → b ≡ true → b ≡ false → A
 closed_open closed open_ = absurd (true≢false (sym closed ∙ open_))
 
--- behind a step of the one, while it is open
+-- after a step of the one, while it is open
 abbrev AgreeOn : State → List Message → Accounts → List Message → Type 0
 AgreeOn new rest other to_other = Agree (accounts_of new) rest other to_other × IsOrderly new
 
@@ -123,7 +123,7 @@ all_hold (move ∷ more) w holds made open_ =
     all_hold more move.behind
     (move_keeps move.side w move.behind move.moment holds (first_open more move.behind made.1 open_) made.0.steps made.0.takes made.0.sends) made.1 open_
 
--- behind all moves of two new vats
+-- after all moves of two new vats
 pub holds_of : (one other : Option ℕ) (moves : List Move) → Moves (new_world one other) moves → AreOpen (last_of (new_world one other) moves) → Holds (last_of (new_world one other) moves)
 holds_of one other moves made open_ =
     all_hold moves (new_world one other) (record { agreed = new_agree one other; first = new_orderly one; second = new_orderly other }) made open_

@@ -1,4 +1,4 @@
--- A vat's accounts: what its exports, imports, questions and answers stand at. (rpc.capnp: "Four Tables", "Release", "Return", "Finish".)
+-- A vat's accounts: the counts of its exports and imports, and the stages of its questions and answers. (rpc.capnp: "Four Tables", "Release", "Return", "Finish".)
 use Rattle.std.specs.Prelude.{◌≡◌, ℕ, ◌+◌, ◌==◌, if◌then◌else◌, Bool, true, false, List, [], ◌∷◌, Option, Some, None}
 use Rattle.std.specs.FinMap.{get}
 use Rattle.cp_tables.specs.Counted.{count_of}

@@ -10,7 +10,7 @@ use Rattle.cp_refs.specs.declared.cap.Cap.{Cap}
 use Rattle.cp_machine.specs.State.{State, with_exports}
 use Rattle.cp_machine.specs.Local.{Local, IsExportable, AreOne, IsThere}
 
--- A vat with other exports: each is counted, there is one for each capability, and what is exported is there and its way ends.
+-- A vat with other exports: each is counted, there is one for each capability, and what is exported exists and its way ends.
 abbrev pub ExportsKeep : Type 0
 ExportsKeep =
     (old : State) (exports : Table (Counted Cap)) → Local old → AreCounts exports

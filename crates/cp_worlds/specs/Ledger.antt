@@ -1,4 +1,4 @@
--- What exports, imports, questions and answers are, told from the messages alone. (rpc.capnp: "Four Tables", "Release", "Return", "Finish".)
+-- What exports, imports, questions and answers are, by the messages alone. (rpc.capnp: "Four Tables", "Release", "Return", "Finish".)
 use Rattle.std.specs.Prelude.{ℕ, ◌+◌, ◌-◌, ◌==◌, Bool, true, false, if◌then◌else◌, List, [], ◌∷◌, ◌++◌, flat_map, reverse, Option, Some, None, Result, Ok, Err}
 use Rattle.cp_tables.specs.declared.exchange.Stage.{Stage}
 use Rattle.cp_tables.specs.declared.exchange.Stage.TheVariants as stages

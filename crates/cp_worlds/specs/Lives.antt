@@ -31,7 +31,7 @@ is_settled_resolution (resolutions.Cap d) = is_settled_descriptor d
 is_settled_resolution other = true
 
 -- What a vat sends to another one: no Unimplemented, and while both are open no Abort; no Return lowers what params named; a receiverAnswer
--- stands in Calls alone.
+-- occurs in Calls alone.
 abbrev pub IsOfKind : Message → Type 0
 IsOfKind (messages.Unimplemented t) = ⊥
 IsOfKind (messages.Abort x) = ⊥
@@ -45,7 +45,7 @@ IsUsual m = IsTrue (is_supported m) × IsOfKind m
 abbrev pub AreUsual : List Message → Type 0
 AreUsual messages = AllByRecursion IsUsual messages
 
--- How an answer stands: there is none under its number; it is kept and wasn't given; it was finished before it was given; it was given, and its
+-- The status of an answer: there is none under its number; it is kept and wasn't given; it was finished before it was given; it was given, and its
 -- results named these exports; or a message came that is about no such answer.
 pub data Standing : Type 0 where
   absent : Standing

@@ -22,7 +22,7 @@ use Rattle.cp_machine.specs.State.{State}
 use Rattle.cp_worlds.specs.Accounts.{accounts_of, is_given_up}
 use Rattle.cp_worlds.specs.Lane.{Reference, import_, path_to}
 
--- of each message on the way, with what stands before it and after it
+-- of each message on the way, with what comes before it and after it
 abbrev pub EachOnWay : List Message → (List Message → Message → List Message → Type 0) → Type 0
 EachOnWay inbox Holds = (before behind : List Message) (m : Message) → inbox ≡ before ++ m ∷ behind → Holds before m behind
 
@@ -93,7 +93,7 @@ loops_of inbox_there inbox_back n = count_by (is_loop n) inbox_there + count_by 
 abbrev pub AreLooped : State → List Message → List Message → Type 0
 AreLooped s inbox_there inbox_back = (n : ℕ) → loops_of inbox_there inbox_back n ≡ (if is_some (get s.marks.embargoes n) then 1 else 0)
 
--- what a Return tells at a path, and what a Resolve tells
+-- what a Return says at a path, and what a Resolve says
 abbrev pub descriptor_at : Node → List Descriptor → Option Descriptor
 descriptor_at (cap i) table = slice_get table i
 descriptor_at other table = None

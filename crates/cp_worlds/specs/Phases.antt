@@ -129,7 +129,7 @@ pub record IsOnly (inbox : List Message) (is : Message → Bool) (before : List 
   pub none_before : list_any is before ≡ false
   pub none_behind : list_any is behind ≡ false
 
--- a message that opens a reference there, and one that tells what it came to
+-- a message that opens a reference there, and one that reports what it came to
 abbrev pub opens_place : Reference → Message → Bool
 opens_place (import_ i) m = false
 opens_place (path_to q path) m = opens q m
@@ -212,7 +212,7 @@ pub record Unsettled (here there : End) (ref : Reference) (made : List ℕ) : Ty
   pub no_back : back here there made ≡ []
   pub none_here : waits_here here made ≡ []
 
--- A Return or a Resolve on the way tells an object of its vat: those on the way back are after it and go to that export, as those go that wait there.
+-- A Return or a Resolve on the way reports an object of its vat: those on the way back are after it and go to that export, as those go that wait there.
 pub record Told (here there : End) (ref : Reference) (made : List ℕ) : Type 0 where
   pub yet : IsYet here.vat ref made
   pub object : ℕ
@@ -311,7 +311,7 @@ IsObject other = ⊥
 abbrev pub CameToOther : State → Reference → Type 0
 CameToOther s ref = (value : Cap) × CameTo s ref value × (IsObject value → ⊥)
 
--- It came to nothing yet, its place was settled, and the message on the way that tells it tells something else.
+-- It came to nothing yet, its place was settled, and the message on the way that reports it reports something else.
 abbrev pub IsOther : State → Option Descriptor → Type 0
 IsOther s (Some (descriptors.ReceiverHosted e)) = (cap : Cap) × IsExport s e cap × (IsObject cap → ⊥)
 IsOther s other = Unit {0}
@@ -325,7 +325,7 @@ pub record ToldOther (here there : End) (ref : Reference) (made : List ℕ) : Ty
   pub only : IsOnly here.inbox (tells ref) before telling behind
   pub says : IsOther here.vat (told_by ref telling)
 
--- It came to nothing yet, and is an object of the other vat's, which no message tells to be anything else.
+-- It came to nothing yet, and is an object of the other vat's, which no message reports to be anything else.
 abbrev pub IsHostedThere : State → Reference → Type 0
 IsHostedThere there (import_ i) = (k : ℕ) × IsExport there i (caps.Object k)
 IsHostedThere there (path_to q path) = ⊥

@@ -80,7 +80,7 @@ abbrev pub MayGo : State → Table Port → Origin → Route → Type 0
 MayGo s ports origin (routes.Fail x) = IsUngiven s ports origin
 MayGo s ports origin other = Unit {0}
 
--- After any turn that finds room, calls wait on rightly, and no capability leads to a gate that is over.
+-- After any turn that meets no full table, calls wait on rightly, and no capability leads to a gate that is over.
 pub record TurnKeeps : Type 0 where
   pub rightly : (old mid : State) (ports : Table Port) (call : Held) (cap : Cap) (route : Route) (first : List Effect) → WaitRightly old ports → NoneLeadsToOver old
       → IsNext old call cap → Routes old.values cap route → MayGo old ports call.origin route

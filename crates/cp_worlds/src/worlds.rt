@@ -84,7 +84,7 @@ pub fn counts_hold()
     ensures quiet { HoldsAlways HeldIsAll }
 {}
 
-/// The next message to a vat opens, returns to or finishes what is there for it; where no message is on
+/// The next message to a vat opens, returns to or finishes what exists for it; where no message is on
 /// the way, each question is at the stage of its answer.
 pub fn messages_are_expected()
     ensures next { HoldsAlways AllIsExpected }

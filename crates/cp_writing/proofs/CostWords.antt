@@ -21,7 +21,7 @@ use Rattle.cp_writing.proofs.PackedHolds.{packed_length}
 use Rattle.cp_writing.proofs.SheetWords.{laid_words}
 use Rattle.cp_writing.proofs.Sheets.{words-put, full-put, with_room_keeps, place-cases}
 
--- there is still one segment, and it has so many more words at most
+-- there is still one segment, and it has this many more words at most
 abbrev Takes : Written → ℕ → Written → Type 0
 Takes F n G = (length G.full ≡ 0) × (G.words ≤ F.words + n)
 

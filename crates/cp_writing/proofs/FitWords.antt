@@ -19,7 +19,7 @@ use Rattle.cp_writing.proofs.Sheets.{seg, seg-last, seg-put_same, seg-put_other,
 use Rattle.cp_writing.proofs.Keeps.{at}
 use Rattle.cp_writing.proofs.PackedHolds.{packed_fits}
 
--- each word fits, and behind the last there is none
+-- each word fits, and after the last there is none
 abbrev pub WordsFit : List ℕ → Type 0
 WordsFit ws = (i : ℕ) → get_or ws i 0 < 2 ^ 64
 

@@ -6,16 +6,16 @@ use Rattle.cp_tree.specs.declared.fault.WriteFault.TheVariants as faults
 use Rattle.cp_writing.specs.declared.sheet.Room.{Room}
 use Rattle.cp_tree.specs.Node.{Node, Nodes, Bodies, no_bodies, body, structs, depth, greatest_depth, deepest_body, cost, total_cost, body_cost, count, number_of, no_nodes, node}
 use Rattle.cp_tree.specs.Shaped.{EachEven}
-use Rattle.cp_writing.specs.Allowed.{Enters, Lays}
+use Rattle.cp_writing.specs.Allowed.{Charges, Lays}
 use Rattle.cp_writing.specs.Sheets.{Written, Refuses}
 use Rattle.cp_writing.specs.Writing.{Begins, BeginsBodies, tree_by, row_by, bodies_by}
 
 -- a level or a price that isn't there isn't there for more
-pub not_entered : (X : Type 0) (room : Room) (levels left price mid rest deep whole : ℕ) (e : WriteFault) (wanted new : Written) → Enters levels left price (Err e) mid → 0 < deep → price ≤ whole → Lays {X = X} room levels left (Err e) rest deep whole wanted new
-not_entered X room levels left price mid rest deep whole faults.TooDeep wanted new h some le = omega (arith, h, some)
-not_entered X room levels left price mid rest deep whole faults.TooCostly wanted new h some le = omega (arith, h, le)
-not_entered X room levels left price mid rest deep whole faults.TooManyWords wanted new h some le = absurd h
-not_entered X room levels left price mid rest deep whole faults.OutOfMemory wanted new h some le = absurd h
+pub not_charged : (X : Type 0) (room : Room) (levels left price mid rest deep whole : ℕ) (e : WriteFault) (wanted new : Written) → Charges levels left price (Err e) mid → 0 < deep → price ≤ whole → Lays {X = X} room levels left (Err e) rest deep whole wanted new
+not_charged X room levels left price mid rest deep whole faults.TooDeep wanted new h some le = omega (arith, h, some)
+not_charged X room levels left price mid rest deep whole faults.TooCostly wanted new h some le = omega (arith, h, le)
+not_charged X room levels left price mid rest deep whole faults.TooManyWords wanted new h some le = absurd h
+not_charged X room levels left price mid rest deep whole faults.OutOfMemory wanted new h some le = absurd h
 
 -- what can't be written is refused
 pub not_written : (X : Type 0) (room : Room) (levels left rest deep price : ℕ) (e : WriteFault) (wanted new : Written) → Refuses room e wanted → Lays {X = X} room levels left (Err e) rest deep price wanted new
@@ -25,7 +25,7 @@ not_written X room levels left rest deep price faults.TooManyWords wanted new h 
 not_written X room levels left rest deep price faults.OutOfMemory wanted new h = h
 
 -- a level was gone down and its price paid, and then what hangs there was laid out
-pub one_up : {X : Type 0} (room : Room) (levels left own below mid rest deep price : ℕ) (r : Result X WriteFault) (wanted new : Written) → Enters levels left own (Ok below) mid → Lays room below mid r rest deep price wanted new
+pub one_up : {X : Type 0} (room : Room) (levels left own below mid rest deep price : ℕ) (r : Result X WriteFault) (wanted new : Written) → Charges levels left own (Ok below) mid → Lays room below mid r rest deep price wanted new
     → Lays room levels left r rest (suc deep) (own + price) wanted new
 one_up room levels left own below mid rest deep price (Ok x) wanted new entered h = (omega (arith, entered.0, h.0), omega (arith, entered.1, h.1), h.2, h.3)
 one_up room levels left own below mid rest deep price (Err faults.TooDeep) wanted new entered h = omega (arith, entered.0, h)
@@ -35,14 +35,14 @@ one_up room levels left own below mid rest deep price (Err faults.OutOfMemory) w
 
 -- a tree whose body was begun is laid out once what hangs on it is
 pub hung : {X : Type 0} (room : Room) (at first : Place) (n : ℕ) (make : Nodes → Node) (t : Node) (ts : Nodes) (old new W : Written) (r : Result X WriteFault) (levels left own below mid rest : ℕ) → t ≡ make ts → count ts ≡ n → Begins room at n make (Ok first) old new
-    → Enters levels left own (Ok below) mid → depth (make ts) ≡ suc (greatest_depth ts) → cost (make ts) ≡ own + total_cost ts
+    → Charges levels left own (Ok below) mid → depth (make ts) ≡ suc (greatest_depth ts) → cost (make ts) ≡ own + total_cost ts
     → Lays room below mid r rest (greatest_depth ts) (total_cost ts) (row_by room first.segment first.word ts new) W → Lays room levels left r rest (depth t) (cost t) (tree_by room at.segment at.word t old) W
 hung room at first n make t ts old new W r levels left own below mid rest is many begun entered deep price row =
     subst (λ u. Lays room levels left r rest (depth u) (cost u) (tree_by room at.segment at.word u old) W) (sym is)
     (rw (deep, price, begun.2 ts many) (one_up room levels left own below mid rest (greatest_depth ts) (total_cost ts) r _ W entered row))
 
 pub bodies_hung : {X : Type 0} (room : Room) (at first : Place) (d n : ℕ) (t : Node) (bs : Bodies) (old new W : Written) (r : Result X WriteFault) (levels left own below mid rest : ℕ) → t ≡ structs d n bs → BeginsBodies room at d n bs (Ok first) old new
-    → Enters levels left own (Ok below) mid → own ≡ 2 + number_of bs * (1 + d + n)
+    → Charges levels left own (Ok below) mid → own ≡ 2 + number_of bs * (1 + d + n)
     → Lays room below mid r rest (deepest_body bs) (body_cost bs) (bodies_by room first.segment first.word d n bs new) W → Lays room levels left r rest (depth t) (cost t) (tree_by room at.segment at.word t old) W
 bodies_hung room at first d n t bs old new W r levels left own below mid rest is begun entered price bodies =
     let whole : cost (structs d n bs) ≡ own + body_cost bs = omega (arith, price) in

@@ -13,7 +13,7 @@ use Rattle.cp_writing.specs.declared.sheet.Room.{Room}
 use Rattle.cp_tree.specs.Node.{Node, null, cap, struct, list, ptrs, structs, Nodes, no_nodes, node, Bodies, no_bodies, body, count, number_of, element_size, element_count}
 use Rattle.cp_writing.specs.Packed.{packed}
 use Rattle.cp_tree.specs.Shaped.{Shaped, EachShaped, EachEven}
-use Rattle.cp_writing.specs.Sheets.{Written, Placed, put, append, begin, end_of, here, behind_pad, with_room, place_by, body_word}
+use Rattle.cp_writing.specs.Sheets.{Written, Placed, put, append, begin, end_of, here, after_pad, with_room, place_by, body_word}
 use Rattle.cp_writing.specs.Writing.{body_blank, bodies_blank, struct_placed, ptrs_placed, structs_placed, tag_word, tree_by, row_by, bodies_by}
 use Rattle.cp_writing.proofs.Sheets.{seg, seg-last, seg-put_same, seg-put_other, seg-append_last, seg-append_other, seg-begin, end-put, end-last, end-begin, full-put, full-begin, words-put, last-put, with_room_keeps, room-goes, place-cases}
 
@@ -25,7 +25,7 @@ at F s p = slice_index (seg F s) p
 abbrev pub In : ℕ → ℕ → ℕ → ℕ → ℕ → Type 0
 In b r s p n = (b ≡ s) × (p ≤ r) × (r < p + n)
 
--- More is written behind what was. Of that only these pointer words change.
+-- More is written after what was. Of that only these pointer words change.
 pub record Keeps (F : Written) (s p n : ℕ) (G : Written) : Type 0 where
   pub goes : length F.full ≤ length G.full
   pub ends : (b : ℕ) → end_of F b ≤ end_of G b
@@ -84,7 +84,7 @@ keeps_begin F s p n = record {
   counts = omega arith;
 }
 
--- Where a body goes: behind what its segment has, which is the last one unless the body has no words.
+-- Where a body goes: after what its segment has, which is the last one unless the body has no words.
 pub record Spot (F : Written) (s p size : ℕ) (x : Placed) : Type 0 where
   pub keeps : Keeps F s p 1 x.sheet
   pub there : x.at.segment ≤ length x.sheet.full
@@ -104,7 +104,7 @@ spot_here F G s p k size h le direct =
       last = λ some. ⊎_elim (λ z. absurd (omega (arith, z, some))) (λ e. e ∙ sym (full-put G s p w)) direct;
     }
 
-spot_behind : (F G : Written) (s p : ℕ) (k : Kind) (size : ℕ) → Keeps F s p 1 G → s ≤ length G.full → Spot F s p size (behind_pad s p k G)
+spot_behind : (F G : Written) (s p : ℕ) (k : Kind) (size : ℕ) → Keeps F s p 1 G → s ≤ length G.full → Spot F s p size (after_pad s p k G)
 spot_behind F G s p k size h le =
     let w = word_of (pointers.Far false (length G.last) (length G.full)) in
     let P = put s p w G in
@@ -125,7 +125,7 @@ spot room s p k size F le =
     let there : s ≤ length G.full = omega (arith, le, room-goes room s size F) in
     place-cases (Spot F s p size) s p k size G (spot_here F G s p k size h there) (λ some other. spot_behind F G s p k size h there)
 
--- a body of so many words lies where it was placed
+-- a body of this many words lies where it was placed
 pub record Lies (F : Written) (s p : ℕ) (xs : List ℕ) (x : Placed) : Type 0 where
   pub keeps : Keeps F s p 1 (append xs x.sheet)
   pub there : x.at.segment ≤ length x.sheet.full
@@ -145,7 +145,7 @@ lies F s p size xs x h long = record {
       (cases_eq size 0);
 }
 
--- what hangs on pointers of a body is behind what was there before
+-- what hangs on pointers of a body is after what was there before
 pub keeps_inner : {F G H : Written} {s p s' q n lo : ℕ} → Keeps F s p 1 G → Keeps G s' q n H → end_of F s' ≤ lo → lo ≤ q → Keeps F s p 1 H
 keeps_inner {F} {G} {H} {s} {p} {s'} {q} {n} {lo} h k behind le = keeps_both h k (λ b r lt i. i) (λ b r lt i. absurd (omega (arith, lt, ap (end_of F) i.0, i.1, behind, le)))
 

@@ -33,7 +33,7 @@ few_elements (halves ns) h = h.0
 few_elements (quads ns) h = h.0
 few_elements (words ns) h = h.0
 
--- what stands behind the first of words
+-- what stands after the first of words
 stand_behind : (F : Written) (s q : ℕ) (ws xs : List ℕ) → Stand F s q (ws ++ xs) → Stand F s (q + length ws) xs
 stand_behind F s q ws xs h i less = ap (at F s) (omega arith) ∙ h (length ws + i) (omega (arith, length-append ws xs, less)) ∙ get_or-append-add ws xs i 0
 
@@ -47,7 +47,7 @@ module _ (room : Room) (S : List (List ℕ)) (small : (b : ℕ) → length (segm
       let inside : p < end_of (put s p w F) s = omega (arith, lt, end-put F s p w s le) in
       (omega (arith, inside, l.ends s), ap pointer_of (l.same s p (inr (refl, omega arith, omega arith)) inside ∙ at-put F s p w le lt) ∙ says)
 
-  -- a body of so many words, with pointers behind the first of them, and what hangs on these
+  -- a body of this many words, with pointers after the first of them, and what hangs on these
   record BodyLaid (F : Written) (s p : ℕ) (k : Kind) (size : ℕ) (xs : List ℕ) (lo m : ℕ) (x : Placed) (G : Written) : Type 0 where
     places : Places S (room_of room) s p k size (filled F) x.at.segment x.at.word (filled (append xs x.sheet))
     rest : Later (append xs x.sheet) x.at.segment (x.at.word + lo) m G S

@@ -60,7 +60,7 @@ laid_out_is_layout : (words segments whole : ℕ) (t : Node) → segments ≤ 51
     → Layout (lists (laid_out (record { words = max 1 words; segments = segments; whole = whole }) t)) (record { words = words; segments = segments }) t
 laid_out_is_layout words segments whole t few shaped within = bounded_is_layout words segments whole t shaped (laid_bounded (record { words = max 1 words; segments = segments; whole = whole }) t few shaped) within
 
--- what is written into segments of so many words, and into one
+-- what is written into segments of this many words, and into one
 pub written_is_layout : (max_words : ℕ) (limits : Bounds) (t : Node) (F : Written) → limits.segments ≤ 512 → Shaped t → F ≡ laid_out (room_for (max 1 max_words) limits.segments limits) t → F.words ≤ 67108864
     → Layout (lists F) (record { words = max_words; segments = limits.segments }) t
 written_is_layout max_words limits t F few shaped is within =

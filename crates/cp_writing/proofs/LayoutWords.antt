@@ -13,9 +13,9 @@ use Rattle.cp_words.specs.Aims.{segment}
 use Rattle.cp_tree.specs.Node.{Node, null, cap, struct, list, ptrs, structs, Nodes, no_nodes, node, Bodies, no_bodies, body, count, number_of, element_size, element_count}
 use Rattle.cp_tree.specs.Shaped.{Shaped, EachShaped, EachEven}
 use Rattle.cp_writing.specs.declared.sheet.Room.{Room}
-use Rattle.cp_writing.specs.Layout.{Filled, IsEnd, Places, without_words, here as placed_here, behind_pad as placed_behind, in_new, last_here, last_behind_pad, Lays, LaysRow, LaysBodies, Layout}
+use Rattle.cp_writing.specs.Layout.{Filled, IsEnd, Places, without_words, here as placed_here, after_pad as placed_behind, in_new, last_here, last_after_pad, Lays, LaysRow, LaysBodies, Layout}
 use Rattle.cp_writing.specs.Packed.{packed}
-use Rattle.cp_writing.specs.Sheets.{Written, Placed, lists, put, append, begin, end_of, here, behind_pad, with_room, place_in, place_by, body_word, pad_for}
+use Rattle.cp_writing.specs.Sheets.{Written, Placed, lists, put, append, begin, end_of, here, after_pad, with_room, place_in, place_by, body_word, pad_for}
 use Rattle.cp_words.specs.Limits.{Bounds}
 use Rattle.cp_tree.specs.declared.fault.WriteFault.{WriteFault}
 use Rattle.cp_tree.specs.declared.fault.WriteFault.TheVariants as faults
@@ -52,7 +52,7 @@ module _ (room : Room) (S : List (List ℕ)) where
       (λ ge. let e : b ≡ length F.full = omega (arith, ge, lt, full-begin F) in subst (λ (b : ℕ). length (segment S b) ≡ end_of (begin F) b) (sym e) (ends ∙ sym (end-begin F (length F.full) ∙ end-last F)))
       (cases_lt b (length F.full))
 
-  fits-behind : (F : Written) (s p : ℕ) (k : Kind) → s ≤ length F.full → Fits F → Fits (behind_pad s p k F).sheet
+  fits-behind : (F : Written) (s p : ℕ) (k : Kind) → s ≤ length F.full → Fits F → Fits (after_pad s p k F).sheet
   fits-behind F s p k le fits =
       let w = word_of (pointers.Far false (length F.last) (length F.full)) in
       fits-append (put s p w F) (body_word k 0 ∷ []) (fits-put F s p w le fits)
@@ -73,20 +73,20 @@ module _ (room : Room) (S : List (List ℕ)) where
       fits = fits-append (here s p k F).sheet xs (fits-put F s p _ le fits);
     }
 
-    as_padded : s' ≡ length F.full → start ≡ length F.last + 1 → g ≡ record { last = length F.full; used = length F.last + 1 + size } → PlacedAs xs s' start g (behind_pad s p k F)
+    as_padded : s' ≡ length F.full → start ≡ length F.last + 1 → g ≡ record { last = length F.full; used = length F.last + 1 + size } → PlacedAs xs s' start g (after_pad s p k F)
     as_padded at word fills = record {
       at = sym at;
       word = sym word;
       fills = filled-behind F s p k size xs long ∙ sym fills;
-      fits = fits-append (behind_pad s p k F).sheet xs (fits-behind F s p k le fits);
+      fits = fits-append (after_pad s p k F).sheet xs (fits-behind F s p k le fits);
     }
 
-    as_begun : length (segment S (length F.full)) ≡ length F.last → s' ≡ length F.full + 1 → start ≡ 1 → g ≡ record { last = length F.full + 1; used = 1 + size } → PlacedAs xs s' start g (behind_pad s p k (begin F))
+    as_begun : length (segment S (length F.full)) ≡ length F.last → s' ≡ length F.full + 1 → start ≡ 1 → g ≡ record { last = length F.full + 1; used = 1 + size } → PlacedAs xs s' start g (after_pad s p k (begin F))
     as_begun ends at word fills = record {
       at = full-begin F ∙ sym at;
       word = sym word;
       fills = filled-behind (begin F) s p k size xs long ∙ ap (λ (n : ℕ). let f : Filled = record { last = n; used = 1 + size } in f) (full-begin F) ∙ sym fills;
-      fits = fits-append (behind_pad s p k (begin F)).sheet xs (fits-behind (begin F) s p k (omega (arith, le, full-begin F)) (fits-begin F fits ends));
+      fits = fits-append (after_pad s p k (begin F)).sheet xs (fits-behind (begin F) s p k (omega (arith, le, full-begin F)) (fits-begin F fits ends));
     }
 
     at_end : IsEnd S s (filled F) start → start ≡ end_of F s
@@ -109,7 +109,7 @@ module _ (room : Room) (S : List (List ℕ)) where
     stays_here : with_room room s size F ≡ F → (size ≡ 0) ⊎ (s ≡ length F.full) → As (here s p k F) → As (place_by room s p k size F)
     stays_here e direct h = subst As (sym (ap (place_in s p k size) e ∙ place-here s p k size F direct)) h
 
-    stays_padded : with_room room s size F ≡ F → 0 < size → s ≢ length F.full → As (behind_pad s p k F) → As (place_by room s p k size F)
+    stays_padded : with_room room s size F ≡ F → 0 < size → s ≢ length F.full → As (after_pad s p k F) → As (place_by room s p k size F)
     stays_padded e some other h = subst As (sym (ap (place_in s p k size) e ∙ place-there s p k size F some other)) h
 
     past_here : ¬ ((s ≡ length F.full) × (length F.last + size ≤ room.words)) → s ≡ length F.full → room.words < length F.last + pad_for s F + size
@@ -132,7 +132,7 @@ module _ (room : Room) (S : List (List ℕ)) where
         subst As (sym (ap (place_in s p k size) (room_begun room s size F some past more) ∙ place-there s p k size (begin F) some other)) (as_begun begins.ends begins.next begins.behind begins.fills)
     placed_as (last_here some not_here not_behind no_more same follows) =
         stays_here (room_all room s size F some (past_here not_here same) no_more) (inr same) (as_direct follows.same (direct_end same follows.behind) follows.fills)
-    placed_as (last_behind_pad some not_here not_behind no_more other follows) =
+    placed_as (last_after_pad some not_here not_behind no_more other follows) =
         stays_padded (room_all room s size F some (past_pad not_behind other) no_more) some other (as_padded follows.last follows.behind follows.fills)
 
   -- the row of a body that is placed so

@@ -14,7 +14,7 @@ use Rattle.cp_words.specs.declared.kind.Kind.TheVariants as kinds
 use Rattle.cp_words.specs.Aims.{segment, words_at, Holds, IsBodyPointer, AimsHere, AimsByPad}
 use Rattle.cp_tree.specs.Node.{Node, null, cap, struct, list, ptrs, structs, Nodes, no_nodes, node, Bodies, no_bodies, body, count, number_of, element_size, element_count}
 use Rattle.cp_tree.specs.Shaped.{AllFit, Shaped, EachShaped, EachEven}
-use Rattle.cp_writing.specs.Layout.{Filled, Room, FitsHere, FitsBehindPad, Follows, FollowsPad, Begins, IsEnd, Places, without_words, here, behind_pad, in_new, last_here, last_behind_pad, HoldElements, Lays, LaysRow, LaysBodies, Layout}
+use Rattle.cp_writing.specs.Layout.{Filled, Room, FitsHere, FitsAfterPad, Follows, FollowsPad, Begins, IsEnd, Places, without_words, here, after_pad, in_new, last_here, last_after_pad, HoldElements, Lays, LaysRow, LaysBodies, Layout}
 use Rattle.cp_writing.proofs.OneWord.{one_word, one_tag, one_held}
 
 -- ---- where a body is placed
@@ -45,7 +45,7 @@ module _ (S : List (List ℕ)) (room : Room) (s p : ℕ) (k : Kind) (size : ℕ)
   no_here : ¬ (FitsHere room s size f) → s ≡ f.last → room.words < f.used + size
   no_here never e = ⊎_elim (λ lt. lt) (λ le. absurd (never (e, le))) (cases_lt room.words (f.used + size))
 
-  no_pad : ¬ (FitsBehindPad room s size f) → s ≢ f.last → room.words < f.used + 1 + size
+  no_pad : ¬ (FitsAfterPad room s size f) → s ≢ f.last → room.words < f.used + 1 + size
   no_pad never e = ⊎_elim (λ lt. lt) (λ le. absurd (never (e, le))) (cases_lt room.words (f.used + 1 + size))
 
   goes : Places S room s p k size f s' start g → At (way_by room s size f)
@@ -55,7 +55,7 @@ module _ (S : List (List ℕ)) (room : Room) (s p : ℕ) (k : Kind) (size : ℕ)
   goes (here some fits follows) =
       let way : way_by room s size f ≡ direct = rw (ne_eqb size 0 (λ z. omega (arith, z, some)), eq-eqb s f.last fits.0, le-leb (f.used + size) room.words fits.1) refl in
       subst At (sym way) (fits.0, follows)
-  goes (behind_pad some not_here fits follows) =
+  goes (after_pad some not_here fits follows) =
       let way : way_by room s size f ≡ padded = rw (ne_eqb size 0 (λ z. omega (arith, z, some)), ne_eqb s f.last fits.0, le-leb (f.used + 1 + size) room.words fits.1) refl in
       subst At (sym way) follows
   goes (in_new some not_here not_behind more begins) =
@@ -67,7 +67,7 @@ module _ (S : List (List ℕ)) (room : Room) (s p : ℕ) (k : Kind) (size : ℕ)
   goes (last_here some not_here not_behind no_more same follows) =
       let way : way_by room s size f ≡ direct = rw (ne_eqb size 0 (λ z. omega (arith, z, some)), eq-eqb s f.last same, lt-leb (f.used + size) room.words (no_here not_here same), le-leb room.segments (f.last + 1) no_more) refl in
       subst At (sym way) (same, follows)
-  goes (last_behind_pad some not_here not_behind no_more other follows) =
+  goes (last_after_pad some not_here not_behind no_more other follows) =
       let way : way_by room s size f ≡ padded = rw (ne_eqb size 0 (λ z. omega (arith, z, some)), ne_eqb s f.last other, lt-leb (f.used + 1 + size) room.words (no_pad not_behind other), le-leb room.segments (f.last + 1) no_more) refl in
       subst At (sym way) follows
 

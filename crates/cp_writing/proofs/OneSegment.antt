@@ -72,7 +72,7 @@ sole_put F s p w h = (full-put F s p w ∙ h.0, omega (arith, last-put F s p w, 
 sole_append : (F : Written) (ws : List ℕ) → Sole F → Sole (append ws F)
 sole_append F ws h = (h.0, omega (arith, length-append F.last ws, h.1))
 
--- a segment may have so many words, or there may be one alone
+-- a segment may have this many words, or there may be one alone
 abbrev Wide : ℕ → Room → Type 0
 Wide u room = (u ≤ room.words) ⊎ (room.segments ≤ 1)
 

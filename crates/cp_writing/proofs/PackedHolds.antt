@@ -44,7 +44,7 @@ digit base (n ∷ ns) (suc j) some all =
     let power : base ^ suc j ≡ base * base ^ j = pow-suc base j ∙ mul_comm (base ^ j) base in
     rw (power, sym (div-div-eq-div-mul (n + base * value base ns) base (base ^ j)), rest) (digit base ns j some (λ k. all (suc k)))
 
--- the words are the groups of the digits, and there are no digits behind the last
+-- the words are the groups of the digits, and there are no digits after the last
 abbrev pub AreGroups : ℕ → ℕ → List ℕ → List ℕ → Type 0
 AreGroups base per ns ws = (g : ℕ) → slice_index ws g ≡ value base (take per (drop (per * g) ns))
 
@@ -81,7 +81,7 @@ module _ (w per : ℕ) (ns ws : List ℕ) (whole : per * w ≡ 64) (some : 0 < p
   pub numbers_are : ns ≡ numbers ws w (length ns)
   numbers_are = fill_by_all (element ws w) ns (length ns) 0 refl (λ k lt. sym (element_is k))
 
-  -- the bits behind the last digit are zero
+  -- the bits after the last digit are zero
   pub padded : (k : ℕ) → length ns * w ≤ k → element ws 1 k ≡ 0
   padded k behind =
       let from = drop (per * (k / 64)) ns in

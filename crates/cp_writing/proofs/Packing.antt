@@ -68,7 +68,7 @@ module _ (base per : ℕ) (ns old words : List ℕ) (n : ℕ) (whole : words ≡
       let none : 0 ≡ per * 0 = omega arith in
       whole ∙ ap (λ xs. old ++ xs) (ap (λ m. map (value base) (first_chunks per n (drop m ns))) none ∙ chunks_from base per ns 0 n)
 
-  -- nothing is left behind them, or one group that is less than whole
+  -- nothing is left after them, or one group that is less than whole
   pub all_whole : n ≡ (length ns + (per - 1)) / per → words ≡ old ++ groups base per ns
   all_whole many = so_far ∙ ap (λ m. old ++ map (λ k. value base (take per (drop (per * k) ns))) (range_with_len 0 m)) many
 

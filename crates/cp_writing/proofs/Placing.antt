@@ -9,9 +9,9 @@ use Rattle.cp_words.specs.declared.kind.Kind.{Kind}
 use Rattle.cp_words.specs.declared.kind.Kind.TheVariants as kinds
 use Rattle.cp_writing.specs.declared.sheet.Room.{Room}
 use Rattle.cp_words.specs.Aims.{segment, AimsHere, AimsByPad}
-use Rattle.cp_writing.specs.Layout.{Filled, FitsHere, FitsBehindPad, Follows, FollowsPad, Begins, IsEnd, Places, without_words, here as placed_here, behind_pad as placed_behind, in_new, last_here, last_behind_pad}
+use Rattle.cp_writing.specs.Layout.{Filled, FitsHere, FitsAfterPad, Follows, FollowsPad, Begins, IsEnd, Places, without_words, here as placed_here, after_pad as placed_behind, in_new, last_here, last_after_pad}
 use Rattle.cp_writing.specs.Layout as layout
-use Rattle.cp_writing.specs.Sheets.{Written, Placed, put, append, begin, end_of, here, behind_pad, with_room, place_in, place_by, body_word, IsNamed, pad_for}
+use Rattle.cp_writing.specs.Sheets.{Written, Placed, put, append, begin, end_of, here, after_pad, with_room, place_in, place_by, body_word, IsNamed, pad_for}
 use Rattle.cp_writing.proofs.PointerWords.{says_far, says_struct, says_list}
 use Rattle.cp_writing.proofs.Sheets.{end-put, end-last, end-begin, full-put, full-begin, last-put, place-here, place-there}
 use Rattle.cp_writing.proofs.Keeps.{at, Keeps, keeps_both, keeps_put, keeps_append}
@@ -21,7 +21,7 @@ use Rattle.cp_writing.proofs.Later.{Later, at_last, filled, at-put, at-append_ol
 abbrev pub room_of : Room → layout.Room
 room_of room = record { words = room.words; segments = room.segments }
 
--- a word that names a body behind it
+-- a word that names a body after it
 aims : (S : List (List ℕ)) (s p o start : ℕ) (k : Kind) → p < length (segment S s) → slice_index (segment S s) p ≡ body_word k o → IsNamed k → o < 2 ^ 29 → start ≡ p + 1 + o → AimsHere S s p k start
 aims S s p o start (kinds.Struct d n) lt is named near e =
     record { pointer = pointers.Struct (pos o) d n; offset = pos o; stands = (lt, ap pointer_of is ∙ says_struct o d n near named.0 named.1 (omega (arith, named.2))); says = (refl, refl); begins = ap pos e }
@@ -34,7 +34,7 @@ filled-here F s p k size xs long =
     let w = body_word k (end_of F s - (p + 1)) in
     rw (length-append (put s p w F).last xs, full-put F s p w, last-put F s p w, long) refl
 
-pub filled-behind : (F : Written) (s p : ℕ) (k : Kind) (size : ℕ) (xs : List ℕ) → length xs ≡ size → filled (append xs (behind_pad s p k F).sheet) ≡ record { last = length F.full; used = length F.last + 1 + size }
+pub filled-behind : (F : Written) (s p : ℕ) (k : Kind) (size : ℕ) (xs : List ℕ) → length xs ≡ size → filled (append xs (after_pad s p k F).sheet) ≡ record { last = length F.full; used = length F.last + 1 + size }
 filled-behind F s p k size xs long =
     let w = word_of (pointers.Far false (length F.last) (length F.full)) in
     let pad = body_word k 0 ∷ [] in
@@ -65,7 +65,7 @@ module _ (room : Room) (S : List (List ℕ)) (small : (b : ℕ) → length (segm
       aims S s p o (end_of F s) k (omega (arith, lt, end, l.ends s)) is named (omega (arith, small s, l.ends s, end)) (omega (arith, lt))
 
   -- by a pad
-  aims_pad : (F : Written) (s p : ℕ) (k : Kind) → s ≤ length F.full → p < end_of F s → IsNamed k → Later F s p 1 (behind_pad s p k F).sheet S
+  aims_pad : (F : Written) (s p : ℕ) (k : Kind) → s ≤ length F.full → p < end_of F s → IsNamed k → Later F s p 1 (after_pad s p k F).sheet S
       → (a : AimsByPad S s p k (length F.full) (length F.last + 1)) × (a.place ≡ length F.last)
   aims_pad F s p k le lt named l =
       let far = word_of (pointers.Far false (length F.last) (length F.full)) in
@@ -94,20 +94,20 @@ module _ (room : Room) (S : List (List ℕ)) (small : (b : ℕ) → length (segm
       → Follows S s p k size (filled F) s (end_of F s) (filled (append xs (here s p k F).sheet))
   follows F s p k size xs long le lt named e l = record { aims = aims_here F s p k le lt named l; same = refl; behind = ap (end_of F) e ∙ end-last F; fills = filled-here F s p k size xs long }
 
-  follows_pad : (F : Written) (s p : ℕ) (k : Kind) (size : ℕ) (xs : List ℕ) → length xs ≡ size → s ≤ length F.full → p < end_of F s → IsNamed k → Later F s p 1 (behind_pad s p k F).sheet S
-      → FollowsPad S s p k size (filled F) (length F.full) (length F.last + 1) (filled (append xs (behind_pad s p k F).sheet))
+  follows_pad : (F : Written) (s p : ℕ) (k : Kind) (size : ℕ) (xs : List ℕ) → length xs ≡ size → s ≤ length F.full → p < end_of F s → IsNamed k → Later F s p 1 (after_pad s p k F).sheet S
+      → FollowsPad S s p k size (filled F) (length F.full) (length F.last + 1) (filled (append xs (after_pad s p k F).sheet))
   follows_pad F s p k size xs long le lt named l =
       let a = aims_pad F s p k le lt named l in
       record { aims = a.0; last = refl; pad = a.1; behind = refl; fills = filled-behind F s p k size xs long }
 
-  begins : (F : Written) (s p : ℕ) (k : Kind) (size : ℕ) (xs : List ℕ) → length xs ≡ size → s ≤ length F.full → p < end_of F s → IsNamed k → Later F s p 1 (behind_pad s p k (begin F)).sheet S
-      → Begins S s p k size (filled F) (length (begin F).full) 1 (filled (append xs (behind_pad s p k (begin F)).sheet))
+  begins : (F : Written) (s p : ℕ) (k : Kind) (size : ℕ) (xs : List ℕ) → length xs ≡ size → s ≤ length F.full → p < end_of F s → IsNamed k → Later F s p 1 (after_pad s p k (begin F)).sheet S
+      → Begins S s p k size (filled F) (length (begin F).full) 1 (filled (append xs (after_pad s p k (begin F)).sheet))
   begins F s p k size xs long le lt named l =
       let G = begin F in
       let far = word_of (pointers.Far false 0 (length G.full)) in
       let there : s ≤ length G.full = omega (arith, le, full-begin F) in
       let a = aims_pad G s p k there (omega (arith, lt, end-begin F s)) named (at_last l (λ b r fresh. ⊎_elim (λ ge. inl (omega (arith, ge, end-begin F b))) (λ i. inr i) fresh)) in
-      let kept : Keeps G s p 1 (behind_pad s p k G).sheet = keeps_both (keeps_put G s p far there) (keeps_append (put s p far G) (body_word k 0 ∷ []) s p 1) (λ b r inside i. i) (λ b r inside i. i) in
+      let kept : Keeps G s p 1 (after_pad s p k G).sheet = keeps_both (keeps_put G s p far there) (keeps_append (put s p far G) (body_word k 0 ∷ []) s p 1) (λ b r inside i. i) (λ b r inside i. i) in
       let next = full-begin F in
       record {
         aims = a.0;
@@ -135,7 +135,7 @@ module _ (room : Room) (S : List (List ℕ)) (small : (b : ℕ) → length (segm
   placed_some F s p k size xs long le lt named some e =
       let pad : pad_for s F ≡ 0 = rw (eq-eqb s (length F.full) e) refl in
       let is : with_room room s size F ≡ F → place_by room s p k size F ≡ here s p k F = λ q. ap (place_in s p k size) q ∙ place-here s p k size F (inr e) in
-      let behind : ¬ (FitsBehindPad (room_of room) s size (filled F)) = λ h. h.0 e in
+      let behind : ¬ (FitsAfterPad (room_of room) s size (filled F)) = λ h. h.0 e in
       ⊎_elim
       (λ past.
       let past_pad : room.words < length F.last + pad_for s F + size = omega (arith, past, pad) in
@@ -151,16 +151,16 @@ module _ (room : Room) (S : List (List ℕ)) (small : (b : ℕ) → length (segm
   placed_other : (F : Written) (s p : ℕ) (k : Kind) (size : ℕ) (xs : List ℕ) → length xs ≡ size → s ≤ length F.full → p < end_of F s → IsNamed k → 0 < size → s ≢ length F.full → AsLaid F s p k size xs (place_by room s p k size F)
   placed_other F s p k size xs long le lt named some other =
       let pad : pad_for s F ≡ 1 = rw (ne_eqb s (length F.full) other) refl in
-      let is : with_room room s size F ≡ F → place_by room s p k size F ≡ behind_pad s p k F = λ q. ap (place_in s p k size) q ∙ place-there s p k size F some other in
+      let is : with_room room s size F ≡ F → place_by room s p k size F ≡ after_pad s p k F = λ q. ap (place_in s p k size) q ∙ place-there s p k size F some other in
       let not_here : ¬ (FitsHere (room_of room) s size (filled F)) = λ h. other h.0 in
       ⊎_elim
       (λ past.
       let past_pad : room.words < length F.last + pad_for s F + size = omega (arith, past, pad) in
-      let behind : ¬ (FitsBehindPad (room_of room) s size (filled F)) = λ h. absurd (omega (arith, h.1, past)) in
+      let behind : ¬ (FitsAfterPad (room_of room) s size (filled F)) = λ h. absurd (omega (arith, h.1, past)) in
       ⊎_elim
       (λ more. subst (AsLaid F s p k size xs) (sym (ap (place_in s p k size) (room_begun room s size F some past_pad more) ∙ place-there s p k size (begin F) some (λ q. omega (arith, q, le, full-begin F))))
       (λ l. in_new some not_here behind more (begins F s p k size xs long le lt named l)))
-      (λ none. subst (AsLaid F s p k size xs) (sym (is (room_all room s size F some past_pad none))) (λ l. last_behind_pad some not_here behind none other (follows_pad F s p k size xs long le lt named l)))
+      (λ none. subst (AsLaid F s p k size xs) (sym (is (room_all room s size F some past_pad none))) (λ l. last_after_pad some not_here behind none other (follows_pad F s p k size xs long le lt named l)))
       (cases_lt (length F.full + 1) room.segments))
       (λ fits. subst (AsLaid F s p k size xs) (sym (is (room_fits room s size F some (omega (arith, fits, pad))))) (λ l. placed_behind some not_here (other, fits) (follows_pad F s p k size xs long le lt named l)))
       (cases_lt room.words (length F.last + 1 + size))

@@ -10,7 +10,7 @@ use Rattle.cp_tree.specs.NodeOf.{words_of}
 use Rattle.cp_words.specs.Aims.{segment}
 use Rattle.cp_writing.specs.declared.sheet.Room.{Room}
 use Rattle.cp_words.specs.declared.kind.Kind.{Kind}
-use Rattle.cp_writing.specs.Sheets.{Placed, here, behind_pad, place_in, with_room, KeepsTo, Written, lists, end_of, put, append, begin}
+use Rattle.cp_writing.specs.Sheets.{Placed, here, after_pad, place_in, with_room, KeepsTo, Written, lists, end_of, put, append, begin}
 
 -- a segment of those that are written
 abbrev pub seg : Written → ℕ → List ℕ
@@ -169,11 +169,11 @@ place-here s p k zero F h = refl
 place-here s p k (suc size) F (inl e) = absurd (omega (arith, e))
 place-here s p k (suc size) F (inr e) = rw (ne_eqb (suc size) 0 (λ z. omega (arith, z)), eq-eqb s (length F.full) e) refl
 
-pub place-there : (s p : ℕ) (k : Kind) (size : ℕ) (F : Written) → 0 < size → s ≢ length F.full → place_in s p k size F ≡ behind_pad s p k F
+pub place-there : (s p : ℕ) (k : Kind) (size : ℕ) (F : Written) → 0 < size → s ≢ length F.full → place_in s p k size F ≡ after_pad s p k F
 place-there s p k zero F some other = absurd (omega (arith, some))
 place-there s p k (suc size) F some other = rw (ne_eqb (suc size) 0 (λ z. omega (arith, z)), ne_eqb s (length F.full) other) refl
 
-pub place-cases : (P : Placed → Type 0) (s p : ℕ) (k : Kind) (size : ℕ) (F : Written) → ((size ≡ 0) ⊎ (s ≡ length F.full) → P (here s p k F)) → (0 < size → s ≢ length F.full → P (behind_pad s p k F)) → P (place_in s p k size F)
+pub place-cases : (P : Placed → Type 0) (s p : ℕ) (k : Kind) (size : ℕ) (F : Written) → ((size ≡ 0) ⊎ (s ≡ length F.full) → P (here s p k F)) → (0 < size → s ≢ length F.full → P (after_pad s p k F)) → P (place_in s p k size F)
 place-cases P s p k zero F direct padded = direct (inl refl)
 place-cases P s p k (suc size) F direct padded = ⊎_elim
     (λ e. subst P (sym (place-here s p k (suc size) F (inr e))) (direct (inr e)))

@@ -1,13 +1,11 @@
 -- What loops keep while rows of trees are written.
-use Rattle.std.proofs.Common.{◌≡◌, ℕ, zero, suc, [], ◌+◌, ◌*◌, ◌<◌, ◌≤◌, List, length, map, get_or, sym, ap, subst, ◌∙◌, arith}
-use Rattle.std.specs.Prelude.{◌∷◌}
+use Rattle.std.proofs.Common.{◌≡◌, ℕ, ◌+◌, ◌*◌, ◌^◌, ◌<◌, List, sym, ap, subst, ◌∙◌, arith}
 use Rattle.std.proofs.Math.Nat.{suc-mul}
 use Rattle.cp_words.specs.declared.place.Place.{Place}
 use Rattle.cp_tree.specs.declared.fault.WriteFault.{WriteFault}
 use Rattle.cp_writing.specs.declared.sheet.Room.{Room}
-use Rattle.cp_tree.specs.Node.{Node, Nodes, node, Bodies, body, count, number_of, depth, greatest_depth, deepest_body}
-use Rattle.cp_tree.specs.NodeOf.{nodes_of, bodies_of}
-use Rattle.cp_tree.specs.Shaped.{Shaped, EachShaped, EachEven}
+use Rattle.cp_tree.specs.Node.{Elements, voids, bits, bytes, halves, quads, words, element_count, Node, Nodes, node, Bodies, body, count, number_of}
+use Rattle.cp_tree.specs.Shaped.{ElementsFit, Shaped, EachShaped, EachEven}
 use Rattle.cp_writing.specs.Sheets.{Written, end_of, KeepsTo, IsRun, IsPlace, Refuses}
 use Rattle.cp_writing.specs.Writing.{tree_by, row_by, bodies_by}
 use Rattle.cp_writing.proofs.Begins.{writes_err}
@@ -78,13 +76,11 @@ module _ (room : Room) (s : ℕ) (at : Place) (d n : ℕ) (here rest : Bodies) (
       let k = subst (λ W. IsRun W (record { segment = at.segment; word = at.word + d + n }) (number_of rest * (d + n)) × (bodies_by room s (at.word + d + n) d n rest W ≡ all)) (sym step) (bodies_run, bodies_are) in
       (kept.0, keeps, k.0, body_even.4, k.1)
 
--- a tree of a row nests no deeper than the row, and an element no deeper than the list's
-pub item_depth : {X : Type 0} (f : X → Node) (xs : List X) (i : ℕ) (x : X) → i < length xs → x ≡ get_or xs i x → depth (f x) ≤ greatest_depth (nodes_of (map f xs))
-item_depth f [] i x within is = absurd (omega (arith, within))
-item_depth f (y ∷ xs) zero x within is = omega (arith, ap (λ z. depth (f z)) is)
-item_depth f (y ∷ xs) (suc i) x within is = omega (arith, item_depth f xs i x (omega (arith, within)) is)
-
-pub body_depth : {X : Type 0} (f : X → List ℕ × Nodes) (xs : List X) (i : ℕ) (x : X) → i < length xs → x ≡ get_or xs i x → greatest_depth (f x).1 ≤ deepest_body (bodies_of (map f xs))
-body_depth f [] i x within is = absurd (omega (arith, within))
-body_depth f (y ∷ xs) zero x within is = omega (arith, ap (λ z. greatest_depth (f z).1) is)
-body_depth f (y ∷ xs) (suc i) x within is = omega (arith, body_depth f xs i x (omega (arith, within)) is)
+-- a list that a message can hold has few elements
+pub few_elements : (es : Elements) → ElementsFit es → element_count es < 2 ^ 29
+few_elements (voids n) fit = fit
+few_elements (bits bs) fit = fit
+few_elements (bytes ns) fit = fit.0
+few_elements (halves ns) fit = fit.0
+few_elements (quads ns) fit = fit.0
+few_elements (words ns) fit = fit.0

@@ -6,13 +6,13 @@ use Rattle.cp_writing.specs.declared.sheet.Room.{Room}
 use Rattle.cp_writing.specs.Sheets.{Written, KeepsTo, Refuses}
 
 -- One level was gone down and its price paid, or no level is left, or else too little for the price.
-abbrev pub Enters : ℕ → ℕ → ℕ → Result ℕ WriteFault → ℕ → Type 0
-Enters levels left price (Ok below) rest = (levels ≡ below + 1) × (left ≡ price + rest)
-Enters levels left price (Err faults.TooDeep) rest = levels ≡ 0
-Enters levels left price (Err faults.TooCostly) rest = left < price
-Enters levels left price (Err other) rest = ⊥
+abbrev pub Charges : ℕ → ℕ → ℕ → Result ℕ WriteFault → ℕ → Type 0
+Charges levels left price (Ok below) rest = (levels ≡ below + 1) × (left ≡ price + rest)
+Charges levels left price (Err faults.TooDeep) rest = levels ≡ 0
+Charges levels left price (Err faults.TooCostly) rest = left < price
+Charges levels left price (Err other) rest = ⊥
 
--- Trees of this depth and cost were written within this many levels, and so much is left of what they may cost; or they
+-- Trees of this depth and cost were written within this many levels, and this much is left of what they may cost; or they
 -- pass one of these; or they weren't written, as the words are too many or memory ran out.
 abbrev pub Lays : {X : Type 0} → Room → ℕ → ℕ → Result X WriteFault → ℕ → ℕ → ℕ → Written → Written → Type 0
 Lays room levels left (Ok x) rest deep price wanted new = (deep ≤ levels) × (left ≡ price + rest) × (new ≡ wanted) × KeepsTo room new

@@ -20,13 +20,13 @@ pub record Room : Type 0 where
   pub words : ℕ
   pub segments : ℕ
 
--- a body of this many words fits into the last segment, in which its pointer stands
+-- a body of this many words fits into the last segment, in which its pointer is
 abbrev pub FitsHere : Room → ℕ → ℕ → Filled → Type 0
 FitsHere room s size f = (s ≡ f.last) × (f.used + size ≤ room.words)
 
--- it fits there with a landing pad before it, where its pointer stands in another segment
-abbrev pub FitsBehindPad : Room → ℕ → ℕ → Filled → Type 0
-FitsBehindPad room s size f = (s ≢ f.last) × (f.used + 1 + size ≤ room.words)
+-- it fits there with a landing pad before it, where its pointer is in another segment
+abbrev pub FitsAfterPad : Room → ℕ → ℕ → Filled → Type 0
+FitsAfterPad room s size f = (s ≢ f.last) × (f.used + 1 + size ≤ room.words)
 
 -- The body follows what the last segment has.
 pub record Follows (S : List (List ℕ)) (s p : ℕ) (k : Kind) (size : ℕ) (before : Filled) (s' start : ℕ) (after : Filled) : Type 0 where
@@ -57,19 +57,19 @@ abbrev pub IsEnd : List (List ℕ) → ℕ → Filled → ℕ → Type 0
 IsEnd S s f end = ((s ≡ f.last) × (end ≡ f.used)) ⊎ ((s ≢ f.last) × (end ≡ length (segment S s)))
 
 -- Where a body of this many words is placed whose pointer is word p of segment s. A body of no words is named directly, at
--- the end of its pointer's segment. What fits in the last segment, where its pointer stands, is named directly. Else a
--- landing pad with the body after it is placed: in the last segment, if the pointer stands in another and both fit; else in a
+-- the end of its pointer's segment. What fits in the last segment, if its pointer is there, is named directly. Else a
+-- landing pad with the body after it is placed: in the last segment, if the pointer is in another and both fit; else in a
 -- new segment. Where no segment may be begun any more, the body goes to the end of the last one, after a landing pad unless
--- its pointer stands there.
+-- its pointer is there.
 pub data Places (S : List (List ℕ)) (room : Room) (s p : ℕ) (k : Kind) (size : ℕ) (before : Filled) (s' start : ℕ) (after : Filled) : Type 0 where
   without_words : (none : size ≡ 0) (aims : AimsHere S s p k start) (same : s' ≡ s) (end : IsEnd S s before start) (fills : after ≡ before) → Places S room s p k size before s' start after
   here : (some : 0 < size) (fits : FitsHere room s size before) (follows : Follows S s p k size before s' start after) → Places S room s p k size before s' start after
-  behind_pad : (some : 0 < size) (not_here : ¬ (FitsHere room s size before)) (fits : FitsBehindPad room s size before) (follows : FollowsPad S s p k size before s' start after) → Places S room s p k size before s' start after
-  in_new : (some : 0 < size) (not_here : ¬ (FitsHere room s size before)) (not_behind : ¬ (FitsBehindPad room s size before)) (more : before.last + 1 < room.segments) (begins : Begins S s p k size before s' start after)
+  after_pad : (some : 0 < size) (not_here : ¬ (FitsHere room s size before)) (fits : FitsAfterPad room s size before) (follows : FollowsPad S s p k size before s' start after) → Places S room s p k size before s' start after
+  in_new : (some : 0 < size) (not_here : ¬ (FitsHere room s size before)) (not_behind : ¬ (FitsAfterPad room s size before)) (more : before.last + 1 < room.segments) (begins : Begins S s p k size before s' start after)
       → Places S room s p k size before s' start after
-  last_here : (some : 0 < size) (not_here : ¬ (FitsHere room s size before)) (not_behind : ¬ (FitsBehindPad room s size before)) (no_more : room.segments ≤ before.last + 1) (same : s ≡ before.last)
+  last_here : (some : 0 < size) (not_here : ¬ (FitsHere room s size before)) (not_behind : ¬ (FitsAfterPad room s size before)) (no_more : room.segments ≤ before.last + 1) (same : s ≡ before.last)
       (follows : Follows S s p k size before s' start after) → Places S room s p k size before s' start after
-  last_behind_pad : (some : 0 < size) (not_here : ¬ (FitsHere room s size before)) (not_behind : ¬ (FitsBehindPad room s size before)) (no_more : room.segments ≤ before.last + 1) (other : s ≢ before.last)
+  last_after_pad : (some : 0 < size) (not_here : ¬ (FitsHere room s size before)) (not_behind : ¬ (FitsAfterPad room s size before)) (no_more : room.segments ≤ before.last + 1) (other : s ≢ before.last)
       (follows : FollowsPad S s p k size before s' start after) → Places S room s p k size before s' start after
 
 -- the words hold the elements, and the bits after the last one are zero
@@ -108,7 +108,7 @@ abbrev mutual
   LaysBodies S room s q d n (body ws ts bs) before after =
       (mid : Filled) × (ws ≡ words_at S s q d) × LaysRow S room s (q + d) ts before mid × LaysBodies S room s (q + d + n) d n bs mid after
 
--- The segments that a tree is written into: segment 0 begins with the root's pointer, and nothing stands after what is
+-- The segments that a tree is written into: segment 0 begins with the root's pointer, and nothing comes after what is
 -- laid. A segment of no words counts as one of one word.
 pub record Layout (S : List (List ℕ)) (room : Room) (t : Node) : Type 0 where
   pub filled : Filled

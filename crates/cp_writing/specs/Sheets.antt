@@ -62,11 +62,11 @@ abbrev pub here : ℕ → ℕ → Kind → Written → Placed
 here s p k F = record { sheet = put s p (body_word k (end_of F s - (p + 1))) F; at = record { segment = s; word = end_of F s } }
 
 -- after a landing pad, at the end of the last segment
-abbrev pub behind_pad : ℕ → ℕ → Kind → Written → Placed
-behind_pad s p k F =
+abbrev pub after_pad : ℕ → ℕ → Kind → Written → Placed
+after_pad s p k F =
     record { sheet = append (body_word k 0 ∷ []) (put s p (word_of (pointers.Far false (length F.last) (length F.full))) F); at = record { segment = length F.full; word = length F.last + 1 } }
 
--- how many words a landing pad takes before a body whose pointer stands in a segment
+-- how many words a landing pad takes before a body whose pointer is in a segment
 abbrev pub pad_for : ℕ → Written → ℕ
 pad_for s F = if s == length F.full then 0 else 1
 
@@ -82,7 +82,7 @@ abbrev pub place_in : ℕ → ℕ → Kind → ℕ → Written → Placed
 place_in s p k size F =
     if size == 0 then here s p k F
     else (if s == length F.full then here s p k F
-    else behind_pad s p k F)
+    else after_pad s p k F)
 
 abbrev pub place_by : Room → ℕ → ℕ → Kind → ℕ → Written → Placed
 place_by room s p k size F = place_in s p k size (with_room room s size F)
@@ -95,7 +95,7 @@ IsRoom room = (0 < room.whole) × (room.whole ≤ 67108864) × (room.words < 2 ^
 abbrev pub KeepsTo : Room → Written → Type 0
 KeepsTo room F = IsRoom room × (F.words ≤ room.whole) × (length F.full < 512) × ((s : ℕ) → end_of F s ≤ F.words)
 
--- a word is there
+-- a word was written there
 abbrev pub IsPlace : Written → Place → Type 0
 IsPlace F at = (at.segment ≤ length F.full) × (at.word < end_of F at.segment)
 
@@ -114,6 +114,6 @@ Writes room (Err e) wanted new = Refuses room e wanted
 abbrev pub Places : Room → Result Place WriteFault → Placed → Written → Type 0
 Places room result wanted new = Writes room result wanted.sheet new × IfOk result (λ at. at ≡ wanted.at)
 
--- this many words are there from a place on
+-- this many words were written from a place on
 abbrev pub IsRun : Written → Place → ℕ → Type 0
 IsRun F at n = (at.segment ≤ length F.full) × (at.word + n ≤ end_of F at.segment)

@@ -71,7 +71,7 @@ abbrev mutual
   bodies_by room s q d n (body ws ts bs) F = bodies_by room s (q + d + n) d n bs (row_by room s (q + d) ts F)
 
 -- A body with n pointers was begun, and its pointers stand from a place on: whatever hangs on them, the tree is written
--- once that is. Or there was no room for it, and so there is none for the tree.
+-- once that is. Or a limit was met for it, and so one is met for the tree.
 abbrev pub Begins : Room → Place → ℕ → (Nodes → Node) → Result Place WriteFault → Written → Written → Type 0
 Begins room at n tree (Ok first) old new =
     KeepsTo room new

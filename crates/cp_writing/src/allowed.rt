@@ -1,14 +1,14 @@
 //! What the limits on nesting and on cost leave while a tree is written.
 
-ghost use Rattle.cp_writing.specs.Allowed.{Enters};
+ghost use Rattle.cp_writing.specs.Allowed.{Charges};
 
 use cp_tree::WriteFault;
 
-/// Goes one level down, to a body or a list that costs so much without what hangs on it. Gives how
+/// Goes one level down, to a body or a list that costs this much without what hangs on it. Gives how
 /// many levels are left below it.
 #[inline(always)]
-pub(crate) fn enter(levels: u32, left: &mut u64, price: u64) -> Result<u32, WriteFault>
-    ensures { Enters levels left.old price result left.new }
+pub(crate) fn charge(levels: u32, left: &mut u64, price: u64) -> Result<u32, WriteFault>
+    ensures { Charges levels left.old price result left.new }
 {
     if levels == 0 {
         return Err(WriteFault::TooDeep);

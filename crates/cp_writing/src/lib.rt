@@ -2,7 +2,6 @@
 #![tactic(auto)]
 
 mod allowed;
-mod draft_lay;
 mod laws;
 mod lay;
 mod lay_list;

@@ -4,7 +4,7 @@ ghost use Rattle.std.specs.Prelude.{ℕ, ◌≡◌, ◌<◌, ◌≤◌, ◌++◌
 ghost use Rattle.cp_tree.specs.NodeOf.{words_of};
 ghost use Rattle.cp_tree.specs.Node.{bits, bytes, halves, quads};
 ghost use Rattle.cp_writing.specs.Packed.{packed};
-ghost use Rattle.cp_writing.specs.Sheets.{written, lists, end_of, put, append, begin, place_by, body_word, IsNamed, with_room, here, behind_pad, IsRoom, KeepsTo, IsPlace, Writes, Places};
+ghost use Rattle.cp_writing.specs.Sheets.{written, lists, end_of, put, append, begin, place_by, body_word, IsNamed, with_room, here, after_pad, IsRoom, KeepsTo, IsPlace, Writes, Places};
 ghost use Rattle.cp_tree.specs.declared.fault.WriteFault.TheVariants.{TooManyWords};
 
 use crate::pack::{push_bits, push_bytes, push_halves, push_quads};
@@ -106,7 +106,7 @@ impl Sheet {
         }
     }
 
-    /// Writes a word at a place that is there.
+    /// Writes a word in place of one that was written.
     #[inline]
     pub fn put(&mut self, at: Place, word: u64)
         requires { IsPlace (written self.old) at }
@@ -193,7 +193,7 @@ impl Sheet {
         Ok(())
     }
 
-    /// Ends the last segment and begins a new one, with room for a landing pad and a body of this many words.
+    /// Ends the last segment and begins a new one, with capacity for a landing pad and a body of this many words.
     #[cold]
     fn begin(&mut self, size: usize) -> Result<(), AllocError>
         requires { size < 2 ^ 60 }
@@ -204,7 +204,7 @@ impl Sheet {
         Ok(())
     }
 
-    /// Begins a new segment, if a body of this many words, whose pointer stands in a segment, doesn't fit
+    /// Begins a new segment, if a body of this many words, whose pointer is in a segment, doesn't fit
     /// into the last one and a new one may be begun.
     #[inline(always)]
     fn make_room(&mut self, room: Room, segment: usize, size: usize) -> Result<(), AllocError>
@@ -242,11 +242,11 @@ impl Sheet {
     /// Names a body by a landing pad, and gives where it is to be written: after the landing pad, which is at the end
     /// of the last segment.
     #[cold]
-    fn place_behind_pad(&mut self, room: Room, at: Place, kind: Kind) -> Result<Place, WriteFault>
+    fn place_after_pad(&mut self, room: Room, at: Place, kind: Kind) -> Result<Place, WriteFault>
         requires keeps { KeepsTo room (written self.old) }
         requires there { IsPlace (written self.old) at }
         requires named { IsNamed kind }
-        ensures { Places room result (behind_pad at.segment at.word kind (written self.old)) (written self.new) }
+        ensures { Places room result (after_pad at.segment at.word kind (written self.old)) (written self.new) }
     {
         let place = self.last.len();
         let segment = self.full.len();
@@ -263,7 +263,7 @@ impl Sheet {
         })
     }
 
-    /// Places a body of this many words, whose pointer stands at a place: directly, or after a landing pad.
+    /// Places a body of this many words, whose pointer is at a place: directly, or after a landing pad.
     /// Gives where it is to be written.
     #[inline(always)]
     pub fn place(
@@ -283,6 +283,6 @@ impl Sheet {
         if size == 0 || at.segment == self.full.len() {
             return Ok(self.place_here(at, kind));
         }
-        self.place_behind_pad(room, at, kind)
+        self.place_after_pad(room, at, kind)
     }
 }

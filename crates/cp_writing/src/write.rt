@@ -4,76 +4,24 @@ ghost use Rattle.std.specs.Prelude.{◌≡◌, ◌≤◌, ◌<◌, ◌∷◌, []
 ghost use Rattle.cp_writing.specs.Layout.{Layout, Built};
 ghost use Rattle.cp_tree.specs.Node.{depth, cost};
 ghost use Rattle.cp_tree.specs.DraftOf.{draft_of};
+ghost use Rattle.cp_tree.specs.Lent.{node_in};
 ghost use Rattle.cp_tree.specs.Shaped.{Shaped};
 ghost use Rattle.cp_writing.specs.Sheets.{lists, written};
 ghost use Rattle.cp_writing.specs.Writes.{IsCostFaultOf, IsWriteFaultOf, FitsIn};
 ghost use Rattle.cp_writing.specs.LaidOut.{room_for, laid_out, MeetsLimit};
 
-use crate::draft_lay::lay_draft;
+use crate::lay::lay;
 use crate::sheet::{Room, Sheet};
-use cp_tree::{Draft, Object, WriteFault, draft_nests};
+use cp_tree::{Draft, Object, TreeRef, WriteFault, nests};
 use cp_words::{Limits, Place, Segments};
 use std::alloc::Global;
 
-/// A segment begins with room for this many words, if it may have them.
+/// A segment begins with capacity for this many words, if it may have them.
 const FIRST_WORDS: usize = 128;
-
-/// Whether the tree keeps to the limits on nesting and on cost.
-#[cold]
-fn keeps_to(draft: &Draft, limits: Limits) -> Result<(), WriteFault>
-    ensures fits { OnOk result (FitsIn limits (draft_of draft.now)) }
-    ensures refused { IfErr result (IsCostFaultOf limits (draft_of draft.now)) }
-{
-    let mut left = Some(limits.traversal() as u64);
-    if !draft_nests(draft, limits.nesting(), &mut left) {
-        return Err(WriteFault::TooDeep);
-    }
-    match left {
-        Some(_) => Ok(()),
-        None => Err(WriteFault::TooCostly),
-    }
-}
-
-/// The tree written into segments of at most this many words each, and of them at most this many.
-fn lay_out(
-    alloc: Global,
-    draft: &Draft,
-    words: u32,
-    segments: u32,
-    limits: Limits,
-) -> Result<Sheet, WriteFault>
-    requires shaped { Shaped (draft_of draft.now) }
-    requires few { segments ≤ 512 }
-    ensures written { IfOk result (λ w. written w ≡ laid_out (room_for words segments limits) (draft_of draft.now)) }
-    ensures fits { OnOk result (FitsIn limits (draft_of draft.now)) }
-    ensures within { IfOk result (λ w. (written w).words ≤ limits.frame_words) }
-    ensures small { IfOk result (λ w. (written w).words ≤ 67108864) }
-    ensures refused { IfErr result (MeetsLimit limits (room_for words segments limits) (draft_of draft.now)) }
-{
-    let room = Room {
-        words: words as usize,
-        segments: segments as usize,
-        whole: limits.frame_words() as usize,
-    };
-    let mut sheet = Sheet::new(alloc, room, room.words.min(FIRST_WORDS))?;
-    let root = Place {
-        segment: 0,
-        word: 0,
-    };
-    let mut left = limits.traversal() as u64;
-    match lay_draft(&mut sheet, room, root, draft, limits.nesting(), &mut left) {
-        Ok(()) => Ok(sheet),
-        Err(WriteFault::OutOfMemory) => Err(WriteFault::OutOfMemory),
-        Err(fault) => {
-            keeps_to(draft, limits)?;
-            Err(fault)
-        }
-    }
-}
 
 /// Writes a tree with lent parts, of one that a message can hold, into segments of at most this many
 /// words, in the order of its pointers (encoding specification, "Messages", "Inter-Segment
-/// Pointers"). 0 counts as 1. What doesn't fit where its pointer stands goes after a landing pad of one word;
+/// Pointers"). 0 counts as 1. What doesn't fit in its pointer's segment goes after a landing pad of one word;
 /// a body that is larger than a segment has a segment of its own. B1 if the tree nests deeper than the
 /// limit, else B2 if it costs more, else B4 if its segments have more words together than a frame may
 /// have; B3 if memory runs out.
@@ -90,7 +38,8 @@ pub fn write_draft(
     ensures refused { IfErr result (IsWriteFaultOf limits (record { words = max_words; segments = limits.segments }) (draft_of draft.now)) }
 {
     let words = if max_words == 0 { 1 } else { max_words };
-    let sheet = lay_out(alloc, draft, words, limits.segments(), limits)?;
+    let tree = TreeRef::Draft(draft);
+    let sheet = lay_out(alloc, tree, words, limits.segments(), limits)?;
     Ok(sheet.into_segments()?)
 }
 
@@ -119,7 +68,60 @@ pub fn write_root(alloc: Global, object: &Object, limits: Limits) -> Result<Vec<
     ensures small { IfOk result (λ v. length v.items ≤ limits.frame_words) }
     ensures refused { IfErr result (IsWriteFaultOf limits (record { words = limits.frame_words; segments = 1 }) object.now) }
 {
-    let draft = Draft::Lent(object.tree());
-    let sheet = lay_out(alloc, &draft, limits.frame_words(), 1, limits)?;
+    let tree = TreeRef::Tree(object.tree());
+    let sheet = lay_out(alloc, tree, limits.frame_words(), 1, limits)?;
     Ok(sheet.into_last())
+}
+
+/// The tree written into segments of at most this many words each, and of them at most this many.
+fn lay_out(
+    alloc: Global,
+    tree: TreeRef,
+    words: u32,
+    segments: u32,
+    limits: Limits,
+) -> Result<Sheet, WriteFault>
+    requires shaped { Shaped (node_in tree) }
+    requires few { segments ≤ 512 }
+    ensures written { IfOk result (λ w. written w ≡ laid_out (room_for words segments limits) (node_in tree.entry)) }
+    ensures fits { OnOk result (FitsIn limits (node_in tree.entry)) }
+    ensures within { IfOk result (λ w. (written w).words ≤ limits.frame_words) }
+    ensures small { IfOk result (λ w. (written w).words ≤ 67108864) }
+    ensures refused { IfErr result (MeetsLimit limits (room_for words segments limits) (node_in tree.entry)) }
+{
+    let room = Room {
+        words: words as usize,
+        segments: segments as usize,
+        whole: limits.frame_words() as usize,
+    };
+    let mut sheet = Sheet::new(alloc, room, room.words.min(FIRST_WORDS))?;
+    let root = Place {
+        segment: 0,
+        word: 0,
+    };
+    let mut left = limits.traversal() as u64;
+    match lay(&mut sheet, room, root, tree, limits.nesting(), &mut left) {
+        Ok(()) => Ok(sheet),
+        Err(WriteFault::OutOfMemory) => Err(WriteFault::OutOfMemory),
+        Err(fault) => {
+            keeps_to(tree, limits)?;
+            Err(fault)
+        }
+    }
+}
+
+/// Whether the tree keeps to the limits on nesting and on cost.
+#[cold]
+fn keeps_to(tree: TreeRef, limits: Limits) -> Result<(), WriteFault>
+    ensures fits { OnOk result (FitsIn limits (node_in tree.entry)) }
+    ensures refused { IfErr result (IsCostFaultOf limits (node_in tree.entry)) }
+{
+    let mut left = Some(limits.traversal() as u64);
+    if !nests(tree, limits.nesting(), &mut left) {
+        return Err(WriteFault::TooDeep);
+    }
+    match left {
+        Some(_) => Ok(()),
+        None => Err(WriteFault::TooCostly),
+    }
 }

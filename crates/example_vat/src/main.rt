@@ -76,7 +76,7 @@ fn effects_of(given: Result<Acted<()>, VatFault>) -> anyhow::Result<Vec<Effect>>
     Ok(given?.effects.into_effects())
 }
 
-/// The word of what a question came to, if the effect tells it.
+/// The word of what a question came to, if the effect says it.
 fn word_told(effect: &Effect, asked: u32) -> Option<u64> {
     match effect {
         Effect::Settled {

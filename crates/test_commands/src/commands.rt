@@ -709,7 +709,7 @@ fn expect_memory_told(rt: &impl Abort, alloc: Global, plan: Plan, bytes: &[u8]) 
 
 // With ample memory no allocation fails. `rt try --test --fail-alloc N` fails the Nth.
 #[test]
-fn want_of_memory_is_told(rt: HostRuntime) {
+fn allocation_failure_is_reported(rt: HostRuntime) {
     let words = 3;
     for (mode, bytes) in [
         (Mode::Plain, PLAIN.as_slice()),

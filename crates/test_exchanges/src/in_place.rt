@@ -126,7 +126,7 @@ fn expect_nothing(rt: &impl Abort, alloc: Global, segments: &Segments) {
 
 // This test and the next take as much memory: bench/memory/sweep.sh counts the allocations of each.
 #[test]
-fn want_of_memory_at_faults_without_a_content(rt: HostRuntime) {
+fn allocation_failure_at_faults_without_a_content(rt: HostRuntime) {
     let alloc = rt.alloc();
     let call = message(&rt, alloc, &CALL, 11, NONE);
     expect_fault(&rt, alloc, &call, PeerFault::UnknownExport);
@@ -141,7 +141,7 @@ fn want_of_memory_at_faults_without_a_content(rt: HostRuntime) {
 }
 
 #[test]
-fn want_of_memory_at_faults_with_a_content(rt: HostRuntime) {
+fn allocation_failure_at_faults_with_a_content(rt: HostRuntime) {
     let alloc = rt.alloc();
     let call = message(&rt, alloc, &CALL, 11, FOUR);
     expect_fault(&rt, alloc, &call, PeerFault::UnknownExport);
@@ -177,7 +177,7 @@ fn expect_settled(rt: &impl Abort, vat: &mut Vat, segments: &Segments) {
 
 /// A content that is kept is made, unless memory runs out.
 #[test]
-fn want_of_memory_for_a_content_that_is_kept(rt: HostRuntime) {
+fn allocation_failure_for_a_content_that_is_kept(rt: HostRuntime) {
     let segments = message(&rt, rt.alloc(), &RETURN, 6, FOUR);
     let mut vat = Vat::new(rt.alloc(), None);
     if vat.bootstrap().is_ok() {

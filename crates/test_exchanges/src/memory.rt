@@ -54,7 +54,7 @@ fn play(rt: &impl Abort, vat: &mut Vat, event: Event, was_closed: bool) -> bool 
 }
 
 #[test]
-fn a_growth_of_memory_that_is_refused_closes_the_vat(rt: HostRuntime) {
+fn allocation_failure_closes_the_vat(rt: HostRuntime) {
     let mut vat = Vat::new(rt.alloc(), Some(0));
     let mut is_closed = false;
     for line in SCRIPT.trim().lines() {

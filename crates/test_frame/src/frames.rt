@@ -66,7 +66,7 @@ fn expect_frame(rt: &impl Abort, frame: &(u64, Segments), taken: usize, segments
     }
 }
 
-/// The lists, one after another, are these words.
+/// The segments, one after another, are these words.
 pub fn expect_joined(rt: &impl Abort, lists: &[Vec<u64>], words: &[u64]) {
     let mut rest = words;
     for list in lists {
@@ -600,7 +600,7 @@ fn a_frame_goes_out_to_a_writer(rt: HostRuntime) {
 
 // With ample memory no allocation fails. `rt try --test --fail-alloc N` fails the Nth.
 #[test]
-fn want_of_memory_is_told_and_then_failed(rt: HostRuntime) {
+fn allocation_failure_is_reported_and_then_failed(rt: HostRuntime) {
     let mut reader = new_reader(rt.alloc());
     for piece in [
         &FINISH[..],
@@ -631,7 +631,7 @@ fn take_and_reuse(reader: &mut FrameReader, piece: &[u8]) -> Result<(), FrameFau
 }
 
 #[test]
-fn want_of_memory_is_told_where_frames_are_taken_one_by_one(rt: HostRuntime) {
+fn allocation_failure_is_reported_where_frames_are_taken_one_by_one(rt: HostRuntime) {
     let mut reader = new_reader(rt.alloc());
     for piece in [
         &FINISH[..],

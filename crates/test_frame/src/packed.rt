@@ -133,7 +133,7 @@ fn go_round(alloc: Global, words: &[u64]) -> Result<usize, FrameFault> {
 // With ample memory no allocation fails. `rt try --test --fail-alloc N` fails the Nth of each
 // of the three tests below.
 #[test]
-fn want_of_memory_is_told_in_packing(rt: HostRuntime) {
+fn allocation_failure_is_reported_in_packing(rt: HostRuntime) {
     match go_round(rt.alloc(), &TWO.1) {
         Ok(length) => assert!(rt; length == 10),
         Err(fault) => assert!(rt; fault == FrameFault::OutOfMemory),
@@ -164,7 +164,7 @@ fn two_segments(rt: &impl Abort, alloc: Global) -> Segments {
 }
 
 #[test]
-fn want_of_memory_leaves_nothing_written(rt: HostRuntime) {
+fn allocation_failure_leaves_nothing_written(rt: HostRuntime) {
     let segments = two_segments(&rt, rt.alloc());
     let mut out = Vec::new(rt.alloc());
     for (mode, length) in [(Mode::Packed, 15), (Mode::Plain, 56), (Mode::Packed, 15)] {
@@ -196,7 +196,7 @@ fn send(
 }
 
 #[test]
-fn want_of_memory_leaves_nothing_sent(rt: HostRuntime) {
+fn allocation_failure_leaves_nothing_sent(rt: HostRuntime) {
     let segments = two_segments(&rt, rt.alloc());
     let mut room = Vec::new(rt.alloc());
     for sent in [(Mode::Packed, 15), (Mode::Plain, 56), (Mode::Packed, 15)] {

@@ -159,7 +159,7 @@ fn what_is_held_follows_the_packed_bytes(rt: HostRuntime) {
     drop(reader);
 }
 
-/// A frame comes, and the fault of what stands after it is kept.
+/// A frame comes, and the fault of what comes after it is kept.
 fn expect_kept(rt: &impl Abort, alloc: Global, stream: &[u8], fault: FrameFault) {
     let mut reader = new_reader(alloc);
     expect_fed(rt, &mut reader, stream, Ok(1));
@@ -243,7 +243,7 @@ fn packed_frames_follow_one_another(rt: HostRuntime) {
 
 // With ample memory no allocation fails. `rt try --test --fail-alloc N` fails the Nth.
 #[test]
-fn want_of_memory_is_told_in_a_packed_stream(rt: HostRuntime) {
+fn allocation_failure_is_reported_in_a_packed_stream(rt: HostRuntime) {
     let mut reader = new_reader(rt.alloc());
     let two = [0x11, 1, 1, 0x01, 2, 0, 0, 0, 1];
     for piece in [&FINISH[..], &two[..5], &two[5..], &BOOTSTRAP[..]] {

@@ -1,7 +1,7 @@
 //! What an outcome gives, and where calls go: chains of promises, and questions.
 
 use cp_refs::{
-    Cap, Caps, Gate, Outcome, Path, PromiseId, Question, QuestionKind, Route, Values, at,
+    Cap, Caps, Gate, KeptOutcome, Outcome, Path, PromiseId, Question, QuestionKind, Route, Values,
 };
 use cp_rpc::{Exception, ExceptionKind, Text};
 use cp_tree::{Body, Tree, Whole};
@@ -33,9 +33,15 @@ fn results(rt: &impl Abort, alloc: Global) -> Outcome {
     }
 }
 
+/// What is kept of an outcome gives this at a path.
+fn at(rt: &impl Abort, alloc: Global, outcome: &Outcome, path: &[u16]) -> Cap {
+    let kept = KeptOutcome::of(alloc, outcome).expect(rt, "memory");
+    kept.at(alloc, path).expect(rt, "memory")
+}
+
 /// The number of the object or the import at a path, and 0 for null.
 fn number_at(rt: &impl Abort, alloc: Global, outcome: &Outcome, path: &[u16]) -> Option<u32> {
-    match at(alloc, outcome, path).expect(rt, "memory") {
+    match at(rt, alloc, outcome, path) {
         Cap::None => Some(0),
         Cap::Object(id) => Some(id),
         Cap::Import(id) => Some(id),
@@ -85,7 +91,7 @@ fn exception(rt: &impl Abort, alloc: Global, reason: &str) -> Exception {
 
 /// A path gives a capability that is broken for this reason.
 fn expect_broken(rt: &impl Abort, alloc: Global, outcome: &Outcome, path: &[u16], wanted: &str) {
-    let cap = at(alloc, outcome, path).expect(rt, "memory");
+    let cap = at(rt, alloc, outcome, path);
     assert!(rt; reason(&cap) == wanted);
     drop(cap);
 }

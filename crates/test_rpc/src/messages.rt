@@ -55,7 +55,7 @@ fn expect_abort(rt: &impl Abort, alloc: Global, words: &[u64], reason: &str, tra
     drop(copy);
 }
 
-/// Why the view of a root struct says nothing, as its check tells too.
+/// Why the view of a root struct says nothing, as its check says too.
 fn fault_of(rt: &impl Abort, alloc: Global, words: &[u64]) -> Option<SchemaFault> {
     let segments = segment(rt, alloc, words);
     let root = View::root(&segments, Limits::standard()).expect(rt, "a root");

@@ -467,7 +467,7 @@ fn is_read_again(alloc: Global, root: &Object) -> bool {
 // With ample memory no allocation fails. `rt try --test --fail-alloc N` fails the Nth of each
 // of the three tests below.
 #[test]
-fn want_of_memory_while_messages_are_read(rt: HostRuntime) {
+fn allocation_failure_while_messages_are_read(rt: HostRuntime) {
     for words in ALL_PARTS {
         let root = root_again(&rt, rt.alloc(), words);
         assert!(rt; is_read_again(rt.alloc(), &root));
@@ -507,7 +507,7 @@ fn expect_made(rt: &impl Abort, alloc: Global, root: &Object) {
 }
 
 #[test]
-fn want_of_memory_while_trees_are_made(rt: HostRuntime) {
+fn allocation_failure_while_trees_are_made(rt: HostRuntime) {
     for words in ALL_PARTS {
         expect_made(&rt, rt.alloc(), &root_again(&rt, rt.alloc(), words));
     }
@@ -546,7 +546,7 @@ fn expect_copied(rt: &impl Abort, alloc: Global, root: &Object) {
 }
 
 #[test]
-fn want_of_memory_while_messages_are_copied(rt: HostRuntime) {
+fn allocation_failure_while_messages_are_copied(rt: HostRuntime) {
     for words in ALL_PARTS {
         expect_copied(&rt, rt.alloc(), &root_again(&rt, rt.alloc(), words));
     }

@@ -287,7 +287,7 @@ fn expect_whole_or_memory(rt: &impl Abort, alloc: Global, bytes: &[u8], answers:
 
 // With ample memory no allocation fails. bench/memory/sweep.sh makes each fail in turn.
 #[test]
-fn want_of_memory_is_told(rt: HostRuntime) {
+fn allocation_failure_is_reported(rt: HostRuntime) {
     let alloc = rt.alloc();
     let calls = [BOOTSTRAP.1, LATER.1, ADD_FIVE.1];
     let (Some(bytes), Some(answers)) = (prepared(alloc, &calls), prepared(alloc, &[ANSWERS])) else {

@@ -2,7 +2,7 @@
 
 use crate::marks::embargo;
 use cp_machine::ImportKind;
-use cp_refs::{Cap, Caps, Gate, Held, Origin, Outcome, Path, PromiseId, Request};
+use cp_refs::{Cap, Caps, Gate, Held, KeptOutcome, Origin, Outcome, Path, PromiseId, Request};
 use cp_state::{Core, Gift, Hosted};
 use cp_tree::Whole;
 use std::alloc::Global;
@@ -83,9 +83,14 @@ fn check_questions(rt: &impl Abort, core: &mut Core) {
     assert!(rt; !core.is_question_used(8));
 }
 
+fn kept(rt: &impl Abort, alloc: Global, outcome: &Outcome) -> KeptOutcome {
+    KeptOutcome::of(alloc, outcome).expect(rt, "memory")
+}
+
 /// A question isn't used any more once the calls left that wait at it or name it.
 fn check_calls_left(rt: &impl Abort, core: &mut Core) {
-    let ended = core.gates.end(Gift::Question(6, Outcome::Canceled));
+    let canceled = kept(rt, core.alloc, &Outcome::Canceled);
+    let ended = core.gates.end(Gift::Question(6, canceled));
     ended.expect(rt, "memory");
     drop(core.gates.next().expect(rt, "memory"));
     assert!(rt; !core.is_question_used(6));
@@ -99,6 +104,7 @@ fn answer(rt: &impl Abort, core: &mut Core, id: u32, import: u32) {
         content: Whole::null(),
         caps: Caps::new(caps.expect(rt, "memory")),
     };
+    let results = kept(rt, core.alloc, &results);
     let put = core.values.put_answer(id, Some(results));
     put.expect(rt, "memory");
 }
@@ -109,7 +115,8 @@ fn check_answers(rt: &impl Abort, core: &mut Core) {
     answer(rt, core, 2, 6);
     core.values.remove_answer(1);
     assert!(rt; core.is_import_used(6));
-    let put = core.values.put_answer(2, Some(Outcome::Canceled));
+    let canceled = kept(rt, core.alloc, &Outcome::Canceled);
+    let put = core.values.put_answer(2, Some(canceled));
     put.expect(rt, "memory");
     assert!(rt; !core.is_import_used(6));
 }

@@ -1,9 +1,10 @@
 //! What promises, imports, answers and questions came to, and the application's own promises.
 
 use cp_machine::PeerFault;
-use cp_refs::{Cap, Outcome, PromiseId, QuestionKind};
+use cp_refs::{Cap, KeptOutcome, Outcome, PromiseId, QuestionKind};
 use cp_state::{Halt, NumberedValues, OwnPromises};
 use cp_tables::TableFault;
+use std::alloc::Global;
 use std::process::Abort;
 
 /// Opens a promise.
@@ -69,11 +70,16 @@ fn check_imports(rt: &impl Abort, values: &mut NumberedValues) {
     assert!(rt; values.values().import(5).is_none());
 }
 
+/// Nothing, kept.
+fn canceled(rt: &impl Abort, alloc: Global) -> KeptOutcome {
+    KeptOutcome::of(alloc, &Outcome::Canceled).expect(rt, "memory")
+}
+
 /// An answer came to something, until it is taken out.
-fn check_answers(rt: &impl Abort, values: &mut NumberedValues) {
-    let put = values.put_answer(5, Some(Outcome::Canceled));
+fn check_answers(rt: &impl Abort, alloc: Global, values: &mut NumberedValues) {
+    let put = values.put_answer(5, Some(canceled(rt, alloc)));
     put.expect(rt, "memory");
-    assert!(rt; matches!(values.values().answer(5), Some(Some(Outcome::Canceled))));
+    assert!(rt; matches!(values.values().answer(5), Some(Some(_))));
     values.remove_answer(5);
     assert!(rt; values.values().answer(5).is_none());
 }
@@ -82,12 +88,12 @@ fn check_answers(rt: &impl Abort, values: &mut NumberedValues) {
 fn imports_and_answers_come_to_something(rt: HostRuntime) {
     let mut values = NumberedValues::new(rt.alloc());
     check_imports(&rt, &mut values);
-    check_answers(&rt, &mut values);
+    check_answers(&rt, rt.alloc(), &mut values);
 }
 
-/// Settles a question, if it is there.
-fn cancel(rt: &impl Abort, values: &mut NumberedValues, id: u32) {
-    let settled = values.settle_question(id, Outcome::Canceled);
+/// Settles a question, if it exists.
+fn cancel(rt: &impl Abort, alloc: Global, values: &mut NumberedValues, id: u32) {
+    let settled = values.settle_question(id, canceled(rt, alloc));
     settled.expect(rt, "memory");
 }
 
@@ -103,9 +109,9 @@ fn questions_come_to_something(rt: HostRuntime) {
     let opened = values.open_question(5, QuestionKind::Wire);
     opened.expect(&rt, "memory");
     expect_question(&rt, &values, 5, false);
-    cancel(&rt, &mut values, 5);
+    cancel(&rt, rt.alloc(), &mut values, 5);
     expect_question(&rt, &values, 5, true);
-    cancel(&rt, &mut values, 6);
+    cancel(&rt, rt.alloc(), &mut values, 6);
     assert!(rt; values.values().question(6).is_none());
     values.remove_question(5);
     assert!(rt; values.values().question(5).is_none());

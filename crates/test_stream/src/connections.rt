@@ -530,7 +530,7 @@ fn lying_frames<'a>() -> [(Mode, &'a [u8]); 4] {
 // With ample memory no allocation fails. `rt try --test --fail-alloc N` fails the Nth of each
 // of the four tests below.
 #[test]
-fn want_of_memory_while_a_message_is_read(rt: HostRuntime) {
+fn allocation_failure_while_a_message_is_read(rt: HostRuntime) {
     for (mode, frame) in lying_frames() {
         let mut from = tap_of(frame, 0);
         expect_there(&rt, read(rt.alloc(), &mut from, mode));
@@ -539,7 +539,7 @@ fn want_of_memory_while_a_message_is_read(rt: HostRuntime) {
     }
 }
 
-/// Something was there, or memory ran out.
+/// Something was read, or memory ran out.
 fn expect_there(rt: &impl Abort, found: Result<bool, StreamFault>) {
     match found {
         Ok(there) => assert!(rt; there),
@@ -548,7 +548,7 @@ fn expect_there(rt: &impl Abort, found: Result<bool, StreamFault>) {
 }
 
 #[test]
-fn want_of_memory_while_a_frame_is_read(rt: HostRuntime) {
+fn allocation_failure_while_a_frame_is_read(rt: HostRuntime) {
     for (mode, frame) in lying_frames() {
         let mut from = tap_of(frame, 0);
         let found = read_segments(rt.alloc(), &mut from, mode, Limits::standard());
@@ -559,7 +559,7 @@ fn want_of_memory_while_a_frame_is_read(rt: HostRuntime) {
 }
 
 #[test]
-fn want_of_memory_while_a_packed_stream_is_fed(rt: HostRuntime) {
+fn allocation_failure_while_a_packed_stream_is_fed(rt: HostRuntime) {
     let mut reader = MessageReader::packed(rt.alloc(), Limits::standard());
     for piece in [&PACKED[..], &PACKED_RETURN[..7], &PACKED_RETURN[7..]] {
         if let Err(fault) = reader.feed(piece) {
@@ -583,7 +583,7 @@ fn expect_whole_or_none(rt: &impl Abort, alloc: Global, message: &Message, mode:
 }
 
 #[test]
-fn want_of_memory_writes_nothing(rt: HostRuntime) {
+fn allocation_failure_writes_nothing(rt: HostRuntime) {
     let alloc = rt.alloc();
     for (mode, frame) in lying_frames() {
         let found = read_message(alloc, &mut tap_of(frame, 0), mode, Limits::standard());

@@ -250,7 +250,7 @@ pub(crate) fn expect_failed(rt: &impl Abort, reader: &mut MessageReader, fault: 
 
 // With ample memory no allocation fails. `rt try --test --fail-alloc N` fails the Nth.
 #[test]
-fn want_of_memory_is_told_and_then_failed(rt: HostRuntime) {
+fn allocation_failure_is_reported_and_then_failed(rt: HostRuntime) {
     let mut reader = new_reader(rt.alloc());
     for piece in [&FINISH[..], &TWO_SEGMENTS[..13], &TWO_SEGMENTS[13..]] {
         if let Some(fault) = told(&mut reader, piece) {
@@ -394,7 +394,7 @@ pub(crate) fn read(alloc: Global, from: &mut Tap<Source>, mode: Mode) -> Result<
     read_message(alloc, from, mode, Limits::standard()).map(|found| found.is_some())
 }
 
-/// A message is read, or none is there, or this fault is reported.
+/// A message is read, or there is none, or this fault is reported.
 pub(crate) fn expect_read(
     rt: &impl Abort,
     alloc: Global,
@@ -409,7 +409,7 @@ pub(crate) fn expect_bytes(rt: &impl Abort, bytes: &[u8], wanted: &[u8]) {
     assert_eq!(rt; bytes, wanted);
 }
 
-/// Of a frame that stands twice exactly one is read, then the other, and then none.
+/// Of a frame that comes twice exactly one is read, then the other, and then none.
 fn expect_two(rt: &impl Abort, alloc: Global, mode: Mode, frame: &[u8]) {
     let stream = joined(rt, alloc, frame, frame);
     let mut from = tap_of(&stream, 0);

@@ -548,13 +548,13 @@ fn reads_again(rt: &impl Abort, alloc: Global, lists: &[&str]) -> bool {
 // With ample memory no allocation fails. `rt try --test --fail-alloc N` fails the Nth of each
 // of the five tests below.
 #[test]
-fn want_of_memory_for_a_message(rt: HostRuntime) {
+fn allocation_failure_for_a_message(rt: HostRuntime) {
     assert!(rt; reads_again(&rt, rt.alloc(), &[FINISH]));
     assert!(rt; reads_again(&rt, rt.alloc(), &["0200000001000000", FINISH]));
 }
 
 #[test]
-fn want_of_memory_behind_two_words(rt: HostRuntime) {
+fn allocation_failure_after_two_words(rt: HostRuntime) {
     let by_two = [
         "0600000001000000",
         "0200000002000000 0000000001000100",
@@ -566,7 +566,7 @@ fn want_of_memory_behind_two_words(rt: HostRuntime) {
 }
 
 #[test]
-fn want_of_memory_for_lists(rt: HostRuntime) {
+fn allocation_failure_for_lists(rt: HostRuntime) {
     for list in [
         "0000000000000100 0100000048000000 0500000000000000",
         "0000000000000100 0100000021000000 0500000000000000",
@@ -580,7 +580,7 @@ fn want_of_memory_for_lists(rt: HostRuntime) {
 }
 
 #[test]
-fn want_of_memory_for_lists_of_pointers_and_structs(rt: HostRuntime) {
+fn allocation_failure_for_lists_of_pointers_and_structs(rt: HostRuntime) {
     let pointers = "0000000000000100 0100000016000000 0000000000000000 0300000009000000";
     assert!(rt; reads_again(&rt, rt.alloc(), &[pointers]));
     assert!(rt; reads_again(&rt, rt.alloc(), &[TWO_STRUCTS]));
@@ -588,7 +588,7 @@ fn want_of_memory_for_lists_of_pointers_and_structs(rt: HostRuntime) {
 }
 
 #[test]
-fn want_of_memory_for_nested_structs(rt: HostRuntime) {
+fn allocation_failure_for_nested_structs(rt: HostRuntime) {
     let text = nested(&rt, rt.alloc(), 64);
     assert!(rt; reads_again(&rt, rt.alloc(), &[text.as_str()]));
     drop(text);

@@ -18,7 +18,7 @@ fn object(rt: &impl Abort, tree: Tree) -> Object {
     Object::new(tree).ok().expect(rt, "an object")
 }
 
-/// Whether the lists are these, each by its words.
+/// Whether the segments are these, each by its words.
 fn are(lists: &[Vec<u64>], wanted: &[&str]) -> bool {
     if lists.len() != wanted.len() {
         return false;
@@ -330,7 +330,7 @@ fn writes_segments_again(alloc: Global, object: &Object, max_words: u32) -> bool
 // With ample memory no allocation fails. `rt try --test --fail-alloc N` fails the Nth of each
 // of the three tests below.
 #[test]
-fn want_of_memory_while_segments_are_written(rt: HostRuntime) {
+fn allocation_failure_while_segments_are_written(rt: HostRuntime) {
     let object = object_of_all_kinds(&rt, rt.alloc());
     for max_words in [0, 4, 8_388_608] {
         assert!(rt;
@@ -364,13 +364,13 @@ fn writes_words_again(alloc: Global, object: &Object) -> bool {
 }
 
 #[test]
-fn want_of_memory_while_one_segment_is_written(rt: HostRuntime) {
+fn allocation_failure_while_one_segment_is_written(rt: HostRuntime) {
     let object = object_of_all_kinds(&rt, rt.alloc());
     assert!(rt; writes_words_again(rt.alloc(), &object));
     drop(object);
 }
 
-/// A struct of more words than a segment begins with room for. An allocation that fails once is tried again.
+/// A struct of more words than a segment's first capacity. An allocation that fails once is tried again.
 fn object_of_many_words(rt: &impl Abort, alloc: Global) -> Object {
     let words = match Vec::from_slice(alloc, &[7; 300]) {
         Ok(words) => words,
@@ -381,7 +381,7 @@ fn object_of_many_words(rt: &impl Abort, alloc: Global) -> Object {
 }
 
 #[test]
-fn want_of_memory_while_a_segment_grows(rt: HostRuntime) {
+fn allocation_failure_while_a_segment_grows(rt: HostRuntime) {
     let object = object_of_many_words(&rt, rt.alloc());
     assert!(rt; writes_words_again(rt.alloc(), &object));
     drop(object);
@@ -416,7 +416,7 @@ fn writes_again(alloc: Global, draft: &Draft) -> bool
 }
 
 #[test]
-fn want_of_memory_while_a_draft_is_written(rt: HostRuntime) {
+fn allocation_failure_while_a_draft_is_written(rt: HostRuntime) {
     let alloc = rt.alloc();
     let lent = object_of_all_kinds(&rt, alloc);
     if let Ok(draft) = drafted(alloc, lent.tree()) {

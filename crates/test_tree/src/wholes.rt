@@ -146,7 +146,7 @@ fn list_of(rt: &impl Abort, alloc: Global, segments: &Segments) -> Whole {
 
 // With ample memory no allocation fails. `rt try --test --fail-alloc N` fails the Nth.
 #[test]
-fn want_of_memory_while_trees_are_copied(rt: HostRuntime) {
+fn allocation_failure_while_trees_are_copied(rt: HostRuntime) {
     let alloc = rt.alloc();
     let segments = segments(&rt, alloc, &[WHOLE]);
     let object = object_of(&rt, alloc, &segments);

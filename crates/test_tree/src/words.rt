@@ -136,7 +136,7 @@ fn bodies_are_counted(rt: HostRuntime) {
     assert!(rt; decode_tag(1).is_none());
 }
 
-/// Whether no segments are these lists.
+/// Whether no segments are these.
 fn is_refused(lists: Vec<Vec<u64>>) -> bool {
     Segments::new(lists).is_err()
 }

@@ -1,4 +1,4 @@
--- No run delivers a call at once behind those that were sent on the same reference.
+-- No run delivers a call at once after those that were sent on the same reference.
 use Rattle.std.specs.Prelude.{◌≡◌, refl, ℕ, zero, suc, Bool, true, false, List, [], ◌∷◌, ◌++◌, Option, Some, None, Result, Ok}
 use Rattle.std.proofs.Common.{sym, ap, ◌∙◌, true≢false}
 use Rattle.std.specs.Ordering.{nat_cmp}

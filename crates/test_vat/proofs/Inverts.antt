@@ -42,7 +42,7 @@ some_inj {x = x} e = ap (some_or x) e
 pub none_not_some : {A : Type 0} {x : A} → None ≡ Some x → ⊥
 none_not_some e = true≢false (sym (ap is_some e))
 
--- what follows gave its result behind a first one
+-- what follows gave its result after a first one
 pub then_ok : {A B F : Type 0} (First : Result A F → Type 0) (next : A → Result B F → Type 0) (y : B) → Then First next (Ok y) → (x : A) × First (Ok x) × next x (Ok y)
 then_ok First next y (Ok x, holds, follows) = (x, holds, follows)
 then_ok First next y (Err fault, holds, is) = absurd (err_not_ok (sym is))

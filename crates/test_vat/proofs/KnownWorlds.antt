@@ -129,7 +129,7 @@ pub plays : (w : KnownWorld) (turns : List (Side × Moment)) → map turn_of (ma
     → Plays (world w) turns (map move (moves_of (find_moves w turns)))
 plays w turns e = (are_moves (find_moves w turns), e)
 
--- the world behind them
+-- the world after them
 abbrev pub last_known : KnownWorld → List KnownMove → KnownWorld
 last_known w [] = w
 last_known w (m ∷ more) = last_known m.behind more

@@ -30,7 +30,7 @@ last_told = return_message 2 (results one_object (descriptors.SenderHosted 1 ∷
 abbrev later : List Message
 later = promise_told ∷ last_told ∷ []
 
--- what holds of each message and those behind it
+-- what holds of each message and those after it
 abbrev EachBehind : (Message → List Message → Type 0) → List Message → Type 0
 EachBehind Holds [] = Unit {0}
 EachBehind Holds (m ∷ behind) = Holds m behind × EachBehind Holds behind

@@ -20,7 +20,7 @@ in_order = (map move three, three_in_order)
 pub without_embargo : LaneWithoutEmbargo
 without_embargo = (map move (moves_of (find_moves begun lane_without_embargo)), is_lane begun lane_without_embargo at_first given_reference 3 (1 ∷ 2 ∷ 3 ∷ []) refl refl)
 
--- the same world behind the three calls
+-- the same world after the three calls
 abbrev past_three : KnownWorld
 past_three = last_known begun three
 

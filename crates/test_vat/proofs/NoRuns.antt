@@ -108,7 +108,7 @@ only_3 : (m_1 m_2 m_3 : State) → Step (new_state (Some 0)) (events.Receive (me
 only_3 m_1 m_2 m_3 step_0 step_1 step_2 =
     let is_2 = only_s_2 m_2 (rw (only_s_1 m_1 step_0) at step_1) in only_s_3 m_3 (rw (is_2) at step_2)
 
--- The state behind the first call's answer, whatever number its export has.
+-- The state after the first call's answer, whatever number its export has.
 abbrev answered_with : State → ℕ → Table (Counted Cap) → State
 answered_with s e exports = given (with_exports s exports) 1 entry_1.kept outcome_1 (object_returned one_object e)
 
@@ -135,7 +135,7 @@ answer_goes old new all quiet_all is_kept step =
     moved : (s t : State) (rest : List Effect) (new : State) → s ≡ t → Leave s rest (Ok new) → Leave t rest (Ok new)
     moved s t rest new is leaving = rw (is) at leaving
 
--- the ticket of the first Deliver behind a Return
+-- the ticket of the first Deliver after a Return
 second_ticket : List Effect → Option ℕ
 second_ticket (first ∷ effects.Deliver k origin ticket request ∷ more) = Some ticket
 second_ticket other = None

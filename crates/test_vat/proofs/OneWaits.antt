@@ -105,7 +105,7 @@ of_each P (Some x) all = all x
 pub none_ended : (s : State) → s.waiting.over ≡ none_over → NoneOver s
 none_ended s e ticket = of_each _ (get s.waiting.calls ticket) (λ call. rw (e) (gave_none call.gate))
 
--- behind the bootstrap
+-- after the bootstrap
 abbrev pub s_1 : State
 s_1 = with_over given_0 none_over
 

@@ -44,7 +44,7 @@ bootstrap_twice = after_bootstrap (bootstrap_message 0) faults.QuestionInUse
 abbrev pub call_twice : List Moment
 call_twice = after_call (small_call 1 (on_import 0)) faults.QuestionInUse
 
--- a target that isn't there
+-- a target that doesn't exist
 abbrev pub export_called : List Moment
 export_called = after_bootstrap (small_call 1 (on_import 9)) faults.UnknownExport
 
@@ -58,7 +58,7 @@ finished_called =
 abbrev pub finished_twice : List Moment
 finished_twice = bootstrap_comes ∷ call_comes ∷ comes (finish_message 1 false) [] ∷ faults_by (finish_message 1 false) faults.UnknownAnswer ∷ []
 
--- a descriptor of what isn't there; a call doesn't name its own answer
+-- a descriptor of what doesn't exist; a call doesn't name its own answer
 abbrev call_with : List Descriptor → Message
 call_with table = call_message 1 (on_import 0) no_content table
 
@@ -88,7 +88,7 @@ abbrev pub first_descriptor_first : List Moment
 first_descriptor_first =
     after_bootstrap (call_with (descriptors.ReceiverHosted 9 ∷ descriptors.ReceiverAnswer (promised_answer 9) ∷ [])) faults.UnknownExport
 
--- and of a Return what it lowers stands before its descriptors
+-- and of a Return what it lowers comes before its descriptors
 abbrev pub lowered_first : List Moment
 lowered_first =
     bootstrap_does
@@ -120,7 +120,7 @@ nothing_lowered =
     (effects.Settled 0 outcomes.Canceled ∷ [])
     ∷ []
 
--- a Release by 0 of what isn't there, and a Resolve of an import that isn't held, whose descriptor isn't looked at
+-- a Release by 0 of what doesn't exist, and a Resolve of an import that isn't held, whose descriptor isn't looked at
 abbrev pub none_released : List Moment
 none_released = after_bootstrap (release_message 9 0) faults.UnknownExport
 
@@ -130,7 +130,7 @@ late_resolve_of_strangers =
     ∷ comes (resolve_message 9 (resolutions.Cap (descriptors.ReceiverAnswer (promised_answer 9)))) []
     ∷ []
 
--- a Disembargo of an answer that isn't given, and of what isn't there
+-- a Disembargo of an answer that isn't given, and of what doesn't exist
 abbrev pub ungiven_disembargoed : List Moment
 ungiven_disembargoed = after_call (disembargo_message (on_answer 1 0) (contexts.SenderLoopback 3)) faults.DisembargoTarget
 

@@ -90,7 +90,7 @@ settled_ahead =
     ∷ (at_second, gives_promise)
     ∷ (at_second, does (events.Resolve 0 (caps.Import 0)) values.Nothing (sends (resolve_message 1 (resolutions.Cap (descriptors.ReceiverHosted 0))) ∷ [])) ∷ []
 
--- The second vat's place for the reference ends at the first one's own object already, and the message on the way tells it a promise. It isn't
+-- The second vat's place for the reference ends at the first one's own object already, and the message on the way reports a promise for it. It isn't
 -- elsewhere otherwise, and no phase is its own.
 pub record IsToldAhead (w : World) : Type 0 where
   pub ends : EndsAt w.second.vat (place_of w.second.vat given_reference) 0

@@ -18,7 +18,7 @@ use Rattle.test_vat.specs.RowWords.{does, refusal, bootstrap_message, return_mes
 abbrev calls : Cap → List Cap → Event
 calls c table = events.Call c (request no_content table)
 
--- what isn't there: a question, a promise, an import, also in a table; the first of these is reported
+-- what doesn't exist: a question, a promise, an import, also in a table; the first of these is reported
 abbrev pub strangers_named : List Moment
 strangers_named =
     refusal (calls (caps.Pipelined 5 []) (caps.Promise 5 ∷ [])) refusals.UnknownQuestion
@@ -32,7 +32,7 @@ strangers_named =
     ∷ refusal (events.Release 5) refusals.UnknownImport
     ∷ []
 
--- a call is answered once, and with nothing that isn't there or settled
+-- a call is answered once, and with nothing that doesn't exist or isn't settled
 abbrev answers_1 : List Cap → Event
 answers_1 table = events.Answer (origins.Answer 1) (outcomes.Results one_object table)
 
@@ -88,7 +88,7 @@ unfoldable pub asked_bootstraps : ℕ → List Moment
 asked_bootstraps zero = []
 asked_bootstraps (suc n) = asked_bootstraps n ++ asked_bootstrap n ∷ []
 
--- 65,536 questions are open, and one more is refused, before anything is told about an import
+-- 65,536 questions are open, and one more is refused, before anything is reported about an import
 abbrev pub questions_full : List Moment
 questions_full =
     asked_bootstraps 65536

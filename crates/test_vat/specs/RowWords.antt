@@ -33,7 +33,7 @@ use Rattle.cp_machine.specs.declared.fault.VatFault.{VatFault}
 abbrev pub comes : Message → List Effect → Moment
 comes m effects = record { event = events.Receive m; result = Ok values.Nothing; effects = effects }
 
--- a message at fault comes, and an Abort tells so
+-- a message at fault comes, and an Abort says so
 abbrev pub faults_by : Message → PeerFault → Moment
 faults_by m fault = comes m (effects.Send (messages.Abort (failed (text_of fault))) ∷ effects.Closed (reasons.Fault fault) ∷ [])
 

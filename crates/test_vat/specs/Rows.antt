@@ -52,7 +52,7 @@ abbrev pub bootstrap_failed : List Moment
 bootstrap_failed =
     bootstrap_does ∷ comes (return_message 0 (returns.Exception strange_failure)) (effects.Settled 0 (outcomes.Failed strange_failure) ∷ []) ∷ []
 
--- a message about what isn't there comes to a new vat
+-- a message about what doesn't exist comes to a new vat
 abbrev pub strange : Message → PeerFault → List Moment
 strange m fault = faults_by m fault ∷ []
 
@@ -140,7 +140,7 @@ pipelined_in_order =
     ∷ comes (small_call 4 (on_answer 1 0)) (to_object_5 4 3 ∷ [])
     ∷ []
 
--- a call of the application about what isn't there
+-- a call of the application about what doesn't exist
 abbrev pub unknown_finish : List Moment
 unknown_finish = refusal (events.Finish 0) refusals.UnknownQuestion ∷ []
 

@@ -4,12 +4,12 @@ ghost use Rattle.std.specs.Prelude.{Some, None};
 ghost use Rattle.cp_machine.specs.Run.{Run};
 ghost use Rattle.test_vat.specs.RefusalRows as rows;
 
-/// A call names only what is there.
+/// A call names only what exists.
 pub fn strangers_refused()
     ensures { Run None rows.strangers_named }
 {}
 
-/// An answer is given once, and names only what is there and settled.
+/// An answer is given once, and names only what exists and settled.
 pub fn answers_refused()
     ensures { Run (Some 0) rows.answers_refused }
 {}

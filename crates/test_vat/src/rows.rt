@@ -17,7 +17,7 @@ pub fn bootstrap_returns()
     ensures failed { Run None rows.bootstrap_failed }
 {}
 
-/// A message about what isn't there is a fault, and closes the vat.
+/// A message about what doesn't exist is a fault, and closes the vat.
 pub fn strangers()
     ensures question { Run (Some 0) rows.strange_return }
     ensures answer { Run (Some 0) rows.strange_finish }
@@ -57,7 +57,7 @@ pub fn pipelined_leaves()
     ensures in_order { Run (Some 0) rows.pipelined_in_order }
 {}
 
-/// A call of the application about what isn't there is refused.
+/// A call of the application about what doesn't exist is refused.
 pub fn refusals()
     ensures question { Run None rows.unknown_finish }
     ensures origin { Run None rows.unknown_origin }

@@ -26,7 +26,7 @@ pub fn number_again()
     ensures { NumberAgain }
 {}
 
-/// A Return on the way may tell a promise that leads back to an object of the vat already: no phase is
+/// A Return on the way may report a promise that leads back to an object of the vat already: no phase is
 /// the reference's own then.
 pub fn settled_ahead()
     ensures { SettledAhead }

@@ -12,13 +12,13 @@ use Rattle.cp_reading.proofs.decide.+decide.Goals as goal
 
 pub denotes-returns-in-Some : goal.denotes-returns-in-Some
 denotes-returns-in-Some t c =
-    body_decides (words_of c.args.lists.now) c.args.at.segment c.args.at.word (node_of c.args.tree.now)
+    body_decides (words_of c.args.segments.now) c.args.at.segment c.args.at.word (node_of c.args.tree.now)
     (has_parts c.args.tree.now c.in_default.not-Null c.in_default.not-Cap)
     c.in-Some.area c.fills.result c.in-Some.ensures.located c.in-Some.ensures.only c.fills.ensures
 
 pub denotes-returns-in-None : goal.denotes-returns-in-None
 denotes-returns-in-None t c =
-    no_body_decides (words_of c.args.lists.now) c.args.at.segment c.args.at.word (node_of c.args.tree.now)
+    no_body_decides (words_of c.args.segments.now) c.args.at.segment c.args.at.word (node_of c.args.tree.now)
     (has_parts c.args.tree.now c.in_default.not-Null c.in_default.not-Cap) c.in-None.ensures.only
 
 pub fills-returns-in-Some : goal.fills-returns-in-Some

@@ -12,25 +12,25 @@ no_body e = cc
 
 pub returns-clause-located : goal.returns-clause-located
 returns-clause-located c =
-    let S = words_of c.args.lists.now in
+    let S = words_of c.args.segments.now in
     let at = c.args.at in
-    let right = aim_sound S at.segment at.word c.in_ok-pointer.pointer c.in-Ok.aim (c.requires, sym c.in_ok-pointer.ensures.says) (sym c.in-Ok.ensures.aim) in
-    (area_sound S at.segment at.word c.in-Ok.aim c.in-Ok-area_of.area right (sym c.in-Ok-area_of.ensures.area)).located
+    let right = aim_sound S at.segment at.word c.in_ok-pointer.pointer c.in-Ok.target (c.requires, sym c.in_ok-pointer.ensures.says) (sym c.in-Ok.ensures.target) in
+    (area_sound S at.segment at.word c.in-Ok.target c.in-Ok-area_of.area right (sym c.in-Ok-area_of.ensures.area)).located
 
 pub returns-clause-only : goal.returns-clause-only
 returns-clause-only c f s' start w l =
-    let S = words_of c.args.lists.now in
+    let S = words_of c.args.segments.now in
     let at = c.args.at in
     let k = led S at.segment at.word f s' start w l in
     let pointer : c.in_ok-pointer.pointer ≡ k.pointer = some_is (c.in_ok-pointer.ensures.says ∙ k.says) in
-    let aim : c.in-Ok.aim ≡ k.aim = ok_is (c.in-Ok.ensures.aim ∙ rw pointer k.aims) in
-    ap Some (ok_is (c.in-Ok-area_of.ensures.area ∙ rw aim k.area))
+    let target : c.in-Ok.target ≡ k.target = ok_is (c.in-Ok.ensures.target ∙ rw pointer k.aims) in
+    ap Some (ok_is (c.in-Ok-area_of.ensures.area ∙ rw target k.area))
 
 pub returns-in_default-area_of-clause-only : goal.returns-in_default-area_of-clause-only
 returns-in_default-area_of-clause-only c f s' start w l =
-    let S = words_of c.args.lists.now in
+    let S = words_of c.args.segments.now in
     let at = c.args.at in
     let k = led S at.segment at.word f s' start w l in
     let pointer : c.in_ok-pointer.pointer ≡ k.pointer = some_is (c.in_ok-pointer.ensures.says ∙ k.says) in
-    let aim : c.in-Ok.aim ≡ k.aim = ok_is (c.in-Ok.ensures.aim ∙ rw pointer k.aims) in
-    no_body {a = record { form = f; segment = s'; start = start }} (c.in_default-area_of.ensures.area ∙ rw aim k.area)
+    let target : c.in-Ok.target ≡ k.target = ok_is (c.in-Ok.ensures.target ∙ rw pointer k.aims) in
+    no_body {a = record { form = f; segment = s'; start = start }} (c.in_default-area_of.ensures.area ∙ rw target k.area)

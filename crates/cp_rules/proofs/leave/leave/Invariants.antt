@@ -6,7 +6,7 @@ use Rattle.cp_state.specs.StateOf.{state_of}
 use Rattle.cp_rules.proofs.Going.{LeavesFrom}
 use Rattle.cp_rules.proofs.leave.leave.Given as goal
 
--- what leaves from now on, behind what left, leaves from the start
+-- what leaves from now on, after what left, leaves from the start
 abbrev pub invariant-leaving : goal.invariant-leaving
 invariant-leaving l =
     record {

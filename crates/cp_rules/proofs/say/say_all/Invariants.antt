@@ -9,7 +9,7 @@ use Rattle.cp_rules.proofs.Saying.{before}
 use Rattle.std.proofs.Common.{List}
 use Rattle.cp_rules.proofs.say.say_all.Given as goal
 
--- what the rest gives behind what was said, the whole table gives; and what was said is taken back to what was there
+-- what the rest gives after what was said, the whole table gives; and what was said is taken back to what was there
 abbrev pub invariant-loop-cap : goal.invariant-loop-cap
 invariant-loop-cap l =
     record {

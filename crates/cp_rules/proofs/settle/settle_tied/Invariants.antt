@@ -11,7 +11,7 @@ use Rattle.cp_rules.specs.Settling.{lowered_back, raised_by, reopened, settling}
 use Rattle.cp_rules.proofs.Giving.{prefixed}
 use Rattle.cp_rules.proofs.settle.settle_tied.Given as goal
 
--- What settling the rest does, behind what was done, settling all does. What was done is taken back to what there was at the start. The rest are
+-- What settling the rest does, after what was done, settling all does. What was done is taken back to what there was at the start. The rest are
 -- open, and the ways of what the outcome names end.
 abbrev pub invariant-loop-one : goal.invariant-loop-one
 invariant-loop-one l =

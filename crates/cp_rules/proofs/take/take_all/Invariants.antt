@@ -7,7 +7,7 @@ use Rattle.cp_state.specs.StateOf.{state_of}
 use Rattle.cp_rules.proofs.Saying.{before}
 use Rattle.cp_rules.proofs.take.take_all.Given as goal
 
--- what the rest gives behind what was taken in, the whole table gives
+-- what the rest gives after what was taken in, the whole table gives
 abbrev pub invariant-loop-descriptor : goal.invariant-loop-descriptor
 invariant-loop-descriptor l =
     (out : Result (List Cap × State) PeerFault) → TakeAll (state_of l.core) (drop l.descriptor-index l.table) out → TakeAll (state_of l.initial.core) l.table (before l.caps.items out)

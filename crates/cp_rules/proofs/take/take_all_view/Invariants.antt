@@ -7,7 +7,7 @@ use Rattle.cp_state.specs.StateOf.{state_of}
 use Rattle.cp_rules.proofs.Saying.{before}
 use Rattle.cp_rules.proofs.take.take_all_view.Given as goal
 
--- what the rest gives behind what was taken in, the whole table gives
+-- what the rest gives after what was taken in, the whole table gives
 abbrev pub invariant-loop-i : goal.invariant-loop-i
 invariant-loop-i l =
     (out : Result (List Cap × State) PeerFault) → TakeAll (state_of l.core) (drop l.i l.table) out → TakeAll (state_of l.initial.core) l.table (before l.caps.items out)

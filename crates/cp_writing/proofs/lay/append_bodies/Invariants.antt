@@ -1,5 +1,6 @@
-use Rattle.std.proofs.Common.{◌≡◌, map, drop}
-use Rattle.cp_tree.specs.NodeOf.{body_of, bodies_of}
+use Rattle.std.proofs.Common.{◌≡◌}
+use Rattle.cp_tree.specs.NodeOf.{bodies_of}
+use Rattle.cp_tree.specs.Lent.{bodies_in}
 use Rattle.cp_writing.specs.Sheets.{written, append, KeepsTo}
 use Rattle.cp_writing.specs.Writing.{bodies_blank}
 use Rattle.cp_writing.proofs.lay.append_bodies.Given as goal
@@ -7,4 +8,4 @@ use Rattle.cp_writing.proofs.lay.append_bodies.Given as goal
 abbrev pub invariant-loop-body : goal.invariant-loop-body
 invariant-loop-body l =
     KeepsTo l.room (written l.sheet)
-    × (append (bodies_blank (bodies_of (map body_of (drop l.body-index l.bodies)))) (written l.sheet) ≡ append (bodies_blank (bodies_of (map body_of l.bodies))) (written l.initial.sheet))
+    × (append (bodies_blank (bodies_of (bodies_in l.body-iterator))) (written l.sheet) ≡ append (bodies_blank (bodies_of (bodies_in l.fn.bodies))) (written l.initial.sheet))

@@ -1,31 +1,33 @@
-use Rattle.std.proofs.Common.{length, map, sym, arith}
+use Rattle.std.proofs.Common.{◌+◌, ◌*◌, ap, arith}
 use Rattle.std.proofs.lemmas.Result.{err_from_is_err_and}
-use Rattle.cp_tree.specs.NodeOf.{body_of, bodies_of}
+use Rattle.cp_tree.specs.NodeOf.{bodies_of}
+use Rattle.cp_tree.specs.Lent.{bodies_in}
 use Rattle.cp_writing.specs.Sheets.{written}
 use Rattle.cp_writing.proofs.Begins.{tag_refused, elements_refused, elements_begun}
-use Rattle.cp_tree.proofs.Trees.{number_in}
 use Rattle.cp_writing.proofs.lay.begin_structs.Goals as goal
 
 pub begin_elements-requires-clause-few : goal.begin_elements-requires-clause-few
-begin_elements-requires-clause-few c = omega (arith, c.requires.shaped.1, number_in body_of c.args.bodies.now)
+begin_elements-requires-clause-few c = omega (arith, c.requires.shaped.1, c.len.ensures.value)
 
 pub begin_elements-requires-clause-small : goal.begin_elements-requires-clause-small
-begin_elements-requires-clause-small c = rw (← number_in body_of c.args.bodies.now) c.requires.shaped.2
+begin_elements-requires-clause-small c =
+    let size = ap (λ k. k * (c.args.list.words + c.args.list.ptrs)) c.len.ensures.value in
+    omega (arith, c.requires.shaped.2, size)
 
 pub returns-in_err-first : goal.returns-in_err-first
 returns-in_err-first c =
-    let bs = bodies_of (map body_of c.args.bodies.now) in
+    let list = c.args.list in
     let p = err_from_is_err_and c.from_residual.result c.from_residual.ensures.1 in
-    rw (p.1, p.2) (tag_refused c.args.room c.args.at c.args.words c.args.ptrs bs (written c.args.sheet.now) (length c.args.bodies.now) (sym (number_in body_of c.args.bodies.now)) c.requires.shaped c.requires.there.0 c.in_err-first.field-0.0 c.in_err-first.ensures.0)
+    rw (p.1, p.2) (tag_refused c.args.room c.args.at list.words list.ptrs (bodies_of (bodies_in list.items)) (written c.args.sheet.now) c.len.result c.len.ensures.value c.requires.shaped c.requires.there.0 c.in_err-first.field-0.0 c.in_err-first.ensures.0)
 
 pub returns-in_err-append_bodies : goal.returns-in_err-append_bodies
 returns-in_err-append_bodies c =
-    let bs = bodies_of (map body_of c.args.bodies.now) in
+    let list = c.args.list in
     let p = err_from_is_err_and c.from_residual-in_err-append_bodies.result c.from_residual-in_err-append_bodies.ensures.1 in
-    rw (p.1, p.2) (elements_refused c.args.room c.args.at c.args.words c.args.ptrs bs (written c.args.sheet.now) (length c.args.bodies.now) (sym (number_in body_of c.args.bodies.now)) c.requires.shaped c.requires.there.0 c.in_err-append_bodies.field-0.0 _ c.in_ok-first.ensures.0.0 c.in_err-append_bodies.ensures)
+    rw (p.1, p.2) (elements_refused c.args.room c.args.at list.words list.ptrs (bodies_of (bodies_in list.items)) (written c.args.sheet.now) c.len.result c.len.ensures.value c.requires.shaped c.requires.there.0 c.in_err-append_bodies.field-0.0 _ c.in_ok-first.ensures.0.0 c.in_err-append_bodies.ensures)
 
 pub returns : goal.returns
 returns c =
-    let bs = bodies_of (map body_of c.args.bodies.now) in
+    let list = c.args.list in
     let all = c.in_ok-append_bodies.ensures in
-    elements_begun c.args.room c.args.at c.args.words c.args.ptrs bs (written c.args.sheet.now) (length c.args.bodies.now) (sym (number_in body_of c.args.bodies.now)) c.requires.shaped c.requires.there.0 _ _ _ c.in_ok-first.ensures.0.0 c.in_ok-first.ensures.1 all.0 all.1
+    elements_begun c.args.room c.args.at list.words list.ptrs (bodies_of (bodies_in list.items)) (written c.args.sheet.now) c.len.result c.len.ensures.value c.requires.shaped c.requires.there.0 _ _ _ c.in_ok-first.ensures.0.0 c.in_ok-first.ensures.1 all.0 all.1

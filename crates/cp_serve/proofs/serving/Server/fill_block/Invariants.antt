@@ -6,7 +6,7 @@ use Rattle.cp_serve.specs.Output.{Device}
 use Rattle.cp_serve.specs.Reached.{Serves, ahead}
 use Rattle.cp_serve.proofs.serving.Server.fill_block.Given as goal
 
--- a front of the piece was taken, what it leads to was put behind the block, and the stream is read on
+-- a front of the piece was taken, what it leads to was put after the block, and the stream is read on
 abbrev pub invariant-filling : goal.invariant-filling
 invariant-filling g l =
     (length l.left ≤ length l.fn.piece)

@@ -5,7 +5,7 @@ use Rattle.cp_serve.specs.Reached.{CountsMore, OnlyWrites, ahead}
 use Rattle.cp_serve.specs.WorkOf.{work_of}
 use Rattle.cp_serve.proofs.serving.Server.put.Given as goal
 
--- the messages so far were put behind the block, and counted
+-- the messages so far were put after the block, and counted
 abbrev pub invariant-loop-message : goal.invariant-loop-message
 invariant-loop-message l = record {
   only : OnlyWrites l.fn.self l.self;

@@ -8,7 +8,7 @@ use Rattle.cp_serve.specs.Output.{Device, device}
 use Rattle.cp_serve.specs.Reached.{Serves}
 use Rattle.cp_serve.proofs.serving.Server.take_all.Given as goal
 
--- so many pieces were read, and the stream is read on
+-- this many pieces were read, and the stream is read on
 abbrev pub invariant-loop-pieces : goal.invariant-loop-pieces
 invariant-loop-pieces g l =
     (failures_of l.from ≡ failures_of l.fn.from)

@@ -22,5 +22,5 @@ returns-then-size-eq0 c =
     let goes : length (written c.args.self.now).full ≤ length F.full = subst (λ G. length (written c.args.self.now).full ≤ length G.full) (sym roomy) (room-goes c.args.room c.args.at.segment c.args.size (written c.args.self.now)) in
     ((sheet, subst (KeepsTo c.args.room) (sym c.place_here.ensures.written) (put-keeps c.args.room F c.args.at.segment c.args.at.word _ (omega (arith, goes, c.requires.there)) keeps)), at)
 
-pub place_behind_pad-requires-clause-keeps : goal.place_behind_pad-requires-clause-keeps
-place_behind_pad-requires-clause-keeps c = subst (KeepsTo c.args.room) (sym c.in_ok-make_room.ensures) (room-keeps c.args.room c.args.at.segment c.args.size (written c.args.self.now) c.requires.keeps)
+pub place_after_pad-requires-clause-keeps : goal.place_after_pad-requires-clause-keeps
+place_after_pad-requires-clause-keeps c = subst (KeepsTo c.args.room) (sym c.in_ok-make_room.ensures) (room-keeps c.args.room c.args.at.segment c.args.size (written c.args.self.now) c.requires.keeps)
