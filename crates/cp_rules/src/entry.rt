@@ -22,7 +22,7 @@ pub fn remove_question(core: &mut Core, id: u32)
 {
     core.values.remove_question(id);
     core.marks.remove_question(id);
-    close_question(&mut core.questions, id);
+    core.questions.close(id);
 }
 
 /// Takes an answer out.
@@ -30,23 +30,7 @@ pub fn remove_answer(core: &mut Core, id: u32)
     ensures { state_of core.new ≡ without_answer (state_of core.old) id }
 {
     core.values.remove_answer(id);
-    close_answer(&mut core.answers, id);
-}
-
-/// Takes the entry of a question out, whatever its stage.
-pub fn close_question(questions: &mut Questions<QuestionEntry>, id: u32)
-    ensures { questions.new ≡ map.remove questions.old id }
-{
-    let _ = questions.note_return(id);
-    let _ = questions.note_finish(id);
-}
-
-/// Takes the entry of an answer out, whatever its stage.
-fn close_answer(answers: &mut Answers<AnswerEntry>, id: u32)
-    ensures { answers.new ≡ map.remove answers.old id }
-{
-    let _ = answers.note_return(id);
-    let _ = answers.note_finish(id);
+    core.answers.close(id);
 }
 
 /// Notes that a call was delivered to an object of the application.

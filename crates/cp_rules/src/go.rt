@@ -8,7 +8,7 @@ ghost use Rattle.cp_state.specs.StateOf.{state_of};
 ghost use Rattle.cp_rules.specs.Going.{MayGo, underway_of};
 ghost use Rattle.cp_rules.specs.Ungiven.{AllEnd, IsUngiven};
 
-use crate::entry::{close_question, note_delivered, note_mentions, note_sent};
+use crate::entry::{note_delivered, note_mentions, note_sent};
 use crate::give::give;
 use crate::promised::promised_answer;
 use crate::say::{mentioned, say_all};
@@ -142,7 +142,7 @@ fn forward(
     let table = match said {
         Ok(table) => table,
         Err(halt) => {
-            close_question(&mut core.questions, question);
+            core.questions.close(question);
             return Err(halt);
         }
     };

@@ -165,4 +165,11 @@ impl<T: Drop> Answers<T> {
         }
         Ok(())
     }
+
+    /// Takes the answer under this number out, if there is one, whatever was noted of it.
+    pub fn close(&mut self, id: u32)
+        ensures { self.new ≡ map.remove self.old id }
+    {
+        let _ = self.entries.remove(id);
+    }
 }

@@ -159,4 +159,11 @@ impl<T: Drop> Questions<T> {
         }
         Ok(())
     }
+
+    /// Takes the question under this number out, if there is one, whatever was noted of it.
+    pub fn close(&mut self, id: u32)
+        ensures { self.new ≡ map.remove self.old id }
+    {
+        let _ = self.slots.remove(id);
+    }
 }

@@ -11,6 +11,7 @@ enum Step {
     Open,
     Return,
     Finish,
+    Close,
 }
 
 /// What a step of this entry answered is what is wanted.
@@ -51,6 +52,10 @@ fn take_question(questions: &mut Questions<()>, step: Step, id: u32) -> Result<u
         Step::Open => questions.open(()),
         Step::Return => questions.note_return(id).and(Ok(id)),
         Step::Finish => questions.note_finish(id).and(Ok(id)),
+        Step::Close => {
+            questions.close(id);
+            Ok(id)
+        }
     }
 }
 
@@ -73,12 +78,14 @@ fn questions_go_after_both_notes(rt: HostRuntime) {
         (Step::Open, 0, Ok(0), Some(Stage::Open)),
         (Step::Open, 1, Ok(1), Some(Stage::Open)),
         (Step::Open, 3, Ok(3), Some(Stage::Open)),
+        (Step::Close, 4, Ok(4), None),
+        (Step::Close, 3, Ok(3), None),
     ];
     for (step, id, want, left) in rows {
         expect_told(&rt, id, take_question(&mut questions, step, id), want);
         expect_stage(&rt, id, questions.get(id), left);
     }
-    assert!(rt; questions.len() == 4);
+    assert!(rt; questions.len() == 3);
     drop(questions);
 }
 
@@ -88,6 +95,10 @@ fn take_answer(answers: &mut Answers<()>, step: Step, id: u32) -> Result<(), Tab
         Step::Open => answers.open(id, ()),
         Step::Return => answers.note_return(id),
         Step::Finish => answers.note_finish(id),
+        Step::Close => {
+            answers.close(id);
+            Ok(())
+        }
     }
 }
 
@@ -109,13 +120,15 @@ fn answers_go_after_both_notes(rt: HostRuntime) {
         (Step::Return, u32::MAX, Ok(()), None),
         (Step::Return, u32::MAX, Err(Unknown), None),
         (Step::Open, 5, Ok(()), Some(Stage::Open)),
+        (Step::Close, 4, Ok(()), None),
+        (Step::Close, 5, Ok(()), None),
     ];
     for (step, id, want, left) in rows {
         let told = take_answer(&mut answers, step, id);
         expect_told(&rt, id, told.and(Ok(id)), want.and(Ok(id)));
         expect_stage(&rt, id, answers.get(id), left);
     }
-    assert!(rt; answers.len() == 1);
+    assert!(rt; answers.is_empty());
     drop(answers);
 }
 

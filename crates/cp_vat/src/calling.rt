@@ -17,7 +17,6 @@ use crate::going::{go_from, kind_of, reference_of};
 use crate::refusals::check_call;
 use cp_machine::{Effect, PeerFault, VatFault};
 use cp_refs::{Cap, Origin, QuestionKind, Request};
-use cp_rules::entry::close_question;
 use cp_rules::go::Underway;
 use cp_state::{Core, Halt};
 
@@ -88,6 +87,6 @@ fn take_back(core: &mut Core, question: u32)
     ensures { state_of core.new ≡ taken_back (state_of core.old) question }
 {
     core.values.remove_question(question);
-    close_question(&mut core.questions, question);
+    core.questions.close(question);
     core.gates.take_back();
 }

@@ -32,7 +32,7 @@ returns-in-Err-clause-acts c =
 
 pub returns-in-Err-clause-unchanged : goal.returns-in-Err-clause-unchanged
 returns-in-Err-clause-unchanged c =
-    forward_undone (List Descriptor) (Unit {0}) c.in-Err.halt c.args.core.now c.in_ok-question.question _ c.open.new.self c.close_question.new.questions c.say_all-said.new.exports c.in_ok-question.ensures.free c.in_ok-question.ensures.opened c.close_question.ensures c.in-Err.ensures.unchanged
+    forward_undone (List Descriptor) (Unit {0}) c.in-Err.halt c.args.core.now c.in_ok-question.question _ c.open.new.self c.close.new.self c.say_all-said.new.exports c.in_ok-question.ensures.free c.in_ok-question.ensures.opened c.close.ensures c.in-Err.ensures.unchanged
 
 pub returns-clause-acts : goal.returns-clause-acts
 returns-clause-acts c =
