@@ -5,23 +5,23 @@
 #include <cstdint>
 
 extern "C" {
-// Gives the number of bytes, and puts what fits of them into the room.
-size_t cpb_pack(const uint64_t* words, size_t count, uint8_t* room, size_t size);
+// Gives the number of bytes, and puts what fits of them into the buffer.
+size_t cpb_pack(const uint64_t* words, size_t count, uint8_t* buffer, size_t size);
 // The same of words, at most `limit`.
-size_t cpb_unpack(const uint8_t* bytes, size_t length, size_t limit, uint64_t* room, size_t size);
+size_t cpb_unpack(const uint8_t* bytes, size_t length, size_t limit, uint64_t* buffer, size_t size);
 // How many frames a stream has, each of which gives what is asked for: at 0 its words, at 1 a view of its message, at 2 an owned tree.
 uint64_t cpb_read_frames(const uint8_t* bytes, size_t length, uint8_t kind);
 uint64_t cpb_packed_frames(const uint8_t* bytes, size_t length, uint8_t kind);
 // Reads a plain stream's frames into owned trees and writes these `turns` times. Gives the number of bytes of a turn, and puts
-// what fits of the last into the room.
-size_t cpb_write_frames(const uint8_t* bytes, size_t length, uint32_t turns, uint8_t* room, size_t size);
-// The same three within limits on nesting and traversal; what is written is in segments of at most `words` words.
+// what fits of the last into the buffer.
+size_t cpb_write_frames(const uint8_t* bytes, size_t length, uint32_t turns, uint8_t* buffer, size_t size);
+// The same three within limits on nesting and traversal; what is written, once, is in segments of at most `words` words.
 uint64_t cpb_read_frames_within(const uint8_t* bytes, size_t length, uint8_t kind, uint32_t nesting, uint32_t traversal);
 uint64_t cpb_packed_frames_within(const uint8_t* bytes, size_t length, uint8_t kind, uint32_t nesting, uint32_t traversal);
-size_t cpb_write_frames_within(const uint8_t* bytes, size_t length, uint32_t turns, uint32_t words, uint32_t nesting, uint32_t traversal, uint8_t* room, size_t size);
+size_t cpb_write_frames_within(const uint8_t* bytes, size_t length, uint32_t words, uint32_t nesting, uint32_t traversal, uint8_t* buffer, size_t size);
 // Plays a script on a new vat (docs/TESTING.md has its lines). Gives the number of bytes of the events' lines but the first `skipped`,
-// with all that follows after each, and puts what fits of them into the room.
-size_t cpb_play(const uint8_t* script, size_t length, size_t skipped, uint8_t* room, size_t size);
+// with all that follows after each, and puts what fits of them into the buffer.
+size_t cpb_play(const uint8_t* script, size_t length, size_t skipped, uint8_t* buffer, size_t size);
 // What a server wrote: the number of bytes, and how it ended: 0 where the messages ended, 1 where the vat closed, 2 where what was read is
 // refused, 3 where a device failed, 4 where memory ran out.
 struct cpb_served {
@@ -30,7 +30,7 @@ struct cpb_served {
 };
 // Serves a Script, a Cell and a Desk, objects 0 to 2, to a peer that sends these bytes, in pieces of at most this many (0 counts as 1). Of the
 // Script's first calls each is answered with a capability, which the next number of `named` says: an object, or from 2^32 on an import,
-// counted from there; 0 leaves it without an answer, as each later call is left. Puts what fits of what is written into the room.
-cpb_served cpb_serve(const uint8_t* bytes, size_t length, bool packed, size_t piece, const uint64_t* named, size_t numbers, uint8_t* room,
+// counted from there; 0 leaves it without an answer, as each later call is left. Puts what fits of what is written into the buffer.
+cpb_served cpb_serve(const uint8_t* bytes, size_t length, bool packed, size_t piece, const uint64_t* named, size_t numbers, uint8_t* buffer,
                      size_t size);
 }

@@ -11,14 +11,14 @@
 
 // What a text of events gives, but for its first events.
 static std::string play(const std::string& text, size_t skipped) {
-  static std::string room(1 << 16, 0);
+  static std::string buffer(1 << 16, 0);
   auto bytes = reinterpret_cast<const uint8_t*>(text.data());
-  size_t length = cpb_play(bytes, text.size(), skipped, reinterpret_cast<uint8_t*>(&room[0]), room.size());
-  if (length > room.size()) {
-    room.resize(length);
-    cpb_play(bytes, text.size(), skipped, reinterpret_cast<uint8_t*>(&room[0]), room.size());
+  size_t length = cpb_play(bytes, text.size(), skipped, reinterpret_cast<uint8_t*>(&buffer[0]), buffer.size());
+  if (length > buffer.size()) {
+    buffer.resize(length);
+    cpb_play(bytes, text.size(), skipped, reinterpret_cast<uint8_t*>(&buffer[0]), buffer.size());
   }
-  return room.substr(0, length);
+  return buffer.substr(0, length);
 }
 
 // A vat is kept as its events: the same events always give the same.

@@ -100,7 +100,7 @@ uint64_t pack(const uint8_t* bytes, size_t length) {
 // Of trees that fit in the limits, what is written is read back, unless there are more segments than the limits have.
 uint64_t write(const Head& head, const uint8_t* bytes, size_t length, uint64_t trees) {
   static std::vector<uint8_t> out(1 << 24);
-  size_t size = cpb_write_frames_within(bytes, length, 1, head.words, head.nesting, head.traversal, out.data(), out.size());
+  size_t size = cpb_write_frames_within(bytes, length, head.words, head.nesting, head.traversal, out.data(), out.size());
   if (size == 0 || size > out.size()) return 0;
   if (cpb_read_frames_within(out.data(), size, 2, head.nesting, head.traversal) != trees) fail("written, and read back otherwise");
   return size;

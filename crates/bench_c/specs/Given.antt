@@ -4,17 +4,17 @@ use Rattle.cp_packed.specs.Packed.{Packed, Spelt}
 
 -- what fits of these at the front, and the rest as it was
 abbrev pub over : {A : Type 0} → List A → List A → List A
-over items room = take (length room) items ++ drop (length items) room
+over items buffer = take (length buffer) items ++ drop (length items) buffer
 
 -- There is nothing, and the buffer is as it was.
 pub record GivesNone (number : ℕ) (old new : List ℕ) : Type 0 where
   pub number_is : number ≡ 0
-  pub room_is : new ≡ old
+  pub buffer_is : new ≡ old
 
 -- There are this many items, and what fits of them was put into the buffer.
 pub record Gives (items : List ℕ) (number : ℕ) (old new : List ℕ) : Type 0 where
   pub number_is : number ≡ length items
-  pub room_is : new ≡ over items old
+  pub buffer_is : new ≡ over items old
 
 -- the words were packed as one piece
 abbrev pub GivesPacked : List ℕ → ℕ → List ℕ → List ℕ → Type 0

@@ -52,7 +52,7 @@ pub record IsAnswer (mode : Mode) (bytes written : List ℕ) (how : ℕ) : Type 
       (λ fault. IsStopped mode objects (of_bytes bytes 0) left (of_bytes [] 0) (of_bytes written failures) others fault)
   pub how_is : how ≡ how_ended ended
 
--- what a server wrote and how it ended, and what fits of that in the room
+-- what a server wrote and how it ended, and what fits of that in the buffer
 abbrev pub GivesServed : Mode → List ℕ → Served → List ℕ → List ℕ → Type 0
 GivesServed mode bytes served old new = (written : List ℕ) × IsAnswer mode bytes written served.how × Gives written served.written old new
 

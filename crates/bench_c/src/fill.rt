@@ -1,12 +1,12 @@
-//! Room that the caller gives.
+//! A buffer that the caller gives.
 
 ghost use Rattle.std.specs.Prelude.{◌≡◌};
 ghost use Rattle.bench_c.specs.Given.{over};
 
 /// Puts what fits of these at the front, and leaves the rest as it was.
-pub fn fill<T: Copy>(room: &mut [T], items: &[T])
-    ensures { room.new ≡ over items.now room.old }
+pub fn fill<T: Copy>(buffer: &mut [T], items: &[T])
+    ensures { buffer.new ≡ over items.now buffer.old }
 {
-    let count = items.len().min(room.len());
-    room[..count].copy_from_slice(&items[..count]);
+    let count = items.len().min(buffer.len());
+    buffer[..count].copy_from_slice(&items[..count]);
 }

@@ -10,17 +10,6 @@ use cp_stream::view_of;
 use cp_words::{Limits, Segments};
 use std::alloc::Global;
 
-/// Whether the segments give what is asked for: at 0 nothing, at 1 a view of a message, else an owned tree.
-fn gives(alloc: Global, segments: &Segments, kind: u8, limits: Limits) -> bool
-    ensures { IsTrue result → IsOfKind limits kind segments.now }
-{
-    match kind {
-        0 => true,
-        1 => view_of(segments, limits).is_ok(),
-        _ => read_root(alloc, segments, limits).is_ok(),
-    }
-}
-
 /// The standard limits, but for these two. `None` where one is out of its range.
 pub(crate) fn limits_of(nesting: u32, traversal: u32) -> Option<Limits>
     ensures { IfSome result (λ l. l ≡ within nesting traversal) }
@@ -34,33 +23,6 @@ pub(crate) fn limits_of(nesting: u32, traversal: u32) -> Option<Limits>
     )
 }
 
-/// How many frames a whole stream has, if each gives what is asked for.
-fn count(alloc: Global, mode: Mode, bytes: &[u8], kind: u8, limits: Limits) -> Option<u64>
-    ensures { IfSome result (CountsWithin limits mode kind bytes.now) }
-{
-    let mut reader = match mode {
-        Mode::Plain => FrameReader::plain(alloc, limits),
-        Mode::Packed => FrameReader::packed(alloc, limits),
-    };
-    let mut count: u64 = 0;
-    let mut left = bytes;
-    'reading: while !left.is_empty() {
-        let Ok(next) = reader.next(left) else {
-            return None;
-        };
-        let Some((_, segments, back)) = next else {
-            return None;
-        };
-        if !gives(alloc, &segments, kind, limits) {
-            return None;
-        }
-        reader.reuse(segments);
-        count = count.checked_add(1)?;
-        left = back;
-    }
-    Some(count)
-}
-
 /// How many frames a plain stream has, each of which gives what is asked for: at 0 nothing but its words,
 /// at 1 a view of its message, else an owned tree.
 #[unsafe(no_mangle)]
@@ -70,7 +32,7 @@ pub extern "C" fn cpb_read_frames(alloc: Global, bytes: &[u8], kind: u8) -> u64
     count(alloc, Mode::Plain, bytes, kind, Limits::standard()).unwrap_or(0)
 }
 
-/// How many frames a packed stream has, likewise.
+/// How many frames a packed stream has, each of which gives what `cpb_read_frames` says.
 #[unsafe(no_mangle)]
 pub extern "C" fn cpb_packed_frames(alloc: Global, bytes: &[u8], kind: u8) -> u64
     ensures { (result ≡ 0) ⊎ Counts Packed kind bytes.now result }
@@ -109,5 +71,43 @@ pub extern "C" fn cpb_packed_frames_within(
     match limits_of(nesting, traversal) {
         Some(limits) => count(alloc, Mode::Packed, bytes, kind, limits).unwrap_or(0),
         None => 0,
+    }
+}
+
+/// How many frames a whole stream has, if each gives what is asked for.
+fn count(alloc: Global, mode: Mode, bytes: &[u8], kind: u8, limits: Limits) -> Option<u64>
+    ensures { IfSome result (CountsWithin limits mode kind bytes.now) }
+{
+    let mut reader = match mode {
+        Mode::Plain => FrameReader::plain(alloc, limits),
+        Mode::Packed => FrameReader::packed(alloc, limits),
+    };
+    let mut count: u64 = 0;
+    let mut left = bytes;
+    'reading: while !left.is_empty() {
+        let Ok(next) = reader.next(left) else {
+            return None;
+        };
+        let Some((_, segments, back)) = next else {
+            return None;
+        };
+        if !gives(alloc, &segments, kind, limits) {
+            return None;
+        }
+        reader.reuse(segments);
+        count = count.checked_add(1)?;
+        left = back;
+    }
+    Some(count)
+}
+
+/// Whether the segments give what is asked for: at 0 nothing, at 1 a view of a message, else an owned tree.
+fn gives(alloc: Global, segments: &Segments, kind: u8, limits: Limits) -> bool
+    ensures { IsTrue result → IsOfKind limits kind segments.now }
+{
+    match kind {
+        0 => true,
+        1 => view_of(segments, limits).is_ok(),
+        _ => read_root(alloc, segments, limits).is_ok(),
     }
 }

@@ -34,8 +34,8 @@ const UNSERVED: Served = Served { written: 0, how: 4 };
 /// most this many (0 counts as 1). Of the Script's first calls each is answered with a capability, which
 /// the next number of `named` says: an object, or from 2^32 on an import, counted from there; 0 leaves it
 /// without an answer, as each later call is left. Says how many bytes were written and how that ended, and puts
-/// what fits of them into the room. Where memory runs out before it begins, nothing is written, and
-/// the room stays as it was.
+/// what fits of them into the buffer. Where memory runs out before it begins, nothing is written, and
+/// the buffer stays as it was.
 #[unsafe(no_mangle)]
 pub extern "C" fn cpb_serve(
     alloc: Global,
@@ -43,11 +43,11 @@ pub extern "C" fn cpb_serve(
     packed: bool,
     piece: usize,
     named: &[u64],
-    room: &mut [u8],
+    buffer: &mut [u8],
 ) -> Served
-    ensures { IsUnserved result room.old room.new ⊎ GivesServed (mode_of packed) bytes.now result room.old room.new }
+    ensures { IsUnserved result buffer.old buffer.new ⊎ GivesServed (mode_of packed) bytes.now result buffer.old buffer.new }
 {
-    let Ok(written) = Vec::with_capacity(alloc, room.len()) else {
+    let Ok(written) = Vec::with_capacity(alloc, buffer.len()) else {
         return UNSERVED;
     };
     let (Ok(script), Ok(cell), Ok(desk)) = (
@@ -66,29 +66,10 @@ pub extern "C" fn cpb_serve(
     let mut to = Tap::new(written);
     let ended = serve(alloc, &mut from, &mut to, &mut objects, mode_of(packed));
     let written = to.into_inner();
-    fill(room, &written);
+    fill(buffer, &written);
     Served {
         written: written.len(),
         how: how_ended(&ended),
-    }
-}
-
-/// The form that bytes are in.
-fn mode_of(packed: bool) -> Mode
-    ensures { result ≡ mode_of packed }
-{
-    if packed { Mode::Packed } else { Mode::Plain }
-}
-
-/// How a server ended, as a number.
-fn how_ended(ended: &Result<Report, ServeFault>) -> u8
-    ensures { result ≡ how_ended ended.now }
-{
-    match ended {
-        Ok(report) => report.closed.is_some() as u8,
-        Err(ServeFault::Stream(StreamFault::Refused { .. })) => 2,
-        Err(ServeFault::Stream(StreamFault::Device)) => 3,
-        Err(ServeFault::OutOfMemory) => 4,
     }
 }
 
@@ -156,5 +137,24 @@ fn cap_of(number: u64) -> Cap
     match u32::try_from(number) {
         Ok(object) => Cap::Object(object),
         Err(_) => Cap::Import((number % 0x1_0000_0000) as u32),
+    }
+}
+
+/// The form that bytes are in.
+fn mode_of(packed: bool) -> Mode
+    ensures { result ≡ mode_of packed }
+{
+    if packed { Mode::Packed } else { Mode::Plain }
+}
+
+/// How a server ended, as a number.
+fn how_ended(ended: &Result<Report, ServeFault>) -> u8
+    ensures { result ≡ how_ended ended.now }
+{
+    match ended {
+        Ok(report) => report.closed.is_some() as u8,
+        Err(ServeFault::Stream(StreamFault::Refused { .. })) => 2,
+        Err(ServeFault::Stream(StreamFault::Device)) => 3,
+        Err(ServeFault::OutOfMemory) => 4,
     }
 }

@@ -8,10 +8,13 @@ use std::alloc::{AllocError, Global};
 
 /// The greatest limit on nesting.
 const MOST_NESTING: i64 = 256;
+
 /// The greatest limit on traversal.
 const MOST_TRAVERSAL: i64 = 67_108_864;
+
 /// The greatest number of words in a segment.
 const MOST_WORDS: i64 = 8_388_608;
+
 /// The greatest port.
 const MOST_PORT: i64 = 65_535;
 
@@ -29,11 +32,59 @@ pub(crate) enum Task<'a> {
     Serve { mode: Mode, port: u16, count: u32 },
 }
 
+/// What `capnp_cli` understands.
+pub(crate) fn command<'a>(alloc: Global) -> Result<Command<'a>, AllocError> {
+    Command::new(alloc, "capnp_cli")
+        .about("Cap'n Proto messages and two-party RPC")
+        .version(VERSION)
+        .after_help(
+            "Exit status: 0 if everything was accepted; 1 if something was refused, and standard error \
+             says where and why; 2 if the command line is wrong, or if a file or a connection failed.",
+        )
+        .subcommand_required(true)
+        .subcommand(show(alloc)?)?
+        .subcommand(check(alloc)?)?
+        .subcommand(pack(alloc)?)?
+        .subcommand(unpack(alloc)?)?
+        .subcommand(recut(alloc)?)?
+        .subcommand(looped(alloc)?)?
+        .subcommand(serve(alloc)?)
+}
+
+/// What the words ask for.
+pub(crate) fn task_of<'a>(matches: &ArgMatches<'a>) -> Option<Task<'a>> {
+    let (name, inner) = matches.subcommand()?;
+    let task = match name {
+        "loop" => Task::Loop {
+            mode: mode(inner),
+            path: inner.get_str("FILE")?,
+        },
+        "serve" => Task::Serve {
+            mode: mode(inner),
+            port: inner.get_one::<u16>("PORT")?,
+            count: inner.get_one::<u32>("COUNT")?,
+        },
+        name => Task::OnFile {
+            plan: plan(name, inner)?,
+            path: inner.get_str("FILE")?,
+        },
+    };
+    Some(task)
+}
+
 /// The file that a command reads.
 fn file<'a>(alloc: Global) -> Arg<'a> {
     Arg::new(alloc, "FILE")
         .help("A file of frames, one after another; - is standard input")
         .required(true)
+}
+
+/// The words of `show`.
+fn show<'a>(alloc: Global) -> Result<Command<'a>, AllocError> {
+    let command = Command::new(alloc, "show")
+        .about("Print each message of FILE as a line")
+        .after_help("Example: capnp_cli show --packed calls.packed");
+    reading(alloc, command)
 }
 
 /// Packed frames instead of plain ones.
@@ -44,14 +95,13 @@ fn packed<'a>(alloc: Global) -> Arg<'a> {
         .help("The frames are packed")
 }
 
-/// The greatest number of words in a segment.
-fn words<'a>(alloc: Global) -> Arg<'a> {
-    Arg::new(alloc, "words")
-        .long("words")
-        .value_name("N")
-        .required(true)
-        .value_parser(value_parser!(u32).range(1..=MOST_WORDS))
-        .help("A segment has at most N words, or one body")
+/// Words that name the limits and the form of a file that is read, and the file.
+fn reading<'a>(alloc: Global, command: Command<'a>) -> Result<Command<'a>, AllocError> {
+    command
+        .arg(packed(alloc))?
+        .arg(nesting(alloc))?
+        .arg(traversal(alloc))?
+        .arg(file(alloc))
 }
 
 /// The limit on nesting.
@@ -72,21 +122,14 @@ fn traversal<'a>(alloc: Global) -> Arg<'a> {
         .help("A message may cost N words to go over, 8388608 by default")
 }
 
-/// Words that name the limits and the form of a file that is read, and the file.
-fn reading<'a>(alloc: Global, command: Command<'a>) -> Result<Command<'a>, AllocError> {
-    command
-        .arg(packed(alloc))?
-        .arg(nesting(alloc))?
-        .arg(traversal(alloc))?
-        .arg(file(alloc))
-}
-
-/// The words of `show`.
-fn show<'a>(alloc: Global) -> Result<Command<'a>, AllocError> {
-    let command = Command::new(alloc, "show")
-        .about("Print each message of FILE as a line")
-        .after_help("Example: capnp_cli show --packed calls.packed");
-    reading(alloc, command)
+/// The greatest number of words in a segment.
+fn words<'a>(alloc: Global) -> Arg<'a> {
+    Arg::new(alloc, "words")
+        .long("words")
+        .value_name("N")
+        .required(true)
+        .value_parser(value_parser!(u32).range(1..=MOST_WORDS))
+        .help("A segment has at most N words, or one body")
 }
 
 /// The words of `check`.
@@ -132,6 +175,16 @@ fn looped<'a>(alloc: Global) -> Result<Command<'a>, AllocError> {
         .arg(file(alloc))
 }
 
+/// The words of `serve`.
+fn serve<'a>(alloc: Global) -> Result<Command<'a>, AllocError> {
+    Command::new(alloc, "serve")
+        .about("Serve a Desk and a Cell to each of COUNT connections on PORT")
+        .after_help("Example: capnp_cli serve 7000 1")
+        .arg(packed(alloc))?
+        .arg(port(alloc))?
+        .arg(count(alloc))
+}
+
 /// The port that is served.
 fn port<'a>(alloc: Global) -> Arg<'a> {
     Arg::new(alloc, "PORT")
@@ -146,49 +199,6 @@ fn count<'a>(alloc: Global) -> Arg<'a> {
         .help("The number of connections, one after the other")
         .required(true)
         .value_parser(value_parser!(u32))
-}
-
-/// The words of `serve`.
-fn serve<'a>(alloc: Global) -> Result<Command<'a>, AllocError> {
-    Command::new(alloc, "serve")
-        .about("Serve a Desk and a Cell to each of COUNT connections on PORT")
-        .after_help("Example: capnp_cli serve 7000 1")
-        .arg(packed(alloc))?
-        .arg(port(alloc))?
-        .arg(count(alloc))
-}
-
-/// What `capnp_cli` understands.
-pub(crate) fn command<'a>(alloc: Global) -> Result<Command<'a>, AllocError> {
-    Command::new(alloc, "capnp_cli")
-        .about("Cap'n Proto messages and two-party RPC")
-        .version(VERSION)
-        .after_help(
-            "Exit status: 0 if everything was accepted; 1 if something was refused, and standard error \
-             says where and why; 2 if the command line is wrong, or if a file or a connection failed.",
-        )
-        .subcommand_required(true)
-        .subcommand(show(alloc)?)?
-        .subcommand(check(alloc)?)?
-        .subcommand(pack(alloc)?)?
-        .subcommand(unpack(alloc)?)?
-        .subcommand(recut(alloc)?)?
-        .subcommand(looped(alloc)?)?
-        .subcommand(serve(alloc)?)
-}
-
-/// The limits that the words ask for. A frame may have 8,388,608 words, or as many as may be gone
-/// over.
-fn limits(matches: &ArgMatches) -> Option<Limits> {
-    let standard = Limits::standard();
-    let nesting = matches
-        .get_one::<u32>("nesting")
-        .unwrap_or(standard.nesting());
-    let traversal = matches
-        .get_one::<u32>("traversal")
-        .unwrap_or(standard.traversal());
-    let frame_words = standard.frame_words().max(traversal);
-    Limits::new(nesting, traversal, standard.segments(), frame_words)
 }
 
 /// The form that the words ask for.
@@ -222,23 +232,16 @@ fn plan(name: &str, matches: &ArgMatches) -> Option<Plan> {
     Some(plan)
 }
 
-/// What the words ask for.
-pub(crate) fn task_of<'a>(matches: &ArgMatches<'a>) -> Option<Task<'a>> {
-    let (name, inner) = matches.subcommand()?;
-    let task = match name {
-        "loop" => Task::Loop {
-            mode: mode(inner),
-            path: inner.get_str("FILE")?,
-        },
-        "serve" => Task::Serve {
-            mode: mode(inner),
-            port: inner.get_one::<u16>("PORT")?,
-            count: inner.get_one::<u32>("COUNT")?,
-        },
-        name => Task::OnFile {
-            plan: plan(name, inner)?,
-            path: inner.get_str("FILE")?,
-        },
-    };
-    Some(task)
+/// The limits that the words ask for. A frame may have 8,388,608 words, or as many as may be gone
+/// over.
+fn limits(matches: &ArgMatches) -> Option<Limits> {
+    let standard = Limits::standard();
+    let nesting = matches
+        .get_one::<u32>("nesting")
+        .unwrap_or(standard.nesting());
+    let traversal = matches
+        .get_one::<u32>("traversal")
+        .unwrap_or(standard.traversal());
+    let frame_words = standard.frame_words().max(traversal);
+    Limits::new(nesting, traversal, standard.segments(), frame_words)
 }

@@ -80,49 +80,6 @@ pub fn serve_connections<E: Write>(
     first
 }
 
-/// Serves the next connection, and says how it ended.
-fn serve_next<E: Write>(alloc: Global, listener: &TcpListener, mode: Mode, err: &mut E) -> u8 {
-    let (stream, peer) = match listener.accept() {
-        Ok(connection) => connection,
-        Err(error) => {
-            let _ = writeln!(err, "device: no connection: {error}");
-            return BROKEN;
-        }
-    };
-    match serve_stream(alloc, &stream, mode) {
-        Ok(()) => ACCEPTED,
-        Err(fault) => {
-            let unserved = Unserved(fault);
-            let _ = writeln!(err, "{unserved} (peer {peer})");
-            unserved.status()
-        }
-    }
-}
-
-/// Serves a connection.
-fn serve_stream(alloc: Global, stream: &TcpStream, mode: Mode) -> Result<(), ServeFault> {
-    // What was sent goes out at once, as the peer may wait for it.
-    if stream.set_nodelay(true).is_err() {
-        return Err(ServeFault::Stream(StreamFault::Device));
-    }
-    serve_objects(alloc, stream, stream, mode)
-}
-
-/// Serves a Desk and a Cell.
-fn serve_objects<R: Read + Drop, W: Write + Drop>(
-    alloc: Global,
-    from: R,
-    to: W,
-    mode: Mode,
-) -> Result<(), ServeFault> {
-    let mut objects: Vec<Box<dyn Servant>> = Vec::new(alloc);
-    objects.push(Box::new(alloc, Desk::new(alloc))?)?;
-    objects.push(Box::new(alloc, Cell::new(alloc))?)?;
-    let (mut from, mut to) = (Tap::new(from), Tap::new(to));
-    let _ = serve(alloc, &mut from, &mut to, &mut objects, mode)?;
-    Ok(())
-}
-
 /// A connection of which both ends are here.
 #[derive(Drop)]
 struct Loop {
@@ -177,4 +134,47 @@ impl Loop {
             }
         }
     }
+}
+
+/// Serves the next connection, and says how it ended.
+fn serve_next<E: Write>(alloc: Global, listener: &TcpListener, mode: Mode, err: &mut E) -> u8 {
+    let (stream, peer) = match listener.accept() {
+        Ok(connection) => connection,
+        Err(error) => {
+            let _ = writeln!(err, "device: no connection: {error}");
+            return BROKEN;
+        }
+    };
+    match serve_stream(alloc, &stream, mode) {
+        Ok(()) => ACCEPTED,
+        Err(fault) => {
+            let unserved = Unserved(fault);
+            let _ = writeln!(err, "{unserved} (peer {peer})");
+            unserved.status()
+        }
+    }
+}
+
+/// Serves a connection.
+fn serve_stream(alloc: Global, stream: &TcpStream, mode: Mode) -> Result<(), ServeFault> {
+    // What was sent goes out at once, as the peer may wait for it.
+    if stream.set_nodelay(true).is_err() {
+        return Err(ServeFault::Stream(StreamFault::Device));
+    }
+    serve_objects(alloc, stream, stream, mode)
+}
+
+/// Serves a Desk and a Cell.
+fn serve_objects<R: Read + Drop, W: Write + Drop>(
+    alloc: Global,
+    from: R,
+    to: W,
+    mode: Mode,
+) -> Result<(), ServeFault> {
+    let mut objects: Vec<Box<dyn Servant>> = Vec::new(alloc);
+    objects.push(Box::new(alloc, Desk::new(alloc))?)?;
+    objects.push(Box::new(alloc, Cell::new(alloc))?)?;
+    let (mut from, mut to) = (Tap::new(from), Tap::new(to));
+    let _ = serve(alloc, &mut from, &mut to, &mut objects, mode)?;
+    Ok(())
 }

@@ -29,6 +29,7 @@ pub enum Plan {
 /// How many bytes are asked for at once: at first and after a frame, and after a piece that ended no
 /// frame half as many more.
 const PIECE: usize = 16_384;
+
 /// The most bytes that are asked for at once.
 const LARGEST_PIECE: usize = 65_536;
 
@@ -45,47 +46,7 @@ struct Progress {
 struct Last {
     alloc: Global,
     line: String,
-    room: Vec<u8>,
-}
-
-/// Writes the frame of the segments, by way of `room`.
-fn write<W: Write>(
-    alloc: Global,
-    segments: &Segments,
-    mode: Mode,
-    room: &mut Vec<u8>,
-    out: &mut W,
-) -> Result<(), Stop> {
-    Ok(send_frame(alloc, out, room, segments, mode, Limits::standard())??)
-}
-
-/// Writes the message's line. `line` is the last one.
-fn show<W: Write>(
-    alloc: Global,
-    segments: &Segments,
-    limits: Limits,
-    line: &mut String,
-    out: &mut W,
-) -> Result<(), Stop> {
-    let view = view_of(segments, limits)?;
-    line.clear();
-    push_line(alloc, line, &view)?;
-    Ok(out.write_all(line.as_bytes())?)
-}
-
-/// Writes the frame's tree again, in segments of at most this many words, by way of `room`.
-fn recut<W: Write>(
-    alloc: Global,
-    segments: &Segments,
-    mode: Mode,
-    words: u32,
-    room: &mut Vec<u8>,
-    out: &mut W,
-) -> Result<(), Stop> {
-    let limits = Limits::standard();
-    let root = read_root(alloc, segments, limits)?;
-    let cut = write_segments(alloc, &root, words, limits)?;
-    write(alloc, &cut, mode, room, out)
+    buffer: Vec<u8>,
 }
 
 impl Plan {
@@ -114,10 +75,10 @@ impl Plan {
         match self {
             Plan::Show { limits, .. } => show(alloc, segments, *limits, &mut last.line, out),
             Plan::Check { limits, .. } => Ok(check_of(segments, *limits)?),
-            Plan::Pack => write(alloc, segments, Mode::Packed, &mut last.room, out),
-            Plan::Unpack => write(alloc, segments, Mode::Plain, &mut last.room, out),
+            Plan::Pack => write(alloc, segments, Mode::Packed, &mut last.buffer, out),
+            Plan::Unpack => write(alloc, segments, Mode::Plain, &mut last.buffer, out),
             Plan::Recut { mode, words } => {
-                recut(alloc, segments, *mode, *words, &mut last.room, out)
+                recut(alloc, segments, *mode, *words, &mut last.buffer, out)
             }
         }
     }
@@ -159,7 +120,7 @@ impl Plan {
         let mut last = Last {
             alloc,
             line: String::new(alloc),
-            room: Vec::new(alloc),
+            buffer: Vec::new(alloc),
         };
         // A reader could go on for ever; no device gives this many pieces.
         for _ in 0..u64::MAX {
@@ -220,4 +181,44 @@ pub fn act<R: Read, W: Write, E: Write>(
             BROKEN
         }
     }
+}
+
+/// Writes the message's line. `line` is the last one.
+fn show<W: Write>(
+    alloc: Global,
+    segments: &Segments,
+    limits: Limits,
+    line: &mut String,
+    out: &mut W,
+) -> Result<(), Stop> {
+    let view = view_of(segments, limits)?;
+    line.clear();
+    push_line(alloc, line, &view)?;
+    Ok(out.write_all(line.as_bytes())?)
+}
+
+/// Writes the frame of the segments, by way of `buffer`.
+fn write<W: Write>(
+    alloc: Global,
+    segments: &Segments,
+    mode: Mode,
+    buffer: &mut Vec<u8>,
+    out: &mut W,
+) -> Result<(), Stop> {
+    Ok(send_frame(alloc, out, buffer, segments, mode, Limits::standard())??)
+}
+
+/// Writes the frame's tree again, in segments of at most this many words, by way of `buffer`.
+fn recut<W: Write>(
+    alloc: Global,
+    segments: &Segments,
+    mode: Mode,
+    words: u32,
+    buffer: &mut Vec<u8>,
+    out: &mut W,
+) -> Result<(), Stop> {
+    let limits = Limits::standard();
+    let root = read_root(alloc, segments, limits)?;
+    let cut = write_segments(alloc, &root, words, limits)?;
+    write(alloc, &cut, mode, buffer, out)
 }

@@ -61,8 +61,8 @@ alike_fault limits a b faults.Failed h n k = absurd k.2
 alike_fault limits a b faults.OutOfMemory h n k = absurd k.2
 
 -- a front of a longer rest stands in the rest, or goes on after it
-pub no_front_behind : (limits : Bounds) (a b x : List ℕ) → GoesOnAs modes.Packed a b → NoFront modes.Packed limits b → NoFront modes.Packed limits (a ++ x) → NoFront modes.Packed limits (b ++ x)
-no_front_behind limits a b x h n k S front y e m = go (two_fronts b x front y e)
+pub no_front_after : (limits : Bounds) (a b x : List ℕ) → GoesOnAs modes.Packed a b → NoFront modes.Packed limits b → NoFront modes.Packed limits (a ++ x) → NoFront modes.Packed limits (b ++ x)
+no_front_after limits a b x h n k S front y e m = go (two_fronts b x front y e)
   where
     go : ((z : List ℕ) × (b ≡ front ++ z)) ⊎ ((z : List ℕ) × (front ≡ b ++ z)) → ⊥
     go (inl s) = n S front s.0 s.1 m
@@ -75,7 +75,7 @@ pub alike_open : (limits : Bounds) (a b x : List ℕ) → GoesOnAs modes.Packed 
 alike_open limits a b x h n k =
     let more = alike_more a b x h in
     record {
-      no_front = no_front_behind limits a b x h n k.no_front;
+      no_front = no_front_after limits a b x h n k.no_front;
       no_fault = λ fault f. k.no_fault fault (alike_fault limits (b ++ x) (a ++ x) fault (alike_back (a ++ x) (b ++ x) more) k.no_front f);
     }
 

@@ -13,7 +13,8 @@ use Rattle.cp_frame.specs.Framed.{spelled, sizes_of, table, Framed}
 use Rattle.cp_packed.specs.Words.{AreWords, bytes_of}
 use Rattle.cp_frame.specs.Frame.{Frame}
 use Rattle.cp_frame.specs.Stream.{numbers, named_sizes, Frames, Open}
-use Rattle.cp_frame.specs.Parts.{halves, count_of, lists, body, rest_of, InSegments, IsComplete, IsOpen, IsBegun, IsEmpty, NamesLittle, IsWholeTable}
+use Rattle.cp_frame.specs.Parts.{halves, count_of, body, rest_of, InSegments, IsComplete, IsOpen, IsBegun, IsEmpty, NamesLittle, IsWholeTable}
+use Rattle.cp_words.specs.Segments.{words_of}
 use Rattle.cp_packed.proofs.Bytes.{all-take}
 use Rattle.cp_frame.proofs.Numbers.{length_halves, length_spelled, spelled_halves, halves_small}
 use Rattle.cp_frame.proofs.Tables.{length_named}
@@ -45,7 +46,7 @@ sizes_named (w ∷ ws) more n S others h e k =
 pub front_in_segments : (limits : Bounds) (f : OpenFrame) (T : List (List ℕ)) (g back : List ℕ) → InSegments limits f → rest_of f ≡ g ++ back → Framed T g → ⊥
 front_in_segments limits f T g back h e k =
     let named = named_sizes (halves f.table.items) in
-    let S = lists f.segments.items in
+    let S = words_of f.segments.items in
     let all = sym (numbers_in_segments limits f h) ∙ ap numbers e ∙ numbers_framed T g back k in
     let some : 0 < length f.table.items = omega (arith, h.whole) in
     let count = last_of f.table.items (numbers (body S f.words.items ++ f.part.items)) _ (length T - 1) some all in
@@ -53,8 +54,8 @@ front_in_segments limits f T g back h e k =
     let total : sum named ≡ sum (sizes_of T) = ap (λ (ns : List ℕ). sum ns) sizes in
     let before : sum (sizes_of S) ≡ sum (take (length S) named) = ap (λ (ns : List ℕ). sum ns) h.fills.sized in
     let place : length S ≡ length f.segments.items = length_lists f.segments.items in
-    let room : length f.words.items < get_or named (length S) 0 = subst (λ i. length f.words.items < get_or named i 0) (sym place) h.goes_on in
-    let less = sum_inside named (length S) (length f.words.items) room in
+    let fitting : length f.words.items < get_or named (length S) 0 = subst (λ i. length f.words.items < get_or named i 0) (sym place) h.goes_on in
+    let less = sum_inside named (length S) (length f.words.items) fitting in
     let long : 8 * (length T / 2 + 1 + sum (sizes_of T)) ≤ length (rest_of f) = omega (arith, ap length e, length-append g back, length_framed T g k) in
     omega (arith, long, length_rest f, total, before, less, count, h.table.no_longer, h.short, k.some)
 
@@ -69,7 +70,7 @@ open_rest limits f (inl h) = record {
 open_rest limits f (inr h) = record {
   no_front = λ S front back e k. front_in_segments limits f S front back h e k.form;
   no_fault = λ fault k.
-      let little = little_whole limits f.table.items (numbers (body (lists f.segments.items) f.words.items ++ f.part.items)) h.whole h.table.little in
+      let little = little_whole limits f.table.items (numbers (body (words_of f.segments.items) f.words.items ++ f.part.items)) h.whole h.table.little in
       little_no_fault limits (numbers (rest_of f)) fault (subst (λ (ms : List ℕ). NamesLittle limits ms) (sym (numbers_in_segments limits f h)) little) (plain_fault limits (rest_of f) fault k);
 }
 
@@ -141,14 +142,14 @@ pub little_within : (limits : Bounds) (table_words : List ℕ) → IsWholeTable 
 little_within limits [] h k = absurd (omega (arith, h))
 little_within limits (w ∷ ws) h k = k
 
-pub complete_frame : (limits : Bounds) (f : OpenFrame) → IsComplete limits f → Frame modes.Plain limits (lists f.segments.items) (rest_of f)
+pub complete_frame : (limits : Bounds) (f : OpenFrame) → IsComplete limits f → Frame modes.Plain limits (words_of f.segments.items) (rest_of f)
 complete_frame limits f h =
-    let S = lists f.segments.items in
+    let S = words_of f.segments.items in
     let named = named_sizes (halves f.table.items) in
     let many : length named ≡ count_of f.table.items = length_named f.table.items h.whole in
     let count : length S ≡ count_of f.table.items = length_lists f.segments.items ∙ h.all in
     let sizes : sizes_of S ≡ named = h.fills.sized ∙ take_all (length S) named (omega (arith, many, count)) in
-    let none : length f.words.items ≡ 0 = omega (arith, h.fills.room, get_or_past named (length S) 0 (omega (arith, many, count))) in
+    let none : length f.words.items ≡ 0 = omega (arith, h.fills.fitting, get_or_past named (length S) 0 (omega (arith, many, count))) in
     let no_words : f.words.items ≡ [] = nil_from_length f.words.items none in
     let within = little_within limits f.table.items h.whole h.table.little in
     let rest : rest_of f ≡ bytes_of f.table.items ++ flat_map bytes_of S =

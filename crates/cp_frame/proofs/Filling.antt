@@ -7,10 +7,11 @@ use Rattle.std.proofs.lemmas.List.{append-nil, map-append, take_more}
 use Rattle.std.proofs.lemmas.Grind.{flat_map-append}
 use Rattle.cp_frame.specs.Framed.{sizes_of}
 use Rattle.cp_packed.specs.Words.{AreWords, bytes_of}
-use Rattle.cp_frame.specs.Parts.{Fills, body, lists}
+use Rattle.cp_frame.specs.Parts.{Fills, body}
+use Rattle.cp_words.specs.Segments.{words_of}
 use Rattle.cp_packed.proofs.Bytes.{all-push, all-append}
 
-pub length_lists : (vs : List (Vec ℕ)) → length (lists vs) ≡ length vs
+pub length_lists : (vs : List (Vec ℕ)) → length (words_of vs) ≡ length vs
 length_lists [] = refl
 length_lists (v ∷ vs) = omega (arith, length_lists vs)
 
@@ -28,7 +29,7 @@ fills_next sizes S ws h k e = record {
       let more : take (length S + 1) sizes ≡ take (length S) sizes ++ get_or sizes (length S) 0 ∷ [] = take_more sizes (length S) 0 k in
       sizes-append S (ws ∷ []) ∙ ap (λ ns. ns ++ length ws ∷ []) h.sized ∙ ap (λ n. take (length S) sizes ++ n ∷ []) e ∙ sym more ∙ ap (λ n. take n sizes) (sym last);
   some = omega (arith, k, length-append S (ws ∷ []));
-  room = omega arith;
+  fitting = omega arith;
 }
 
 pub body_next : (S : List (List ℕ)) (ws : List ℕ) → body (S ++ ws ∷ []) [] ≡ body S ws
@@ -37,12 +38,12 @@ body_next S ws =
 
 -- words that still find room
 pub fills_more : (sizes : List ℕ) (S : List (List ℕ)) (ws more : List ℕ) → Fills sizes S ws → AreWords more → length ws + length more ≤ get_or sizes (length S) 0 → Fills sizes S (ws ++ more)
-fills_more sizes S ws more h k room = record {
+fills_more sizes S ws more h k fitting = record {
   each = h.each;
   are_words = all-append (λ w. w < 2 ^ 64) ws more h.are_words k;
   sized = h.sized;
   some = h.some;
-  room = omega (arith, room, length-append ws more);
+  fitting = omega (arith, fitting, length-append ws more);
 }
 
 pub body_more : (S : List (List ℕ)) (ws more : List ℕ) → body S (ws ++ more) ≡ body S ws ++ bytes_of more

@@ -12,7 +12,8 @@ use Rattle.cp_frame.specs.declared.frame.OpenFrame.{OpenFrame}
 use Rattle.cp_frame.specs.declared.rest.Rest.{Rest}
 use Rattle.cp_packed.specs.Words.{AreBytes, AreWords, bytes_of}
 use Rattle.cp_frame.specs.Frame.{Frame}
-use Rattle.cp_frame.specs.Parts.{IsOpen, IsComplete, IsEmpty, IsFaultOf, lists, rest_of}
+use Rattle.cp_frame.specs.Parts.{IsOpen, IsComplete, IsEmpty, IsFaultOf, rest_of}
+use Rattle.cp_words.specs.Segments.{words_of}
 use Rattle.cp_frame.specs.Stream.{Frames, HasFault, NamesFault, numbers}
 use Rattle.cp_frame.specs.Rest.{bytes_for, IsRest, IsSound, InPacked, KeptFor, Reads, Refuses}
 use Rattle.cp_frame.specs.Bulk.{TakesBytes, TakesFront, GivesWhole}
@@ -64,10 +65,10 @@ none_packed limits r s left back h are t (inl c) few =
     absurd ((open_rest limits r.frame h.frame).no_front _ (rest_of s.frame) [] (sym same ∙ sym (append-nil (rest_of s.frame))) (complete_frame limits s.frame c.0))
 
 -- a fault after them is one of the whole
-pub fault_behind : (limits : Bounds) (r s : Rest) (left back : List ℕ) (fault : FrameFault) → InPacked limits r → AreBytes left → TakesFront limits r left s back → InPacked limits s
+pub fault_after : (limits : Bounds) (r s : Rest) (left back : List ℕ) (fault : FrameFault) → InPacked limits r → AreBytes left → TakesFront limits r left s back → InPacked limits s
     → (fault ≡ faults.OutOfMemory) ⊎ HasThere modes.Packed limits s back fault → (fault ≡ faults.OutOfMemory) ⊎ HasThere modes.Packed limits r left fault
-fault_behind limits r s left back fault h are t k (inl e) = inl e
-fault_behind limits r s left back fault h are t k (inr f) = inr (λ b m.
+fault_after limits r s left back fault h are t k (inl e) = inl e
+fault_after limits r s left back fault h are t k (inr f) = inr (λ b m.
     (let bytes = are_front t.0 back (subst (λ (c : List ℕ). AreBytes c) t.1 are) in
     let whole : (b ++ t.0) ++ back ≡ b ++ left = append_assoc b t.0 back ∙ ap (λ (c : List ℕ). b ++ c) (sym t.1) in
     subst (λ (c : List ℕ). HasFault modes.Packed limits c fault) whole (f (b ++ t.0) (keeps_front limits r s t.0 b h bytes t.2 k m))))
@@ -79,10 +80,10 @@ pub fault_there : (limits : Bounds) (r : Rest) (left : List ℕ) (fault : FrameF
 fault_there limits r left fault some are (inl e) = inl e
 fault_there limits r left fault some are (inr k) = inr (λ b m.
     (let x = get_or left 0 0 in
-    let behind = drop 1 left in
-    let bytes = are_back (x ∷ []) behind (subst (λ (c : List ℕ). AreBytes c) (first_left left some) are) in
-    let there = fault_stays_packed limits (b ++ x ∷ []) behind fault bytes (ends_fault limits r x b fault k m) in
-    let whole : (b ++ x ∷ []) ++ behind ≡ b ++ left = append_assoc b (x ∷ []) behind ∙ ap (λ (c : List ℕ). b ++ c) (sym (first_left left some)) in
+    let following = drop 1 left in
+    let bytes = are_back (x ∷ []) following (subst (λ (c : List ℕ). AreBytes c) (first_left left some) are) in
+    let there = fault_stays_packed limits (b ++ x ∷ []) following fault bytes (ends_fault limits r x b fault k m) in
+    let whole : (b ++ x ∷ []) ++ following ≡ b ++ left = append_assoc b (x ∷ []) following ∙ ap (λ (c : List ℕ). b ++ c) (sym (first_left left some)) in
     subst (λ (c : List ℕ). HasFault modes.Packed limits c fault) whole there))
 
 -- a packed frame is whole
@@ -117,7 +118,7 @@ taken_between (y ∷ a) (x ∷ b) left back e few =
     (rest.0, rest.1, ap (λ (n : ℕ). n ∷ a) first ∙ ap (λ (c : List ℕ). x ∷ c) rest.2)
 
 pub ends_plain : (limits : Bounds) (f g h : OpenFrame) (piece back : List ℕ) (taken : ℕ) (S : List (List ℕ)) → rest_of g ++ back ≡ rest_of f ++ piece → length back < length piece → IsComplete limits g
-    → taken ≡ length (rest_of g) → S ≡ lists g.segments.items → IsEmpty h → EndsFrame limits f piece taken S h back
+    → taken ≡ length (rest_of g) → S ≡ words_of g.segments.items → IsEmpty h → EndsFrame limits f piece taken S h back
 ends_plain limits f g h piece back taken S e few complete count segments empty =
     let front = taken_between (rest_of g) (rest_of f) piece back e (omega (arith, few)) in
     record {
@@ -125,7 +126,7 @@ ends_plain limits f g h piece back taken S e few complete count segments empty =
       whole = front.1;
       shorter = few;
       count = count ∙ ap (λ (b : List ℕ). length b) front.2;
-      frame = subst (λ (T : List (List ℕ)). Frame modes.Plain limits T (rest_of f ++ front.0)) (sym segments) (subst (λ (b : List ℕ). Frame modes.Plain limits (lists g.segments.items) b) front.2 (complete_frame limits g complete));
+      frame = subst (λ (T : List (List ℕ)). Frame modes.Plain limits T (rest_of f ++ front.0)) (sym segments) (subst (λ (b : List ℕ). Frame modes.Plain limits (words_of g.segments.items) b) front.2 (complete_frame limits g complete));
       empty = empty;
     }
 
@@ -142,8 +143,8 @@ ends_whole limits f h piece back taken S none t empty =
     }
 
 -- a fault that was told of the numbers of a plain frame is the stream's, or an allocation failure
-pub told_plain : (limits : Bounds) (b : List ℕ) (fault : FrameFault) → IsFaultOf limits (numbers b) fault → (fault ≡ faults.OutOfMemory) ⊎ HasFault modes.Plain limits b fault
-told_plain limits b fault h = by (memory_or limits (numbers b) fault h)
+pub reported_plain : (limits : Bounds) (b : List ℕ) (fault : FrameFault) → IsFaultOf limits (numbers b) fault → (fault ≡ faults.OutOfMemory) ⊎ HasFault modes.Plain limits b fault
+reported_plain limits b fault h = by (memory_or limits (numbers b) fault h)
   where
     by : (fault ≡ faults.OutOfMemory) ⊎ NamesFault limits (numbers b) fault → (fault ≡ faults.OutOfMemory) ⊎ HasFault modes.Plain limits b fault
     by (inl e) = inl e

@@ -12,7 +12,8 @@ use Rattle.cp_frame.specs.Framed.{Framed}
 use Rattle.cp_packed.specs.Words.{AreBytes, AreWords, bytes_of}
 use Rattle.cp_frame.specs.Frame.{Frame}
 use Rattle.cp_packed.specs.Packed.{Packed}
-use Rattle.cp_frame.specs.Parts.{lists, rest_of, kept_words, IsOpen, IsComplete, NamesLittle}
+use Rattle.cp_frame.specs.Parts.{rest_of, kept_words, IsOpen, IsComplete, NamesLittle}
+use Rattle.cp_words.specs.Segments.{words_of}
 use Rattle.cp_frame.specs.Stream.{Frames, Open, numbers}
 use Rattle.cp_frame.specs.Reader.{GoesOnAs}
 use Rattle.cp_frame.specs.Rest.{words_in_order, bytes_for, InPacked, TakesByte, KeptFor}
@@ -135,7 +136,7 @@ keeps_front limits r s front b h l m k f = (
 
 -- a frame ends with them
 pub ends_front : (limits : Bounds) (r s : Rest) (front b : List ℕ) → InPacked limits r → AreBytes front → TakesBytes limits r front s → IsComplete limits s.frame → pending_of s.group ≡ nothing
-    → KeptFor modes.Packed limits r b → Frame modes.Packed limits (lists s.frame.segments.items) (b ++ front)
+    → KeptFor modes.Packed limits r b → Frame modes.Packed limits (words_of s.frame.segments.items) (b ++ front)
 ends_front limits r s front b h l m k e f =
     let t = bytes_for modes.Packed r ++ front in
     let ws = given nothing t in
@@ -144,7 +145,7 @@ ends_front limits r s front b h l m k e f =
     let there = (alike_more (bytes_for modes.Packed r) b front f.0 ws []).0 (subst (λ (c : List ℕ). Packed ws c) (sym (append-nil t)) packed) in
     record {
       within = plain.within;
-      form = (ws, subst (λ (c : List ℕ). Framed (lists s.frame.segments.items) c) (m.words ∙ sym (front_bytes limits r front h)) plain.form, subst (λ (c : List ℕ). Packed ws c) (append-nil (b ++ front)) there);
+      form = (ws, subst (λ (c : List ℕ). Framed (words_of s.frame.segments.items) c) (m.words ∙ sym (front_bytes limits r front h)) plain.form, subst (λ (c : List ℕ). Packed ws c) (append-nil (b ++ front)) there);
     }
 
 -- more bytes after a stream

@@ -16,7 +16,8 @@ use Rattle.cp_frame.specs.declared.status.Status.{Status}
 use Rattle.cp_frame.specs.declared.status.Status.TheVariants as statuses
 use Rattle.cp_frame.specs.Kept.{seen, KeepsUp}
 use Rattle.cp_frame.specs.Reader.{IsNeeded, Needs}
-use Rattle.cp_frame.specs.Parts.{halves, count_of, body, lists, rest_of, least_words, kept_words, IsOpen, IsTable}
+use Rattle.cp_frame.specs.Parts.{halves, count_of, body, rest_of, least_words, kept_words, IsOpen, IsTable}
+use Rattle.cp_words.specs.Segments.{words_of}
 use Rattle.cp_frame.specs.Rest.{InPacked, KeptFor, bytes_for}
 use Rattle.cp_packed.specs.Unpacking.{Pending, nothing, next, after, still, header_of, IsPending}
 use Rattle.cp_frame.proofs.Numbers.{numbers_words}
@@ -96,10 +97,10 @@ less_kept limits f (inl h) =
     less_by f (cases_eq (length f.table.items) 0) (rw (h.no_segments, h.no_words) (omega arith)) h.goes_on
 less_kept limits f (inr h) =
     let named = named_sizes (halves f.table.items) in
-    let S = lists f.segments.items in
+    let S = words_of f.segments.items in
     let before : sum (sizes_of S) ≡ sum (take (length S) named) = ap (λ (ns : List ℕ). sum ns) h.fills.sized in
-    let room : length f.words.items < get_or named (length S) 0 = subst (λ i. length f.words.items < get_or named i 0) (sym (length_lists f.segments.items)) h.goes_on in
-    omega (arith, least_some f (omega (arith, h.whole)), h.table.no_longer, before, sum_inside named (length S) (length f.words.items) room, h.table.sums)
+    let fitting : length f.words.items < get_or named (length S) 0 = subst (λ i. length f.words.items < get_or named i 0) (sym (length_lists f.segments.items)) h.goes_on in
+    omega (arith, least_some f (omega (arith, h.whole)), h.table.no_longer, before, sum_inside named (length S) (length f.words.items) fitting, h.table.sums)
 
 part_less : (limits : Bounds) (f : OpenFrame) → IsOpen limits f → length f.part.items < 8
 part_less limits f (inl h) = h.short
@@ -126,17 +127,17 @@ named_most (w ∷ ws) more n sizes others e k =
     omega (arith, sum_more (w % 2 ^ 32 + 1) (w / 2 ^ 32 ∷ halves ws) more, all)
 
 -- the numbers of what has come, and of what follows it
-abbrev behind : OpenFrame → List ℕ → List ℕ
-behind f more = (body (lists f.segments.items) f.words.items ++ f.part.items) ++ more
+abbrev following : OpenFrame → List ℕ → List ℕ
+following f more = (body (words_of f.segments.items) f.words.items ++ f.part.items) ++ more
 
-numbers_all : (f : OpenFrame) (more : List ℕ) → AreWords f.table.items → numbers (rest_of f ++ more) ≡ halves f.table.items ++ numbers (behind f more)
+numbers_all : (f : OpenFrame) (more : List ℕ) → AreWords f.table.items → numbers (rest_of f ++ more) ≡ halves f.table.items ++ numbers (following f more)
 numbers_all f more h =
-    ap numbers (ap (λ (b : List ℕ). b ++ more) (append_assoc (bytes_of f.table.items) (body (lists f.segments.items) f.words.items) f.part.items)
-    ∙ append_assoc (bytes_of f.table.items) (body (lists f.segments.items) f.words.items ++ f.part.items) more)
-    ∙ numbers_words f.table.items (behind f more) h
+    ap numbers (ap (λ (b : List ℕ). b ++ more) (append_assoc (bytes_of f.table.items) (body (words_of f.segments.items) f.words.items) f.part.items)
+    ∙ append_assoc (bytes_of f.table.items) (body (words_of f.segments.items) f.words.items ++ f.part.items) more)
+    ∙ numbers_words f.table.items (following f more) h
 
 numbers_both : (f : OpenFrame) (S : List (List ℕ)) (more : List ℕ) → AreWords f.table.items → (k : Framed S (rest_of f ++ more))
-    → halves f.table.items ++ numbers (behind f more) ≡ (length S - 1) ∷ (sizes_of S ++ numbers (k.padding ++ (flat_map bytes_of S ++ [])))
+    → halves f.table.items ++ numbers (following f more) ≡ (length S - 1) ∷ (sizes_of S ++ numbers (k.padding ++ (flat_map bytes_of S ++ [])))
 numbers_both f S more h k = sym (numbers_all f more h) ∙ ap numbers (sym (append-nil (rest_of f ++ more))) ∙ numbers_framed S (rest_of f ++ more) [] k
 
 frame_least : (limits : Bounds) (f : OpenFrame) (S : List (List ℕ)) (more : List ℕ) → IsOpen limits f → Framed S (rest_of f ++ more) → least_words f ≤ length S / 2 + 1 + sum (sizes_of S)
@@ -145,17 +146,17 @@ frame_least limits f S more h k = by (cases_eq (length f.table.items) 0)
     table : IsTable limits f.table.items f.total
     table = table_of limits f h
 
-    same : halves f.table.items ++ numbers (behind f more) ≡ (length S - 1) ∷ (sizes_of S ++ numbers (k.padding ++ (flat_map bytes_of S ++ [])))
+    same : halves f.table.items ++ numbers (following f more) ≡ (length S - 1) ∷ (sizes_of S ++ numbers (k.padding ++ (flat_map bytes_of S ++ [])))
     same = numbers_both f S more table.are_words k
 
     total : f.total ≤ sum (sizes_of S)
-    total = omega (arith, table.sums, named_most f.table.items (numbers (behind f more)) (length S - 1) (sizes_of S) _ same (let l : length (sizes_of S) ≡ length S - 1 + 1 = omega (arith, length_sizes S, k.some) in l))
+    total = omega (arith, table.sums, named_most f.table.items (numbers (following f more)) (length S - 1) (sizes_of S) _ same (let l : length (sizes_of S) ≡ length S - 1 + 1 = omega (arith, length_sizes S, k.some) in l))
 
     by : (length f.table.items ≡ 0) ⊎ (length f.table.items ≡ 0 → ⊥) → least_words f ≤ length S / 2 + 1 + sum (sizes_of S)
     by (inl e) = omega (arith, least_none f e, total)
     by (inr e) =
         let some : 0 < length f.table.items = omega (arith, e) in
-        omega (arith, least_some f some, total, last_of f.table.items (numbers (behind f more)) _ (length S - 1) some same, k.some)
+        omega (arith, least_some f some, total, last_of f.table.items (numbers (following f more)) _ (length S - 1) some same, k.some)
 
 frame_all : (limits : Bounds) (f : OpenFrame) (S : List (List ℕ)) (more : List ℕ) → IsOpen limits f → Framed S (rest_of f ++ more) → 8 * (length S / 2 + 1) ≤ length (rest_of f) → least_words f ≡ length S / 2 + 1 + sum (sizes_of S)
 frame_all limits f S more (inl h) k l = absurd (by (cases_eq (length f.table.items) 0))
@@ -165,12 +166,12 @@ frame_all limits f S more (inl h) k l = absurd (by (cases_eq (length f.table.ite
 
     by : (length f.table.items ≡ 0) ⊎ (length f.table.items ≡ 0 → ⊥) → ⊥
     by (inl e) = omega (arith, l, length_rest f, kept, e, h.short)
-    by (inr e) = omega (arith, l, length_rest f, kept, h.short, h.goes_on, last_of f.table.items (numbers (behind f more)) _ (length S - 1) (omega (arith, e)) (numbers_both f S more h.table.are_words k), k.some)
+    by (inr e) = omega (arith, l, length_rest f, kept, h.short, h.goes_on, last_of f.table.items (numbers (following f more)) _ (length S - 1) (omega (arith, e)) (numbers_both f S more h.table.are_words k), k.some)
 frame_all limits f S more (inr h) k l =
     let same = numbers_both f S more h.table.are_words k in
     let some : 0 < length f.table.items = omega (arith, h.whole) in
-    let sizes = sizes_named f.table.items (numbers (behind f more)) (length S - 1) (sizes_of S) _ h.whole same (let n : length (sizes_of S) ≡ length S - 1 + 1 = omega (arith, length_sizes S, k.some) in n) in
-    omega (arith, least_some f some, h.table.sums, ap (λ (ns : List ℕ). sum ns) sizes, last_of f.table.items (numbers (behind f more)) _ (length S - 1) some same, k.some)
+    let sizes = sizes_named f.table.items (numbers (following f more)) (length S - 1) (sizes_of S) _ h.whole same (let n : length (sizes_of S) ≡ length S - 1 + 1 = omega (arith, length_sizes S, k.some) in n) in
+    omega (arith, least_some f some, h.table.sums, ap (λ (ns : List ℕ). sum ns) sizes, last_of f.table.items (numbers (following f more)) _ (length S - 1) some same, k.some)
 
 pub needs_plain : (limits : Bounds) (f : OpenFrame) (b : List ℕ) (n : ℕ) → IsOpen limits f → rest_of f ≡ b → n + length (rest_of f) ≡ 8 * least_words f → IsNeeded modes.Plain limits b n
 needs_plain limits f b n h e k =
@@ -195,15 +196,15 @@ keeps_plain mode limits status r e m h =
 pub keeps_packed : (mode : Mode) (limits : Bounds) (status : Status) (r : Rest) → status ≡ statuses.Reading → mode ≡ modes.Packed → KeepsUp mode limits status r → InPacked limits r
 keeps_packed mode limits status r e m h = subst (λ (u : Mode). KeepsUp u limits statuses.Reading r) m (subst (λ (s : Status). KeepsUp mode limits s r) e h)
 
-pub tells_plain : (mode : Mode) (limits : Bounds) (status : Status) (r : Rest) (n : ℕ) → status ≡ statuses.Reading → mode ≡ modes.Plain → KeepsUp mode limits status r → n + length (rest_of r.frame) ≡ 8 * least_words r.frame
+pub needs_of_plain : (mode : Mode) (limits : Bounds) (status : Status) (r : Rest) (n : ℕ) → status ≡ statuses.Reading → mode ≡ modes.Plain → KeepsUp mode limits status r → n + length (rest_of r.frame) ≡ 8 * least_words r.frame
     → Needs (seen mode limits status r) (seen mode limits status r).state n
-tells_plain mode limits status r n e m h k =
+needs_of_plain mode limits status r n e m h k =
     subst (λ (u : Mode). Needs (seen u limits status r) (seen u limits status r).state n) (sym m)
     (subst (λ (s : Status). Needs (seen modes.Plain limits s r) (seen modes.Plain limits s r).state n) (sym e) (λ b f. needs_plain limits r.frame b n (keeps_plain mode limits status r e m h) f.0 k))
 
-pub tells_packed : (mode : Mode) (limits : Bounds) (status : Status) (r : Rest) (n : ℕ) → status ≡ statuses.Reading → mode ≡ modes.Packed → KeepsUp mode limits status r → n ≡ still r.group.run r.group.part.items
+pub needs_of_packed : (mode : Mode) (limits : Bounds) (status : Status) (r : Rest) (n : ℕ) → status ≡ statuses.Reading → mode ≡ modes.Packed → KeepsUp mode limits status r → n ≡ still r.group.run r.group.part.items
     → Needs (seen mode limits status r) (seen mode limits status r).state n
-tells_packed mode limits status r n e m h k =
+needs_of_packed mode limits status r n e m h k =
     subst (λ (u : Mode). Needs (seen u limits status r) (seen u limits status r).state n) (sym m)
     (subst (λ (s : Status). Needs (seen modes.Packed limits s r) (seen modes.Packed limits s r).state n) (sym e)
     (λ b f. subst (λ (j : ℕ). IsNeeded modes.Packed limits b j) (sym k) (needs_packed limits r b (keeps_packed mode limits status r e m h) f)))

@@ -11,7 +11,8 @@ use Rattle.cp_frame.specs.Framed.{spelled, sizes_of, table, Framed}
 use Rattle.cp_packed.specs.Words.{bytes_of}
 use Rattle.cp_frame.specs.Frame.{padded_table}
 use Rattle.cp_frame.specs.Stream.{numbers, named_sizes, NamesFault}
-use Rattle.cp_frame.specs.Parts.{halves, count_of, lists, body, rest_of, InTable, InSegments, IsOpen, IsFaultOf, NamesLittle, IsWholeTable, kept_words}
+use Rattle.cp_frame.specs.Parts.{halves, count_of, body, rest_of, InTable, InSegments, IsOpen, IsFaultOf, NamesLittle, IsWholeTable, kept_words}
+use Rattle.cp_words.specs.Segments.{words_of}
 use Rattle.std.specs.Global.{Vec}
 use Rattle.std.proofs.lemmas.List.{take-append-le, take_more, take-map}
 use Rattle.std.proofs.lemmas.List.Sums.{sum_by_more_le, sum_by_push}
@@ -86,9 +87,9 @@ pub length_rest : (f : OpenFrame) → length (rest_of f) ≡ 8 * kept_words f + 
 length_rest f =
     omega (
       arith,
-      length-append (bytes_of f.table.items ++ body (lists f.segments.items) f.words.items) f.part.items,
-      length-append (bytes_of f.table.items) (body (lists f.segments.items) f.words.items),
-      length_body (lists f.segments.items) f.words.items,
+      length-append (bytes_of f.table.items ++ body (words_of f.segments.items) f.words.items) f.part.items,
+      length-append (bytes_of f.table.items) (body (words_of f.segments.items) f.words.items),
+      length_body (words_of f.segments.items) f.words.items,
       length_bytes_of f.table.items,
     )
 
@@ -118,18 +119,18 @@ little_in_table limits f more h e = numbers_in_table limits f more h ∙ ap (λ 
 
 pub little_in_segments : (limits : Bounds) (f : OpenFrame) (more : List ℕ) → InSegments limits f → NamesLittle limits (numbers (rest_of f ++ more))
 little_in_segments limits f more h =
-    let behind = (body (lists f.segments.items) f.words.items ++ f.part.items) ++ more in
-    let rest : rest_of f ++ more ≡ bytes_of f.table.items ++ behind =
-    ap (λ (b : List ℕ). b ++ more) (append_assoc (bytes_of f.table.items) (body (lists f.segments.items) f.words.items) f.part.items)
-    ∙ append_assoc (bytes_of f.table.items) (body (lists f.segments.items) f.words.items ++ f.part.items) more in
-    subst (λ (ns : List ℕ). NamesLittle limits ns) (sym (ap numbers rest ∙ numbers_words f.table.items behind h.table.are_words)) (little_whole limits f.table.items (numbers behind) h.whole h.table.little)
+    let after = (body (words_of f.segments.items) f.words.items ++ f.part.items) ++ more in
+    let rest : rest_of f ++ more ≡ bytes_of f.table.items ++ after =
+    ap (λ (b : List ℕ). b ++ more) (append_assoc (bytes_of f.table.items) (body (words_of f.segments.items) f.words.items) f.part.items)
+    ∙ append_assoc (bytes_of f.table.items) (body (words_of f.segments.items) f.words.items ++ f.part.items) more in
+    subst (λ (ns : List ℕ). NamesLittle limits ns) (sym (ap numbers rest ∙ numbers_words f.table.items after h.table.are_words)) (little_whole limits f.table.items (numbers after) h.whole h.table.little)
 
 -- the numbers of a rest whose table is whole
 pub numbers_in_segments : (limits : Bounds) (f : OpenFrame) → InSegments limits f
-    → numbers (rest_of f) ≡ halves f.table.items ++ numbers (body (lists f.segments.items) f.words.items ++ f.part.items)
+    → numbers (rest_of f) ≡ halves f.table.items ++ numbers (body (words_of f.segments.items) f.words.items ++ f.part.items)
 numbers_in_segments limits f h =
-    ap numbers (append_assoc (bytes_of f.table.items) (body (lists f.segments.items) f.words.items) f.part.items)
-    ∙ numbers_words f.table.items (body (lists f.segments.items) f.words.items ++ f.part.items) h.table.are_words
+    ap numbers (append_assoc (bytes_of f.table.items) (body (words_of f.segments.items) f.words.items) f.part.items)
+    ∙ numbers_words f.table.items (body (words_of f.segments.items) f.words.items ++ f.part.items) h.table.are_words
 
 -- a table names the first of a frame's segments less one before their sizes
 pub last_of : (table more S : List ℕ) (n : ℕ) → 0 < length table → halves table ++ more ≡ n ∷ S → count_of table ≡ n + 1
@@ -147,39 +148,39 @@ front_in_table limits f T g back h e k =
     omega (arith, long, length_rest f, words, h.short, h.goes_on, count, k.some)
 
 -- how long a segment is, among the sizes of all
-pub size_read : (vs : List (Vec ℕ)) (i : ℕ) (v : Vec ℕ) → i < length vs → v ≡ get_or vs i v → get_or (sizes_of (lists vs)) i 0 ≡ length v.items
+pub size_read : (vs : List (Vec ℕ)) (i : ℕ) (v : Vec ℕ) → i < length vs → v ≡ get_or vs i v → get_or (sizes_of (words_of vs)) i 0 ≡ length v.items
 size_read [] i v h e = absurd (omega (arith, h))
 size_read (w ∷ vs) zero v h e = ap (λ (u : Vec ℕ). length u.items) (sym e)
 size_read (w ∷ vs) (suc i) v h e = size_read vs i v (omega (arith, h)) e
 
-pub length_sizes_of_lists : (vs : List (Vec ℕ)) → length (sizes_of (lists vs)) ≡ length vs
-length_sizes_of_lists vs = length_sizes (lists vs) ∙ length_lists vs
+pub length_sizes_of_lists : (vs : List (Vec ℕ)) → length (sizes_of (words_of vs)) ≡ length vs
+length_sizes_of_lists vs = length_sizes (words_of vs) ∙ length_lists vs
 
 -- one segment more
 pub next_size : (vs : List (Vec ℕ)) (i : ℕ) (v : Vec ℕ) → i < length vs → v ≡ get_or vs i v
-    → take (i + 1) (sizes_of (lists vs)) ≡ take i (sizes_of (lists vs)) ++ length v.items ∷ []
-next_size vs i v h e = take_more (sizes_of (lists vs)) i 0 (omega (arith, h, length_sizes_of_lists vs)) ∙ ap (λ n. take i (sizes_of (lists vs)) ++ n ∷ []) (size_read vs i v h e)
+    → take (i + 1) (sizes_of (words_of vs)) ≡ take i (sizes_of (words_of vs)) ++ length v.items ∷ []
+next_size vs i v h e = take_more (sizes_of (words_of vs)) i 0 (omega (arith, h, length_sizes_of_lists vs)) ∙ ap (λ n. take i (sizes_of (words_of vs)) ++ n ∷ []) (size_read vs i v h e)
 
 pub next_sum : (vs : List (Vec ℕ)) (i : ℕ) (v : Vec ℕ) → i < length vs → v ≡ get_or vs i v
-    → sum (take (i + 1) (sizes_of (lists vs))) ≡ sum (take i (sizes_of (lists vs))) + length v.items
-next_sum vs i v h e = ap (λ (ns : List ℕ). sum ns) (next_size vs i v h e) ∙ sum_by_push (λ n. n) (take i (sizes_of (lists vs))) (length v.items)
+    → sum (take (i + 1) (sizes_of (words_of vs))) ≡ sum (take i (sizes_of (words_of vs))) + length v.items
+next_sum vs i v h e = ap (λ (ns : List ℕ). sum ns) (next_size vs i v h e) ∙ sum_by_push (λ n. n) (take i (sizes_of (words_of vs))) (length v.items)
 
-pub size_within : (vs : List (Vec ℕ)) (i : ℕ) (v : Vec ℕ) → i < length vs → v ≡ get_or vs i v → sum (take i (sizes_of (lists vs))) + length v.items ≤ sum (sizes_of (lists vs))
-size_within vs i v h e = omega (arith, size_read vs i v h e, sum_by_more_le (λ n. n) (sizes_of (lists vs)) i 0 (omega (arith, h, length_sizes_of_lists vs)))
+pub size_within : (vs : List (Vec ℕ)) (i : ℕ) (v : Vec ℕ) → i < length vs → v ≡ get_or vs i v → sum (take i (sizes_of (words_of vs))) + length v.items ≤ sum (sizes_of (words_of vs))
+size_within vs i v h e = omega (arith, size_read vs i v h e, sum_by_more_le (λ n. n) (sizes_of (words_of vs)) i 0 (omega (arith, h, length_sizes_of_lists vs)))
 
-pub list_read : (vs : List (Vec ℕ)) (i : ℕ) (v : Vec ℕ) → i < length vs → v ≡ get_or vs i v → get_or (lists vs) i [] ≡ v.items
+pub list_read : (vs : List (Vec ℕ)) (i : ℕ) (v : Vec ℕ) → i < length vs → v ≡ get_or vs i v → get_or (words_of vs) i [] ≡ v.items
 list_read [] i v h e = absurd (omega (arith, h))
 list_read (w ∷ vs) zero v h e = ap (λ (u : Vec ℕ). u.items) (sym e)
 list_read (w ∷ vs) (suc i) v h e = list_read vs i v (omega (arith, h)) e
 
-pub next_list : (vs : List (Vec ℕ)) (i : ℕ) (v : Vec ℕ) → i < length vs → v ≡ get_or vs i v → take (i + 1) (lists vs) ≡ take i (lists vs) ++ v.items ∷ []
-next_list vs i v h e = take_more (lists vs) i [] (omega (arith, h, length_lists vs)) ∙ ap (λ (ws : List ℕ). take i (lists vs) ++ ws ∷ []) (list_read vs i v h e)
+pub next_list : (vs : List (Vec ℕ)) (i : ℕ) (v : Vec ℕ) → i < length vs → v ≡ get_or vs i v → take (i + 1) (words_of vs) ≡ take i (words_of vs) ++ v.items ∷ []
+next_list vs i v h e = take_more (words_of vs) i [] (omega (arith, h, length_lists vs)) ∙ ap (λ (ws : List ℕ). take i (words_of vs) ++ ws ∷ []) (list_read vs i v h e)
 
 pub next_body : (vs : List (Vec ℕ)) (i : ℕ) (v : Vec ℕ) → i < length vs → v ≡ get_or vs i v
-    → flat_map bytes_of (take (i + 1) (lists vs)) ≡ flat_map bytes_of (take i (lists vs)) ++ bytes_of v.items
+    → flat_map bytes_of (take (i + 1) (words_of vs)) ≡ flat_map bytes_of (take i (words_of vs)) ++ bytes_of v.items
 next_body vs i v h e =
-    ap (λ (S : List (List ℕ)). flat_map bytes_of S) (next_list vs i v h e) ∙ flat_map-append bytes_of (take i (lists vs)) (v.items ∷ [])
-    ∙ ap (λ (b : List ℕ). flat_map bytes_of (take i (lists vs)) ++ b) (append-nil (bytes_of v.items))
+    ap (λ (S : List (List ℕ)). flat_map bytes_of S) (next_list vs i v h e) ∙ flat_map-append bytes_of (take i (words_of vs)) (v.items ∷ [])
+    ∙ ap (λ (b : List ℕ). flat_map bytes_of (take i (words_of vs)) ++ b) (append-nil (bytes_of v.items))
 
 pub length_padded : (S : List (List ℕ)) → length (padded_table S) ≤ 8 + 4 * length S
 length_padded S = omega (arith, length-append (table S) (if length S % 2 == 0 then spelled (0 ∷ []) else []), length_spelled ((length S - 1) ∷ sizes_of S), length_sizes S, pad (length S % 2 == 0))
@@ -189,8 +190,8 @@ length_padded S = omega (arith, length-append (table S) (if length S % 2 == 0 th
     pad false = omega arith
 
 -- how long what is written is, before a segment
-pub written_short : (vs : List (Vec ℕ)) (i : ℕ) (v : Vec ℕ) → i < length vs → v ≡ get_or vs i v → length vs ≤ 512 → sum (sizes_of (lists vs)) ≤ 67108864
-    → length (padded_table (lists vs) ++ flat_map bytes_of (take i (lists vs))) + length v.items < 2 ^ 40
+pub written_short : (vs : List (Vec ℕ)) (i : ℕ) (v : Vec ℕ) → i < length vs → v ≡ get_or vs i v → length vs ≤ 512 → sum (sizes_of (words_of vs)) ≤ 67108864
+    → length (padded_table (words_of vs) ++ flat_map bytes_of (take i (words_of vs))) + length v.items < 2 ^ 40
 written_short vs i v h e few small =
-    let sizes : sum (sizes_of (take i (lists vs))) ≡ sum (take i (sizes_of (lists vs))) = ap (λ (ns : List ℕ). sum ns) (sym (take-map (λ seg. length seg) i (lists vs))) in
-    omega (arith, length-append (padded_table (lists vs)) (flat_map bytes_of (take i (lists vs))), length_padded (lists vs), length_lists vs, length_bodies (take i (lists vs)), sizes, size_within vs i v h e, few, small)
+    let sizes : sum (sizes_of (take i (words_of vs))) ≡ sum (take i (sizes_of (words_of vs))) = ap (λ (ns : List ℕ). sum ns) (sym (take-map (λ seg. length seg) i (words_of vs))) in
+    omega (arith, length-append (padded_table (words_of vs)) (flat_map bytes_of (take i (words_of vs))), length_padded (words_of vs), length_lists vs, length_bodies (take i (words_of vs)), sizes, size_within vs i v h e, few, small)

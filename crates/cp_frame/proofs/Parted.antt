@@ -8,7 +8,8 @@ use Rattle.cp_frame.specs.declared.spare.Spare.{Spare}
 use Rattle.cp_frame.specs.declared.rest.Rest.{Rest}
 use Rattle.cp_packed.specs.Words.{bytes_of}
 use Rattle.cp_frame.specs.Stream.{named_sizes}
-use Rattle.cp_frame.specs.Parts.{halves, count_of, lists, body, rest_of, Fills, InSegments, IsComplete}
+use Rattle.cp_frame.specs.Parts.{halves, count_of, body, rest_of, Fills, InSegments, IsComplete}
+use Rattle.cp_words.specs.Segments.{words_of}
 use Rattle.cp_packed.specs.Unpacking.{Pending, nothing, given, laid, pending_of}
 use Rattle.cp_frame.specs.Rest.{InPacked, IsSound}
 use Rattle.cp_frame.specs.Bulk.{TakesPart}
@@ -28,21 +29,21 @@ module _ (limits : Bounds) (f : OpenFrame) (h : InSegments limits f) (none : f.p
   sizes = named_sizes (halves f.table.items)
 
   abbrev S : List (List ℕ)
-  S = lists f.segments.items
+  S = words_of f.segments.items
 
   abbrev more : List ℕ
   more = given (running run) t.front
 
-  room : most ≡ get_or sizes (length S) 0
-  room = size ∙ ap (λ (n : ℕ). get_or sizes n 0) (sym (length_lists f.segments.items))
+  fitting : most ≡ get_or sizes (length S) 0
+  fitting = size ∙ ap (λ (n : ℕ). get_or sizes n 0) (sym (length_lists f.segments.items))
 
   -- the words that were taken find room
   pub fills_taken : Fills sizes S words
   fills_taken =
       subst (λ (ws : List ℕ). Fills sizes S ws) (sym t.puts)
-      (fills_more sizes S f.words.items more h.fills t.are_words (omega (arith, t.within, room, ap (λ (ws : List ℕ). length ws) t.puts, length-append f.words.items more)))
+      (fills_more sizes S f.words.items more h.fills t.are_words (omega (arith, t.within, fitting, ap (λ (ws : List ℕ). length ws) t.puts, length-append f.words.items more)))
 
-  rest_taken : (V : List (Vec ℕ)) (ws : List ℕ) → body (lists V) ws ≡ body S words → (bytes_of f.table.items ++ body (lists V) ws) ++ f.part.items ≡ rest_of f ++ bytes_of more
+  rest_taken : (V : List (Vec ℕ)) (ws : List ℕ) → body (words_of V) ws ≡ body S words → (bytes_of f.table.items ++ body (words_of V) ws) ++ f.part.items ≡ rest_of f ++ bytes_of more
   rest_taken V ws e =
       ap (λ (b : List ℕ). (bytes_of f.table.items ++ b) ++ f.part.items) (e ∙ ap (λ (us : List ℕ). body S us) t.puts ∙ body_more S f.words.items more)
       ∙ rest_more (bytes_of f.table.items) (body S f.words.items) (bytes_of more) f.part.items none
@@ -64,7 +65,7 @@ module _ (limits : Bounds) (f : OpenFrame) (h : InSegments limits f) (none : f.p
     });
   }
 
-  pub part_full : (V : Vec (Vec ℕ)) (W : Vec ℕ) (R : Spare) → length words ≡ most → Fills sizes (lists V.items) W.items → body (lists V.items) W.items ≡ body S words
+  pub part_full : (V : Vec (Vec ℕ)) (W : Vec ℕ) (R : Spare) → length words ≡ most → Fills sizes (words_of V.items) W.items → body (words_of V.items) W.items ≡ body S words
       → (length V.items ≡ count_of f.table.items) ⊎ (length W.items < get_or sizes (length V.items) 0) → TakesPart limits f run left (record { table = f.table; total = f.total; segments = V; words = W; part = f.part; spare = R }) next back
   part_full V W R e fills b k = record {
     front = t.front;

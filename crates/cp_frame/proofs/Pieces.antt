@@ -10,7 +10,7 @@ use Rattle.cp_frame.specs.Framed.{spelled, sizes_of, table}
 use Rattle.cp_frame.specs.Frame.{IsWritten, padded_table}
 use Rattle.cp_packed.specs.Packed.{Spelt}
 use Rattle.cp_packed.specs.Packing.{PutsSpelt}
-use Rattle.cp_frame.specs.Parts.{lists}
+use Rattle.cp_words.specs.Segments.{words_of}
 use Rattle.cp_packed.specs.Words.{words_in, AreBytes, bytes_of}
 use Rattle.cp_frame.proofs.Numbers.{length_spelled, bytes_of_word}
 use Rattle.cp_packed.proofs.Bytes.{words_in_is}
@@ -39,14 +39,14 @@ pieces_none head old out e h =
     record { front = h.0; pieces = []; first = h.1; each = tt; text = h.2 ∙ ap (λ (b : List ℕ). b ++ h.0) e ∙ sym (append-nil h.0) }
 
 pub pieces_more : (head : List ℕ) (vs : List (Vec ℕ)) (i : ℕ) (v : Vec ℕ) (words old out : List ℕ) → i < length vs → v ≡ get_or vs i v → words ≡ v.items
-    → WritesPieces head (take i (lists vs)) old → PutsSpelt old out words → WritesPieces head (take (i + 1) (lists vs)) out
+    → WritesPieces head (take i (words_of vs)) old → PutsSpelt old out words → WritesPieces head (take (i + 1) (words_of vs)) out
 pieces_more head vs i v words old out l r e h p =
     let piece : Spelt v.items p.0 = subst (λ (ws : List ℕ). Spelt ws p.0) e p.1 in
     record {
       front = h.front;
       pieces = h.pieces ++ p.0 ∷ [];
       first = h.first;
-      each = subst (λ (S : List (List ℕ)). AllZip Spelt S (h.pieces ++ p.0 ∷ [])) (sym (next_list vs i v l r)) (all_zip-push (take i (lists vs)) h.pieces v.items p.0 h.each piece);
+      each = subst (λ (S : List (List ℕ)). AllZip Spelt S (h.pieces ++ p.0 ∷ [])) (sym (next_list vs i v l r)) (all_zip-push (take i (words_of vs)) h.pieces v.items p.0 h.each piece);
       text =
           p.2 ∙ ap (λ (b : List ℕ). b ++ p.0) h.text ∙ append_assoc h.front (flat_map (λ piece. piece) h.pieces) p.0
           ∙ ap (λ (b : List ℕ). h.front ++ (flat_map (λ piece. piece) h.pieces ++ b)) (sym (append-nil p.0)) ∙ ap (λ (b : List ℕ). h.front ++ b) (sym (flat_map-append (λ (piece : List ℕ). piece) h.pieces (p.0 ∷ [])));
@@ -79,7 +79,7 @@ pub padded_small : (S : List (List ℕ)) (i : ℕ) → get_or (padded_table S) i
 padded_small S i = byte_at (padded_table S) (are-append (table S) (if length S % 2 == 0 then spelled (0 ∷ []) else []) (spelled_are ((length S - 1) ∷ sizes_of S)) (padding_are (length S % 2 == 0))) i
 
 -- the table of one segment
-pub one_table : (vs : List (Vec ℕ)) (v : Vec ℕ) (n w : ℕ) → length vs ≡ 1 → v ≡ get_or vs 0 v → n ≡ length v.items → n < 2 ^ 32 → w ≡ n * 2 ^ 32 → padded_table (lists vs) ≡ bytes_of (w ∷ [])
+pub one_table : (vs : List (Vec ℕ)) (v : Vec ℕ) (n w : ℕ) → length vs ≡ 1 → v ≡ get_or vs 0 v → n ≡ length v.items → n < 2 ^ 32 → w ≡ n * 2 ^ 32 → padded_table (words_of vs) ≡ bytes_of (w ∷ [])
 one_table [] v n w h r e k m = absurd (omega (arith, h))
 one_table (x ∷ y ∷ vs) v n w h r e k m = absurd (omega (arith, h))
 one_table (x ∷ []) v n w h r e k m =

@@ -8,7 +8,8 @@ use Rattle.cp_frame.specs.declared.fault.FrameFault.TheVariants as faults
 use Rattle.cp_frame.specs.declared.frame.OpenFrame.{OpenFrame}
 use Rattle.cp_packed.specs.Words.{bytes_of}
 use Rattle.cp_frame.specs.Stream.{numbers}
-use Rattle.cp_frame.specs.Parts.{lists, rest_of, IsComplete, IsFaultOf}
+use Rattle.cp_frame.specs.Parts.{rest_of, IsComplete, IsFaultOf}
+use Rattle.cp_words.specs.Segments.{words_of}
 use Rattle.cp_frame.specs.Rest.{IsFaultOfWords}
 use Rattle.cp_frame.proofs.Numbers.{length_bytes_of, numbers_more}
 use Rattle.cp_frame.proofs.Opened.{fault_of_more}
@@ -21,7 +22,7 @@ run_left (suc n) word h = let e : n ≡ suc n - 1 = omega arith in ap (λ (m : �
 
 pub run_past : (limits : Bounds) (f : OpenFrame) (b : List ℕ) (left word : ℕ) → IsComplete limits f → 0 < left → rest_of f ++ bytes_of (replicate left word) ≡ b → IsFaultOfWords limits b faults.RunPastFrame
 run_past limits f b left word h k e =
-    inl (refl, (lists f.segments.items, rest_of f, bytes_of (replicate left word), sym e, omega (arith, length_bytes_of (replicate left word), length-replicate left word, k), complete_frame limits f h))
+    inl (refl, (words_of f.segments.items, rest_of f, bytes_of (replicate left word), sym e, omega (arith, length_bytes_of (replicate left word), length-replicate left word, k), complete_frame limits f h))
 
 pub run_fault : (limits : Bounds) (f : OpenFrame) (b : List ℕ) (left word : ℕ) (fault : FrameFault) → 0 < left → rest_of f ++ bytes_of (replicate left word) ≡ b
     → IsFaultOf limits (numbers (rest_of f ++ to_le_bytes w64 word)) fault → IsFaultOfWords limits b fault

@@ -11,8 +11,9 @@ use Rattle.cp_frame.specs.declared.frame.OpenFrame.{OpenFrame}
 use Rattle.cp_frame.specs.declared.rest.Rest.{Rest}
 use Rattle.cp_frame.specs.Framed.{sizes_of}
 use Rattle.cp_frame.specs.Stream.{Frames, HasFault, Laid, Open, numbers, named_sizes}
-use Rattle.cp_frame.specs.Parts.{rest_of, IsOpen, IsEmpty, InTable, InSegments, kept_words, lists, halves}
-use Rattle.cp_frame.specs.Reader.{Gives, Tells, KeepsLittle}
+use Rattle.cp_frame.specs.Parts.{rest_of, IsOpen, IsEmpty, InTable, InSegments, kept_words, halves}
+use Rattle.cp_words.specs.Segments.{words_of}
+use Rattle.cp_frame.specs.Reader.{Gives, Reports, KeepsLittle}
 use Rattle.cp_packed.specs.Unpacking.{Pending, IsPending, laid, pending_of}
 use Rattle.cp_frame.specs.Rest.{InPacked, IsRest, IsBlank, KeptFor, Reads, Refuses, bytes_for, words_in_order}
 use Rattle.cp_frame.specs.Kept.{seen, KeepsUp}
@@ -55,19 +56,19 @@ gives_kept mode limits status r s piece given fault e n m (inr h) =
     subst (λ (s' : Status). Gives (seen mode limits s' r) piece (seen mode limits (statuses.Refusing fault) s) given) (sym e)
     (record { was_reading = tt; same_mode = refl; same_limits = refl; frames = h; kept = λ k. n })
 
-pub tells_memory : (mode : Mode) (limits : Bounds) (status : Status) (r s : Rest) (piece : List ℕ) (fault : FrameFault) → status ≡ statuses.Reading → fault ≡ faults.OutOfMemory
-    → Tells (seen mode limits status r) piece (seen mode limits statuses.Failed s) fault
-tells_memory mode limits status r s piece fault e h =
-    subst (λ (s' : Status). Tells (seen mode limits s' r) piece (seen mode limits statuses.Failed s) fault) (sym e) (record { told = inl h; failed = refl })
+pub reports_memory : (mode : Mode) (limits : Bounds) (status : Status) (r s : Rest) (piece : List ℕ) (fault : FrameFault) → status ≡ statuses.Reading → fault ≡ faults.OutOfMemory
+    → Reports (seen mode limits status r) piece (seen mode limits statuses.Failed s) fault
+reports_memory mode limits status r s piece fault e h =
+    subst (λ (s' : Status). Reports (seen mode limits s' r) piece (seen mode limits statuses.Failed s) fault) (sym e) (record { reported = inl h; failed = refl })
 
-pub tells_fault : (mode : Mode) (limits : Bounds) (status : Status) (r s : Rest) (piece : List ℕ) (given : List (ℕ × List (List ℕ))) (fault : FrameFault) → status ≡ statuses.Reading → given ≡ []
-    → (fault ≡ faults.OutOfMemory) ⊎ Refuses mode limits r piece given fault → Tells (seen mode limits status r) piece (seen mode limits statuses.Failed s) fault
-tells_fault mode limits status r s piece given fault e n (inl h) = tells_memory mode limits status r s piece fault e h
-tells_fault mode limits status r s piece given fault e n (inr h) =
-    subst (λ (s' : Status). Tells (seen mode limits s' r) piece (seen mode limits statuses.Failed s) fault) (sym e) (record { told = inr told; failed = refl })
+pub reports_fault : (mode : Mode) (limits : Bounds) (status : Status) (r s : Rest) (piece : List ℕ) (given : List (ℕ × List (List ℕ))) (fault : FrameFault) → status ≡ statuses.Reading → given ≡ []
+    → (fault ≡ faults.OutOfMemory) ⊎ Refuses mode limits r piece given fault → Reports (seen mode limits status r) piece (seen mode limits statuses.Failed s) fault
+reports_fault mode limits status r s piece given fault e n (inl h) = reports_memory mode limits status r s piece fault e h
+reports_fault mode limits status r s piece given fault e n (inr h) =
+    subst (λ (s' : Status). Reports (seen mode limits s' r) piece (seen mode limits statuses.Failed s) fault) (sym e) (record { reported = inr reported; failed = refl })
   where
-    told : (b : List ℕ) → KeptFor mode limits r b → HasFault mode limits (b ++ piece) fault
-    told b m =
+    reported : (b : List ℕ) → KeptFor mode limits r b → HasFault mode limits (b ++ piece) fault
+    reported b m =
         let all = h b m in
         let none : b ++ piece ≡ all.0 = subst (λ (gs : List (ℕ × List (List ℕ))). Frames mode limits (b ++ piece) gs all.0) n all.1 in
         subst (λ (x : List ℕ). HasFault mode limits x fault) (sym none) all.2
@@ -82,10 +83,10 @@ words_of_table limits f h = rw (h.no_segments, h.no_words) (omega (arith, h.tabl
 pub words_named : (limits : Bounds) (f : OpenFrame) → InSegments limits f → kept_words f ≤ 257 + sum (named_sizes (halves f.table.items))
 words_named limits f h =
     let named = named_sizes (halves f.table.items) in
-    let S = lists f.segments.items in
+    let S = words_of f.segments.items in
     let before : sum (sizes_of S) ≡ sum (take (length S) named) = ap (λ (ns : List ℕ). sum ns) h.fills.sized in
-    let room : length f.words.items < get_or named (length S) 0 = subst (λ i. length f.words.items < get_or named i 0) (sym (length_lists f.segments.items)) h.goes_on in
-    omega (arith, before, sum_inside named (length S) (length f.words.items) room, h.table.few, h.table.no_longer)
+    let fitting : length f.words.items < get_or named (length S) 0 = subst (λ i. length f.words.items < get_or named i 0) (sym (length_lists f.segments.items)) h.goes_on in
+    omega (arith, before, sum_inside named (length S) (length f.words.items) fitting, h.table.few, h.table.no_longer)
 
 pub words_kept : (limits : Bounds) (f : OpenFrame) → IsOpen limits f → kept_words f ≤ 257 + sum (named_sizes (numbers (rest_of f)))
 words_kept limits f (inl h) = omega (arith, words_of_table limits f h)

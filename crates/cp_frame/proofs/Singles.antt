@@ -7,7 +7,8 @@ use Rattle.std.proofs.lemmas.List.{append-nil, take_all, take-append-drop, lengt
 use Rattle.cp_words.specs.Limits.{Bounds}
 use Rattle.cp_frame.specs.declared.frame.OpenFrame.{OpenFrame}
 use Rattle.cp_frame.specs.Framed.{sizes_of, Framed}
-use Rattle.cp_frame.specs.Parts.{halves, lists, count_of, rest_of, IsOpen, IsComplete, InSegments, body, IsEmpty, IsTable, IsWholeTable, NamesLittle}
+use Rattle.cp_frame.specs.Parts.{halves, count_of, rest_of, IsOpen, IsComplete, InSegments, body, IsEmpty, IsTable, IsWholeTable, NamesLittle}
+use Rattle.cp_words.specs.Segments.{words_of}
 use Rattle.cp_packed.specs.Words.{words_in, AreWords, bytes_of}
 use Rattle.cp_frame.specs.Stream.{named_sizes, numbers}
 use Rattle.cp_packed.specs.Unpacking.{Pending, nothing, after, given, laid, pending_of}
@@ -66,14 +67,14 @@ nothing_come limits f (inl h) e =
 nothing_come limits f (inr h) e = absurd (omega (arith, h.whole, e))
 
 -- a frame that is complete has its sizes together, and no words besides
-pub complete_parts : (limits : Bounds) (f : OpenFrame) → IsComplete limits f → (f.total ≡ sum (sizes_of (lists f.segments.items))) × (f.words.items ≡ []) × (f.part.items ≡ [])
+pub complete_parts : (limits : Bounds) (f : OpenFrame) → IsComplete limits f → (f.total ≡ sum (sizes_of (words_of f.segments.items))) × (f.words.items ≡ []) × (f.part.items ≡ [])
 complete_parts limits f h =
-    let S = lists f.segments.items in
+    let S = words_of f.segments.items in
     let named = named_sizes (halves f.table.items) in
     let many : length named ≡ count_of f.table.items = length_named f.table.items h.whole in
     let count : length S ≡ count_of f.table.items = length_lists f.segments.items ∙ h.all in
     let sizes : sizes_of S ≡ named = h.fills.sized ∙ take_all (length S) named (omega (arith, many, count)) in
-    let none : length f.words.items ≡ 0 = omega (arith, h.fills.room, get_or_past named (length S) 0 (omega (arith, many, count))) in
+    let none : length f.words.items ≡ 0 = omega (arith, h.fills.fitting, get_or_past named (length S) 0 (omega (arith, many, count))) in
     (h.table.sums ∙ ap (λ (ns : List ℕ). sum ns) (sym sizes), nil_from_length f.words.items none, h.no_part)
 
 -- nothing at all has come
@@ -123,7 +124,7 @@ takes_table limits f left back table size next t one some at_table at_total at_s
     let segments : InSegments limits f = record {
       table = rw (at_table, at_total) facts.0;
       whole = rw at_table facts.1;
-      fills = rw (at_segments, at_words) (record { each = tt; are_words = tt; sized = refl; some = omega arith; room = omega arith });
+      fills = rw (at_segments, at_words) (record { each = tt; are_words = tt; sized = refl; some = omega arith; fitting = omega arith });
       goes_on = rw (at_segments, at_words, named) some;
       short = rw at_part (omega arith);
     } in

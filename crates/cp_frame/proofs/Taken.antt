@@ -11,7 +11,8 @@ use Rattle.cp_frame.specs.declared.mode.Mode.TheVariants as modes
 use Rattle.cp_frame.specs.declared.frame.OpenFrame.{OpenFrame}
 use Rattle.cp_frame.specs.declared.rest.Rest.{Rest}
 use Rattle.cp_packed.specs.Words.{AreBytes, AreWords, bytes_of}
-use Rattle.cp_frame.specs.Parts.{lists, rest_of, kept_words, IsOpen, IsBegun, IsComplete, IsFaultOf, NamesLittle}
+use Rattle.cp_frame.specs.Parts.{rest_of, kept_words, IsOpen, IsBegun, IsComplete, IsFaultOf, NamesLittle}
+use Rattle.cp_words.specs.Segments.{words_of}
 use Rattle.cp_frame.specs.Stream.{NoFront, NamesFault, HasFault, Open, numbers}
 use Rattle.cp_frame.specs.Reader.{GoesOnAs}
 use Rattle.cp_frame.specs.Rest.{words_in_order, heads, bytes_for, InPacked, IsBlank, TakesByte, IsFaultOfWords, EndsInside, KeptFor}
@@ -26,7 +27,7 @@ use Rattle.cp_packed.proofs.Laying.{half_small, pending_nothing}
 use Rattle.cp_frame.proofs.Certain.{are-append}
 use Rattle.cp_frame.proofs.Rests.{fault_packed}
 use Rattle.cp_frame.proofs.Cuts.{no_front_of}
-use Rattle.cp_frame.proofs.Alike.{alike_more, alike_fault, no_front_behind}
+use Rattle.cp_frame.proofs.Alike.{alike_more, alike_fault, no_front_after}
 use Rattle.cp_packed.proofs.Bytes.{words_repeat}
 use Rattle.cp_frame.proofs.Texts.{bytes_words, text_are, brings_kept, laid_words, open_packed, past_next}
 
@@ -143,9 +144,9 @@ fault_of_words limits r x fault h k m = by m
     named : (fault ≡ faults.OutOfMemory) ⊎ NamesFault limits (numbers come) fault → (fault ≡ faults.OutOfMemory) ⊎ HasFault modes.Packed limits (t ++ x ∷ []) fault
     named (inl e) = inl e
     named (inr n) =
-        let behind = laid (after nothing (t ++ x ∷ [])) in
-        let more = numbers_more come behind in
-        let all : numbers (all_laid (t ++ x ∷ [])) ≡ numbers come ++ more.0 = ap (λ (b : List ℕ). numbers (b ++ behind)) (next_bytes limits r x h) ∙ more.1 in
+        let following = laid (after nothing (t ++ x ∷ [])) in
+        let more = numbers_more come following in
+        let all : numbers (all_laid (t ++ x ∷ [])) ≡ numbers come ++ more.0 = ap (λ (b : List ℕ). numbers (b ++ following)) (next_bytes limits r x h) ∙ more.1 in
         inr (fault_packed limits (t ++ x ∷ []) fault (next_are limits r x h k) (subst (λ (ns : List ℕ). NamesFault limits ns fault) (sym all) (names_more limits (numbers come) more.0 fault n)))
 
     by : ((fault ≡ faults.RunPastFrame) × EndsInside limits come) ⊎ IsFaultOf limits (numbers come) fault → (fault ≡ faults.OutOfMemory) ⊎ HasFault modes.Packed limits (t ++ x ∷ []) fault
@@ -159,10 +160,10 @@ pub pending_taken : (limits : Bounds) (r s : Rest) (x : ℕ) → InPacked limits
 pending_taken limits r s x h k m = subst (λ (p : Pending). IsPending p) (sym m.group) (pending_step r.group.run r.group.part.items x h.pending k)
 
 -- a fault that shows after the words
-pub fault_behind : (limits : Bounds) (r s : Rest) (x : ℕ) (fault : FrameFault) → InPacked limits r → x < 256 → TakesByte limits r x s
+pub fault_after : (limits : Bounds) (r s : Rest) (x : ℕ) (fault : FrameFault) → InPacked limits r → x < 256 → TakesByte limits r x s
     → ((fault ≡ faults.RunPastFrame) × IsComplete limits s.frame × (0 < length s.group.part.items + s.group.run)) ⊎ NamesFault limits (numbers (rest_of s.frame ++ laid (pending_of s.group))) fault
     → HasFault modes.Packed limits (bytes_for modes.Packed r ++ x ∷ []) fault
-fault_behind limits r s x fault h k m n = by n
+fault_after limits r s x fault h k m n = by n
   where
     t : List ℕ
     t = bytes_for modes.Packed r
@@ -175,7 +176,7 @@ fault_behind limits r s x fault h k m n = by n
 
     run : IsComplete limits s.frame → 0 < length s.group.part.items + s.group.run → (brought p x ≡ []) ⊎ ((next p x).part ≡ []) → 0 < s.group.run
     run whole some (inl e) =
-        absurd ((open_rest limits r.frame h.frame).no_front (lists s.frame.segments.items) (rest_of s.frame) []
+        absurd ((open_rest limits r.frame h.frame).no_front (words_of s.frame.segments.items) (rest_of s.frame) []
         (sym (append-nil (rest_of r.frame)) ∙ ap (λ (ws : List ℕ). rest_of r.frame ++ bytes_of ws) (sym e) ∙ sym m.words ∙ sym (append-nil (rest_of s.frame))) (complete_frame limits s.frame whole))
     run whole some (inr e) = omega (arith, some, ap (λ (q : Pending). length q.part) m.group, ap (λ (b : List ℕ). length b) e)
 
@@ -184,7 +185,7 @@ fault_behind limits r s x fault h k m n = by n
     by (inl (e, whole, some)) =
         let past = run whole some (settles p.run (p.part ++ x ∷ [])) in
         subst (λ (f : FrameFault). HasFault modes.Packed limits (t ++ x ∷ []) f) (sym e)
-        (past_next limits t x (lists s.frame.segments.items) (rest_of s.frame) [] (next_are limits r x h k) (open_text limits r h).no_front
+        (past_next limits t x (words_of s.frame.segments.items) (rest_of s.frame) [] (next_are limits r x h k) (open_text limits r h).no_front
         (next_bytes limits r x h ∙ sym m.words ∙ sym (append-nil (rest_of s.frame))) (complete_frame limits s.frame whole) (omega (arith, past, ap (λ (q : Pending). q.run) brings.open_then)))
     by (inr named) =
         let all = laid_words (t ++ x ∷ []) (words_in_order r.frame ++ brought p x) (pending_of s.group) brings in
@@ -211,7 +212,7 @@ pub ends_fault : (limits : Bounds) (r : Rest) (x : ℕ) (b : List ℕ) (fault : 
     → HasFault modes.Packed limits (b ++ x ∷ []) fault
 ends_fault limits r x b fault h f =
     let t = bytes_for modes.Packed r in
-    alike_fault limits (t ++ x ∷ []) (b ++ x ∷ []) fault (alike_more t b (x ∷ []) f.0) (no_front_behind limits t b (x ∷ []) f.0 f.2.no_front (no_front_of modes.Packed limits (t ++ x ∷ []) fault h)) h
+    alike_fault limits (t ++ x ∷ []) (b ++ x ∷ []) fault (alike_more t b (x ∷ []) f.0) (no_front_after limits t b (x ∷ []) f.0 f.2.no_front (no_front_of modes.Packed limits (t ++ x ∷ []) fault h)) h
 
 -- nothing is kept of nothing
 pub blank_packed : (limits : Bounds) (r : Rest) → IsBlank r → InPacked limits r

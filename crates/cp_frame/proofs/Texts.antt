@@ -15,7 +15,8 @@ use Rattle.cp_frame.specs.declared.rest.Rest.{Rest}
 use Rattle.cp_packed.specs.Words.{AreBytes, AreWords, bytes_of}
 use Rattle.cp_frame.specs.Frame.{Frame}
 use Rattle.cp_packed.specs.Packed.{Packed}
-use Rattle.cp_frame.specs.Parts.{lists, body, rest_of, kept_words, IsOpen, NamesLittle}
+use Rattle.cp_frame.specs.Parts.{body, rest_of, kept_words, IsOpen, NamesLittle}
+use Rattle.cp_words.specs.Segments.{words_of}
 use Rattle.cp_frame.specs.Stream.{NoFront, NamesFault, RunsPast, HasFault, Open, numbers}
 use Rattle.cp_frame.specs.Rest.{words_in_order, heads, bytes_for, InPacked}
 use Rattle.cp_packed.specs.Unpacking.{Pending, nothing, after, given, laid, laid_in, laid_by, all_laid, IsPending, pending_of}
@@ -34,7 +35,7 @@ use Rattle.cp_frame.proofs.Alike.{brings_text}
 pub bytes_words : (f : OpenFrame) → f.part.items ≡ [] → bytes_of (words_in_order f) ≡ rest_of f
 bytes_words f h =
     let T = f.table.items in
-    let S = lists f.segments.items in
+    let S = words_of f.segments.items in
     let ws = f.words.items in
     let flat = flat_map (λ (seg : List ℕ). seg) S in
     flat_map-append (to_le_bytes w64) T (flat ++ ws) ∙ ap (λ (c : List ℕ). bytes_of T ++ c) (flat_map-append (to_le_bytes w64) flat ws ∙ ap (λ (c : List ℕ). c ++ bytes_of ws) (bytes_joined S))
@@ -48,14 +49,14 @@ flat_are : (S : List (List ℕ)) → AllByRecursion AreWords S → AreWords (fla
 flat_are [] h = tt
 flat_are (s ∷ S) h = all-append (λ w. w < 2 ^ 64) s (flat_map (λ seg. seg) S) h.0 (flat_are S h.1)
 
-words_are_by : (f : OpenFrame) → AreWords f.table.items → AllByRecursion AreWords (lists f.segments.items) → AreWords f.words.items → AreWords (words_in_order f)
+words_are_by : (f : OpenFrame) → AreWords f.table.items → AllByRecursion AreWords (words_of f.segments.items) → AreWords f.words.items → AreWords (words_in_order f)
 words_are_by f h k m =
-    let flat = flat_map (λ (seg : List ℕ). seg) (lists f.segments.items) in
-    all-append (λ w. w < 2 ^ 64) f.table.items (flat ++ f.words.items) h (all-append (λ w. w < 2 ^ 64) flat f.words.items (flat_are (lists f.segments.items) k) m)
+    let flat = flat_map (λ (seg : List ℕ). seg) (words_of f.segments.items) in
+    all-append (λ w. w < 2 ^ 64) f.table.items (flat ++ f.words.items) h (all-append (λ w. w < 2 ^ 64) flat f.words.items (flat_are (words_of f.segments.items) k) m)
 
 pub words_are : (limits : Bounds) (f : OpenFrame) → IsOpen limits f → AreWords (words_in_order f)
 words_are limits f (inl h) =
-    words_are_by f h.table.are_words (subst (λ (vs : List (Vec ℕ)). AllByRecursion AreWords (lists vs)) (sym h.no_segments) tt) (subst (λ (ws : List ℕ). AreWords ws) (sym h.no_words) tt)
+    words_are_by f h.table.are_words (subst (λ (vs : List (Vec ℕ)). AllByRecursion AreWords (words_of vs)) (sym h.no_segments) tt) (subst (λ (ws : List ℕ). AreWords ws) (sym h.no_words) tt)
 words_are limits f (inr h) = words_are_by f h.table.are_words h.fills.each h.fills.are_words
 
 heads_are : (ws : List ℕ) (run : ℕ) → run < 256 → AreBytes (heads ws run)
@@ -120,9 +121,9 @@ none_past limits b ws p are brings pend none r = by (two_fronts (bytes_of ws) (l
           l,
         )
 
-    behind : (z : List ℕ) → r.2 ≡ bytes_of ws ++ z → laid p ≡ z ++ r.3 → (length z ≡ 0) ⊎ (length z ≡ 0 → ⊥) → ⊥
-    behind z e t (inl k) = none r.0 r.2 [] (sym (append-nil (bytes_of ws)) ∙ ap (λ (c : List ℕ). bytes_of ws ++ c) (sym (nil_from_length z k)) ∙ sym e ∙ sym (append-nil r.2)) r.7
-    behind z e t (inr k) =
+    following : (z : List ℕ) → r.2 ≡ bytes_of ws ++ z → laid p ≡ z ++ r.3 → (length z ≡ 0) ⊎ (length z ≡ 0 → ⊥) → ⊥
+    following z e t (inl k) = none r.0 r.2 [] (sym (append-nil (bytes_of ws)) ∙ ap (λ (c : List ℕ). bytes_of ws ++ c) (sym (nil_from_length z k)) ∙ sym e ∙ sym (append-nil r.2)) r.7
+    following z e t (inr k) =
         let most = laid_at_most p.run p.part pend in
         let sum : length (laid p) ≡ length z + length r.3 = omega (arith, ap (λ (c : List ℕ). length c) t, length-append z r.3) in
         let long : length z ≡ 8 = omega (arith, ap (λ (c : List ℕ). length c) e, length-append (bytes_of ws) z, length_bytes_of ws, length_framed r.0 r.2 r.7.form, k, most, sum) in
@@ -132,7 +133,7 @@ none_past limits b ws p are brings pend none r = by (two_fronts (bytes_of ws) (l
     by (inl z) = none r.0 r.2 z.0 z.1 r.7
     by (inr z) =
         let tail : laid p ≡ z.0 ++ r.3 = append_cancel_left (bytes_of ws) (laid p) (z.0 ++ r.3) (whole ∙ ap (λ (c : List ℕ). c ++ r.3) z.1 ∙ append_assoc (bytes_of ws) z.0 r.3) in
-        behind z.0 z.1 tail (cases_eq (length z.0) 0)
+        following z.0 z.1 tail (cases_eq (length z.0) 0)
 
 -- a rest is open where no frame is among its words, and its table has no fault with what is laid
 pub open_packed : (limits : Bounds) (b ws : List ℕ) (p : Pending) → AreBytes b → Brings nothing b ws p → IsPending p → NoFront modes.Plain limits (bytes_of ws)
@@ -159,14 +160,14 @@ no_front_next limits t x S front back none e k more T f y s m = by (two_fronts t
         let one = one_framed S T front (bytes_of m.form.0) back [] k.form m.form.1 (sym e ∙ ap (λ (us : List ℕ). bytes_of us) all.words ∙ sym (append-nil (bytes_of m.form.0))) in
         omega (arith, more, ap (λ (c : List ℕ). length c) one.2, ap (λ (p : Pending). p.run) all.open_then)
 
-    behind : (z : List ℕ) → f ≡ t ++ z → x ∷ [] ≡ z ++ y → ⊥
-    behind [] q w = none T f [] (sym (append-nil t) ∙ sym q ∙ sym (append-nil f)) m
-    behind (v ∷ []) q w = let same : x ≡ v = cc (w) in whole (q ∙ ap (λ (n : ℕ). t ++ n ∷ []) (sym same))
-    behind (v ∷ u ∷ z) q w = omega (arith, ap (λ (c : List ℕ). length c) w)
+    following : (z : List ℕ) → f ≡ t ++ z → x ∷ [] ≡ z ++ y → ⊥
+    following [] q w = none T f [] (sym (append-nil t) ∙ sym q ∙ sym (append-nil f)) m
+    following (v ∷ []) q w = let same : x ≡ v = cc (w) in whole (q ∙ ap (λ (n : ℕ). t ++ n ∷ []) (sym same))
+    following (v ∷ u ∷ z) q w = omega (arith, ap (λ (c : List ℕ). length c) w)
 
     by : ((z : List ℕ) × (t ≡ f ++ z)) ⊎ ((z : List ℕ) × (f ≡ t ++ z)) → ⊥
     by (inl z) = none T f z.0 z.1 m
-    by (inr z) = behind z.0 z.1 (append_cancel_left t (x ∷ []) (z.0 ++ y) (s ∙ ap (λ (c : List ℕ). c ++ y) z.1 ∙ append_assoc t z.0 y))
+    by (inr z) = following z.0 z.1 (append_cancel_left t (x ∷ []) (z.0 ++ y) (s ∙ ap (λ (c : List ℕ). c ++ y) z.1 ∙ append_assoc t z.0 y))
 
 -- a raw run brings as many words as it counts
 run_brings : (p : Pending) (more : List ℕ) → IsPending p → AreBytes more → after p more ≡ nothing → p.run ≤ length (given p more)

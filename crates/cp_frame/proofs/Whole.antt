@@ -12,8 +12,8 @@ use Rattle.cp_frame.specs.declared.mode.Mode.TheVariants as modes
 use Rattle.cp_frame.specs.Framed.{spelled, sizes_of, table}
 use Rattle.cp_packed.specs.Words.{bytes_of}
 use Rattle.cp_frame.specs.Stream.{Frames, NoFront, NamesFault, NamesTooMany, NamesTooMuch, HasFault, numbers, HasOneFault}
-use Rattle.cp_frame.specs.Reader.{Reader, State, failed, refusing, reading, StandsFor, IsReading, IsToldFor}
-use Rattle.cp_frame.specs.Runs.{joined, Fed, ReadsAll, TellsAll, IsReadBack}
+use Rattle.cp_frame.specs.Reader.{Reader, State, failed, refusing, reading, StandsFor, IsReading, IsReportedFor}
+use Rattle.cp_frame.specs.Runs.{joined, Fed, ReadsAll, ReportsAll, IsReadBack}
 use Rattle.cp_frame.proofs.Numbers.{length_spelled}
 use Rattle.cp_frame.proofs.Framing.{numbers_framed, length_sizes}
 use Rattle.cp_frame.proofs.Streams.{cut, plain_fault}
@@ -84,18 +84,18 @@ same_form old new [] given h = (ap (λ (r : Reader). r.mode) h.1, ap (λ (r : Re
 same_form old new (piece ∷ pieces) given h = let later = same_form h.2 new pieces h.1 h.4 in (later.0 ∙ h.3.same_mode, later.1 ∙ h.3.same_limits)
 
 -- while a stream is read, a fault that is told is that of the rest
-told_of : (r : Reader) (piece : List ℕ) (state : State) (fault : FrameFault) → IsReading state → IsToldFor r piece state fault → fault ≢ faults.OutOfMemory
+reported_of : (r : Reader) (piece : List ℕ) (state : State) (fault : FrameFault) → IsReading state → IsReportedFor r piece state fault → fault ≢ faults.OutOfMemory
     → (b : List ℕ) → StandsFor r b → HasFault r.mode r.limits (b ++ piece) fault
-told_of r piece failed fault h k n = absurd h
-told_of r piece (refusing kept) fault h k n = absurd h
-told_of r piece (reading rest taken) fault h (inl k) n = absurd (n k)
-told_of r piece (reading rest taken) fault h (inr k) n = k
+reported_of r piece failed fault h k n = absurd h
+reported_of r piece (refusing kept) fault h k n = absurd h
+reported_of r piece (reading rest taken) fault h (inl k) n = absurd (n k)
+reported_of r piece (reading rest taken) fault h (inr k) n = k
 
-pub tells_all : TellsAll
-tells_all old mid new pieces piece given fault b h k r t n =
+pub reports_all : ReportsAll
+reports_all old mid new pieces piece given fault b h k r t n =
     let all = reads_all old mid pieces given b h k in
     let same = same_form old mid pieces given k in
-    let here = told_of mid piece mid.state fault r t.told n all.0 all.2 in
+    let here = reported_of mid piece mid.state fault r t.reported n all.0 all.2 in
     let there = subst (λ (mode : Mode). HasFault mode mid.limits (all.0 ++ piece) fault) same.0 here in
     let longer = cut old.mode old.limits (b ++ joined pieces) piece given [] all.0 (all.0 ++ piece) all.1 refl in (
       all.0 ++ piece,

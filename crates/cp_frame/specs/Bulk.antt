@@ -4,7 +4,8 @@ use Rattle.cp_words.specs.Limits.{Bounds}
 use Rattle.cp_frame.specs.declared.frame.OpenFrame.{OpenFrame}
 use Rattle.cp_frame.specs.declared.rest.Rest.{Rest}
 use Rattle.cp_packed.specs.Words.{AreWords, bytes_of}
-use Rattle.cp_frame.specs.Parts.{InSegments, IsComplete, lists, rest_of}
+use Rattle.cp_frame.specs.Parts.{InSegments, IsComplete, rest_of}
+use Rattle.cp_words.specs.Segments.{words_of}
 use Rattle.cp_packed.specs.Unpacking.{Pending, nothing, after, given, pending_of}
 use Rattle.cp_frame.specs.Rest.{IsBlank}
 use Rattle.cp_packed.specs.Groups.{running, TakesGroups}
@@ -44,5 +45,5 @@ pub record GivesWhole (limits : Bounds) (old : Rest) (taken : ℕ) (S : List (Li
   pub complete : IsComplete limits old.frame
   pub no_group : pending_of old.group ≡ nothing
   pub count : taken ≡ old.taken
-  pub segments : S ≡ lists old.frame.segments.items
+  pub segments : S ≡ words_of old.frame.segments.items
   pub blank : IsBlank new

@@ -38,8 +38,8 @@ IsWritten modes.Packed S b =
     × (padded_table S ≡ bytes_of head) × Spelt head front × AllZip Spelt S pieces × (b ≡ front ++ flat_map (λ piece. piece) pieces)
 
 -- the same as it is, after the bytes that are held
-abbrev pub IsWrittenBehind : List (List ℕ) → List ℕ → List ℕ → Type 0
-IsWrittenBehind S old new = new ≡ old ++ (padded_table S ++ flat_map bytes_of S)
+abbrev pub IsWrittenAfter : List (List ℕ) → List ℕ → List ℕ → Type 0
+IsWrittenAfter S old new = new ≡ old ++ (padded_table S ++ flat_map bytes_of S)
 
 -- the bytes are what is written of these segments
 pub record Written (mode : Mode) (limits : Bounds) (S : List (List ℕ)) (b : List ℕ) : Type 0 where
@@ -47,8 +47,8 @@ pub record Written (mode : Mode) (limits : Bounds) (S : List (List ℕ)) (b : Li
   pub form : IsWritten mode S b
 
 -- what is written of these segments, as it is, comes after the bytes held before
-abbrev pub WrittenBehind : Bounds → List (List ℕ) → List ℕ → List ℕ → Type 0
-WrittenBehind limits S old new = (frame : List ℕ) × (new ≡ old ++ frame) × Written modes.Plain limits S frame
+abbrev pub WrittenAfter : Bounds → List (List ℕ) → List ℕ → List ℕ → Type 0
+WrittenAfter limits S old new = (frame : List ℕ) × (new ≡ old ++ frame) × Written modes.Plain limits S frame
 
 -- why a frame isn't written: a limit is passed, the number of segments first, or memory ran out
 abbrev pub IsRefusedFor : Bounds → List (List ℕ) → FrameFault → Type 0

@@ -33,7 +33,7 @@ KeepsUp mode limits statuses.Failed r = IsBlank r
 KeepsUp mode limits (statuses.Refusing fault) r = IsBlank r
 
 -- a fault is reported whatever comes: it was reported before, or kept
-abbrev pub IsToldBy : Status → FrameFault → Type 0
-IsToldBy statuses.Failed fault = fault ≡ faults.Failed
-IsToldBy (statuses.Refusing kept) fault = fault ≡ kept
-IsToldBy statuses.Reading fault = ⊥
+abbrev pub IsReportedBy : Status → FrameFault → Type 0
+IsReportedBy statuses.Failed fault = fault ≡ faults.Failed
+IsReportedBy (statuses.Refusing kept) fault = fault ≡ kept
+IsReportedBy statuses.Reading fault = ⊥

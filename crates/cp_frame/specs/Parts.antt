@@ -1,7 +1,8 @@
 -- What has come of a frame, in parts. No public clause names these.
-use Rattle.std.specs.Prelude.{if◌then◌else◌, ◌==◌, ◌≡◌, ◌⊎◌, ℕ, ◌+◌, ◌/◌, ◌%◌, ◌^◌, ◌<◌, ◌≤◌, List, [], ◌∷◌, ◌++◌, length, map, sum, take, slice_index, Option, Some, None}
+use Rattle.std.specs.Prelude.{if◌then◌else◌, ◌==◌, ◌≡◌, ◌⊎◌, ℕ, ◌+◌, ◌/◌, ◌%◌, ◌^◌, ◌<◌, ◌≤◌, List, [], ◌∷◌, ◌++◌, length, sum, take, slice_index, Option, Some, None}
 use Rattle.std.specs.List.{AllByRecursion, flat_map}
 use Rattle.cp_words.specs.Limits.{Bounds}
+use Rattle.cp_words.specs.Segments.{words_of}
 use Rattle.cp_frame.specs.declared.fault.FrameFault.{FrameFault}
 use Rattle.cp_frame.specs.declared.fault.FrameFault.TheVariants as faults
 use Rattle.cp_frame.specs.declared.frame.OpenFrame.{OpenFrame}
@@ -9,7 +10,6 @@ use Rattle.cp_frame.specs.declared.spare.Spare.{Spare}
 use Rattle.cp_frame.specs.Framed.{sizes_of}
 use Rattle.cp_packed.specs.Words.{AreWords, bytes_of}
 use Rattle.cp_frame.specs.Stream.{numbers, named_sizes, NamesFault}
-use Rattle.std.specs.Global.{Vec}
 use Rattle.std.specs.Int.{to_le_bytes, w64}
 
 -- the halves of words, the lower of each first
@@ -45,14 +45,11 @@ pub record Fills (sizes : List ℕ) (S : List (List ℕ)) (ws : List ℕ) : Type
   pub are_words : AreWords ws
   pub sized : sizes_of S ≡ take (length S) sizes
   pub some : length S ≤ length sizes
-  pub room : length ws ≤ slice_index sizes (length S)
+  pub fitting : length ws ≤ slice_index sizes (length S)
 
 -- the bytes of the segments before it and of the next
 abbrev pub body : List (List ℕ) → List ℕ → List ℕ
 body S ws = flat_map bytes_of S ++ bytes_of ws
-
-abbrev pub lists : List (Vec ℕ) → List (List ℕ)
-lists vs = map (λ v. v.items) vs
 
 -- An error is an allocation failure, or a fault of the table.
 abbrev pub IsFaultOf : Bounds → List ℕ → FrameFault → Type 0
@@ -61,7 +58,7 @@ IsFaultOf limits ns fault = NamesFault limits ns fault
 
 -- all that has come of a frame
 abbrev pub rest_of : OpenFrame → List ℕ
-rest_of f = (bytes_of f.table.items ++ body (lists f.segments.items) f.words.items) ++ f.part.items
+rest_of f = (bytes_of f.table.items ++ body (words_of f.segments.items) f.words.items) ++ f.part.items
 
 -- A part of the segment table has come.
 pub record InTable (limits : Bounds) (f : OpenFrame) : Type 0 where
@@ -76,7 +73,7 @@ pub record InTable (limits : Bounds) (f : OpenFrame) : Type 0 where
 pub record InSegments (limits : Bounds) (f : OpenFrame) : Type 0 where
   pub table : IsTable limits f.table.items f.total
   pub whole : IsWholeTable f.table.items
-  pub fills : Fills (named_sizes (halves f.table.items)) (lists f.segments.items) f.words.items
+  pub fills : Fills (named_sizes (halves f.table.items)) (words_of f.segments.items) f.words.items
   pub goes_on : length f.words.items < slice_index (named_sizes (halves f.table.items)) (length f.segments.items)
   pub short : length f.part.items < 8
 
@@ -84,7 +81,7 @@ pub record InSegments (limits : Bounds) (f : OpenFrame) : Type 0 where
 pub record IsComplete (limits : Bounds) (f : OpenFrame) : Type 0 where
   pub table : IsTable limits f.table.items f.total
   pub whole : IsWholeTable f.table.items
-  pub fills : Fills (named_sizes (halves f.table.items)) (lists f.segments.items) f.words.items
+  pub fills : Fills (named_sizes (halves f.table.items)) (words_of f.segments.items) f.words.items
   pub all : length f.segments.items ≡ count_of f.table.items
   pub no_part : f.part.items ≡ []
 
@@ -114,7 +111,7 @@ least_words f = (if length f.table.items == 0 then 0 else count_of f.table.items
 
 -- how many words are kept
 abbrev pub kept_words : OpenFrame → ℕ
-kept_words f = length f.table.items + sum (sizes_of (lists f.segments.items)) + length f.words.items
+kept_words f = length f.table.items + sum (sizes_of (words_of f.segments.items)) + length f.words.items
 
 -- the same frame, with another buffer for the next
 abbrev pub with_spare : OpenFrame → Spare → OpenFrame

@@ -77,21 +77,21 @@ pub record GivesNext (old : Reader) (piece : List ℕ) (taken : ℕ) (segments :
   pub fresh : StandsFor new []
 
 -- why a fault is reported for a piece: it was reported before or kept, memory ran out, or the rest has it
-abbrev pub IsToldFor : Reader → List ℕ → State → FrameFault → Type 0
-IsToldFor r piece failed fault = fault ≡ faults.Failed
-IsToldFor r piece (refusing kept) fault = fault ≡ kept
-IsToldFor r piece (reading rest taken) fault = (fault ≡ faults.OutOfMemory) ⊎ ((b : List ℕ) → StandsFor r b → HasFault r.mode r.limits (b ++ piece) fault)
+abbrev pub IsReportedFor : Reader → List ℕ → State → FrameFault → Type 0
+IsReportedFor r piece failed fault = fault ≡ faults.Failed
+IsReportedFor r piece (refusing kept) fault = fault ≡ kept
+IsReportedFor r piece (reading rest taken) fault = (fault ≡ faults.OutOfMemory) ⊎ ((b : List ℕ) → StandsFor r b → HasFault r.mode r.limits (b ++ piece) fault)
 
 -- A fault was reported, and the reader has failed.
-pub record Tells (old : Reader) (piece : List ℕ) (new : Reader) (fault : FrameFault) : Type 0 where
-  pub told : IsToldFor old piece old.state fault
+pub record Reports (old : Reader) (piece : List ℕ) (new : Reader) (fault : FrameFault) : Type 0 where
+  pub reported : IsReportedFor old piece old.state fault
   pub failed : new.state ≡ failed
 
 -- why a fault is reported at the end: it was reported before or kept, or the stream ends inside a frame
-abbrev pub IsToldAtEnd : Reader → State → FrameFault → Type 0
-IsToldAtEnd r failed fault = fault ≡ faults.Failed
-IsToldAtEnd r (refusing kept) fault = fault ≡ kept
-IsToldAtEnd r (reading rest taken) fault = (fault ≡ faults.Truncated) × ((b : List ℕ) → StandsFor r b → b ≢ [])
+abbrev pub IsReportedAtEnd : Reader → State → FrameFault → Type 0
+IsReportedAtEnd r failed fault = fault ≡ faults.Failed
+IsReportedAtEnd r (refusing kept) fault = fault ≡ kept
+IsReportedAtEnd r (reading rest taken) fault = (fault ≡ faults.Truncated) × ((b : List ℕ) → StandsFor r b → b ≢ [])
 
 -- The stream ended after a frame, and the reader is as it was.
 pub record EndsWell (old new : Reader) : Type 0 where
@@ -100,8 +100,8 @@ pub record EndsWell (old new : Reader) : Type 0 where
   pub nothing : (b : List ℕ) → StandsFor old b → b ≡ []
 
 -- The end reported a fault, and the reader has failed.
-pub record TellsAtEnd (old new : Reader) (fault : FrameFault) : Type 0 where
-  pub told : IsToldAtEnd old old.state fault
+pub record ReportsAtEnd (old new : Reader) (fault : FrameFault) : Type 0 where
+  pub reported : IsReportedAtEnd old old.state fault
   pub failed : new.state ≡ failed
 
 -- a reader of which nothing has come

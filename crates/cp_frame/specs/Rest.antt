@@ -13,12 +13,13 @@ use Rattle.cp_packed.specs.Words.{AreWords, bytes_of}
 use Rattle.cp_frame.specs.Frame.{Frame}
 use Rattle.cp_frame.specs.Stream.{Frames, HasFault, numbers}
 use Rattle.cp_frame.specs.Reader.{Stands, reading}
-use Rattle.cp_frame.specs.Parts.{IsOpen, IsBegun, IsComplete, IsEmpty, IsFaultOf, NamesLittle, lists, rest_of, kept_words}
+use Rattle.cp_frame.specs.Parts.{IsOpen, IsBegun, IsComplete, IsEmpty, IsFaultOf, NamesLittle, rest_of, kept_words}
+use Rattle.cp_words.specs.Segments.{words_of}
 use Rattle.cp_packed.specs.Unpacking.{IsPending, nothing, next, brought, laid, pending_of}
 
 -- the words that have come
 abbrev pub words_in_order : OpenFrame → List ℕ
-words_in_order f = f.table.items ++ (flat_map (λ ws. ws) (lists f.segments.items) ++ f.words.items)
+words_in_order f = f.table.items ++ (flat_map (λ ws. ws) (words_of f.segments.items) ++ f.words.items)
 
 -- packed bytes for words, of which the last begins a raw run of this many more
 abbrev pub heads : List ℕ → ℕ → List ℕ

@@ -8,7 +8,7 @@ use Rattle.cp_frame.specs.declared.mode.Mode.{Mode}
 use Rattle.cp_packed.specs.Words.{AreWords}
 use Rattle.cp_frame.specs.Frame.{Frame, Written}
 use Rattle.cp_frame.specs.Stream.{Frames, HasFault}
-use Rattle.cp_frame.specs.Reader.{Reader, State, reading, GoesOnAs, StandsFor, IsReading, Gives, Tells}
+use Rattle.cp_frame.specs.Reader.{Reader, State, reading, GoesOnAs, StandsFor, IsReading, Gives, Reports}
 
 -- the pieces, one after another
 abbrev pub joined : List (List ℕ) → List ℕ
@@ -28,9 +28,9 @@ ReadsAll = (old new : Reader) (pieces : List (List ℕ)) (given : List (ℕ × L
     → (rest : List ℕ) × Frames old.mode old.limits (b ++ joined pieces) given rest × StandsFor new rest
 
 -- a fault reported for a piece, memory aside, is that of the rest of the stream that all pieces make
-abbrev pub TellsAll : Type 0
-TellsAll = (old mid new : Reader) (pieces : List (List ℕ)) (piece : List ℕ) (given : List (ℕ × List (List ℕ))) (fault : FrameFault) (b : List ℕ)
-    → StandsFor old b → Fed old pieces given mid → IsReading mid.state → Tells mid piece new fault → fault ≢ faults.OutOfMemory
+abbrev pub ReportsAll : Type 0
+ReportsAll = (old mid new : Reader) (pieces : List (List ℕ)) (piece : List ℕ) (given : List (ℕ × List (List ℕ))) (fault : FrameFault) (b : List ℕ)
+    → StandsFor old b → Fed old pieces given mid → IsReading mid.state → Reports mid piece new fault → fault ≢ faults.OutOfMemory
     → (rest : List ℕ) × Frames old.mode old.limits (b ++ (joined pieces ++ piece)) given rest × HasFault old.mode old.limits rest fault
 
 -- two states go on alike: they are the same, or the stream is read on, of rests of as many bytes that go on alike

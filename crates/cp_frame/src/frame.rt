@@ -4,7 +4,8 @@ ghost use Rattle.std.specs.Prelude.{◌≡◌, ◌⊎◌, ◌^◌, ◌+◌, ◌*
 ghost use Rattle.cp_frame.specs.Framed.{sizes_of};
 ghost use Rattle.cp_packed.specs.Words.{bytes_of};
 ghost use Rattle.std.specs.Int.{to_le_bytes, w64};
-ghost use Rattle.cp_frame.specs.Parts.{Takes, IsBegun, InTable, InSegments, halves, count_of, IsWholeTable, IsTable, IsFaultOf, Fills, body, lists, rest_of, IsOpen, IsComplete, IsEmpty, least_words, kept_words};
+ghost use Rattle.cp_frame.specs.Parts.{Takes, IsBegun, InTable, InSegments, halves, count_of, IsWholeTable, IsTable, IsFaultOf, Fills, body, rest_of, IsOpen, IsComplete, IsEmpty, least_words, kept_words};
+ghost use Rattle.cp_words.specs.Segments.{words_of};
 ghost use Rattle.cp_frame.specs.Stream.{numbers, named_sizes};
 ghost use Rattle.cp_frame.specs.Rest.{IsFaultOfWords};
 ghost use Rattle.cp_frame.specs.Bulk.{TakesPart};
@@ -13,13 +14,13 @@ ghost use Rattle.cp_frame.specs.Single.{TakesTable};
 use crate::fault::FrameFault;
 use crate::spare::Spare;
 use crate::table;
-use cp_packed::{Run, make_room, take_groups, take_in, word_of};
+use cp_packed::{Run, reserve_words, take_groups, take_in, word_of};
 use cp_words::{Limits, Segments};
 use std::alloc::{AllocError, Global};
 use std::mem;
 
 /// How many words a header alone may reserve: with the table and the list of segments 1 MiB.
-const FIRST_ROOM: usize = 129_024;
+const FIRST_CAPACITY: usize = 129_024;
 
 /// What has come of a frame.
 #[derive(Drop)]
@@ -36,112 +37,6 @@ pub struct OpenFrame {
     pub part: Vec<u8>,
     /// A buffer that was given back, for the words of a segment.
     pub spare: Spare,
-}
-
-/// A segment of which nothing has come. A large one begins with less capacity than it will need, since
-/// its bytes may never come.
-fn new_segment(alloc: Global, table: &[u64], segment: usize) -> Result<Vec<u64>, AllocError>
-    requires { IsWholeTable table.now }
-    ensures items { IfOk result (λ v. v.items ≡ []) }
-    ensures room { IfOk result (λ v. vec_capacity v ≤ FIRST_ROOM) }
-{
-    let room = if segment < table::count(table) {
-        table::size(table, segment).min(FIRST_ROOM)
-    } else {
-        0
-    };
-    Vec::with_capacity(alloc, room)
-}
-
-/// The first segment, of this many words, of which nothing has come.
-fn first_segment(alloc: Global, size: usize, spare: &mut Spare) -> Result<Vec<u64>, AllocError>
-    ensures items { IfOk result (λ v. v.items ≡ []) }
-    ensures room { IfOk result (λ v. (vec_capacity v ≤ FIRST_ROOM) ⊎ (vec_capacity v ≡ vec_capacity spare.old.words)) }
-{
-    spare.take(alloc, size.min(FIRST_ROOM), size)
-}
-
-/// Puts away each segment that is whole.
-fn close(
-    alloc: Global,
-    table: &[u64],
-    segments: &mut Vec<Vec<u64>>,
-    words: &mut Vec<u64>,
-) -> Result<(), AllocError>
-    requires whole { IsWholeTable table.now }
-    requires fills { Fills (named_sizes (halves table.now)) (lists segments.old.items) words.old.items }
-    ensures fills { OnOk result (Fills (named_sizes (halves table.now)) (lists segments.new.items) words.new.items) }
-    ensures body { OnOk result (body (lists segments.new.items) words.new.items ≡ body (lists segments.old.items) words.old.items) }
-    ensures ends { OnOk result ((length segments.new.items ≡ count_of table.now) ⊎ (length words.new.items < slice_index (named_sizes (halves table.now)) (length segments.new.items))) }
-{
-    let count = table::count(table);
-    'closing: while segments.len() < count && words.len() == table::size(table, segments.len()) {
-        let next = new_segment(alloc, table, segments.len() + 1)?;
-        segments.push(mem::replace(words, next))?;
-    }
-    Ok(())
-}
-
-/// Takes whole words of the open segment, and gives back what follows them.
-fn take_words<'a>(
-    alloc: Global,
-    table: &[u64],
-    segments: &mut Vec<Vec<u64>>,
-    words: &mut Vec<u64>,
-    left: &'a [u8],
-) -> Result<&'a [u8], AllocError>
-    requires whole { IsWholeTable table.now }
-    requires fills { Fills (named_sizes (halves table.now)) (lists segments.old.items) words.old.items }
-    requires open { length words.old.items < slice_index (named_sizes (halves table.now)) (length segments.old.items) }
-    requires some { 8 ≤ length left.now }
-    ensures fills { OnOk result (Fills (named_sizes (halves table.now)) (lists segments.new.items) words.new.items) }
-    ensures ends { OnOk result ((length segments.new.items ≡ count_of table.now) ⊎ (length words.new.items < slice_index (named_sizes (halves table.now)) (length segments.new.items))) }
-    ensures body { IfOk result (λ back. body (lists segments.new.items) words.new.items ++ back.now ≡ body (lists segments.old.items) words.old.items ++ left.now) }
-    ensures shorter { IfOk result (λ back. length back.now < length left.now) }
-{
-    let missing = table::size(table, segments.len()) - words.len();
-    let taken = missing.min(left.len() / 8);
-    let (front, back) = left.split_at(8 * taken);
-    make_room(words, taken, missing)?;
-    take_in(words, front)?;
-    close(alloc, table, segments, words)?;
-    Ok(back)
-}
-
-/// Takes the bytes of one word, or of what there is of it, and gives back what follows them.
-fn take_word<'a>(part: &mut Vec<u8>, left: &'a [u8]) -> Result<(Option<u64>, &'a [u8]), AllocError>
-    requires short { length part.old.items < 8 }
-    requires some { 0 < length left.now }
-    ensures takes { IfOk result (λ taken. Takes part.old.items left.now part.new.items taken.0 taken.1.now) }
-    ensures shorter { IfOk result (λ taken. length taken.1.now < length left.now) }
-{
-    if part.is_empty() && 8 <= left.len() {
-        let (front, back) = left.split_at(8);
-        return Ok((Some(word_of(front)), back));
-    }
-    let (front, back) = left.split_at((8 - part.len()).min(left.len()));
-    part.extend_from_slice(front)?;
-    if part.len() < 8 {
-        return Ok((None, back));
-    }
-    let word = word_of(part);
-    part.clear();
-    Ok((Some(word), back))
-}
-
-/// The segments. One alone leaves the vector its capacity, for the next frame's.
-fn take_lists(alloc: Global, segments: &mut Vec<Vec<u64>>) -> Segments
-    requires { 0 < length segments.old.items }
-    ensures all { result ≡ lists segments.old.items }
-    ensures none { segments.new.items ≡ [] }
-{
-    if segments.len() == 1 {
-        return Segments::one(segments.swap_remove(0));
-    }
-    let Ok(held) = Segments::new(mem::replace(segments, Vec::new(alloc))) else {
-        unreachable!()
-    };
-    held
 }
 
 impl OpenFrame {
@@ -354,18 +249,18 @@ impl OpenFrame {
     /// The frame, with the number of its bytes. Nothing is left of it.
     pub fn finish(&mut self, alloc: Global) -> (u64, Segments)
         requires some { 0 < length self.old.segments.items }
-        requires total { self.old.total ≡ sum (sizes_of (lists self.old.segments.items)) }
+        requires total { self.old.total ≡ sum (sizes_of (words_of self.old.segments.items)) }
         requires small { length self.old.table.items + self.old.total < 2 ^ 40 }
         requires no_words { self.old.words.items ≡ [] }
         requires no_part { self.old.part.items ≡ [] }
         ensures taken { result.0 ≡ length (rest_of self.old) }
-        ensures segments { result.1 ≡ lists self.old.segments.items }
+        ensures segments { result.1 ≡ words_of self.old.segments.items }
         ensures empty { IsEmpty self.new }
     {
         let taken = 8 * (self.table.len() as u64 + self.total);
         self.table.clear();
         self.total = 0;
-        (taken, take_lists(alloc, &mut self.segments))
+        (taken, take_segments(alloc, &mut self.segments))
     }
 
     /// Forgets what has come.
@@ -409,4 +304,110 @@ impl OpenFrame {
         }
         words
     }
+}
+
+/// The first segment, of this many words, of which nothing has come.
+fn first_segment(alloc: Global, size: usize, spare: &mut Spare) -> Result<Vec<u64>, AllocError>
+    ensures items { IfOk result (λ v. v.items ≡ []) }
+    ensures capacity { IfOk result (λ v. (vec_capacity v ≤ FIRST_CAPACITY) ⊎ (vec_capacity v ≡ vec_capacity spare.old.words)) }
+{
+    spare.take(alloc, size.min(FIRST_CAPACITY), size)
+}
+
+/// Puts away each segment that is whole.
+fn close(
+    alloc: Global,
+    table: &[u64],
+    segments: &mut Vec<Vec<u64>>,
+    words: &mut Vec<u64>,
+) -> Result<(), AllocError>
+    requires whole { IsWholeTable table.now }
+    requires fills { Fills (named_sizes (halves table.now)) (words_of segments.old.items) words.old.items }
+    ensures fills { OnOk result (Fills (named_sizes (halves table.now)) (words_of segments.new.items) words.new.items) }
+    ensures body { OnOk result (body (words_of segments.new.items) words.new.items ≡ body (words_of segments.old.items) words.old.items) }
+    ensures ends { OnOk result ((length segments.new.items ≡ count_of table.now) ⊎ (length words.new.items < slice_index (named_sizes (halves table.now)) (length segments.new.items))) }
+{
+    let count = table::count(table);
+    'closing: while segments.len() < count && words.len() == table::size(table, segments.len()) {
+        let next = new_segment(alloc, table, segments.len() + 1)?;
+        segments.push(mem::replace(words, next))?;
+    }
+    Ok(())
+}
+
+/// A segment of which nothing has come. A large one begins with less capacity than it will need, since
+/// its bytes may never come.
+fn new_segment(alloc: Global, table: &[u64], segment: usize) -> Result<Vec<u64>, AllocError>
+    requires { IsWholeTable table.now }
+    ensures items { IfOk result (λ v. v.items ≡ []) }
+    ensures capacity { IfOk result (λ v. vec_capacity v ≤ FIRST_CAPACITY) }
+{
+    let capacity = if segment < table::count(table) {
+        table::size(table, segment).min(FIRST_CAPACITY)
+    } else {
+        0
+    };
+    Vec::with_capacity(alloc, capacity)
+}
+
+/// Takes the bytes of one word, or of what there is of it, and gives back what follows them.
+fn take_word<'a>(part: &mut Vec<u8>, left: &'a [u8]) -> Result<(Option<u64>, &'a [u8]), AllocError>
+    requires short { length part.old.items < 8 }
+    requires some { 0 < length left.now }
+    ensures takes { IfOk result (λ taken. Takes part.old.items left.now part.new.items taken.0 taken.1.now) }
+    ensures shorter { IfOk result (λ taken. length taken.1.now < length left.now) }
+{
+    if part.is_empty() && 8 <= left.len() {
+        let (front, back) = left.split_at(8);
+        return Ok((Some(word_of(front)), back));
+    }
+    let (front, back) = left.split_at((8 - part.len()).min(left.len()));
+    part.extend_from_slice(front)?;
+    if part.len() < 8 {
+        return Ok((None, back));
+    }
+    let word = word_of(part);
+    part.clear();
+    Ok((Some(word), back))
+}
+
+/// Takes whole words of the open segment, and gives back what follows them.
+fn take_words<'a>(
+    alloc: Global,
+    table: &[u64],
+    segments: &mut Vec<Vec<u64>>,
+    words: &mut Vec<u64>,
+    left: &'a [u8],
+) -> Result<&'a [u8], AllocError>
+    requires whole { IsWholeTable table.now }
+    requires fills { Fills (named_sizes (halves table.now)) (words_of segments.old.items) words.old.items }
+    requires open { length words.old.items < slice_index (named_sizes (halves table.now)) (length segments.old.items) }
+    requires some { 8 ≤ length left.now }
+    ensures fills { OnOk result (Fills (named_sizes (halves table.now)) (words_of segments.new.items) words.new.items) }
+    ensures ends { OnOk result ((length segments.new.items ≡ count_of table.now) ⊎ (length words.new.items < slice_index (named_sizes (halves table.now)) (length segments.new.items))) }
+    ensures body { IfOk result (λ back. body (words_of segments.new.items) words.new.items ++ back.now ≡ body (words_of segments.old.items) words.old.items ++ left.now) }
+    ensures shorter { IfOk result (λ back. length back.now < length left.now) }
+{
+    let missing = table::size(table, segments.len()) - words.len();
+    let taken = missing.min(left.len() / 8);
+    let (front, back) = left.split_at(8 * taken);
+    reserve_words(words, taken, missing)?;
+    take_in(words, front)?;
+    close(alloc, table, segments, words)?;
+    Ok(back)
+}
+
+/// The segments. One alone leaves the vector its capacity, for the next frame's.
+fn take_segments(alloc: Global, segments: &mut Vec<Vec<u64>>) -> Segments
+    requires { 0 < length segments.old.items }
+    ensures all { result ≡ words_of segments.old.items }
+    ensures none { segments.new.items ≡ [] }
+{
+    if segments.len() == 1 {
+        return Segments::one(segments.swap_remove(0));
+    }
+    let Ok(held) = Segments::new(mem::replace(segments, Vec::new(alloc))) else {
+        unreachable!()
+    };
+    held
 }

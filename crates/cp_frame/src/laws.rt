@@ -1,6 +1,6 @@
 //! What holds of every stream.
 
-ghost use Rattle.cp_frame.specs.Runs.{ReadsAll, TellsAll, ReadsAnyCut, IsReadBack};
+ghost use Rattle.cp_frame.specs.Runs.{ReadsAll, ReportsAll, ReadsAnyCut, IsReadBack};
 ghost use Rattle.cp_frame.specs.Stream.{HasOneReading, CutAnywhere, FaultStays, HasOneFault};
 ghost use Rattle.cp_frame.specs.declared.mode.Mode.{Mode};
 
@@ -19,7 +19,7 @@ pub fn one_fault()
 /// What a reader gives and reports doesn't depend on the pieces in which a stream comes.
 pub fn any_cut()
     ensures all { ReadsAll }
-    ensures told { TellsAll }
+    ensures reported { ReportsAll }
     ensures any { (mode : Mode) → ReadsAnyCut mode }
 {}
 

@@ -25,4 +25,4 @@ pub use packing::pack;
 pub use reader::FrameReader;
 pub use send::send_frame;
 pub use unpacking::unpack;
-pub use write::{write_behind, write_frame, write_over};
+pub use write::{write_after, write_frame, write_over};

@@ -4,7 +4,8 @@ ghost use Rattle.std.specs.Prelude.{◌≡◌, ◌⊎◌, ◌+◌, ◌<◌, ◌^
 ghost use Rattle.cp_frame.specs.Framed.{sizes_of};
 ghost use Rattle.cp_packed.specs.Words.{bytes_of};
 ghost use Rattle.cp_frame.specs.Stream.{numbers, NamesFault, HasFault};
-ghost use Rattle.cp_frame.specs.Parts.{IsOpen, IsBegun, IsComplete, lists, rest_of, kept_words};
+ghost use Rattle.cp_frame.specs.Parts.{IsOpen, IsBegun, IsComplete, rest_of, kept_words};
+ghost use Rattle.cp_words.specs.Segments.{words_of};
 ghost use Rattle.cp_packed.specs.Unpacking.{IsPending, nothing, brought, laid, pending_of};
 ghost use Rattle.cp_frame.specs.Rest.{InPacked, IsBlank, IsRest, bytes_for, count_for, TakesByte, IsSound, IsFaultOfWords};
 ghost use Rattle.cp_frame.specs.Bulk.{TakesFront};
@@ -43,7 +44,7 @@ impl Rest {
     }
 
     /// Takes one byte of the packed form.
-    fn take_run(&mut self, alloc: Global, limits: Limits, byte: u8) -> Result<(), FrameFault>
+    fn push_byte(&mut self, alloc: Global, limits: Limits, byte: u8) -> Result<(), FrameFault>
         requires { InPacked limits self.old }
         ensures takes { OnOk result (TakesByte limits self.old byte self.new) }
         ensures fault { IfErr result (IsFaultOfWords limits (rest_of self.old.frame ++ bytes_of (brought (pending_of self.old.group) byte))) }
@@ -53,7 +54,7 @@ impl Rest {
         self.frame.push_run(alloc, limits, run)
     }
 
-    /// Tells the fault that shows after the words of a byte.
+    /// Reports the fault that shows after the words of a byte.
     fn check(&self, limits: Limits) -> Result<(), FrameFault>
         requires begun { IsBegun limits self.now.frame }
         requires no_part { self.now.frame.part.items ≡ [] }
@@ -81,7 +82,7 @@ impl Rest {
         ensures sound { OnOk result (IsSound limits self.new) }
         ensures fault { IfErr result (λ fault. (fault ≡ OutOfMemory) ⊎ HasFault Packed limits (bytes_for Packed self.old ++ byte ∷ []) fault) }
     {
-        self.take_run(alloc, limits, byte)?;
+        self.push_byte(alloc, limits, byte)?;
         self.check(limits)
     }
 
@@ -100,9 +101,9 @@ impl Rest {
         if !self.frame.is_empty() || !self.group.is_empty() {
             return Ok(left);
         }
-        let behind = self.frame.take_table_group(alloc, limits, left)?;
-        self.taken += (left.len() - behind.len()) as u64;
-        Ok(behind)
+        let after = self.frame.take_table_group(alloc, limits, left)?;
+        self.taken += (left.len() - after.len()) as u64;
+        Ok(after)
     }
 
     /// Takes what of these bytes are words of a raw run and whole groups, where the segment table has
@@ -130,13 +131,13 @@ impl Rest {
     /// The packed frame, with the number of its bytes. Nothing is left of it.
     pub fn finish(&mut self, alloc: Global) -> (u64, Segments)
         requires some { 0 < length self.old.frame.segments.items }
-        requires total { self.old.frame.total ≡ sum (sizes_of (lists self.old.frame.segments.items)) }
+        requires total { self.old.frame.total ≡ sum (sizes_of (words_of self.old.frame.segments.items)) }
         requires small { length self.old.frame.table.items + self.old.frame.total < 2 ^ 40 }
         requires no_words { self.old.frame.words.items ≡ [] }
         requires no_part { self.old.frame.part.items ≡ [] }
         requires no_group { pending_of self.old.group ≡ nothing }
         ensures taken { result.0 ≡ self.old.taken }
-        ensures segments { result.1 ≡ lists self.old.frame.segments.items }
+        ensures segments { result.1 ≡ words_of self.old.frame.segments.items }
         ensures blank { IsBlank self.new }
     {
         let taken = self.taken;

@@ -11,25 +11,6 @@ use std::alloc::{AllocError, Global};
 /// How many bytes a word has.
 const WORD: usize = 8;
 
-/// How many words the one segment has whose frame these bytes begin with. `None` where there are
-/// several, where its size passes the limit, or where bytes of it are missing.
-fn size_of_one(limits: Limits, bytes: &[u8]) -> Option<usize>
-    ensures { IfSome result (λ size. BeginsWithOne limits bytes.now size) }
-{
-    if bytes.len() < WORD {
-        return None;
-    }
-    let (first, body) = bytes.split_at(WORD);
-    let table = word_of(first);
-    let size = (table / 0x1_0000_0000) as usize;
-    let is_one = table % 0x1_0000_0000 == 0;
-    if is_one && size <= limits.frame_words() as usize && size <= body.len() / WORD {
-        Some(size)
-    } else {
-        None
-    }
-}
-
 /// Takes the frame that the bytes begin with, if it has one segment and has come whole: the number of
 /// its bytes, the segment, and what follows it. The segment takes the spare buffer, where that suits it.
 pub fn take_whole<'a>(
@@ -49,4 +30,23 @@ pub fn take_whole<'a>(
     take_in(&mut words, front)?;
     let taken = (WORD + WORD * size) as u64;
     Ok(Some((taken, Segments::one(words), back)))
+}
+
+/// How many words the one segment has whose frame these bytes begin with. `None` where there are
+/// several, where its size passes the limit, or where bytes of it are missing.
+fn size_of_one(limits: Limits, bytes: &[u8]) -> Option<usize>
+    ensures { IfSome result (λ size. BeginsWithOne limits bytes.now size) }
+{
+    if bytes.len() < WORD {
+        return None;
+    }
+    let (first, body) = bytes.split_at(WORD);
+    let table = word_of(first);
+    let size = (table / 0x1_0000_0000) as usize;
+    let is_one = table % 0x1_0000_0000 == 0;
+    if is_one && size <= limits.frame_words() as usize && size <= body.len() / WORD {
+        Some(size)
+    } else {
+        None
+    }
 }

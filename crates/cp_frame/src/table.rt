@@ -57,43 +57,6 @@ pub fn size_of_one(table: &[u64], limits: Limits) -> usize
     }
 }
 
-/// The sizes that a table names with one more word, together.
-fn total_with(table: &[u64], total: u64, word: u64) -> u64
-    requires open { length table.now ≤ count_of table.now / 2 }
-    requires total { total ≡ sum (named_sizes (halves table.now)) }
-    requires small { total < 2 ^ 32 }
-    ensures { result ≡ sum (named_sizes (halves (table.now ++ word ∷ []))) }
-{
-    let low = word % 0x1_0000_0000;
-    let high = word / 0x1_0000_0000;
-    if table.is_empty() {
-        high
-    } else if 2 * table.len() < count(table) {
-        total + low + high
-    } else {
-        total + low
-    }
-}
-
-/// The same, unless the table has a fault then.
-fn judge(table: &[u64], total: u64, limits: Limits, word: u64) -> Result<u64, FrameFault>
-    requires so_far { IsTable limits table.now total }
-    requires open { length table.now ≤ count_of table.now / 2 }
-    ensures total { IfOk result (λ after. after ≡ sum (named_sizes (halves (table.now ++ word ∷ [])))) }
-    ensures little { OnOk result (NamesLittle limits (halves (table.now ++ word ∷ []))) }
-    ensures few { OnOk result (count_of (table.now ++ word ∷ []) ≤ 512) }
-    ensures fault { IfErr result (NamesFault limits (halves (table.now ++ word ∷ []))) }
-{
-    let after = total_with(table, total, word);
-    if table.is_empty() && limits.segments() as u64 <= word % 0x1_0000_0000 {
-        return Err(FrameFault::TooManySegments);
-    }
-    if (limits.frame_words() as u64) < after {
-        return Err(FrameFault::FrameTooLarge);
-    }
-    Ok(after)
-}
-
 /// Takes one more word of the table.
 pub fn push(
     table: &mut Vec<u64>,
@@ -113,7 +76,7 @@ pub fn push(
     Ok(())
 }
 
-/// Tells the fault that the table has with what there is of its next word.
+/// Reports the fault that the table has with what there is of its next word.
 pub fn check_part(table: &[u64], total: u64, limits: Limits, part: &[u8]) -> Result<(), FrameFault>
     requires so_far { IsTable limits table.now total }
     requires open { length table.now ≤ count_of table.now / 2 }
@@ -127,7 +90,7 @@ pub fn check_part(table: &[u64], total: u64, limits: Limits, part: &[u8]) -> Res
     Ok(())
 }
 
-/// Tells the fault that the table has with the bytes of its next word that are known.
+/// Reports the fault that the table has with the bytes of its next word that are known.
 pub fn check_laid(table: &[u64], total: u64, limits: Limits, known: &[u8]) -> Result<(), FrameFault>
     requires so_far { IsTable limits table.now total }
     requires open { length table.now ≤ count_of table.now / 2 }
@@ -140,4 +103,41 @@ pub fn check_laid(table: &[u64], total: u64, limits: Limits, known: &[u8]) -> Re
     }
     judge(table, total, limits, word_of(known))?;
     Ok(())
+}
+
+/// How many words the table names with one more word, unless it has a fault then.
+fn judge(table: &[u64], total: u64, limits: Limits, word: u64) -> Result<u64, FrameFault>
+    requires so_far { IsTable limits table.now total }
+    requires open { length table.now ≤ count_of table.now / 2 }
+    ensures total { IfOk result (λ after. after ≡ sum (named_sizes (halves (table.now ++ word ∷ [])))) }
+    ensures little { OnOk result (NamesLittle limits (halves (table.now ++ word ∷ []))) }
+    ensures few { OnOk result (count_of (table.now ++ word ∷ []) ≤ 512) }
+    ensures fault { IfErr result (NamesFault limits (halves (table.now ++ word ∷ []))) }
+{
+    let after = total_with(table, total, word);
+    if table.is_empty() && limits.segments() as u64 <= word % 0x1_0000_0000 {
+        return Err(FrameFault::TooManySegments);
+    }
+    if (limits.frame_words() as u64) < after {
+        return Err(FrameFault::FrameTooLarge);
+    }
+    Ok(after)
+}
+
+/// The sizes that a table names with one more word, together.
+fn total_with(table: &[u64], total: u64, word: u64) -> u64
+    requires open { length table.now ≤ count_of table.now / 2 }
+    requires total { total ≡ sum (named_sizes (halves table.now)) }
+    requires small { total < 2 ^ 32 }
+    ensures { result ≡ sum (named_sizes (halves (table.now ++ word ∷ []))) }
+{
+    let low = word % 0x1_0000_0000;
+    let high = word / 0x1_0000_0000;
+    if table.is_empty() {
+        high
+    } else if 2 * table.len() < count(table) {
+        total + low + high
+    } else {
+        total + low
+    }
 }

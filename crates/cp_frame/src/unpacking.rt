@@ -11,6 +11,32 @@ use crate::fault::FrameFault;
 use cp_packed::{OpenGroup, take_groups};
 use std::alloc::{AllocError, Global};
 
+/// The words that packed bytes give, `limit` of them at most (encoding specification, "Packing").
+///
+/// Where the whole words that the bytes lay are more, `FrameTooLarge` (F2) is reported; or else
+/// `Truncated` (F3), where the bytes end inside a group.
+pub fn unpack(alloc: Global, bytes: &[u8], limit: usize) -> Result<Vec<u64>, FrameFault>
+    ensures words { IfOk result (λ words. Packed words.items bytes.now) }
+    ensures within { IfOk result (λ words. length words.items ≤ limit) }
+    ensures refused { IfErr result (IsNotUnpackedFor bytes.now limit) }
+{
+    let mut words = Vec::with_capacity(alloc, limit.min(bytes.len() / 4))?;
+    let mut group = OpenGroup::new(alloc);
+    let mut left = take_front(&mut words, &mut group, limit, bytes)?;
+    'unpacking: while !left.is_empty() {
+        take_byte(&mut words, &mut group, limit, left[0])?;
+        left = take_front(&mut words, &mut group, limit, left.split_at(1).1)?;
+    }
+    if group.is_empty() {
+        return Ok(words);
+    }
+    let (_, known) = group.laid();
+    if words.len() == limit && known == 8 {
+        return Err(FrameFault::FrameTooLarge);
+    }
+    Err(FrameFault::Truncated)
+}
+
 /// Takes groups at once, where none has come in part and a word more fits.
 fn take_front<'a>(
     words: &mut Vec<u64>,
@@ -46,30 +72,4 @@ fn take_byte(
     }
     words.resize(words.len() + run.count, run.word)?;
     Ok(())
-}
-
-/// The words that packed bytes give, `limit` of them at most (encoding specification, "Packing").
-///
-/// Where the whole words that the bytes lay are more, `FrameTooLarge` (F2) is reported; or else
-/// `Truncated` (F3), where the bytes end inside a group.
-pub fn unpack(alloc: Global, bytes: &[u8], limit: usize) -> Result<Vec<u64>, FrameFault>
-    ensures words { IfOk result (λ words. Packed words.items bytes.now) }
-    ensures within { IfOk result (λ words. length words.items ≤ limit) }
-    ensures refused { IfErr result (IsNotUnpackedFor bytes.now limit) }
-{
-    let mut words = Vec::with_capacity(alloc, limit.min(bytes.len() / 4))?;
-    let mut group = OpenGroup::new(alloc);
-    let mut left = take_front(&mut words, &mut group, limit, bytes)?;
-    'unpacking: while !left.is_empty() {
-        take_byte(&mut words, &mut group, limit, left[0])?;
-        left = take_front(&mut words, &mut group, limit, left.split_at(1).1)?;
-    }
-    if group.is_empty() {
-        return Ok(words);
-    }
-    let (_, known) = group.laid();
-    if words.len() == limit && known == 8 {
-        return Err(FrameFault::FrameTooLarge);
-    }
-    Err(FrameFault::Truncated)
 }

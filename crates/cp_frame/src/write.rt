@@ -3,9 +3,9 @@
 ghost use Rattle.std.specs.Prelude.{◌≡◌, [], ◌+◌, ◌^◌, ◌<◌, ◌≤◌, ◌++◌, IfOk, OnOk, IfErr, IfSome, IfNone, length, sum};
 ghost use Rattle.cp_frame.specs.Framed.{sizes_of};
 ghost use Rattle.cp_packed.specs.Words.{bytes_of};
-ghost use Rattle.cp_frame.specs.Frame.{IsWithin, Written, WrittenBehind, IsWritten, IsWrittenBehind, IsRefusedFor, padded_table};
+ghost use Rattle.cp_frame.specs.Frame.{IsWithin, Written, WrittenAfter, IsWritten, IsWrittenAfter, IsRefusedFor, padded_table};
 ghost use Rattle.cp_frame.specs.Sending.{PutsTable};
-ghost use Rattle.cp_frame.specs.Parts.{lists};
+ghost use Rattle.cp_words.specs.Segments.{words_of};
 ghost use Rattle.cp_frame.specs.declared.mode.Mode.TheVariants.{Plain, Packed};
 
 use crate::fault::FrameFault;
@@ -15,31 +15,14 @@ use cp_words::{Limits, Segments};
 use std::alloc::{AllocError, Global};
 
 /// How many bytes are reserved for a packed frame at first. A large one is mostly shorter than it could be.
-const FIRST_ROOM: usize = 65_536;
-
-/// The words of all segments together, unless they are too many.
-fn words_in(segments: &[Vec<u64>], limit: u64) -> Option<u64>
-    ensures words { IfSome result (λ words. words ≡ sum (sizes_of (lists segments.now))) }
-    ensures within { IfSome result (λ words. words ≤ limit) }
-    ensures past { IfNone result (limit < sum (sizes_of (lists segments.now))) }
-{
-    let mut words: u64 = 0;
-    for segment in segments {
-        let size = segment.len() as u64;
-        if limit - words < size {
-            return None;
-        }
-        words += size;
-    }
-    Some(words)
-}
+const FIRST_CAPACITY: usize = 65_536;
 
 /// Writes the segment table.
 pub fn push_table(out: &mut Vec<u8>, segments: &[Vec<u64>]) -> Result<(), AllocError>
     requires some { 0 < length segments.now }
     requires few { length segments.now ≤ 512 }
-    requires small { sum (sizes_of (lists segments.now)) < 2 ^ 32 }
-    ensures { OnOk result (out.new.items ≡ out.old.items ++ padded_table (lists segments.now)) }
+    requires small { sum (sizes_of (words_of segments.now)) < 2 ^ 32 }
+    ensures { OnOk result (out.new.items ≡ out.old.items ++ padded_table (words_of segments.now)) }
 {
     out.extend_from_slice(&((segments.len() - 1) as u32).to_le_bytes())?;
     for segment in segments {
@@ -53,45 +36,14 @@ pub fn push_table(out: &mut Vec<u8>, segments: &[Vec<u64>]) -> Result<(), AllocE
 
 /// The words of all segments together, within the limits.
 pub fn count_words(segments: &[Vec<u64>], limits: Limits) -> Result<u64, FrameFault>
-    ensures words { IfOk result (λ words. words ≡ sum (sizes_of (lists segments.now))) }
-    ensures within { OnOk result (IsWithin limits (lists segments.now)) }
-    ensures refused { IfErr result (IsRefusedFor limits (lists segments.now)) }
+    ensures words { IfOk result (λ words. words ≡ sum (sizes_of (words_of segments.now))) }
+    ensures within { OnOk result (IsWithin limits (words_of segments.now)) }
+    ensures refused { IfErr result (IsRefusedFor limits (words_of segments.now)) }
 {
     if (limits.segments() as usize) < segments.len() {
         return Err(FrameFault::TooManySegments);
     }
     words_in(segments, limits.frame_words() as u64).ok_or(FrameFault::FrameTooLarge)
-}
-
-/// Writes the frame of the segments, in the plain form, after what `out` holds.
-fn write_plain(out: &mut Vec<u8>, segments: &[Vec<u64>], words: u64) -> Result<(), AllocError>
-    requires some { 0 < length segments.now }
-    requires few { length segments.now ≤ 512 }
-    requires words { words ≡ sum (sizes_of (lists segments.now)) }
-    requires small { words ≤ 67108864 }
-    ensures { OnOk result (IsWrittenBehind (lists segments.now) out.old.items out.new.items) }
-{
-    let table = segments.len() / 2 + 1;
-    out.reserve(8 * (table + words as usize))?;
-    push_table(out, segments)?;
-    for segment in segments {
-        push_plain(out, segment)?;
-    }
-    Ok(())
-}
-
-/// The segment table, as words.
-fn table_words(alloc: Global, segments: &[Vec<u64>]) -> Result<Vec<u64>, AllocError>
-    requires some { 0 < length segments.now }
-    requires few { length segments.now ≤ 512 }
-    requires small { sum (sizes_of (lists segments.now)) < 2 ^ 32 }
-    ensures { IfOk result (λ words. padded_table (lists segments.now) ≡ bytes_of words.items) }
-{
-    let mut bytes = Vec::new(alloc);
-    push_table(&mut bytes, segments)?;
-    let mut words = Vec::new(alloc);
-    take_in(&mut words, &bytes)?;
-    Ok(words)
 }
 
 /// Writes the segment table, packed as one piece.
@@ -102,8 +54,8 @@ pub fn push_packed_table(
 ) -> Result<(), AllocError>
     requires some { 0 < length segments.now }
     requires few { length segments.now ≤ 512 }
-    requires small { sum (sizes_of (lists segments.now)) < 2 ^ 32 }
-    ensures { OnOk result (PutsTable (lists segments.now) out.old.items out.new.items) }
+    requires small { sum (sizes_of (words_of segments.now)) < 2 ^ 32 }
+    ensures { OnOk result (PutsTable (words_of segments.now) out.old.items out.new.items) }
 {
     // Most messages have one segment.
     if segments.len() == 1 {
@@ -113,41 +65,13 @@ pub fn push_packed_table(
     push_packed(out, &table)
 }
 
-/// Writes the frame of the segments, in the packed form: the table and each segment are a piece each.
-fn write_packed(
-    alloc: Global,
-    out: &mut Vec<u8>,
-    segments: &[Vec<u64>],
-    words: u64,
-) -> Result<(), AllocError>
-    requires none { out.old.items ≡ [] }
-    requires some { 0 < length segments.now }
-    requires few { length segments.now ≤ 512 }
-    requires words { words ≡ sum (sizes_of (lists segments.now)) }
-    requires small { words ≤ 67108864 }
-    ensures { OnOk result (IsWritten Packed (lists segments.now) out.new.items) }
-{
-    let table = segments.len() / 2 + 1;
-    let most = LONGEST * (table + words as usize);
-    out.reserve(most.min(FIRST_ROOM))?;
-    push_packed_table(alloc, out, segments)?;
-    for segment in segments {
-        push_packed(out, segment)?;
-    }
-    Ok(())
-}
-
 /// Writes the bytes of the segments' frame in the plain form, as `write_frame` gives them, after what
 /// `out` holds.
 ///
 /// Where the limits are passed, `TooManySegments` (F1) is reported, or else `FrameTooLarge` (F2). At an
 /// `Err` `out` is empty.
-pub fn write_behind(
-    out: &mut Vec<u8>,
-    segments: &Segments,
-    limits: Limits,
-) -> Result<(), FrameFault>
-    ensures written { OnOk result (WrittenBehind limits segments.now out.old.items out.new.items) }
+pub fn write_after(out: &mut Vec<u8>, segments: &Segments, limits: Limits) -> Result<(), FrameFault>
+    ensures written { OnOk result (WrittenAfter limits segments.now out.old.items out.new.items) }
     ensures refused { IfErr result (IsRefusedFor limits segments.now) }
     ensures nothing { IfErr result (λ fault. out.new.items ≡ []) }
 {
@@ -214,4 +138,76 @@ pub fn write_frame(
     let mut out = Vec::new(alloc);
     write_over(alloc, &mut out, segments, mode, limits)?;
     Ok(out)
+}
+
+/// The words of all segments together, unless they are too many.
+fn words_in(segments: &[Vec<u64>], limit: u64) -> Option<u64>
+    ensures words { IfSome result (λ words. words ≡ sum (sizes_of (words_of segments.now))) }
+    ensures within { IfSome result (λ words. words ≤ limit) }
+    ensures past { IfNone result (limit < sum (sizes_of (words_of segments.now))) }
+{
+    let mut words: u64 = 0;
+    for segment in segments {
+        let size = segment.len() as u64;
+        if limit - words < size {
+            return None;
+        }
+        words += size;
+    }
+    Some(words)
+}
+
+/// The segment table, as words.
+fn table_words(alloc: Global, segments: &[Vec<u64>]) -> Result<Vec<u64>, AllocError>
+    requires some { 0 < length segments.now }
+    requires few { length segments.now ≤ 512 }
+    requires small { sum (sizes_of (words_of segments.now)) < 2 ^ 32 }
+    ensures { IfOk result (λ words. padded_table (words_of segments.now) ≡ bytes_of words.items) }
+{
+    let mut bytes = Vec::new(alloc);
+    push_table(&mut bytes, segments)?;
+    let mut words = Vec::new(alloc);
+    take_in(&mut words, &bytes)?;
+    Ok(words)
+}
+
+/// Writes the frame of the segments, in the plain form, after what `out` holds.
+fn write_plain(out: &mut Vec<u8>, segments: &[Vec<u64>], words: u64) -> Result<(), AllocError>
+    requires some { 0 < length segments.now }
+    requires few { length segments.now ≤ 512 }
+    requires words { words ≡ sum (sizes_of (words_of segments.now)) }
+    requires small { words ≤ 67108864 }
+    ensures { OnOk result (IsWrittenAfter (words_of segments.now) out.old.items out.new.items) }
+{
+    let table = segments.len() / 2 + 1;
+    out.reserve(8 * (table + words as usize))?;
+    push_table(out, segments)?;
+    for segment in segments {
+        push_plain(out, segment)?;
+    }
+    Ok(())
+}
+
+/// Writes the frame of the segments, in the packed form: the table and each segment are a piece each.
+fn write_packed(
+    alloc: Global,
+    out: &mut Vec<u8>,
+    segments: &[Vec<u64>],
+    words: u64,
+) -> Result<(), AllocError>
+    requires none { out.old.items ≡ [] }
+    requires some { 0 < length segments.now }
+    requires few { length segments.now ≤ 512 }
+    requires words { words ≡ sum (sizes_of (words_of segments.now)) }
+    requires small { words ≤ 67108864 }
+    ensures { OnOk result (IsWritten Packed (words_of segments.now) out.new.items) }
+{
+    let table = segments.len() / 2 + 1;
+    let most = LONGEST * (table + words as usize);
+    out.reserve(most.min(FIRST_CAPACITY))?;
+    push_packed_table(alloc, out, segments)?;
+    for segment in segments {
+        push_packed(out, segment)?;
+    }
+    Ok(())
 }

@@ -33,6 +33,11 @@ pub(crate) fn tree(alloc: Global, line: &mut String, view: &View) -> Result<(), 
     }
 }
 
+/// A comma before each part but the first.
+pub(crate) fn separate(line: &mut String, index: usize) -> Result<(), AllocError> {
+    if index > 0 { line.push(',') } else { Ok(()) }
+}
+
 /// A struct: its words, a semicolon, its trees.
 #[cycle(tree)]
 fn body(alloc: Global, line: &mut String, view: &View, ptrs: u16) -> Result<(), AllocError>
@@ -59,27 +64,6 @@ fn row(alloc: Global, line: &mut String, view: &View, number: u32) -> Result<(),
         tree(alloc, line, &view.child(i))?;
     }
     Ok(())
-}
-
-/// The elements of a composite list.
-#[cycle(tree)]
-fn elements(alloc: Global, line: &mut String, view: &View, number: u32) -> Result<(), AllocError>
-    requires { number_of (bodies_in view.now) ≡ number }
-{
-    for i in 0..number {
-        separate(line, i as usize)?;
-        let element = view.child(i);
-        let Shape::Struct { ptrs, .. } = element.shape() else {
-            unreachable!();
-        };
-        body(alloc, line, &element, ptrs)?;
-    }
-    Ok(())
-}
-
-/// A comma before each part but the first.
-pub(crate) fn separate(line: &mut String, index: usize) -> Result<(), AllocError> {
-    if index > 0 { line.push(',') } else { Ok(()) }
 }
 
 /// A list without pointers: `void:N`, `bits[..]` with the bits in order, `bytes[..]` with all bytes,
@@ -121,4 +105,20 @@ fn bits(line: &mut String, words: &[u64], count: u32) -> Result<(), AllocError> 
         line.push(if is_set { '1' } else { '0' })?;
     }
     line.push(']')
+}
+
+/// The elements of a composite list.
+#[cycle(tree)]
+fn elements(alloc: Global, line: &mut String, view: &View, number: u32) -> Result<(), AllocError>
+    requires { number_of (bodies_in view.now) ≡ number }
+{
+    for i in 0..number {
+        separate(line, i as usize)?;
+        let element = view.child(i);
+        let Shape::Struct { ptrs, .. } = element.shape() else {
+            unreachable!();
+        };
+        body(alloc, line, &element, ptrs)?;
+    }
+    Ok(())
 }

@@ -21,7 +21,7 @@ use Rattle.cp_refs.specs.declared.route.Gate.TheVariants as gates
 use Rattle.cp_refs.specs.declared.route.Route.TheVariants as routes
 use Rattle.cp_machine.specs.State.{State, with_exports, with_answers}
 use Rattle.cp_machine.specs.Then.{Done, Then, fault_if, Unless}
-use Rattle.cp_machine.specs.Room.{has_room, has_ticket}
+use Rattle.cp_machine.specs.Capacity.{has_capacity, has_ticket}
 use Rattle.cp_machine.specs.Take.{answer_of, path_of, TakeAll, lower}
 use Rattle.cp_machine.specs.Give.{GiveAnswer}
 use Rattle.cp_machine.specs.Go.{Underway, Go, GoTo}
@@ -54,7 +54,7 @@ is_answering s a = is_some (get s.entries.answers a)
 abbrev pub OnBootstrap : State → ℕ → Result Done PeerFault → Type 0
 OnBootstrap old a out =
     Unless
-    (fault_if (is_answering old a) faults.QuestionInUse ++ fault_if (not (has_room old.entries.answers)) faults.TableFull)
+    (fault_if (is_answering old a) faults.QuestionInUse ++ fault_if (not (has_capacity old.entries.answers)) faults.TableFull)
     (GiveAnswer (with_answer old a None) a (bootstrap_outcome old.bootstrap))
     out
 
@@ -98,7 +98,7 @@ abbrev pub call_faults : State → Call → List PeerFault
 call_faults s c =
     fault_if (is_answering s c.question_id) faults.QuestionInUse
     ++ target_faults s c.target
-    ++ fault_if (not (has_room s.entries.answers && has_ticket s)) faults.TableFull
+    ++ fault_if (not (has_capacity s.entries.answers && has_ticket s)) faults.TableFull
 
 -- A Call's capability table is taken in, it opens an answer and has the next ticket, and goes by its target's route.
 abbrev pub OnCall : State → Call → Result Done PeerFault → Type 0

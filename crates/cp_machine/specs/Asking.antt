@@ -10,7 +10,7 @@ use Rattle.cp_rpc.specs.declared.returned.Returned.TheVariants as returns
 use Rattle.cp_refs.specs.declared.outcome.Outcome.{Outcome}
 use Rattle.cp_refs.specs.declared.outcome.Outcome.TheVariants as outcomes
 use Rattle.cp_machine.specs.State.{State, with_exports}
-use Rattle.cp_machine.specs.Then.{Done, Then, fault_if, Unless, behind}
+use Rattle.cp_machine.specs.Then.{Done, Then, fault_if, Unless, after}
 use Rattle.cp_machine.specs.Take.{TakeAll, lower}
 use Rattle.cp_machine.specs.Give.{GiveAnswer, GiveOwn, without_question}
 use Rattle.cp_machine.specs.Go.{finish_of}
@@ -29,7 +29,7 @@ TakeReturned old other out = ⊥
 abbrev pub Settles : State → ℕ → Option ℕ → Outcome → Result Done PeerFault → Type 0
 Settles old q None outcome out = GiveOwn old q outcome out
 Settles old q (Some a) outcome out =
-    Then (GiveAnswer (without_question old q) a outcome) (λ done out. out ≡ Ok (behind (finish_of q false ∷ []) done)) out
+    Then (GiveAnswer (without_question old q) a outcome) (λ done out. out ≡ Ok (after (finish_of q false ∷ []) done)) out
 
 -- A Return is taken in, unless the application finished the question: then it only ends, and what the Return names isn't looked at.
 abbrev pub ReturnBy : State → Return → QuestionEntry → Stage → Result Done PeerFault → Type 0

@@ -21,7 +21,7 @@ use Rattle.cp_refs.specs.declared.values.QuestionKind.{QuestionKind}
 use Rattle.cp_refs.specs.declared.values.QuestionKind.TheVariants as kinds
 use Rattle.cp_machine.specs.State.{State}
 use Rattle.cp_machine.specs.Then.{Done, Then, fault_if, Unless, OrFull}
-use Rattle.cp_machine.specs.Room.{has_room, has_ticket, Fresh, cap_fits, request_fits}
+use Rattle.cp_machine.specs.Capacity.{has_capacity, has_ticket, Fresh, cap_fits, request_fits}
 use Rattle.cp_machine.specs.Say.{promised}
 use Rattle.cp_machine.specs.Go.{Underway, held_at, Go, GoTo}
 use Rattle.cp_machine.specs.InUse.{has_question, has_promise, has_import, is_local_path}
@@ -92,14 +92,14 @@ with_mark s (caps.Pipelined q path) embargo = record s { marks = record s.marks 
 with_mark s other embargo = s
 
 -- the mark of an import fits, and so do 65,536 marked paths
-abbrev pub has_mark_room : State → Cap → Bool
-has_mark_room s (caps.Pipelined q path) = ltb (len s.marks.paths) 65536
-has_mark_room s other = true
+abbrev pub has_mark_capacity : State → Cap → Bool
+has_mark_capacity s (caps.Pipelined q path) = ltb (len s.marks.paths) 65536
+has_mark_capacity s other = true
 
 -- a reference that is called is marked from then on
 abbrev pub marked : State → Cap → Option (Option ℕ) → Result State PeerFault
 marked s cap (Some embargo) = Ok s
-marked s cap None = cond (has_mark_room s cap) (Ok (with_mark s cap None)) (Err faults.TableFull)
+marked s cap None = cond (has_mark_capacity s cap) (Ok (with_mark s cap None)) (Err faults.TableFull)
 
 -- the reference as the peer knows it (a reference is an import or a question's path)
 abbrev pub old_target : Cap → Target
@@ -172,7 +172,7 @@ call_refusals s cap request =
     ++ fault_if (not_all (has_promise s) (cap ∷ request.caps)) refusals.UnknownPromise
     ++ fault_if (list_any (is_local_path s) request.caps) refusals.Unsettled
     ++ fault_if (not (cap_fits cap && request_fits request)) refusals.TooLarge
-    ++ fault_if (not (has_room s.entries.questions && has_ticket s)) refusals.Full
+    ++ fault_if (not (has_capacity s.entries.questions && has_ticket s)) refusals.Full
     ++ fault_if (not_all (has_import s) (cap ∷ request.caps)) refusals.UnknownImport
 
 abbrev pub DoCall : State → Cap → Request → Result OwnDone VatFault → Type 0

@@ -17,7 +17,7 @@ use Rattle.cp_refs.specs.declared.outcome.Outcome.{Outcome}
 use Rattle.cp_refs.specs.declared.values.QuestionKind.TheVariants as kinds
 use Rattle.cp_machine.specs.State.{State, with_questions}
 use Rattle.cp_machine.specs.Then.{Done, Then, fault_if, Unless, OrFull}
-use Rattle.cp_machine.specs.Room.{Fresh, cap_fits, outcome_fits}
+use Rattle.cp_machine.specs.Capacity.{Fresh, cap_fits, outcome_fits}
 use Rattle.cp_machine.specs.Say.{ComesTo}
 use Rattle.cp_machine.specs.Give.{Give, Settle, without_question}
 use Rattle.cp_machine.specs.Go.{finish_of}

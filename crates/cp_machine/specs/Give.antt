@@ -19,7 +19,7 @@ use Rattle.cp_refs.specs.declared.call.Origin.TheVariants as origins
 use Rattle.cp_refs.specs.declared.outcome.Outcome.{Outcome}
 use Rattle.cp_refs.specs.declared.outcome.Outcome.TheVariants as outcomes
 use Rattle.cp_machine.specs.State.{State, with_over}
-use Rattle.cp_machine.specs.Then.{Done, Then, behind}
+use Rattle.cp_machine.specs.Then.{Done, Then, after}
 use Rattle.cp_machine.specs.Say.{ComesTo, IsExport, HasNoExport, SayEnd, SayAll, mentions_of}
 use Rattle.cp_machine.specs.Texts.{promise_loop}
 use Rattle.cp_machine.specs.declared.effect.Effect.{Effect}
@@ -72,7 +72,7 @@ Settle old p value out = (last : Cap) × ComesTo old.values value last × Tells 
 abbrev pub SettleTied : State → Outcome → List Tied → Result Done PeerFault → Type 0
 SettleTied old outcome [] out = out ≡ Ok ([], old)
 SettleTied old outcome (tied ∷ more) out =
-    Then (Settle old tied.promise (cap_at outcome tied.path)) (λ first. Then (SettleTied first.1 outcome more) (λ rest out. out ≡ Ok (behind first.0 rest))) out
+    Then (Settle old tied.promise (cap_at outcome tied.path)) (λ first. Then (SettleTied first.1 outcome more) (λ rest out. out ≡ Ok (after first.0 rest))) out
 
 -- how an outcome is returned
 abbrev pub Returns : State → Outcome → Result (Returned × State) PeerFault → Type 0
@@ -114,10 +114,10 @@ abbrev pub GiveBy : State → ℕ → Outcome → AnswerEntry → Stage → Resu
 GiveBy old a outcome kept stages.Open out =
     Then
     (Returns old outcome)
-    (λ said. Then (SettleTied (given said.1 a kept outcome said.0) outcome kept.tied) (λ rest out. out ≡ Ok (behind (return_of a said.0 ∷ []) rest)))
+    (λ said. Then (SettleTied (given said.1 a kept outcome said.0) outcome kept.tied) (λ rest out. out ≡ Ok (after (return_of a said.0 ∷ []) rest)))
     out
 GiveBy old a outcome kept stages.Finished out =
-    Then (SettleTied (gone old a outcome) outcome kept.tied) (λ rest out. out ≡ Ok (behind (return_of a returns.Canceled ∷ []) rest)) out
+    Then (SettleTied (gone old a outcome) outcome kept.tied) (λ rest out. out ≡ Ok (after (return_of a returns.Canceled ∷ []) rest)) out
 GiveBy old a outcome kept stages.Returned out = ⊥
 
 abbrev pub GiveAnswer : State → ℕ → Outcome → Result Done PeerFault → Type 0

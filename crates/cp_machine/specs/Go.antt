@@ -23,7 +23,7 @@ use Rattle.cp_refs.specs.declared.route.Route.{Route}
 use Rattle.cp_refs.specs.declared.route.Route.TheVariants as routes
 use Rattle.cp_machine.specs.State.{State, gave, none_over, with_over, with_questions, with_answers}
 use Rattle.cp_machine.specs.Then.{Done, Then}
-use Rattle.cp_machine.specs.Room.{Fresh}
+use Rattle.cp_machine.specs.Capacity.{Fresh}
 use Rattle.cp_machine.specs.Say.{SayAll, promised, mentions_of}
 use Rattle.cp_machine.specs.Give.{Give}
 use Rattle.cp_machine.specs.declared.effect.Effect.{Effect}
@@ -82,9 +82,9 @@ sent s q table =
     with_questions s (with_change s.entries.questions q (λ entry. record entry { kept = record entry.kept { is_sent = true; mentions = mentions_of table } }))
 
 -- where the application finished a question before its Call was sent, the Finish follows at once
-abbrev pub finish_behind : ℕ → Stage → List Effect
-finish_behind q stages.Finished = finish_of q true ∷ []
-finish_behind q other = []
+abbrev pub finish_after : ℕ → Stage → List Effect
+finish_after q stages.Finished = finish_of q true ∷ []
+finish_after q other = []
 
 -- A call goes to the peer. One of the peer's is forwarded under a new question, one of the application's goes under its own.
 abbrev pub GoOut : State → Underway → Target → Origin → Result Done PeerFault → Type 0
@@ -105,7 +105,7 @@ GoOut old call target (origins.Own q) out =
     (entry : Exchange QuestionEntry) × (get old.entries.questions q ≡ Some entry)
     × Then
     (SayAll old call.request.caps)
-    (λ said out. out ≡ Ok (call_of q target call.request said.0 ∷ finish_behind q entry.stage, sent said.1 q said.0))
+    (λ said out. out ≡ Ok (call_of q target call.request said.0 ∷ finish_after q entry.stage, sent said.1 q said.0))
     out
 
 -- A call goes by its route: to an object, to the peer, to a gate where it stays; or it fails, which gives its origin the exception.
@@ -143,5 +143,5 @@ pub data Leave : State → List Effect → Result State PeerFault → Type 0 whe
   stays : {s : State} → NoneOver s → Leave s [] (Ok (with_over s none_over))
   leaves : {old mid : State} {first rest all : List Effect} {last : Result State PeerFault} (call : Held) (cap : Cap) → IsNext old call cap
       → GoTo (without_call old call) (underway call) cap (Ok (first, mid)) → Leave mid rest last → all ≡ first ++ rest → Leave old all last
-  finds_no_room : {old : State} {fault : PeerFault} (call : Held) (cap : Cap) → IsNext old call cap
+  finds_table_full : {old : State} {fault : PeerFault} (call : Held) (cap : Cap) → IsNext old call cap
       → GoTo (without_call old call) (underway call) cap (Err fault) → Leave old [] (Err fault)

@@ -1,7 +1,7 @@
 pub mod Texts
 pub mod State
 pub mod Then
-pub mod Room
+pub mod Capacity
 pub mod Say
 pub mod Take
 pub mod Give

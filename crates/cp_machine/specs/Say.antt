@@ -12,7 +12,7 @@ use Rattle.cp_refs.specs.declared.cap.Cap.{Cap}
 use Rattle.cp_refs.specs.declared.cap.Cap.TheVariants as caps
 use Rattle.cp_machine.specs.State.{State, with_exports}
 use Rattle.cp_machine.specs.Then.{Then, Each}
-use Rattle.cp_machine.specs.Room.{Fresh}
+use Rattle.cp_machine.specs.Capacity.{Fresh}
 use Rattle.cp_machine.specs.declared.fault.PeerFault.{PeerFault}
 use Rattle.cp_machine.specs.declared.fault.PeerFault.TheVariants as faults
 
@@ -44,7 +44,7 @@ pub data Raise (old : State) (cap : Cap) : Result (ℕ × State) PeerFault → T
       → Raise old cap (Ok (e, with_exports old (insert old.counts.exports e (record { count = count + 1; kept = cap }))))
   counted_out : (e : ℕ) → get old.counts.exports e ≡ Some (record { count = 2 ^ 32 - 1; kept = cap }) → Raise old cap (Err faults.TableFull)
   opened : (e : ℕ) → HasNoExport old cap → Fresh old.counts.exports (Ok e) → Raise old cap (Ok (e, with_exports old (insert old.counts.exports e (new_counted cap))))
-  has_no_room : {fault : PeerFault} → HasNoExport old cap → Fresh old.counts.exports (Err fault) → Raise old cap (Err fault)
+  has_no_capacity : {fault : PeerFault} → HasNoExport old cap → Fresh old.counts.exports (Err fault) → Raise old cap (Err fault)
 
 -- what a question will give at a path, as the peer names it
 abbrev pub promised : ℕ → List ℕ → PromisedAnswer

@@ -8,7 +8,7 @@ use Rattle.cp_refs.specs.At.{failed}
 use Rattle.cp_machine.specs.State.{State}
 use Rattle.cp_machine.specs.Texts.{text_of}
 use Rattle.cp_machine.specs.Then.{Done, fault_if, Unless}
-use Rattle.cp_machine.specs.Room.{message_fits}
+use Rattle.cp_machine.specs.Capacity.{message_fits}
 use Rattle.cp_machine.specs.Supported.{is_supported}
 use Rattle.cp_machine.specs.Answering.{OnBootstrap, OnCall, OnFinish}
 use Rattle.cp_machine.specs.Asking.{OnReturn}

@@ -19,7 +19,7 @@ use Rattle.cp_refs.specs.declared.cap.Cap.TheVariants as caps
 use Rattle.cp_refs.specs.declared.outcome.Outcome.{Outcome}
 use Rattle.cp_machine.specs.State.{State}
 use Rattle.cp_machine.specs.Then.{Then, Each}
-use Rattle.cp_machine.specs.Room.{has_room, Fresh}
+use Rattle.cp_machine.specs.Capacity.{has_capacity, Fresh}
 use Rattle.cp_machine.specs.declared.entry.AnswerEntry.{AnswerEntry}
 use Rattle.cp_machine.specs.declared.entry.ImportKind.{ImportKind}
 use Rattle.cp_machine.specs.declared.entry.ImportKind.TheVariants as kinds
@@ -40,7 +40,7 @@ held_once_more s i kind (Some entry) =
     if ltb entry.count 4294967295 then Ok (record s { counts = record s.counts { imports = insert s.counts.imports i (record entry { count = entry.count + 1 }) } })
     else Err faults.TableFull
 held_once_more s i kind None =
-    if has_room s.counts.imports then Ok (
+    if has_capacity s.counts.imports then Ok (
     record s {
       counts = record s.counts { imports = insert s.counts.imports i (new_counted kind) };
       values = record s.values { imports = insert s.values.imports i None };

@@ -30,8 +30,8 @@ Unless [] Rule out = Rule out
 Unless (fault ∷ faults) Rule out = out ≡ Err fault
 
 -- this, with its effects after others
-abbrev pub behind : List Effect → Done → Done
-behind effects done = (effects ++ done.0, done.1)
+abbrev pub after : List Effect → Done → Done
+after effects done = (effects ++ done.0, done.1)
 
 -- one after another, each from the state that the one before left
 abbrev pub Each : {A B : Type 0} → (State → A → Result (B × State) PeerFault → Type 0) → State → List A → Result (List B × State) PeerFault → Type 0

@@ -2,7 +2,7 @@
 use Rattle.std.specs.Prelude.{ℕ, List, [], ◌∷◌, Result}
 use Rattle.cp_refs.specs.declared.call.Held.{Held}
 use Rattle.cp_machine.specs.State.{State, new_state, none_over, with_over}
-use Rattle.cp_machine.specs.Go.{Leave, stays, leaves, finds_no_room}
+use Rattle.cp_machine.specs.Go.{Leave, stays, leaves, finds_table_full}
 use Rattle.cp_machine.specs.Step.{Follows, all_left, found_full, Step, did, received}
 use Rattle.cp_machine.specs.Run.{Moment, Steps, Run}
 use Rattle.cp_machine.specs.declared.effect.Effect.{Effect}
@@ -33,7 +33,7 @@ abbrev pub leaving_turns : {old : State} {effects : List Effect} {out : Result S
 leaving_turns {old} (stays none) past = record { cause = rests; before = old; effects = []; after = with_over old none_over } ∷ past
 leaving_turns {old} (leaves {mid = mid} {first = first} call cap next went rest is) past =
     leaving_turns rest (record { cause = goes call; before = old; effects = first; after = mid } ∷ past)
-leaving_turns (finds_no_room call cap next found) past = past
+leaving_turns (finds_table_full call cap next found) past = past
 
 abbrev pub following_turns : {mid new : State} {effects : List Effect} → Follows mid effects new → List Turn → List Turn
 following_turns (all_left leaving) past = leaving_turns leaving past
@@ -47,10 +47,10 @@ step_turns {old} (received m first rest mid is_open done follows is) past =
     following_turns follows (record { cause = own_part (events.Receive m) values.Nothing; before = old; effects = first; after = mid } ∷ past)
 step_turns other past = past
 
-abbrev pub turns_behind : (old new : State) (history : List Moment) → Steps old history new → List Turn → List Turn
-turns_behind old new [] steps past = past
-turns_behind old new (moment ∷ more) (mid, step, steps) past = turns_behind mid new more steps (step_turns step past)
+abbrev pub turns_after : (old new : State) (history : List Moment) → Steps old history new → List Turn → List Turn
+turns_after old new [] steps past = past
+turns_after old new (moment ∷ more) (mid, step, steps) past = turns_after mid new more steps (step_turns step past)
 
 -- the turns of a run, the latest first
 abbrev pub trace_of : (bootstrap : Option ℕ) (history : List Moment) → Run bootstrap history → List Turn
-trace_of bootstrap history run = turns_behind (new_state bootstrap) run.0 history run.1 []
+trace_of bootstrap history run = turns_after (new_state bootstrap) run.0 history run.1 []

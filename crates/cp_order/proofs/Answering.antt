@@ -31,7 +31,7 @@ use Rattle.cp_machine.specs.Local.{is_open_stage, waiting_of, forwarding_of, one
 use Rattle.cp_machine.specs.declared.entry.AnswerEntry.{AnswerEntry}
 use Rattle.cp_machine.specs.declared.entry.Tied.{Tied}
 use Rattle.cp_machine.specs.declared.fault.PeerFault.{PeerFault}
-use Rattle.cp_machine.specs.Room.{has_room}
+use Rattle.cp_machine.specs.Capacity.{has_capacity}
 use Rattle.cp_machine.specs.Take.{answer_of, path_of, TakeAll, lower}
 use Rattle.cp_machine.specs.Give.{GiveAnswer}
 use Rattle.cp_machine.specs.Answering.{with_answer, bootstrap_outcome, is_answering, OnBootstrap, target_faults, GoToExport, GoToAnswer, GoToTarget, peer_call, entered, call_faults, OnCall, without_answer, AtStage, FinishedBy, OnFinish}
@@ -218,7 +218,7 @@ bootstrap_fit s (Some k) = ((refl, tt, (1, refl)), tt)
 
 pub bootstrap_keeps : (s : State) (a : ℕ) (done : Done) → Within s None [] → s.waiting.over ≡ none_over → OnBootstrap s a (Ok done) → Within done.1 None []
 bootstrap_keeps s a done h still does =
-    let refusals : List PeerFault = fault_if (is_answering s a) faults.QuestionInUse ++ fault_if (not (has_room s.entries.answers)) faults.TableFull in
+    let refusals : List PeerFault = fault_if (is_answering s a) faults.QuestionInUse ++ fault_if (not (has_capacity s.entries.answers)) faults.TableFull in
     let rule = unless_out {A = Done} {F = PeerFault} refusals (GiveAnswer (with_answer s a None) a (bootstrap_outcome s.bootstrap)) done does in
     let none : refusals ≡ [] = no_faults {A = Done} {F = PeerFault} refusals (GiveAnswer (with_answer s a None) a (bootstrap_outcome s.bootstrap)) done does in
     let fresh = no_answer s a (not_met (is_answering s a) faults.QuestionInUse (front_empty (fault_if (is_answering s a) faults.QuestionInUse) _ none)) in

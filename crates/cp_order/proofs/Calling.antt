@@ -23,12 +23,12 @@ use Rattle.cp_refs.specs.declared.values.QuestionKind.TheVariants as kinds
 use Rattle.cp_refs.specs.declared.call.Request.{Request}
 use Rattle.cp_machine.specs.State.{State, Marks, gave, none_over}
 use Rattle.cp_machine.specs.Then.{Done, OrFull, fault_if}
-use Rattle.cp_machine.specs.Room.{Fresh, has_room, has_ticket, cap_fits, request_fits}
+use Rattle.cp_machine.specs.Capacity.{Fresh, has_capacity, has_ticket, cap_fits, request_fits}
 use Rattle.cp_machine.specs.Go.{Underway, held_at, GoTo}
 use Rattle.cp_machine.specs.InUse.{caps_of, is_pipelined_of, is_local_path, is_unfinished, is_own, has_question, has_promise, has_import}
 use Rattle.cp_machine.specs.Local.{IsThere, is_wire, HasWaiting, IsExportable, IsPathMark, path_value, IsImportMark}
 use Rattle.cp_machine.specs.declared.entry.QuestionEntry.{QuestionEntry}
-use Rattle.cp_machine.specs.Calling.{on_wire, came_to, import_reference, path_reference, question_reference, reference_of, called, own_call, mark_of, with_mark, has_mark_room, marked, FirstEmbargoed, GoBack, GoByValue, GoFrom, OwnDone, Opens, not_all, call_refusals, DoCall}
+use Rattle.cp_machine.specs.Calling.{on_wire, came_to, import_reference, path_reference, question_reference, reference_of, called, own_call, mark_of, with_mark, has_mark_capacity, marked, FirstEmbargoed, GoBack, GoByValue, GoFrom, OwnDone, Opens, not_all, call_refusals, DoCall}
 use Rattle.cp_machine.specs.Calling as calling
 use Rattle.cp_machine.specs.declared.fault.PeerFault.TheVariants as faults
 use Rattle.cp_machine.specs.declared.fault.VatFault.{VatFault}
@@ -277,7 +277,7 @@ module _ (s : State) (h : Within s None []) (still : s.waiting.over ≡ none_ove
       → Ok mid ≡ marked (called s q kinds.Wire) (caps.Pipelined r path) o
       → (Within mid (Some (origins.Own q)) [] × IsInHand mid (own_call s q request)) × (mid.values ≡ (called s q kinds.Wire).values)
   marked_path r path (Some embargo) mid wire is = rw (ok_in _ _ is) ((as_called kinds.Wire, in_hand kinds.Wire), refl)
-  marked_path r path None mid wire is = by (has_mark_room (called s q kinds.Wire) (caps.Pipelined r path)) is
+  marked_path r path None mid wire is = by (has_mark_capacity (called s q kinds.Wire) (caps.Pipelined r path)) is
     where
       by : (b : Bool) → Ok mid ≡ cond b (Ok (with_mark (called s q kinds.Wire) (caps.Pipelined r path) None)) (Err faults.TableFull)
           → (Within mid (Some (origins.Own q)) [] × IsInHand mid (own_call s q request)) × (mid.values ≡ (called s q kinds.Wire).values)
@@ -396,7 +396,7 @@ do_call_keeps s cap request done h still does =
     let five = front_empty _ (fault_if (not_all (has_import s) (cap ∷ request.caps)) refusals.UnknownImport) none in
     let held = all_pass (has_import s) (cap ∷ request.caps)
     (not_met _ refusals.UnknownImport (back_empty _ (fault_if (not_all (has_import s) (cap ∷ request.caps)) refusals.UnknownImport) none)) in
-    let four = front_empty _ (fault_if (not (has_room s.entries.questions && has_ticket s)) refusals.Full) five in
+    let four = front_empty _ (fault_if (not (has_capacity s.entries.questions && has_ticket s)) refusals.Full) five in
     let three = front_empty _ (fault_if (not (cap_fits cap && request_fits request)) refusals.TooLarge) four in
     let may = none_pass (is_local_path s) request.caps (not_met _ refusals.Unsettled
     (back_empty _ (fault_if (list_any (is_local_path s) request.caps) refusals.Unsettled) three)) in

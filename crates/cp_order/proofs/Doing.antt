@@ -25,7 +25,7 @@ use Rattle.cp_refs.specs.declared.values.Question.{Question}
 use Rattle.cp_refs.specs.declared.values.QuestionKind.TheVariants as kinds
 use Rattle.cp_machine.specs.State.{State, gave, none_over}
 use Rattle.cp_machine.specs.Then.{Done, OrFull, fault_if}
-use Rattle.cp_machine.specs.Room.{Fresh, cap_fits, outcome_fits}
+use Rattle.cp_machine.specs.Capacity.{Fresh, cap_fits, outcome_fits}
 use Rattle.cp_machine.specs.Give.{Give, settled, Settle}
 use Rattle.cp_machine.specs.InUse.{caps_of, waiting_calls, kept_caps, caps_given, value_unless, other_values, is_import, is_promise, is_at_promise, is_pipelined, is_unsettled, is_import_used, is_promise_used, has_question, has_promise, has_import}
 use Rattle.cp_machine.specs.Local.{is_open_stage, one_if, tied_to, tied_in, IsThere, is_wire, IsSentIf, IsOpenIf, IsExportable, IsImportMark}

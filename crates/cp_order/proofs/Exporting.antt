@@ -14,9 +14,9 @@ use Rattle.cp_refs.specs.declared.cap.Cap.{Cap}
 use Rattle.cp_refs.specs.declared.cap.Cap.TheVariants as caps
 use Rattle.cp_refs.specs.declared.call.Origin.{Origin}
 use Rattle.cp_machine.specs.State.{State, with_exports}
-use Rattle.cp_machine.specs.Room.{free}
+use Rattle.cp_machine.specs.Capacity.{free}
 use Rattle.cp_machine.specs.Take.{times, less_by, lowered_by, lowered, lower, released}
-use Rattle.cp_machine.specs.Say.{Raise, counted, counted_out, opened, has_no_room, SayEnd, Say, SayAll}
+use Rattle.cp_machine.specs.Say.{Raise, counted, counted_out, opened, has_no_capacity, SayEnd, Say, SayAll}
 use Rattle.cp_machine.specs.Give.{ResolvesEnd, Tells}
 use Rattle.cp_machine.specs.Go.{Underway}
 use Rattle.cp_machine.specs.Then.{Done}
@@ -141,7 +141,7 @@ module _ (hand : Option Origin) (next : List Tied) where
             (raised_one h e 1 cap same),
         refl,
       )
-  raise_keeps s cap out h may (has_no_room none is) = tt
+  raise_keeps s cap out h may (has_no_capacity none is) = tt
 
   -- what a capability comes to is sent
   pub say_end_keeps : (s : State) (last : Cap) (said : Descriptor × State) → Within s hand next → IsEnding (way s.values last) → SayEnd s last (Ok said)

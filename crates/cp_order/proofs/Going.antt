@@ -27,7 +27,7 @@ use Rattle.cp_refs.specs.declared.values.QuestionKind.{QuestionKind}
 use Rattle.cp_refs.specs.declared.values.QuestionKind.TheVariants as kinds
 use Rattle.cp_machine.specs.State.{State, gave, with_questions}
 use Rattle.cp_machine.specs.Then.{Done}
-use Rattle.cp_machine.specs.Room.{Fresh}
+use Rattle.cp_machine.specs.Capacity.{Fresh}
 use Rattle.cp_machine.specs.Say.{SayAll, promised, mentions_of}
 use Rattle.cp_machine.specs.Give.{Give}
 use Rattle.cp_machine.specs.Go.{Underway, delivered, forwarding, sent, GoOut, Go, GoTo}

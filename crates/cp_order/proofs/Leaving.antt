@@ -12,7 +12,7 @@ use Rattle.cp_refs.specs.declared.call.Origin.TheVariants as origins
 use Rattle.cp_refs.specs.declared.route.Gate.TheVariants as gates
 use Rattle.cp_machine.specs.State.{State, gave}
 use Rattle.cp_machine.specs.Then.{Done}
-use Rattle.cp_machine.specs.Go.{GoTo, IsNext, without_call, underway, Leave, stays, leaves, finds_no_room}
+use Rattle.cp_machine.specs.Go.{GoTo, IsNext, without_call, underway, Leave, stays, leaves, finds_table_full}
 use Rattle.cp_machine.specs.InUse.{is_local_path}
 use Rattle.cp_machine.specs.Local.{Local, is_origin, waiting_of, one_if, IsTicketOf, IsThere, is_wire, IsSentIf, HasWaiting}
 use Rattle.cp_machine.specs.declared.effect.Effect.{Effect}
@@ -158,7 +158,7 @@ LeftLocal (Err fault) = Unit {0}
 leave_by : {old : State} {all : List Effect} {out : Result State PeerFault} → Within old None [] → Leave old all out → LeftLocal out
 leave_by {old = old} h (stays none) = within_is_local old h none
 leave_by h (leaves {mid = mid} {first = first} call given next goes more same) = leave_by (turn_within h call given next (first, mid) goes) more
-leave_by h (finds_no_room call given next goes) = tt
+leave_by h (finds_table_full call given next goes) = tt
 
 pub leaves_local : LeavesLocal
 leaves_local old last all h leave = leave_by h leave

@@ -300,13 +300,13 @@ module _ {s : State} {hand : Option Origin} (h : Within s hand []) (n : ℕ) (va
   import_on : (j : ℕ) (embargo : Option ℕ) → IsImportMark s j embargo → IsImportMark path_embargoed j embargo
   import_on j embargo mark = (mark.0, embargo_on h n value fresh (import_value (get s.values.imports j)) embargo mark.1)
 
-  path_behind : (key : List ℕ) (b : Bool) → eq_by_cmp (slice_cmp nat_cmp) key (q ∷ path) ≡ b
+  path_after : (key : List ℕ) (b : Bool) → eq_by_cmp (slice_cmp nat_cmp) key (q ∷ path) ≡ b
       → IfSome (get path_embargoed.marks.paths key) (IsPathMark path_embargoed key)
-  path_behind key true t = rw (put_key s.marks.paths (q ∷ path) key (Some n) true t, same_key key (q ∷ path) t) (wire, here_embargo)
+  path_after key true t = rw (put_key s.marks.paths (q ∷ path) key (Some n) true t, same_key key (q ∷ path) t) (wire, here_embargo)
     where
       here_embargo : IsEmbargoOf path_embargoed (path_value (get s.values.questions q) path) (Some n)
       here_embargo = rw (came) (its_embargo h n value)
-  path_behind key false t = rw (put_key s.marks.paths (q ∷ path) key (Some n) false t) (old (get s.marks.paths key) refl)
+  path_after key false t = rw (put_key s.marks.paths (q ∷ path) key (Some n) false t) (old (get s.marks.paths key) refl)
     where
       old : (o : Option (Option ℕ)) → get s.marks.paths key ≡ o → IfSome o (IsPathMark path_embargoed key)
       old None at = tt
@@ -346,7 +346,7 @@ module _ {s : State} {hand : Option Origin} (h : Within s hand []) (n : ℕ) (va
         imports_valued = h.imports_valued;
         import_marks = λ j. here_of _ (get s.marks.imports j) (λ embargo is.
             import_on j embargo (there_of (IsImportMark s j) (get s.marks.imports j) embargo is (h.import_marks j)));
-        path_marks = λ key. path_behind key (eq_by_cmp (slice_cmp nat_cmp) key (q ∷ path)) refl;
+        path_marks = λ key. path_after key (eq_by_cmp (slice_cmp nat_cmp) key (q ∷ path)) refl;
         one_mark = λ c d m is also. one_of_paths c d m (path_cases c m is) (path_cases d m also);
         waited_for = each_put (λ m v. HasWaiting s m) (λ m v. HasWaiting new m) s.marks.embargoes n value h.waited_for waits (λ m v other is x. x);
       }

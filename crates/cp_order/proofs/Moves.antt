@@ -58,11 +58,11 @@ fresh_kept m k v fresh q o is = by (k == q) refl
     by false t = put_at m k q v false t ∙ is
 
 -- a promise that is new, and open
-opened_way : (new : ValueMaps) (Q : Cap → Type 0) (q : ℕ) (old behind : Option (Option Cap)) → ((x : Option Cap) → old ≡ Some x → behind ≡ Some x)
+opened_way : (new : ValueMaps) (Q : Cap → Type 0) (q : ℕ) (old after : Option (Option Cap)) → ((x : Option Cap) → old ≡ Some x → after ≡ Some x)
     → ((c : Cap) → old ≡ Some (Some c) → Q c)
-    → IsWayKept new Q (promise_way q old) (promise_way q behind)
-opened_way new Q q None behind same leads_to = tt
-opened_way new Q q (Some o) behind same leads_to = rw (same o refl)
+    → IsWayKept new Q (promise_way q old) (promise_way q after)
+opened_way new Q q None after same leads_to = tt
+opened_way new Q q (Some o) after same leads_to = rw (same o refl)
     (same_way new Q (promise_way q (Some o)) (λ c is. leads_to c (promise_leads q (Some o) c is)))
 
 -- the route of what names no question's path rests on promises alone

@@ -20,11 +20,11 @@ use Rattle.cp_refs.specs.declared.route.Route.TheVariants as routes
 use Rattle.cp_refs.specs.declared.values.QuestionKind.TheVariants as kinds
 use Rattle.cp_machine.specs.State.{State, none_over}
 use Rattle.cp_machine.specs.Then.{Done}
-use Rattle.cp_machine.specs.Room.{Fresh}
+use Rattle.cp_machine.specs.Capacity.{Fresh}
 use Rattle.cp_machine.specs.Supported.{is_supported}
 use Rattle.cp_machine.specs.Take.{answer_of, path_of, TakeAll}
 use Rattle.cp_machine.specs.Answering.{is_answering, target_faults, GoToExport, GoToAnswer, GoToTarget, peer_call, entered, call_faults, OnCall}
-use Rattle.cp_machine.specs.Calling.{Reference, plain, on_wire, came_to, reference_of, called, own_call, mark_of, marked, has_mark_room, disembargo_of, GoBack, GoByValue, GoFrom, OwnDone, Opens, call_refusals, DoCall}
+use Rattle.cp_machine.specs.Calling.{Reference, plain, on_wire, came_to, reference_of, called, own_call, mark_of, marked, has_mark_capacity, disembargo_of, GoBack, GoByValue, GoFrom, OwnDone, Opens, call_refusals, DoCall}
 use Rattle.cp_machine.specs.Go.{Underway, held_at, Go, GoTo}
 use Rattle.cp_machine.specs.Trace.{Turn}
 use Rattle.cp_machine.specs.Ports.{Name, answer_path, capability, named, is_there}
@@ -124,7 +124,7 @@ module _ (old : State) (q : ℕ) (request : Request) (cap : Cap) (within : Withi
   wire_tells : reference_of old.values cap ≡ on_wire → (mark : Option (Option ℕ)) → (between : State) → Ok between ≡ marked (called old q kinds.Wire) cap mark
       → GoTo between (own_call old q request) cap (Ok (first, mid)) → TellsFailure its_turn
   wire_tells is (Some embargo) between sets goes = asks between (rw (ok_in _ _ sets) (come kinds.Wire)) goes.0 goes.2
-  wire_tells is None between sets goes = wire_new is between goes (has_mark_room (called old q kinds.Wire) cap) sets
+  wire_tells is None between sets goes = wire_new is between goes (has_mark_capacity (called old q kinds.Wire) cap) sets
 
   from_tells : (reference : Reference) → reference_of old.values cap ≡ reference → GoFrom old q request cap reference (Ok (first, mid)) → TellsFailure its_turn
   from_tells plain is goes = asks (called old q kinds.Local) (come kinds.Local) goes.0 goes.2

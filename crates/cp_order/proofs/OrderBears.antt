@@ -19,8 +19,8 @@ use Rattle.cp_refs.specs.declared.outcome.Outcome.{Outcome}
 use Rattle.cp_refs.specs.declared.outcome.Outcome.TheVariants as outcomes
 use Rattle.cp_machine.specs.State.{State, with_exports}
 use Rattle.cp_machine.specs.Then.{Done}
-use Rattle.cp_machine.specs.Say.{ComesTo, end_by, end_within, IsExport, Raise, counted, counted_out, opened, has_no_room, SayEnd, Say, SayAll}
-use Rattle.cp_machine.specs.Room.{free}
+use Rattle.cp_machine.specs.Say.{ComesTo, end_by, end_within, IsExport, Raise, counted, counted_out, opened, has_no_capacity, SayEnd, Say, SayAll}
+use Rattle.cp_machine.specs.Capacity.{free}
 use Rattle.cp_machine.specs.Give.{ResolvesEnd, Tells, settled, value_for, last_for, Settle, SettleTied, Returns, given, gone, GiveBy, return_of}
 use Rattle.cp_machine.specs.Doing.{is_settled}
 use Rattle.cp_machine.specs.Trace.{Turn}
@@ -63,7 +63,7 @@ raised_is old cap out (counted e count is room) =
 raised_is old cap out (counted_out e is) = tt
 raised_is old cap out (opened e none (free n unused small room)) =
     ((1, Rattle.cp_tables.proofs.TableLemmas.get-insert_same old.counts.exports e (new_counted cap)), λ f c here. opened_stays old e cap unused f (e == f) refl c here)
-raised_is old cap out (has_no_room none is) = tt
+raised_is old cap out (has_no_capacity none is) = tt
 
 -- What a way comes to, it leads to; a promise that it comes to is open.
 abbrev Comes : ValueMaps → Cap → Cap → Type 0

@@ -19,9 +19,9 @@ use Rattle.cp_refs.specs.declared.values.QuestionKind.{QuestionKind}
 use Rattle.cp_refs.specs.declared.values.QuestionKind.TheVariants as kinds
 use Rattle.cp_machine.specs.State.{State, none_over, gave}
 use Rattle.cp_machine.specs.Then.{Done, fault_if}
-use Rattle.cp_machine.specs.Room.{has_room, has_ticket, Fresh, cap_fits, request_fits}
+use Rattle.cp_machine.specs.Capacity.{has_capacity, has_ticket, Fresh, cap_fits, request_fits}
 use Rattle.cp_machine.specs.InUse.{has_question, has_promise, has_import, is_local_path, is_own}
-use Rattle.cp_machine.specs.Calling.{Reference, plain, on_wire, came_to, reference_of, called, own_call, mark_of, with_mark, has_mark_room, marked, disembargo_of, GoBack, GoByValue, GoFrom, OwnDone, Opens, not_all, call_refusals, DoCall}
+use Rattle.cp_machine.specs.Calling.{Reference, plain, on_wire, came_to, reference_of, called, own_call, mark_of, with_mark, has_mark_capacity, marked, disembargo_of, GoBack, GoByValue, GoFrom, OwnDone, Opens, not_all, call_refusals, DoCall}
 use Rattle.cp_machine.specs.Go.{Underway, held_at, Go, GoTo}
 use Rattle.cp_machine.specs.Local.{OwnIs, QuestionIs}
 use Rattle.cp_machine.specs.Trace.{Turn}
@@ -57,7 +57,7 @@ free_question s q w free = by (get s.values.questions q) refl (rw (free) at (w.q
     by (Some x) is h = absurd h
 
 pub free_at : {X : Type 0} (table : Rattle.cp_tables.specs.Table.Table X) (n : ℕ) → Fresh table (Ok n) → get table n ≡ None
-free_at table n (Rattle.cp_machine.specs.Room.free m is small room) = is
+free_at table n (Rattle.cp_machine.specs.Capacity.free m is small room) = is
 
 module _ (old : State) (q : ℕ) (request : Request) (cap : Cap) (within : Within old None []) (none : old.waiting.over ≡ none_over) (free : get old.entries.questions q ≡ None)
     (there : is_there old.values (capability cap) ≡ true) where
@@ -182,7 +182,7 @@ module _ (old : State) (q : ℕ) (request : Request) (cap : Cap) (within : Withi
         → Ok between ≡ marked (called old q kinds.Wire) cap mark → GoTo between call cap (Ok (first, mid)) → Holds
     wire_marked is (Some embargo) at between sets goes =
         wire_holds between (rw (ok_in _ _ sets) (called_come kinds.Wire)) (rw (ok_in _ _ sets) (called_reference kinds.Wire ∙ is)) is goes
-    wire_marked is None at between sets goes = wire_new is between goes (has_mark_room (called old q kinds.Wire) cap) sets
+    wire_marked is None at between sets goes = wire_new is between goes (has_mark_capacity (called old q kinds.Wire) cap) sets
 
     -- It came to something.
     module _ (v : Cap) (is : reference_of old.values cap ≡ came_to v) where
@@ -375,7 +375,7 @@ abbrev size_faults : State → Cap → Request → List VatFault
 size_faults s cap request = fault_if (not (cap_fits cap && request_fits request)) refusals.TooLarge
 
 abbrev room_faults : State → List VatFault
-room_faults s = fault_if (not (has_room s.entries.questions && has_ticket s)) refusals.Full
+room_faults s = fault_if (not (has_capacity s.entries.questions && has_ticket s)) refusals.Full
 
 abbrev import_faults : State → Cap → Request → List VatFault
 import_faults s cap request = fault_if (not_all (has_import s) (cap ∷ request.caps)) refusals.UnknownImport

@@ -77,7 +77,7 @@ module _ (past : List Turn) (event : Event) (value : Value) (old : State) (first
       record {
         fits = subst (λ p. FitsName old p.name c.gate) its (w.fits alive).1;
         route = w.route;
-        goes = subst (λ p. NameRoute old.values p.name w.route) its (alive_route past old w.port w.route h.behind alive w.goes);
+        goes = subst (λ p. NameRoute old.values p.name w.route) its (alive_route past old w.port w.route h.after alive w.goes);
         stands = rw (over) at w.leads;
       }
 

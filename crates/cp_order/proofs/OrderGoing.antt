@@ -58,7 +58,7 @@ module _ (past : List Turn) (old : State) (call : Held) (cap : Cap) (route : Rou
   port_goes = rw (its_route) at here.goes
 
   pub alive_off : absences here.port.name past ≡ here.port.life → (Rattle.cp_machine.specs.Ports.is_there old.values here.port.name ≡ true) × IsOff old.values here.port.name
-  alive_off e = let f = here.fits e in (f.0, off_of past turn sound later passes h.behind here.port.name call.gate f.1)
+  alive_off e = let f = here.fits e in (f.0, off_of past turn sound later passes h.after here.port.name call.gate f.1)
 
   -- the gate of a call that goes is over, so none of its port waits at an open embargo
   pub not_embargoed : (ticket : ℕ) (other : Held) (n : ℕ) → get old.waiting.calls ticket ≡ Some other → AreOfOne past call.ticket ticket → other.gate ≡ gates.Embargo n
@@ -131,7 +131,7 @@ module _ (past : List Turn) (old : State) (call : Held) (cap : Cap) (route : Rou
             by_port = (
               here.port,
               port_stays past turn call.ticket here.port below here.called,
-              port_follows past turn sound later passes h.behind here.port route route (h.lives call.ticket here.port here.called) alive_off port_goes (going_kept mid route going_on),
+              port_follows past turn sound later passes h.after here.port route route (h.lives call.ticket here.port here.called) alive_off port_goes (going_kept mid route going_on),
             );
             other = λ earlier g e. none_out (sym g.gone ∙ ap (λ u. get old.waiting.calls u) e ∙ next.waits);
             late = λ earlier g same. g.ahead call.ticket (rw (next.waits) refl) (same.0, sym (port_before past turn earlier.ticket g.given) ∙ same.1, sym (port_before past turn call.ticket below) ∙ same.2);

@@ -23,7 +23,7 @@ use Rattle.cp_refs.specs.declared.outcome.Outcome.{Outcome}
 use Rattle.cp_refs.specs.declared.values.Question.{Question}
 use Rattle.cp_machine.specs.State.{State, none_over, with_exports}
 use Rattle.cp_machine.specs.Then.{Done, Then, fault_if}
-use Rattle.cp_machine.specs.Room.{has_room}
+use Rattle.cp_machine.specs.Capacity.{has_capacity}
 use Rattle.cp_machine.specs.Say.{ComesTo, end_by, end_within}
 use Rattle.cp_machine.specs.Take.{lower}
 use Rattle.cp_machine.specs.Give.{settled, value_for, last_for, Settle, SettleTied, Returns, given, gone, GiveBy, GiveAnswer, GiveOwnBy, GiveOwn, without_question}
@@ -106,7 +106,7 @@ pub bootstrap_tells : (old : State) (a : ℕ) (first : List Effect) (mid : State
     → OriginTold (bootstrap_turn old a first mid) (origins.Answer a) (bootstrap_outcome old.bootstrap) (filter is_telling first)
 bootstrap_tells old a first mid does =
     let U = fault_if (is_answering old a) faults.QuestionInUse in
-    let R = fault_if (not (has_room old.entries.answers)) faults.TableFull in
+    let R = fault_if (not (has_capacity old.entries.answers)) faults.TableFull in
     let G = GiveAnswer (with_answer old a None) a (bootstrap_outcome old.bootstrap) in
     let unused = not_met (is_answering old a) faults.QuestionInUse (front_empty U R (no_faults {A = Done} (U ++ R) G (first, mid) does)) in
     let between : State = with_answer old a None in

@@ -8,7 +8,7 @@ use Rattle.cp_refs.specs.declared.route.Gate.{Gate}
 use Rattle.cp_refs.specs.declared.route.Route.{Route}
 use Rattle.cp_refs.specs.declared.route.Route.TheVariants as routes
 use Rattle.cp_machine.specs.State.{State}
-use Rattle.cp_machine.specs.Go.{IsNext, without_call, underway, held_at, Go, GoTo, Leave, stays, leaves, finds_no_room}
+use Rattle.cp_machine.specs.Go.{IsNext, without_call, underway, held_at, Go, GoTo, Leave, stays, leaves, finds_table_full}
 use Rattle.cp_machine.specs.Trace.{Turn, leaving_turns}
 use Rattle.cp_machine.specs.declared.effect.Effect.{Effect}
 use Rattle.cp_machine.specs.declared.fault.PeerFault.{PeerFault}
@@ -82,4 +82,4 @@ leave_holds keeps {old = old} (stays none) past within h = rests_holds past old 
 leave_holds keeps {old = old} (leaves {mid = mid} {first = first} call cap next goes rest is) past within h =
     let later = keeps old mid call cap first within next goes in
     leave_holds keeps rest (going old call first mid ∷ past) later (goes_holds past old call cap first mid within later h next goes)
-leave_holds keeps (finds_no_room call cap next goes) past within h = h.orderly
+leave_holds keeps (finds_table_full call cap next goes) past within h = h.orderly

@@ -28,7 +28,7 @@ use Rattle.cp_refs.specs.declared.call.Origin.TheVariants as origins
 use Rattle.cp_refs.specs.declared.outcome.Outcome.{Outcome}
 use Rattle.cp_machine.specs.State.{State, none_over, with_exports, with_answers}
 use Rattle.cp_machine.specs.Then.{Done, Then, fault_if}
-use Rattle.cp_machine.specs.Room.{has_room}
+use Rattle.cp_machine.specs.Capacity.{has_capacity}
 use Rattle.cp_machine.specs.Take.{answer_of, path_of, lower, released}
 use Rattle.cp_machine.specs.Give.{GiveAnswer}
 use Rattle.cp_machine.specs.Answering.{with_answer, bootstrap_outcome, is_answering, OnBootstrap, target_faults, without_answer, AtStage, FinishedBy, OnFinish}
@@ -195,7 +195,7 @@ on_resolve old r done w none does = resolve_by old r (get old.counts.imports r.p
 pub on_bootstrap : (old : State) (a : ℕ) (done : Done) → Within old None [] → old.waiting.over ≡ none_over → OnBootstrap old a (Ok done) → DoesQuietly old done
 on_bootstrap old a done w none does =
     let U = fault_if (is_answering old a) faults.QuestionInUse in
-    let R = fault_if (not (has_room old.entries.answers)) faults.TableFull in
+    let R = fault_if (not (has_capacity old.entries.answers)) faults.TableFull in
     let G = GiveAnswer (with_answer old a None) a (bootstrap_outcome old.bootstrap) in
     let unused = not_met (is_answering old a) faults.QuestionInUse (front_empty U R (no_faults {A = Done} (U ++ R) G done does)) in
     let between : State = with_answer old a None in

@@ -19,10 +19,10 @@ use Rattle.cp_refs.specs.declared.route.Route.{Route}
 use Rattle.cp_refs.specs.declared.route.Route.TheVariants as routes
 use Rattle.cp_machine.specs.State.{State, with_questions}
 use Rattle.cp_machine.specs.Then.{Done}
-use Rattle.cp_machine.specs.Room.{Fresh}
+use Rattle.cp_machine.specs.Capacity.{Fresh}
 use Rattle.cp_machine.specs.Say.{SayAll, promised}
 use Rattle.cp_machine.specs.Take.{path_of}
-use Rattle.cp_machine.specs.Go.{Underway, delivered, forwarding, sent, finish_behind, GoOut, Go}
+use Rattle.cp_machine.specs.Go.{Underway, delivered, forwarding, sent, finish_after, GoOut, Go}
 use Rattle.cp_machine.specs.Local.{IsTicketOf}
 use Rattle.cp_machine.specs.Exits.{to_target, sent_under, exit_by, given_to, failure_by, or_failure}
 use Rattle.cp_machine.specs.declared.entry.QuestionEntry.{QuestionEntry}
@@ -50,10 +50,10 @@ pub record IsOut (s : State) (call : Underway) (target : Target) (done : Done) :
   pub closes : Closes s done.1
   pub exits : flat_map (exit_by done.1) done.0 ≡ to_target call.ticket target
 
-behind_nil : (s : State) (q : ℕ) (stage : Stage) → flat_map (exit_by s) (finish_behind q stage) ≡ []
-behind_nil s q stages.Open = refl
-behind_nil s q stages.Finished = refl
-behind_nil s q stages.Returned = refl
+after_nil : (s : State) (q : ℕ) (stage : Stage) → flat_map (exit_by s) (finish_after q stage) ≡ []
+after_nil s q stages.Open = refl
+after_nil s q stages.Finished = refl
+after_nil s q stages.Returned = refl
 
 sent_is : (questions : Table (Exchange QuestionEntry)) (q : ℕ) (entry : Exchange QuestionEntry) (change : Exchange QuestionEntry → Exchange QuestionEntry)
     → get questions q ≡ Some entry → get (with_change questions q change) q ≡ Some (change entry)
@@ -87,7 +87,7 @@ out_done s call target (origins.Own q) done out whose =
     (ok_in _ _ parts.2)
     (record {
       closes = closes_both s said.1 last (only_closes s said.1 only) (same_closes said.1 last refl refl refl refl);
-      exits = rw (under_ticket (get last.entries.questions q) _ call.ticket target (sent_is said.1.entries.questions q entry _ is) bears, behind_nil last q entry.stage) (target_nil call.ticket target);
+      exits = rw (under_ticket (get last.entries.questions q) _ call.ticket target (sent_is said.1.entries.questions q entry _ is) bears, after_nil last q entry.stage) (target_nil call.ticket target);
     })
 
 -- A call went by a route that doesn't wait: so it exits, and nothing else is told of it.

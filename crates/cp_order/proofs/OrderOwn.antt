@@ -13,7 +13,7 @@ use Rattle.cp_refs.specs.declared.outcome.Outcome.{Outcome}
 use Rattle.cp_refs.specs.declared.values.QuestionKind.TheVariants as kinds
 use Rattle.cp_machine.specs.State.{State, with_questions}
 use Rattle.cp_machine.specs.Then.{Done, OrFull, fault_if}
-use Rattle.cp_machine.specs.Room.{Fresh, outcome_fits}
+use Rattle.cp_machine.specs.Capacity.{Fresh, outcome_fits}
 use Rattle.cp_machine.specs.Give.{Give, Settle, without_question}
 use Rattle.cp_machine.specs.InUse.{has_question, has_promise, has_import, is_pipelined, caps_of, is_own_question, is_question_used, is_import_used, is_promise_used, is_unsettled}
 use Rattle.cp_machine.specs.Local.{is_open_stage, one_if, waiting_of, IsOpenIf}

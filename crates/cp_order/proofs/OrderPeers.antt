@@ -34,7 +34,7 @@ use Rattle.cp_machine.specs.declared.event.Event.TheVariants as events
 use Rattle.cp_machine.specs.declared.event.Value.TheVariants as values
 use Rattle.cp_machine.specs.declared.fault.PeerFault.{PeerFault}
 use Rattle.cp_machine.specs.declared.fault.PeerFault.TheVariants as faults
-use Rattle.cp_machine.specs.Room.{has_room, has_ticket}
+use Rattle.cp_machine.specs.Capacity.{has_capacity, has_ticket}
 use Rattle.cp_order.specs.Within.{Within}
 use Rattle.cp_order.specs.OrderKept.{OrderHolds}
 use Rattle.cp_machine.proofs.Basics.{is_itself, then_out, unless_out, put_at}
@@ -168,7 +168,7 @@ abbrev pub use_faults : State → Call → List PeerFault
 use_faults s c = fault_if (is_answering s c.question_id) faults.QuestionInUse
 
 abbrev pub room_faults : State → List PeerFault
-room_faults s = fault_if (not (has_room s.entries.answers && has_ticket s)) faults.TableFull
+room_faults s = fault_if (not (has_capacity s.entries.answers && has_ticket s)) faults.TableFull
 
 -- The turn of a Call.
 pub on_call : (past : List Turn) (old : State) (c : Call) (first : List Effect) (mid : State) → OrderHolds past old → Within old None [] → old.waiting.over ≡ none_over

@@ -56,7 +56,7 @@ module _ (past : List Turn) (s : State) (h : OrderHolds past s) (none : NoneOver
   life_by : (port : Port) (r : Route) → port.life ≤ absences port.name past → PortRoute past port r → (b : Bool) → (absences port.name (turn ∷ past) == port.life) ≡ b
       → LifeRoute b turn port.name (PortRoute past port) r
   life_by port r low went true e =
-      alive_route past s port r h.behind (lasts past turn port.name port.life low (is_equal (absences port.name (turn ∷ past)) port.life e)).0 went
+      alive_route past s port r h.after (lasts past turn port.name port.life low (is_equal (absences port.name (turn ∷ past)) port.life e)).0 went
   life_by port r low went false e = (r, went, kept_none last r refl)
 
   port_rests : (port : Port) (r : Route) → port.life ≤ absences port.name past → PortRoute past port r → PortRoute (turn ∷ past) port r
@@ -163,7 +163,7 @@ module _ (past : List Turn) (s : State) (h : OrderHolds past s) (none : NoneOver
   pub rests_holds : OrderHolds (turn ∷ past) last
   rests_holds =
       record {
-        behind = refl;
+        after = refl;
         below = h.below;
         lives = λ ticket port is. lives_on past turn port.name port.life (h.lives ticket port is);
         waits = waits_now;

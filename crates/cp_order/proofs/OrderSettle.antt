@@ -11,7 +11,7 @@ use Rattle.cp_refs.specs.declared.cap.Cap.TheVariants as caps
 use Rattle.cp_refs.specs.declared.outcome.Outcome.{Outcome}
 use Rattle.cp_machine.specs.State.{State, with_exports}
 use Rattle.cp_machine.specs.Then.{Done}
-use Rattle.cp_machine.specs.Say.{Raise, counted, counted_out, opened, has_no_room, SayEnd, Say, SayAll}
+use Rattle.cp_machine.specs.Say.{Raise, counted, counted_out, opened, has_no_capacity, SayEnd, Say, SayAll}
 use Rattle.cp_machine.specs.Give.{ResolvesEnd, Tells, settled, value_for, last_for, Settle, SettleTied}
 use Rattle.cp_machine.specs.Local.{tied_to}
 use Rattle.cp_machine.specs.declared.entry.Tied.{Tied}
@@ -33,7 +33,7 @@ raised_only : (old : State) (cap : Cap) (out : Result (ℕ × State) PeerFault) 
 raised_only old cap out (counted e count is room) = refl
 raised_only old cap out (counted_out e is) = tt
 raised_only old cap out (opened e none fresh) = refl
-raised_only old cap out (has_no_room none is) = tt
+raised_only old cap out (has_no_capacity none is) = tt
 
 pub end_only : (old : State) (last : Cap) (said : Descriptor × State) → SayEnd old last (Ok said) → IsOnly old said.1
 end_only old caps.None said is = rw (ok_in _ _ is) refl

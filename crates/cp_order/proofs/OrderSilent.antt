@@ -24,7 +24,7 @@ use Rattle.cp_refs.specs.declared.cap.Cap.TheVariants as caps
 use Rattle.cp_refs.specs.declared.outcome.Outcome.{Outcome}
 use Rattle.cp_machine.specs.State.{State}
 use Rattle.cp_machine.specs.Then.{Done, Then, fault_if}
-use Rattle.cp_machine.specs.Room.{Fresh}
+use Rattle.cp_machine.specs.Capacity.{Fresh}
 use Rattle.cp_machine.specs.Take.{answer_of, path_of, lower, released}
 use Rattle.cp_machine.specs.Give.{settled, value_for, last_for, Settle}
 use Rattle.cp_machine.specs.Go.{finish_of}

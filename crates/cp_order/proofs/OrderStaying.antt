@@ -98,7 +98,7 @@ module _ (past : List Turn) (old : State) (call : Held) (cap : Cap) (to : Gate) 
           route = routes.Wait to;
           leads = leads_there mid to (gave old.waiting.over to) well.0 (stands_there mid to well.1);
           goes =
-              port_follows past turn sound later passes h.behind here.port (routes.Wait to) (routes.Wait to) (h.lives call.ticket here.port here.called)
+              port_follows past turn sound later passes h.after here.port (routes.Wait to) (routes.Wait to) (h.lives call.ticket here.port here.called)
               (leaving.alive_off past old call cap (routes.Wait to) [] mid sound later passes h next way)
               (leaving.port_goes past old call cap (routes.Wait to) [] mid sound later passes h next way)
               (kept_there mid to (gave old.waiting.over to) well.0);

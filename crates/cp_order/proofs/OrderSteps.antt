@@ -8,13 +8,13 @@ use Rattle.cp_rpc.specs.declared.message.Message.TheVariants as messages
 use Rattle.cp_refs.specs.declared.call.Held.{Held}
 use Rattle.cp_machine.specs.State.{State, new_state, none_over}
 use Rattle.cp_machine.specs.Then.{Done, fault_if}
-use Rattle.cp_machine.specs.Room.{message_fits}
+use Rattle.cp_machine.specs.Capacity.{message_fits}
 use Rattle.cp_machine.specs.Supported.{is_supported}
-use Rattle.cp_machine.specs.Go.{Leave, stays, leaves, finds_no_room}
+use Rattle.cp_machine.specs.Go.{Leave, stays, leaves, finds_table_full}
 use Rattle.cp_machine.specs.Local.{Local}
 use Rattle.cp_machine.specs.Step.{On, echo_fits, ReceivesIf, Receives, Does, Follows, all_left, found_full, Step, was_closed, ran_out, refused, did, received, faulted}
 use Rattle.cp_machine.specs.Run.{Moment, Steps, Run}
-use Rattle.cp_machine.specs.Trace.{Turn, following_turns, step_turns, turns_behind, trace_of}
+use Rattle.cp_machine.specs.Trace.{Turn, following_turns, step_turns, turns_after, trace_of}
 use Rattle.cp_machine.specs.Ports.{entry_of_message, entry_of_event}
 use Rattle.cp_machine.specs.declared.effect.Effect.{Effect}
 use Rattle.cp_machine.specs.declared.event.Event.{Event}
@@ -109,7 +109,7 @@ LeftLocal (Err fault) = Unit {0}
 leave_local : GoesWithin → {old : State} {all : List Effect} {out : Result State PeerFault} → Leave old all out → Within old None [] → LeftLocal out
 leave_local keeps {old = old} (stays none) within = within_is_local old within none
 leave_local keeps {old = old} (leaves {mid = mid} {first = first} call cap next goes rest is) within = leave_local keeps rest (keeps old mid call cap first within next goes)
-leave_local keeps (finds_no_room call cap next goes) within = tt
+leave_local keeps (finds_table_full call cap next goes) within = tt
 
 -- After an event the invariant holds, or the vat is closed and its turns were in order.
 abbrev pub HoldsOrClosed : List Turn → State → Type 0
@@ -144,7 +144,7 @@ step_holds keeps {old = old} (received m first rest mid open_ does follows is) p
 step_holds keeps {old = old} (faulted m open_ does closes) past h = inr (closes, orderly_of past old h)
 
 pub turns_hold : VatKeeps → (old new : State) (history : List Moment) (steps : Steps old history new) (past : List Turn) → HoldsOrClosed past old
-    → AreOrderly (turns_behind old new history steps past)
+    → AreOrderly (turns_after old new history steps past)
 turns_hold keeps old new [] steps past h = orderly_of past old h
 turns_hold keeps old new (moment ∷ more) (mid, step, steps) past h = turns_hold keeps mid new more steps (step_turns step past) (step_holds keeps step past h)
 
@@ -152,7 +152,7 @@ turns_hold keeps old new (moment ∷ more) (mid, step, steps) past h = turns_hol
 pub new_holds : (bootstrap : Option ℕ) → OrderHolds [] (new_state bootstrap)
 new_holds bootstrap =
     record {
-      behind = tt;
+      after = tt;
       below = λ ticket port is. none_out is;
       lives = λ ticket port is. none_out is;
       waits = λ ticket. rw (get-empty {X = Held} nat_cmp ticket) tt;

@@ -17,7 +17,7 @@ use Rattle.cp_refs.specs.declared.cap.Cap.TheVariants as caps
 use Rattle.cp_refs.specs.declared.outcome.Outcome.{Outcome}
 use Rattle.cp_machine.specs.State.{State}
 use Rattle.cp_machine.specs.Then.{Then}
-use Rattle.cp_machine.specs.Room.{has_room, Fresh}
+use Rattle.cp_machine.specs.Capacity.{has_capacity, Fresh}
 use Rattle.cp_machine.specs.Say.{IsExport}
 use Rattle.cp_machine.specs.Take.{path_of, held_once_more, held_import, unfinished, answer_by, answer_of, tie, tied, TakeAnswer, taken_export, Take, TakeAll}
 use Rattle.cp_machine.specs.Asking.{TakeReturned}
@@ -105,7 +105,7 @@ held_since old s i kind (Some entry) new since is = by (ltb entry.count 42949672
           λ a entry x is has. (entry, is, has),
         )
     by false e = ok_out e
-held_since old s i kind None new since is = by (has_room s.counts.imports) is
+held_since old s i kind None new since is = by (has_capacity s.counts.imports) is
   where
     by : (b : Bool) → Ok new
         ≡ (if b then Ok (

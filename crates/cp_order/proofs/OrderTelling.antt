@@ -7,13 +7,13 @@ use Rattle.cp_rpc.specs.declared.message.Message.{Message}
 use Rattle.cp_rpc.specs.declared.message.Message.TheVariants as messages
 use Rattle.cp_machine.specs.State.{State, new_state, none_over}
 use Rattle.cp_machine.specs.Then.{Done, fault_if}
-use Rattle.cp_machine.specs.Room.{message_fits}
+use Rattle.cp_machine.specs.Capacity.{message_fits}
 use Rattle.cp_machine.specs.Supported.{is_supported}
-use Rattle.cp_machine.specs.Go.{Leave, stays, leaves, finds_no_room}
+use Rattle.cp_machine.specs.Go.{Leave, stays, leaves, finds_table_full}
 use Rattle.cp_machine.specs.Local.{Local}
 use Rattle.cp_machine.specs.Step.{On, echo_fits, ReceivesIf, Receives, Does, Follows, all_left, found_full, Step, was_closed, ran_out, refused, did, received, faulted}
 use Rattle.cp_machine.specs.Run.{Moment, Steps}
-use Rattle.cp_machine.specs.Trace.{Turn, leaving_turns, following_turns, step_turns, turns_behind}
+use Rattle.cp_machine.specs.Trace.{Turn, leaving_turns, following_turns, step_turns, turns_after}
 use Rattle.cp_machine.specs.Ports.{entry_of_message, entry_of_event}
 use Rattle.cp_machine.specs.Telling.{Gift, MessageGives, is_telling, GiftTold, TellsItsGift}
 use Rattle.cp_machine.specs.declared.effect.Effect.{Effect}
@@ -114,7 +114,7 @@ leave_tells : GoesWithin → {old : State} {all : List Effect} {out : Result Sta
 leave_tells keeps {old = old} (stays none) past within h = (resting_tells old, h)
 leave_tells keeps {old = old} (leaves {mid = mid} {first = first} call cap next goes rest is) past within h =
     leave_tells keeps rest (going old call first mid ∷ past) (keeps old mid call cap first within next goes) (going_tells old call cap first mid within next goes, h)
-leave_tells keeps (finds_no_room call cap next goes) past within h = h
+leave_tells keeps (finds_table_full call cap next goes) past within h = h
 
 abbrev LeftLocal : Result State PeerFault → Type 0
 LeftLocal (Ok last) = Local last
@@ -123,7 +123,7 @@ LeftLocal (Err fault) = Unit {0}
 leave_local : GoesWithin → {old : State} {all : List Effect} {out : Result State PeerFault} → Leave old all out → Within old None [] → LeftLocal out
 leave_local keeps {old = old} (stays none) within = within_is_local old within none
 leave_local keeps {old = old} (leaves {mid = mid} {first = first} call cap next goes rest is) within = leave_local keeps rest (keeps old mid call cap first within next goes)
-leave_local keeps (finds_no_room call cap next goes) within = tt
+leave_local keeps (finds_table_full call cap next goes) within = tt
 
 -- the turns of events tell, and the vat is closed or it holds between them
 abbrev TellOrClosed : List Turn → State → Type 0
@@ -154,7 +154,7 @@ step_tells keeps {old = old} (received m first rest mid open_ does follows is) p
 step_tells keeps (faulted m open_ does closes) past h = (h.0, inr closes)
 
 turns_tell : VatKeeps → (old new : State) (history : List Moment) (steps : Steps old history new) (past : List Turn) → TellOrClosed past old
-    → AllTell (turns_behind old new history steps past)
+    → AllTell (turns_after old new history steps past)
 turns_tell keeps old new [] steps past h = h.0
 turns_tell keeps old new (moment ∷ more) (mid, step, steps) past h = turns_tell keeps mid new more steps (step_turns step past) (step_tells keeps step past h)
 

@@ -19,10 +19,10 @@ use Rattle.cp_refs.specs.declared.route.Route.{Route}
 use Rattle.cp_refs.specs.declared.route.Route.TheVariants as routes
 use Rattle.cp_machine.specs.State.{State}
 use Rattle.cp_machine.specs.Then.{Done}
-use Rattle.cp_machine.specs.Room.{Fresh}
+use Rattle.cp_machine.specs.Capacity.{Fresh}
 use Rattle.cp_machine.specs.Say.{SayAll, promised}
 use Rattle.cp_machine.specs.Give.{Returns, GiveOwnBy, Give}
-use Rattle.cp_machine.specs.Go.{Underway, finish_behind, GoOut, Go, GoTo, IsNext, without_call, underway}
+use Rattle.cp_machine.specs.Go.{Underway, finish_after, GoOut, Go, GoTo, IsNext, without_call, underway}
 use Rattle.cp_machine.specs.Doing.{is_settled}
 use Rattle.cp_machine.specs.Local.{IsTicketOf}
 use Rattle.cp_machine.specs.Trace.{Turn}
@@ -73,10 +73,10 @@ fails_bear : (turn : Turn) (s last : State) (x : Exception) (said : Returned × 
 fails_bear turn s last x said is stay = ap (λ d. d.0) (ok_in _ _ is)
 
 -- a call that is sent tells no outcome
-behind_silent : (q : ℕ) (stage : Stage) → filter is_telling (finish_behind q stage) ≡ []
-behind_silent q stages.Open = refl
-behind_silent q stages.Finished = refl
-behind_silent q stages.Returned = refl
+after_silent : (q : ℕ) (stage : Stage) → filter is_telling (finish_after q stage) ≡ []
+after_silent q stages.Open = refl
+after_silent q stages.Finished = refl
+after_silent q stages.Returned = refl
 
 out_silent : (s : State) (call : Underway) (target : Target) (origin : Origin) (done : Done) → GoOut s call target origin (Ok done) → filter is_telling done.0 ≡ []
 out_silent s call target (origins.Answer a) done out =
@@ -85,7 +85,7 @@ out_silent s call target (origins.Answer a) done out =
     rw (ok_in _ _ parts.2) refl
 out_silent s call target (origins.Own q) done out =
     let parts = then_out {A = List Descriptor × State} {B = Done} (SayAll s call.request.caps) _ done out.2 in
-    rw (ok_in _ _ parts.2) (behind_silent q out.0.stage)
+    rw (ok_in _ _ parts.2) (after_silent q out.0.stage)
 
 -- A call that fails gives its exception, and no other gives anything: what is given is told.
 abbrev pub TellsFailure : Turn → Type 0

@@ -139,7 +139,7 @@ module _ (past : List Turn) (turn : Turn) (sound : Sound turn.before) (later : S
       by : (get turn.before.waiting.calls ticket ≡ Some call) ⊎ IsHeldNow past turn ticket call → WaitsFor (turn ∷ past) turn.after ticket call.gate
       by (inl was) =
           let w = waited ticket call was in
-          waits_on past turn sound later passes h.behind ticket call.gate w (low ticket call was) (h.lives ticket w.port w.called)
+          waits_on past turn sound later passes h.after ticket call.gate w (low ticket call was) (h.lives ticket w.port w.called)
       by (inr now) = now.waits
 
   -- two calls of one port before
@@ -252,7 +252,7 @@ module _ (past : List Turn) (turn : Turn) (sound : Sound turn.before) (later : S
   pub turned_holds : OrderHolds (turn ∷ past) turn.after
   turned_holds =
       record {
-        behind = refl;
+        after = refl;
         below = below_now;
         lives = lives_now;
         waits = λ ticket. waits_by ticket (get turn.after.waiting.calls ticket) refl;

@@ -15,7 +15,7 @@ use Rattle.cp_machine.specs.declared.event.Event.{Event}
 use Rattle.cp_machine.specs.declared.event.Event.TheVariants as events
 use Rattle.cp_machine.specs.declared.event.Value.{Value}
 use Rattle.cp_machine.specs.declared.event.Value.TheVariants as values
-use Rattle.cp_order.specs.OrderKept.{FitsName, WaitsFor, IsBehind}
+use Rattle.cp_order.specs.OrderKept.{FitsName, WaitsFor, IsAfter}
 use Rattle.cp_machine.proofs.Basics.{is_equal}
 use Rattle.cp_order.proofs.OrderBasics.{are_equal, are_other}
 use Rattle.cp_order.proofs.OrderPasses.{Sound, Passes}
@@ -96,14 +96,14 @@ pub lives_on : (past : List Turn) (turn : Turn) (name : Name) (life : ℕ) → l
 lives_on past turn name life low = grown_by (is_there turn.after.values name) (absences name past) life low
 
 -- while its life lasts, a port has the route of what it names
-pub alive_route : (past : List Turn) (s : State) (port : Port) (r : Route) → IsBehind past s → absences port.name past ≡ port.life → PortRoute past port r → NameRoute s.values port.name r
-alive_route [] s port r behind lasting h = absurd h
-alive_route (turn ∷ past) s port r behind lasting h =
+pub alive_route : (past : List Turn) (s : State) (port : Port) (r : Route) → IsAfter past s → absences port.name past ≡ port.life → PortRoute past port r → NameRoute s.values port.name r
+alive_route [] s port r after lasting h = absurd h
+alive_route (turn ∷ past) s port r after lasting h =
     let life : LifeRoute true turn port.name (PortRoute past port) r = rw (are_equal (absences port.name (turn ∷ past)) port.life lasting) at h in
-    rw (← behind) life
+    rw (← after) life
 
 module _ (past : List Turn) (turn : Turn) (sound : Sound turn.before) (later : Sound turn.after) (passes : Passes turn.before turn.after)
-    (behind : IsBehind past turn.before) where
+    (after : IsAfter past turn.before) where
   life_by : (port : Port) (r to : Route) → port.life ≤ absences port.name past
       → (absences port.name past ≡ port.life → (is_there turn.before.values port.name ≡ true) × IsOff turn.before.values port.name)
       → PortRoute past port r → KeptRoute turn.after r to → (b : Bool) → (absences port.name (turn ∷ past) == port.life) ≡ b
@@ -111,7 +111,7 @@ module _ (past : List Turn) (turn : Turn) (sound : Sound turn.before) (later : S
   life_by port r to low fits went kept true e =
       let still = lasts past turn port.name port.life low (is_equal (absences port.name (turn ∷ past)) port.life e) in
       let off = fits still.0 in
-      name_follows turn.before turn.after sound.opens later passes port.name r to off.0 still.1 off.1 (alive_route past turn.before port r behind still.0 went) kept
+      name_follows turn.before turn.after sound.opens later passes port.name r to off.0 still.1 off.1 (alive_route past turn.before port r after still.0 went) kept
   life_by port r to low fits went kept false e = (r, went, kept)
 
   -- The route of a port moves as a route that is kept.

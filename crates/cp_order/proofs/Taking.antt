@@ -24,7 +24,7 @@ use Rattle.cp_refs.specs.declared.call.Origin.{Origin}
 use Rattle.cp_refs.specs.declared.outcome.Outcome.{Outcome}
 use Rattle.cp_machine.specs.State.{State, none_over}
 use Rattle.cp_machine.specs.Then.{Then}
-use Rattle.cp_machine.specs.Room.{has_room, Fresh, free, full}
+use Rattle.cp_machine.specs.Capacity.{has_capacity, Fresh, free, full}
 use Rattle.cp_machine.specs.Take.{held_once_more, held_import, unfinished, answer_by, answer_of, path_of, tie, tied, TakeAnswer, taken_export, Take, TakeAll}
 use Rattle.cp_machine.specs.InUse.{caps_of}
 use Rattle.cp_machine.specs.Local.{IsImportMark, is_open_stage, ForwardsRightly, tied_to, tied_in, HasNoTied, IsExportable, IsThere, AnswerIs}
@@ -451,7 +451,7 @@ module _ (hand : Option Origin) (next : List Tied) where
           → TakenWell s hand next (caps.Import i, new)
       by true t is = rw (ok_in _ _ is) (held t)
       by false t is = ok_out is
-  held_keeps s i kind None new h none is = by (has_room s.counts.imports) is
+  held_keeps s i kind None new h none is = by (has_capacity s.counts.imports) is
     where
       no_value : get s.values.imports i ≡ None
       no_value = absent (get s.values.imports i) (sym (h.imports_valued i) ∙ ap is_some none)

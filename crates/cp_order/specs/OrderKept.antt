@@ -77,9 +77,9 @@ LeftOrHeld past s call =
     × (has_left (exits_of past) call.ticket ≡ true ⊎ IsSome (get s.waiting.calls call.ticket))
 
 -- the state is what the last of these turns left
-abbrev pub IsBehind : List Turn → State → Type 0
-IsBehind [] s = Unit {0}
-IsBehind (turn ∷ past) s = turn.after ≡ s
+abbrev pub IsAfter : List Turn → State → Type 0
+IsAfter [] s = Unit {0}
+IsAfter (turn ∷ past) s = turn.after ≡ s
 
 -- These turns are in order, as far as they go and but for what they report.
 pub record AreOrderly (turns : List Turn) : Type 0 where
@@ -90,7 +90,7 @@ pub record AreOrderly (turns : List Turn) : Type 0 where
 
 -- The invariant of a run: what holds after each of its turns.
 pub record OrderHolds (past : List Turn) (s : State) : Type 0 where
-  pub behind : IsBehind past s
+  pub after : IsAfter past s
   -- tickets of calls are below the next one, and the lives of their ports began before
   pub below : (ticket : ℕ) (port : Port) → port_of (calls_of past) ticket ≡ Some port → ticket < s.next_ticket
   pub lives : (ticket : ℕ) (port : Port) → port_of (calls_of past) ticket ≡ Some port → port.life ≤ absences port.name past

@@ -31,8 +31,8 @@ pub fills_none : (most : ℕ) (left room : List ℕ) → 0 < most → room ≡ r
 fills_none most left room h e =
     let all : most ≡ most - 0 = omega arith in record { words = []; takes = takes_none most [] left 0 h (omega arith); count = refl; puts = e ∙ ap (λ (n : ℕ). replicate n 0) all }
 
-pub takes_behind : (most room : ℕ) (old left words back : List ℕ) → TakesGroups room [] 0 left words 0 back → length old + room ≤ most → TakesGroups most old 0 left (old ++ words) 0 back
-takes_behind most room old left words back h fits = record {
+pub takes_after : (most room : ℕ) (old left words back : List ℕ) → TakesGroups room [] 0 left words 0 back → length old + room ≤ most → TakesGroups most old 0 left (old ++ words) 0 back
+takes_after most room old left words back h fits = record {
   front = h.front;
   whole = h.whole;
   are_words = h.are_words;
@@ -44,8 +44,8 @@ takes_behind most room old left words back h fits = record {
 }
 
 -- what is still zero after the words
-pub zeros_behind : (most filled : ℕ) (left new back : List ℕ) → FillsFront most left new filled back → drop filled new ≡ replicate (most - filled) 0
-zeros_behind most filled left new back h =
+pub zeros_after : (most filled : ℕ) (left new back : List ℕ) → FillsFront most left new filled back → drop filled new ≡ replicate (most - filled) 0
+zeros_after most filled left new back h =
     ap (λ (n : ℕ). drop n new) (sym h.count) ∙ ap (λ (ws : List ℕ). drop (length h.words) ws) h.puts ∙ drop-append_seam h.words (replicate (most - filled) 0)
 
 pub fills_both : (most filled count : ℕ) (left new middle room back : List ℕ) → FillsFront most left new filled middle → FillsFront (most - filled) middle room count back → filled ≤ most
@@ -55,7 +55,7 @@ fills_both most filled count left new middle room back h k fits =
     let zeros : most - filled - count ≡ most - (filled + count) = omega arith in
     record {
       words = h.words ++ k.words;
-      takes = takes_both most [] h.words (h.words ++ k.words) left middle back 0 0 0 h.takes (takes_behind most (most - filled) h.words middle k.words back k.takes (omega (arith, fits, h.count)));
+      takes = takes_both most [] h.words (h.words ++ k.words) left middle back 0 0 0 h.takes (takes_after most (most - filled) h.words middle k.words back k.takes (omega (arith, fits, h.count)));
       count = length-append h.words k.words ∙ omega (arith, h.count, k.count);
       puts =
           ap (λ (ws : List ℕ). ws ++ room) kept ∙ ap (λ (ws : List ℕ). h.words ++ ws) k.puts
@@ -77,4 +77,4 @@ takes_block most room start filled old left part new back s h fits p =
     let many : start + filled ≡ length (old ++ h.words) = omega (arith, s, h.count, length-append old h.words) in
     let same : new ≡ old ++ h.words =
     p ∙ ap (λ (ws : List ℕ). take (start + filled) ws) all ∙ ap (λ (n : ℕ). take n ((old ++ h.words) ++ zeros)) many ∙ take-append_seam (old ++ h.words) zeros in
-    subst (λ (ws : List ℕ). TakesGroups most old 0 left ws 0 back) (sym same) (takes_behind most room old left h.words back h.takes fits)
+    subst (λ (ws : List ℕ). TakesGroups most old 0 left ws 0 back) (sym same) (takes_after most room old left h.words back h.takes fits)

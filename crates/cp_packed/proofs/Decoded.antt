@@ -65,17 +65,17 @@ packs_words bytes words left run are d e z =
     })
 
 -- the bytes before the further words of a raw run
-pub header_missing : (left behind : List ℕ) (tag : ℕ) → 0 < length left → tag ≡ get_or left 0 0 → behind ≡ drop 1 left → suc (length behind) < header_of tag → after nothing left ≡ nothing → ⊥
-header_missing [] behind tag h e b l k = omega (arith, h)
-header_missing (t ∷ q) behind tag h e b l k =
+pub header_missing : (left following : List ℕ) (tag : ℕ) → 0 < length left → tag ≡ get_or left 0 0 → following ≡ drop 1 left → suc (length following) < header_of tag → after nothing left ≡ nothing → ⊥
+header_missing [] following tag h e b l k = omega (arith, h)
+header_missing (t ∷ q) following tag h e b l k =
     let short : suc (length q) < header_of t = subst (λ (n : ℕ). suc (length q) < header_of n) e (subst (λ (r : List ℕ). suc (length r) < header_of tag) b l) in
     let open_then = (brings_both nothing (record { run = 0; part = t ∷ [] }) (record { run = 0; part = t ∷ q }) (t ∷ []) q [] [] (brings_tag t) (feeds_part t [] q (omega (arith, short)))).open_then in
     omega (arith, ap (λ (p : Pending). length p.part) (sym open_then ∙ k))
 
-pub header_there : (old left new behind bytes back : List ℕ) (tag run : ℕ) → 0 < length left → tag ≡ get_or left 0 0 → behind ≡ drop 1 left → behind ≡ bytes ++ back → suc (length bytes) ≡ header_of tag
+pub header_there : (old left new following bytes back : List ℕ) (tag run : ℕ) → 0 < length left → tag ≡ get_or left 0 0 → following ≡ drop 1 left → following ≡ bytes ++ back → suc (length bytes) ≡ header_of tag
     → new ≡ old ++ first_words tag bytes → run ≡ run_of tag bytes → TakesHeader old left new run back
-header_there old [] new behind bytes back tag run h e b s l w r = absurd (omega (arith, h))
-header_there old (t ∷ q) new behind bytes back tag run h e b s l w r =
+header_there old [] new following bytes back tag run h e b s l w r = absurd (omega (arith, h))
+header_there old (t ∷ q) new following bytes back tag run h e b s l w r =
     let brings = brings_header tag bytes l in
     record {
       front = tag ∷ bytes;

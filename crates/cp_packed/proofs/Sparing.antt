@@ -108,17 +108,17 @@ zero_word w h k =
     sym (from_le_bytes-to_le_bytes_8 w h) ∙ ap (λ (b : List ℕ). from_le_bytes w64 b) (all_zero (to_le_bytes w64 w) k)
 
 -- each kind of group that is written
-pub puts_zeros : (old new words behind back : List ℕ) (w n : ℕ) → w < 2 ^ 64 → tag (bytes_that_count (to_le_bytes w64 w)) ≡ 0 → words ≡ w ∷ behind → n ≤ 255 → take n behind ≡ replicate n 0 → back ≡ drop n behind
+pub puts_zeros : (old new words after back : List ℕ) (w n : ℕ) → w < 2 ^ 64 → tag (bytes_that_count (to_le_bytes w64 w)) ≡ 0 → words ≡ w ∷ after → n ≤ 255 → take n after ≡ replicate n 0 → back ≡ drop n after
     → (n ≡ 255) ⊎ StartsWithout (λ v. v ≡ 0) back → new ≡ old ++ 0 ∷ n ∷ [] → PutsGroup old new words back
-puts_zeros old new words behind back w n small t e few run rest ends text = record {
+puts_zeros old new words after back w n small t e few run rest ends text = record {
   group = zeros n;
   is = omega (arith, few);
   sparing = tt;
   longest = ends;
   spells = text;
   gives =
-      e ∙ ap (λ (v : ℕ). v ∷ behind) (zero_word w small t)
-      ∙ ap (λ (vs : List ℕ). 0 ∷ vs) (sym (take-append-drop n behind) ∙ ap (λ (vs : List ℕ). vs ++ drop n behind) run ∙ ap (λ (vs : List ℕ). replicate n 0 ++ vs) (sym rest));
+      e ∙ ap (λ (v : ℕ). v ∷ after) (zero_word w small t)
+      ∙ ap (λ (vs : List ℕ). 0 ∷ vs) (sym (take-append-drop n after) ∙ ap (λ (vs : List ℕ). vs ++ drop n after) run ∙ ap (λ (vs : List ℕ). replicate n 0 ++ vs) (sym rest));
 }
 
 pub puts_sparse : (old new words back : List ℕ) (w : ℕ) → w < 2 ^ 64 → 0 < tag (bytes_that_count (to_le_bytes w64 w)) → tag (bytes_that_count (to_le_bytes w64 w)) < 255 → words ≡ w ∷ back
@@ -135,19 +135,19 @@ puts_sparse old new words back w small some few e text =
       gives = e ∙ ap (λ (v : ℕ). v ∷ back) (sym same);
     }
 
-pub puts_raw : (old new words behind back : List ℕ) (w n : ℕ) → w < 2 ^ 64 → AreWords behind → tag (bytes_that_count (to_le_bytes w64 w)) ≡ 255 → words ≡ w ∷ behind → n ≤ 255 → n ≤ length behind
-    → AllByRecursion (λ v. zero_bytes v ≤ 1) (take n behind) → back ≡ drop n behind → (n ≡ 255) ⊎ StartsWithout (λ v. zero_bytes v ≤ 1) back
-    → new ≡ old ++ 255 ∷ (to_le_bytes w64 w ++ (n ∷ bytes_of (take n behind))) → PutsGroup old new words back
-puts_raw old new words behind back w n small are t e few within full rest ends text =
-    let long : length (take n behind) ≡ n = length-take-le n behind within in
+pub puts_raw : (old new words after back : List ℕ) (w n : ℕ) → w < 2 ^ 64 → AreWords after → tag (bytes_that_count (to_le_bytes w64 w)) ≡ 255 → words ≡ w ∷ after → n ≤ 255 → n ≤ length after
+    → AllByRecursion (λ v. zero_bytes v ≤ 1) (take n after) → back ≡ drop n after → (n ≡ 255) ⊎ StartsWithout (λ v. zero_bytes v ≤ 1) back
+    → new ≡ old ++ 255 ∷ (to_le_bytes w64 w ++ (n ∷ bytes_of (take n after))) → PutsGroup old new words back
+puts_raw old new words after back w n small are t e few within full rest ends text =
+    let long : length (take n after) ≡ n = length-take-le n after within in
     let none : zero_bytes w ≡ 0 = none_zero (to_le_bytes w64 w) (omega (arith, t)) in
     record {
-      group = raw w (take n behind);
-      is = (small, all-take (λ v. v < 2 ^ 64) n behind are, omega (arith, long, few));
+      group = raw w (take n after);
+      is = (small, all-take (λ v. v < 2 ^ 64) n after are, omega (arith, long, few));
       sparing = (none, full);
       longest = subst (λ (m : ℕ). (m ≡ 255) ⊎ StartsWithout (λ v. zero_bytes v ≤ 1) back) (sym long) ends;
-      spells = text ∙ ap (λ (m : ℕ). old ++ 255 ∷ (to_le_bytes w64 w ++ (m ∷ bytes_of (take n behind)))) (sym long);
-      gives = e ∙ ap (λ (vs : List ℕ). w ∷ vs) (sym (take-append-drop n behind) ∙ ap (λ (vs : List ℕ). take n behind ++ vs) (sym rest));
+      spells = text ∙ ap (λ (m : ℕ). old ++ 255 ∷ (to_le_bytes w64 w ++ (m ∷ bytes_of (take n after)))) (sym long);
+      gives = e ∙ ap (λ (vs : List ℕ). w ∷ vs) (sym (take-append-drop n after) ∙ ap (λ (vs : List ℕ). take n after ++ vs) (sym rest));
     }
 
 -- a group more before words that are packed
@@ -198,30 +198,30 @@ pub stops_at_end : (P : ℕ → Type 0) (ws : List ℕ) (i : ℕ) → length ws 
 stops_at_end P ws i h = subst (λ (vs : List ℕ). StartsWithout P vs) (sym (drop_all i ws h)) tt
 
 -- a tag, from the last byte on
-abbrev pub TagBehind : List ℕ → ℕ → ℕ → Type 0
-TagBehind b behind t = (n : ℕ) × (n + behind ≡ 8) × (t ≡ tag (bytes_that_count (drop n b)))
+abbrev pub TagAfter : List ℕ → ℕ → ℕ → Type 0
+TagAfter b after t = (n : ℕ) × (n + after ≡ 8) × (t ≡ tag (bytes_that_count (drop n b)))
 
-pub tag_none : (b : List ℕ) → length b ≡ 8 → TagBehind b 0 0
+pub tag_none : (b : List ℕ) → length b ≡ 8 → TagAfter b 0 0
 tag_none b h = (8, refl, ap (λ (c : List ℕ). tag (bytes_that_count c)) (sym (drop_all 8 b (omega (arith, h)))))
 
-tag_on : (b : List ℕ) (n behind old : ℕ) → length b ≡ 8 → n + behind ≡ 8 → behind < 8 → old ≡ tag (bytes_that_count (drop n b))
-    → (m : ℕ) × (m + (behind + 1) ≡ 8) × (drop m b ≡ get_or b (7 - behind) 0 ∷ drop n b)
-tag_on b zero behind old l a h e = absurd (omega (arith, a, h))
-tag_on b (suc m) behind old l a h e =
-    let place : 7 - behind ≡ m = omega (arith, a) in
+tag_on : (b : List ℕ) (n after old : ℕ) → length b ≡ 8 → n + after ≡ 8 → after < 8 → old ≡ tag (bytes_that_count (drop n b))
+    → (m : ℕ) × (m + (after + 1) ≡ 8) × (drop m b ≡ get_or b (7 - after) 0 ∷ drop n b)
+tag_on b zero after old l a h e = absurd (omega (arith, a, h))
+tag_on b (suc m) after old l a h e =
+    let place : 7 - after ≡ m = omega (arith, a) in
     let next : m + 1 ≡ suc m = omega arith in
     (m, omega (arith, a), drop_more b m 0 (omega (arith, a, l)) ∙ ap (λ (k : ℕ). get_or b m 0 ∷ drop k b) next ∙ ap (λ (k : ℕ). get_or b k 0 ∷ drop (suc m) b) (sym place))
 
-pub tag_on_zero : (b : List ℕ) (behind old new : ℕ) → length b ≡ 8 → behind < 8 → TagBehind b behind old → get_or b (7 - behind) 0 ≡ 0 → new ≡ old * 2 → TagBehind b (behind + 1) new
-tag_on_zero b behind old new l h t z e =
-    let m = tag_on b t.0 behind old l t.1 h t.2 in
-    let one = ap (λ (c : List ℕ). tag (bytes_that_count c)) m.2 ∙ tag_zero (get_or b (7 - behind) 0) (drop t.0 b) z in
+pub tag_on_zero : (b : List ℕ) (after old new : ℕ) → length b ≡ 8 → after < 8 → TagAfter b after old → get_or b (7 - after) 0 ≡ 0 → new ≡ old * 2 → TagAfter b (after + 1) new
+tag_on_zero b after old new l h t z e =
+    let m = tag_on b t.0 after old l t.1 h t.2 in
+    let one = ap (λ (c : List ℕ). tag (bytes_that_count c)) m.2 ∙ tag_zero (get_or b (7 - after) 0) (drop t.0 b) z in
     (m.0, m.1, omega (arith, e, one, t.2))
 
-pub tag_on_some : (b : List ℕ) (behind old new : ℕ) → length b ≡ 8 → behind < 8 → TagBehind b behind old → (get_or b (7 - behind) 0 ≡ 0 → ⊥) → new ≡ old * 2 + 1 → TagBehind b (behind + 1) new
-tag_on_some b behind old new l h t z e =
-    let m = tag_on b t.0 behind old l t.1 h t.2 in
-    let one = ap (λ (c : List ℕ). tag (bytes_that_count c)) m.2 ∙ tag_some (get_or b (7 - behind) 0) (drop t.0 b) z in
+pub tag_on_some : (b : List ℕ) (after old new : ℕ) → length b ≡ 8 → after < 8 → TagAfter b after old → (get_or b (7 - after) 0 ≡ 0 → ⊥) → new ≡ old * 2 + 1 → TagAfter b (after + 1) new
+tag_on_some b after old new l h t z e =
+    let m = tag_on b t.0 after old l t.1 h t.2 in
+    let one = ap (λ (c : List ℕ). tag (bytes_that_count c)) m.2 ∙ tag_some (get_or b (7 - after) 0) (drop t.0 b) z in
     (m.0, m.1, omega (arith, e, one, t.2))
 
 seventh : (n : ℕ) → n ≤ 7 → 2 ^ n ≤ 128
@@ -232,15 +232,15 @@ seventh n h = go (cases_eq n 7)
     go (inr e) = let below = pow_below n 7 (omega (arith, e, h)) in omega (arith, below)
 
 -- before the last byte a tag has room for one more
-pub tag_room : (b : List ℕ) (behind t : ℕ) → length b ≡ 8 → behind < 8 → TagBehind b behind t → t < 128
-tag_room b behind t l h k =
+pub tag_room : (b : List ℕ) (after t : ℕ) → length b ≡ 8 → after < 8 → TagAfter b after t → t < 128
+tag_room b after t l h k =
     let long : length (drop k.0 b) ≡ 8 - k.0 = omega (arith, length-drop k.0 b, l) in
     let few : length (drop k.0 b) ≤ 7 = omega (arith, long, k.1, h) in
     omega (arith, tag_below (drop k.0 b), k.2, seventh (length (drop k.0 b)) few)
 
-pub tag_all : (b : List ℕ) (behind t : ℕ) → TagBehind b behind t → behind ≡ 8 → t ≡ tag (bytes_that_count b)
-tag_all b behind t (zero, a, e) h = e
-tag_all b behind t (suc n, a, e) h = absurd (omega (arith, a, h))
+pub tag_all : (b : List ℕ) (after t : ℕ) → TagAfter b after t → after ≡ 8 → t ≡ tag (bytes_that_count b)
+tag_all b after t (zero, a, e) h = e
+tag_all b after t (suc n, a, e) h = absurd (omega (arith, a, h))
 
 -- one byte more is written, or not
 written-append : (os us : List (Option ℕ)) → written (os ++ us) ≡ written os ++ written us

@@ -8,20 +8,20 @@ use Rattle.cp_packed.proofs.Unpacks.{laid_even, laid_odd}
 -- The bytes before a place stand, and none after it yet.
 pub record Spreads (tag : ℕ) (written bytes : List ℕ) (bits : ℕ) (left : List ℕ) (place : ℕ) : Type 0 where
   pub front : List ℕ
-  pub behind : ℕ
+  pub after : ℕ
   pub long : length front ≡ place
-  pub all : place + behind ≡ 8
-  pub stand : bytes ≡ front ++ replicate behind 0
-  pub are : laid_by 8 tag written ≡ front ++ laid_by behind bits left
+  pub all : place + after ≡ 8
+  pub stand : bytes ≡ front ++ replicate after 0
+  pub are : laid_by 8 tag written ≡ front ++ laid_by after bits left
 
 pub spreads_none : (tag : ℕ) (written : List ℕ) → Spreads tag written (0 ∷ 0 ∷ 0 ∷ 0 ∷ 0 ∷ 0 ∷ 0 ∷ 0 ∷ []) tag written 0
-spreads_none tag written = record { front = []; behind = 8; long = refl; all = refl; stand = refl; are = refl }
+spreads_none tag written = record { front = []; after = 8; long = refl; all = refl; stand = refl; are = refl }
 
 spread_by : (tag : ℕ) (written bytes : List ℕ) (bits : ℕ) (left : List ℕ) (place x n : ℕ) (front more : List ℕ) → length front ≡ place → place + suc n ≡ 8 → bytes ≡ front ++ x ∷ replicate n 0
     → laid_by 8 tag written ≡ front ++ x ∷ laid_by n bits left → Spreads tag written bytes bits left (place + 1)
 spread_by tag written bytes bits left place x n front more l a s e = record {
   front = front ++ x ∷ [];
-  behind = n;
+  after = n;
   long = omega (arith, l, length-append front (x ∷ []));
   all = omega (arith, a);
   stand = s ∙ sym (append_assoc front (x ∷ []) (replicate n 0));
@@ -36,7 +36,7 @@ even_by tag written bytes bits left place (suc n) front l a s e h k =
 
 pub spread_even : (tag : ℕ) (written bytes : List ℕ) (bits : ℕ) (left : List ℕ) (place : ℕ) → Spreads tag written bytes bits left place → place < 8 → bits % 2 ≡ 0
     → Spreads tag written bytes (bits / 2) left (place + 1)
-spread_even tag written bytes bits left place h = even_by tag written bytes bits left place h.behind h.front h.long h.all h.stand h.are
+spread_even tag written bytes bits left place h = even_by tag written bytes bits left place h.after h.front h.long h.all h.stand h.are
 
 odd_by : (tag : ℕ) (written bytes : List ℕ) (bits : ℕ) (left : List ℕ) (place x n : ℕ) (front : List ℕ) → length front ≡ place → place + n ≡ 8 → bytes ≡ front ++ replicate n 0
     → laid_by 8 tag written ≡ front ++ laid_by n bits (x ∷ left) → place < 8 → bits % 2 ≡ 1 → Spreads tag written (set bytes place x) (bits / 2) left (place + 1)
@@ -47,7 +47,7 @@ odd_by tag written bytes bits left place x (suc n) front l a s e h k =
 
 pub spread_odd : (tag : ℕ) (written bytes : List ℕ) (bits x : ℕ) (left : List ℕ) (place : ℕ) → Spreads tag written bytes bits (x ∷ left) place → place < 8 → bits % 2 ≡ 1
     → Spreads tag written (set bytes place x) (bits / 2) left (place + 1)
-spread_odd tag written bytes bits x left place h = odd_by tag written bytes bits left place x h.behind h.front h.long h.all h.stand h.are
+spread_odd tag written bytes bits x left place h = odd_by tag written bytes bits left place x h.after h.front h.long h.all h.stand h.are
 
 zero_by : (tag : ℕ) (written bytes : List ℕ) (bits : ℕ) (left : List ℕ) (place n : ℕ) (front : List ℕ) → length front ≡ place → place + n ≡ 8 → bytes ≡ front ++ replicate n 0
     → laid_by 8 tag written ≡ front ++ laid_by n bits left → place < 8 → bits % 2 ≡ 0 → Spreads tag written (set bytes place 0) (bits / 2) left (place + 1)
@@ -58,7 +58,7 @@ zero_by tag written bytes bits left place (suc n) front l a s e h k =
 
 pub spread_zero : (tag : ℕ) (written bytes : List ℕ) (bits : ℕ) (left : List ℕ) (place : ℕ) → Spreads tag written bytes bits left place → place < 8 → bits % 2 ≡ 0
     → Spreads tag written (set bytes place 0) (bits / 2) left (place + 1)
-spread_zero tag written bytes bits left place h = zero_by tag written bytes bits left place h.behind h.front h.long h.all h.stand h.are
+spread_zero tag written bytes bits left place h = zero_by tag written bytes bits left place h.after h.front h.long h.all h.stand h.are
 
 -- zeros after a word's bytes change nothing
 padded_at : (front : List ℕ) (n i : ℕ) → get_or (front ++ replicate n 0) i 0 ≡ get_or front i 0
@@ -92,7 +92,7 @@ none_left tag written bytes bits place (suc n) front l a s e h k =
     spread_here tag written bytes front place (suc n) l s (e ∙ ap (λ (b : List ℕ). front ++ b) (laid_odd n bits [] k) ∙ append-nil front)
 
 pub spread_stops : (tag : ℕ) (written bytes : List ℕ) (bits place : ℕ) → Spreads tag written bytes bits [] place → place < 8 → bits % 2 ≡ 1 → Spread tag written bytes place
-spread_stops tag written bytes bits place h = none_left tag written bytes bits place h.behind h.front h.long h.all h.stand h.are
+spread_stops tag written bytes bits place h = none_left tag written bytes bits place h.after h.front h.long h.all h.stand h.are
 
 whole_by : (tag : ℕ) (written bytes : List ℕ) (bits : ℕ) (left front : List ℕ) (n : ℕ) → length front ≡ 8 → n ≡ 0 → bytes ≡ front ++ replicate n 0 → laid_by 8 tag written ≡ front ++ laid_by n bits left → Spread tag written bytes 8
 unfolding laid_by
@@ -100,4 +100,4 @@ whole_by tag written bytes bits left front zero l z s e = spread_here tag writte
 whole_by tag written bytes bits left front (suc n) l z s e = absurd (omega (arith, z))
 
 pub spread_whole : (tag : ℕ) (written bytes : List ℕ) (bits : ℕ) (left : List ℕ) (place : ℕ) → Spreads tag written bytes bits left place → place ≡ 8 → Spread tag written bytes 8
-spread_whole tag written bytes bits left place h e = whole_by tag written bytes bits left h.front h.behind (h.long ∙ e) (omega (arith, h.all, e)) h.stand h.are
+spread_whole tag written bytes bits left place h e = whole_by tag written bytes bits left h.front h.after (h.long ∙ e) (omega (arith, h.all, e)) h.stand h.are

@@ -21,17 +21,17 @@ pub record TakesGroups (most : ℕ) (old : List ℕ) (run : ℕ) (left new : Lis
 -- The group that these bytes begin with brings more words than fit: a run of zero words, or the last word
 -- that fits and a raw run after it.
 abbrev pub IsTooMuch : ℕ → List ℕ → Type 0
-IsTooMuch room back =
-    ((slice_index back 0 ≡ 0) × (room < slice_index back 1 + 1))
-    ⊎ ((slice_index back 0 ≡ 255) × (room ≡ 1) × (0 < slice_index back 9))
+IsTooMuch missing back =
+    ((slice_index back 0 ≡ 0) × (missing < slice_index back 1 + 1))
+    ⊎ ((slice_index back 0 ≡ 255) × (missing ≡ 1) × (0 < slice_index back 9))
 
 -- Nothing more is taken at once: no word fits; or of a raw run the next word hasn't come, or it would be the last that
 -- fits and the run goes on; or of a group ten bytes haven't come, or it brings too much.
 abbrev pub IsAtEnd : ℕ → ℕ → List ℕ → Type 0
-IsAtEnd room run back =
-    (room ≡ 0)
-    ⊎ ((0 < run) × ((length back < 8) ⊎ ((room ≡ 1) × (1 < run))))
-    ⊎ ((run ≡ 0) × ((length back < 10) ⊎ IsTooMuch room back))
+IsAtEnd missing run back =
+    (missing ≡ 0)
+    ⊎ ((0 < run) × ((length back < 8) ⊎ ((missing ≡ 1) × (1 < run))))
+    ⊎ ((run ≡ 0) × ((length back < 10) ⊎ IsTooMuch missing back))
 
 -- A front of the bytes was taken, and the words that it brings were put over the first of this many zeros. No run goes on.
 pub record FillsFront (most : ℕ) (left new : List ℕ) (filled : ℕ) (back : List ℕ) : Type 0 where

@@ -29,22 +29,22 @@ laid_by (suc n) tag written = if tag % 2 == 0 then 0 ∷ laid_by n (tag / 2) wri
 
 -- how many words follow the first of a group, by its count
 abbrev pub run_of : ℕ → List ℕ → ℕ
-run_of tag behind = if tag == 255 then slice_index behind 8 else 0
+run_of tag following = if tag == 255 then slice_index following 8 else 0
 
 -- the words that are known once a group's first bytes have come
 abbrev pub first_words : ℕ → List ℕ → List ℕ
-first_words tag behind = if tag == 0 then replicate (suc (slice_index behind 0)) 0 else from_le_bytes w64 (laid_by 8 tag behind) ∷ []
+first_words tag following = if tag == 0 then replicate (suc (slice_index following 0)) 0 else from_le_bytes w64 (laid_by 8 tag following) ∷ []
 
 -- what is left open: nothing of the words that are whole
 abbrev pub settled : ℕ → List ℕ → Pending
 settled zero [] = nothing
-settled zero (tag ∷ behind) = if suc (length behind) == header_of tag then record { run = run_of tag behind; part = [] } else record { run = 0; part = tag ∷ behind }
+settled zero (tag ∷ following) = if suc (length following) == header_of tag then record { run = run_of tag following; part = [] } else record { run = 0; part = tag ∷ following }
 settled (suc n) part = if length part == 8 then record { run = n; part = [] } else record { run = suc n; part = part }
 
 -- the words that are whole
 abbrev pub given_by : ℕ → List ℕ → List ℕ
 given_by zero [] = []
-given_by zero (tag ∷ behind) = if suc (length behind) == header_of tag then first_words tag behind else []
+given_by zero (tag ∷ following) = if suc (length following) == header_of tag then first_words tag following else []
 given_by (suc n) part = if length part == 8 then from_le_bytes w64 part ∷ [] else []
 
 -- what is open after one more byte, and the words that it brings
@@ -66,7 +66,7 @@ given p (x ∷ b) = brought p x ++ given (next p x) b
 -- Less has come than would be whole.
 abbrev pub IsShort : ℕ → List ℕ → Type 0
 IsShort zero [] = Unit {0}
-IsShort zero (tag ∷ behind) = suc (length behind) < header_of tag
+IsShort zero (tag ∷ following) = suc (length following) < header_of tag
 IsShort (suc n) part = length part < 8
 
 pub record IsPending (p : Pending) : Type 0 where
@@ -77,13 +77,13 @@ pub record IsPending (p : Pending) : Type 0 where
 -- how many bytes a group still needs at the least; where nothing of one has come, two
 abbrev pub still : ℕ → List ℕ → ℕ
 still zero [] = 2
-still zero (tag ∷ behind) = header_of tag - suc (length behind)
+still zero (tag ∷ following) = header_of tag - suc (length following)
 still (suc n) part = 8 * suc n - length part
 
 -- the bytes that are certain to come next in the words
 abbrev pub laid_in : ℕ → List ℕ → List ℕ
 laid_in zero [] = []
-laid_in zero (tag ∷ behind) = laid_by 8 tag behind
+laid_in zero (tag ∷ following) = laid_by 8 tag following
 laid_in (suc n) part = part
 
 abbrev pub laid : Pending → List ℕ

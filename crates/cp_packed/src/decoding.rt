@@ -8,34 +8,6 @@ use crate::group::{header, spread};
 use crate::words::word_of;
 use std::alloc::{AllocError, Global};
 
-/// Takes the bytes of a group before the further words of a raw run. Gives how many of these are
-/// still to come, and what follows; or nothing, where bytes are missing.
-fn take_header<'a>(
-    words: &mut Vec<u64>,
-    left: &'a [u8],
-) -> Result<Option<(usize, &'a [u8])>, AllocError>
-    requires { 0 < length left.now }
-    ensures none { IfOk result (λ taken. TakesNone left.now taken) }
-    ensures some { IfOk result (λ taken. IfSome taken (λ t. TakesHeader words.old.items left.now words.new.items t.0 t.1.now)) }
-    ensures shorter { IfOk result (λ taken. IfSome taken (λ t. length t.1.now < length left.now)) }
-{
-    let tag = left[0];
-    let (_, behind) = left.split_at(1);
-    let length = header(tag) - 1;
-    if behind.len() < length {
-        return Ok(None);
-    }
-    let (bytes, back) = behind.split_at(length);
-    if tag == 0 {
-        words.resize(words.len() + bytes[0] as usize + 1, 0)?;
-        return Ok(Some((0, back)));
-    }
-    let (word, _) = spread(tag, bytes);
-    words.push(u64::from_le_bytes(word))?;
-    let run = if tag == 255 { bytes[8] as usize } else { 0 };
-    Ok(Some((run, back)))
-}
-
 /// The words that packed bytes give, if they do (encoding specification, "Packing"), read group by group, slowly: it is to compare
 /// `unpack` with. The error is an allocation failure.
 pub fn decode(alloc: Global, bytes: &[u8]) -> Result<Option<Vec<u64>>, AllocError>
@@ -66,4 +38,32 @@ pub fn decode(alloc: Global, bytes: &[u8]) -> Result<Option<Vec<u64>>, AllocErro
         return Ok(Some(words));
     }
     Ok(None)
+}
+
+/// Takes the bytes of a group before the further words of a raw run. Gives how many of these are
+/// still to come, and what follows; or nothing, where bytes are missing.
+fn take_header<'a>(
+    words: &mut Vec<u64>,
+    left: &'a [u8],
+) -> Result<Option<(usize, &'a [u8])>, AllocError>
+    requires { 0 < length left.now }
+    ensures none { IfOk result (λ taken. TakesNone left.now taken) }
+    ensures some { IfOk result (λ taken. IfSome taken (λ t. TakesHeader words.old.items left.now words.new.items t.0 t.1.now)) }
+    ensures shorter { IfOk result (λ taken. IfSome taken (λ t. length t.1.now < length left.now)) }
+{
+    let tag = left[0];
+    let (_, after) = left.split_at(1);
+    let length = header(tag) - 1;
+    if after.len() < length {
+        return Ok(None);
+    }
+    let (bytes, back) = after.split_at(length);
+    if tag == 0 {
+        words.resize(words.len() + bytes[0] as usize + 1, 0)?;
+        return Ok(Some((0, back)));
+    }
+    let (word, _) = spread(tag, bytes);
+    words.push(u64::from_le_bytes(word))?;
+    let run = if tag == 255 { bytes[8] as usize } else { 0 };
+    Ok(Some((run, back)))
 }

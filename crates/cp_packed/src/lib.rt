@@ -16,4 +16,4 @@ pub use bulk::take_groups;
 pub use decoding::decode;
 pub use group::{OpenGroup, Run};
 pub use packing::{LONGEST, push_groups, push_packed, push_plain};
-pub use words::{make_room, take_in, word_of};
+pub use words::{reserve_words, take_in, word_of};

@@ -19,13 +19,13 @@ pub fn word_of(bytes: &[u8]) -> u64
 /// Makes capacity for `taken` words that have come, where `missing` words are missing in all. Where there is too little, it makes
 /// capacity for as many as there are, or have come if these are more, but for no more than are missing. The error is an
 /// allocation failure.
-pub fn make_room(words: &mut Vec<u64>, taken: usize, missing: usize) -> Result<(), AllocError>
+pub fn reserve_words(words: &mut Vec<u64>, taken: usize, missing: usize) -> Result<(), AllocError>
     ensures items { OnOk result (words.new.items ≡ words.old.items) }
-    ensures room { OnOk result (vec_len words.new + min taken missing ≤ vec_capacity words.new) }
+    ensures capacity { OnOk result (vec_len words.new + min taken missing ≤ vec_capacity words.new) }
     ensures few { OnOk result (vec_capacity words.new ≤ max (vec_capacity words.old) (vec_len words.old + min missing (max (vec_len words.old) taken))) }
 {
-    let room = words.capacity() - words.len();
-    if room < taken {
+    let spare = words.capacity() - words.len();
+    if spare < taken {
         words.reserve_exact(missing.min(words.len().max(taken)))?;
     }
     Ok(())

@@ -1,7 +1,7 @@
 -- Bodies that trees are built from.
 use Rattle.std.proofs.Common.{◌≡◌, ℕ, ◌+◌, ◌*◌, ◌<◌, ◌≤◌, List, Ok, Err, true, is_ok, refl, sym, ap, ◌∙◌, arith}
 use Rattle.cp_tree.specs.Node.{Node, struct, structs, Nodes, no_nodes, node, Bodies, count, number_of, depth}
-use Rattle.cp_words.specs.Aims.{words_at}
+use Rattle.cp_words.specs.Targets.{words_at}
 use Rattle.cp_reading.specs.Viewed.{viewed_node, IsViewed}
 use Rattle.cp_reading.specs.Reading.{◌>>=◌, Read, tree_read, rows_at, most_nesting, most_traversal, bodies_by, node_in}
 use Rattle.cp_reading.specs.Rows.{row_of, bodies_in, struct_at, structs_at, trees_from}

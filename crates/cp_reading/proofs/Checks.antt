@@ -73,12 +73,12 @@ passed-flat read S s d (suc n) q budget before =
     ∙ passed-flat read S s d n (q + d + 0) budget before
 
 -- a pointer that aims at a body
-pub aimed : (at : Place) (kids : Option Kids) (S : List (List ℕ)) (budget : ℕ) (r : Pointer) (target : Target) → target_by at S r ≡ Ok target → pointer_by at kids S budget (Some r) ≡ (area_by at S target >>= body_by at kids S budget)
-aimed at kids S budget pointers.Null target e = cc
-aimed at kids S budget (pointers.Cap i) target e = cc
-aimed at kids S budget (pointers.Struct offset d n) target e = ap (λ q. q >>= area_by at S >>= body_by at kids S budget) e
-aimed at kids S budget (pointers.List offset size n) target e = ap (λ q. q >>= area_by at S >>= body_by at kids S budget) e
-aimed at kids S budget (pointers.Far double place other) target e = ap (λ q. q >>= area_by at S >>= body_by at kids S budget) e
+pub target_found : (at : Place) (kids : Option Kids) (S : List (List ℕ)) (budget : ℕ) (r : Pointer) (target : Target) → target_by at S r ≡ Ok target → pointer_by at kids S budget (Some r) ≡ (area_by at S target >>= body_by at kids S budget)
+target_found at kids S budget pointers.Null target e = cc
+target_found at kids S budget (pointers.Cap i) target e = cc
+target_found at kids S budget (pointers.Struct offset d n) target e = ap (λ q. q >>= area_by at S >>= body_by at kids S budget) e
+target_found at kids S budget (pointers.List offset size n) target e = ap (λ q. q >>= area_by at S >>= body_by at kids S budget) e
+target_found at kids S budget (pointers.Far double place other) target e = ap (λ q. q >>= area_by at S >>= body_by at kids S budget) e
 
 -- one of m things of size w, and the others
 pub one_fewer : (m w : ℕ) → 0 < m → m * w ≡ w + (m - 1) * w

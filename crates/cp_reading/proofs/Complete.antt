@@ -8,7 +8,7 @@ use Rattle.cp_words.specs.declared.pointer.Pointer.{Pointer}
 use Rattle.cp_words.specs.declared.pointer.Pointer.TheVariants as pointers
 use Rattle.cp_words.specs.declared.pointer.ElementSize.TheVariants as sizes
 use Rattle.cp_tree.specs.Node.{Elements, voids, Node, null, cap, struct, list, ptrs, structs, Nodes, no_nodes, node, Bodies, no_bodies, body, count, number_of, depth, greatest_depth, deepest_body, cost, total_cost, body_cost}
-use Rattle.cp_words.specs.Aims.{segment, IsBodyPointer, IsPadTag, AimsHere, AimsByPad, AimsByTwo, Aims}
+use Rattle.cp_words.specs.Targets.{segment, IsBodyPointer, IsLandingPadTag, HasTargetHere, HasTargetByLandingPad, HasTargetByTwoWords, HasTarget}
 use Rattle.cp_reading.specs.Locates.{Locates}
 use Rattle.cp_reading.specs.Denotes.{Denotes, EachDenotes, EachBody}
 use Rattle.cp_reading.specs.Reading.{◌>>=◌, Kids, row_by, bodies_by, start_of, in_segment, area_by, target_here, tag_kind_of, target_by, or_bad_pad, filled, price, IsWhole, body_by, budget_after, pointer_by, kids_at, tree_at, rows_at}
@@ -18,7 +18,7 @@ use Rattle.cp_words.specs.declared.kind.Kind.TheVariants as kinds
 use Rattle.cp_reading.specs.declared.area.Form.{Form}
 use Rattle.cp_reading.specs.declared.area.Form.TheVariants as forms
 use Rattle.cp_words.specs.declared.place.Place.{Place}
-use Rattle.cp_reading.proofs.Checks.{aimed}
+use Rattle.cp_reading.proofs.Checks.{target_found}
 use Rattle.cp_reading.proofs.Charges.{charged_ok}
 use Rattle.cp_reading.specs.Fills.{IsBody, form_of, Fills}
 use Rattle.cp_reading.proofs.Fills.{form_of-whole, inner_depth, inner_cost, depth-body, cost-body}
@@ -54,7 +54,7 @@ says_kind s p pointers.Null offset k start h b = absurd h
 says_kind s p (pointers.Cap i) offset k start h b = absurd h
 says_kind s p (pointers.Far double place other) offset k start h b = absurd h
 
-says_tag : (r : Pointer) (k : Kind) → IsPadTag r k → tag_kind_of (Some r) ≡ Some k
+says_tag : (r : Pointer) (k : Kind) → IsLandingPadTag r k → tag_kind_of (Some r) ≡ Some k
 says_tag pointers.Null k h = rw h
 says_tag (pointers.Struct o d n) k h = rw (h.0, h.1)
 says_tag (pointers.List o size n) k h = rw (h.0, h.1)
@@ -69,7 +69,7 @@ module _ (S : List (List ℕ)) (s p : ℕ) where
   unfoldable pub Found : Kind → ℕ → ℕ → Type 0
   Found k s' start = (r : Pointer) × (pointer_of (slice_index (segment S s) p) ≡ Some r) × (target_by at S r ≡ Ok (record { kind = k; segment = s'; start = Some start }))
 
-  found_here : (k : Kind) (start : ℕ) → AimsHere S s p k start → Found k s start
+  found_here : (k : Kind) (start : ℕ) → HasTargetHere S s p k start → Found k s start
   unfolding Found
   found_here k start a = go a.pointer a.stands.1 (says_kind s p a.pointer a.offset k start a.says (begins_start p a.offset start a.begins)) a.says
     where
@@ -81,18 +81,18 @@ module _ (S : List (List ℕ)) (s p : ℕ) where
       go (pointers.Cap i) is e says = absurd says
       go (pointers.Far double place other) is e says = absurd says
 
-  found_by_pad : (k : Kind) (s' start : ℕ) → AimsByPad S s p k s' start → Found k s' start
+  found_by_pad : (k : Kind) (s' start : ℕ) → HasTargetByLandingPad S s p k s' start → Found k s' start
   unfolding Found
   found_by_pad k s' start a =
       let place = a.place in
-      let pad = a.pad in
-      let within : place < length (segment S s') = pad.stands.0 in
+      let landing_pad = a.landing_pad in
+      let within : place < length (segment S s') = landing_pad.stands.0 in
       let w : nat_lt place (length (segment S s')) ≡ true = grind (arith, nat_tests) in
       let x : nat_lt s' (length S) ≡ true = grind (arith, nat_tests, exists_if S s' place within) in
-      let e = says_kind s' place pad.pointer pad.offset k start pad.says (begins_start place pad.offset start pad.begins) in
-      (pointers.Far false place s', a.stands.1, rw (x, w, pad.stands.1, e))
+      let e = says_kind s' place landing_pad.pointer landing_pad.offset k start landing_pad.says (begins_start place landing_pad.offset start landing_pad.begins) in
+      (pointers.Far false place s', a.stands.1, rw (x, w, landing_pad.stands.1, e))
 
-  found_by_two : (k : Kind) (s' start : ℕ) → AimsByTwo S s p k s' start → Found k s' start
+  found_by_two : (k : Kind) (s' start : ℕ) → HasTargetByTwoWords S s p k s' start → Found k s' start
   unfolding Found
   found_by_two k s' start a =
       let place = a.place in
@@ -101,38 +101,38 @@ module _ (S : List (List ℕ)) (s p : ℕ) where
       let y : nat_lt s' (length S) ≡ true = grind (arith, nat_tests, a.exists) in
       (pointers.Far true place a.other, a.stands.1, rw (x, w, a.first.1, a.second.1, says_tag a.pointer k a.says, y))
 
-  pub aims_found : (k : Kind) (s' start : ℕ) → Aims S s p k s' start → Found k s' start
-  aims_found k s' start (inl a) = subst (λ x. Found k x start) (sym a.1) (found_here k start a.0)
-  aims_found k s' start (inr (inl a)) = found_by_pad k s' start a
-  aims_found k s' start (inr (inr a)) = found_by_two k s' start a
+  pub target_is_found : (k : Kind) (s' start : ℕ) → HasTarget S s p k s' start → Found k s' start
+  target_is_found k s' start (inl a) = subst (λ x. Found k x start) (sym a.1) (found_here k start a.0)
+  target_is_found k s' start (inr (inl a)) = found_by_pad k s' start a
+  target_is_found k s' start (inr (inr a)) = found_by_two k s' start a
 
   -- the word holds a pointer that leads to this body
   pub record Led (f : Form) (s' start : ℕ) : Type 0 where
     pub pointer : Pointer
     pub target : Target
     pub says : pointer_of (slice_index (segment S s) p) ≡ Some pointer
-    pub aims : target_by at S pointer ≡ Ok target
+    pub has_target : target_by at S pointer ≡ Ok target
     pub area : area_by at S target ≡ Ok (record { form = f; segment = s'; start = start })
 
   pub led : (f : Form) (s' start : ℕ) → IsWhole f → Locates S s p f s' start → Led f s' start
   unfolding Found
   led (forms.Struct d n) s' start w l =
-      let a = aims_found (kinds.Struct d n) s' start l.aims in
-      record { pointer = a.0; target = record { kind = kinds.Struct d n; segment = s'; start = Some start }; says = a.1; aims = a.2; area = rw (fits (segment S s') (d + n) start l.inside) refl }
+      let a = target_is_found (kinds.Struct d n) s' start l.has_target in
+      record { pointer = a.0; target = record { kind = kinds.Struct d n; segment = s'; start = Some start }; says = a.1; has_target = a.2; area = rw (fits (segment S s') (d + n) start l.inside) refl }
   led (forms.Structs d n k) s' start w l =
-      let a = aims_found (kinds.List sizes.Composite l.0) s' l.1 l.2.aims in
+      let a = target_is_found (kinds.List sizes.Composite l.0) s' l.1 l.2.has_target in
       let room : nat_lt l.0 (k * (d + n)) ≡ false = grind (arith, nat_tests, l.4) in
       record {
         pointer = a.0;
         target = record { kind = kinds.List sizes.Composite l.0; segment = s'; start = Some l.1 };
         says = a.1;
-        aims = a.2;
+        has_target = a.2;
         area = rw (fits (segment S s') (l.0 + 1) l.1 l.2.inside, l.3, room, l.5) refl;
       }
   led (forms.List sizes.Composite n) s' start w l = absurd w
   led (forms.List size n) s' start w l =
-      let a = aims_found (kinds.List size n) s' start l.aims in
-      record { pointer = a.0; target = record { kind = kinds.List size n; segment = s'; start = Some start }; says = a.1; aims = a.2; area = rw (fits (segment S s') (words_for size n) start l.inside) refl }
+      let a = target_is_found (kinds.List size n) s' start l.has_target in
+      record { pointer = a.0; target = record { kind = kinds.List size n; segment = s'; start = Some start }; says = a.1; has_target = a.2; area = rw (fits (segment S s') (words_for size n) start l.inside) refl }
 
 pub charge_taken : (at : Place) (n price budget : ℕ) → 0 < n → price ≤ budget → budget_after at n price budget ≡ Ok (budget - price)
 charge_taken at n price budget deep room =
@@ -151,7 +151,7 @@ body_read S s p n budget t s' q b l deep dear e =
     let paid = charge_taken (at S s p) n (price (form_of t)) budget (omega arith) (omega arith) in
     let rest : budget - price (form_of t) - inner_cost t ≡ budget - cost t = omega arith in
     ap (pointer_by (at S s p) (kids_at n S) S budget) h.says
-    ∙ aimed (at S s p) (kids_at n S) S budget h.pointer h.target h.aims
+    ∙ target_found (at S s p) (kids_at n S) S budget h.pointer h.target h.has_target
     ∙ ap (λ r. r >>= body_by (at S s p) (kids_at n S) S budget) h.area
     ∙ rw (charged_ok (at S s p) S (price (form_of t)) budget n _ paid) (e ∙ ap (λ m. Ok (t, m)) rest)
 

@@ -6,7 +6,7 @@ use Rattle.cp_words.specs.declared.pointer.Pointer.{Pointer}
 use Rattle.cp_words.specs.declared.pointer.Pointer.TheVariants as pointers
 use Rattle.cp_words.specs.declared.pointer.ElementSize.TheVariants as sizes
 use Rattle.cp_tree.specs.Node.{Node, struct, ptrs, structs, Nodes, node, Bodies, body, count, number_of, depth, greatest_depth, deepest_body, cost, total_cost, body_cost}
-use Rattle.cp_words.specs.Aims.{segment, Holds, words_at}
+use Rattle.cp_words.specs.Targets.{segment, Holds, words_at}
 use Rattle.cp_reading.specs.Locates.{Locates}
 use Rattle.cp_reading.specs.Faults.{FaultBy}
 use Rattle.cp_reading.specs.Pruned.{Prunes, EachPrunes, EachPrunesBody, IsPointerOf, IsReachable, below}
@@ -21,8 +21,8 @@ use Rattle.cp_reading.specs.declared.fault.TreeFault.TheVariants as faults
 use Rattle.cp_reading.proofs.Blank.{denotes_prunes, each_prunes, PrunesBody, prunes_body, nulls, count-nulls, nulls_prune, blank_bodies, number_of-blank, blank_bodies_prune, blank, blank_stands}
 use Rattle.cp_reading.specs.Fills.{IsBody, form_of}
 use Rattle.cp_reading.proofs.Fills.{inner_depth, inner_cost, depth-body, cost-body}
-use Rattle.cp_reading.proofs.Misaimed.{bind_err, err_is, aim_fails, area_fails}
-use Rattle.cp_reading.proofs.Sound.{Found, Reads, ReadsRow, RowsRead, sound, rows_sound, aim_sound, area_sound, bind_ok, width, charged_is}
+use Rattle.cp_reading.proofs.WrongTargets.{bind_err, err_is, target_fails, area_fails}
+use Rattle.cp_reading.proofs.Sound.{Found, Reads, ReadsRow, RowsRead, sound, rows_sound, target_sound, area_sound, bind_ok, width, charged_is}
 
 -- what is said of a limit may be said of more
 pub FaultBy-map : (S : List (List ℕ)) {D D' C C' : Type 0} (e : TreeFault) → (D → D') → (C → C') → FaultBy S D C e → FaultBy S D' C' e
@@ -231,14 +231,14 @@ module _ (S : List (List ℕ)) (s p n budget : ℕ) (kids : Option Kids) (fails 
   pointer_faulted r e h kind f = go (bind_err (target_by here S r >>= area_by here S) _ e f)
     where
       led : (target_by here S r ≡ Err e) ⊎ ((x : Target) × (target_by here S r ≡ Ok x) × (area_by here S x ≡ Err e)) → FaultBy S (Deep S s p n) (Dear S s p budget) e
-      led (inl g) = aim_fails S s p _ _ reach r e h g kind
+      led (inl g) = target_fails S s p _ _ reach r e h g kind
       led (inr g) = area_fails S s p _ _ reach r g.0 e h g.1 g.2
 
       go : ((target_by here S r >>= area_by here S) ≡ Err e) ⊎ ((x : Area) × ((target_by here S r >>= area_by here S) ≡ Ok x) × (body_by here kids S budget x ≡ Err e)) → FaultBy S (Deep S s p n) (Dear S s p budget) e
       go (inl g) = led (bind_err (target_by here S r) _ e g)
       go (inr g) =
           let k = bind_ok (target_by here S r) (area_by here S) g.0 g.1 in
-          body_faulted g.0 (area_sound S s p k.0 g.0 (aim_sound S s p r k.0 h k.1) k.2) e g.2
+          body_faulted g.0 (area_sound S s p k.0 g.0 (target_sound S s p r k.0 h k.1) k.2) e g.2
 
   word_faulted : (e : TreeFault) → word_by kids S s p budget ≡ Err e → FaultBy S (Deep S s p n) (Dear S s p budget) e
   word_faulted e h = go (pointer_of (slice_index (segment S s) p)) refl h

@@ -9,7 +9,7 @@ use Rattle.cp_words.specs.declared.pointer.Pointer.TheVariants as pointers
 use Rattle.cp_words.specs.declared.pointer.Tag.{Tag}
 use Rattle.cp_words.specs.declared.kind.Kind.{Kind}
 use Rattle.cp_words.specs.declared.kind.Kind.TheVariants as kinds
-use Rattle.cp_words.specs.Aims.{segment, Holds, IsBodyPointer, IsPadTag, AimsHere, Aims, words_at}
+use Rattle.cp_words.specs.Targets.{segment, Holds, IsBodyPointer, IsLandingPadTag, HasTargetHere, HasTarget, words_at}
 use Rattle.cp_tree.specs.Elements.{element, elements_of, numbers}
 use Rattle.cp_reading.specs.Denotes.{Denotes, EachDenotes, EachBody}
 use Rattle.cp_tree.specs.Node.{Elements, voids, bits, bytes, halves, quads, words, element_size, element_count, Node, null, cap, struct, list, ptrs, structs, Nodes, no_nodes, node, Bodies, no_bodies, body, count}
@@ -59,7 +59,7 @@ body_fits (pointers.List offset size n) o k f i = subst KindFits i.1 f
 body_fits (pointers.Far double place other) o k f i = absurd i
 body_fits (pointers.Cap c) o k f i = absurd i
 
-pad_tag_fits : (r : Pointer) (k : Kind) → PointerFits r → IsPadTag r k → KindFits k
+pad_tag_fits : (r : Pointer) (k : Kind) → PointerFits r → IsLandingPadTag r k → KindFits k
 pad_tag_fits pointers.Null k f i = subst KindFits i (omega arith, omega arith)
 pad_tag_fits (pointers.Struct offset d n) k f i = subst KindFits i.1 f
 pad_tag_fits (pointers.List offset size n) k f i = subst KindFits i.1 f
@@ -83,13 +83,13 @@ module _ (S : List (List ℕ)) (fit : All (AllFit 64) S) where
   holds_fits : (s p : ℕ) (r : Pointer) → Holds S s p r → PointerFits r
   holds_fits s p r h = pointer_fits _ (word_fits s p) r h.1
 
-  here_fits : (s p : ℕ) (k : Kind) (start : ℕ) → AimsHere S s p k start → KindFits k
+  here_fits : (s p : ℕ) (k : Kind) (start : ℕ) → HasTargetHere S s p k start → KindFits k
   here_fits s p k start a = body_fits a.pointer a.offset k (holds_fits s p a.pointer a.stands) a.says
 
-  aims_fits : (s p : ℕ) (k : Kind) (s' start : ℕ) → Aims S s p k s' start → KindFits k
-  aims_fits s p k s' start (inl a) = here_fits s p k start a.0
-  aims_fits s p k s' start (inr (inl a)) = here_fits s' a.place k start a.pad
-  aims_fits s p k s' start (inr (inr a)) = pad_tag_fits a.pointer k (holds_fits a.other (a.place + 1) a.pointer a.second) a.says
+  target_fits : (s p : ℕ) (k : Kind) (s' start : ℕ) → HasTarget S s p k s' start → KindFits k
+  target_fits s p k s' start (inl a) = here_fits s p k start a.0
+  target_fits s p k s' start (inr (inl a)) = here_fits s' a.place k start a.landing_pad
+  target_fits s p k s' start (inr (inr a)) = pad_tag_fits a.pointer k (holds_fits a.other (a.place + 1) a.pointer a.second) a.says
 
   words_fit : (s q n : ℕ) → AllFit 64 (words_at S s q n)
   words_fit s q n = All-take (λ x. x < 2 ^ 64) n _ (All-drop (λ x. x < 2 ^ 64) q _ (list_at_fits S fit s))
@@ -111,13 +111,13 @@ module _ (S : List (List ℕ)) (fit : All (AllFit 64) S) where
     denotes_shaped null s p h = tt
     denotes_shaped (cap i) s p h = holds_fits S fit s p (pointers.Cap i) h
     denotes_shaped (struct ws ts) s p h =
-        (aims_fits S fit s p _ _ _ h.2.aims, All-same (λ x. x < 2 ^ 64) _ _ h.3.0 (words_fit S fit h.0 h.1 (length ws)), each_shaped ts h.0 (h.1 + length ws) h.3.1)
-    denotes_shaped (list es) s p h = elements_fit es _ (aims_fits S fit s p (kinds.List (element_size es) (element_count es)) h.0 h.1 h.2.aims) h.3
-    denotes_shaped (ptrs ts) s p h = (aims_fits S fit s p (kinds.List sizes.Pointer (count ts)) h.0 h.1 h.2.aims, each_shaped ts h.0 h.1 h.3)
+        (target_fits S fit s p _ _ _ h.2.has_target, All-same (λ x. x < 2 ^ 64) _ _ h.3.0 (words_fit S fit h.0 h.1 (length ws)), each_shaped ts h.0 (h.1 + length ws) h.3.1)
+    denotes_shaped (list es) s p h = elements_fit es _ (target_fits S fit s p (kinds.List (element_size es) (element_count es)) h.0 h.1 h.2.has_target) h.3
+    denotes_shaped (ptrs ts) s p h = (target_fits S fit s p (kinds.List sizes.Pointer (count ts)) h.0 h.1 h.2.has_target, each_shaped ts h.0 h.1 h.3)
     denotes_shaped (structs d n bs) s p h =
         let l = h.2 in
         let tag = tag_fits _ (word_fits S fit h.0 l.1) _ l.3 in
-        let size : l.0 < 2 ^ 29 = aims_fits S fit s p (kinds.List sizes.Composite l.0) h.0 l.1 l.2.aims in
+        let size : l.0 < 2 ^ 29 = target_fits S fit s p (kinds.List sizes.Composite l.0) h.0 l.1 l.2.has_target in
         (tag.1, tag.0, omega (arith, l.4), each_even bs h.0 h.1 d n h.3)
 
     pub each_shaped : (ts : Nodes) (s p : ℕ) → EachDenotes S s p ts → EachShaped ts

@@ -14,5 +14,5 @@ pub mod Built
 pub mod Fitting
 pub mod Blank
 pub mod Faulted
-pub mod Misaimed
+pub mod WrongTargets
 pub mod RootFaults

@@ -3,7 +3,7 @@ use Rattle.std.proofs.Common.{◌≡◌, ℕ, ◌/◌, ◌%◌, ◌^◌, ◌<◌
 use Rattle.std.proofs.lemmas.Bool.Decides.{nat_tests}
 use Rattle.cp_words.specs.Word.{pointer_of, offset_of, high_of, size_of}
 use Rattle.cp_words.specs.declared.pointer.Pointer.TheVariants as pointers
-use Rattle.cp_words.specs.Aims.{segment}
+use Rattle.cp_words.specs.Targets.{segment}
 use Rattle.cp_reading.specs.Near.{Near}
 use Rattle.cp_reading.specs.Reading.{◌>>=◌, Kids, start_of, area_by, body_by, pointer_by, word_by}
 use Rattle.cp_reading.specs.Visited.{passed, pointers}
@@ -12,7 +12,7 @@ use Rattle.cp_words.specs.declared.kind.Kind.TheVariants as kinds
 use Rattle.cp_reading.specs.declared.area.Area.{Area}
 use Rattle.cp_words.specs.declared.place.Place.{Place}
 use Rattle.cp_reading.specs.declared.fault.TreeFault.{TreeFault}
-use Rattle.cp_reading.proofs.Checks.{aimed}
+use Rattle.cp_reading.proofs.Checks.{target_found}
 
 pub says_null : (w : ℕ) → w ≡ 0 → pointer_of w ≡ Some pointers.Null
 unfolding pointer_of
@@ -32,15 +32,15 @@ says_list w kind =
 
 pub near_struct : (at : Place) (w : ℕ) → 0 < w → w % 4 ≡ 0
     → Near at w (record { kind = kinds.Struct (high_of w % 2 ^ 16) (high_of w / 2 ^ 16); segment = at.segment; start = start_of at.word (offset_of w) })
-near_struct at w some kind = record { pointer = pointers.Struct (offset_of w) (high_of w % 2 ^ 16) (high_of w / 2 ^ 16); says = says_struct w some kind; aims = λ S. refl }
+near_struct at w some kind = record { pointer = pointers.Struct (offset_of w) (high_of w % 2 ^ 16) (high_of w / 2 ^ 16); says = says_struct w some kind; has_target = λ S. refl }
 
 pub near_list : (at : Place) (w : ℕ) → w % 4 ≡ 1
     → Near at w (record { kind = kinds.List (size_of (high_of w % 8)) (high_of w / 8); segment = at.segment; start = start_of at.word (offset_of w) })
-near_list at w kind = record { pointer = pointers.List (offset_of w) (size_of (high_of w % 8)) (high_of w / 8); says = says_list w kind; aims = λ S. refl }
+near_list at w kind = record { pointer = pointers.List (offset_of w) (size_of (high_of w % 8)) (high_of w / 8); says = says_list w kind; has_target = λ S. refl }
 
 -- what is read of such a word
 pub near_read : (at : Place) (w : ℕ) (target : Target) → Near at w target → (kids : Option Kids) (S : List (List ℕ)) (budget : ℕ) → pointer_by at kids S budget (pointer_of w) ≡ (area_by at S target >>= body_by at kids S budget)
-near_read at w target n kids S budget = rw n.says (aimed at kids S budget n.pointer target (n.aims S))
+near_read at w target n kids S budget = rw n.says (target_found at kids S budget n.pointer target (n.has_target S))
 
 module _ (at : Place) (w : ℕ) (kids : Option Kids) (S : List (List ℕ)) (budget before : ℕ) (stands : slice_index (segment S at.segment) at.word ≡ w) where
   -- a word of zero bits leaves all

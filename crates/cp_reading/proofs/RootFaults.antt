@@ -7,7 +7,7 @@ use Rattle.cp_words.specs.declared.pointer.ElementSize.{ElementSize}
 use Rattle.cp_words.specs.declared.pointer.Pointer.{Pointer}
 use Rattle.cp_words.specs.declared.pointer.Pointer.TheVariants as pointers
 use Rattle.cp_tree.specs.Node.{Node, null, cap, struct, list, ptrs, structs, depth, cost}
-use Rattle.cp_words.specs.Aims.{segment, Holds}
+use Rattle.cp_words.specs.Targets.{segment, Holds}
 use Rattle.cp_reading.specs.Faults.{FaultBy, RootIsNoStruct, IsFaultOf}
 use Rattle.cp_reading.specs.Pruned.{Prunes, Pruned, root}
 use Rattle.cp_reading.specs.Reading.{◌>>=◌, Read, tag_kind_of, target_here, target_second, target_by_two, or_bad_pad, target_by_one, target_by, area_by, body_by, kids_at, tree_at, rooted, root_by, root_of, top}
@@ -16,9 +16,9 @@ use Rattle.cp_words.specs.declared.kind.Kind.{Kind}
 use Rattle.cp_words.specs.declared.kind.Kind.TheVariants as kinds
 use Rattle.cp_reading.specs.declared.fault.TreeFault.{TreeFault}
 use Rattle.cp_reading.specs.declared.fault.TreeFault.TheVariants as faults
-use Rattle.cp_reading.proofs.Checks.{aimed}
+use Rattle.cp_reading.proofs.Checks.{target_found}
 use Rattle.cp_reading.proofs.Faulted.{Deep, Dear, FaultBy-map, faulted}
-use Rattle.cp_reading.proofs.Misaimed.{bind_err, err_is, aim_fails}
+use Rattle.cp_reading.proofs.WrongTargets.{bind_err, err_is, target_fails}
 use Rattle.cp_reading.proofs.Sound.{ok_is, passed}
 use Rattle.cp_reading.proofs.Views.{some_is}
 
@@ -131,29 +131,29 @@ module _ (S : List (List ℕ)) (limits : Bounds) where
   root_faulted e h = empty (length (segment S 0) == 0) refl h
     where
       of_kind : 0 < length (segment S 0) → (r : Pointer) → pointer_of (slice_index (segment S 0) 0) ≡ Some r → (target : Target) → target_by top S r ≡ Ok target → (k : Kind) → target.kind ≡ k → rooted k (read_of target) ≡ Err e → IsFaultOf S limits e
-      of_kind within r says target aims (kinds.List size n) is f = subst (IsFaultOf S limits) (err_is f) ((refl, refl), root_list r target size n (within, says) aims is)
-      of_kind within r says target aims (kinds.Struct d n) is f = go (bind_err (read_of target) _ e f)
+      of_kind within r says target has_target (kinds.List size n) is f = subst (IsFaultOf S limits) (err_is f) ((refl, refl), root_list r target size n (within, says) has_target is)
+      of_kind within r says target has_target (kinds.Struct d n) is f = go (bind_err (read_of target) _ e f)
         where
           go : (read_of target ≡ Err e) ⊎ ((x : Node × ℕ) × (read_of target ≡ Ok x) × (◌≡◌ {A = Result Node TreeFault} (Ok x.0) (Err e))) → IsFaultOf S limits e
           go (inr g) = let wrong = g.2 in cc
           go (inl g) =
-              let same : tree_at limits.nesting S 0 0 limits.traversal ≡ read_of target = rw says (aimed top (kids_at limits.nesting S) S limits.traversal r target aims) in
+              let same : tree_at limits.nesting S 0 0 limits.traversal ≡ read_of target = rw says (target_found top (kids_at limits.nesting S) S limits.traversal r target has_target) in
               is_fault e (FaultBy-map S e deep_root dear_root (faulted limits.nesting S 0 0 limits.traversal e root within (same ∙ g)))
 
-      aims : 0 < length (segment S 0) → (r : Pointer) → pointer_of (slice_index (segment S 0) 0) ≡ Some r → (((x : ℕ) → r ≡ pointers.Cap x → ⊥) × (r ≡ pointers.Null → ⊥)) → (target_by top S r >>= λ target. rooted target.kind (read_of target)) ≡ Err e → IsFaultOf S limits e
-      aims within r says kind f = go (bind_err (target_by top S r) _ e f)
+      has_target : 0 < length (segment S 0) → (r : Pointer) → pointer_of (slice_index (segment S 0) 0) ≡ Some r → (((x : ℕ) → r ≡ pointers.Cap x → ⊥) × (r ≡ pointers.Null → ⊥)) → (target_by top S r >>= λ target. rooted target.kind (read_of target)) ≡ Err e → IsFaultOf S limits e
+      has_target within r says kind f = go (bind_err (target_by top S r) _ e f)
         where
           go : (target_by top S r ≡ Err e) ⊎ ((x : Target) × (target_by top S r ≡ Ok x) × (rooted x.kind (read_of x) ≡ Err e)) → IsFaultOf S limits e
-          go (inl g) = is_fault e (aim_fails S 0 0 _ _ root r e (within, says) g kind)
+          go (inl g) = is_fault e (target_fails S 0 0 _ _ root r e (within, says) g kind)
           go (inr g) = of_kind within r says g.0 g.1 g.0.kind refl g.2
 
       kinds : 0 < length (segment S 0) → (o : Option Pointer) → pointer_of (slice_index (segment S 0) 0) ≡ o → root_by (kids_at limits.nesting S) S limits.traversal o ≡ Err e → IsFaultOf S limits e
       kinds within None is f = subst (IsFaultOf S limits) (err_is f) (root, is)
       kinds within (Some pointers.Null) is f = subst (IsFaultOf S limits) (err_is f) ((refl, refl), inr (within, is))
       kinds within (Some (pointers.Cap i)) is f = subst (IsFaultOf S limits) (err_is f) ((refl, refl), inl (i, (within, is)))
-      kinds within (Some (pointers.Struct o d n)) is f = aims within (pointers.Struct o d n) is (λ x h. cc, λ h. cc) f
-      kinds within (Some (pointers.List o size n)) is f = aims within (pointers.List o size n) is (λ x h. cc, λ h. cc) f
-      kinds within (Some (pointers.Far double place other)) is f = aims within (pointers.Far double place other) is (λ x h. cc, λ h. cc) f
+      kinds within (Some (pointers.Struct o d n)) is f = has_target within (pointers.Struct o d n) is (λ x h. cc, λ h. cc) f
+      kinds within (Some (pointers.List o size n)) is f = has_target within (pointers.List o size n) is (λ x h. cc, λ h. cc) f
+      kinds within (Some (pointers.Far double place other)) is f = has_target within (pointers.Far double place other) is (λ x h. cc, λ h. cc) f
 
       empty : (b : Bool) → (length (segment S 0) == 0) ≡ b → cond b (Err (faults.NoRoot top)) (root_by (kids_at limits.nesting S) S limits.traversal (pointer_of (slice_index (segment S 0) 0))) ≡ Err e → IsFaultOf S limits e
       empty true t f = subst (IsFaultOf S limits) (err_is f) ((refl, refl), inl (grind (arith, nat_tests)))

@@ -6,7 +6,7 @@ use Rattle.cp_words.specs.Word.{pointer_of}
 use Rattle.cp_words.specs.declared.pointer.Pointer.{Pointer}
 use Rattle.cp_words.specs.declared.pointer.Pointer.TheVariants as pointers
 use Rattle.cp_tree.specs.Node.{Node, null, cap, struct, list, ptrs, structs, count, IsStruct}
-use Rattle.cp_words.specs.Aims.{segment, Aims}
+use Rattle.cp_words.specs.Targets.{segment, HasTarget}
 use Rattle.cp_reading.specs.Denotes.{Root}
 use Rattle.cp_reading.specs.Near.{Near}
 use Rattle.cp_reading.specs.Reading.{◌>>=◌, Read, Kids, target_by, area_by, area_by_kind, placed, in_segment, charged, filled, body_by, tree_at, kids_at, rooted, root_by, root_of, top}
@@ -17,12 +17,12 @@ use Rattle.cp_words.specs.declared.kind.Kind.TheVariants as kinds
 use Rattle.cp_reading.specs.declared.area.Area.{Area}
 use Rattle.cp_reading.specs.declared.area.Form.TheVariants as forms
 use Rattle.cp_reading.specs.declared.fault.TreeFault.{TreeFault}
-use Rattle.cp_reading.proofs.Checks.{aimed}
-use Rattle.cp_reading.proofs.Complete.{Found, aims_found, complete}
+use Rattle.cp_reading.proofs.Checks.{target_found}
+use Rattle.cp_reading.proofs.Complete.{Found, target_is_found, complete}
 use Rattle.cp_reading.proofs.Sound.{sound, ok_is, bind_ok, not_stopped}
 
 -- a word that aims at a body stands in its segment
-stands_within : (S : List (List ℕ)) (s' start : ℕ) (k : Kind) → Aims S 0 0 k s' start → 0 < length (segment S 0)
+stands_within : (S : List (List ℕ)) (s' start : ℕ) (k : Kind) → HasTarget S 0 0 k s' start → 0 < length (segment S 0)
 stands_within S s' start k (inl a) = a.0.stands.0
 stands_within S s' start k (inr (inl a)) = a.stands.0
 stands_within S s' start k (inr (inr a)) = a.stands.0
@@ -62,19 +62,19 @@ module _ (n b : ℕ) (S : List (List ℕ)) where
           took within x.0 (kind_is target.segment d c target.start x.0 read) (same ∙ x.1) (ok_is x.2)
       of_kind within target (kinds.List size c) is same e = cc
 
-      aims : 0 < length (segment S 0) → (r : Pointer) → pointer_of (slice_index (segment S 0) 0) ≡ Some r → (target_by top S r >>= λ target. rooted target.kind (area_by top S target >>= body_by top (kids_at n S) S b)) ≡ Ok t → Root S limits t
-      aims within r says e =
+      has_target : 0 < length (segment S 0) → (r : Pointer) → pointer_of (slice_index (segment S 0) 0) ≡ Some r → (target_by top S r >>= λ target. rooted target.kind (area_by top S target >>= body_by top (kids_at n S) S b)) ≡ Ok t → Root S limits t
+      has_target within r says e =
           let k = bind_ok (target_by top S r) _ t e in
-          let same : tree_at n S 0 0 b ≡ (area_by top S k.0 >>= body_by top (kids_at n S) S b) = rw says (aimed top (kids_at n S) S b r k.0 k.1) in
+          let same : tree_at n S 0 0 b ≡ (area_by top S k.0 >>= body_by top (kids_at n S) S b) = rw says (target_found top (kids_at n S) S b r k.0 k.1) in
           of_kind within k.0 k.0.kind refl same k.2
 
       kinds : 0 < length (segment S 0) → (o : Option Pointer) → pointer_of (slice_index (segment S 0) 0) ≡ o → root_by (kids_at n S) S b o ≡ Ok t → Root S limits t
       kinds within None is e = cc
       kinds within (Some pointers.Null) is e = cc
       kinds within (Some (pointers.Cap i)) is e = cc
-      kinds within (Some (pointers.Struct offset d k)) is e = aims within (pointers.Struct offset d k) is e
-      kinds within (Some (pointers.List offset size k)) is e = aims within (pointers.List offset size k) is e
-      kinds within (Some (pointers.Far double place other)) is e = aims within (pointers.Far double place other) is e
+      kinds within (Some (pointers.Struct offset d k)) is e = has_target within (pointers.Struct offset d k) is e
+      kinds within (Some (pointers.List offset size k)) is e = has_target within (pointers.List offset size k) is e
+      kinds within (Some (pointers.Far double place other)) is e = has_target within (pointers.Far double place other) is e
 
   -- the root word's pointer leads to its body
   root_led : (r : Pointer) (target : Target) → target_by top S r ≡ Ok target → root_by (kids_at n S) S b (Some r) ≡ rooted target.kind (area_by top S target >>= body_by top (kids_at n S) S b)
@@ -88,23 +88,23 @@ module _ (n b : ℕ) (S : List (List ℕ)) where
   pub root_steps : (r : Pointer) (target : Target) (d c : ℕ) (a : Area) → 0 < length (segment S 0) → pointer_of (slice_index (segment S 0) 0) ≡ Some r → target_by top S r ≡ Ok target
       → target.kind ≡ kinds.Struct d c → area_by top S target ≡ Ok a → root_of n b S ≡ (body_by top (kids_at n S) S b a >>= λ x. Ok x.0)
   unfolding root_of
-  root_steps r target d c a within says aims kind area =
+  root_steps r target d c a within says has_target kind area =
       let some : (length (segment S 0) == 0) ≡ false = grind (arith, nat_tests) in
-      rw (some, says) (root_led r target aims
+      rw (some, says) (root_led r target has_target
       ∙ ap (λ (k : Kind). rooted k (area_by top S target >>= body_by top (kids_at n S) S b)) kind
       ∙ ap (λ (q : Result Area TreeFault). q >>= body_by top (kids_at n S) S b >>= λ x. Ok x.0) area)
 
   module _ (w : ℕ) (target : Target) (d c : ℕ) (within : 0 < length (segment S 0)) (stands : slice_index (segment S 0) 0 ≡ w) (near : Near top w target) (kind : target.kind ≡ kinds.Struct d c) where
     -- the body of a root word that is a struct word
     pub root_near : (a : Area) → area_by top S target ≡ Ok a → root_of n b S ≡ (body_by top (kids_at n S) S b a >>= λ x. Ok x.0)
-    root_near a area = root_steps near.pointer target d c a within (ap pointer_of stands ∙ near.says) (near.aims S) kind area
+    root_near a area = root_steps near.pointer target d c a within (ap pointer_of stands ∙ near.says) (near.has_target S) kind area
 
     pub root_near_fails : (e : TreeFault) → area_by top S target ≡ Err e → root_of n b S ≡ Err e
     unfolding root_of
     root_near_fails e area =
         let some : (length (segment S 0) == 0) ≡ false = grind (arith, nat_tests) in
         let says : pointer_of (slice_index (segment S 0) 0) ≡ Some near.pointer = ap pointer_of stands ∙ near.says in
-        rw (some, says) (root_led near.pointer target (near.aims S)
+        rw (some, says) (root_led near.pointer target (near.has_target S)
         ∙ ap (λ (k : Kind). rooted k (area_by top S target >>= body_by top (kids_at n S) S b)) kind
         ∙ ap (λ (q : Result Area TreeFault). q >>= body_by top (kids_at n S) S b >>= λ x. Ok x.0) area)
 
@@ -118,12 +118,12 @@ module _ (n b : ℕ) (S : List (List ℕ)) where
   root_given limits (structs d c bs) deep dear r = absurd r.is_struct
   root_given limits (struct ws ts) deep dear r =
       let d = r.denoted in
-      let a = aims_found S 0 0 (kinds.Struct (length ws) (count ts)) d.0 d.1 d.2.aims in
+      let a = target_is_found S 0 0 (kinds.Struct (length ws) (count ts)) d.0 d.1 d.2.has_target in
       let target : Target = record { kind = kinds.Struct (length ws) (count ts); segment = d.0; start = Some d.1 } in
-      let within = stands_within S d.0 d.1 (kinds.Struct (length ws) (count ts)) d.2.aims in
+      let within = stands_within S d.0 d.1 (kinds.Struct (length ws) (count ts)) d.2.has_target in
       let some : (length (segment S 0) == 0) ≡ false = grind (arith, nat_tests) in
       let read = complete (struct ws ts) n S 0 0 b d (rw (← deep) r.not_deeper) (rw (← dear) r.not_dearer) in
-      let same : tree_at n S 0 0 b ≡ (area_by top S target >>= body_by top (kids_at n S) S b) = rw a.1 (aimed top (kids_at n S) S b a.0 target a.2) in
+      let same : tree_at n S 0 0 b ≡ (area_by top S target >>= body_by top (kids_at n S) S b) = rw a.1 (target_found top (kids_at n S) S b a.0 target a.2) in
       rw (some, a.1) (root_led a.0 target a.2 ∙ ap (λ q. q >>= λ x. Ok x.0) (sym same ∙ read))
 
 -- a fault of a check is one of reading

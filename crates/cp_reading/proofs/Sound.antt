@@ -10,7 +10,7 @@ use Rattle.cp_words.specs.declared.pointer.Tag.{Tag}
 use Rattle.cp_words.specs.declared.pointer.ElementSize.{ElementSize}
 use Rattle.cp_words.specs.declared.pointer.ElementSize.TheVariants as sizes
 use Rattle.cp_tree.specs.Node.{Node, Nodes, Bodies, element_count, count, number_of, depth, greatest_depth, deepest_body, cost, total_cost, body_cost}
-use Rattle.cp_words.specs.Aims.{segment, Holds, IsPadTag, AimsHere, Aims, words_at}
+use Rattle.cp_words.specs.Targets.{segment, Holds, IsLandingPadTag, HasTargetHere, HasTarget, words_at}
 use Rattle.cp_reading.specs.Locates.{Locates}
 use Rattle.cp_tree.specs.Elements.{elements_of}
 use Rattle.cp_reading.specs.Denotes.{Denotes, EachDenotes, EachBody}
@@ -65,7 +65,7 @@ placed_is at None q e = cc
 placed_is at (Some p) q e = let is : p ≡ q = cc in rw is refl
 
 -- what the second word of a pad says
-pub tag_sound : (r : Option Pointer) (k : Kind) → tag_kind_of r ≡ Some k → (q : Pointer) × (r ≡ Some q) × IsPadTag q k
+pub tag_sound : (r : Option Pointer) (k : Kind) → tag_kind_of r ≡ Some k → (q : Pointer) × (r ≡ Some q) × IsLandingPadTag q k
 tag_sound None k e = cc
 tag_sound (Some pointers.Null) k e = (pointers.Null, refl, cc)
 tag_sound (Some (pointers.Cap i)) k e = cc
@@ -78,16 +78,16 @@ tag_sound (Some (pointers.List (pos (suc m)) size n)) k e = cc
 tag_sound (Some (pointers.List (negsuc m) size n)) k e = cc
 
 module _ (S : List (List ℕ)) where
-  here_sound : (s p : ℕ) (r : Pointer) (target : Target) → Holds S s p r → target_here s p r ≡ Some target → (start : ℕ) → target.start ≡ Some start → AimsHere S s p target.kind start × (target.segment ≡ s)
+  here_sound : (s p : ℕ) (r : Pointer) (target : Target) → Holds S s p r → target_here s p r ≡ Some target → (start : ℕ) → target.start ≡ Some start → HasTargetHere S s p target.kind start × (target.segment ≡ s)
   here_sound s p pointers.Null target h e = cc
   here_sound s p (pointers.Cap i) target h e = cc
   here_sound s p (pointers.Far double place other) target h e = cc
   here_sound s p (pointers.Struct offset d n) target h e =
-      let P : Target → Type 0 = λ a. (start : ℕ) → a.start ≡ Some start → AimsHere S s p a.kind start × (a.segment ≡ s) in
+      let P : Target → Type 0 = λ a. (start : ℕ) → a.start ≡ Some start → HasTargetHere S s p a.kind start × (a.segment ≡ s) in
       let is : record { kind = kinds.Struct d n; segment = s; start = start_of p offset } ≡ target = cc in
       subst P is (λ start b. (record { pointer = pointers.Struct offset d n; offset = offset; stands = h; says = (refl, refl); begins = start_begins p offset start b }, refl))
   here_sound s p (pointers.List offset size n) target h e =
-      let P : Target → Type 0 = λ a. (start : ℕ) → a.start ≡ Some start → AimsHere S s p a.kind start × (a.segment ≡ s) in
+      let P : Target → Type 0 = λ a. (start : ℕ) → a.start ≡ Some start → HasTargetHere S s p a.kind start × (a.segment ≡ s) in
       let is : record { kind = kinds.List size n; segment = s; start = start_of p offset } ≡ target = cc in
       subst P is (λ start b. (record { pointer = pointers.List offset size n; offset = offset; stands = h; says = (refl, refl); begins = start_begins p offset start b }, refl))
 
@@ -96,18 +96,18 @@ module _ (S : List (List ℕ)) where
     at = record { segment = s; word = p }
 
     abbrev Right : Target → Type 0
-    Right a = (start : ℕ) → a.start ≡ Some start → Aims S s p a.kind a.segment start
+    Right a = (start : ℕ) → a.start ≡ Some start → HasTarget S s p a.kind a.segment start
 
     module _ (place other : ℕ) (stands : Holds S s p (pointers.Far true place other)) (room : place + 1 < length (segment S other)) where
       abbrev word_at : ℕ → Option Pointer
       word_at q = pointer_of (slice_index (segment S other) q)
 
-      by_two : (start s' : ℕ) (r : Pointer) (k : Kind) → word_at place ≡ Some (pointers.Far false start s') → word_at (place + 1) ≡ Some r → IsPadTag r k
+      by_two : (start s' : ℕ) (r : Pointer) (k : Kind) → word_at place ≡ Some (pointers.Far false start s') → word_at (place + 1) ≡ Some r → IsLandingPadTag r k
           → nat_lt s' (length S) ≡ true → Right (record { kind = k; segment = s'; start = Some start })
       by_two start s' r k first second says exists begin b =
           let is : start ≡ begin = cc in
           let within : place < length (segment S other) = omega (arith, room) in
-          subst (λ x. Aims S s p k s' x) is (inr (inr (record {
+          subst (λ x. HasTarget S s p k s' x) is (inr (inr (record {
             place = place;
             other = other;
             pointer = r;
@@ -145,21 +145,21 @@ module _ (S : List (List ℕ)) where
         go (Some a) g e =
             subst Right (ok_is e) (λ start b.
             let h = here_sound s' place r a (within, f) g start b in
-            subst (λ x. Aims S s p a.kind x start) (sym h.1) (inr (inl (record { place = place; stands = stands; pad = h.0 }))))
+            subst (λ x. HasTarget S s p a.kind x start) (sym h.1) (inr (inl (record { place = place; stands = stands; landing_pad = h.0 }))))
 
-    pub aim_sound : (r : Pointer) (target : Target) → Holds S s p r → target_by at S r ≡ Ok target → Right target
-    aim_sound (pointers.Far false place s') target h e =
+    pub target_sound : (r : Pointer) (target : Target) → Holds S s p r → target_by at S r ≡ Ok target → Right target
+    target_sound (pointers.Far false place s') target h e =
         let k = passed (nat_lt s' (length S)) _ _ target e in
         let j = passed (nat_lt place (length (segment S s'))) _ _ target k.1 in
         one_sound place s' target h (grind (arith, nat_tests, j.0)) _ refl j.1
-    aim_sound (pointers.Far true place other) target h e =
+    target_sound (pointers.Far true place other) target h e =
         let k = passed (nat_lt other (length S)) _ _ target e in
         let j = passed (nat_lt (place + 1) (length (segment S other))) _ _ target k.1 in
         two_sound place other h (grind (arith, nat_tests, j.0)) _ _ target refl refl j.1
-    aim_sound pointers.Null target h e = cc
-    aim_sound (pointers.Cap i) target h e = cc
-    aim_sound (pointers.Struct offset d n) target h e = λ start b. let k = here_sound s p (pointers.Struct offset d n) target h (ap (λ x. Some x) (ok_is e)) start b in inl (k.0, k.1)
-    aim_sound (pointers.List offset size n) target h e = λ start b. let k = here_sound s p (pointers.List offset size n) target h (ap (λ x. Some x) (ok_is e)) start b in inl (k.0, k.1)
+    target_sound pointers.Null target h e = cc
+    target_sound (pointers.Cap i) target h e = cc
+    target_sound (pointers.Struct offset d n) target h e = λ start b. let k = here_sound s p (pointers.Struct offset d n) target h (ap (λ x. Some x) (ok_is e)) start b in inl (k.0, k.1)
+    target_sound (pointers.List offset size n) target h e = λ start b. let k = here_sound s p (pointers.List offset size n) target h (ap (λ x. Some x) (ok_is e)) start b in inl (k.0, k.1)
 
     -- the body that was found is located there
     pub record Found (a : Area) : Type 0 where
@@ -168,7 +168,7 @@ module _ (S : List (List ℕ)) where
       pub whole : IsWhole a.form
 
     AimsAt : ℕ → Option ℕ → Kind → Type 0
-    AimsAt s' o k = (start : ℕ) → o ≡ Some start → Aims S s p k s' start
+    AimsAt s' o k = (start : ℕ) → o ≡ Some start → HasTarget S s p k s' start
 
     -- a place in the segment
     placed_in : (place : Place) (s' size : ℕ) (o : Option ℕ) (q : ℕ) → placed place (in_segment (segment S s') size o) ≡ Ok q → (o ≡ Some q) × (q + size ≤ length (segment S s'))
@@ -177,29 +177,29 @@ module _ (S : List (List ℕ)) where
     tagged_sound : (place : Place) (s' size q : ℕ) (o : Option ℕ) (a : Area) → AimsAt s' o (kinds.List sizes.Composite size) → (o ≡ Some q) × (q + (size + 1) ≤ length (segment S s'))
         → (t : Option Tag) → tag_of (slice_index (segment S s') q) ≡ t → tagged place s' size q t ≡ Ok a → Found a
     unfolding AimsAt
-    tagged_sound place s' size q o a aims b None is e = cc
-    tagged_sound place s' size q o a aims b (Some tag) is e =
+    tagged_sound place s' size q o a has_target b None is e = cc
+    tagged_sound place s' size q o a has_target b (Some tag) is e =
         let fits = not_stopped (nat_lt size (tag.count * (tag.words + tag.ptrs))) _ _ a e in
         let room : tag.count * (tag.words + tag.ptrs) ≤ size = grind (arith, nat_tests, fits.0) in
         subst Found (ok_is fits.1) (record {
-          located = (size, q, record { aims = aims q b.0; inside = b.1 }, is, room, refl);
+          located = (size, q, record { has_target = has_target q b.0; inside = b.1 }, is, room, refl);
           inside = omega (arith, b.1);
           whole = tt;
         })
 
     kind_sound : (place : Place) (s' : ℕ) (o : Option ℕ) (k : Kind) (a : Area) → AimsAt s' o k → area_by_kind place (segment S s') s' o k ≡ Ok a → Found a
     unfolding AimsAt
-    kind_sound place s' o (kinds.Struct d n) a aims e =
+    kind_sound place s' o (kinds.Struct d n) a has_target e =
         let k = bind_ok (placed place (in_segment (segment S s') (d + n) o)) _ a e in
         let b = placed_in place s' (d + n) o k.0 k.1 in
-        subst Found (ok_is k.2) (record { located = record { aims = aims k.0 b.0; inside = b.1 }; inside = b.1; whole = tt })
-    kind_sound place s' o (kinds.List sizes.Composite n) a aims e =
+        subst Found (ok_is k.2) (record { located = record { has_target = has_target k.0 b.0; inside = b.1 }; inside = b.1; whole = tt })
+    kind_sound place s' o (kinds.List sizes.Composite n) a has_target e =
         let k = bind_ok (placed place (in_segment (segment S s') (n + 1) o)) _ a e in
-        tagged_sound place s' n k.0 o a aims (placed_in place s' (n + 1) o k.0 k.1) _ refl k.2
-    kind_sound place s' o (kinds.List size n) a aims e =
+        tagged_sound place s' n k.0 o a has_target (placed_in place s' (n + 1) o k.0 k.1) _ refl k.2
+    kind_sound place s' o (kinds.List size n) a has_target e =
         let k = bind_ok (placed place (in_segment (segment S s') (words_for size n) o)) _ a e in
         let b = placed_in place s' (words_for size n) o k.0 k.1 in
-        subst Found (ok_is k.2) (record { located = record { aims = aims k.0 b.0; inside = b.1 }; inside = b.1; whole = tt })
+        subst Found (ok_is k.2) (record { located = record { has_target = has_target k.0 b.0; inside = b.1 }; inside = b.1; whole = tt })
 
     pub area_sound : (target : Target) (a : Area) → Right target → area_by at S target ≡ Ok a → Found a
     unfolding AimsAt
@@ -372,19 +372,19 @@ module _ (S : List (List ℕ)) (s p n budget : ℕ) (kids : Option Kids) (reads 
   word_sound : (x : Node × ℕ) → word_by kids S s p budget ≡ Ok x → Reads S s n p budget x
   word_sound x e = go (pointer_of (slice_index (segment S s) p)) refl e
     where
-      aimed_at : (r : Pointer) → pointer_of (slice_index (segment S s) p) ≡ Some r → (target_by here S r >>= area_by here S >>= body_by here kids S budget) ≡ Ok x → Reads S s n p budget x
-      aimed_at r says e =
+      target_at : (r : Pointer) → pointer_of (slice_index (segment S s) p) ≡ Some r → (target_by here S r >>= area_by here S >>= body_by here kids S budget) ≡ Ok x → Reads S s n p budget x
+      target_at r says e =
           let j = bind_ok (target_by here S r >>= area_by here S) (body_by here kids S budget) x e in
           let k = bind_ok (target_by here S r) (area_by here S) j.0 j.1 in
-          body_sound j.0 x (area_sound S s p k.0 j.0 (aim_sound S s p r k.0 (within, says) k.1) k.2) j.2
+          body_sound j.0 x (area_sound S s p k.0 j.0 (target_sound S s p r k.0 (within, says) k.1) k.2) j.2
 
       go : (o : Option Pointer) → pointer_of (slice_index (segment S s) p) ≡ o → pointer_by here kids S budget o ≡ Ok x → Reads S s n p budget x
       go None says e = cc
       go (Some pointers.Null) says e = subst (Reads S s n p budget) (ok_is e) (record { denoted = (within, says); nests = omega arith; costs = omega arith })
       go (Some (pointers.Cap i)) says e = subst (Reads S s n p budget) (ok_is e) (record { denoted = (within, says); nests = omega arith; costs = omega arith })
-      go (Some (pointers.Struct offset d k)) says e = aimed_at (pointers.Struct offset d k) says e
-      go (Some (pointers.List offset size k)) says e = aimed_at (pointers.List offset size k) says e
-      go (Some (pointers.Far double place other)) says e = aimed_at (pointers.Far double place other) says e
+      go (Some (pointers.Struct offset d k)) says e = target_at (pointers.Struct offset d k) says e
+      go (Some (pointers.List offset size k)) says e = target_at (pointers.List offset size k) says e
+      go (Some (pointers.Far double place other)) says e = target_at (pointers.Far double place other) says e
 
 -- what reading gives is denoted, nests no deeper than n, and was paid for
 pub sound : (n : ℕ) (S : List (List ℕ)) (s p budget : ℕ) (x : Node × ℕ) → p < length (segment S s) → tree_at n S s p budget ≡ Ok x → Reads S s n p budget x

@@ -5,7 +5,7 @@ use Rattle.cp_words.specs.Word.{words_for}
 use Rattle.cp_words.specs.declared.pointer.ElementSize.TheVariants as sizes
 use Rattle.cp_words.specs.declared.pointer.Pointer.{Pointer}
 use Rattle.cp_tree.specs.Node.{voids, Node, null, cap, struct, list, ptrs, structs, Nodes, no_nodes, node, Bodies, no_bodies, body, count, number_of, greatest_depth, deepest_body, cost, total_cost, body_cost}
-use Rattle.cp_words.specs.Aims.{segment, words_at}
+use Rattle.cp_words.specs.Targets.{segment, words_at}
 use Rattle.cp_reading.specs.Denotes.{EachDenotes, EachBody}
 use Rattle.cp_reading.specs.Viewed.{form_shape_of, viewed_node, IsViewed}
 use Rattle.cp_reading.specs.Reading.{◌>>=◌, pointer_read, area_here, Read, Kids, charged, filled, bodies_by, price, body_words, lent_words, IsWhole, IsWithin, IsRootArea, top, body_by, kids_at, rows_at, most_nesting, most_traversal, node_in, tree_read, area_read}

@@ -6,7 +6,7 @@ use Rattle.cp_words.specs.declared.pointer.ElementSize.TheVariants as sizes
 use Rattle.cp_words.specs.declared.pointer.Pointer.TheVariants as pointers
 use Rattle.cp_reading.specs.declared.area.Form.TheVariants as forms
 use Rattle.cp_tree.specs.Node.{element_size, element_count, Node, null, cap, struct, list, ptrs, structs, Nodes, no_nodes, node, Bodies, no_bodies, body, count, number_of, depth, cost, IsStruct}
-use Rattle.cp_words.specs.Aims.{words_at, Holds}
+use Rattle.cp_words.specs.Targets.{words_at, Holds}
 use Rattle.cp_tree.specs.Elements.{elements_of}
 use Rattle.cp_reading.specs.Locates.{Locates}
 

@@ -13,7 +13,7 @@ use Rattle.cp_words.specs.declared.place.Place.{Place}
 use Rattle.cp_reading.specs.declared.fault.TreeFault.{TreeFault}
 use Rattle.cp_reading.specs.declared.fault.TreeFault.TheVariants as faults
 use Rattle.cp_tree.specs.Node.{Node, depth, cost}
-use Rattle.cp_words.specs.Aims.{segment, Holds, IsBodyPointer, IsPadTag, Aims}
+use Rattle.cp_words.specs.Targets.{segment, Holds, IsBodyPointer, IsLandingPadTag, HasTarget}
 use Rattle.cp_reading.specs.Pruned.{Pruned, IsReachable}
 
 -- the words that a body of this kind takes, a composite list's tag included
@@ -34,14 +34,14 @@ abbrev pub NamesNoSegment : List (List ℕ) → ℕ → ℕ → Type 0
 NamesNoSegment S s p =
     ((double : Bool) × (place : ℕ) × (other : ℕ) × Holds S s p (pointers.Far double place other) × (length S ≤ other))
     ⊎ ((place : ℕ) × (other : ℕ) × (start : ℕ) × (s' : ℕ) × (r : Pointer) × (k : Kind) × Holds S s p (pointers.Far true place other)
-    × Holds S other place (pointers.Far false start s') × Holds S other (place + 1) r × IsPadTag r k × (length S ≤ s'))
+    × Holds S other place (pointers.Far false start s') × Holds S other (place + 1) r × IsLandingPadTag r k × (length S ≤ s'))
 
 -- G5: the word is a far pointer whose landing pad is inside, and hasn't the form of one
 abbrev pub HasBadPad : List (List ℕ) → ℕ → ℕ → Type 0
 HasBadPad S s p =
     ((place : ℕ) × (other : ℕ) × Holds S s p (pointers.Far false place other) × IsNoBody S other place)
     ⊎ ((place : ℕ) × (other : ℕ) × Holds S s p (pointers.Far true place other) × (place + 1 < length (segment S other))
-    × ((start s' : ℕ) (r : Pointer) (k : Kind) → pointer_of (slice_index (segment S other) place) ≡ Some (pointers.Far false start s') → pointer_of (slice_index (segment S other) (place + 1)) ≡ Some r → IsPadTag r k → ⊥))
+    × ((start s' : ℕ) (r : Pointer) (k : Kind) → pointer_of (slice_index (segment S other) place) ≡ Some (pointers.Far false start s') → pointer_of (slice_index (segment S other) (place + 1)) ≡ Some r → IsLandingPadTag r k → ⊥))
 
 -- the word is a struct or list pointer whose body would begin before its segment
 abbrev pub StartsBefore : List (List ℕ) → ℕ → ℕ → Type 0
@@ -54,13 +54,13 @@ IsOutOfBounds S s p =
     ((place : ℕ) × (other : ℕ) × Holds S s p (pointers.Far false place other) × (other < length S) × (length (segment S other) ≤ place))
     ⊎ (((place : ℕ) × (other : ℕ) × Holds S s p (pointers.Far true place other) × (other < length S) × (length (segment S other) ≤ place + 1))
     ⊎ ((StartsBefore S s p ⊎ ((place : ℕ) × (other : ℕ) × Holds S s p (pointers.Far false place other) × StartsBefore S other place))
-    ⊎ (((k : Kind) × (s' : ℕ) × (start : ℕ) × Aims S s p k s' start × (length (segment S s') < start + kind_words k))
-    ⊎ ((size : ℕ) × (s' : ℕ) × (tag : ℕ) × (g : Tag) × Aims S s p (kinds.List sizes.Composite size) s' tag
+    ⊎ (((k : Kind) × (s' : ℕ) × (start : ℕ) × HasTarget S s p k s' start × (length (segment S s') < start + kind_words k))
+    ⊎ ((size : ℕ) × (s' : ℕ) × (tag : ℕ) × (g : Tag) × HasTarget S s p (kinds.List sizes.Composite size) s' tag
     × (tag_of (slice_index (segment S s') tag) ≡ Some g) × (size < g.count * (g.words + g.ptrs))))))
 
 -- G6: the word has a composite list whose tag isn't laid out as a struct pointer
 abbrev pub HasBadTag : List (List ℕ) → ℕ → ℕ → Type 0
-HasBadTag S s p = (size : ℕ) × (s' : ℕ) × (tag : ℕ) × Aims S s p (kinds.List sizes.Composite size) s' tag × (tag_of (slice_index (segment S s') tag) ≡ None)
+HasBadTag S s p = (size : ℕ) × (s' : ℕ) × (tag : ℕ) × HasTarget S s p (kinds.List sizes.Composite size) s' tag × (tag_of (slice_index (segment S s') tag) ≡ None)
 
 -- A fault with a place names a reachable word that has it. One of a limit says that something is too deep, or too dear.
 abbrev pub FaultBy : List (List ℕ) → Type 0 → Type 0 → TreeFault → Type 0

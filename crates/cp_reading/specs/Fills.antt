@@ -5,7 +5,7 @@ use Rattle.cp_words.specs.declared.pointer.ElementSize.TheVariants as sizes
 use Rattle.cp_reading.specs.declared.area.Form.{Form}
 use Rattle.cp_reading.specs.declared.area.Form.TheVariants as forms
 use Rattle.cp_tree.specs.Node.{element_size, element_count, Node, null, cap, struct, list, ptrs, structs, Nodes, count, number_of}
-use Rattle.cp_words.specs.Aims.{words_at}
+use Rattle.cp_words.specs.Targets.{words_at}
 use Rattle.cp_tree.specs.Elements.{elements_of}
 use Rattle.cp_reading.specs.Denotes.{EachDenotes, EachBody}
 

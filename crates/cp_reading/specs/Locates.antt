@@ -1,6 +1,6 @@
 -- The bodies that pointer words have. (Encoding specification: "Structs", "Lists".)
 use Rattle.std.specs.Prelude.{◌≡◌, ℕ, ◌+◌, ◌*◌, ◌≤◌, List, Some, slice_index}
-use Rattle.cp_words.specs.Aims.{segment, HasBody}
+use Rattle.cp_words.specs.Targets.{segment, HasBody}
 use Rattle.cp_words.specs.Word.{tag_of, words_for}
 use Rattle.cp_words.specs.declared.kind.Kind.TheVariants as kinds
 use Rattle.cp_words.specs.declared.pointer.ElementSize.TheVariants as sizes

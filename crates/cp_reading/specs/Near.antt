@@ -13,7 +13,7 @@ use Rattle.cp_reading.specs.declared.fault.TreeFault.{TreeFault}
 pub record Near (at : Place) (word : ℕ) (target : Target) : Type 0 where
   pub pointer : Pointer
   pub says : pointer_of word ≡ Some pointer
-  pub aims : (S : List (List ℕ)) → target_by at S pointer ≡ Ok target
+  pub has_target : (S : List (List ℕ)) → target_by at S pointer ≡ Ok target
 
 -- what the root's body is read as, within limits of nesting and traversal
 abbrev pub root_read : ℕ → ℕ → List (List ℕ) → Area → Result Node TreeFault

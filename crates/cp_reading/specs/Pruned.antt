@@ -4,7 +4,7 @@ use Rattle.cp_words.specs.declared.pointer.ElementSize.TheVariants as sizes
 use Rattle.cp_reading.specs.declared.area.Form.{Form}
 use Rattle.cp_reading.specs.declared.area.Form.TheVariants as forms
 use Rattle.cp_tree.specs.Node.{Node, null, cap, struct, list, ptrs, structs, Nodes, no_nodes, node, Bodies, no_bodies, body, count, number_of}
-use Rattle.cp_words.specs.Aims.{segment, words_at}
+use Rattle.cp_words.specs.Targets.{segment, words_at}
 use Rattle.cp_reading.specs.Locates.{Locates}
 use Rattle.cp_reading.specs.Denotes.{Denotes}
 

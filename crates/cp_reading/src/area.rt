@@ -2,8 +2,8 @@
 
 ghost use Rattle.std.specs.Prelude.{◌≡◌, ◌<◌, ◌≤◌, ◌+◌, ◌*◌, ◌^◌, length, true, Some, is_some, is_ok, IfOk, Ok, slice_index};
 ghost use Rattle.cp_words.specs.Word.{tag_of};
-ghost use Rattle.cp_words.specs.Aims.{segment};
-ghost use Rattle.cp_tree.specs.NodeOf.{words_of};
+ghost use Rattle.cp_words.specs.Targets.{segment};
+ghost use Rattle.cp_words.specs.Segments.{words_of};
 ghost use Rattle.cp_reading.specs.Reading.{in_segment, start_of, placed, tagged, area_by, area_here, price, body_words, lent_words, IsWhole, IsWithin};
 
 use crate::fault::TreeFault;

@@ -2,7 +2,8 @@
 
 ghost use Rattle.std.specs.Prelude.{◌≡◌, ◌≤◌, ◌+◌, map, IfOk, OnOk};
 ghost use Rattle.cp_tree.specs.Node.{struct};
-ghost use Rattle.cp_tree.specs.NodeOf.{node_of, body_of, nodes_of, bodies_of, words_of};
+ghost use Rattle.cp_tree.specs.NodeOf.{node_of, body_of, nodes_of, bodies_of};
+ghost use Rattle.cp_words.specs.Segments.{words_of};
 ghost use Rattle.cp_reading.specs.Viewed.{viewed_node, IsViewed};
 ghost use Rattle.cp_reading.specs.Rows.{bodies_in, struct_at, structs_at, trees_from};
 ghost use Rattle.cp_reading.specs.Visited.{pointers, pointers_of_row, pointers_of_bodies};

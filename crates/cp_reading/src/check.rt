@@ -1,10 +1,10 @@
 //! Going over a message's words once, without taking memory.
 
 ghost use Rattle.std.specs.Prelude.{◌≡◌, ◌<◌, ◌==◌, false, ◌≤◌, ◌+◌, ◌*◌, ◌^◌, List, length, Some, Ok, Err, IfOk, IfErr, OnOk, OnErr, slice_index};
-ghost use Rattle.cp_words.specs.Aims.{segment};
+ghost use Rattle.cp_words.specs.Targets.{segment};
 ghost use Rattle.cp_reading.specs.Near.{root_read};
 ghost use Rattle.cp_tree.specs.Node.{Node};
-ghost use Rattle.cp_tree.specs.NodeOf.{words_of};
+ghost use Rattle.cp_words.specs.Segments.{words_of};
 ghost use Rattle.cp_reading.specs.Reading.{body_by, filled, price, bodies_by, kids_at, tree_at, rows_at, root_of, body_words, budget_after, IsRootArea, IsWithin};
 ghost use Rattle.cp_reading.specs.Visited.{passed, answered, pointers, pointers_of_row, pointers_of_bodies};
 

@@ -1,11 +1,12 @@
 //! Whether a word denotes a given tree, part by part: slow, for comparing with the reader.
 
 ghost use Rattle.std.specs.Prelude.{◌≡◌, ◌<◌, ◌≤◌, ◌+◌, ◌*◌, ◌^◌, ℕ, length, map, Some, IfOk, IfSome, Decides};
-ghost use Rattle.cp_words.specs.Aims.{segment};
+ghost use Rattle.cp_words.specs.Targets.{segment};
 ghost use Rattle.cp_reading.specs.Locates.{Locates};
 ghost use Rattle.cp_reading.specs.Denotes.{Denotes, EachDenotes, EachBody};
 ghost use Rattle.cp_reading.specs.Fills.{form_of, Fills, IsBodyAt};
-ghost use Rattle.cp_tree.specs.NodeOf.{node_of, body_of, nodes_of, bodies_of, words_of};
+ghost use Rattle.cp_tree.specs.NodeOf.{node_of, body_of, nodes_of, bodies_of};
+ghost use Rattle.cp_words.specs.Segments.{words_of};
 ghost use Rattle.cp_reading.specs.Reading.{body_words, IsWhole, IsWithin};
 ghost use Rattle.cp_reading.specs.declared.area.Form.{Form};
 

@@ -39,23 +39,6 @@ pub(crate) fn list_of(
     }
 }
 
-/// Element `index`, of this many bits.
-fn element_of(words: &[u64], width: usize, index: u32) -> u64
-    requires some { 0 < width }
-    requires fits { width ≤ 64 }
-    requires inside { index * width / 64 < length words.now }
-    ensures value { result ≡ element words.now width index }
-    ensures narrow { result < 2 ^ width }
-{
-    let bit = index as usize * width;
-    let shifted = words[bit / 64] >> (bit % 64);
-    if width == 64 {
-        shifted
-    } else {
-        shifted % (1 << width)
-    }
-}
-
 /// The first bits, this many.
 pub(crate) fn bits_of(alloc: Global, words: &[u64], count: u32) -> Result<Vec<bool>, AllocError>
     requires { words_for sizes.Bit count ≤ length words.now }
@@ -66,25 +49,6 @@ pub(crate) fn bits_of(alloc: Global, words: &[u64], count: u32) -> Result<Vec<bo
         items.push(element_of(words, 1, i) == 1)?;
     }
     Ok(items)
-}
-
-/// The numbers of two bytes that a word holds.
-fn halves_in(word: u64) -> [u16; 4]
-    ensures { result ≡ numbers (word ∷ []) 16 4 }
-{
-    [
-        (word % 0x1_0000) as u16,
-        (word / 0x1_0000 % 0x1_0000) as u16,
-        (word / 0x1_0000_0000 % 0x1_0000) as u16,
-        (word / 0x1_0000_0000_0000) as u16,
-    ]
-}
-
-/// The numbers of four bytes that a word holds.
-fn quads_in(word: u64) -> [u32; 2]
-    ensures { result ≡ numbers (word ∷ []) 32 2 }
-{
-    [(word % 0x1_0000_0000) as u32, (word / 0x1_0000_0000) as u32]
 }
 
 /// The first bytes, this many.
@@ -145,4 +109,40 @@ pub(crate) fn words_of(alloc: Global, words: &[u64], count: u32) -> Result<Vec<u
     ensures { IfOk result (λ v. v.items ≡ numbers words.now 64 count) }
 {
     Vec::from_slice(alloc, &words[..count as usize])
+}
+
+/// Element `index`, of this many bits.
+fn element_of(words: &[u64], width: usize, index: u32) -> u64
+    requires some { 0 < width }
+    requires fits { width ≤ 64 }
+    requires inside { index * width / 64 < length words.now }
+    ensures value { result ≡ element words.now width index }
+    ensures narrow { result < 2 ^ width }
+{
+    let bit = index as usize * width;
+    let shifted = words[bit / 64] >> (bit % 64);
+    if width == 64 {
+        shifted
+    } else {
+        shifted % (1 << width)
+    }
+}
+
+/// The numbers of two bytes that a word holds.
+fn halves_in(word: u64) -> [u16; 4]
+    ensures { result ≡ numbers (word ∷ []) 16 4 }
+{
+    [
+        (word % 0x1_0000) as u16,
+        (word / 0x1_0000 % 0x1_0000) as u16,
+        (word / 0x1_0000_0000 % 0x1_0000) as u16,
+        (word / 0x1_0000_0000_0000) as u16,
+    ]
+}
+
+/// The numbers of four bytes that a word holds.
+fn quads_in(word: u64) -> [u32; 2]
+    ensures { result ≡ numbers (word ∷ []) 32 2 }
+{
+    [(word % 0x1_0000_0000) as u32, (word / 0x1_0000_0000) as u32]
 }

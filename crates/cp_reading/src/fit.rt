@@ -1,7 +1,7 @@
 //! The words of segments fit 64 bits.
 
 ghost use Rattle.std.specs.Prelude.{All};
-ghost use Rattle.cp_tree.specs.NodeOf.{words_of};
+ghost use Rattle.cp_words.specs.Segments.{words_of};
 ghost use Rattle.cp_tree.specs.Shaped.{AllFit};
 
 /// The words of all segments fit 64 bits. Nothing is looked at: the type of each says so, in the loop alone.

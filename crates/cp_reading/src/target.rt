@@ -2,8 +2,8 @@
 
 ghost use Rattle.std.specs.Prelude.{◌≡◌, ◌<◌, ◌^◌, length, slice_index, IfOk, IfSome};
 ghost use Rattle.cp_words.specs.Word.{pointer_of};
-ghost use Rattle.cp_words.specs.Aims.{segment};
-ghost use Rattle.cp_tree.specs.NodeOf.{words_of};
+ghost use Rattle.cp_words.specs.Targets.{segment};
+ghost use Rattle.cp_words.specs.Segments.{words_of};
 ghost use Rattle.cp_reading.specs.Reading.{start_of, target_here, target_by_two, target_by_one, target_by_far, target_by, tag_kind_of};
 
 use crate::fault::TreeFault;

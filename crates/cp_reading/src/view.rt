@@ -1,12 +1,12 @@
 //! Trees that are read in place.
 
 ghost use Rattle.std.specs.Prelude.{◌≡◌, ◌<◌, ◌≤◌, ◌+◌, ◌*◌, ◌^◌, length, true, is_ok, IfOk, IfErr, Ok};
-ghost use Rattle.cp_words.specs.Aims.{segment, words_at};
+ghost use Rattle.cp_words.specs.Targets.{segment, words_at};
 ghost use Rattle.cp_reading.specs.Denotes.{Root};
 ghost use Rattle.cp_reading.specs.Faults.{IsFaultOf};
 ghost use Rattle.cp_tree.specs.Node.{Node};
 ghost use Rattle.cp_reading.specs.Visited.{pointers};
-ghost use Rattle.cp_tree.specs.NodeOf.{words_of};
+ghost use Rattle.cp_words.specs.Segments.{words_of};
 ghost use Rattle.cp_reading.specs.Reading.{tree_read, pointer_read, node_in};
 ghost use Rattle.cp_reading.specs.Viewed.{form_shape_of, viewed_node, IsViewed};
 ghost use Rattle.cp_tree.specs.Seen.{part_of};
@@ -48,7 +48,7 @@ impl<'a> Model for View<'a> {
 
     ghost coded = { tree_code };
 
-    ghost use Rattle.cp_tree.specs.NodeOf.{words_of};
+    ghost use Rattle.cp_words.specs.Segments.{words_of};
     ghost use Rattle.cp_reading.specs.Viewed.{viewed_node, IsViewed};
     ghost use Rattle.cp_tree.specs.Shaped.{Shaped};
 
@@ -62,7 +62,7 @@ impl<'a> View<'a> {
     ghost use Rattle.cp_reading.specs.Denotes.{Root};
     ghost use Rattle.cp_reading.specs.Faults.{IsFaultOf};
     ghost use Rattle.cp_tree.specs.Node.{Node};
-    ghost use Rattle.cp_tree.specs.NodeOf.{words_of};
+    ghost use Rattle.cp_words.specs.Segments.{words_of};
     ghost use Rattle.cp_reading.specs.Viewed.{viewed_node, IsViewed};
     ghost use Rattle.cp_tree.specs.Seen.{shape_of, part_of, AreWordsOf};
     ghost use Rattle.cp_tree.specs.Shaped.{Shaped};
@@ -179,6 +179,31 @@ pub(crate) fn root_counted<'a, L: Ledger>(
     })
 }
 
+/// This many words of a segment.
+pub(crate) fn words_at(segments: &[Vec<u64>], index: usize, start: usize, count: usize) -> &[u64]
+    requires exists { index < length segments.now }
+    requires within { start + count ≤ length (segment (words_of segments.now) index) }
+    ensures { result.now ≡ words_at (words_of segments.now) index start count }
+{
+    &segment_at(segments, index)[start..start + count]
+}
+
+/// What a pointer word that was checked stands for.
+#[inline(always)]
+pub(crate) fn viewed_at(segments: &[Vec<u64>], at: Place) -> Viewed
+    requires exists { at.segment < length segments.now }
+    requires within { at.word < length (segment (words_of segments.now) at.segment) }
+    requires checked { is_ok (tree_read (words_of segments.now) at.segment at.word) ≡ true }
+    ensures node { viewed_node (words_of segments.now) result ≡ node_in (tree_read (words_of segments.now) at.segment at.word) }
+    ensures part { IsViewed (words_of segments.now) result }
+{
+    match pointer_at(segments, at) {
+        None | Some(Pointer::Null) => Viewed::Null,
+        Some(Pointer::Cap(index)) => Viewed::Cap(index),
+        Some(pointer) => body_at(segments, at, pointer),
+    }
+}
+
 /// The message's tree, by a count that is dropped.
 fn root_uncounted<'a, L: Ledger>(
     segments: &'a Segments,
@@ -195,16 +220,6 @@ fn root_uncounted<'a, L: Ledger>(
     root_counted(segments, limits, &mut Visits::<L>::new(blank))
 }
 
-/// The tree, owned, by a count that is dropped.
-fn tree_uncounted<L: Ledger>(alloc: Global, view: &View, blank: Blank) -> Result<Whole, AllocError>
-    requires name { blank.name ≡ L.name }
-    requires parts { blank.parts ≡ L.parts }
-    requires some { 0 < blank.parts }
-    ensures { IfOk result (λ w. w ≡ view.now) }
-{
-    whole_of(alloc, view, &mut Visits::<L>::new(blank))
-}
-
 /// The kind and sizes of a tree that has a body.
 fn form_shape(form: Form) -> Shape
     ensures { result ≡ form_shape_of form }
@@ -214,15 +229,6 @@ fn form_shape(form: Form) -> Shape
         Form::List { size, count } => Shape::List { size, count },
         Form::Structs { words, ptrs, count } => Shape::Structs { words, ptrs, count },
     }
-}
-
-/// This many words of a segment.
-pub(crate) fn words_at(segments: &[Vec<u64>], index: usize, start: usize, count: usize) -> &[u64]
-    requires exists { index < length segments.now }
-    requires within { start + count ≤ length (segment (words_of segments.now) index) }
-    ensures { result.now ≡ words_at (words_of segments.now) index start count }
-{
-    &segment_at(segments, index)[start..start + count]
 }
 
 /// Part `i` of a body that was checked.
@@ -265,20 +271,14 @@ fn child_in(segments: &[Vec<u64>], area: Area, i: u32) -> Viewed
     }
 }
 
-/// What a pointer word that was checked stands for.
-#[inline(always)]
-pub(crate) fn viewed_at(segments: &[Vec<u64>], at: Place) -> Viewed
-    requires exists { at.segment < length segments.now }
-    requires within { at.word < length (segment (words_of segments.now) at.segment) }
-    requires checked { is_ok (tree_read (words_of segments.now) at.segment at.word) ≡ true }
-    ensures node { viewed_node (words_of segments.now) result ≡ node_in (tree_read (words_of segments.now) at.segment at.word) }
-    ensures part { IsViewed (words_of segments.now) result }
+/// The tree, owned, by a count that is dropped.
+fn tree_uncounted<L: Ledger>(alloc: Global, view: &View, blank: Blank) -> Result<Whole, AllocError>
+    requires name { blank.name ≡ L.name }
+    requires parts { blank.parts ≡ L.parts }
+    requires some { 0 < blank.parts }
+    ensures { IfOk result (λ w. w ≡ view.now) }
 {
-    match pointer_at(segments, at) {
-        None | Some(Pointer::Null) => Viewed::Null,
-        Some(Pointer::Cap(index)) => Viewed::Cap(index),
-        Some(pointer) => body_at(segments, at, pointer),
-    }
+    whole_of(alloc, view, &mut Visits::<L>::new(blank))
 }
 
 /// The body of a struct, list or far pointer that was checked.

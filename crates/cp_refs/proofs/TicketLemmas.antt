@@ -84,8 +84,8 @@ absent-times t [] h = contains-empty nat_cmp t
 absent-times t (k ∷ ts) h = contains-insert_nat (from_list ts) k t ∙ by_test (λ e. absent-times t ts e) (k == t) (sym (times-cons t k ts) ∙ h)
   where
     by_test : (times t ts ≡ 0 → contains (from_list {R = nat_cmp} ts) t ≡ false) → (b : Bool) → (if b then 1 else 0) + times t ts ≡ 0 → (b || contains (from_list {R = nat_cmp} ts) t) ≡ false
-    by_test behind true e = absurd (omega (arith, e))
-    by_test behind false e = behind (omega (arith, e))
+    by_test after true e = absurd (omega (arith, e))
+    by_test after false e = after (omega (arith, e))
 
 -- to leave one out makes it no more
 none_more : (b : Bool) (m n : ℕ) → (if b then 1 else 0) + m ≡ n → n ≤ 1 → m ≤ 1
@@ -144,8 +144,8 @@ seen-pop xs ys r p once =
 -- what is no lower than all the others is no lower than what the set has
 pub lowest-of : (x : ℕ) (items : List (Reverse ℕ)) → AllByRecursion (λ y. is_lt (nat_cmp y.0 x) ≡ false) items → (q : ℕ) → contains (seen items) q ≡ true → x ≤ q
 lowest-of x [] all q h = absurd (true≢false (sym h ∙ contains-empty nat_cmp q))
-lowest-of x (r ∷ items) all q h = by_test (λ behind. lowest-of x items all.1 q behind) (r.0 == q) refl
+lowest-of x (r ∷ items) all q h = by_test (λ after. lowest-of x items all.1 q after) (r.0 == q) refl
   where
     by_test : (contains (seen items) q ≡ true → x ≤ q) → (b : Bool) → (r.0 == q) ≡ b → x ≤ q
-    by_test behind true e = let low = all.0 in grind (arith, nat_tests, e, low)
-    by_test behind false e = behind (rw e at (sym (contains-insert_nat (seen items) r.0 q) ∙ h))
+    by_test after true e = let low = all.0 in grind (arith, nat_tests, e, low)
+    by_test after false e = after (rw e at (sym (contains-insert_nat (seen items) r.0 q) ∙ h))

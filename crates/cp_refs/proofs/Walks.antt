@@ -26,9 +26,9 @@ module _ (values : ValueMaps) where
   led_on c next route h (n, e) = (suc n, rw h e)
 
   -- a step of the capability that another one leads to is a step of that one
-  step_behind : (c next : Cap) (step : Step) → way values c ≡ leads next → IsStepOf next step → StepsFrom values c step
-  step_behind c next (steps.Ends route) h s = (2, rw (h, s values))
-  step_behind c next (steps.Leads further) h s = h ∙ ap leads s
+  step_after : (c next : Cap) (step : Step) → way values c ≡ leads next → IsStepOf next step → StepsFrom values c step
+  step_after c next (steps.Ends route) h s = (2, rw (h, s values))
+  step_after c next (steps.Leads further) h s = h ∙ ap leads s
 
   -- so it is with what a settled question's outcome gives
   pub step_of_settled :
@@ -43,12 +43,12 @@ module _ (values : ValueMaps) where
       → IfOk result (IsStepOf (cap_at outcome path))
       → IfOk result (StepsFrom values (caps.Pipelined q path))
   step_of_settled q path question outcome result h o all =
-      IfOk-weaker result _ _ (λ step s. step_behind (caps.Pipelined q path) (cap_at outcome path) step (settled_way q path question outcome h o) s) all
+      IfOk-weaker result _ _ (λ step s. step_after (caps.Pipelined q path) (cap_at outcome path) step (settled_way q path question outcome h o) s) all
 
   -- a way that ends leads to ways that end, by one step less
-  pub ending_behind : (c next : Cap) (n : ℕ) → way values c ≡ leads next → ends_after n values c ≡ true → (m : ℕ) × (n ≡ suc m) × (ends_after m values next ≡ true)
-  ending_behind c next zero h e = absurd (true≢false (sym (rw h at e)))
-  ending_behind c next (suc m) h e = (m, refl, rw h at e)
+  pub ending_after : (c next : Cap) (n : ℕ) → way values c ≡ leads next → ends_after n values c ≡ true → (m : ℕ) × (n ≡ suc m) × (ends_after m values next ≡ true)
+  ending_after c next zero h e = absurd (true≢false (sym (rw h at e)))
+  ending_after c next (suc m) h e = (m, refl, rw h at e)
 
   -- a way that ends isn't missing
   pub ending_there : (c : Cap) (n : ℕ) → ends_after n values c ≡ true → way values c ≢ missing
@@ -61,14 +61,14 @@ module _ (values : ValueMaps) where
   has_ending (suc n) c h = by_way (λ next r. has_ending n next r) (way values c) refl
     where
       by_way : ((next : Cap) → IsSome (route_within n values next) → Ending values next) → (w : Way) → way values c ≡ w → Ending values c
-      by_way behind (ends route) e = (0, rw e)
-      by_way behind (leads next) e = let (m, f) = behind next (rw e at h) in (suc m, rw e f)
-      by_way behind missing e = absurd (true≢false (sym (rw e at h)))
+      by_way after (ends route) e = (0, rw e)
+      by_way after (leads next) e = let (m, f) = after next (rw e at h) in (suc m, rw e f)
+      by_way after missing e = absurd (true≢false (sym (rw e at h)))
 
   -- from a capability to the one that it leads to fewer are left
   pub fewer_left : (c next : Cap) (m n : ℕ) → way values c ≡ leads next → ends_after n values c ≡ true → ends_after m values next ≡ true → m < n
   fewer_left c next m n h e f =
-      let (k, is, g) = ending_behind c next n h e in
+      let (k, is, g) = ending_after c next n h e in
       omega (arith, is, ends_once m k values next f g)
 
   -- for callers: a promise that came to a capability has a route where that one has

@@ -56,6 +56,16 @@ pub(crate) fn null_capability(alloc: Global) -> Result<Exception, AllocError>
     failed(alloc, "null capability")
 }
 
+/// The capability at a path of a tree, with this table. `None` is null.
+pub(crate) fn cap_along<'a>(tree: &Tree, caps: &'a Caps, path: &[u16]) -> Option<&'a Cap>
+    ensures { MatchOption result (cap_in caps.now (node_along (node_of tree.now) path.now) ≡ None) (λ c. c.now ≡ cap_in caps.now (node_along (node_of tree.now) path.now)) }
+{
+    let Tree::Cap(index) = tree_along(tree, path)? else {
+        return None;
+    };
+    caps.caps().get(*index as usize)
+}
+
 /// What is at the end of a path of pointer fields. `None` is null.
 fn tree_along<'a>(tree: &'a Tree, path: &[u16]) -> Option<&'a Tree>
     ensures { MatchOption result (node_along (node_of tree.now) path.now ≡ null) (λ t. node_of t.now ≡ node_along (node_of tree.now) path.now) }
@@ -65,14 +75,4 @@ fn tree_along<'a>(tree: &'a Tree, path: &[u16]) -> Option<&'a Tree>
         reached = reached.pointer(*field as u32)?;
     }
     Some(reached)
-}
-
-/// The capability at a path of a tree, with this table. `None` is null.
-pub(crate) fn cap_along<'a>(tree: &Tree, caps: &'a Caps, path: &[u16]) -> Option<&'a Cap>
-    ensures { MatchOption result (cap_in caps.now (node_along (node_of tree.now) path.now) ≡ None) (λ c. c.now ≡ cap_in caps.now (node_along (node_of tree.now) path.now)) }
-{
-    let Tree::Cap(index) = tree_along(tree, path)? else {
-        return None;
-    };
-    caps.caps().get(*index as usize)
 }

@@ -275,6 +275,13 @@ impl Values {
     }
 }
 
+/// What is known of a capability by one look: its route, or that it stands for another one.
+#[derive(Drop)]
+pub(crate) enum Step<'a> {
+    Ends(Route),
+    Leads(&'a Cap),
+}
+
 /// Where a call goes on what an open question will give.
 fn open_route(alloc: Global, kind: QuestionKind, id: u32, path: &Path) -> Result<Route, AllocError>
     ensures { IfOk result (λ r. r ≡ open_way kind id path.now) }
@@ -284,11 +291,4 @@ fn open_route(alloc: Global, kind: QuestionKind, id: u32, path: &Path) -> Result
         QuestionKind::Local => Route::Wait(Gate::Question(id, path)),
         QuestionKind::Wire => Route::Pipe(id, path),
     })
-}
-
-/// What is known of a capability by one look: its route, or that it stands for another one.
-#[derive(Drop)]
-pub(crate) enum Step<'a> {
-    Ends(Route),
-    Leads(&'a Cap),
 }

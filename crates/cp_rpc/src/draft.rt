@@ -9,29 +9,6 @@ ghost use Rattle.cp_tree.specs.Shaped.{Shaped};
 use cp_tree::{Draft, DraftBody, Tree, Whole};
 use std::alloc::{AllocError, Global};
 
-/// A struct's data words, and its pointers.
-fn with_words<'a>(
-    alloc: Global,
-    words: &[u64],
-    ptrs: Vec<Draft<'a>>,
-) -> Result<DraftBody<'a>, AllocError>
-    ensures { IfOk result (λ b. draft_body_of b ≡ (words.now, nodes_of (map draft_of ptrs.entry.items))) }
-{
-    let words = Vec::from_slice(alloc, words)?;
-    Ok(DraftBody { words, ptrs })
-}
-
-/// A struct of these data words and pointers.
-fn struct_with<'a>(
-    alloc: Global,
-    words: &[u64],
-    ptrs: Vec<Draft<'a>>,
-) -> Result<Draft<'a>, AllocError>
-    ensures { IfOk result (λ d. draft_of d ≡ struct words.now (nodes_of (map draft_of ptrs.entry.items))) }
-{
-    Ok(Draft::Struct(with_words(alloc, words, ptrs)?))
-}
-
 /// A struct's data words, where it has no pointers.
 pub(crate) fn words_of<'a>(alloc: Global, words: &[u64]) -> Result<DraftBody<'a>, AllocError>
     ensures { IfOk result (λ b. draft_body_of b ≡ (words.now, nodes_of [])) }
@@ -106,4 +83,27 @@ pub(crate) fn null<'a>() -> Draft<'a>
     ensures { draft_of result ≡ null }
 {
     Draft::Own(Tree::Null)
+}
+
+/// A struct's data words, and its pointers.
+fn with_words<'a>(
+    alloc: Global,
+    words: &[u64],
+    ptrs: Vec<Draft<'a>>,
+) -> Result<DraftBody<'a>, AllocError>
+    ensures { IfOk result (λ b. draft_body_of b ≡ (words.now, nodes_of (map draft_of ptrs.entry.items))) }
+{
+    let words = Vec::from_slice(alloc, words)?;
+    Ok(DraftBody { words, ptrs })
+}
+
+/// A struct of these data words and pointers.
+fn struct_with<'a>(
+    alloc: Global,
+    words: &[u64],
+    ptrs: Vec<Draft<'a>>,
+) -> Result<Draft<'a>, AllocError>
+    ensures { IfOk result (λ d. draft_of d ≡ struct words.now (nodes_of (map draft_of ptrs.entry.items))) }
+{
+    Ok(Draft::Struct(with_words(alloc, words, ptrs)?))
 }

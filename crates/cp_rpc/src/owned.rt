@@ -68,29 +68,6 @@ impl<'a> Owned<'a> {
     }
 }
 
-/// What a tree is.
-fn look_at(tree: &Tree) -> Look
-    ensures { result ≡ look_of (node_of tree.now) }
-{
-    match tree {
-        Tree::Null => Look::Null,
-        Tree::Struct(_) => Look::Struct,
-        Tree::Structs { items, .. } => Look::Items(items.as_slice().len()),
-        Tree::Bytes(items) => Look::Bytes(items.len()),
-        _ => Look::Other,
-    }
-}
-
-/// The elements of a composite list.
-fn items_in(tree: &Tree) -> &[Body]
-    ensures { map body_node result.now ≡ items_of (node_of tree.now) }
-{
-    match tree {
-        Tree::Structs { items, .. } => items.as_slice(),
-        _ => &[],
-    }
-}
-
 impl<'a> Source for Owned<'a> {
     ghost seen = { λ o. o };
 
@@ -153,5 +130,28 @@ impl<'a> Source for Owned<'a> {
             Part::Tree(tree) => tree.copy(alloc),
             Part::Body(body) => body.copy(alloc),
         }
+    }
+}
+
+/// What a tree is.
+fn look_at(tree: &Tree) -> Look
+    ensures { result ≡ look_of (node_of tree.now) }
+{
+    match tree {
+        Tree::Null => Look::Null,
+        Tree::Struct(_) => Look::Struct,
+        Tree::Structs { items, .. } => Look::Items(items.as_slice().len()),
+        Tree::Bytes(items) => Look::Bytes(items.len()),
+        _ => Look::Other,
+    }
+}
+
+/// The elements of a composite list.
+fn items_in(tree: &Tree) -> &[Body]
+    ensures { map body_node result.now ≡ items_of (node_of tree.now) }
+{
+    match tree {
+        Tree::Structs { items, .. } => items.as_slice(),
+        _ => &[],
     }
 }

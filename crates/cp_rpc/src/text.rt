@@ -77,17 +77,6 @@ impl Text {
     }
 }
 
-/// The bytes, and the zero byte that ends a text.
-fn with_end(alloc: Global, bytes: &[u8]) -> Result<Vec<u8>, AllocError>
-    requires { length bytes.now < 2 ^ 29 }
-    ensures { IfOk result (λ v. v.items ≡ bytes.now ++ 0 ∷ []) }
-{
-    let mut ended = Vec::with_capacity(alloc, bytes.len() + 1)?;
-    ended.extend_from_slice(bytes)?;
-    ended.push(0)?;
-    Ok(ended)
-}
-
 /// A text that is read in place. Contracts see it as its bytes, without the zero byte that ends it.
 #[derive(Drop)]
 pub struct TextView<S: Source> {
@@ -138,4 +127,15 @@ impl<S: Source> TextView<S> {
     {
         self.source.text(alloc)
     }
+}
+
+/// The bytes, and the zero byte that ends a text.
+fn with_end(alloc: Global, bytes: &[u8]) -> Result<Vec<u8>, AllocError>
+    requires { length bytes.now < 2 ^ 29 }
+    ensures { IfOk result (λ v. v.items ≡ bytes.now ++ 0 ∷ []) }
+{
+    let mut ended = Vec::with_capacity(alloc, bytes.len() + 1)?;
+    ended.extend_from_slice(bytes)?;
+    ended.push(0)?;
+    Ok(ended)
 }

@@ -15,37 +15,6 @@ use std::simd::prelude::*;
 /// The bytes that are tested at a time.
 const BLOCK: usize = 64;
 
-/// Bytes from number `first` on, as many as are tested at a time; those from number `end` on are
-/// zero.
-fn block_at(words: &[u64], first: usize, end: usize) -> [u8; 64]
-    requires begins { first < end }
-    requires small { end ≤ 2 ^ 32 }
-    ensures { result ≡ map (λ k. byte_before words.now end (first + k)) (range_with_len 0 64) }
-{
-    let mut block = [0; BLOCK];
-    for i in 0..BLOCK {
-        block[i] = if first + i < end {
-            number_at(words, 8, first + i) as u8
-        } else {
-            0
-        };
-    }
-    block
-}
-
-/// Whether the first bytes that words hold, this many, are UTF-8.
-fn is_utf8(words: &[u64], count: usize) -> bool
-    requires small { count ≤ 2 ^ 32 }
-    ensures { IsTrue result ↔ IsUtf8 (numbers words.now 8 count) }
-{
-    let mut checker = Checker::new();
-    for i in 0..count.div_ceil(BLOCK) {
-        let block = block_at(words, i * BLOCK, count);
-        checker = checker.step(u8x64::from_array(block));
-    }
-    checker.finish()
-}
-
 /// Whether the first bytes that words hold, this many, end in a zero byte and are UTF-8 before that.
 pub(crate) fn is_text(words: &[u64], count: usize) -> bool
     requires small { count ≤ 2 ^ 32 }
@@ -100,4 +69,35 @@ pub(crate) fn text_of(alloc: Global, bytes: &[u8]) -> Result<Text, AllocError>
         Ok(text) => Ok(Text::new(String::from_str(alloc, text)?)),
         Err(_) => unreachable!(),
     }
+}
+
+/// Whether the first bytes that words hold, this many, are UTF-8.
+fn is_utf8(words: &[u64], count: usize) -> bool
+    requires small { count ≤ 2 ^ 32 }
+    ensures { IsTrue result ↔ IsUtf8 (numbers words.now 8 count) }
+{
+    let mut checker = Checker::new();
+    for i in 0..count.div_ceil(BLOCK) {
+        let block = block_at(words, i * BLOCK, count);
+        checker = checker.step(u8x64::from_array(block));
+    }
+    checker.finish()
+}
+
+/// Bytes from number `first` on, as many as are tested at a time; those from number `end` on are
+/// zero.
+fn block_at(words: &[u64], first: usize, end: usize) -> [u8; 64]
+    requires begins { first < end }
+    requires small { end ≤ 2 ^ 32 }
+    ensures { result ≡ map (λ k. byte_before words.now end (first + k)) (range_with_len 0 64) }
+{
+    let mut block = [0; BLOCK];
+    for i in 0..BLOCK {
+        block[i] = if first + i < end {
+            number_at(words, 8, first + i) as u8
+        } else {
+            0
+        };
+    }
+    block
 }

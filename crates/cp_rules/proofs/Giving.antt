@@ -20,7 +20,7 @@ use Rattle.cp_refs.specs.declared.cap.Cap.{Cap}
 use Rattle.cp_refs.specs.declared.cap.Cap.TheVariants as caps
 use Rattle.cp_refs.specs.declared.outcome.Outcome.{Outcome}
 use Rattle.cp_machine.specs.State.{State}
-use Rattle.cp_machine.specs.Then.{Done, Then, behind}
+use Rattle.cp_machine.specs.Then.{Done, Then, after as following}
 use Rattle.cp_machine.specs.Say.{SayEnd, ComesTo}
 use Rattle.cp_machine.specs.Give.{return_of, given, gone, Returns, ResolvesEnd, Settle, SettleTied, Tells, settled, value_for, last_for, GiveBy}
 use Rattle.cp_machine.specs.declared.effect.Effect.{Effect}
@@ -72,7 +72,7 @@ acts_as R Q (Err halts.OutOfMemory) before after new on h = tt
 
 -- effects, before what the rest gives
 abbrev pub prefixed : List Effect → Result Done PeerFault → Result Done PeerFault
-prefixed done (Ok rest) = Ok (behind done rest)
+prefixed done (Ok rest) = Ok (following done rest)
 prefixed done (Err fault) = Err fault
 
 prefixed_twice : (done more : List Effect) (out : Result Done PeerFault) → prefixed done (prefixed more out) ≡ prefixed (done ++ more) out

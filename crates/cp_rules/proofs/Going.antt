@@ -17,7 +17,7 @@ use Rattle.cp_machine.specs.State.{State, with_over, none_over}
 use Rattle.cp_state.specs.Queue.{Queue}
 use Rattle.cp_state.specs.Queue as queue
 use Rattle.cp_rules.proofs.Giving.{queue_of}
-use Rattle.cp_machine.specs.Go.{NoneOver, IsNext, without_call, underway, GoTo, Leave, stays, leaves, finds_no_room}
+use Rattle.cp_machine.specs.Go.{NoneOver, IsNext, without_call, underway, GoTo, Leave, stays, leaves, finds_table_full}
 use Rattle.cp_machine.specs.declared.effect.Effect.{Effect}
 use Rattle.cp_machine.specs.declared.fault.PeerFault.{PeerFault}
 
@@ -37,7 +37,7 @@ module _ (start now : State) (done : List Effect) (goes_on : LeavesFrom start no
 
   -- a call found no room
   pub no_room : (call : Held) (cap : Cap) (fault : PeerFault) → IsNext now call cap → GoTo (without_call now call) (underway call) cap (Err fault) → Leave start done (Err fault)
-  no_room call cap fault next went = subst (λ l. Leave start l (Err fault)) (append-nil done) (goes_on [] _ (finds_no_room call cap next went))
+  no_room call cap fault next went = subst (λ l. Leave start l (Err fault)) (append-nil done) (goes_on [] _ (finds_table_full call cap next went))
 
 -- the state with this queue
 abbrev pub with_queue : State → Queue → State

@@ -2,7 +2,7 @@
 
 ghost use Rattle.std.specs.Prelude.{◌≡◌, ◌++◌, OnOk};
 ghost use Rattle.cp_refs.specs.Route.{HasRoute};
-ghost use Rattle.cp_machine.specs.Go.{Go, GoOut, GoTo, call_of, finish_behind, finish_of};
+ghost use Rattle.cp_machine.specs.Go.{Go, GoOut, GoTo, call_of, finish_after, finish_of};
 ghost use Rattle.cp_state.specs.Halts.{Acts, IfFault};
 ghost use Rattle.cp_state.specs.StateOf.{state_of};
 ghost use Rattle.cp_rules.specs.Going.{MayGo, underway_of};
@@ -71,6 +71,16 @@ pub fn go(
         ),
         Route::Fail(exception) => give(core, call.origin, Outcome::Failed(exception), effects),
     }
+}
+
+/// The Finish of a question.
+pub fn finish_effect(question_id: u32, release_result_caps: bool) -> Effect
+    ensures { result ≡ finish_of question_id release_result_caps }
+{
+    Effect::Send(Message::Finish(Finish {
+        question_id,
+        release_result_caps,
+    }))
 }
 
 /// Delivers a call to an object of the application.
@@ -152,6 +162,23 @@ fn forward(
     Ok(())
 }
 
+/// The Call of a request under a question's number.
+fn call_effect(question_id: u32, target: Target, request: Request, cap_table: CapTable) -> Effect
+    ensures { result ≡ call_of question_id target request cap_table }
+{
+    Effect::Send(Message::Call(Call {
+        question_id,
+        method_id: request.method,
+        send_results_to: SendResultsTo::Caller,
+        interface_id: request.interface,
+        target,
+        params: Payload {
+            content: request.content,
+            cap_table,
+        },
+    }))
+}
+
 /// Sends a call of the application's. Where it finished the question before, the Finish follows at
 /// once.
 fn send_own(
@@ -179,44 +206,17 @@ fn send_own(
     let ids = mentioned(core.alloc, table.descriptors())?;
     note_sent(&mut core.questions, question, ids);
     effects.push(call_effect(question, target, call.request, table))?;
-    finish_behind(question, stage, effects)?;
+    finish_after(question, stage, effects)?;
     Ok(())
 }
 
 /// Where the application finished a question before its Call was sent, the Finish follows at once.
-fn finish_behind(question: u32, stage: Stage, effects: &mut Vec<Effect>) -> Result<(), AllocError>
-    ensures { OnOk result (effects.new.items ≡ effects.old.items ++ finish_behind question stage) }
+fn finish_after(question: u32, stage: Stage, effects: &mut Vec<Effect>) -> Result<(), AllocError>
+    ensures { OnOk result (effects.new.items ≡ effects.old.items ++ finish_after question stage) }
 {
     if stage != Stage::Finished {
         return Ok(());
     }
     effects.push(finish_effect(question, true))?;
     Ok(())
-}
-
-/// The Call of a request under a question's number.
-fn call_effect(question_id: u32, target: Target, request: Request, cap_table: CapTable) -> Effect
-    ensures { result ≡ call_of question_id target request cap_table }
-{
-    Effect::Send(Message::Call(Call {
-        question_id,
-        method_id: request.method,
-        send_results_to: SendResultsTo::Caller,
-        interface_id: request.interface,
-        target,
-        params: Payload {
-            content: request.content,
-            cap_table,
-        },
-    }))
-}
-
-/// The Finish of a question.
-pub fn finish_effect(question_id: u32, release_result_caps: bool) -> Effect
-    ensures { result ≡ finish_of question_id release_result_caps }
-{
-    Effect::Send(Message::Finish(Finish {
-        question_id,
-        release_result_caps,
-    }))
 }

@@ -102,35 +102,15 @@ pub(crate) fn end_gates(
     Ok(())
 }
 
-/// Takes back what settling promises did, the last first.
-fn take_back(
-    values: &mut NumberedValues,
-    exports: &mut Exported,
-    settled: &[Settled],
-) -> Result<(), AllocError>
-    ensures values { OnOk result (values.new ≡ record values.old { promises = reopened values.old.promises settled.now }) }
-    ensures exports { OnOk result (exports.new ≡ lowered_back exports.old (raised_by settled.now)) }
+/// An exception of type failed.
+pub fn failed(alloc: Global, reason: &str) -> Result<Exception, AllocError>
+    ensures { IfOk result (λ e. e ≡ failed reason.now) }
 {
-    for index in (0..settled.len()).rev() {
-        take_one_back(values, exports, &settled[index])?;
-    }
-    Ok(())
-}
-
-/// Takes back what settling a promise did.
-fn take_one_back(
-    values: &mut NumberedValues,
-    exports: &mut Exported,
-    one: &Settled,
-) -> Result<(), AllocError>
-    ensures values { OnOk result (values.new ≡ record values.old { promises = with_change values.old.promises one.now.promise (λ _. None) }) }
-    ensures exports { OnOk result (exports.new ≡ lowered_back exports.old (option_to_list one.now.raised)) }
-{
-    values.reopen_promise(one.promise)?;
-    if let Some(id) = one.raised {
-        exports.take_back(id);
-    }
-    Ok(())
+    Ok(Exception {
+        kind: ExceptionKind::Failed,
+        reason: Text::new(String::from_str(alloc, reason)?),
+        trace: Text::new(String::new(alloc)),
+    })
 }
 
 /// Settles a promise, whose gate is still to be ended. One whose value leads back to it is broken.
@@ -204,16 +184,6 @@ fn tell(
     Ok(raised)
 }
 
-/// The export that a resolution names.
-fn raised_of(resolution: &Resolution) -> Option<u32>
-    ensures { option_to_list result ≡ given_back resolution.now }
-{
-    match resolution {
-        Resolution::Cap(descriptor) => mention(descriptor),
-        _ => None,
-    }
-}
-
 /// How what a promise came to is reported.
 fn resolve_end(alloc: Global, exports: &mut Exported, last: &Cap) -> Result<Resolution, Halt>
     ensures said { (s : State) → Leaves (ResolvesEnd (with_exports s exports.old) last.now) result (with_exports s exports.new) }
@@ -229,13 +199,43 @@ fn resolve_end(alloc: Global, exports: &mut Exported, last: &Cap) -> Result<Reso
     }
 }
 
-/// An exception of type failed.
-pub fn failed(alloc: Global, reason: &str) -> Result<Exception, AllocError>
-    ensures { IfOk result (λ e. e ≡ failed reason.now) }
+/// The export that a resolution names.
+fn raised_of(resolution: &Resolution) -> Option<u32>
+    ensures { option_to_list result ≡ given_back resolution.now }
 {
-    Ok(Exception {
-        kind: ExceptionKind::Failed,
-        reason: Text::new(String::from_str(alloc, reason)?),
-        trace: Text::new(String::new(alloc)),
-    })
+    match resolution {
+        Resolution::Cap(descriptor) => mention(descriptor),
+        _ => None,
+    }
+}
+
+/// Takes back what settling promises did, the last first.
+fn take_back(
+    values: &mut NumberedValues,
+    exports: &mut Exported,
+    settled: &[Settled],
+) -> Result<(), AllocError>
+    ensures values { OnOk result (values.new ≡ record values.old { promises = reopened values.old.promises settled.now }) }
+    ensures exports { OnOk result (exports.new ≡ lowered_back exports.old (raised_by settled.now)) }
+{
+    for index in (0..settled.len()).rev() {
+        take_one_back(values, exports, &settled[index])?;
+    }
+    Ok(())
+}
+
+/// Takes back what settling a promise did.
+fn take_one_back(
+    values: &mut NumberedValues,
+    exports: &mut Exported,
+    one: &Settled,
+) -> Result<(), AllocError>
+    ensures values { OnOk result (values.new ≡ record values.old { promises = with_change values.old.promises one.now.promise (λ _. None) }) }
+    ensures exports { OnOk result (exports.new ≡ lowered_back exports.old (option_to_list one.now.raised)) }
+{
+    values.reopen_promise(one.promise)?;
+    if let Some(id) = one.raised {
+        exports.take_back(id);
+    }
+    Ok(())
 }

@@ -129,7 +129,7 @@ impl Lines {
     }
 
     /// Adds what comes after the first word of a message's line.
-    fn push_behind(&mut self, word: &str, message: Message) {
+    fn push_after(&mut self, word: &str, message: Message) {
         let mut line = Lines::new(self.alloc);
         line.push_message(&message);
         drop(message);
@@ -141,14 +141,14 @@ impl Lines {
 
     pub(crate) fn push_tree(&mut self, tree: &Whole) {
         match tree.copy(self.alloc) {
-            Ok(tree) => self.push_behind("unimplemented ", Message::Unimplemented(tree)),
+            Ok(tree) => self.push_after("unimplemented ", Message::Unimplemented(tree)),
             Err(_) => self.is_whole = false,
         }
     }
 
     pub(crate) fn push_exception(&mut self, exception: &Exception) {
         match exception.copy(self.alloc) {
-            Ok(exception) => self.push_behind("abort ", Message::Abort(exception)),
+            Ok(exception) => self.push_after("abort ", Message::Abort(exception)),
             Err(_) => self.is_whole = false,
         }
     }

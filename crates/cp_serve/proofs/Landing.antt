@@ -140,8 +140,8 @@ take_none : (n : ℕ) → ◌≡◌ {A = List ℕ} (take n []) []
 take_none zero = refl
 take_none (suc n) = refl
 
-pub nothing_behind : (n : ℕ) (xs : List ℕ) → take n (drop (length xs) xs) ≡ []
-nothing_behind n xs = ap (λ (l : List ℕ). take n l) (drop_of_length-le xs {i = length xs} (omega arith)) ∙ take_none n
+pub nothing_after : (n : ℕ) (xs : List ℕ) → take n (drop (length xs) xs) ≡ []
+nothing_after n xs = ap (λ (l : List ℕ). take n l) (drop_of_length-le xs {i = length xs} (omega arith)) ∙ take_none n
 
 -- a block is begun anew
 pub begun : (mode : Mode) (start : List Seen) (held : Device) (bytes : List ℕ) (s : Server) (block : Vec ℕ Global) {objects : List Seen} {to : Device} → block.items ≡ []

@@ -31,7 +31,7 @@ use Rattle.cp_serve.specs.Output.{Device, Writes, WritesPart, IsPlace, IsFaultOf
 use Rattle.cp_serve.specs.Reached.{CountsMore, Reached, ReadsOn, Serves, GoesOn, Fills, OnlyWrites, TakesNext, TakesNone, IsRefusedAt, IsUntaken, IsUnput, IsUnwritten, IsUnended, EndsInside, EndsSo, EndsPart, Closes}
 use Rattle.cp_serve.proofs.Running.{none_some, ran_takes, ran_closes, run_of}
 use Rattle.cp_serve.proofs.Writable.{only_memory}
-use Rattle.cp_serve.proofs.Written.{writes_none, writes_both, writes_all, part_behind, own_behind}
+use Rattle.cp_serve.proofs.Written.{writes_none, writes_both, writes_all, part_later, own_after}
 
 -- more bytes follow
 pub messages_grow : (mode : Mode) (limits : Bounds) (b : List ℕ) (ms : List Message) (rest more : List ℕ) → Messages mode limits b ms rest → Messages mode limits (b ++ more) ms (rest ++ more)
@@ -146,7 +146,7 @@ module _ {mode : Mode} {start : List Seen} {held : Device} where
         (messages_push mode standard (bytes ++ next.front) r.taken (rest ++ next.front) [] next.message (grown mode bytes rest next.front r.taken r.messages) (subst (λ (x : Mode). IsFrameOf x standard (rest ++ next.front) next.message) r.same_mode next.frame));
     sent = r.sent ++ (work_of s2.session).sent;
     starts = inl (written (work_of s2.session), others, takes_more next.message r.takes is_open next.takes refl refl refl);
-    writes = part_behind r.sent (work_of s2.session).sent held to to' r.writes (subst (λ (x : Mode). WritesPart x (work_of s2.session).sent to to') (next.mode ∙ r.same_mode) part);
+    writes = part_later r.sent (work_of s2.session).sent held to to' r.writes (subst (λ (x : Mode). WritesPart x (work_of s2.session).sent to to') (next.mode ∙ r.same_mode) part);
   }
 
   -- and so the run stops
@@ -157,7 +157,7 @@ module _ {mode : Mode} {start : List Seen} {held : Device} where
       let place : IsPlace ((bytes ++ next.front) ++ back) back s2.at =
       place_stays (bytes ++ next.front) [] back s2.at (place_more bytes rest next.front s.at s2.at (rest_fits mode standard bytes r.taken rest r.messages) r.place next.place) in
       let cut = cut_writing bytes rest piece back left.bytes s s2 to to' r is_open next part in
-      inr (cut, only_memory (IsOver ((bytes ++ next.front) ++ back) cut.rest left.bytes) cut.starts refusal (own_behind r.sent (work_of s2.session).sent refusal h.1), h.0 ∙ place)
+      inr (cut, only_memory (IsOver ((bytes ++ next.front) ++ back) cut.rest left.bytes) cut.starts refusal (own_after r.sent (work_of s2.session).sent refusal h.1), h.0 ∙ place)
   stops_putting bytes rest piece back from left s s2 to to' r is_open next part (faults.Stream streams.Device) h = absurd h
   stops_putting bytes rest piece back from left s s2 to to' r is_open next part faults.OutOfMemory h = cut_writing bytes rest piece back left.bytes s s2 to to' r is_open next part
 
@@ -338,12 +338,12 @@ module _ (old : Server) (objects : List Seen) (before : Device) where
     last = written (work_of s2.session);
     others = others;
     closes = one_more h.closes is_open round refl refl;
-    writes = part_behind h.sent (work_of s2.session).sent before to to' h.writes (subst (λ (x : Mode). WritesPart x (work_of s2.session).sent to to') (did.mode ∙ h.only.mode) part);
+    writes = part_later h.sent (work_of s2.session).sent before to to' h.writes (subst (λ (x : Mode). WritesPart x (work_of s2.session).sent to to') (did.mode ∙ h.only.mode) part);
   }
 
   pub why_unended : (mid s2 : Server) {between : List Seen} (to to' : Device) → (h : Closes old objects before true mid between to) → OnlyWrites mid s2 → (fault : ServeFault)
       → IsUnwritten s2.at (work_of s2.session).sent to to' fault → IsUnended old.at (h.sent ++ (work_of s2.session).sent) before to' fault
-  why_unended mid s2 to to' h did (faults.Stream (streams.Refused at refusal)) why = (why.0 ∙ did.at ∙ h.only.at, own_behind h.sent (work_of s2.session).sent refusal why.1)
+  why_unended mid s2 to to' h did (faults.Stream (streams.Refused at refusal)) why = (why.0 ∙ did.at ∙ h.only.at, own_after h.sent (work_of s2.session).sent refusal why.1)
   why_unended mid s2 to to' h did (faults.Stream streams.Device) why = subst (λ (n : ℕ). FailedOnce n to'.failures) h.writes.counted why
   why_unended mid s2 to to' h did faults.OutOfMemory why = tt
 
@@ -356,7 +356,7 @@ module _ {mode : Mode} {start : List Seen} {held : Device} where
     messages = r.messages;
     sent = r.sent ++ p.sent;
     starts = inr (p.gave, p.last, p.others, record { mid = work_of s.session; between = objects; first = r.sent; closing = p.sent; takes = r.takes; closes = p.closes; all = refl }, over);
-    writes = part_behind r.sent p.sent held mid to r.writes (subst (λ (x : Mode). WritesPart x p.sent mid to) r.same_mode p.writes);
+    writes = part_later r.sent p.sent held mid to r.writes (subst (λ (x : Mode). WritesPart x p.sent mid to) r.same_mode p.writes);
   }
 
   -- the rounds stopped
@@ -365,7 +365,7 @@ module _ {mode : Mode} {start : List Seen} {held : Device} where
       → IsStopped mode start from left held to others fault
   ends_short bytes rest from left others mid to r consumed over p (faults.Stream (streams.Refused at refusal)) h =
       let cut = cut_closing bytes rest left.bytes mid to r over p in
-      (bytes, consumed, inr (cut, only_memory (IsOver bytes rest left.bytes) cut.starts refusal (own_behind r.sent p.sent refusal h.1), h.0 ∙ r.place))
+      (bytes, consumed, inr (cut, only_memory (IsOver bytes rest left.bytes) cut.starts refusal (own_after r.sent p.sent refusal h.1), h.0 ∙ r.place))
   ends_short bytes rest from left others mid to r consumed over p (faults.Stream streams.Device) h =
       (bytes, consumed, (inr (subst (λ (n : ℕ). FailedOnce n to.failures) r.writes.counted h), cut_closing bytes rest left.bytes mid to r over p))
   ends_short bytes rest from left others mid to r consumed over p faults.OutOfMemory h = (bytes, consumed, cut_closing bytes rest left.bytes mid to r over p)
@@ -460,11 +460,11 @@ module _ {mode : Mode} {start : List Seen} {held : Device} where
   fills_all bytes piece left h = (h.0, h.1, inl h.2)
 
   -- the whole piece was read, and what a message that it ends leads to wasn't all put after the block
-  pub stops_behind : (bytes fed rest left piece back : List ℕ) (from upto : Device) (s s2 : Server) {objects others : List Seen} (to to' : Device) → piece ≡ fed ++ left
+  pub stops_after : (bytes fed rest left piece back : List ℕ) (from upto : Device) (s s2 : Server) {objects others : List Seen} (to to' : Device) → piece ≡ fed ++ left
       → Reached mode start held (bytes ++ fed) rest s objects to → (work_of s.session).closed ≡ None → (next : TakesNext rest s left objects s2 back others)
       → WritesPart s2.mode (work_of s2.session).sent to to' → (fault : ServeFault) → IsUnput s2.at (work_of s2.session).sent fault
       → StopsFor mode start (bytes ++ piece) from upto held to' others fault
-  stops_behind bytes fed rest left piece back from upto s s2 {others = others} to to' e r is_open next part fault why =
+  stops_after bytes fed rest left piece back from upto s s2 {others = others} to to' e r is_open next part fault why =
       let whole : ((bytes ++ fed) ++ next.front) ++ back ≡ bytes ++ piece =
       append_assoc (bytes ++ fed) next.front back ∙ ap (λ (x : List ℕ). (bytes ++ fed) ++ x) (sym next.whole) ∙ append_assoc bytes fed left ∙ ap (λ (x : List ℕ). bytes ++ x) (sym e) in
       subst (λ (x : List ℕ). StopsFor mode start x from upto held to' others fault) whole

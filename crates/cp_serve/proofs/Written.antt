@@ -75,8 +75,8 @@ module _ {mode : Mode} where
     appends = subst (λ (x : List ℕ). Appends old.bytes new.bytes x) (sym (append_assoc h.bytes k.bytes k.part)) (Appends-trans old.bytes mid.bytes new.bytes h.bytes (k.bytes ++ k.part) h.appends k.appends);
   }
 
-  pub part_behind : (a b : List Message) (old mid new : Device) → Writes mode a old mid → WritesPart mode b mid new → WritesPart mode (a ++ b) old new
-  part_behind a b old mid new h k = subst (λ (x : List Message). WritesPart mode (a ++ x) old new) (append-nil b) (part_after a b [] old mid new h k)
+  pub part_later : (a b : List Message) (old mid new : Device) → Writes mode a old mid → WritesPart mode b mid new → WritesPart mode (a ++ b) old new
+  part_later a b old mid new h k = subst (λ (x : List Message). WritesPart mode (a ++ x) old new) (append-nil b) (part_after a b [] old mid new h k)
 
   -- one more message of a list was written
   pub writes_next : (items : List Message) (i : ℕ) (m : Message) (old mid new : Device) → i < length items → m ≡ get_or items i m → Writes mode (take i items) old mid
@@ -103,8 +103,8 @@ own_within a b c refusal h = record {
   unwritten = h.unwritten;
 }
 
-pub own_behind : (a b : List Message) (refusal : Refusal) → IsOwnFault b refusal → IsOwnFault (a ++ b) refusal
-own_behind a b refusal h = subst (λ (x : List Message). IsOwnFault (a ++ x) refusal) (append-nil b) (own_within a b [] refusal h)
+pub own_after : (a b : List Message) (refusal : Refusal) → IsOwnFault b refusal → IsOwnFault (a ++ b) refusal
+own_after a b refusal h = subst (λ (x : List Message). IsOwnFault (a ++ x) refusal) (append-nil b) (own_within a b [] refusal h)
 
 -- the first messages were put after a block, and the next wasn't
 pub unput_next : (items : List Message) (i : ℕ) (m : Message) (place before : ℕ) → i < length items → m ≡ get_or items i m → before ≡ place → (fault : ServeFault) → IsUnput before (m ∷ []) fault

@@ -38,9 +38,9 @@ abbrev pub IsReplaced : VatFault → Type 0
 IsReplaced fault = (fault ≢ refusals.Closed) × (fault ≢ refusals.OutOfMemory)
 
 -- memory sufficed
-abbrev pub HasRoom : Result Value VatFault → Type 0
-HasRoom (Ok value) = Unit {0}
-HasRoom (Err fault) = fault ≢ refusals.OutOfMemory
+abbrev pub HadMemory : Result Value VatFault → Type 0
+HadMemory (Ok value) = Unit {0}
+HadMemory (Err fault) = fault ≢ refusals.OutOfMemory
 
 -- The vat did an event, whatever it answered, but that memory ran out.
 pub record IsDone (old : Work) (event : Event) (new : Work) : Type 0 where
@@ -48,7 +48,7 @@ pub record IsDone (old : Work) (event : Event) (new : Work) : Type 0 where
   pub effects : List Effect
   pub vat : State
   pub step : Step old.vat event result effects vat
-  pub room : HasRoom result
+  pub memory : HadMemory result
   pub did : Did old vat effects new
 
 -- A call is answered: with its outcome; or not any more, as the vat closed; or, where that outcome is refused, with an exception, if that isn't refused too.

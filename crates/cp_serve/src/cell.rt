@@ -26,13 +26,6 @@ pub struct Cell {
     number: u64,
 }
 
-/// The first data word of a struct; 0 where it has none.
-fn first_word(content: &Whole) -> u64
-    ensures { result ≡ first_word content.now }
-{
-    content.tree().data().first().copied().unwrap_or(0)
-}
-
 impl Cell {
     /// A Cell that holds 0.
     pub fn new(alloc: Global) -> Cell
@@ -64,4 +57,11 @@ impl Servant for Cell {
     fn poll(&mut self) -> Result<Option<Settled>, AllocError> {
         Ok(None)
     }
+}
+
+/// The first data word of a struct; 0 where it has none.
+fn first_word(content: &Whole) -> u64
+    ensures { result ≡ first_word content.now }
+{
+    content.tree().data().first().copied().unwrap_or(0)
 }

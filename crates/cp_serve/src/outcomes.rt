@@ -11,17 +11,6 @@ use cp_rpc::{Exception, ExceptionKind, Text};
 use cp_tree::{Body, Tree, Whole};
 use std::alloc::{AllocError, Global};
 
-/// An exception without a trace.
-fn exception(alloc: Global, kind: ExceptionKind, reason: &str) -> Result<Exception, AllocError>
-    ensures { IfOk result (λ e. e ≡ exception_of kind reason.now) }
-{
-    Ok(Exception {
-        kind,
-        reason: Text::new(String::from_str(alloc, reason)?),
-        trace: Text::new(String::new(alloc)),
-    })
-}
-
 /// The exception of a call that goes to an object which doesn't exist.
 pub(crate) fn no_such_object(alloc: Global) -> Result<Outcome, AllocError>
     ensures { IfOk result (λ o. o ≡ no_such_object) }
@@ -46,13 +35,6 @@ pub(crate) fn no_such_method(alloc: Global) -> Result<Outcome, AllocError>
     Ok(Outcome::Failed(exception(alloc, kind, "no such method")?))
 }
 
-/// A struct of these parts.
-fn struct_of(words: Vec<u64>, ptrs: Vec<Tree>) -> Tree
-    ensures { node_of result ≡ struct words.items (nodes_of (map node_of ptrs.items)) }
-{
-    Tree::Struct(Body { words, ptrs })
-}
-
 /// Results of one data word.
 pub(crate) fn word_results(alloc: Global, word: u64) -> Result<Outcome, AllocError>
     ensures { IfOk result (λ o. o ≡ word_results word) }
@@ -75,6 +57,35 @@ pub(crate) fn object_results(alloc: Global, object: u32) -> Result<Outcome, Allo
     })
 }
 
+/// The imports that a capability table names, each once.
+pub(crate) fn named_imports(alloc: Global, caps: &Caps) -> Result<Ids, AllocError>
+    ensures { IfOk result (λ ids. ids ≡ named_imports caps.now) }
+{
+    let mut named = Vec::new(alloc);
+    for cap in caps.caps() {
+        note(&mut named, cap)?;
+    }
+    Ok(Ids::new(named))
+}
+
+/// An exception without a trace.
+fn exception(alloc: Global, kind: ExceptionKind, reason: &str) -> Result<Exception, AllocError>
+    ensures { IfOk result (λ e. e ≡ exception_of kind reason.now) }
+{
+    Ok(Exception {
+        kind,
+        reason: Text::new(String::from_str(alloc, reason)?),
+        trace: Text::new(String::new(alloc)),
+    })
+}
+
+/// A struct of these parts.
+fn struct_of(words: Vec<u64>, ptrs: Vec<Tree>) -> Tree
+    ensures { node_of result ≡ struct words.items (nodes_of (map node_of ptrs.items)) }
+{
+    Tree::Struct(Body { words, ptrs })
+}
+
 /// Notes a capability, if it is an import that wasn't noted before.
 fn note(noted: &mut Vec<u32>, cap: &Cap) -> Result<(), AllocError>
     ensures { OnOk result (noted.new.items ≡ noted_with noted.old.items cap.now) }
@@ -86,15 +97,4 @@ fn note(noted: &mut Vec<u32>, cap: &Cap) -> Result<(), AllocError>
         noted.push(*import)?;
     }
     Ok(())
-}
-
-/// The imports that a capability table names, each once.
-pub(crate) fn named_imports(alloc: Global, caps: &Caps) -> Result<Ids, AllocError>
-    ensures { IfOk result (λ ids. ids ≡ named_imports caps.now) }
-{
-    let mut named = Vec::new(alloc);
-    for cap in caps.caps() {
-        note(&mut named, cap)?;
-    }
-    Ok(Ids::new(named))
 }

@@ -58,18 +58,6 @@ pub fn serve<R: Read, W: Write>(
     Server::new(alloc, mode).serve(from, to, objects.as_mut_slice())
 }
 
-/// A reader of frames to which nothing has come.
-fn frame_reader(alloc: Global, mode: Mode) -> FrameReader
-    ensures fresh { result ≡ new_reader mode standard }
-    ensures stands { StandsFor result [] }
-{
-    let limits = Limits::standard();
-    match mode {
-        Mode::Plain => FrameReader::plain(alloc, limits),
-        Mode::Packed => FrameReader::packed(alloc, limits),
-    }
-}
-
 /// A session, with what has come for it and what was done in it.
 #[derive(Drop)]
 struct Server {
@@ -157,8 +145,8 @@ impl Server {
         ensures taken { OnOk result ((mode : Mode) (start : List Seen) (held : Device) → Serves mode start held [] self.old (map (λ o. seen o) objects.old) (device W.contents to.old) → (bytes : List ℕ) × Consumes (R.remaining (inner_of from.old)) (R.remaining (inner_of from.new)) bytes × (rest : List ℕ) × Reached mode start held bytes rest self.new (map (λ o. seen o) objects.new) (device W.contents to.new) × IsOver bytes rest (R.remaining (inner_of from.new)) (work_of self.new.session)) }
         ensures stopped { IfErr result (λ fault. (mode : Mode) (start : List Seen) (held : Device) → Serves mode start held [] self.old (map (λ o. seen o) objects.old) (device W.contents to.old) → IsStopped mode start (device R.remaining from.old) (device R.remaining from.new) held (device W.contents to.new) (map (λ o. seen o) objects.new) fault) }
     {
-        let mut room = vec![in self.alloc; 0u8; PIECE]?;
-        let buffer = room.as_mut_slice();
+        let mut storage = vec![in self.alloc; 0u8; PIECE]?;
+        let buffer = storage.as_mut_slice();
         for pieces in 0..u64::MAX {
             let Ok(length) = from.read(buffer) else {
                 return Err(ServeFault::Stream(StreamFault::Device));
@@ -343,15 +331,15 @@ impl Server {
         ensures part { OnErr result ((to : Device) → WritesPart self.old.mode (message.now ∷ []) (ahead to self.old.block.items) (ahead to self.new.block.items)) }
         ensures stopped { IfErr result (IsUnput self.old.at (message.now ∷ [])) }
     {
-        let mut behind = Tap::new(mem::replace(&mut self.block, Vec::new(self.alloc)));
+        let mut after = Tap::new(mem::replace(&mut self.block, Vec::new(self.alloc)));
         let written = write_message(
             self.alloc,
-            &mut behind,
+            &mut after,
             message,
             self.mode,
             Limits::standard(),
         );
-        self.block = behind.into_inner();
+        self.block = after.into_inner();
         match written {
             Ok(()) => {
                 self.sent = self.sent.saturating_add(1);
@@ -389,5 +377,17 @@ impl Server {
             StreamFault::Refused { refusal, .. } => self.refused(refusal),
             StreamFault::Device => StreamFault::Device,
         }
+    }
+}
+
+/// A reader of frames to which nothing has come.
+fn frame_reader(alloc: Global, mode: Mode) -> FrameReader
+    ensures fresh { result ≡ new_reader mode standard }
+    ensures stands { StandsFor result [] }
+{
+    let limits = Limits::standard();
+    match mode {
+        Mode::Plain => FrameReader::plain(alloc, limits),
+        Mode::Packed => FrameReader::packed(alloc, limits),
     }
 }

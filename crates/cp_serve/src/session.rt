@@ -36,43 +36,6 @@ pub(crate) struct Session {
     closed: Option<Reason>,
 }
 
-/// Calls an object.
-fn call(object: &mut Box<dyn Servant>, ticket: u64, request: Request) -> Result<Reply, AllocError>
-    ensures { IsCalled (λ o. seen o) object.old ticket request result object.new }
-{
-    object.call(ticket, request)
-}
-
-/// Calls the object at a place.
-fn call_at(
-    objects: &mut [Box<dyn Servant>],
-    place: usize,
-    ticket: u64,
-    request: Request,
-) -> Result<Reply, AllocError>
-    requires { place < length objects.old }
-    ensures { IfOk result (λ reply. ChangesAt (λ before after. Takes before ticket request (Ok reply) after) (map (λ o. seen o) objects.old) place (map (λ o. seen o) objects.new)) }
-{
-    let reply = call(&mut objects[place], ticket, request)?;
-    Ok(reply)
-}
-
-/// Polls an object.
-fn poll(object: &mut Box<dyn Servant>) -> Result<Option<Settled>, AllocError>
-    ensures { IsPolled (λ o. seen o) object.old result object.new }
-{
-    object.poll()
-}
-
-/// Polls the object at a place.
-fn poll_at(objects: &mut [Box<dyn Servant>], place: usize) -> Result<Option<Settled>, AllocError>
-    requires { place < length objects.old }
-    ensures { IfOk result (λ settled. ChangesAt (λ before after. Polls before (Ok settled) after) (map (λ o. seen o) objects.old) place (map (λ o. seen o) objects.new)) }
-{
-    let settled = poll(&mut objects[place])?;
-    Ok(settled)
-}
-
 impl Session {
     /// A session in which nothing has come.
     pub(crate) fn new(alloc: Global) -> Session
@@ -347,4 +310,41 @@ impl Session {
         self.given_up.push(import)?;
         Ok(())
     }
+}
+
+/// Polls the object at a place.
+fn poll_at(objects: &mut [Box<dyn Servant>], place: usize) -> Result<Option<Settled>, AllocError>
+    requires { place < length objects.old }
+    ensures { IfOk result (λ settled. ChangesAt (λ before after. Polls before (Ok settled) after) (map (λ o. seen o) objects.old) place (map (λ o. seen o) objects.new)) }
+{
+    let settled = poll(&mut objects[place])?;
+    Ok(settled)
+}
+
+/// Polls an object.
+fn poll(object: &mut Box<dyn Servant>) -> Result<Option<Settled>, AllocError>
+    ensures { IsPolled (λ o. seen o) object.old result object.new }
+{
+    object.poll()
+}
+
+/// Calls an object.
+fn call(object: &mut Box<dyn Servant>, ticket: u64, request: Request) -> Result<Reply, AllocError>
+    ensures { IsCalled (λ o. seen o) object.old ticket request result object.new }
+{
+    object.call(ticket, request)
+}
+
+/// Calls the object at a place.
+fn call_at(
+    objects: &mut [Box<dyn Servant>],
+    place: usize,
+    ticket: u64,
+    request: Request,
+) -> Result<Reply, AllocError>
+    requires { place < length objects.old }
+    ensures { IfOk result (λ reply. ChangesAt (λ before after. Takes before ticket request (Ok reply) after) (map (λ o. seen o) objects.old) place (map (λ o. seen o) objects.new)) }
+{
+    let reply = call(&mut objects[place], ticket, request)?;
+    Ok(reply)
 }

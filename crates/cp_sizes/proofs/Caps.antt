@@ -16,7 +16,7 @@ use Rattle.cp_refs.specs.declared.route.Route.TheVariants as routes
 use Rattle.cp_refs.specs.declared.values.Question.{Question}
 use Rattle.cp_refs.specs.declared.values.QuestionKind.{QuestionKind}
 use Rattle.cp_refs.specs.declared.values.QuestionKind.TheVariants as kinds
-use Rattle.cp_machine.specs.Room.{cap_fits, caps_fit, content_fits, exception_fits}
+use Rattle.cp_machine.specs.Capacity.{cap_fits, caps_fit, content_fits, exception_fits}
 use Rattle.cp_machine.specs.Say.{end_by, end_within, ComesTo}
 use Rattle.cp_sizes.specs.Sizes.{CapFits, OutcomeFits, ValuesFit}
 

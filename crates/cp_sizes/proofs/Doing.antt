@@ -23,11 +23,11 @@ use Rattle.cp_refs.specs.declared.values.QuestionKind.{QuestionKind}
 use Rattle.cp_refs.specs.declared.values.QuestionKind.TheVariants as kinds
 use Rattle.cp_machine.specs.State.{State}
 use Rattle.cp_machine.specs.Then.{Done, fault_if}
-use Rattle.cp_machine.specs.Room.{has_room, has_ticket, Fresh, cap_fits, outcome_fits, request_fits}
+use Rattle.cp_machine.specs.Capacity.{has_capacity, has_ticket, Fresh, cap_fits, outcome_fits, request_fits}
 use Rattle.cp_machine.specs.Give.{Give, Settle}
 use Rattle.cp_machine.specs.Go.{Underway, finish_of}
 use Rattle.cp_machine.specs.InUse.{is_import_used, is_promise_used, is_question_used, is_own_question, is_unsettled, has_question, has_promise, has_import, is_local_path, is_pipelined, caps_of}
-use Rattle.cp_machine.specs.Calling.{Reference, plain, on_wire, came_to, import_reference, path_reference, question_reference, reference_of, called, own_call, mark_of, with_mark, has_mark_room, marked, old_target, FirstEmbargoed, GoBack, GoByValue, GoFrom, OwnDone, not_all, call_refusals, DoCall}
+use Rattle.cp_machine.specs.Calling.{Reference, plain, on_wire, came_to, import_reference, path_reference, question_reference, reference_of, called, own_call, mark_of, with_mark, has_mark_capacity, marked, old_target, FirstEmbargoed, GoBack, GoByValue, GoFrom, OwnDone, not_all, call_refusals, DoCall}
 use Rattle.cp_machine.specs.Doing.{DoAnswer, DoRelease, DoForget, awaits, answer_refusals, resolve_refusals, value_refusals, Resolves, Finishes, FinishBy, told_if, without_import, without_promise}
 use Rattle.cp_machine.specs.Resolving.{release_of}
 use Rattle.cp_machine.specs.Step.{Does}
@@ -74,7 +74,7 @@ module _ (s : State) (f : Fits s) where
 
   marked_fits : (mid : State) (cap : Cap) (o : Option (Option ℕ)) → Ok mid ≡ marked s cap o → Fits mid
   marked_fits mid cap (Some embargo) is = rw (ok_in _ _ is) f
-  marked_fits mid cap None is = by (has_mark_room s cap) is
+  marked_fits mid cap None is = by (has_mark_capacity s cap) is
     where
       by : (b : Bool) → Ok mid ≡ cond b (Ok (with_mark s cap None)) (Err faults.TableFull) → Fits mid
       by true e = rw (ok_in _ _ e) (mark_fits cap None)
@@ -161,7 +161,7 @@ module _ (s : State) (f : Fits s) where
       let goes = then_out {A = Done} {B = OwnDone} (GoFrom s first.0 request cap (reference_of s.values cap)) _ done first.2 in
       let one = fault_if (not_all (has_question s) (cap ∷ request.caps)) refusals.UnknownQuestion ++ fault_if (not_all (has_promise s) (cap ∷ request.caps)) refusals.UnknownPromise ++ fault_if (list_any (is_local_path s) request.caps) refusals.Unsettled in
       let sizes = fault_if (not (cap_fits cap && request_fits request)) refusals.TooLarge in
-      let full = fault_if (not (has_room s.entries.questions && has_ticket s)) refusals.Full in
+      let full = fault_if (not (has_capacity s.entries.questions && has_ticket s)) refusals.Full in
       let held = none-right one sizes (none-left (one ++ sizes) full (none-left (one ++ sizes ++ full) (fault_if (not_all (has_import s) (cap ∷ request.caps)) refusals.UnknownImport) rule.0)) in
       let fits = both (cap_fits cap) (request_fits request) (not_held _ refusals.TooLarge held) in
       rw (ok_in _ _ goes.2) (from_goes first.0 request fits.1 cap fits.0 (reference_of s.values cap) goes.0 (reference_fits s.values f.values_fit cap) goes.1)

@@ -36,7 +36,7 @@ use Rattle.cp_refs.specs.declared.route.Gate.TheVariants as gates
 use Rattle.cp_refs.specs.declared.route.Route.TheVariants as routes
 use Rattle.cp_machine.specs.State.{State, with_exports}
 use Rattle.cp_machine.specs.Then.{Done, Then, fault_if}
-use Rattle.cp_machine.specs.Room.{has_room, Fresh, cap_fits, caps_fit, content_fits, message_fits, payload_fits, resolution_fits, returned_fits}
+use Rattle.cp_machine.specs.Capacity.{has_capacity, Fresh, cap_fits, caps_fit, content_fits, message_fits, payload_fits, resolution_fits, returned_fits}
 use Rattle.cp_machine.specs.Take.{answer_by, answer_of, path_of, unfinished, held_once_more, held_import, less_by, lowered_by, lowered, lower, released, times, TakeAnswer, taken_export, Take, TakeAll}
 use Rattle.cp_machine.specs.Give.{GiveAnswer, without_question}
 use Rattle.cp_machine.specs.Go.{Underway}
@@ -111,7 +111,7 @@ module _ (s : State) (f : Fits s) where
       by : (b : Bool) → Ok new ≡ cond b (Ok (record s { counts = record s.counts { imports = insert s.counts.imports i (record entry { count = entry.count + 1 }) } })) (Err faults.TableFull) → Fits new
       by true is = rw (ok_in _ _ is) f
       by false is = ok_out is
-  held_fits i kind None new is = by (has_room s.counts.imports) is
+  held_fits i kind None new is = by (has_capacity s.counts.imports) is
     where
       by : (b : Bool)
           → Ok new
@@ -205,7 +205,7 @@ call_comes s f c done h does =
 bootstrap_comes : (s : State) (f : Fits s) (a : ℕ) (done : Done) → OnBootstrap s a (Ok done) → Good done
 bootstrap_comes s f a done does =
     answer_fits (with_answer s a None) (with_answer_fits s f a None) a (bootstrap_outcome s.bootstrap) done (outcome_of s.bootstrap)
-    (unless_out {A = Done} {F = PeerFault} (fault_if (is_answering s a) faults.QuestionInUse ++ fault_if (not (has_room s.entries.answers)) faults.TableFull)
+    (unless_out {A = Done} {F = PeerFault} (fault_if (is_answering s a) faults.QuestionInUse ++ fault_if (not (has_capacity s.entries.answers)) faults.TableFull)
     (GiveAnswer (with_answer s a None) a (bootstrap_outcome s.bootstrap)) done does).1
   where
     outcome_of : (o : Option ℕ) → OutcomeFits (bootstrap_outcome o)

@@ -38,10 +38,10 @@ use Rattle.cp_refs.specs.declared.route.Route.{Route}
 use Rattle.cp_refs.specs.declared.route.Route.TheVariants as routes
 use Rattle.cp_machine.specs.State.{State, Over, gave, none_over, with_exports}
 use Rattle.cp_machine.specs.Then.{Done, Then}
-use Rattle.cp_machine.specs.Room.{Fresh, cap_fits, caps_fit, content_fits, exception_fits}
-use Rattle.cp_machine.specs.Say.{Raise, counted, counted_out, opened, has_no_room, SayEnd, Say, SayAll, promised}
+use Rattle.cp_machine.specs.Capacity.{Fresh, cap_fits, caps_fit, content_fits, exception_fits}
+use Rattle.cp_machine.specs.Say.{Raise, counted, counted_out, opened, has_no_capacity, SayEnd, Say, SayAll, promised}
 use Rattle.cp_machine.specs.Give.{ResolvesEnd, Tells, settled, value_for, last_for, Settle, SettleTied, Returns, given, gone, GiveBy, GiveAnswer, GiveOwnBy, Give}
-use Rattle.cp_machine.specs.Go.{Underway, underway, delivered, finish_behind, GoOut, Go, GoTo, Leave, stays, leaves, finds_no_room, without_call}
+use Rattle.cp_machine.specs.Go.{Underway, underway, delivered, finish_after, GoOut, Go, GoTo, Leave, stays, leaves, finds_table_full, without_call}
 use Rattle.cp_machine.specs.Texts.{promise_loop}
 use Rattle.cp_machine.specs.declared.effect.Effect.{Effect}
 use Rattle.cp_machine.specs.declared.effect.Effect.TheVariants as effects
@@ -207,7 +207,7 @@ module _ (s : State) (f : Fits s) where
   raised_fits cap out h (counted e count is room) = exports_fit _ (every-insert (λ entry. CapFits entry.kept) s.counts.exports e _ f.exports_fit h)
   raised_fits cap out h (counted_out e is) = tt
   raised_fits cap out h (opened e none fresh) = exports_fit _ (every-insert (λ entry. CapFits entry.kept) s.counts.exports e _ f.exports_fit h)
-  raised_fits cap out h (has_no_room none is) = tt
+  raised_fits cap out h (has_no_capacity none is) = tt
 
   said_fits : (last : Cap) (said : Descriptor × State) → CapFits last → SayEnd s last (Ok said) → IsSaid said.0 × Fits said.1
   said_fits caps.None said h is = rw (ok_in _ _ is) (tt, f)
@@ -347,7 +347,7 @@ module _ (s : State) (f : Fits s) where
   delivered_fits (origins.Answer a) = f
   delivered_fits (origins.Own q) = f
 
-  finish_sent : (q : ℕ) (stage : Stage) → AreSent (finish_behind q stage)
+  finish_sent : (q : ℕ) (stage : Stage) → AreSent (finish_after q stage)
   finish_sent q stages.Open = tt
   finish_sent q stages.Finished = (tt, tt)
   finish_sent q stages.Returned = tt
@@ -421,4 +421,4 @@ leave_fits {old = old} f (leaves {mid = mid} {first = first} {rest = rest} {last
     let went = goes_fit (without_call old call) left (underway call) cap (first, mid) (held_fits call (get old.waiting.calls call.ticket) (f.calls_fit call.ticket) next.waits) (gave_fits old.waiting.over f.over_fits call.gate cap next.ended) goes in
     let then = leave_fits went.1 more in
     rw same (sent_both first rest went.0 then.0, then.1)
-leave_fits f (finds_no_room call cap next goes) = (tt, tt)
+leave_fits f (finds_table_full call cap next goes) = (tt, tt)

@@ -23,7 +23,7 @@ use Rattle.cp_rpc.specs.declared.resolve.Resolution.{Resolution}
 use Rattle.cp_rpc.specs.declared.resolve.Resolution.TheVariants as resolutions
 use Rattle.cp_rpc.specs.declared.message.Message.{Message}
 use Rattle.cp_rpc.specs.declared.message.Message.TheVariants as messages
-use Rattle.cp_machine.specs.Room.{exception_fits}
+use Rattle.cp_machine.specs.Capacity.{exception_fits}
 use Rattle.cp_machine.specs.declared.effect.Effect.{Effect}
 use Rattle.cp_machine.specs.declared.effect.Effect.TheVariants as effects
 use Rattle.cp_sizes.specs.Sizes.{AreWritable, IsWritable, IsWritten}

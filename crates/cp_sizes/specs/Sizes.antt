@@ -11,7 +11,7 @@ use Rattle.cp_refs.specs.declared.call.Held.{Held}
 use Rattle.cp_refs.specs.declared.call.Request.{Request}
 use Rattle.cp_refs.specs.declared.outcome.Outcome.{Outcome}
 use Rattle.cp_machine.specs.State.{State, Over, new_state}
-use Rattle.cp_machine.specs.Room.{cap_fits, outcome_fits, request_fits}
+use Rattle.cp_machine.specs.Capacity.{cap_fits, outcome_fits, request_fits}
 use Rattle.cp_machine.specs.Run.{Moment, Steps}
 use Rattle.cp_machine.specs.Step.{Step, echo_fits}
 use Rattle.cp_machine.specs.declared.effect.Effect.{Effect}

@@ -11,7 +11,7 @@ use Rattle.std.specs.Cmp.{nat_cmp_total}
 use Rattle.cp_tables.specs.declared.fault.TableFault.{TableFault}
 use Rattle.cp_tables.specs.declared.fault.TableFault.TheVariants.{Full}
 use Rattle.cp_machine.specs.declared.fault.PeerFault.TheVariants as faults
-use Rattle.cp_machine.specs.Room.{Fresh, free, full}
+use Rattle.cp_machine.specs.Capacity.{Fresh, free, full}
 use Rattle.cp_state.specs.Numbers.{AreNumbered}
 
 -- the fault of a refusal
@@ -33,8 +33,8 @@ some_there None h = absurd (true≢false (sym h))
 some_there (Some x) h = (x, refl)
 
 -- a table that isn't full has room
-pub has_room-not_full : (n : ℕ) → n ≤ 65536 → n ≢ 65536 → ltb n 65536 ≡ true
-has_room-not_full n few other = grind (arith, nat_tests)
+pub has_capacity-not_full : (n : ℕ) → n ≤ 65536 → n ≢ 65536 → ltb n 65536 ≡ true
+has_capacity-not_full n few other = grind (arith, nat_tests)
 
 -- what was put, or not
 pub put_or_not : {A E V : Type 0} (P : V → Type 0) (r : Result A E) (old put new : V) → OnOk r (new ≡ put) → OnErr r (new ≡ old) → P put → P old → P new
@@ -44,7 +44,7 @@ put_or_not P (Err x) old put new ok err put_holds old_holds = rw err old_holds
 module _ {X : Type 0} where
   -- a number that is free in a table that isn't full is fresh
   pub is_fresh : (table : Table X) (n : ℕ) → get table n ≡ None → n < 2 ^ 32 → len table ≤ 65536 → len table ≢ 65536 → Fresh table (Ok n)
-  is_fresh table n none fits few other = free n none fits (has_room-not_full (len table) few other)
+  is_fresh table n none fits few other = free n none fits (has_capacity-not_full (len table) few other)
 
   -- a full table has no number that is fresh
   pub none_fresh : (table : Table X) → len table ≡ 65536 → Fresh table (Err faults.TableFull)

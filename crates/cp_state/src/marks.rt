@@ -48,7 +48,7 @@ impl Model for Marks {
 impl Marks {
     ghost use Rattle.std.specs.Prelude.{not};
     ghost use Rattle.cp_machine.specs.State.{State};
-    ghost use Rattle.cp_machine.specs.Room.{Fresh};
+    ghost use Rattle.cp_machine.specs.Capacity.{Fresh};
     ghost use Rattle.cp_machine.specs.Give.{is_path_of};
     ghost use Rattle.cp_machine.specs.Calling.{mark_of, with_mark, marked};
     ghost use Rattle.cp_state.specs.Halts.{Meets, Becomes, IfFault};

@@ -39,7 +39,7 @@ impl Model for NumberedValues {
 
 impl NumberedValues {
     ghost use Rattle.cp_tables.specs.Table.{with_change};
-    ghost use Rattle.cp_machine.specs.Room.{Fresh};
+    ghost use Rattle.cp_machine.specs.Capacity.{Fresh};
     ghost use Rattle.cp_state.specs.Halts.{Meets};
 
     /// Nothing is reported yet.

@@ -10,7 +10,7 @@ use Rattle.cp_stream.specs.declared.fault.Refusal.TheVariants as refusals
 use Rattle.cp_stream.specs.declared.fault.StreamFault.TheVariants as faults
 use Rattle.cp_stream.specs.declared.status.Status.TheVariants as statuses
 use Rattle.cp_stream.specs.Stream.{HasFault, Messages}
-use Rattle.cp_stream.specs.Reader.{Stands, IsReading, IsRefusing, IsMemory, IsToldFor, IsToldAtEnd, Gives, Tells, EndsWell, TellsAtEnd, Reader}
+use Rattle.cp_stream.specs.Reader.{Stands, IsReading, IsRefusing, IsMemory, IsReportedFor, IsReportedAtEnd, Gives, Reports, EndsWell, ReportsAtEnd, Reader}
 use Rattle.cp_stream.specs.Kept.{seen, frames_state, ReadsPiece, RefusesPiece}
 
 pub stands_in : (mode : Mode) (limits : Bounds) (s : frames.State) (b : List ℕ) → Stands mode limits (frames_state s) b → frames.Stands mode limits s b
@@ -66,28 +66,28 @@ gives_before r r' piece ms at reached refusal (inr (given, g, inr h)) n e = reco
   kept = λ k. e;
 }
 
-pub told_frames : (r : frames.Reader) (at : ℕ) (piece : List ℕ) (s : frames.State) (fault : FrameFault) → r.state ≡ s → frames.IsToldFor r piece s fault
-    → IsToldFor (seen statuses.Reading r at) piece (frames_state s) (refusals.Frame fault)
+pub told_frames : (r : frames.Reader) (at : ℕ) (piece : List ℕ) (s : frames.State) (fault : FrameFault) → r.state ≡ s → frames.IsReportedFor r piece s fault
+    → IsReportedFor (seen statuses.Reading r at) piece (frames_state s) (refusals.Frame fault)
 told_frames r at piece frames.failed fault e h = ap refusals.Frame h
 told_frames r at piece (frames.refusing kept) fault e h = ap refusals.Frame h
 told_frames r at piece (frames.reading rest taken) fault e (inl h) = inl (inl (ap refusals.Frame h))
 told_frames r at piece (frames.reading rest taken) fault e (inr h) = inr (λ b k. h b (stands_in r.mode r.limits r.state b k))
 
-pub told_memory : (r : Reader) (piece : List ℕ) (s : frames.State) (refusal : Refusal) → frames.IsReading s → IsMemory refusal → IsToldFor r piece (frames_state s) refusal
+pub told_memory : (r : Reader) (piece : List ℕ) (s : frames.State) (refusal : Refusal) → frames.IsReading s → IsMemory refusal → IsReportedFor r piece (frames_state s) refusal
 told_memory r piece frames.failed refusal h k = absurd h
 told_memory r piece (frames.refusing fault) refusal h k = absurd h
 told_memory r piece (frames.reading rest taken) refusal h k = inl k
 
 pub told_fault : (r : frames.Reader) (at : ℕ) (piece : List ℕ) (s : frames.State) (refusal : Refusal) → r.state ≡ s → frames.IsReading s
-    → ((b : List ℕ) → frames.StandsFor r b → HasFault r.mode r.limits (b ++ piece) refusal) → IsToldFor (seen statuses.Reading r at) piece (frames_state s) refusal
+    → ((b : List ℕ) → frames.StandsFor r b → HasFault r.mode r.limits (b ++ piece) refusal) → IsReportedFor (seen statuses.Reading r at) piece (frames_state s) refusal
 told_fault r at piece frames.failed refusal e h k = absurd h
 told_fault r at piece (frames.refusing fault) refusal e h k = absurd h
 told_fault r at piece (frames.reading rest taken) refusal e h k = inr (λ b g. k b (stands_in r.mode r.limits r.state b g))
 
 pub told_for : (r r' : frames.Reader) (piece : List ℕ) (ms : List Message) (at reached : ℕ) (refusal : Refusal) → RefusesPiece r.limits r piece r' ms at reached refusal
-    → IsMemory refusal ⊎ (ms ≡ []) → IsToldFor (seen statuses.Reading r at) piece (frames_state r.state) refusal
+    → IsMemory refusal ⊎ (ms ≡ []) → IsReportedFor (seen statuses.Reading r at) piece (frames_state r.state) refusal
 told_for r r' piece ms at reached refusal (inl (fault, e, told, none)) k =
-    subst (λ (x : Refusal). IsToldFor (seen statuses.Reading r at) piece (frames_state r.state) x) (sym e) (told_frames r at piece r.state fault refl told.told)
+    subst (λ (x : Refusal). IsReportedFor (seen statuses.Reading r at) piece (frames_state r.state) x) (sym e) (told_frames r at piece r.state fault refl told.reported)
 told_for r r' piece ms at reached refusal (inr (given, g, inl h)) k = told_memory (seen statuses.Reading r at) piece r.state refusal g.was_reading h
 told_for r r' piece ms at reached refusal (inr (given, g, inr h)) (inl k) = told_memory (seen statuses.Reading r at) piece r.state refusal g.was_reading k
 told_for r r' piece ms at reached refusal (inr (given, g, inr h)) (inr k) =
@@ -97,9 +97,9 @@ told_for r r' piece ms at reached refusal (inr (given, g, inr h)) (inr k) =
     let none = subst (λ (ns : List Message). Messages r.mode r.limits (b ++ piece) ns found.0) k found.1.messages in
     subst (λ (x : List ℕ). HasFault r.mode r.limits x refusal) (sym none) found.2)
 
-pub tells : (r r' : frames.Reader) (piece : List ℕ) (ms : List Message) (at reached : ℕ) (refusal : Refusal) → RefusesPiece r.limits r piece r' ms at reached refusal
-    → IsMemory refusal ⊎ (ms ≡ []) → Tells (seen statuses.Reading r at) piece (seen statuses.Failed r' at) (faults.Refused at refusal)
-tells r r' piece ms at reached refusal h k = record { told = (refl, told_for r r' piece ms at reached refusal h k); failed = refl; same = refl }
+pub reports : (r r' : frames.Reader) (piece : List ℕ) (ms : List Message) (at reached : ℕ) (refusal : Refusal) → RefusesPiece r.limits r piece r' ms at reached refusal
+    → IsMemory refusal ⊎ (ms ≡ []) → Reports (seen statuses.Reading r at) piece (seen statuses.Failed r' at) (faults.Refused at refusal)
+reports r r' piece ms at reached refusal h k = record { reported = (refl, told_for r r' piece ms at reached refusal h k); failed = refl; same = refl }
 
 pub ends_well : (r r' : frames.Reader) (at : ℕ) → frames.EndsWell r r' → EndsWell (seen statuses.Reading r at) (seen statuses.Reading r' at)
 ends_well r r' at h = record {
@@ -108,12 +108,12 @@ ends_well r r' at h = record {
   nothing = λ b k. h.nothing b (stands_in r.mode r.limits r.state b k);
 }
 
-pub told_end : (r : frames.Reader) (at : ℕ) (s : frames.State) (fault : FrameFault) → r.state ≡ s → frames.IsToldAtEnd r s fault
-    → IsToldAtEnd (seen statuses.Reading r at) (frames_state s) (refusals.Frame fault)
+pub told_end : (r : frames.Reader) (at : ℕ) (s : frames.State) (fault : FrameFault) → r.state ≡ s → frames.IsReportedAtEnd r s fault
+    → IsReportedAtEnd (seen statuses.Reading r at) (frames_state s) (refusals.Frame fault)
 told_end r at frames.failed fault e h = ap refusals.Frame h
 told_end r at (frames.refusing kept) fault e h = ap refusals.Frame h
 told_end r at (frames.reading rest taken) fault e h = (ap refusals.Frame h.0, λ b k. h.1 b (stands_in r.mode r.limits r.state b k))
 
-pub tells_end : (r r' : frames.Reader) (at : ℕ) (fault : FrameFault) → frames.TellsAtEnd r r' fault
-    → TellsAtEnd (seen statuses.Reading r at) (seen statuses.Failed r' at) (faults.Refused at (refusals.Frame fault))
-tells_end r r' at fault h = record { told = (refl, told_end r at r.state fault refl h.told); failed = refl; same = refl }
+pub reports_at_end : (r r' : frames.Reader) (at : ℕ) (fault : FrameFault) → frames.ReportsAtEnd r r' fault
+    → ReportsAtEnd (seen statuses.Reading r at) (seen statuses.Failed r' at) (faults.Refused at (refusals.Frame fault))
+reports_at_end r r' at fault h = record { reported = (refl, told_end r at r.state fault refl h.reported); failed = refl; same = refl }

@@ -5,8 +5,8 @@ use Rattle.cp_frame.specs.declared.mode.Mode.{Mode}
 use Rattle.cp_frame.specs.Runs.{joined}
 use Rattle.cp_rpc.specs.declared.message.Message.{Message}
 use Rattle.cp_stream.specs.Stream.{Holds, Front, Messages, Stream, HasFault}
-use Rattle.cp_stream.specs.Reader.{State, failed, refusing, reading, Reader, Stands, StandsFor, IsReading, IsMemory, IsToldFor, Reads}
-use Rattle.cp_stream.specs.Runs.{HasOneFront, IsOneStream, Fed, GivesStream, TellsRest, GivesSame}
+use Rattle.cp_stream.specs.Reader.{State, failed, refusing, reading, Reader, Stands, StandsFor, IsReading, IsMemory, IsReportedFor, Reads}
+use Rattle.cp_stream.specs.Runs.{HasOneFront, IsOneStream, Fed, GivesStream, ReportsRest, GivesSame}
 use Rattle.cp_stream.specs.declared.fault.Refusal.{Refusal}
 use Rattle.cp_stream.proofs.Only.{one_front, one_message, fault_holds}
 
@@ -103,18 +103,18 @@ gives_same old new other pieces others given gotten b small h k m same =
     (read.0, omega (arith, one.2.counts, two.2.counts, taken), one.0, one.3, subst (λ (x : List ℕ). StandsFor other x) (sym read.1) two.3)
 
 -- while a stream is read, a fault that is reported is that of the rest
-told_of : (r : Reader) (piece : List ℕ) (state : State) (refusal : Refusal) → IsReading state → IsToldFor r piece state refusal → ¬ (IsMemory refusal)
+reported_of : (r : Reader) (piece : List ℕ) (state : State) (refusal : Refusal) → IsReading state → IsReportedFor r piece state refusal → ¬ (IsMemory refusal)
     → (b : List ℕ) → StandsFor r b → HasFault r.mode r.limits (b ++ piece) refusal
-told_of r piece failed refusal h k n = absurd h
-told_of r piece (refusing kept) refusal h k n = absurd h
-told_of r piece (reading rest taken) refusal h (inl k) n = absurd (n k)
-told_of r piece (reading rest taken) refusal h (inr k) n = k
+reported_of r piece failed refusal h k n = absurd h
+reported_of r piece (refusing kept) refusal h k n = absurd h
+reported_of r piece (reading rest taken) refusal h (inl k) n = absurd (n k)
+reported_of r piece (reading rest taken) refusal h (inr k) n = k
 
-pub tells_rest : TellsRest
-tells_rest old mid new pieces piece given at refusal b small h k r t n =
+pub reports_rest : ReportsRest
+reports_rest old mid new pieces piece given at refusal b small h k r t n =
     let all = reads_all old mid pieces given b small h k in
     let same = same_form old mid pieces given k in
-    let here = told_of mid piece mid.state refusal r t.told.1 n all.0 all.2 in
+    let here = reported_of mid piece mid.state refusal r t.reported.1 n all.0 all.2 in
     let moded = subst (λ (mode : Mode). HasFault mode mid.limits (all.0 ++ piece) refusal) same.0 here in
     let there = subst (λ (limits : Bounds). HasFault old.mode limits (all.0 ++ piece) refusal) same.1 moded in
     let longer = cut old.mode old.limits (b ++ joined pieces) piece given [] all.0 (all.0 ++ piece) all.1.messages refl in

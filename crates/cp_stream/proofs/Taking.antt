@@ -8,7 +8,7 @@ use Rattle.cp_frame.specs.declared.fault.FrameFault.{FrameFault}
 use Rattle.cp_frame.specs.declared.fault.FrameFault.TheVariants as faults
 use Rattle.cp_frame.specs.Frame.{Frame}
 use Rattle.cp_frame.specs.Stream.{NoFront, HasFault, Open}
-use Rattle.cp_frame.specs.Reader.{Reader, State, failed, refusing, reading, Stands, StandsFor, IsReading, IsRefusing, IsNeeded, Needs, Gives, Tells, IsToldFor, taken_of}
+use Rattle.cp_frame.specs.Reader.{Reader, State, failed, refusing, reading, Stands, StandsFor, IsReading, IsRefusing, IsNeeded, Needs, Gives, Reports, IsReportedFor, taken_of}
 use Rattle.cp_stream.specs.declared.fault.Refusal.TheVariants as refusals
 use Rattle.cp_stream.specs.declared.fault.StreamFault.{StreamFault}
 use Rattle.cp_stream.specs.declared.fault.StreamFault.TheVariants.{Refused}
@@ -99,11 +99,11 @@ ends_there r n b piece S front [] h k s some few e f = refl
 ends_there r n b [] S front (x ∷ back) h k s some few e f = absurd (h b [] k s some S front (x ∷ back) e f)
 ends_there r n b (p ∷ piece) S front (x ∷ back) h k s some few e f =
     let whole = ends p piece in
-    let behind = ends x back in
-    let cut : (b ++ whole.0) ++ whole.1 ∷ [] ≡ (front ++ behind.0) ++ behind.1 ∷ [] =
-    append_assoc b whole.0 (whole.1 ∷ []) ∙ ap (λ (zs : List ℕ). b ++ zs) (sym whole.2) ∙ e ∙ ap (λ (zs : List ℕ). front ++ zs) behind.2 ∙ sym (append_assoc front behind.0 (behind.1 ∷ [])) in
+    let following = ends x back in
+    let cut : (b ++ whole.0) ++ whole.1 ∷ [] ≡ (front ++ following.0) ++ following.1 ∷ [] =
+    append_assoc b whole.0 (whole.1 ∷ []) ∙ ap (λ (zs : List ℕ). b ++ zs) (sym whole.2) ∙ e ∙ ap (λ (zs : List ℕ). front ++ zs) following.2 ∙ sym (append_assoc front following.0 (following.1 ∷ [])) in
     let size : length (p ∷ piece) ≡ length whole.0 + 1 = ap (λ (zs : List ℕ). length zs) whole.2 ∙ length-append whole.0 (whole.1 ∷ []) in
-    absurd (h b whole.0 k s (omega (arith, size, few)) S front behind.0 (same_fronts (b ++ whole.0) (front ++ behind.0) whole.1 behind.1 cut) f)
+    absurd (h b whole.0 k s (omega (arith, size, few)) S front following.0 (same_fronts (b ++ whole.0) (front ++ following.0) whole.1 following.1 cut) f)
 
 -- the frame that comes is of all bytes
 pub first_frame : (r r' : Reader) (n : ℕ) (b piece : List ℕ) (g : ℕ × List (List ℕ)) (gs : List (ℕ × List (List ℕ))) → NoneSooner r n → 0 < n → length piece ≤ n → StandsFor r b
@@ -141,15 +141,15 @@ fault_told mode limits new b faults.RunPastFrame h = h
 fault_told mode limits new b faults.Failed h = h
 fault_told mode limits new b faults.OutOfMemory h = tt
 
-told_by : (r : Reader) (piece b : List ℕ) (new : Option (List ℕ)) (s : State) (fault : FrameFault) → r.state ≡ s → IsReading s → StandsFor r b → IsToldFor r piece s fault → IsNoFrame r.mode r.limits new (b ++ piece) fault
+told_by : (r : Reader) (piece b : List ℕ) (new : Option (List ℕ)) (s : State) (fault : FrameFault) → r.state ≡ s → IsReading s → StandsFor r b → IsReportedFor r piece s fault → IsNoFrame r.mode r.limits new (b ++ piece) fault
 told_by r piece b new failed fault e h k t = absurd h
 told_by r piece b new (refusing kept) fault e h k t = absurd h
 told_by r piece b new (reading rest taken) fault e h k (inl t) = subst (λ (f : FrameFault). IsNoFrame r.mode r.limits new (b ++ piece) f) (sym t) tt
 told_by r piece b new (reading rest taken) fault e h k (inr t) = fault_told r.mode r.limits new (b ++ piece) fault (t b k)
 
 -- a fault that is told is one of the bytes
-pub told_frame : (r r' : Reader) (piece b : List ℕ) (new : Option (List ℕ)) (fault : FrameFault) → IsReading r.state → StandsFor r b → Tells r piece r' fault → IsNoFrame r.mode r.limits new (b ++ piece) fault
-told_frame r r' piece b new fault h k t = told_by r piece b new r.state fault refl h k t.told
+pub told_frame : (r r' : Reader) (piece b : List ℕ) (new : Option (List ℕ)) (fault : FrameFault) → IsReading r.state → StandsFor r b → Reports r piece r' fault → IsNoFrame r.mode r.limits new (b ++ piece) fault
+told_frame r r' piece b new fault h k t = told_by r piece b new r.state fault refl h k t.reported
 
 pub map_err : {X E : Type 0} (r : Result X E) (P Q : E → Type 0) → ((e : E) → P e → Q e) → IfErr r P → IfErr r Q
 map_err (Ok x) P Q h k = tt
@@ -212,7 +212,7 @@ takes_more mode limits old mid failures begun r r' piece given h gives e =
 
 -- a fault was told
 pub stops_there : (mode : Mode) (limits : Bounds) (old mid new : Option (List ℕ)) (failures begun counted : ℕ) (r r' : Reader) (piece : List ℕ) (fault : FrameFault)
-    → ReadsOn mode limits old mid failures begun r → Consumes mid new piece → counted ≡ begun → Tells r piece r' fault
+    → ReadsOn mode limits old mid failures begun r → Consumes mid new piece → counted ≡ begun → Reports r piece r' fault
     → StopsAt (RefusesFrame mode limits new) old new failures counted (Refused 0 (refusals.Frame fault))
 stops_there mode limits old mid new failures begun counted r r' piece fault h k c t =
     let told = told_frame r r' piece h.bytes new fault h.reading h.stands t in

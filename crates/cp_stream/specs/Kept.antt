@@ -59,7 +59,7 @@ ReadsPiece limits old piece new ms at reached = (given : List (ℕ × List (List
 -- the piece gave no frames; or it gave some, and memory ran out, or one of them has the fault
 abbrev pub RefusesPiece : Bounds → frames.Reader → List ℕ → frames.Reader → List Message → ℕ → ℕ → Refusal → Type 0
 RefusesPiece limits old piece new ms at reached refusal =
-    ((fault : FrameFault) × (refusal ≡ refusals.Frame fault) × frames.Tells old piece new fault × (ms ≡ []))
+    ((fault : FrameFault) × (refusal ≡ refusals.Frame fault) × frames.Reports old piece new fault × (ms ≡ []))
     ⊎ ((given : List (ℕ × List (List ℕ))) × frames.Gives old piece new given × (IsMemory refusal ⊎ RefusesOf limits given ms at reached refusal))
 
 -- One frame is being read: what was read so far is what the reader of frames stands for.

@@ -72,21 +72,21 @@ GivesNone (Ok None) = Unit {0}
 GivesNone (Err fault) = IsExcused fault
 
 -- such a refusal was reported; or the call is excused
-abbrev pub TellsOnly : {X : Type 0} → (Refusal → Type 0) → Result (Option X) StreamFault → Type 0
-TellsOnly why (Ok x) = ⊥
-TellsOnly why (Err (faults.Refused at refusal)) = IsMemory refusal ⊎ why refusal
-TellsOnly why (Err faults.Device) = Unit {0}
+abbrev pub ReportsOnly : {X : Type 0} → (Refusal → Type 0) → Result (Option X) StreamFault → Type 0
+ReportsOnly why (Ok x) = ⊥
+ReportsOnly why (Err (faults.Refused at refusal)) = IsMemory refusal ⊎ why refusal
+ReportsOnly why (Err faults.Device) = Unit {0}
 
 -- What is read of a device is what its bytes say: a frame that they begin with; nothing where there are none; F3 where they end inside a frame; else their fault.
 pub record OnlyFrame (mode : Mode) (limits : Bounds) (bytes : List ℕ) (old new : Option (List ℕ)) (result : Result (Option (List (List ℕ))) StreamFault) : Type 0 where
   pub frame : (S : List (List ℕ)) (front back : List ℕ) → bytes ≡ front ++ back → Frame mode limits S front → GivesOnly old new S front result
   pub end : bytes ≡ [] → GivesNone result
-  pub inside : bytes ≢ [] → streams.Open mode limits bytes → TellsOnly (λ r. r ≡ refusals.Frame frames.Truncated) result
-  pub fault : (fault : FrameFault) → streams.HasFault mode limits bytes fault → TellsOnly (λ r. r ≡ refusals.Frame fault) result
+  pub inside : bytes ≢ [] → streams.Open mode limits bytes → ReportsOnly (λ r. r ≡ refusals.Frame frames.Truncated) result
+  pub fault : (fault : FrameFault) → streams.HasFault mode limits bytes fault → ReportsOnly (λ r. r ≡ refusals.Frame fault) result
 
 -- The same of messages: a fault is also that of a frame that holds none.
 pub record OnlyMessage (mode : Mode) (limits : Bounds) (bytes : List ℕ) (old new : Option (List ℕ)) (result : Result (Option Message) StreamFault) : Type 0 where
   pub message : (n : ℕ) (m : Message) → Front mode limits bytes n m → GivesOnly old new m (take n bytes) result
   pub end : bytes ≡ [] → GivesNone result
-  pub inside : bytes ≢ [] → streams.Open mode limits bytes → TellsOnly (λ r. r ≡ refusals.Frame frames.Truncated) result
-  pub fault : (refusal : Refusal) → HasFault mode limits bytes refusal → TellsOnly (HasFault mode limits bytes) result
+  pub inside : bytes ≢ [] → streams.Open mode limits bytes → ReportsOnly (λ r. r ≡ refusals.Frame frames.Truncated) result
+  pub fault : (refusal : Refusal) → HasFault mode limits bytes refusal → ReportsOnly (HasFault mode limits bytes) result

@@ -72,10 +72,10 @@ abbrev pub IsMemory : Refusal → Type 0
 IsMemory refusal = (refusal ≡ refusals.Frame frames.OutOfMemory) ⊎ (refusal ≡ refusals.Schema schemas.OutOfMemory)
 
 -- why a fault is reported for a piece: it was reported before or kept, memory ran out, or the rest has it
-abbrev pub IsToldFor : Reader → List ℕ → State → Refusal → Type 0
-IsToldFor r piece failed refusal = refusal ≡ refusals.Frame frames.Failed
-IsToldFor r piece (refusing kept) refusal = refusal ≡ kept
-IsToldFor r piece (reading rest taken) refusal = IsMemory refusal ⊎ ((b : List ℕ) → StandsFor r b → HasFault r.mode r.limits (b ++ piece) refusal)
+abbrev pub IsReportedFor : Reader → List ℕ → State → Refusal → Type 0
+IsReportedFor r piece failed refusal = refusal ≡ refusals.Frame frames.Failed
+IsReportedFor r piece (refusing kept) refusal = refusal ≡ kept
+IsReportedFor r piece (reading rest taken) refusal = IsMemory refusal ⊎ ((b : List ℕ) → StandsFor r b → HasFault r.mode r.limits (b ++ piece) refusal)
 
 -- the fault is this refusal, and names the bytes of the frames whose messages were given
 abbrev pub IsAt : ℕ → (Refusal → Type 0) → StreamFault → Type 0
@@ -83,16 +83,16 @@ IsAt at why (faults.Refused place refusal) = (place ≡ at) × why refusal
 IsAt at why faults.Device = ⊥
 
 -- A fault was reported, and the reader has failed.
-pub record Tells (old : Reader) (piece : List ℕ) (new : Reader) (fault : StreamFault) : Type 0 where
-  pub told : IsAt old.at (IsToldFor old piece old.state) fault
+pub record Reports (old : Reader) (piece : List ℕ) (new : Reader) (fault : StreamFault) : Type 0 where
+  pub reported : IsAt old.at (IsReportedFor old piece old.state) fault
   pub failed : new.state ≡ failed
   pub same : new.at ≡ old.at
 
 -- why a fault is reported at the end: it was reported before or kept, or the stream ends inside a frame
-abbrev pub IsToldAtEnd : Reader → State → Refusal → Type 0
-IsToldAtEnd r failed refusal = refusal ≡ refusals.Frame frames.Failed
-IsToldAtEnd r (refusing kept) refusal = refusal ≡ kept
-IsToldAtEnd r (reading rest taken) refusal = (refusal ≡ refusals.Frame frames.Truncated) × ((b : List ℕ) → StandsFor r b → b ≢ [])
+abbrev pub IsReportedAtEnd : Reader → State → Refusal → Type 0
+IsReportedAtEnd r failed refusal = refusal ≡ refusals.Frame frames.Failed
+IsReportedAtEnd r (refusing kept) refusal = refusal ≡ kept
+IsReportedAtEnd r (reading rest taken) refusal = (refusal ≡ refusals.Frame frames.Truncated) × ((b : List ℕ) → StandsFor r b → b ≢ [])
 
 -- The stream ended after a message, and the reader is as it was.
 pub record EndsWell (old new : Reader) : Type 0 where
@@ -101,8 +101,8 @@ pub record EndsWell (old new : Reader) : Type 0 where
   pub nothing : (b : List ℕ) → StandsFor old b → b ≡ []
 
 -- The end reported a fault, and the reader has failed.
-pub record TellsAtEnd (old new : Reader) (fault : StreamFault) : Type 0 where
-  pub told : IsAt old.at (IsToldAtEnd old old.state) fault
+pub record ReportsAtEnd (old new : Reader) (fault : StreamFault) : Type 0 where
+  pub reported : IsAt old.at (IsReportedAtEnd old old.state) fault
   pub failed : new.state ≡ failed
   pub same : new.at ≡ old.at
 

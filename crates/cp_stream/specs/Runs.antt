@@ -5,7 +5,7 @@ use Rattle.cp_frame.specs.declared.mode.Mode.{Mode}
 use Rattle.cp_frame.specs.Runs.{joined}
 use Rattle.cp_rpc.specs.declared.message.Message.{Message}
 use Rattle.cp_stream.specs.Stream.{Front, Stream, HasFault}
-use Rattle.cp_stream.specs.Reader.{Reader, StandsFor, IsReading, IsMemory, Reads, Gives, Tells}
+use Rattle.cp_stream.specs.Reader.{Reader, StandsFor, IsReading, IsMemory, Reads, Gives, Reports}
 use Rattle.cp_stream.specs.declared.fault.Refusal.{Refusal}
 use Rattle.cp_stream.specs.declared.fault.StreamFault.TheVariants as faults
 
@@ -31,9 +31,9 @@ GivesStream = (old new : Reader) (pieces : List (List ℕ)) (given : List Messag
     → (rest : List ℕ) × Stream old.mode old.limits (b ++ joined pieces) given rest × Reads old.mode old.limits (b ++ joined pieces) given rest old.at new.at × StandsFor new rest
 
 -- a fault that is reported for a piece, allocation failure aside, is one of the rest of the stream that all pieces make
-abbrev pub TellsRest : Type 0
-TellsRest = (old mid new : Reader) (pieces : List (List ℕ)) (piece : List ℕ) (given : List Message) (at : ℕ) (refusal : Refusal) (b : List ℕ)
-    → old.at < 2 ^ 64 → StandsFor old b → Fed old pieces given mid → IsReading mid.state → Tells mid piece new (faults.Refused at refusal) → ¬ (IsMemory refusal)
+abbrev pub ReportsRest : Type 0
+ReportsRest = (old mid new : Reader) (pieces : List (List ℕ)) (piece : List ℕ) (given : List Message) (at : ℕ) (refusal : Refusal) (b : List ℕ)
+    → old.at < 2 ^ 64 → StandsFor old b → Fed old pieces given mid → IsReading mid.state → Reports mid piece new (faults.Refused at refusal) → ¬ (IsMemory refusal)
     → (rest : List ℕ) × Stream old.mode old.limits (b ++ (joined pieces ++ piece)) given rest × HasFault old.mode old.limits rest refusal
 
 -- however a stream comes in pieces, the messages are the same, and so is the number of their bytes; and the readers stand for the same rest

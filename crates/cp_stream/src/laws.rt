@@ -5,10 +5,10 @@ ghost use Rattle.cp_words.specs.Limits.{Bounds, IsAllowed};
 ghost use Rattle.cp_tree.specs.Node.{Node, IsStruct, depth, cost};
 ghost use Rattle.cp_tree.specs.Shaped.{Shaped};
 ghost use Rattle.cp_reading.specs.Denotes.{Denotes, Root};
-ghost use Rattle.cp_writing.specs.Layout.{Layout, Room};
+ghost use Rattle.cp_writing.specs.Layout.{Layout, Capacity};
 ghost use Rattle.cp_frame.specs.declared.mode.Mode.{Mode};
 ghost use Rattle.cp_rpc.specs.declared.message.Message.{Message};
-ghost use Rattle.cp_stream.specs.Runs.{HasOneFront, IsOneStream, GivesStream, TellsRest, GivesSame};
+ghost use Rattle.cp_stream.specs.Runs.{HasOneFront, IsOneStream, GivesStream, ReportsRest, GivesSame};
 ghost use Rattle.cp_stream.specs.Stream.{Front};
 ghost use Rattle.cp_stream.specs.Write.{IsWrittenAs};
 
@@ -22,20 +22,20 @@ pub fn one_front()
 /// the whole.
 pub fn any_cut()
     ensures all { GivesStream }
-    ensures told { TellsRest }
+    ensures reported { ReportsRest }
     ensures any { GivesSame }
 {}
 
 /// The segments that a tree is laid into denote it.
 pub fn layout_denotes()
-    ensures { (S : List (List ℕ)) (room : Room) (t : Node) → Shaped t → Layout S room t → Denotes S 0 0 t }
+    ensures { (S : List (List ℕ)) (capacity : Capacity) (t : Node) → Shaped t → Layout S capacity t → Denotes S 0 0 t }
 {}
 
 /// The segments that a struct is laid into are read as that struct, where it is within the limits,
 /// and as no other tree.
 pub fn written_is_read()
-    ensures root { (S : List (List ℕ)) (room : Room) (limits : Bounds) (t : Node) → Shaped t → IsStruct t → depth t ≤ limits.nesting → cost t ≤ limits.traversal → Layout S room t → Root S limits t }
-    ensures only { (S : List (List ℕ)) (room : Room) (limits : Bounds) (t u : Node) → Shaped t → Layout S room t → Root S limits u → u ≡ t }
+    ensures root { (S : List (List ℕ)) (capacity : Capacity) (limits : Bounds) (t : Node) → Shaped t → IsStruct t → depth t ≤ limits.nesting → cost t ≤ limits.traversal → Layout S capacity t → Root S limits t }
+    ensures only { (S : List (List ℕ)) (capacity : Capacity) (limits : Bounds) (t u : Node) → Shaped t → Layout S capacity t → Root S limits u → u ≡ t }
 {}
 
 /// A message that is written is read back, whatever follows it.

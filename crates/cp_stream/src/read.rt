@@ -25,51 +25,41 @@ const PIECE: usize = 4096;
 /// More bytes than have come of an open frame, whatever the limits.
 const MOST: u64 = 1 << 36;
 
-/// A reader of frames of which nothing has come.
-fn frame_reader(alloc: Global, mode: Mode, limits: Limits) -> FrameReader
-    ensures fresh { result ≡ fresh_reader mode limits }
-    ensures stands { StandsFor result [] }
-{
-    match mode {
-        Mode::Plain => FrameReader::plain(alloc, limits),
-        Mode::Packed => FrameReader::packed(alloc, limits),
-    }
-}
-
-/// Reads at most this many bytes into a buffer, and says how many: 0 at the end alone.
-fn read_some<R: Read>(
+/// Reads the next frame of a device: exactly its bytes. `None` says that the device ended before any
+/// byte (encoding specification, "Serialization Over a Stream").
+///
+/// `Truncated` (F3) says that it ended inside a frame; F1, F2, F4 and F6 are reported as by `FrameReader`,
+/// all at 0. `Device` says that a call of the device failed. What was read is the front of its bytes.
+pub fn read_segments<R: Read>(
+    alloc: Global,
     from: &mut Tap<R>,
-    buffer: &mut [u8],
-    most: usize,
-) -> Result<usize, StreamFault>
-    requires some { 0 < most }
-    requires room { most ≤ length buffer.old }
-    ensures length { length buffer.new ≡ length buffer.old }
-    ensures bound { IfOk result (λ n. n ≤ most) }
-    ensures inside { IfOk result (λ n. n ≤ length buffer.new) }
-    ensures bytes { IfOk result (λ n. Consumes (R.remaining (inner_of from.old)) (R.remaining (inner_of from.new)) (take n buffer.new)) }
-    ensures end { IfOk result (λ n. n ≡ 0 → IsAtEnd (R.remaining (inner_of from.new))) }
+    mode: Mode,
+    limits: Limits,
+) -> Result<Option<Segments>, StreamFault>
+    ensures read { IfOk result (ReadsFrame mode limits (R.remaining (inner_of from.old)) (R.remaining (inner_of from.new))) }
     ensures counted { OnOk result (failures_of from.new ≡ failures_of from.old) }
-    ensures device { IfErr result (λ fault. fault ≡ Device) }
-    ensures failed { OnErr result (FailedOnce (failures_of from.old) (failures_of from.new)) }
-    ensures none { OnErr result (Consumes (R.remaining (inner_of from.old)) (R.remaining (inner_of from.new)) []) }
+    ensures stopped { IfErr result (StopsAt (RefusesFrame mode limits (R.remaining (inner_of from.new))) (R.remaining (inner_of from.old)) (R.remaining (inner_of from.new)) (failures_of from.old) (failures_of from.new)) }
+    // Bytes that are known leave one answer.
+    ensures only { (b : List ℕ) → AreBytes b → R.remaining (inner_of from.old) ≡ Some b → OnlyFrame mode limits b (R.remaining (inner_of from.old)) (R.remaining (inner_of from.new)) result }
 {
-    match from.read(&mut buffer[..most]) {
-        Ok(length) => Ok(length),
-        Err(_) => Err(StreamFault::Device),
-    }
+    take_frame(alloc, from, mode, limits)
 }
 
-/// Ends the reading of a frame, where the device ended.
-fn end_of(frames: &mut FrameReader) -> Result<Option<Segments>, StreamFault>
-    requires { IsReading frames.old.state }
-    ensures none { IfOk result (λ frame. (frame ≡ None) × ((b : List ℕ) → StandsFor frames.old b → b ≡ [])) }
-    ensures inside { IfErr result (λ fault. (fault ≡ Refused 0 (refusals.Frame Truncated)) × ((b : List ℕ) → StandsFor frames.old b → b ≢ [])) }
+/// Reads the next message of a device: exactly the bytes of its frame. `None` says that the device
+/// ended before any byte. Faults are those of `read_segments` and of `view_of`, and S3, all at 0.
+pub fn read_message<R: Read>(
+    alloc: Global,
+    from: &mut Tap<R>,
+    mode: Mode,
+    limits: Limits,
+) -> Result<Option<Message>, StreamFault>
+    ensures read { IfOk result (ReadsMessage mode limits (R.remaining (inner_of from.old)) (R.remaining (inner_of from.new))) }
+    ensures counted { OnOk result (failures_of from.new ≡ failures_of from.old) }
+    ensures stopped { IfErr result (StopsAt (RefusesMessage mode limits (R.remaining (inner_of from.new))) (R.remaining (inner_of from.old)) (R.remaining (inner_of from.new)) (failures_of from.old) (failures_of from.new)) }
+    // Bytes that are known leave one answer.
+    ensures only { (b : List ℕ) → AreBytes b → R.remaining (inner_of from.old) ≡ Some b → OnlyMessage mode limits b (R.remaining (inner_of from.old)) (R.remaining (inner_of from.new)) result }
 {
-    match frames.finish() {
-        Ok(()) => Ok(None),
-        Err(fault) => Err(refused(0, Refusal::Frame(fault))),
-    }
+    take_message(alloc, from, mode, limits)
 }
 
 /// Takes the next frame of a device.
@@ -103,24 +93,51 @@ fn take_frame<R: Read>(
     unreachable!()
 }
 
-/// Reads the next frame of a device: exactly its bytes. `None` says that the device ended before any
-/// byte (encoding specification, "Serialization Over a Stream").
-///
-/// `Truncated` (F3) says that it ended inside a frame; F1, F2, F4 and F6 are reported as by `FrameReader`,
-/// all at 0. `Device` says that a call of the device failed. What was read is the front of its bytes.
-pub fn read_segments<R: Read>(
-    alloc: Global,
-    from: &mut Tap<R>,
-    mode: Mode,
-    limits: Limits,
-) -> Result<Option<Segments>, StreamFault>
-    ensures read { IfOk result (ReadsFrame mode limits (R.remaining (inner_of from.old)) (R.remaining (inner_of from.new))) }
-    ensures counted { OnOk result (failures_of from.new ≡ failures_of from.old) }
-    ensures stopped { IfErr result (StopsAt (RefusesFrame mode limits (R.remaining (inner_of from.new))) (R.remaining (inner_of from.old)) (R.remaining (inner_of from.new)) (failures_of from.old) (failures_of from.new)) }
-    // Bytes that are known leave one answer.
-    ensures only { (b : List ℕ) → AreBytes b → R.remaining (inner_of from.old) ≡ Some b → OnlyFrame mode limits b (R.remaining (inner_of from.old)) (R.remaining (inner_of from.new)) result }
+/// A reader of frames of which nothing has come.
+fn frame_reader(alloc: Global, mode: Mode, limits: Limits) -> FrameReader
+    ensures fresh { result ≡ fresh_reader mode limits }
+    ensures stands { StandsFor result [] }
 {
-    take_frame(alloc, from, mode, limits)
+    match mode {
+        Mode::Plain => FrameReader::plain(alloc, limits),
+        Mode::Packed => FrameReader::packed(alloc, limits),
+    }
+}
+
+/// Reads at most this many bytes into a buffer, and says how many: 0 at the end alone.
+fn read_some<R: Read>(
+    from: &mut Tap<R>,
+    buffer: &mut [u8],
+    most: usize,
+) -> Result<usize, StreamFault>
+    requires some { 0 < most }
+    requires capacity { most ≤ length buffer.old }
+    ensures length { length buffer.new ≡ length buffer.old }
+    ensures bound { IfOk result (λ n. n ≤ most) }
+    ensures inside { IfOk result (λ n. n ≤ length buffer.new) }
+    ensures bytes { IfOk result (λ n. Consumes (R.remaining (inner_of from.old)) (R.remaining (inner_of from.new)) (take n buffer.new)) }
+    ensures end { IfOk result (λ n. n ≡ 0 → IsAtEnd (R.remaining (inner_of from.new))) }
+    ensures counted { OnOk result (failures_of from.new ≡ failures_of from.old) }
+    ensures device { IfErr result (λ fault. fault ≡ Device) }
+    ensures failed { OnErr result (FailedOnce (failures_of from.old) (failures_of from.new)) }
+    ensures none { OnErr result (Consumes (R.remaining (inner_of from.old)) (R.remaining (inner_of from.new)) []) }
+{
+    match from.read(&mut buffer[..most]) {
+        Ok(length) => Ok(length),
+        Err(_) => Err(StreamFault::Device),
+    }
+}
+
+/// Ends the reading of a frame, where the device ended.
+fn end_of(frames: &mut FrameReader) -> Result<Option<Segments>, StreamFault>
+    requires { IsReading frames.old.state }
+    ensures none { IfOk result (λ frame. (frame ≡ None) × ((b : List ℕ) → StandsFor frames.old b → b ≡ [])) }
+    ensures inside { IfErr result (λ fault. (fault ≡ Refused 0 (refusals.Frame Truncated)) × ((b : List ℕ) → StandsFor frames.old b → b ≢ [])) }
+{
+    match frames.finish() {
+        Ok(()) => Ok(None),
+        Err(fault) => Err(refused(0, Refusal::Frame(fault))),
+    }
 }
 
 /// Takes the next message of a device.
@@ -141,21 +158,4 @@ fn take_message<R: Read>(
         Ok(message) => Ok(Some(message)),
         Err(refusal) => Err(refused(0, refusal)),
     }
-}
-
-/// Reads the next message of a device: exactly the bytes of its frame. `None` says that the device
-/// ended before any byte. Faults are those of `read_segments` and of `view_of`, and S3, all at 0.
-pub fn read_message<R: Read>(
-    alloc: Global,
-    from: &mut Tap<R>,
-    mode: Mode,
-    limits: Limits,
-) -> Result<Option<Message>, StreamFault>
-    ensures read { IfOk result (ReadsMessage mode limits (R.remaining (inner_of from.old)) (R.remaining (inner_of from.new))) }
-    ensures counted { OnOk result (failures_of from.new ≡ failures_of from.old) }
-    ensures stopped { IfErr result (StopsAt (RefusesMessage mode limits (R.remaining (inner_of from.new))) (R.remaining (inner_of from.old)) (R.remaining (inner_of from.new)) (failures_of from.old) (failures_of from.new)) }
-    // Bytes that are known leave one answer.
-    ensures only { (b : List ℕ) → AreBytes b → R.remaining (inner_of from.old) ≡ Some b → OnlyMessage mode limits b (R.remaining (inner_of from.old)) (R.remaining (inner_of from.new)) result }
-{
-    take_message(alloc, from, mode, limits)
 }

@@ -2,7 +2,7 @@
 
 ghost use Rattle.std.specs.Prelude.{◌≡◌, ◌⊎◌, [], OnOk, IfErr, IfOk};
 ghost use Rattle.cp_stream.specs.Stream.{HasFault};
-ghost use Rattle.cp_stream.specs.Reader.{IsMemory, Gives, Tells};
+ghost use Rattle.cp_stream.specs.Reader.{IsMemory, Gives, Reports};
 ghost use Rattle.cp_stream.specs.Kept.{seen, KeepsUp, ReadsOf, RefusesOf, ReadsPiece, RefusesPiece};
 
 use crate::fault::{Refusal, StreamFault, refused};
@@ -13,97 +13,6 @@ use cp_rpc::Message;
 use cp_words::{Limits, Segments};
 use std::alloc::Global;
 use std::marker::Model;
-
-/// Reads the messages of frames that follow what was counted. At an `Err` those before it were read.
-fn read_messages(
-    alloc: Global,
-    limits: Limits,
-    frames: &[(u64, Segments)],
-    at: &mut u64,
-    messages: &mut Vec<Message>,
-) -> Result<(), Refusal>
-    requires none { messages.old.items ≡ [] }
-    ensures given { OnOk result (ReadsOf limits frames.now messages.new.items at.old at.new) }
-    ensures refused { IfErr result (λ r. IsMemory r ⊎ RefusesOf limits frames.now messages.new.items at.old at.new r) }
-{
-    let mut reached = *at;
-    for frame in frames {
-        messages.push(message_in(alloc, &frame.1, limits)?)?;
-        reached = reached.saturating_add(frame.0);
-        *at = reached;
-    }
-    Ok(())
-}
-
-/// Gives the last of the frames back to their reader, for its buffer.
-fn give_back(frames: &mut FrameReader, mut given: Vec<(u64, Segments)>)
-    ensures { frames.new ≡ frames.old }
-{
-    if let Some((_, segments)) = given.pop() {
-        frames.reuse(segments);
-    }
-}
-
-/// Reads the messages of a piece. At an `Err` those before the fault were read.
-fn read_frames(
-    alloc: Global,
-    limits: Limits,
-    frames: &mut FrameReader,
-    piece: &[u8],
-    at: &mut u64,
-    messages: &mut Vec<Message>,
-) -> Result<(), Refusal>
-    requires none { messages.old.items ≡ [] }
-    ensures given { OnOk result (ReadsPiece limits frames.old piece.now frames.new messages.new.items at.old at.new) }
-    ensures refused { IfErr result (RefusesPiece limits frames.old piece.now frames.new messages.new.items at.old at.new) }
-{
-    let given = frames.feed(piece)?;
-    messages.reserve_exact(given.len())?;
-    let read = read_messages(alloc, limits, &given, at, messages);
-    give_back(frames, given);
-    read
-}
-
-/// Reads a piece.
-fn read_piece(
-    alloc: Global,
-    limits: Limits,
-    frames: &mut FrameReader,
-    status: &mut Status,
-    at: &mut u64,
-    piece: &[u8],
-) -> Result<Vec<Message>, StreamFault>
-    requires { KeepsUp limits status.old frames.old }
-    ensures keeps { KeepsUp limits status.new frames.new }
-    ensures given { IfOk result (λ ms. Gives (seen status.old frames.old at.old) piece.now (seen status.new frames.new at.new) ms.items) }
-    ensures told { IfErr result (Tells (seen status.old frames.old at.old) piece.now (seen status.new frames.new at.new)) }
-{
-    match *status {
-        Status::Failed => return Err(refused(*at, Refusal::Frame(FrameFault::Failed))),
-        Status::Refusing(refusal) => {
-            *status = Status::Failed;
-            return Err(refused(*at, refusal));
-        }
-        Status::Reading => {}
-    }
-    let mut messages = Vec::new(alloc);
-    let mut reached = *at;
-    match read_frames(alloc, limits, frames, piece, &mut reached, &mut messages) {
-        Ok(()) => {
-            *at = reached;
-            Ok(messages)
-        }
-        Err(refusal) => {
-            if refusal.is_memory() || messages.is_empty() {
-                *status = Status::Failed;
-                return Err(refused(*at, refusal));
-            }
-            *status = Status::Refusing(refusal);
-            *at = reached;
-            Ok(messages)
-        }
-    }
-}
 
 /// Reads the messages of a stream, in whatever pieces it comes. Each frame is one message of
 /// rpc.capnp.
@@ -133,7 +42,7 @@ impl MessageReader {
     ghost use Rattle.cp_frame.specs.declared.mode.Mode.TheVariants.{Plain, Packed};
     ghost use Rattle.cp_stream.specs.declared.status.Status.TheVariants.{Reading};
     ghost use Rattle.cp_stream.specs.Kept.{seen};
-    ghost use Rattle.cp_stream.specs.Reader.{StandsFor, Gives, Tells, EndsWell, TellsAtEnd, new_reader};
+    ghost use Rattle.cp_stream.specs.Reader.{StandsFor, Gives, Reports, EndsWell, ReportsAtEnd, new_reader};
 
     /// A reader over one of frames.
     fn over(alloc: Global, limits: Limits, frames: FrameReader) -> MessageReader
@@ -174,7 +83,7 @@ impl MessageReader {
     /// is reported at once, and then the messages of the piece are dropped.
     pub fn feed(&mut self, piece: &[u8]) -> Result<Vec<Message>, StreamFault>
         ensures given { IfOk result (λ ms. Gives self.old piece.now self.new ms.items) }
-        ensures told { IfErr result (Tells self.old piece.now self.new) }
+        ensures reported { IfErr result (Reports self.old piece.now self.new) }
     {
         read_piece(
             self.alloc,
@@ -192,7 +101,7 @@ impl MessageReader {
     /// reported fault `Failed` (F5).
     pub fn finish(&mut self) -> Result<(), StreamFault>
         ensures ok { OnOk result (EndsWell self.old self.new) }
-        ensures told { IfErr result (TellsAtEnd self.old self.new) }
+        ensures reported { IfErr result (ReportsAtEnd self.old self.new) }
     {
         match self.status {
             Status::Failed => Err(refused(self.at, Refusal::Frame(FrameFault::Failed))),
@@ -208,5 +117,96 @@ impl MessageReader {
                 }
             },
         }
+    }
+}
+
+/// Reads a piece.
+fn read_piece(
+    alloc: Global,
+    limits: Limits,
+    frames: &mut FrameReader,
+    status: &mut Status,
+    at: &mut u64,
+    piece: &[u8],
+) -> Result<Vec<Message>, StreamFault>
+    requires { KeepsUp limits status.old frames.old }
+    ensures keeps { KeepsUp limits status.new frames.new }
+    ensures given { IfOk result (λ ms. Gives (seen status.old frames.old at.old) piece.now (seen status.new frames.new at.new) ms.items) }
+    ensures reported { IfErr result (Reports (seen status.old frames.old at.old) piece.now (seen status.new frames.new at.new)) }
+{
+    match *status {
+        Status::Failed => return Err(refused(*at, Refusal::Frame(FrameFault::Failed))),
+        Status::Refusing(refusal) => {
+            *status = Status::Failed;
+            return Err(refused(*at, refusal));
+        }
+        Status::Reading => {}
+    }
+    let mut messages = Vec::new(alloc);
+    let mut reached = *at;
+    match read_frames(alloc, limits, frames, piece, &mut reached, &mut messages) {
+        Ok(()) => {
+            *at = reached;
+            Ok(messages)
+        }
+        Err(refusal) => {
+            if refusal.is_memory() || messages.is_empty() {
+                *status = Status::Failed;
+                return Err(refused(*at, refusal));
+            }
+            *status = Status::Refusing(refusal);
+            *at = reached;
+            Ok(messages)
+        }
+    }
+}
+
+/// Reads the messages of a piece. At an `Err` those before the fault were read.
+fn read_frames(
+    alloc: Global,
+    limits: Limits,
+    frames: &mut FrameReader,
+    piece: &[u8],
+    at: &mut u64,
+    messages: &mut Vec<Message>,
+) -> Result<(), Refusal>
+    requires none { messages.old.items ≡ [] }
+    ensures given { OnOk result (ReadsPiece limits frames.old piece.now frames.new messages.new.items at.old at.new) }
+    ensures refused { IfErr result (RefusesPiece limits frames.old piece.now frames.new messages.new.items at.old at.new) }
+{
+    let given = frames.feed(piece)?;
+    messages.reserve_exact(given.len())?;
+    let read = read_messages(alloc, limits, &given, at, messages);
+    give_back(frames, given);
+    read
+}
+
+/// Reads the messages of frames that follow what was counted. At an `Err` those before it were read.
+fn read_messages(
+    alloc: Global,
+    limits: Limits,
+    frames: &[(u64, Segments)],
+    at: &mut u64,
+    messages: &mut Vec<Message>,
+) -> Result<(), Refusal>
+    requires none { messages.old.items ≡ [] }
+    ensures given { OnOk result (ReadsOf limits frames.now messages.new.items at.old at.new) }
+    ensures refused { IfErr result (λ r. IsMemory r ⊎ RefusesOf limits frames.now messages.new.items at.old at.new r) }
+{
+    let mut reached = *at;
+    for frame in frames {
+        messages.push(message_in(alloc, &frame.1, limits)?)?;
+        reached = reached.saturating_add(frame.0);
+        *at = reached;
+    }
+    Ok(())
+}
+
+/// Gives the last of the frames back to their reader, for its buffer.
+fn give_back(frames: &mut FrameReader, mut given: Vec<(u64, Segments)>)
+    ensures { frames.new ≡ frames.old }
+{
+    if let Some((_, segments)) = given.pop() {
+        frames.reuse(segments);
     }
 }

@@ -31,36 +31,6 @@ pub fn write_whole<W: Write>(to: &mut Tap<W>, bytes: &[u8]) -> Result<(), Stream
     Ok(())
 }
 
-/// The segments that a message is laid out in.
-fn segments_of(
-    alloc: Global,
-    message: &Message,
-    max_words: u32,
-    limits: Limits,
-) -> Result<Segments, WriteFault>
-    ensures laid { IfOk result (IsLaidOutAs limits max_words limits.segments message.now) }
-    ensures refused { IfErr result (IsNotLaidOut limits max_words limits.segments message.now) }
-{
-    let draft = draft_of(alloc, message)?;
-    write_draft(alloc, &draft, max_words, limits)
-}
-
-/// The frame that a message is written as.
-fn frame_of(
-    alloc: Global,
-    message: &Message,
-    mode: Mode,
-    max_words: u32,
-    limits: Limits,
-) -> Result<Vec<u8>, Refusal>
-    ensures written { IfOk result (λ b. IsWrittenAs mode limits max_words limits.segments message.now b.items) }
-    ensures refused { IfErr result (IsUnwrittenFor limits max_words limits.segments message.now) }
-{
-    let segments = segments_of(alloc, message, max_words, limits)?;
-    let frame = write_frame(alloc, &segments, mode, limits)?;
-    Ok(frame)
-}
-
 /// Writes a message as one frame, in segments of at most this many words as by
 /// `cp_writing::write_segments` (encoding specification, "Serialization Over a Stream", "Packing").
 ///
@@ -98,4 +68,34 @@ pub fn write_message<W: Write>(
     ensures stopped { IfErr result (IsCutShort W.contents mode limits limits.frame_words 1 message.now to.old to.new) }
 {
     write_message_in(alloc, to, message, mode, limits.frame_words(), limits)
+}
+
+/// The frame that a message is written as.
+fn frame_of(
+    alloc: Global,
+    message: &Message,
+    mode: Mode,
+    max_words: u32,
+    limits: Limits,
+) -> Result<Vec<u8>, Refusal>
+    ensures written { IfOk result (λ b. IsWrittenAs mode limits max_words limits.segments message.now b.items) }
+    ensures refused { IfErr result (IsUnwrittenFor limits max_words limits.segments message.now) }
+{
+    let segments = segments_of(alloc, message, max_words, limits)?;
+    let frame = write_frame(alloc, &segments, mode, limits)?;
+    Ok(frame)
+}
+
+/// The segments that a message is laid out in.
+fn segments_of(
+    alloc: Global,
+    message: &Message,
+    max_words: u32,
+    limits: Limits,
+) -> Result<Segments, WriteFault>
+    ensures laid { IfOk result (IsLaidOutAs limits max_words limits.segments message.now) }
+    ensures refused { IfErr result (IsNotLaidOut limits max_words limits.segments message.now) }
+{
+    let draft = draft_of(alloc, message)?;
+    write_draft(alloc, &draft, max_words, limits)
 }

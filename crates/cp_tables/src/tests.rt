@@ -15,13 +15,13 @@ enum Step {
 }
 
 /// What a step of this entry answered is what is wanted.
-fn expect_told(
+fn expect_reported(
     rt: &impl Abort,
     id: u32,
-    told: Result<u32, TableFault>,
+    reported: Result<u32, TableFault>,
     want: Result<u32, TableFault>,
 ) {
-    assert_eq!(rt; told, want, "at {id}");
+    assert_eq!(rt; reported, want, "at {id}");
 }
 
 /// The stage that this entry is at, if it exists.
@@ -82,7 +82,7 @@ fn questions_go_after_both_notes(rt: HostRuntime) {
         (Step::Close, 3, Ok(3), None),
     ];
     for (step, id, want, left) in rows {
-        expect_told(&rt, id, take_question(&mut questions, step, id), want);
+        expect_reported(&rt, id, take_question(&mut questions, step, id), want);
         expect_stage(&rt, id, questions.get(id), left);
     }
     assert!(rt; questions.len() == 3);
@@ -124,8 +124,8 @@ fn answers_go_after_both_notes(rt: HostRuntime) {
         (Step::Close, 5, Ok(()), None),
     ];
     for (step, id, want, left) in rows {
-        let told = take_answer(&mut answers, step, id);
-        expect_told(&rt, id, told.and(Ok(id)), want.and(Ok(id)));
+        let reported = take_answer(&mut answers, step, id);
+        expect_reported(&rt, id, reported.and(Ok(id)), want.and(Ok(id)));
         expect_stage(&rt, id, answers.get(id), left);
     }
     assert!(rt; answers.is_empty());
@@ -168,7 +168,7 @@ fn exports_go_at_count_0(rt: HostRuntime) {
         (Count::New, 3, Ok(3), Some(1)),
     ];
     for (step, id, want, left) in rows {
-        expect_told(&rt, id, count_export(&mut exports, step, id), want);
+        expect_reported(&rt, id, count_export(&mut exports, step, id), want);
         expect_count(&rt, id, exports.get(id), left);
     }
     assert!(rt; exports.len() == 4);
@@ -198,8 +198,8 @@ fn imports_go_at_count_0(rt: HostRuntime) {
         (Count::Raise, 9, Ok(()), Some(1)),
     ];
     for (step, id, want, left) in rows {
-        let told = count_import(&mut imports, step, id);
-        expect_told(&rt, id, told.and(Ok(id)), want.and(Ok(id)));
+        let reported = count_import(&mut imports, step, id);
+        expect_reported(&rt, id, reported.and(Ok(id)), want.and(Ok(id)));
         expect_count(&rt, id, imports.get(id), left);
     }
     assert!(rt; imports.len() == 2);

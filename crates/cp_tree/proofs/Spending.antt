@@ -5,32 +5,32 @@ use Rattle.std.proofs.lemmas.Bool.Decides.{nat_tests}
 use Rattle.cp_tree.specs.Node.{Node, Nodes, node, Bodies, body, depth, greatest_depth, deepest_body, cost, total_cost, body_cost, number_of}
 use Rattle.cp_tree.specs.Spent.{spent}
 
-pub spent-0 : (left : Option ℕ) → spent left 0 ≡ left
+pub spent-0 : (budget : Option ℕ) → spent budget 0 ≡ budget
 unfolding spent
 spent-0 None = refl
 spent-0 (Some l) = grind (arith, nat_tests)
 
-pub spent-more : (left : Option ℕ) (a b : ℕ) → spent (spent left a) b ≡ spent left (a + b)
+pub spent-more : (budget : Option ℕ) (a b : ℕ) → spent (spent budget a) b ≡ spent budget (a + b)
 unfolding spent
 spent-more None a b = refl
 spent-more (Some l) a b = grind (arith, nat_tests)
 
 -- something is left exactly where the cost is within the limit
-pub spent-fits : (limit cost : ℕ) (left : Option ℕ) → left ≡ spent (Some limit) cost → Decides (is_some left) (cost ≤ limit)
+pub spent-fits : (limit cost : ℕ) (budget : Option ℕ) → budget ≡ spent (Some limit) cost → Decides (is_some budget) (cost ≤ limit)
 unfolding spent
-spent-fits limit cost left e = go (nat_le cost limit) (λ k. grind (arith, nat_tests), λ k. grind (arith, nat_tests)) e
+spent-fits limit cost budget e = go (nat_le cost limit) (λ k. grind (arith, nat_tests), λ k. grind (arith, nat_tests)) e
   where
-    go : (b : Bool) → Decides b (cost ≤ limit) → left ≡ (if b then Some (limit - cost) else None) → Decides (is_some left) (cost ≤ limit)
+    go : (b : Bool) → Decides b (cost ≤ limit) → budget ≡ (if b then Some (limit - cost) else None) → Decides (is_some budget) (cost ≤ limit)
     go true d k = rw k d
     go false d k = rw k d
 
 -- what is left is of the limit, and nothing is left where the cost passes it
-pub spent-some : (limit cost left : ℕ) (rest : Option ℕ) → rest ≡ spent (Some limit) cost → rest ≡ Some left → (cost ≤ limit) × (left ≤ limit)
+pub spent-some : (limit cost budget : ℕ) (rest : Option ℕ) → rest ≡ spent (Some limit) cost → rest ≡ Some budget → (cost ≤ limit) × (budget ≤ limit)
 unfolding spent
-spent-some limit cost left rest e is = go (nat_le cost limit) (λ k. grind (arith, nat_tests), λ k. grind (arith, nat_tests)) (sym is ∙ e)
+spent-some limit cost budget rest e is = go (nat_le cost limit) (λ k. grind (arith, nat_tests), λ k. grind (arith, nat_tests)) (sym is ∙ e)
   where
-    go : (b : Bool) → Decides b (cost ≤ limit) → ◌≡◌ {A = Option ℕ} (Some left) (if b then Some (limit - cost) else None) → (cost ≤ limit) × (left ≤ limit)
-    go true d k = let h : left ≡ limit - cost = cc in (d.0 refl, omega (arith, h))
+    go : (b : Bool) → Decides b (cost ≤ limit) → ◌≡◌ {A = Option ℕ} (Some budget) (if b then Some (limit - cost) else None) → (cost ≤ limit) × (budget ≤ limit)
+    go true d k = let h : budget ≡ limit - cost = cc in (d.0 refl, omega (arith, h))
     go false d k = let never : true ≡ false = ap is_some k in absurd cc
 
 pub spent-none : (limit cost : ℕ) (rest : Option ℕ) → rest ≡ spent (Some limit) cost → rest ≡ None → limit < cost
@@ -42,39 +42,39 @@ along true x h e = h ∙ e
 along false x h e = tt
 
 -- two parts were paid for, and nothing more is
-pub step_left : (left next whole : Option ℕ) (a b c : ℕ) → next ≡ spent left a → c ≡ a + b → spent left c ≡ whole → spent next b ≡ whole
-step_left left next whole a b c paid sum k = ap (λ l. spent l b) paid ∙ spent-more left a b ∙ ap (spent left) (sym sum) ∙ k
+pub step_left : (budget next whole : Option ℕ) (a b c : ℕ) → next ≡ spent budget a → c ≡ a + b → spent budget c ≡ whole → spent next b ≡ whole
+step_left budget next whole a b c paid sum k = ap (λ l. spent l b) paid ∙ spent-more budget a b ∙ ap (spent budget) (sym sum) ∙ k
 
-pub no_more : (left whole : Option ℕ) (n : ℕ) → n ≡ 0 → spent left n ≡ whole → left ≡ whole
-no_more left whole n e k = sym (spent-0 left) ∙ ap (spent left) (sym e) ∙ k
+pub no_more : (budget whole : Option ℕ) (n : ℕ) → n ≡ 0 → spent budget n ≡ whole → budget ≡ whole
+no_more budget whole n e k = sym (spent-0 budget) ∙ ap (spent budget) (sym e) ∙ k
 
 -- Of all these trees some are still to be gone over: those nest as deep as all may, and leave what all leave.
 abbrev pub RowNests : ℕ → Nodes → Option ℕ → Nodes → Option ℕ → Type 0
-RowNests levels all whole rest left =
+RowNests levels all whole rest budget =
     (greatest_depth all ≤ levels → greatest_depth rest ≤ levels)
     × (greatest_depth rest ≤ levels → greatest_depth all ≤ levels)
-    × (spent left (total_cost rest) ≡ spent whole (total_cost all))
+    × (spent budget (total_cost rest) ≡ spent whole (total_cost all))
 
-pub row_nests_on : (levels : ℕ) (all here rest : Nodes) (t : Node) (whole left next : Option ℕ) → here ≡ node t rest → depth t ≤ levels → next ≡ spent left (cost t) → RowNests levels all whole here left → RowNests levels all whole rest next
-row_nests_on levels all here rest t whole left next e within paid kept =
+pub row_nests_on : (levels : ℕ) (all here rest : Nodes) (t : Node) (whole budget next : Option ℕ) → here ≡ node t rest → depth t ≤ levels → next ≡ spent budget (cost t) → RowNests levels all whole here budget → RowNests levels all whole rest next
+row_nests_on levels all here rest t whole budget next e within paid kept =
     let deep = ap greatest_depth e in
-    (λ h. omega (arith, kept.0 h, deep), λ h. kept.1 (omega (arith, h, within, deep)), step_left left next _ (cost t) (total_cost rest) _ paid (ap total_cost e) kept.2)
+    (λ h. omega (arith, kept.0 h, deep), λ h. kept.1 (omega (arith, h, within, deep)), step_left budget next _ (cost t) (total_cost rest) _ paid (ap total_cost e) kept.2)
 
 -- The same of elements of a composite list, each of which costs so much without its trees.
 abbrev pub BodiesNest : ℕ → ℕ → Bodies → Option ℕ → Bodies → Option ℕ → Type 0
-BodiesNest levels price all whole rest left =
+BodiesNest levels price all whole rest budget =
     (deepest_body all ≤ levels → deepest_body rest ≤ levels)
     × (deepest_body rest ≤ levels → deepest_body all ≤ levels)
-    × (spent left (number_of rest * price + body_cost rest) ≡ spent whole (number_of all * price + body_cost all))
+    × (spent budget (number_of rest * price + body_cost rest) ≡ spent whole (number_of all * price + body_cost all))
 
-pub bodies_nest_on : (levels price : ℕ) (all here rest : Bodies) (ws : List ℕ) (ts : Nodes) (whole left mid next : Option ℕ) → here ≡ body ws ts rest → greatest_depth ts ≤ levels → mid ≡ spent left price → next ≡ spent mid (total_cost ts)
-    → BodiesNest levels price all whole here left → BodiesNest levels price all whole rest next
-bodies_nest_on levels price all here rest ws ts whole left mid next e within own paid kept =
+pub bodies_nest_on : (levels price : ℕ) (all here rest : Bodies) (ws : List ℕ) (ts : Nodes) (whole budget mid next : Option ℕ) → here ≡ body ws ts rest → greatest_depth ts ≤ levels → mid ≡ spent budget price → next ≡ spent mid (total_cost ts)
+    → BodiesNest levels price all whole here budget → BodiesNest levels price all whole rest next
+bodies_nest_on levels price all here rest ws ts whole budget mid next e within own paid kept =
     let deep = ap deepest_body e in
     let others = number_of rest * price + body_cost rest in
     let sum = ap (λ bs. number_of bs * price + body_cost bs) e in
     let parts : number_of here * price + body_cost here ≡ price + (total_cost ts + others) = omega (arith, sum) in (
       λ h. omega (arith, kept.0 h, deep),
       λ h. kept.1 (omega (arith, h, within, deep)),
-      step_left mid next _ (total_cost ts) others (total_cost ts + others) paid refl (step_left left mid _ price (total_cost ts + others) _ own parts kept.2),
+      step_left mid next _ (total_cost ts) others (total_cost ts + others) paid refl (step_left budget mid _ price (total_cost ts + others) _ own parts kept.2),
     )

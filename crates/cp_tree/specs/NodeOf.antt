@@ -1,6 +1,5 @@
 -- What a `Tree` of the program stands for.
-use Rattle.std.specs.Prelude.{ℕ, List, [], ◌∷◌, map, Vec}
-use Rattle.std.specs.declared.alloc.Global.{Global}
+use Rattle.std.specs.Prelude.{ℕ, List, [], ◌∷◌}
 use Rattle.cp_tree.specs.Node.{voids, bits, bytes, halves, quads, words, Node, null, cap, struct, list, ptrs, structs, Nodes, no_nodes, node, Bodies, no_bodies, body}
 use Rattle.cp_tree.specs.declared.tree.Tree.{Tree, fold-Tree}
 use Rattle.cp_tree.specs.declared.tree.Tree.TheOpen.{Tree-F, Body-F}
@@ -37,7 +36,3 @@ node_of = fold-Tree Node (List ℕ × Nodes) tree_step body_step
 -- the words of a struct, and its pointers
 abbrev pub body_of : Body → List ℕ × Nodes
 body_of = fold-Body Node (List ℕ × Nodes) tree_step body_step
-
--- the segments, without where they lie in memory
-abbrev pub words_of : List (Vec ℕ Global) → List (List ℕ)
-words_of lists = map (λ v. v.items) lists

@@ -4,4 +4,4 @@ use Rattle.std.specs.Prelude.{ℕ, ◌-◌, Option, Some, None, nat_le, if◌the
 -- what is left once this much more is spent; None where that passes it
 unfoldable pub spent : Option ℕ → ℕ → Option ℕ
 spent None cost = None
-spent (Some left) cost = if nat_le cost left then Some (left - cost) else None
+spent (Some budget) cost = if nat_le cost budget then Some (budget - cost) else None

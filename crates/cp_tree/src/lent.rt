@@ -82,54 +82,6 @@ impl<'a, 'd> TreeRef<'a, 'd> {
     }
 }
 
-/// What an owned tree is at its top.
-#[inline(always)]
-fn top_of<'a, 'd>(tree: &'a Tree) -> Top<'a, 'd>
-    ensures { top_node result ≡ node_of tree.now }
-{
-    match tree {
-        Tree::Null => Top::Null,
-        Tree::Cap(index) => Top::Cap(*index),
-        Tree::Struct(body) => {
-            let body: BodyRef<'a, 'd> = BodyRef::of(body);
-            Top::Struct(body)
-        }
-        Tree::Voids(count) => Top::List(ListRef::Voids(*count)),
-        Tree::Bits(items) => Top::List(ListRef::Bits(items)),
-        Tree::Bytes(items) => Top::List(ListRef::Bytes(items)),
-        Tree::Halves(items) => Top::List(ListRef::Halves(items)),
-        Tree::Quads(items) => Top::List(ListRef::Quads(items)),
-        Tree::Words(items) => Top::List(ListRef::Words(items)),
-        Tree::Ptrs(items) => Top::Ptrs(RowRef::Trees(items)),
-        Tree::Structs { words, ptrs, items } => Top::Structs(StructsRef {
-            words: *words,
-            ptrs: *ptrs,
-            items: BodiesRef::Bodies(items),
-        }),
-    }
-}
-
-/// What a draft is at its top.
-#[inline(always)]
-fn top_of_draft<'a, 'd>(draft: &'a Draft<'d>) -> Top<'a, 'd>
-    ensures { top_node result ≡ draft_of draft.now }
-{
-    match draft {
-        Draft::Own(tree) => return top_of::<'d>(tree),
-        Draft::Lent(tree) => return top_of::<'d>(tree),
-        Draft::Struct(body) => {
-            let body = BodyRef::of_draft(body);
-            Top::Struct(body)
-        }
-        Draft::Ptrs(items) => Top::Ptrs(RowRef::Drafts(items)),
-        Draft::Structs { words, ptrs, items } => Top::Structs(StructsRef {
-            words: *words,
-            ptrs: *ptrs,
-            items: BodiesRef::Drafts(items),
-        }),
-    }
-}
-
 impl<'a, 'd> BodyRef<'a, 'd> {
     /// A struct that a program owns.
     #[inline(always)]
@@ -248,5 +200,53 @@ impl<'a> ListRef<'a> {
             ListRef::Quads(items) => (items.len() as u64 + 1) / 2,
             ListRef::Words(items) => items.len() as u64,
         }
+    }
+}
+
+/// What an owned tree is at its top.
+#[inline(always)]
+fn top_of<'a, 'd>(tree: &'a Tree) -> Top<'a, 'd>
+    ensures { top_node result ≡ node_of tree.now }
+{
+    match tree {
+        Tree::Null => Top::Null,
+        Tree::Cap(index) => Top::Cap(*index),
+        Tree::Struct(body) => {
+            let body: BodyRef<'a, 'd> = BodyRef::of(body);
+            Top::Struct(body)
+        }
+        Tree::Voids(count) => Top::List(ListRef::Voids(*count)),
+        Tree::Bits(items) => Top::List(ListRef::Bits(items)),
+        Tree::Bytes(items) => Top::List(ListRef::Bytes(items)),
+        Tree::Halves(items) => Top::List(ListRef::Halves(items)),
+        Tree::Quads(items) => Top::List(ListRef::Quads(items)),
+        Tree::Words(items) => Top::List(ListRef::Words(items)),
+        Tree::Ptrs(items) => Top::Ptrs(RowRef::Trees(items)),
+        Tree::Structs { words, ptrs, items } => Top::Structs(StructsRef {
+            words: *words,
+            ptrs: *ptrs,
+            items: BodiesRef::Bodies(items),
+        }),
+    }
+}
+
+/// What a draft is at its top.
+#[inline(always)]
+fn top_of_draft<'a, 'd>(draft: &'a Draft<'d>) -> Top<'a, 'd>
+    ensures { top_node result ≡ draft_of draft.now }
+{
+    match draft {
+        Draft::Own(tree) => return top_of::<'d>(tree),
+        Draft::Lent(tree) => return top_of::<'d>(tree),
+        Draft::Struct(body) => {
+            let body = BodyRef::of_draft(body);
+            Top::Struct(body)
+        }
+        Draft::Ptrs(items) => Top::Ptrs(RowRef::Drafts(items)),
+        Draft::Structs { words, ptrs, items } => Top::Structs(StructsRef {
+            words: *words,
+            ptrs: *ptrs,
+            items: BodiesRef::Drafts(items),
+        }),
     }
 }

@@ -14,47 +14,47 @@ use crate::tree::Tree;
 pub fn fits(tree: &Tree, nesting: u32, traversal: u64) -> bool
     ensures { Decides result ((depth (node_of tree.now) ≤ nesting) × (cost (node_of tree.now) ≤ traversal)) }
 {
-    let mut left = Some(traversal);
-    nests(TreeRef::Tree(tree), nesting, &mut left) && left.is_some()
+    let mut budget = Some(traversal);
+    nests(TreeRef::Tree(tree), nesting, &mut budget) && budget.is_some()
 }
 
 /// Whether bodies nest no deeper than this many levels, and then what the tree leaves of a limit on
 /// cost.
 #[cycle(measure)]
-pub fn nests(tree: TreeRef, levels: u32, left: &mut Option<u64>) -> bool
+pub fn nests(tree: TreeRef, levels: u32, budget: &mut Option<u64>) -> bool
     ensures deep { Decides result (depth (node_in tree.entry) ≤ levels) }
-    ensures left { OnTrue result (left.new ≡ spent left.old (cost (node_in tree.entry))) }
+    ensures budget { OnTrue result (budget.new ≡ spent budget.old (cost (node_in tree.entry))) }
 {
     match tree.top() {
         Top::Null | Top::Cap(_) => true,
         Top::List(list) => {
-            spend(left, 1 + list.words());
+            spend(budget, 1 + list.words());
             levels > 0
         }
         Top::Struct(body) => {
-            spend(left, 1 + body.words.len() as u64 + body.ptrs.len() as u64);
-            levels > 0 && row_nests(body.ptrs, levels - 1, left)
+            spend(budget, 1 + body.words.len() as u64 + body.ptrs.len() as u64);
+            levels > 0 && row_nests(body.ptrs, levels - 1, budget)
         }
         Top::Ptrs(row) => {
-            spend(left, 1 + row.len() as u64);
-            levels > 0 && row_nests(row, levels - 1, left)
+            spend(budget, 1 + row.len() as u64);
+            levels > 0 && row_nests(row, levels - 1, budget)
         }
         Top::Structs(list) => {
-            spend(left, 2);
+            spend(budget, 2);
             let price = 1 + list.words as u64 + list.ptrs as u64;
-            levels > 0 && bodies_nest(list.items, price, levels - 1, left)
+            levels > 0 && bodies_nest(list.items, price, levels - 1, budget)
         }
     }
 }
 
 /// The same of each of the trees.
 #[cycle(measure)]
-fn row_nests(trees: RowRef, levels: u32, left: &mut Option<u64>) -> bool
+fn row_nests(trees: RowRef, levels: u32, budget: &mut Option<u64>) -> bool
     ensures deep { Decides result (greatest_depth (nodes_of (row_in trees.entry)) ≤ levels) }
-    ensures left { OnTrue result (left.new ≡ spent left.old (total_cost (nodes_of (row_in trees.entry)))) }
+    ensures budget { OnTrue result (budget.new ≡ spent budget.old (total_cost (nodes_of (row_in trees.entry)))) }
 {
     for tree in trees {
-        if !nests(tree, levels, left) {
+        if !nests(tree, levels, budget) {
             return false;
         }
     }
@@ -63,13 +63,13 @@ fn row_nests(trees: RowRef, levels: u32, left: &mut Option<u64>) -> bool
 
 /// The same of a composite list's elements, each of which costs this much without its trees.
 #[cycle(measure)]
-fn bodies_nest(bodies: BodiesRef, price: u64, levels: u32, left: &mut Option<u64>) -> bool
+fn bodies_nest(bodies: BodiesRef, price: u64, levels: u32, budget: &mut Option<u64>) -> bool
     ensures deep { Decides result (deepest_body (bodies_of (bodies_in bodies.entry)) ≤ levels) }
-    ensures left { OnTrue result (left.new ≡ spent left.old (number_of (bodies_of (bodies_in bodies.entry)) * price + body_cost (bodies_of (bodies_in bodies.entry)))) }
+    ensures budget { OnTrue result (budget.new ≡ spent budget.old (number_of (bodies_of (bodies_in bodies.entry)) * price + body_cost (bodies_of (bodies_in bodies.entry)))) }
 {
     for body in bodies {
-        spend(left, price);
-        if !row_nests(body.ptrs, levels, left) {
+        spend(budget, price);
+        if !row_nests(body.ptrs, levels, budget) {
             return false;
         }
     }
@@ -79,11 +79,11 @@ fn bodies_nest(bodies: BodiesRef, price: u64, levels: u32, left: &mut Option<u64
 /// Takes a price from what is left of a limit. Nothing is left any more where it passes that.
 #[tactic(auto, unfolding(crate::specs::Spent::spent))]
 #[inline(always)]
-fn spend(left: &mut Option<u64>, price: u64)
-    ensures { left.new ≡ spent left.old price }
+fn spend(budget: &mut Option<u64>, price: u64)
+    ensures { budget.new ≡ spent budget.old price }
 {
-    if let Some(rest) = *left {
-        *left = if price <= rest {
+    if let Some(rest) = *budget {
+        *budget = if price <= rest {
             Some(rest - price)
         } else {
             None

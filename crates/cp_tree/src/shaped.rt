@@ -6,69 +6,6 @@ ghost use Rattle.cp_tree.specs.Shaped.{AllFit, HasSizes, Shaped, EachShaped, Eac
 
 use crate::tree::{Body, Tree};
 
-/// Whether a struct's data words and pointers fit 16 bits each.
-fn struct_fits(words: &[u64], ptrs: usize) -> bool
-    ensures { Decides result (HasSizes (length words.now) ptrs × AllFit 64 words.now) }
-{
-    words.len() < 0x1_0000 && ptrs < 0x1_0000
-}
-
-/// Whether a composite list's element is of the list's sizes.
-fn element_fits(words: &[u64], ptrs: usize, d: u16, n: u16) -> bool
-    ensures { Decides result ((length words.now ≡ d) × (ptrs ≡ n) × AllFit 64 words.now) }
-{
-    words.len() == d as usize && ptrs == n as usize
-}
-
-/// Whether this many elements of a composite list take fewer than 2^29 words together.
-fn elements_fit(count: usize, words: u16, ptrs: u16) -> bool
-    ensures { Decides result (HasSizes words ptrs × (count < 2 ^ 30) × (count * (words + ptrs) < 2 ^ 29)) }
-{
-    count < 0x4000_0000 && count * (words as usize + ptrs as usize) < 0x2000_0000
-}
-
-/// Whether a capability's index fits its 32 bits, as each does.
-fn index_fits(index: u32) -> bool
-    ensures { Decides result (index < 2 ^ 32) }
-{
-    index <= u32::MAX
-}
-
-/// Whether a list has fewer than 2^29 elements (encoding specification, "Lists").
-fn count_fits(count: usize) -> bool
-    ensures { Decides result (count < 2 ^ 29) }
-{
-    count < 0x2000_0000
-}
-
-/// Whether there are fewer than 2^29 of these.
-fn bytes_fit(items: &[u8]) -> bool
-    ensures { Decides result ((length items.now < 2 ^ 29) × AllFit 8 items.now) }
-{
-    items.len() < 0x2000_0000
-}
-
-/// Whether there are fewer than 2^29 of these.
-fn halves_fit(items: &[u16]) -> bool
-    ensures { Decides result ((length items.now < 2 ^ 29) × AllFit 16 items.now) }
-{
-    items.len() < 0x2000_0000
-}
-
-/// Whether there are fewer than 2^29 of these.
-fn quads_fit(items: &[u32]) -> bool
-    ensures { Decides result ((length items.now < 2 ^ 29) × AllFit 32 items.now) }
-{
-    items.len() < 0x2000_0000
-}
-
-/// Whether there are fewer than 2^29 of these.
-fn words_fit(items: &[u64]) -> bool
-    ensures { Decides result ((length items.now < 2 ^ 29) × AllFit 64 items.now) }
-{
-    items.len() < 0x2000_0000
-}
-
 /// Whether a message can hold the tree.
 #[cycle(shaped)]
 pub(crate) fn is_shaped(tree: &Tree) -> bool
@@ -76,7 +13,10 @@ pub(crate) fn is_shaped(tree: &Tree) -> bool
 {
     match tree {
         Tree::Null => true,
-        Tree::Cap(index) => index_fits(*index),
+        Tree::Cap(index) => {
+            prove!(*index <= u32::MAX);
+            true
+        }
         Tree::Struct(body) => {
             struct_fits(&body.words, body.ptrs.len()) && row_shaped(&body.ptrs)
         }
@@ -93,6 +33,13 @@ pub(crate) fn is_shaped(tree: &Tree) -> bool
     }
 }
 
+/// Whether a struct's data words and pointers fit 16 bits each.
+fn struct_fits(words: &[u64], ptrs: usize) -> bool
+    ensures { Decides result (HasSizes (length words.now) ptrs × AllFit 64 words.now) }
+{
+    words.len() < 0x1_0000 && ptrs < 0x1_0000
+}
+
 /// Whether a message can hold each of the trees.
 #[cycle(shaped)]
 fn row_shaped(trees: &[Tree]) -> bool
@@ -100,6 +47,61 @@ fn row_shaped(trees: &[Tree]) -> bool
 {
     for tree in trees {
         if !is_shaped(tree) {
+            return false;
+        }
+    }
+    true
+}
+
+/// Whether a list has fewer than 2^29 elements (encoding specification, "Lists").
+fn count_fits(count: usize) -> bool
+    ensures { Decides result (count < 2 ^ 29) }
+{
+    count < 0x2000_0000
+}
+
+/// Whether a list of bytes has fewer than 2^29 of them.
+fn bytes_fit(items: &[u8]) -> bool
+    ensures { Decides result ((length items.now < 2 ^ 29) × AllFit 8 items.now) }
+{
+    items.len() < 0x2000_0000
+}
+
+/// Whether a list of 16-bit elements has fewer than 2^29 of them.
+fn halves_fit(items: &[u16]) -> bool
+    ensures { Decides result ((length items.now < 2 ^ 29) × AllFit 16 items.now) }
+{
+    items.len() < 0x2000_0000
+}
+
+/// Whether a list of 32-bit elements has fewer than 2^29 of them.
+fn quads_fit(items: &[u32]) -> bool
+    ensures { Decides result ((length items.now < 2 ^ 29) × AllFit 32 items.now) }
+{
+    items.len() < 0x2000_0000
+}
+
+/// Whether a list of 64-bit elements has fewer than 2^29 of them.
+fn words_fit(items: &[u64]) -> bool
+    ensures { Decides result ((length items.now < 2 ^ 29) × AllFit 64 items.now) }
+{
+    items.len() < 0x2000_0000
+}
+
+/// Whether this many elements of a composite list take fewer than 2^29 words together.
+fn elements_fit(count: usize, words: u16, ptrs: u16) -> bool
+    ensures { Decides result (HasSizes words ptrs × (count < 2 ^ 30) × (count * (words + ptrs) < 2 ^ 29)) }
+{
+    count < 0x4000_0000 && count * (words as usize + ptrs as usize) < 0x2000_0000
+}
+
+/// Whether each element of a composite list is of the list's sizes, and a message can hold its trees.
+#[cycle(shaped)]
+fn bodies_even(words: u16, ptrs: u16, bodies: &[Body]) -> bool
+    ensures { Decides result (EachEven words ptrs (bodies_of (map body_of bodies.now))) }
+{
+    for body in bodies {
+        if !body_even(words, ptrs, body) {
             return false;
         }
     }
@@ -114,15 +116,9 @@ fn body_even(words: u16, ptrs: u16, body: &Body) -> bool
     element_fits(&body.words, body.ptrs.len(), words, ptrs) && row_shaped(&body.ptrs)
 }
 
-/// Whether each of the structs is such an element.
-#[cycle(shaped)]
-fn bodies_even(words: u16, ptrs: u16, bodies: &[Body]) -> bool
-    ensures { Decides result (EachEven words ptrs (bodies_of (map body_of bodies.now))) }
+/// Whether a composite list's element is of the list's sizes.
+fn element_fits(words: &[u64], ptrs: usize, d: u16, n: u16) -> bool
+    ensures { Decides result ((length words.now ≡ d) × (ptrs ≡ n) × AllFit 64 words.now) }
 {
-    for body in bodies {
-        if !body_even(words, ptrs, body) {
-            return false;
-        }
-    }
-    true
+    words.len() == d as usize && ptrs == n as usize
 }

@@ -12,7 +12,7 @@ use Rattle.cp_rpc.proofs.Firsts.{none-left, none-right}
 use Rattle.cp_refs.specs.declared.cap.Cap.{Cap}
 use Rattle.cp_machine.specs.State.{State}
 use Rattle.cp_machine.specs.Then.{Then, fault_if}
-use Rattle.cp_machine.specs.Room.{has_room, has_ticket}
+use Rattle.cp_machine.specs.Capacity.{has_capacity, has_ticket}
 use Rattle.cp_machine.specs.Take.{TakeAll}
 use Rattle.cp_machine.specs.Answering.{OnCall, GoToTarget, call_faults, entered, is_answering, peer_call, target_faults}
 use Rattle.cp_machine.specs.declared.effect.Effect.{Effect}
@@ -43,17 +43,17 @@ fewer : (a b : ℕ) → ltb a b ≡ true → a < b
 fewer a b is = grind (arith, nat_tests)
 
 module _ (old mid : State) (c : Call) (caps : List Cap) (passed : Ok tt ≡ judged (call_faults old c)) (taken : TakeAll old c.params.cap_table (Ok (caps, mid))) where
-  rooms : (has_room old.entries.answers ≡ true) × (has_ticket old ≡ true)
+  rooms : (has_capacity old.entries.answers ≡ true) × (has_ticket old ≡ true)
   rooms =
       both_true _ _
       (not_held _ _
-      (none-right (fault_if (is_answering old c.question_id) faults.QuestionInUse ++ target_faults old c.target) (fault_if (not (has_room old.entries.answers && has_ticket old)) faults.TableFull)
+      (none-right (fault_if (is_answering old c.question_id) faults.QuestionInUse ++ target_faults old c.target) (fault_if (not (has_capacity old.entries.answers && has_ticket old)) faults.TableFull)
       (none_judged (call_faults old c) passed)))
 
   -- its number is free
   pub call_free : get mid.entries.answers c.question_id ≡ None
   call_free =
-      let front = none-left (fault_if (is_answering old c.question_id) faults.QuestionInUse ++ target_faults old c.target) (fault_if (not (has_room old.entries.answers && has_ticket old)) faults.TableFull) (none_judged (call_faults old c) passed) in
+      let front = none-left (fault_if (is_answering old c.question_id) faults.QuestionInUse ++ target_faults old c.target) (fault_if (not (has_capacity old.entries.answers && has_ticket old)) faults.TableFull) (none_judged (call_faults old c) passed) in
       let free = not_held _ _ (none-left (fault_if (is_answering old c.question_id) faults.QuestionInUse) (target_faults old c.target) front) in
       is_lacking _ ((takes_keep c.question_id c.params.cap_table old mid caps taken).0 ∙ free)
 

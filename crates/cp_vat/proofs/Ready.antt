@@ -27,7 +27,7 @@ use Rattle.cp_refs.specs.declared.outcome.Outcome.{Outcome}
 use Rattle.cp_refs.specs.declared.values.QuestionKind.{QuestionKind}
 use Rattle.cp_machine.specs.State.{State, none_over, with_exports}
 use Rattle.cp_machine.specs.Then.{fault_if}
-use Rattle.cp_machine.specs.Room.{cap_fits, has_room, has_ticket, outcome_fits, request_fits}
+use Rattle.cp_machine.specs.Capacity.{cap_fits, has_capacity, has_ticket, outcome_fits, request_fits}
 use Rattle.cp_machine.specs.InUse.{caps_of, has_question, has_promise, has_import, is_local_path, is_pipelined}
 use Rattle.cp_machine.specs.Take.{TakeAll, answer_of, lower}
 use Rattle.cp_machine.specs.Give.{without_question}
@@ -179,18 +179,18 @@ module _ (s : State) (h : Local s) (cap : Cap) (request : Request) (none : call_
 
   five : fault_if (not_all (has_question s) named) refusals.UnknownQuestion ++ fault_if (not_all (has_promise s) named) refusals.UnknownPromise
       ++ fault_if (list_any (is_local_path s) request.caps) refusals.Unsettled ++ fault_if (not (cap_fits cap && request_fits request)) refusals.TooLarge
-      ++ fault_if (not (has_room s.entries.questions && has_ticket s)) refusals.Full ≡ []
+      ++ fault_if (not (has_capacity s.entries.questions && has_ticket s)) refusals.Full ≡ []
   five = front_empty _ (fault_if (not_all (has_import s) named) refusals.UnknownImport) none
 
   pub call_ticket : s.next_ticket < 2 ^ 64 - 1
   call_ticket =
-      let room = both_true (has_room s.entries.questions) (has_ticket s)
-      (not_false _ (not_met _ refusals.Full (back_empty _ (fault_if (not (has_room s.entries.questions && has_ticket s)) refusals.Full) five))) in
+      let room = both_true (has_capacity s.entries.questions) (has_ticket s)
+      (not_false _ (not_met _ refusals.Full (back_empty _ (fault_if (not (has_capacity s.entries.questions && has_ticket s)) refusals.Full) five))) in
       less s.next_ticket (2 ^ 64 - 1) room.1
 
   all_there : AllByRecursion (IsThere s) named
   all_there =
-      let four = front_empty _ (fault_if (not (has_room s.entries.questions && has_ticket s)) refusals.Full) five in
+      let four = front_empty _ (fault_if (not (has_capacity s.entries.questions && has_ticket s)) refusals.Full) five in
       let three = front_empty _ (fault_if (not (cap_fits cap && request_fits request)) refusals.TooLarge) four in
       let two = front_empty _ (fault_if (list_any (is_local_path s) request.caps) refusals.Unsettled) three in
       let held = all_pass (has_import s) named (not_met _ refusals.UnknownImport (back_empty _ (fault_if (not_all (has_import s) named) refusals.UnknownImport) none)) in
@@ -235,7 +235,7 @@ module _ (old mid : State) (c : Call) (table : List Cap) (h : Local old) (passed
   front = fault_if (is_answering old c.question_id) faults.QuestionInUse ++ target_faults old c.target
 
   front_none : front ≡ []
-  front_none = front_empty front (fault_if (not (has_room old.entries.answers && has_ticket old)) faults.TableFull) (none_judged (call_faults old c) passed)
+  front_none = front_empty front (fault_if (not (has_capacity old.entries.answers && has_ticket old)) faults.TableFull) (none_judged (call_faults old c) passed)
 
   fresh_then : get mid.entries.answers c.question_id ≡ None
   fresh_then =

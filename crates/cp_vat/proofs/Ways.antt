@@ -14,8 +14,8 @@ use Rattle.cp_refs.specs.declared.values.QuestionKind.TheVariants as kinds
 use Rattle.cp_machine.specs.State.{State, Marks}
 use Rattle.cp_machine.specs.Then.{Done}
 use Rattle.cp_machine.specs.Go.{GoTo, Underway}
-use Rattle.cp_machine.specs.Calling.{GoByValue, GoFrom, Opens, called, has_mark_room, mark_of, marked, own_call, with_mark}
-use Rattle.cp_machine.specs.Room.{Fresh, free}
+use Rattle.cp_machine.specs.Calling.{GoByValue, GoFrom, Opens, called, has_mark_capacity, mark_of, marked, own_call, with_mark}
+use Rattle.cp_machine.specs.Capacity.{Fresh, free}
 use Rattle.cp_machine.specs.declared.effect.Effect.{Effect}
 use Rattle.cp_machine.specs.declared.event.Value.{Value}
 use Rattle.cp_machine.specs.declared.fault.PeerFault.{PeerFault}
@@ -86,7 +86,7 @@ put_if s put true x is = sym (ap (left s) is)
 put_if s put false x is = absurd (cc)
 
 marked_put : (s put : State) (cap : Cap) (o : Option (Option ℕ)) → o ≡ None → marked s cap o ≡ Ok put → put ≡ with_mark s cap None
-marked_put s put cap None none is = put_if s put (has_mark_room s cap) (with_mark s cap None) is
+marked_put s put cap None none is = put_if s put (has_mark_capacity s cap) (with_mark s cap None) is
 marked_put s put cap (Some e) none is = absurd (cc)
 
 -- a mark that is put and taken out again leaves the marks as they were

@@ -32,13 +32,13 @@ IsRefused last [] fault = ⊥
 IsRefused last (event ∷ more) fault = (new : State) × Step last event (Err fault) [] new
 
 -- There was no memory for what the events give, and so none was done.
-abbrev pub HadNoRoom : ℕ → VatFault → Type 0
-HadNoRoom number fault = (number ≡ 0) × (fault ≡ refusals.OutOfMemory)
+abbrev pub HadNoMemory : ℕ → VatFault → Type 0
+HadNoMemory number fault = (number ≡ 0) × (fault ≡ refusals.OutOfMemory)
 
 -- How events ended of which a number was done and others were left: none was left, or the first of these was refused, which is reported with its place.
 abbrev pub EndsBy : State → ℕ → List Event → Option (ℕ × VatFault) → Type 0
 EndsBy last number left None = left ≡ []
-EndsBy last number left (Some refused) = (refused.0 ≡ number) × (IsRefused last left refused.1 ⊎ HadNoRoom number refused.1)
+EndsBy last number left (Some refused) = (refused.0 ≡ number) × (IsRefused last left refused.1 ⊎ HadNoMemory number refused.1)
 
 -- A vat did the first of these events, each with its answer and its effects, up to the first that was refused.
 pub record Continues (old : State) (events : List Event) (done : List (Acted Value)) (refused : Option (ℕ × VatFault)) : Type 0 where

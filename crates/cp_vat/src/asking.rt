@@ -5,7 +5,7 @@ ghost use Rattle.std.specs.FinMap as map;
 ghost use Rattle.cp_machine.specs.Calling.{asked};
 ghost use Rattle.cp_machine.specs.Doing.{DoBootstrap, DoPromise};
 ghost use Rattle.cp_machine.specs.Local.{Local};
-ghost use Rattle.cp_machine.specs.Room.{Fresh};
+ghost use Rattle.cp_machine.specs.Capacity.{Fresh};
 ghost use Rattle.cp_machine.specs.declared.event.Value.TheVariants as values;
 ghost use Rattle.cp_state.specs.Halts.{IfFault, Meets};
 ghost use Rattle.cp_state.specs.StateOf.{state_of};

@@ -4,7 +4,7 @@ ghost use Rattle.std.specs.Prelude.{◌≡◌, ◌<◌, ◌-◌, ◌^◌, [], No
 ghost use Rattle.std.specs.FinMap as map;
 ghost use Rattle.cp_machine.specs.Calling.{DoCall, Opens, call_refusals, called, own_call};
 ghost use Rattle.cp_machine.specs.Local.{Local};
-ghost use Rattle.cp_machine.specs.Room.{Fresh};
+ghost use Rattle.cp_machine.specs.Capacity.{Fresh};
 ghost use Rattle.cp_machine.specs.declared.event.Value.TheVariants as values;
 ghost use Rattle.cp_state.specs.Halts.{IfFault, Owns};
 ghost use Rattle.cp_state.specs.StateOf.{state_of};

@@ -49,21 +49,6 @@ pub(crate) fn finish(core: &mut Core, id: u32, effects: &mut Vec<Effect>) -> Res
     }
 }
 
-/// Tells the peer that a question was finished, if its call was sent.
-fn tell_if(
-    is_sent: bool,
-    id: u32,
-    release: bool,
-    effects: &mut Vec<Effect>,
-) -> Result<(), AllocError>
-    ensures { OnOk result (effects.new.items ≡ effects.old.items ++ told_if is_sent (finish_of id release)) }
-{
-    if is_sent {
-        effects.push(finish_effect(id, release))?;
-    }
-    Ok(())
-}
-
 /// Gives an import back, with its whole count.
 pub(crate) fn release(core: &mut Core, id: u32, effects: &mut Vec<Effect>) -> Result<(), VatFault>
     ensures { Calls (DoRelease (state_of core.old) id) (λ _. values.Nothing) (state_of core.old) result effects.old.items effects.new.items (state_of core.new) }
@@ -78,17 +63,6 @@ pub(crate) fn release(core: &mut Core, id: u32, effects: &mut Vec<Effect>) -> Re
     remove_import(core, id, count);
     effects.push(release_effect(id, count))?;
     Ok(())
-}
-
-/// Takes an import out that has this count.
-fn remove_import(core: &mut Core, id: u32, count: u32)
-    requires there { IsSome (map.get core.old.imports id) }
-    requires count { count ≡ count_of core.old.imports id }
-    ensures { state_of core.new ≡ without_import (state_of core.old) id }
-{
-    core.values.remove_import(id);
-    core.marks.remove_import(id);
-    let _ = core.imports.lower(id, count);
 }
 
 /// Drops a settled promise.
@@ -115,4 +89,30 @@ pub(crate) fn idle(core: &Core) -> Result<Idle, VatFault>
     let imports = core.idle_imports()?;
     let promises = core.idle_promises()?;
     Ok(Idle { imports, promises })
+}
+
+/// Tells the peer that a question was finished, if its call was sent.
+fn tell_if(
+    is_sent: bool,
+    id: u32,
+    release: bool,
+    effects: &mut Vec<Effect>,
+) -> Result<(), AllocError>
+    ensures { OnOk result (effects.new.items ≡ effects.old.items ++ told_if is_sent (finish_of id release)) }
+{
+    if is_sent {
+        effects.push(finish_effect(id, release))?;
+    }
+    Ok(())
+}
+
+/// Takes an import out that has this count.
+fn remove_import(core: &mut Core, id: u32, count: u32)
+    requires there { IsSome (map.get core.old.imports id) }
+    requires count { count ≡ count_of core.old.imports id }
+    ensures { state_of core.new ≡ without_import (state_of core.old) id }
+{
+    core.values.remove_import(id);
+    core.marks.remove_import(id);
+    let _ = core.imports.lower(id, count);
 }

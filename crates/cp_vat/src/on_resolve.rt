@@ -66,16 +66,6 @@ pub(crate) fn on_resolve_view(
     Ok(())
 }
 
-/// Whether an import of this kind may be resolved: a promise that came to nothing yet.
-fn is_open_promise(core: &Core, id: u32, kind: ImportKind) -> bool
-    ensures { result ≡ is_open_promise kind (map.get core.now.values.imports id) }
-{
-    match kind {
-        ImportKind::Hosted => false,
-        ImportKind::Promise => matches!(core.values.values().import(id), Some(None)),
-    }
-}
-
 /// The Release of an import.
 pub(crate) fn release_effect(id: u32, reference_count: u32) -> Effect
     ensures { result ≡ release_of id reference_count }
@@ -107,6 +97,16 @@ pub(crate) fn given_back_view(resolution: &ResolutionView<View>) -> Option<u32>
     }
 }
 
+/// Whether an import of this kind may be resolved: a promise that came to nothing yet.
+fn is_open_promise(core: &Core, id: u32, kind: ImportKind) -> bool
+    ensures { result ≡ is_open_promise kind (map.get core.now.values.imports id) }
+{
+    match kind {
+        ImportKind::Hosted => false,
+        ImportKind::Promise => matches!(core.values.values().import(id), Some(None)),
+    }
+}
+
 /// Takes in what an import was resolved to.
 fn take_resolution(core: &mut Core, resolution: Resolution) -> Result<Cap, Halt>
     requires { is_supported_resolution resolution ≡ true }
@@ -119,7 +119,7 @@ fn take_resolution(core: &mut Core, resolution: Resolution) -> Result<Cap, Halt>
     }
 }
 
-/// The same of a resolution that is read in place.
+/// Takes in what an import was resolved to by a resolution that is read in place.
 fn take_resolution_view(core: &mut Core, resolution: &ResolutionView<View>) -> Result<Cap, Halt>
     requires { is_supported_resolution (told_resolution (λ t. t) resolution.now) ≡ true }
     ensures { Leaves (TakeResolution (state_of core.old) (told_resolution (λ t. t) resolution.now)) result (state_of core.new) }

@@ -33,22 +33,6 @@ pub(crate) fn on_unimplemented(core: &mut Core, tree: Whole) -> Result<(), Halt>
     }
 }
 
-/// What a message does that the peer doesn't know.
-fn unknown_to_peer(core: &mut Core, message: &Message) -> Result<(), Halt>
-    ensures { Quiet (UnknownToPeer (state_of core.old) (Some message.now)) result (state_of core.new) }
-{
-    let Message::Resolve(resolve) = message else {
-        return Err(Halt::Fault(PeerFault::PeerLacksLevelOne));
-    };
-    let Some(id) = given_back(&resolve.resolution) else {
-        return Ok(());
-    };
-    if let Err(fault) = lower(&mut core.exports, &[id]) {
-        return Err(Halt::Fault(fault));
-    }
-    Ok(())
-}
-
 /// The same of a tree that is read in place. Nothing is made of it.
 pub(crate) fn on_unimplemented_view(core: &mut Core, tree: &View) -> Result<(), Halt>
     ensures { Quiet (OnUnimplemented (state_of core.old) tree.now) result (state_of core.new) }
@@ -60,22 +44,6 @@ pub(crate) fn on_unimplemented_view(core: &mut Core, tree: &View) -> Result<(), 
         Ok(message) => unknown_view_to_peer(core, &message),
         Err(_) => Err(Halt::Fault(PeerFault::PeerLacksLevelOne)),
     }
-}
-
-/// What a message that is read in place does that the peer doesn't know.
-fn unknown_view_to_peer(core: &mut Core, message: &MessageView) -> Result<(), Halt>
-    ensures { Quiet (UnknownToPeer (state_of core.old) (Some (told message.now))) result (state_of core.new) }
-{
-    let MessageIn::Resolve(resolve) = message else {
-        return Err(Halt::Fault(PeerFault::PeerLacksLevelOne));
-    };
-    let Some(id) = given_back_view(&resolve.resolution) else {
-        return Ok(());
-    };
-    if let Err(fault) = lower(&mut core.exports, &[id]) {
-        return Err(Halt::Fault(fault));
-    }
-    Ok(())
 }
 
 /// How deep a tree is at most that an Unimplemented holds.
@@ -102,5 +70,37 @@ pub(crate) fn echo(core: &Core, message: &Message, effects: &mut Vec<Effect>) ->
     }
     let tree = Whole::from_shaped(root.into_tree());
     effects.push(Effect::Send(Message::Unimplemented(tree)))?;
+    Ok(())
+}
+
+/// What a message does that the peer doesn't know.
+fn unknown_to_peer(core: &mut Core, message: &Message) -> Result<(), Halt>
+    ensures { Quiet (UnknownToPeer (state_of core.old) (Some message.now)) result (state_of core.new) }
+{
+    let Message::Resolve(resolve) = message else {
+        return Err(Halt::Fault(PeerFault::PeerLacksLevelOne));
+    };
+    let Some(id) = given_back(&resolve.resolution) else {
+        return Ok(());
+    };
+    if let Err(fault) = lower(&mut core.exports, &[id]) {
+        return Err(Halt::Fault(fault));
+    }
+    Ok(())
+}
+
+/// What a message that is read in place does that the peer doesn't know.
+fn unknown_view_to_peer(core: &mut Core, message: &MessageView) -> Result<(), Halt>
+    ensures { Quiet (UnknownToPeer (state_of core.old) (Some (told message.now))) result (state_of core.new) }
+{
+    let MessageIn::Resolve(resolve) = message else {
+        return Err(Halt::Fault(PeerFault::PeerLacksLevelOne));
+    };
+    let Some(id) = given_back_view(&resolve.resolution) else {
+        return Ok(());
+    };
+    if let Err(fault) = lower(&mut core.exports, &[id]) {
+        return Err(Halt::Fault(fault));
+    }
     Ok(())
 }

@@ -95,31 +95,6 @@ pub(crate) fn check_value(core: &Core, value: &Cap) -> Result<(), VatFault>
     Ok(())
 }
 
-fn caps_of(outcome: &Outcome) -> &[Cap]
-    ensures { result.now ≡ caps_of outcome.now }
-{
-    match outcome {
-        Outcome::Results { caps, .. } => caps.caps(),
-        Outcome::Failed(_) | Outcome::Canceled => &[],
-    }
-}
-
-/// Whether a call was delivered here and isn't answered.
-fn awaits(core: &Core, origin: Origin) -> bool
-    ensures { result ≡ awaits (state_of core.now) origin }
-{
-    match origin {
-        Origin::Answer(id) => match core.answers.get(id) {
-            Some(answer) => answer.kept.is_delivered && answer.stage != Stage::Returned,
-            None => false,
-        },
-        Origin::Own(id) => match core.questions.get(id) {
-            Some(question) => question.kept.is_delivered && question.stage != Stage::Returned,
-            None => false,
-        },
-    }
-}
-
 /// Whether this is a question that the application asked and didn't finish.
 pub(crate) fn is_own_question(core: &Core, id: u32) -> bool
     ensures { result ≡ is_own_question (state_of core.now) id }
@@ -170,6 +145,30 @@ fn have_promises(core: &Core, table: &[Cap]) -> bool
     true
 }
 
+fn names_local_path(core: &Core, table: &[Cap]) -> bool
+    ensures { result ≡ list_any (is_local_path (state_of core.now)) table.now }
+{
+    for cap in table {
+        if is_local_path(core, cap) {
+            return true;
+        }
+    }
+    false
+}
+
+/// Whether it is a path of an open local question, which the peer doesn't know.
+fn is_local_path(core: &Core, cap: &Cap) -> bool
+    ensures { result ≡ is_local_path (state_of core.now) cap.now }
+{
+    let Cap::Pipelined(id, _) = cap else {
+        return false;
+    };
+    match core.values.values().question(*id) {
+        Some(question) => question.kind == QuestionKind::Local && question.outcome.is_none(),
+        None => false,
+    }
+}
+
 fn has_import(core: &Core, cap: &Cap) -> bool
     ensures { result ≡ has_import (state_of core.now) cap.now }
 {
@@ -190,36 +189,37 @@ fn have_imports(core: &Core, table: &[Cap]) -> bool
     true
 }
 
+fn caps_of(outcome: &Outcome) -> &[Cap]
+    ensures { result.now ≡ caps_of outcome.now }
+{
+    match outcome {
+        Outcome::Results { caps, .. } => caps.caps(),
+        Outcome::Failed(_) | Outcome::Canceled => &[],
+    }
+}
+
+/// Whether a call was delivered here and isn't answered.
+fn awaits(core: &Core, origin: Origin) -> bool
+    ensures { result ≡ awaits (state_of core.now) origin }
+{
+    match origin {
+        Origin::Answer(id) => match core.answers.get(id) {
+            Some(answer) => answer.kept.is_delivered && answer.stage != Stage::Returned,
+            None => false,
+        },
+        Origin::Own(id) => match core.questions.get(id) {
+            Some(question) => question.kept.is_delivered && question.stage != Stage::Returned,
+            None => false,
+        },
+    }
+}
+
 /// Whether a table names a question's path.
 fn names_path(table: &[Cap]) -> bool
     ensures { result ≡ list_any is_pipelined table.now }
 {
     for cap in table {
         if let Cap::Pipelined(_, _) = cap {
-            return true;
-        }
-    }
-    false
-}
-
-/// Whether it is a path of an open local question, which the peer doesn't know.
-fn is_local_path(core: &Core, cap: &Cap) -> bool
-    ensures { result ≡ is_local_path (state_of core.now) cap.now }
-{
-    let Cap::Pipelined(id, _) = cap else {
-        return false;
-    };
-    match core.values.values().question(*id) {
-        Some(question) => question.kind == QuestionKind::Local && question.outcome.is_none(),
-        None => false,
-    }
-}
-
-fn names_local_path(core: &Core, table: &[Cap]) -> bool
-    ensures { result ≡ list_any (is_local_path (state_of core.now)) table.now }
-{
-    for cap in table {
-        if is_local_path(core, cap) {
             return true;
         }
     }

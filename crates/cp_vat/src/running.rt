@@ -29,25 +29,6 @@ pub fn run(alloc: Global, bootstrap: Option<u32>, events: Vec<Event>) -> Ran
     Ran { done, refused }
 }
 
-/// Does events in order, and stops at the first refusal, whose place and fault it gives.
-fn act_on_all(
-    vat: &mut Vat,
-    events: Vec<Event>,
-    done: &mut Vec<Acted<Value>>,
-) -> Option<(usize, VatFault)>
-    requires none { done.old.items ≡ [] }
-    requires room { vec_len events ≤ vec_capacity done.old }
-    ensures { Continues vat.old events.items done.new.items result }
-{
-    for event in events {
-        match vat.act(event) {
-            Ok(acted) => done.push(acted).unwrap(),
-            Err(fault) => return Some((done.len(), fault)),
-        }
-    }
-    None
-}
-
 impl Vat {
     /// Does an event.
     ///
@@ -70,6 +51,25 @@ impl Vat {
             Event::Idle => idle(self.idle()),
         }
     }
+}
+
+/// Does events in order, and stops at the first refusal, whose place and fault it gives.
+fn act_on_all(
+    vat: &mut Vat,
+    events: Vec<Event>,
+    done: &mut Vec<Acted<Value>>,
+) -> Option<(usize, VatFault)>
+    requires none { done.old.items ≡ [] }
+    requires capacity { vec_len events ≤ vec_capacity done.old }
+    ensures { Continues vat.old events.items done.new.items result }
+{
+    for event in events {
+        match vat.act(event) {
+            Ok(acted) => done.push(acted).unwrap(),
+            Err(fault) => return Some((done.len(), fault)),
+        }
+    }
+    None
 }
 
 /// What a call gave, with its value as one of all.

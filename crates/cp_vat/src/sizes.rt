@@ -3,7 +3,7 @@
 ghost use Rattle.std.specs.Prelude.{◌≡◌};
 ghost use Rattle.std.specs.List.{list_all};
 ghost use Rattle.cp_rpc.specs.Told.{told, told_descriptor, told_exception, told_payload, told_resolution, told_returned, told_target};
-ghost use Rattle.cp_machine.specs.Room.{cap_fits, caps_fit, content_fits, descriptor_fits, exception_fits, message_fits, outcome_fits, payload_fits, request_fits, resolution_fits, returned_fits, target_fits, transform_fits};
+ghost use Rattle.cp_machine.specs.Capacity.{cap_fits, caps_fit, content_fits, descriptor_fits, exception_fits, message_fits, outcome_fits, payload_fits, request_fits, resolution_fits, returned_fits, target_fits, transform_fits};
 
 use cp_reading::View;
 use cp_refs::{Cap, Outcome, Request};
@@ -72,21 +72,39 @@ pub(crate) fn cap_fits(cap: &Cap) -> bool
     }
 }
 
-fn caps_fit(table: &[Cap]) -> bool
-    ensures { result ≡ caps_fit table.now }
+/// Whether a message that is read in place is within the vat's sizes.
+pub(crate) fn message_fits_view(message: &MessageView) -> bool
+    ensures { result ≡ message_fits (told message.now) }
 {
-    table.len() <= TABLE_LENGTH && all_caps_fit(table)
+    match message {
+        MessageIn::Abort(exception) => exception_fits_view(exception),
+        MessageIn::Call(call) => target_fits_view(&call.target) && payload_fits_view(&call.params),
+        MessageIn::Return(returned) => returned_fits_view(&returned.returned),
+        MessageIn::Resolve(resolve) => resolution_fits_view(&resolve.resolution),
+        MessageIn::Disembargo(disembargo) => target_fits_view(&disembargo.target),
+        _ => true,
+    }
 }
 
-fn all_caps_fit(table: &[Cap]) -> bool
-    ensures { result ≡ list_all cap_fits table.now }
+fn exception_fits(exception: &Exception) -> bool
+    ensures { result ≡ exception_fits exception.now }
 {
-    for cap in table {
-        if !cap_fits(cap) {
-            return false;
-        }
+    exception.reason.as_str().len() <= TEXT_LENGTH && exception.trace.as_str().len() <= TEXT_LENGTH
+}
+
+fn target_fits(target: &Target) -> bool
+    ensures { result ≡ target_fits target.now }
+{
+    match target {
+        Target::PromisedAnswer(answer) => transform_fits(answer),
+        _ => true,
     }
-    true
+}
+
+fn transform_fits(answer: &PromisedAnswer) -> bool
+    ensures { result ≡ transform_fits answer.now.transform }
+{
+    answer.transform.ops().len() <= PATH_LENGTH
 }
 
 fn payload_fits(payload: &Payload) -> bool
@@ -94,6 +112,12 @@ fn payload_fits(payload: &Payload) -> bool
 {
     let table = payload.cap_table.descriptors();
     content_fits(&payload.content) && table.len() <= TABLE_LENGTH && all_descriptors_fit(table)
+}
+
+fn content_fits(content: &Whole) -> bool
+    ensures { result ≡ content_fits content.now }
+{
+    fits(content.tree(), CONTENT_DEPTH, CONTENT_COST)
 }
 
 fn all_descriptors_fit(table: &[Descriptor]) -> bool
@@ -112,15 +136,6 @@ fn descriptor_fits(descriptor: &Descriptor) -> bool
 {
     match descriptor {
         Descriptor::ReceiverAnswer(answer) => transform_fits(answer),
-        _ => true,
-    }
-}
-
-fn target_fits(target: &Target) -> bool
-    ensures { result ≡ target_fits target.now }
-{
-    match target {
-        Target::PromisedAnswer(answer) => transform_fits(answer),
         _ => true,
     }
 }
@@ -145,34 +160,34 @@ fn resolution_fits(resolution: &Resolution) -> bool
     }
 }
 
-fn transform_fits(answer: &PromisedAnswer) -> bool
-    ensures { result ≡ transform_fits answer.now.transform }
+fn caps_fit(table: &[Cap]) -> bool
+    ensures { result ≡ caps_fit table.now }
 {
-    answer.transform.ops().len() <= PATH_LENGTH
+    table.len() <= TABLE_LENGTH && all_caps_fit(table)
 }
 
-fn content_fits(content: &Whole) -> bool
-    ensures { result ≡ content_fits content.now }
+fn all_caps_fit(table: &[Cap]) -> bool
+    ensures { result ≡ list_all cap_fits table.now }
 {
-    fits(content.tree(), CONTENT_DEPTH, CONTENT_COST)
+    for cap in table {
+        if !cap_fits(cap) {
+            return false;
+        }
+    }
+    true
 }
 
-fn exception_fits(exception: &Exception) -> bool
-    ensures { result ≡ exception_fits exception.now }
+fn exception_fits_view(exception: &ExceptionView<View>) -> bool
+    ensures { result ≡ exception_fits (told_exception (λ t. t) exception.now) }
 {
-    exception.reason.as_str().len() <= TEXT_LENGTH && exception.trace.as_str().len() <= TEXT_LENGTH
+    exception.reason.len() <= TEXT_LENGTH && exception.trace.len() <= TEXT_LENGTH
 }
 
-/// Whether a message that is read in place is within the vat's sizes.
-pub(crate) fn message_fits_view(message: &MessageView) -> bool
-    ensures { result ≡ message_fits (told message.now) }
+fn target_fits_view(target: &TargetView<View>) -> bool
+    ensures { result ≡ target_fits (told_target (λ t. t) target.now) }
 {
-    match message {
-        MessageIn::Abort(exception) => exception_fits_view(exception),
-        MessageIn::Call(call) => target_fits_view(&call.target) && payload_fits_view(&call.params),
-        MessageIn::Return(returned) => returned_fits_view(&returned.returned),
-        MessageIn::Resolve(resolve) => resolution_fits_view(&resolve.resolution),
-        MessageIn::Disembargo(disembargo) => target_fits_view(&disembargo.target),
+    match target {
+        TargetView::PromisedAnswer(answer) => answer.transform.len() <= PATH_LENGTH,
         _ => true,
     }
 }
@@ -205,15 +220,6 @@ fn descriptor_fits_view(descriptor: &DescriptorView<View>) -> bool
     }
 }
 
-fn target_fits_view(target: &TargetView<View>) -> bool
-    ensures { result ≡ target_fits (told_target (λ t. t) target.now) }
-{
-    match target {
-        TargetView::PromisedAnswer(answer) => answer.transform.len() <= PATH_LENGTH,
-        _ => true,
-    }
-}
-
 fn returned_fits_view(returned: &ReturnedView<View>) -> bool
     ensures { result ≡ returned_fits (told_returned (λ t. t) returned.now) }
 {
@@ -232,10 +238,4 @@ fn resolution_fits_view(resolution: &ResolutionView<View>) -> bool
         ResolutionView::Exception(exception) => exception_fits_view(exception),
         ResolutionView::Unknown(_) => true,
     }
-}
-
-fn exception_fits_view(exception: &ExceptionView<View>) -> bool
-    ensures { result ≡ exception_fits (told_exception (λ t. t) exception.now) }
-{
-    exception.reason.len() <= TEXT_LENGTH && exception.trace.len() <= TEXT_LENGTH
 }

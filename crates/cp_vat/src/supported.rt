@@ -33,6 +33,26 @@ pub(crate) fn is_supported(message: &Message) -> bool
     }
 }
 
+/// The same of a message that is read in place.
+pub(crate) fn is_supported_view(message: &MessageView) -> bool
+    ensures { result ≡ is_supported (told message.now) }
+{
+    match message {
+        MessageIn::Call(call) => {
+            matches!(&call.send_results_to, SendResultsToView::Caller)
+                && is_supported_target_view(&call.target)
+                && are_supported_view(&call.params.cap_table)
+        }
+        MessageIn::Return(returned) => is_supported_returned_view(&returned.returned),
+        MessageIn::Resolve(resolve) => is_supported_resolution_view(&resolve.resolution),
+        MessageIn::Disembargo(disembargo) => {
+            is_loopback(&disembargo.context) && is_supported_target_view(&disembargo.target)
+        }
+        MessageIn::Other { .. } => false,
+        _ => true,
+    }
+}
+
 fn is_supported_target(target: &Target) -> bool
     ensures { result ≡ is_supported_target target.now }
 {
@@ -102,26 +122,6 @@ fn is_loopback(context: &Context) -> bool
         context,
         Context::SenderLoopback(_) | Context::ReceiverLoopback(_)
     )
-}
-
-/// The same of a message that is read in place.
-pub(crate) fn is_supported_view(message: &MessageView) -> bool
-    ensures { result ≡ is_supported (told message.now) }
-{
-    match message {
-        MessageIn::Call(call) => {
-            matches!(&call.send_results_to, SendResultsToView::Caller)
-                && is_supported_target_view(&call.target)
-                && are_supported_view(&call.params.cap_table)
-        }
-        MessageIn::Return(returned) => is_supported_returned_view(&returned.returned),
-        MessageIn::Resolve(resolve) => is_supported_resolution_view(&resolve.resolution),
-        MessageIn::Disembargo(disembargo) => {
-            is_loopback(&disembargo.context) && is_supported_target_view(&disembargo.target)
-        }
-        MessageIn::Other { .. } => false,
-        _ => true,
-    }
 }
 
 fn is_supported_target_view(target: &TargetView<View>) -> bool

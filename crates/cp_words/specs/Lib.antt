@@ -1,4 +1,4 @@
 pub mod Limits
 pub mod Segments
 pub mod Word
-pub mod Aims
+pub mod Targets

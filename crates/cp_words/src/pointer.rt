@@ -129,35 +129,6 @@ pub fn decode(word: u64) -> Result<Pointer, BadCapability>
     }
 }
 
-/// The 30 bits that stand for an offset.
-fn offset_field(offset: i32) -> u64
-    requires { IsOffset offset }
-    ensures bits { result ≡ offset_bits offset }
-    ensures field { result < 2 ^ 30 }
-    ensures value { (if nat_lt result (2 ^ 29) then pos result else (pos result -ℤ pos (2 ^ 30))) ≡ offset }
-{
-    if offset < 0 {
-        (offset + 0x4000_0000) as u64
-    } else {
-        offset as u64
-    }
-}
-
-fn code_of(size: ElementSize) -> u64
-    ensures { result ≡ size_code size }
-{
-    match size {
-        ElementSize::Void => 0,
-        ElementSize::Bit => 1,
-        ElementSize::Byte => 2,
-        ElementSize::TwoBytes => 3,
-        ElementSize::FourBytes => 4,
-        ElementSize::EightBytes => 5,
-        ElementSize::Pointer => 6,
-        ElementSize::Composite => 7,
-    }
-}
-
 /// The word that says this. Each part must fit its bits, and a struct may not come out as the word
 /// 0, which says null: a struct of size zero is written with offset -1.
 #[tactic(auto, unfolding(crate::specs::Word::pointer_of))]
@@ -189,27 +160,10 @@ pub fn encode(pointer: Pointer) -> u64
             place,
             segment,
         } => {
-            let pad: u64 = if double { 1 } else { 0 };
-            2 + 4 * pad + 8 * place as u64 + 0x1_0000_0000 * segment as u64
+            let landing_pad: u64 = if double { 1 } else { 0 };
+            2 + 4 * landing_pad + 8 * place as u64 + 0x1_0000_0000 * segment as u64
         }
         Pointer::Cap(index) => 3 + 0x1_0000_0000 * index as u64,
-    }
-}
-
-/// How many bits of a list's body an element takes; the elements of a composite list are counted by
-/// words.
-#[inline(always)]
-fn bits_of(size: ElementSize) -> u64
-    ensures value { result ≡ bits_of size }
-    ensures small { result ≤ 64 }
-{
-    match size {
-        ElementSize::Void => 0,
-        ElementSize::Bit => 1,
-        ElementSize::Byte => 8,
-        ElementSize::TwoBytes => 16,
-        ElementSize::FourBytes => 32,
-        ElementSize::EightBytes | ElementSize::Pointer | ElementSize::Composite => 64,
     }
 }
 
@@ -251,4 +205,50 @@ pub fn decode_tag(word: u64) -> Option<Tag>
         words: (high % 0x1_0000) as u16,
         ptrs: (high / 0x1_0000) as u16,
     })
+}
+
+/// The 30 bits that stand for an offset.
+fn offset_field(offset: i32) -> u64
+    requires { IsOffset offset }
+    ensures bits { result ≡ offset_bits offset }
+    ensures field { result < 2 ^ 30 }
+    ensures value { (if nat_lt result (2 ^ 29) then pos result else (pos result -ℤ pos (2 ^ 30))) ≡ offset }
+{
+    if offset < 0 {
+        (offset + 0x4000_0000) as u64
+    } else {
+        offset as u64
+    }
+}
+
+fn code_of(size: ElementSize) -> u64
+    ensures { result ≡ size_code size }
+{
+    match size {
+        ElementSize::Void => 0,
+        ElementSize::Bit => 1,
+        ElementSize::Byte => 2,
+        ElementSize::TwoBytes => 3,
+        ElementSize::FourBytes => 4,
+        ElementSize::EightBytes => 5,
+        ElementSize::Pointer => 6,
+        ElementSize::Composite => 7,
+    }
+}
+
+/// How many bits of a list's body an element takes; the elements of a composite list are counted by
+/// words.
+#[inline(always)]
+fn bits_of(size: ElementSize) -> u64
+    ensures value { result ≡ bits_of size }
+    ensures small { result ≤ 64 }
+{
+    match size {
+        ElementSize::Void => 0,
+        ElementSize::Bit => 1,
+        ElementSize::Byte => 8,
+        ElementSize::TwoBytes => 16,
+        ElementSize::FourBytes => 32,
+        ElementSize::EightBytes | ElementSize::Pointer | ElementSize::Composite => 64,
+    }
 }

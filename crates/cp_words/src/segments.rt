@@ -1,7 +1,7 @@
 //! The segments of a message.
 
-ghost use Rattle.std.specs.Prelude.{◌≡◌, ◌<◌, ◌∷◌, List, ℕ, [], map, IfOk, IfErr, length};
-ghost use Rattle.cp_words.specs.Segments.{words_of};
+ghost use Rattle.std.specs.Prelude.{◌≡◌, ◌<◌, ◌∷◌, List, ℕ, [], IfOk, IfErr, length};
+ghost use Rattle.cp_words.specs.Segments.{words_of, words_held};
 
 use std::marker::Model;
 use std::slice;
@@ -9,12 +9,12 @@ use std::slice;
 /// One or more segments, each a list of words, numbered from 0. Contracts see them as the list of these lists.
 #[derive(Drop)]
 pub struct Segments {
-    lists: Lists,
+    held: Held,
 }
 
 /// The segments. Most messages have one, which needs no vector around it.
 #[derive(Drop)]
-enum Lists {
+enum Held {
     One(Vec<u64>),
     Many(Vec<Vec<u64>>),
 }
@@ -22,53 +22,53 @@ enum Lists {
 impl Model for Segments {
     ghost Value = { List (List ℕ) };
 
-    ghost view = { λ s. words_of s.lists };
+    ghost view = { λ s. words_held s.held };
 
-    ghost invariant = { λ s. 0 < length (words_of s.lists) };
+    ghost invariant = { λ s. 0 < length (words_held s.held) };
 }
 
 impl Segments {
     /// Holds the segments. None at all are given back.
-    pub fn new(lists: Vec<Vec<u64>>) -> Result<Segments, Vec<Vec<u64>>>
-        ensures held { IfOk result (λ s. s ≡ map (λ v. v.items) lists.items) }
+    pub fn new(segments: Vec<Vec<u64>>) -> Result<Segments, Vec<Vec<u64>>>
+        ensures held { IfOk result (λ s. s ≡ words_of segments.items) }
         ensures some { IfOk result (λ s. 0 < length s) }
-        ensures empty { IfErr result (λ back. (back ≡ lists) × (lists.items ≡ [])) }
+        ensures empty { IfErr result (λ back. (back ≡ segments) × (segments.items ≡ [])) }
     {
-        if lists.is_empty() {
-            return Err(lists);
+        if segments.is_empty() {
+            return Err(segments);
         }
         Ok(Segments {
-            lists: Lists::Many(lists),
+            held: Held::Many(segments),
         })
     }
 
-    /// Holds one list.
-    pub fn one(list: Vec<u64>) -> Segments
-        ensures { result ≡ list.items ∷ [] }
+    /// Holds one segment.
+    pub fn one(words: Vec<u64>) -> Segments
+        ensures { result ≡ words.items ∷ [] }
     {
         Segments {
-            lists: Lists::One(list),
+            held: Held::One(words),
         }
     }
 
     /// The segments, lent.
     pub fn lists(&self) -> &[Vec<u64>]
-        ensures all { map (λ v. v.items) result.now ≡ self.now }
+        ensures all { words_of result.now ≡ self.now }
         ensures some { 0 < length result.now }
     {
-        match &self.lists {
-            Lists::One(list) => slice::from_ref(list),
-            Lists::Many(lists) => lists,
+        match &self.held {
+            Held::One(words) => slice::from_ref(words),
+            Held::Many(segments) => segments,
         }
     }
 
-    /// The first list, without the others.
+    /// The first segment, without the others.
     pub fn into_first(self) -> Vec<u64>
         ensures { (others : List (List ℕ)) × (self ≡ result.items ∷ others) }
     {
-        match self.lists {
-            Lists::One(list) => list,
-            Lists::Many(mut lists) => lists.swap_remove(0),
+        match self.held {
+            Held::One(words) => words,
+            Held::Many(mut segments) => segments.swap_remove(0),
         }
     }
 }

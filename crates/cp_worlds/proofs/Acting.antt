@@ -11,7 +11,7 @@ use Rattle.cp_refs.specs.declared.call.Origin.{Origin}
 use Rattle.cp_refs.specs.declared.outcome.Outcome.{Outcome}
 use Rattle.cp_machine.specs.State.{State, Counts}
 use Rattle.cp_machine.specs.Then.{Done, fault_if}
-use Rattle.cp_machine.specs.Room.{Fresh}
+use Rattle.cp_machine.specs.Capacity.{Fresh}
 use Rattle.cp_machine.specs.InUse.{is_import_used, is_promise_used, is_question_used, is_own_question, is_unsettled}
 use Rattle.cp_machine.specs.Give.{Give, Settle}
 use Rattle.cp_machine.specs.Calling.{OwnDone}

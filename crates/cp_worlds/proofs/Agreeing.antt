@@ -11,10 +11,10 @@ use Rattle.cp_machine.specs.Take.{times}
 use Rattle.cp_machine.specs.Give.{returned_mentions}
 use Rattle.cp_machine.proofs.Basics.{some_out, none_out, is_equal, is_itself, other_number}
 use Rattle.cp_worlds.specs.Ledger.{named_by, opens, finishes, given_up}
-use Rattle.cp_worlds.specs.Accounts.{Account, Accounts, new_account, is_finish_noted, is_given_up, taken_in, results_at, results_in, Lowerable, lowerable, lowered_by, lowerable_behind, is_releasing, asked, given_up_at, question_finished, question_behind, gone_by, given_at, answer_given, answer_behind, Sent, return_noted, question_returned, question_heard, finish_noted, answer_finished, Came}
+use Rattle.cp_worlds.specs.Accounts.{Account, Accounts, new_account, is_finish_noted, is_given_up, taken_in, results_at, results_in, Lowerable, lowerable, lowered_by, lowerable_after, is_releasing, asked, given_up_at, question_finished, question_after, gone_by, given_at, answer_given, answer_after, Sent, return_noted, question_returned, question_heard, finish_noted, answer_finished, Came}
 use Rattle.cp_worlds.specs.Owed.{named_on_way, lowered_on_way}
-use Rattle.cp_worlds.specs.Lives.{IsUsual, AreUsual, Standing, absent, ungiven, left_ungiven, given, mistaken, standing_at, standing_of, opened, finished, stands_behind, will_stand, return_of, returns_of, FitsOpen, FitsAt, Fits, LivesFit, AreOwed, Agree, Keeps}
-use Rattle.cp_worlds.proofs.Standings.{behind_by, will_append, stays_mistaken, never_fits, none_stays, finishing_leaves, Ways, ways}
+use Rattle.cp_worlds.specs.Lives.{IsUsual, AreUsual, Standing, absent, ungiven, left_ungiven, given, mistaken, standing_at, standing_of, opened, finished, stands_after, will_stand, return_of, returns_of, FitsOpen, FitsAt, Fits, LivesFit, AreOwed, Agree, Keeps}
+use Rattle.cp_worlds.proofs.Standings.{after_by, will_append, stays_mistaken, never_fits, none_stays, finishing_leaves, Ways, ways}
 use Rattle.cp_worlds.proofs.LivesKept.{asking_fits, answering_fits, returning_fits, hearing_fits}
 use Rattle.cp_worlds.proofs.OnWay.{named_more, lists_after, lowered_more, Alike, lowered_alike, Apart, lowered_none, lowered_finishing, total, named_alike, named_up}
 
@@ -60,7 +60,7 @@ matches_finished false results left_ungiven = tt
 matches_finished true results mistaken = tt
 matches_finished false results mistaken = tt
 
-matches_step : (o f release : Bool) (results : List ℕ) (st : Standing) → Matches results st → Matches (if f then [] else results) (behind_by o f release st)
+matches_step : (o f release : Bool) (results : List ℕ) (st : Standing) → Matches results st → Matches (if f then [] else results) (after_by o f release st)
 matches_step true f release results st h = matches_opened f results st h
 matches_step false true release results st h = matches_finished release results st
 matches_step false false release results st h = h
@@ -69,7 +69,7 @@ matches_after : (q : ℕ) (ms : List Message) (lists : Lowerable) (st : Standing
     → Matches ((lists_after ms lists).results q) (will_stand q ms st)
 matches_after q [] lists st h = h
 matches_after q (m ∷ ms) lists st h =
-    matches_after q ms (lowerable_behind m lists) (stands_behind q m st) (matches_step (opens q m) (finishes q m) (is_releasing m) (lists.results q) st h)
+    matches_after q ms (lowerable_after m lists) (stands_after q m st) (matches_step (opens q m) (finishes q m) (is_releasing m) (lists.results q) st h)
 
 -- A message that isn't a Finish gives no question up, and what the Return of an open answer names was counted.
 asked_alike : (named : List ℕ) (Q new : Option Account) → asked named Q ≡ Some new → is_given_up new ≡ is_given_up Q
@@ -82,7 +82,7 @@ question_alike true f release named Q new none e = asked_alike named Q new e
 question_alike false true release named Q new none e = absurd (true≢false none)
 question_alike false false release named Q new none e = rw (← some_out e) refl
 
-unfinished_alike : (p : ℕ) (m : Message) (Q new : Option Account) → finishes p m ≡ false → question_behind p m Q ≡ Some new → is_given_up new ≡ is_given_up Q
+unfinished_alike : (p : ℕ) (m : Message) (Q new : Option Account) → finishes p m ≡ false → question_after p m Q ≡ Some new → is_given_up new ≡ is_given_up Q
 unfinished_alike p m Q new none e = question_alike (opens p m) (finishes p m) (is_releasing m) (named_by m) Q new none e
 
 -- What the one sends the other: the other's exports are owed as before.
@@ -112,7 +112,7 @@ finish_owed_at q true stages.Open kept Q new ms results W e was up others h m =
     omega (
       arith,
       open_fits e (returns_of q ms) W results h m,
-      named_up q ms Q new e (record { before = rw (was) refl; behind = rw (← some_out up) refl; others = others }),
+      named_up q ms Q new e (record { before = rw (was) refl; after = rw (← some_out up) refl; others = others }),
     )
 finish_owed_at q false stages.Returned kept Q new ms results W e was up others h m =
     omega (arith, named_alike ms Q new e (λ p. alike_all q p (p == q) Q new refl (rw (was, ← some_out up) refl) others))
@@ -136,7 +136,7 @@ finish_at_own true release Q new t e = e
 finish_at_own false release Q new t e = absurd (true≢false (sym t))
 
 sent_owed_back : (m : Message) (Q new : ℕ → Option Account) (A : ℕ → Option Account) (lists : Lowerable) (to_one to_other : List Message) (e : ℕ) → IsUsual m
-    → ((a : ℕ) → lists.results a ≡ results_in (A a)) → ((q : ℕ) → question_behind q m (Q q) ≡ Some (new q))
+    → ((a : ℕ) → lists.results a ≡ results_in (A a)) → ((q : ℕ) → question_after q m (Q q) ≡ Some (new q))
     → ((q : ℕ) → Fits (Q q) (returns_of q to_one) (will_stand q to_other (standing_of (A q))))
     → named_on_way new to_one e + lowered_by (lists_after to_other lists) m e ≡ named_on_way Q to_one e + given_up m e
 sent_owed_back (messages.Finish f) Q new A lists to_one to_other e usual results step lives =
@@ -212,7 +212,7 @@ return_owed_at : (q : ℕ) (named : List ℕ) (stage : Stage) (kept : List ℕ) 
     → ((a : ℕ) → (a == q) ≡ false → other.results a ≡ lists.results a) → Fits Q rs (will_stand q ms (standing_at stage kept))
     → lowered_on_way other ms e + times e (if is_given_up Q then [] else named) ≡ lowered_on_way lists ms e + times e named
 return_owed_at q named stages.Open kept new Q rs ms lists other e usual is was now others h =
-    given_owed q named Q rs ms lists other e usual (record { before = was; behind = rw (now, ← some_out is) refl; others = others }) (ways q ms) h
+    given_owed q named Q rs ms lists other e usual (record { before = was; after = rw (now, ← some_out is) refl; others = others }) (ways q ms) h
 return_owed_at q named stages.Finished kept new Q rs ms lists other e usual is was now others h =
     gone_owed named Q new ms lists other e usual is (λ none a. alike_but q a (a == q) lists other refl (rw (now, none, was) refl) others)
 return_owed_at q named stages.Returned kept new Q rs ms lists other e usual is was now others h = none_out is
@@ -236,7 +236,7 @@ same_at_other false named A new t e = rw (← some_out e) refl
 same_at_other true named A new t e = absurd (true≢false t)
 
 sent_owed : (m : Message) (Q : ℕ → Option Account) (A new : ℕ → Option Account) (lists other : Lowerable) (to_one to_other : List Message) (e : ℕ) → AreUsual to_one
-    → ((a : ℕ) → lists.results a ≡ results_in (A a)) → ((a : ℕ) → other.results a ≡ results_in (new a)) → ((a : ℕ) → answer_behind a m (A a) ≡ Some (new a))
+    → ((a : ℕ) → lists.results a ≡ results_in (A a)) → ((a : ℕ) → other.results a ≡ results_in (new a)) → ((a : ℕ) → answer_after a m (A a) ≡ Some (new a))
     → ((q : ℕ) → Fits (Q q) (returns_of q to_other) (will_stand q to_one (standing_of (A q))))
     → lowered_on_way other to_one e + times e (taken_in Q m) ≡ lowered_on_way lists to_one e + times e (named_by m)
 sent_owed (messages.Return r) Q A new lists other to_one to_other e usual was now step lives =
@@ -316,7 +316,7 @@ finished_results (Some account) = at account.stage account.kept
     at stages.Returned kept = refl
 
 heard_results : (q : ℕ) (o f release : Bool) (A Q : Option Account) (ms : List Message) (rs : List (List ℕ))
-    → Fits Q rs (will_stand q ms (behind_by o f release (standing_of A)))
+    → Fits Q rs (will_stand q ms (after_by o f release (standing_of A)))
     → results_in (if o then Some (new_account []) else (if f then answer_finished A else A)) ≡ (if f then [] else results_in A)
 heard_results q true true release A Q ms rs h = refl
 heard_results q true false release A Q ms rs h = sym (opened_none q A ms Q rs h)
@@ -326,19 +326,19 @@ heard_results q false false release A Q ms rs h = refl
 came_counts : (one new other : Accounts) (to_one to_other : List Message) (m : Message) → Agree one (m ∷ to_one) other to_other → Came one m new
     → AreOwed other to_other new to_one
 came_counts one new other to_one to_other m agree step e =
-    let same : lowered_on_way (lowerable new) to_one e ≡ lowered_on_way (lowerable_behind m (lowerable one)) to_one e
-    = lowered_alike to_one (lowerable_behind m (lowerable one)) (lowerable new) e agree.usual.1
+    let same : lowered_on_way (lowerable new) to_one e ≡ lowered_on_way (lowerable_after m (lowerable one)) to_one e
+    = lowered_alike to_one (lowerable_after m (lowerable one)) (lowerable new) e agree.usual.1
     (λ a.
     ap results_in (step.answers a)
     ∙ heard_results a (opens a m) (finishes a m) (is_releasing m) (one.answers a) (other.questions a) to_one (returns_of a to_other) (agree.lives_back a)) in
     omega (arith, step.exports e, agree.counts e, same)
 
 -- No other Return of a question is on the way after one that comes.
-none_behind : (i : ℕ) (stage : Stage) (named : List ℕ) (rs : List (List ℕ)) (W : Standing) → FitsAt stage (named ∷ rs) W → total i rs ≡ 0
-none_behind i stage named [] W h = refl
-none_behind i stages.Open named (r ∷ rs) W h = absurd h
-none_behind i stages.Finished named (r ∷ rs) W h = absurd h
-none_behind i stages.Returned named (r ∷ rs) W h = absurd h
+none_after : (i : ℕ) (stage : Stage) (named : List ℕ) (rs : List (List ℕ)) (W : Standing) → FitsAt stage (named ∷ rs) W → total i rs ≡ 0
+none_after i stage named [] W h = refl
+none_after i stages.Open named (r ∷ rs) W h = absurd h
+none_after i stages.Finished named (r ∷ rs) W h = absurd h
+none_after i stages.Returned named (r ∷ rs) W h = absurd h
 
 -- what came gives up no question, and one that was given up is gone
 other_heard : (b : Bool) (Q : Option Account) → b ≡ false → is_given_up (if b then question_returned Q else Q) ≡ is_given_up Q
@@ -359,8 +359,8 @@ return_named_at q i named stages.Returned kept Q new ms W was now others h = abs
 return_named_at q i named stages.Finished kept Q new ms W was now others h =
     omega (
       arith,
-      named_up q ms new Q i (record { before = now; behind = rw (was) refl; others = λ p n. sym (others p n) }),
-      none_behind i stages.Finished named (returns_of q ms) W h,
+      named_up q ms new Q i (record { before = now; after = rw (was) refl; others = λ p n. sym (others p n) }),
+      none_after i stages.Finished named (returns_of q ms) W h,
     )
 
 return_named : (q i : ℕ) (named : List ℕ) (x : Option Account) (Q new : ℕ → Option Account) (ms : List Message) (W : Standing) → Q q ≡ x

@@ -19,10 +19,10 @@ use Rattle.cp_refs.specs.declared.values.QuestionKind.{QuestionKind}
 use Rattle.cp_refs.specs.declared.values.QuestionKind.TheVariants as kinds
 use Rattle.cp_machine.specs.State.{State, Marks}
 use Rattle.cp_machine.specs.Then.{Done}
-use Rattle.cp_machine.specs.Room.{Fresh}
+use Rattle.cp_machine.specs.Capacity.{Fresh}
 use Rattle.cp_machine.specs.Supported.{is_supported_target}
 use Rattle.cp_machine.specs.Go.{Underway, held_at, GoTo}
-use Rattle.cp_machine.specs.Calling.{Reference, plain, on_wire, came_to, reference_of, asked, called, own_call, mark_of, with_mark, has_mark_room, marked, old_target, disembargo_of, FirstEmbargoed, GoBack, GoByValue, GoFrom, OwnDone, call_refusals, DoCall}
+use Rattle.cp_machine.specs.Calling.{Reference, plain, on_wire, came_to, reference_of, asked, called, own_call, mark_of, with_mark, has_mark_capacity, marked, old_target, disembargo_of, FirstEmbargoed, GoBack, GoByValue, GoFrom, OwnDone, call_refusals, DoCall}
 use Rattle.cp_machine.specs.declared.entry.QuestionEntry.{QuestionEntry}
 use Rattle.cp_machine.specs.declared.fault.PeerFault.TheVariants as faults
 use Rattle.cp_machine.specs.declared.fault.VatFault.{VatFault}
@@ -107,7 +107,7 @@ with_mark_is s (caps.Broken x) embargo = refl
 
 marked_is : (s mid : State) (cap : Cap) (o : Option (Option ℕ)) → Ok mid ≡ marked s cap o → mid ≡ record s { marks = mid.marks }
 marked_is s mid cap (Some embargo) is = rw (ok_in _ _ is) refl
-marked_is s mid cap None is = by (has_mark_room s cap) is
+marked_is s mid cap None is = by (has_mark_capacity s cap) is
   where
     by : (b : Bool) → Ok mid ≡ cond b (Ok (with_mark s cap None)) (Err faults.TableFull) → mid ≡ record s { marks = mid.marks }
     by true e = rw (ok_in _ _ e) (with_mark_is s cap None)

@@ -33,7 +33,7 @@ use Rattle.cp_refs.specs.declared.route.Gate.TheVariants as gates
 use Rattle.cp_refs.specs.declared.route.Route.TheVariants as routes
 use Rattle.cp_machine.specs.State.{State, Counts, with_exports}
 use Rattle.cp_machine.specs.Then.{Done, Then, fault_if}
-use Rattle.cp_machine.specs.Room.{has_room, Fresh, message_fits}
+use Rattle.cp_machine.specs.Capacity.{has_capacity, Fresh, message_fits}
 use Rattle.cp_machine.specs.Supported.{is_supported}
 use Rattle.cp_machine.specs.Take.{answer_of, path_of, held_once_more, held_import, TakeAnswer, taken_export, Take, TakeAll, lower, released}
 use Rattle.cp_machine.specs.Give.{GiveAnswer, without_question}
@@ -67,7 +67,7 @@ module _ (start : Counts) where
           → To start new
       by true t is = rw (ok_in _ _ is) (changed to (taken_again i entry there t))
       by false t is = ok_out is
-  held_to old i kind None new there to is = by (has_room old.counts.imports) is
+  held_to old i kind None new there to is = by (has_capacity old.counts.imports) is
     where
       by : (b : Bool)
           → Ok new
@@ -139,7 +139,7 @@ module _ (start : Counts) where
   bootstrap_to : (old : State) (a : ℕ) (done : Done) → To start old → OnBootstrap old a (Ok done) → To start done.1
   bootstrap_to old a done to does =
       answer_to start (with_answer old a None) a (bootstrap_outcome old.bootstrap) done to
-      (unless_out {A = Done} {F = PeerFault} (fault_if (is_answering old a) faults.QuestionInUse ++ fault_if (not (has_room old.entries.answers)) faults.TableFull)
+      (unless_out {A = Done} {F = PeerFault} (fault_if (is_answering old a) faults.QuestionInUse ++ fault_if (not (has_capacity old.entries.answers)) faults.TableFull)
       (GiveAnswer (with_answer old a None) a (bootstrap_outcome old.bootstrap)) done does)
 
   -- a Return that comes, which lowers nothing

@@ -24,11 +24,11 @@ use Rattle.cp_refs.specs.declared.route.Route.TheVariants as routes
 use Rattle.cp_refs.specs.declared.values.QuestionKind.TheVariants as kinds
 use Rattle.cp_machine.specs.State.{State, Counts}
 use Rattle.cp_machine.specs.Then.{Done, Then}
-use Rattle.cp_machine.specs.Room.{Fresh, free}
-use Rattle.cp_machine.specs.Say.{Raise, counted, counted_out, opened, has_no_room, SayEnd, Say, SayAll}
+use Rattle.cp_machine.specs.Capacity.{Fresh, free}
+use Rattle.cp_machine.specs.Say.{Raise, counted, counted_out, opened, has_no_capacity, SayEnd, Say, SayAll}
 use Rattle.cp_machine.specs.Give.{ResolvesEnd, Tells, settled, value_for, last_for, Settle, SettleTied, Returns, given, gone, GiveBy, GiveAnswer, GiveOwnBy, Give}
-use Rattle.cp_machine.specs.Go.{Underway, underway, delivered, GoOut, Go, GoTo, Leave, stays, leaves, finds_no_room, without_call}
-use Rattle.cp_machine.specs.Calling.{Reference, plain, on_wire, came_to, reference_of, called, own_call, mark_of, with_mark, has_mark_room, marked, FirstEmbargoed, GoBack, GoByValue, GoFrom, OwnDone, call_refusals, DoCall}
+use Rattle.cp_machine.specs.Go.{Underway, underway, delivered, GoOut, Go, GoTo, Leave, stays, leaves, finds_table_full, without_call}
+use Rattle.cp_machine.specs.Calling.{Reference, plain, on_wire, came_to, reference_of, called, own_call, mark_of, with_mark, has_mark_capacity, marked, FirstEmbargoed, GoBack, GoByValue, GoFrom, OwnDone, call_refusals, DoCall}
 use Rattle.cp_machine.specs.declared.effect.Effect.{Effect}
 use Rattle.cp_machine.specs.declared.entry.Tied.{Tied}
 use Rattle.cp_machine.specs.declared.fault.PeerFault.{PeerFault}
@@ -50,7 +50,7 @@ module _ (start : Counts) where
   raise_to old cap out to (counted e count is room) = changed to (named_again e count cap is room)
   raise_to old cap out to (counted_out e is) = tt
   raise_to old cap out to (opened e none (free n is small room)) = changed to (named_first e cap is)
-  raise_to old cap out to (has_no_room none is) = tt
+  raise_to old cap out to (has_no_capacity none is) = tt
 
   end_to : (old : State) (last : Cap) (said : Descriptor × State) → To old → SayEnd old last (Ok said) → To said.1
   end_to old caps.None said to is = rw (ok_in _ _ is) to
@@ -167,7 +167,7 @@ module _ (start : Counts) where
   leave_to to (stays none) = to
   leave_to {old = old} to (leaves {mid = mid} {first = first} call cap next goes more same) =
       leave_to (goes_to (without_call old call) (underway call) cap (first, mid) to goes) more
-  leave_to to (finds_no_room call cap next goes) = tt
+  leave_to to (finds_table_full call cap next goes) = tt
 
   -- calls of the application
   mark_to : (s : State) (cap : Cap) (embargo : Option ℕ) → To s → To (with_mark s cap embargo)
@@ -180,7 +180,7 @@ module _ (start : Counts) where
 
   marked_to : (s mid : State) (cap : Cap) (o : Option (Option ℕ)) → To s → Ok mid ≡ marked s cap o → To mid
   marked_to s mid cap (Some embargo) to is = rw (ok_in _ _ is) to
-  marked_to s mid cap None to is = by (has_mark_room s cap) is
+  marked_to s mid cap None to is = by (has_mark_capacity s cap) is
     where
       by : (b : Bool) → Ok mid ≡ cond b (Ok (with_mark s cap None)) (Err faults.TableFull) → To mid
       by true e = rw (ok_in _ _ e) (mark_to s cap None to)

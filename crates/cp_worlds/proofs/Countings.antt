@@ -11,8 +11,8 @@ use Rattle.cp_tables.proofs.CountedLemmas.{count_of-insert_same, count_of-insert
 use Rattle.cp_refs.specs.declared.cap.Cap.{Cap}
 use Rattle.cp_machine.specs.State.{State, with_exports}
 use Rattle.cp_machine.specs.Take.{times, less_by, lowered_by, lowered, lower, released}
-use Rattle.cp_machine.specs.Say.{Raise, counted, counted_out, opened, has_no_room}
-use Rattle.cp_machine.specs.Room.{free}
+use Rattle.cp_machine.specs.Say.{Raise, counted, counted_out, opened, has_no_capacity}
+use Rattle.cp_machine.specs.Capacity.{free}
 use Rattle.cp_machine.specs.declared.fault.PeerFault.{PeerFault}
 use Rattle.cp_machine.specs.declared.fault.PeerFault.TheVariants as faults
 use Rattle.cp_machine.proofs.Basics.{not_equal, ok_out, ok_in, or_first, or_second, is_equal, is_itself}
@@ -69,7 +69,7 @@ raised_as old cap out (counted e count is room) =
 raised_as old cap out (counted_out e is) = tt
 raised_as old cap out (opened e none (free n is small room)) =
     (refl, λ f. opened_one old.counts.exports e f cap (e == f) refl (count_none old.counts.exports e is))
-raised_as old cap out (has_no_room none is) = tt
+raised_as old cap out (has_no_capacity none is) = tt
 
 -- what lowering does
 gone_all : (table : Table (Counted Cap)) (e n f count : ℕ) (c : Bool) → (e == f) ≡ c → count_of table e ≡ count → count ≡ n

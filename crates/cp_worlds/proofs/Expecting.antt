@@ -12,7 +12,7 @@ use Rattle.cp_worlds.specs.Owed.{named_on_way, lowered_on_way}
 use Rattle.cp_worlds.specs.World.{World, Side, at_first, at_second, across, end_of, AreQuiet}
 use Rattle.cp_worlds.specs.Lives.{Standing, absent, mistaken, standing_at, standing_of, opened, finished, will_stand, returns_of, FitsAt, FitsNone, Fits, Agree, AreOwed}
 use Rattle.cp_worlds.specs.Expected.{HoldsAlways, LowersFit, HeldIsThere, HeldIsAll, stage_of, StagesMatch, IsNotReturned, IsAwaited, IsNotFinished, IsKept, IsExpected, NextIsExpected, AllIsExpected}
-use Rattle.cp_worlds.proofs.Standings.{behind_by, stays_mistaken, never_fits}
+use Rattle.cp_worlds.proofs.Standings.{after_by, stays_mistaken, never_fits}
 use Rattle.cp_worlds.proofs.Wholly.{Holds, holds_of, agree_back}
 
 abbrev is_nothing : {A : Type 0} → List A → Bool
@@ -52,7 +52,7 @@ opens_none q ms None Q rs h = refl
 opens_none q ms (Some account) Q rs h = absurd (opened_at q ms account.stage account.kept Q rs h)
 
 first_opens : (b f release : Bool) (q : ℕ) (ms : List Message) (A Q : Option Account) (rs : List (List ℕ)) → b ≡ true
-    → Fits Q rs (will_stand q ms (behind_by b f release (standing_of A))) → A ≡ None
+    → Fits Q rs (will_stand q ms (after_by b f release (standing_of A))) → A ≡ None
 first_opens true f release q ms A Q rs t h = opens_none q ms A Q rs h
 first_opens false f release q ms A Q rs t h = absurd (true≢false (sym t))
 
@@ -77,7 +77,7 @@ finishes_kept q ms release None Q rs h = absent_not q ms release Q rs h
 finishes_kept q ms release (Some account) Q rs h = kept_at q ms release account.stage account.kept Q rs h
 
 first_finishes : (f release : Bool) (q : ℕ) (ms : List Message) (A Q : Option Account) (rs : List (List ℕ)) → f ≡ true
-    → Fits Q rs (will_stand q ms (behind_by false f release (standing_of A))) → IsKept A
+    → Fits Q rs (will_stand q ms (after_by false f release (standing_of A))) → IsKept A
 first_finishes true release q ms A Q rs t h = finishes_kept q ms release A Q rs h
 first_finishes false release q ms A Q rs t h = absurd (true≢false (sym t))
 

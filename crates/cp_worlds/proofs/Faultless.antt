@@ -30,7 +30,7 @@ use Rattle.cp_refs.specs.declared.cap.Cap.TheVariants as caps
 use Rattle.cp_refs.specs.declared.outcome.Outcome.{Outcome}
 use Rattle.cp_machine.specs.State.{State, with_exports}
 use Rattle.cp_machine.specs.Then.{Done, fault_if}
-use Rattle.cp_machine.specs.Room.{has_room, has_ticket, message_fits}
+use Rattle.cp_machine.specs.Capacity.{has_capacity, has_ticket, message_fits}
 use Rattle.cp_machine.specs.Take.{answer_of, path_of, times, TakeAll, lowered, lower, lowered_by, released}
 use Rattle.cp_machine.specs.Give.{GiveAnswer, without_question}
 use Rattle.cp_machine.specs.Supported.{is_supported}
@@ -84,19 +84,19 @@ call_spared old c out free does =
     unless_spared (call_faults old c) _ out
     (both_other
     (fault_if (is_answering old c.question_id) faults.QuestionInUse ++ target_faults old c.target)
-    (fault_if (not (has_room old.entries.answers && has_ticket old)) faults.TableFull)
+    (fault_if (not (has_capacity old.entries.answers && has_ticket old)) faults.TableFull)
     (both_other (fault_if (is_answering old c.question_id) faults.QuestionInUse) (target_faults old c.target)
     (if_never (is_answering old c.question_id) faults.QuestionInUse (none_kept (get old.entries.answers c.question_id) free)) (target_other old c.target))
-    (if_other (not (has_room old.entries.answers && has_ticket old)) faults.TableFull tt))
+    (if_other (not (has_capacity old.entries.answers && has_ticket old)) faults.TableFull tt))
     (λ rule. then_spared (TakeAll old c.params.cap_table) _ out (take_all_spared old c.params.cap_table)
     (λ taken first rest. target_spared (entered taken.1 c.question_id) (peer_call taken.1 c taken.0) c.target out rest) rule) does
 
 bootstrap_spared : (old : State) (a : ℕ) (out : Result Done PeerFault) → (accounts_of old).answers a ≡ None → OnBootstrap old a out → IsSpared out
 bootstrap_spared old a out free does =
-    unless_spared (fault_if (is_answering old a) faults.QuestionInUse ++ fault_if (not (has_room old.entries.answers)) faults.TableFull) _ out
-    (both_other (fault_if (is_answering old a) faults.QuestionInUse) (fault_if (not (has_room old.entries.answers)) faults.TableFull)
+    unless_spared (fault_if (is_answering old a) faults.QuestionInUse ++ fault_if (not (has_capacity old.entries.answers)) faults.TableFull) _ out
+    (both_other (fault_if (is_answering old a) faults.QuestionInUse) (fault_if (not (has_capacity old.entries.answers)) faults.TableFull)
     (if_never (is_answering old a) faults.QuestionInUse (none_kept (get old.entries.answers a) free))
-    (if_other (not (has_room old.entries.answers)) faults.TableFull tt))
+    (if_other (not (has_capacity old.entries.answers)) faults.TableFull tt))
     (answer_spared (with_answer old a None) a (bootstrap_outcome old.bootstrap) out) does
 
 -- a Return

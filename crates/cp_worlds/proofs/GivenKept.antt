@@ -31,11 +31,11 @@ use Rattle.cp_refs.specs.declared.values.QuestionKind.{QuestionKind}
 use Rattle.cp_refs.specs.declared.values.QuestionKind.TheVariants as kinds
 use Rattle.cp_machine.specs.State.{State, none_over}
 use Rattle.cp_machine.specs.Then.{Done, fault_if, OrFull}
-use Rattle.cp_machine.specs.Room.{Fresh, has_room, message_fits}
+use Rattle.cp_machine.specs.Capacity.{Fresh, has_capacity, message_fits}
 use Rattle.cp_machine.specs.Supported.{is_supported}
 use Rattle.cp_machine.specs.Take.{answer_of, path_of, TakeAll, lower}
 use Rattle.cp_machine.specs.Give.{Give, GiveAnswer, Settle, without_question}
-use Rattle.cp_machine.specs.Go.{Underway, GoTo, Leave, stays, leaves, finds_no_room, without_call, underway}
+use Rattle.cp_machine.specs.Go.{Underway, GoTo, Leave, stays, leaves, finds_table_full, without_call, underway}
 use Rattle.cp_machine.specs.Answering.{with_answer, bootstrap_outcome, is_answering, GoToExport, GoToAnswer, GoToTarget, peer_call, entered, call_faults, target_faults, OnCall, AtStage, FinishedBy}
 use Rattle.cp_machine.specs.Asking.{TakeReturned, Settles, ReturnBy, is_asked, ReturnOf}
 use Rattle.cp_machine.specs.Resolving.{is_open_promise, TakeResolution, ResolveOf, echo_to, EchoesExport, EchoesAnswer, EchoesTarget, ended_by, OnDisembargo}
@@ -287,7 +287,7 @@ module _ (n : ℕ) (s : State) (h : Within s None []) (still : s.waiting.over �
   on_below (messages.Bootstrap b) done usual quiet held does =
       let mid : State = with_answer s b.question_id None in
       let gives = unless_out {A = Done} {F = PeerFault}
-      (fault_if (is_answering s b.question_id) faults.QuestionInUse ++ fault_if (not (has_room s.entries.answers)) faults.TableFull)
+      (fault_if (is_answering s b.question_id) faults.QuestionInUse ++ fault_if (not (has_capacity s.entries.answers)) faults.TableFull)
       (GiveAnswer mid b.question_id (bootstrap_outcome s.bootstrap)) done does in
       none_below n done.0 (answer_silent mid b.question_id (bootstrap_outcome s.bootstrap) done gives).no_delivery
   on_below (messages.Disembargo d) done usual quiet held does = disembargo_below n s d.context d.target done does
@@ -318,7 +318,7 @@ leave_below {old = old} n h none is (leaves {mid = mid} {first = first} {rest = 
     (same)
     (below_both n first rest one
     (leave_below n (turn_within h call cap next (first, mid) goes) (grown.mails.unfinished none) (grown.tickets.next ∙ is) more))
-leave_below n h none is (finds_no_room call cap next goes) = tt
+leave_below n h none is (finds_table_full call cap next goes) = tt
 
 -- a whole step
 closed_open : {A : Type 0} {b : Bool} → b ≡ true → b ≡ false → A
@@ -397,13 +397,13 @@ next_on : {old new : State} → TicketsMove old new → old.next_ticket ≤ new.
 next_on (inl stay) = omega (arith, stay.next)
 next_on (inr more) = omega (arith, more.1.next)
 
-module _ (w behind : World) (moment : Moment) (made : List ℕ) (all : List Delivery) where
+module _ (w after : World) (moment : Moment) (made : List ℕ) (all : List Delivery) where
   abbrev GivenFor : Side → Side → Type 0
   GivenFor acting side =
-      TicketsMove (end_of w acting).vat (end_of behind acting).vat → AllBelow (end_of behind acting).vat.next_ticket moment.effects
-      → end_of behind (across acting) ≡ with_mail (end_of w (across acting)) (messages_sent moment.effects) → TicketsHold (end_of w side).vat made
+      TicketsMove (end_of w acting).vat (end_of after acting).vat → AllBelow (end_of after acting).vat.next_ticket moment.effects
+      → end_of after (across acting) ≡ with_mail (end_of w (across acting)) (messages_sent moment.effects) → TicketsHold (end_of w side).vat made
       → AllByRecursion (λ (d : Delivery). d.ticket < (end_of w side).vat.next_ticket) all
-      → AllByRecursion (λ (d : Delivery). d.ticket < (end_of behind side).vat.next_ticket)
+      → AllByRecursion (λ (d : Delivery). d.ticket < (end_of after side).vat.next_ticket)
       (all ++ (if is_side acting side then flat_map (delivery_of (end_of w side).vat (end_of w (across side)).vat) moment.effects else []))
 
   acts_for : (here there new : State) → TicketsMove here new → AllBelow new.next_ticket moment.effects → TicketsHold here made
@@ -415,18 +415,18 @@ module _ (w behind : World) (moment : Moment) (made : List ℕ) (all : List Deli
       (effects_below here tickets there new.next_ticket (next_on moved) moment.effects below)
 
   given_for : (acting side : Side) → GivenFor acting side
-  given_for at_first at_first moved below sends tickets before = acts_for w.first.vat w.second.vat behind.first.vat moved below tickets before
-  given_for at_second at_second moved below sends tickets before = acts_for w.second.vat w.first.vat behind.second.vat moved below tickets before
+  given_for at_first at_first moved below sends tickets before = acts_for w.first.vat w.second.vat after.first.vat moved below tickets before
+  given_for at_second at_second moved below sends tickets before = acts_for w.second.vat w.first.vat after.second.vat moved below tickets before
   given_for at_first at_second moved below sends tickets before = rw (sends, append-nil all) before
   given_for at_second at_first moved below sends tickets before = rw (sends, append-nil all) before
 
-pub given_kept : (w : World) (move : Move) → StillHolds w → Makes w move → AreOpen move.behind → IsStill move.moment.event → (side : Side) (made : List ℕ)
+pub given_kept : (w : World) (move : Move) → StillHolds w → Makes w move → AreOpen move.after → IsStill move.moment.event → (side : Side) (made : List ℕ)
     (all : List Delivery) → TicketsHold (end_of w side).vat made → AllByRecursion (λ (d : Delivery). d.ticket < (end_of w side).vat.next_ticket) all
-    → AllByRecursion (λ (d : Delivery). d.ticket < (end_of move.behind side).vat.next_ticket) (all ++ deliveries_of w side move)
+    → AllByRecursion (λ (d : Delivery). d.ticket < (end_of move.after side).vat.next_ticket) (all ++ deliveries_of w side move)
 given_kept w move h makes open_ still side made all tickets before =
     let one = h.ends move.side in
     let other = other_end move.side w h in
     let front = front_known (end_of w move.side) (end_of w (across move.side)) one other (agree_at move.side w h.agreed) in
-    let below = step_below (end_of w move.side).inbox (end_of move.behind move.side).inbox one.local_ one.quiet.questions front makes.takes still
-    (end_open move.side move.behind open_) makes.steps in
-    given_for w move.behind move.moment made all move.side side (move_moved w move h makes open_ still).moved.tickets below makes.sends tickets before
+    let below = step_below (end_of w move.side).inbox (end_of move.after move.side).inbox one.local_ one.quiet.questions front makes.takes still
+    (end_open move.side move.after open_) makes.steps in
+    given_for w move.after move.moment made all move.side side (move_moved w move h makes open_ still).moved.tickets below makes.sends tickets before

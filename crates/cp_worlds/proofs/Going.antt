@@ -19,10 +19,10 @@ use Rattle.cp_refs.specs.declared.route.Route.{Route}
 use Rattle.cp_refs.specs.declared.route.Route.TheVariants as routes
 use Rattle.cp_machine.specs.State.{State, none_over, with_over, with_exports, with_questions}
 use Rattle.cp_machine.specs.Then.{Done}
-use Rattle.cp_machine.specs.Room.{Fresh}
+use Rattle.cp_machine.specs.Capacity.{Fresh}
 use Rattle.cp_machine.specs.Say.{SayAll, promised, mentions_of}
 use Rattle.cp_machine.specs.Supported.{is_supported_target}
-use Rattle.cp_machine.specs.Go.{Underway, held_at, delivered, forwarding, sent, GoOut, Go, GoTo, IsNext, Leave, stays, leaves, finds_no_room, without_call, underway}
+use Rattle.cp_machine.specs.Go.{Underway, held_at, delivered, forwarding, sent, GoOut, Go, GoTo, IsNext, Leave, stays, leaves, finds_table_full, without_call, underway}
 use Rattle.cp_machine.specs.declared.effect.Effect.{Effect}
 use Rattle.cp_machine.specs.declared.effect.Effect.TheVariants as effects
 use Rattle.cp_machine.specs.declared.entry.AnswerEntry.{AnswerEntry}
@@ -216,4 +216,4 @@ leave_goes {old = old} {all = all} orderly (leaves {mid = mid} {first = first} {
     further : (out : Result State PeerFault) → Goes old first mid → LeftAs mid rest out → LeftAs old all out
     further (Err fault) one there = tt
     further (Ok state) one there = rw (same) (sends_both old mid state first rest one.0 there.0, there.1)
-leave_goes orderly (finds_no_room call cap next goes) = tt
+leave_goes orderly (finds_table_full call cap next goes) = tt

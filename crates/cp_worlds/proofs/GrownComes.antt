@@ -37,7 +37,7 @@ use Rattle.cp_refs.specs.declared.route.Route.TheVariants as routes
 use Rattle.cp_refs.specs.declared.values.Question.{Question}
 use Rattle.cp_machine.specs.State.{State, none_over, with_exports, with_answers}
 use Rattle.cp_machine.specs.Then.{Done, Then, fault_if}
-use Rattle.cp_machine.specs.Room.{has_room, Fresh, message_fits}
+use Rattle.cp_machine.specs.Capacity.{has_capacity, Fresh, message_fits}
 use Rattle.cp_machine.specs.Supported.{is_supported}
 use Rattle.cp_machine.specs.Take.{answer_of, path_of, held_once_more, held_import, tie, tied, TakeAnswer, taken_export, Take, TakeAll, lower}
 use Rattle.cp_machine.specs.Give.{GiveAnswer, GiveOwn, GiveOwnBy, question_settled, without_question}
@@ -83,7 +83,7 @@ import_answers old i kind (Some entry) new is = by (ltb entry.count 4294967295) 
         → new.entries ≡ old.entries
     by true is = ap (λ (s : State). s.entries) (ok_in _ _ is)
     by false is = ok_out is
-import_answers old i kind None new is = by (has_room old.counts.imports) is
+import_answers old i kind None new is = by (has_capacity old.counts.imports) is
   where
     by : (b : Bool)
         → Ok new
@@ -285,7 +285,7 @@ module _ {s : State} (h : Within s None []) (still : s.waiting.over ≡ none_ove
   bootstrap_moved a done does =
       let mid : State = with_answer s a None in
       let gives = unless_out {A = Done} {F = PeerFault}
-      (fault_if (is_answering s a) faults.QuestionInUse ++ fault_if (not (has_room s.entries.answers)) faults.TableFull)
+      (fault_if (is_answering s a) faults.QuestionInUse ++ fault_if (not (has_capacity s.entries.answers)) faults.TableFull)
       (GiveAnswer mid a (bootstrap_outcome s.bootstrap)) done does in
       let first : Moved [] s [] mid =
       record {

@@ -24,12 +24,12 @@ use Rattle.cp_refs.specs.declared.values.QuestionKind.{QuestionKind}
 use Rattle.cp_refs.specs.declared.values.QuestionKind.TheVariants as kinds
 use Rattle.cp_machine.specs.State.{State}
 use Rattle.cp_machine.specs.Then.{Done, fault_if, OrFull}
-use Rattle.cp_machine.specs.Room.{Fresh, outcome_fits}
+use Rattle.cp_machine.specs.Capacity.{Fresh, outcome_fits}
 use Rattle.cp_machine.specs.Say.{IsExport}
 use Rattle.cp_machine.specs.Give.{Give, Settle}
 use Rattle.cp_machine.specs.Go.{Underway, held_at, GoTo}
 use Rattle.cp_machine.specs.InUse.{has_question, has_promise, has_import, is_pipelined, caps_of}
-use Rattle.cp_machine.specs.Calling.{plain, on_wire, came_to, import_reference, path_reference, question_reference, reference_of, asked, called, own_call, mark_of, with_mark, has_mark_room, marked, disembargo_of, FirstEmbargoed, GoBack, GoByValue, GoFrom, OwnDone, call_refusals, not_all, DoCall}
+use Rattle.cp_machine.specs.Calling.{plain, on_wire, came_to, import_reference, path_reference, question_reference, reference_of, asked, called, own_call, mark_of, with_mark, has_mark_capacity, marked, disembargo_of, FirstEmbargoed, GoBack, GoByValue, GoFrom, OwnDone, call_refusals, not_all, DoCall}
 use Rattle.cp_machine.specs.Calling as calling
 use Rattle.cp_machine.specs.Doing.{Quietly, DoPromise, DoBootstrap, is_ungiven, is_ungiven_answer, is_ungiven_question, awaits, answer_refusals, DoAnswer, promise_made, is_made, is_settled, resolve_refusals, value_refusals, Resolves, DoResolve}
 use Rattle.cp_machine.specs.Step.{Does}
@@ -167,7 +167,7 @@ with_mark_marks s (caps.Broken x) embargo = record { values = refl; exports = re
 
 pub marked_marks : (s mid : State) (cap : Cap) (o : Option (Option ℕ)) → Ok mid ≡ marked s cap o → Marks s mid
 marked_marks s mid cap (Some embargo) is = rw (ok_in _ _ is) (record { values = refl; exports = refl; entries = refl; next = refl; embargoes = refl })
-marked_marks s mid cap None is = by (has_mark_room s cap) is
+marked_marks s mid cap None is = by (has_mark_capacity s cap) is
   where
     by : (b : Bool) → Ok mid ≡ cond b (Ok (with_mark s cap None)) (Err faults.TableFull) → Marks s mid
     by true e = rw (ok_in _ _ e) (with_mark_marks s cap None)

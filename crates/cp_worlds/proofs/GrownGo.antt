@@ -22,9 +22,9 @@ use Rattle.cp_refs.specs.declared.route.Route.TheVariants as routes
 use Rattle.cp_refs.specs.declared.values.Question.{Question}
 use Rattle.cp_machine.specs.State.{State, with_questions}
 use Rattle.cp_machine.specs.Then.{Done}
-use Rattle.cp_machine.specs.Room.{Fresh}
+use Rattle.cp_machine.specs.Capacity.{Fresh}
 use Rattle.cp_machine.specs.Say.{SayAll, promised, mentions_of}
-use Rattle.cp_machine.specs.Go.{Underway, held_at, delivered, call_of, forwarding, finish_behind, GoOut, Go, GoTo, Leave, stays, leaves, finds_no_room, IsNext, without_call, underway}
+use Rattle.cp_machine.specs.Go.{Underway, held_at, delivered, call_of, forwarding, finish_after, GoOut, Go, GoTo, Leave, stays, leaves, finds_table_full, IsNext, without_call, underway}
 use Rattle.cp_machine.specs.Local.{AreOne, is_open_stage, is_origin, one_if, IsTicketOf, AnswerIs, OwnIs, QuestionIs, is_wire, is_wire_kind, IsSentIf}
 use Rattle.cp_machine.specs.declared.effect.Effect.{Effect}
 use Rattle.cp_machine.specs.declared.effect.Effect.TheVariants as effects
@@ -141,7 +141,7 @@ call_grows old q target request table new said =
     }
 
 finish_follows : (s : State) (q : ℕ) (entry : Exchange QuestionEntry) (stage : Stage) → get s.entries.questions q ≡ Some entry → entry.stage ≡ stage
-    → Grown s (finish_behind q stage) s
+    → Grown s (finish_after q stage) s
 finish_follows s q entry stages.Open is at = grown_none s
 finish_follows s q entry stages.Returned is at = grown_none s
 finish_follows s q entry stages.Finished is at =
@@ -200,7 +200,7 @@ out_grows old call target (origins.Own q) done one goes =
     let first = call_grows old q target call.request parts.0.0 parts.0.1 said in
     let second = finish_follows parts.0.1 q goes.0 goes.0.stage there refl in
     let third = changed_grows parts.0.1 q (λ x. record x { kept = record x.kept { is_sent = true; mentions = mentions_of parts.0.0 } }) (λ x. (refl, refl, refl)) in
-    rw (ok_in _ _ parts.2) (grown_both first (rw (append-nil (finish_behind q goes.0.stage)) at (grown_both second third)))
+    rw (ok_in _ _ parts.2) (grown_both first (rw (append-nil (finish_after q goes.0.stage)) at (grown_both second third)))
 
 -- A call that fails gives its origin an outcome.
 abbrev pub MayFail : State → Origin → Route → Type 0
@@ -299,7 +299,7 @@ leave_by {old = old} h (leaves {mid = mid} {first = first} {rest = rest} {last =
     both : (last : Result State PeerFault) → Grown old first mid → LeftGrown mid rest last → LeftGrown old (first ++ rest) last
     both (Ok new) one two = grown_both one two
     both (Err fault) one two = tt
-leave_by h (finds_no_room call cap next goes) = tt
+leave_by h (finds_table_full call cap next goes) = tt
 
 pub leave_grows : (old last : State) (all : List Effect) → Within old None [] → Leave old all (Ok last) → Grown old all last
 leave_grows old last all h leave = leave_by h leave

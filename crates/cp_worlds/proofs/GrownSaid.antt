@@ -8,8 +8,8 @@ use Rattle.cp_rpc.specs.declared.descriptor.Descriptor.{Descriptor}
 use Rattle.cp_refs.specs.declared.cap.Cap.{Cap}
 use Rattle.cp_refs.specs.declared.cap.Cap.TheVariants as caps
 use Rattle.cp_machine.specs.State.{State, with_exports}
-use Rattle.cp_machine.specs.Room.{free}
-use Rattle.cp_machine.specs.Say.{IsExport, Raise, counted, counted_out, opened, has_no_room, ComesTo, SayEnd, Say, SayAll, mentioned_by, mentions_of}
+use Rattle.cp_machine.specs.Capacity.{free}
+use Rattle.cp_machine.specs.Say.{IsExport, Raise, counted, counted_out, opened, has_no_capacity, ComesTo, SayEnd, Say, SayAll, mentioned_by, mentions_of}
 use Rattle.cp_machine.specs.Local.{AreOne}
 use Rattle.cp_machine.specs.Take.{times}
 use Rattle.cp_machine.specs.declared.fault.PeerFault.{PeerFault}
@@ -85,7 +85,7 @@ raised_by old cap out (opened e none (free n unused small room)) = λ one.
       exports = λ f c here. put_export old e 1 cap was alone f c (e == f) refl here;
       one_export = put_one old e 1 cap was alone;
     }
-raised_by old cap out (has_no_room none is) = tt
+raised_by old cap out (has_no_capacity none is) = tt
 
 -- What saying a table keeps, with the exports that it names.
 pub record SaidAs (old : State) (ids : List ℕ) (new : State) : Type 0 where

@@ -27,7 +27,7 @@ use Rattle.cp_refs.specs.declared.route.Gate.TheVariants as gates
 use Rattle.cp_refs.specs.declared.route.Route.TheVariants as routes
 use Rattle.cp_machine.specs.State.{State}
 use Rattle.cp_machine.specs.Then.{Done, fault_if}
-use Rattle.cp_machine.specs.Room.{has_room}
+use Rattle.cp_machine.specs.Capacity.{has_capacity}
 use Rattle.cp_machine.specs.InUse.{caps_of}
 use Rattle.cp_machine.specs.Take.{answer_of, path_of, times, TakeAll, less_by, lowered_by, lowered, lower, released}
 use Rattle.cp_machine.specs.Give.{GiveAnswer}
@@ -127,7 +127,7 @@ bootstrap_enters old a orderly = (
 pub bootstrap_heeds : (old : State) (a : ℕ) (done : Done) → IsOrderly old → OnBootstrap old a (Ok done) → Heeds old (messages.Bootstrap (record { question_id = a })) done.0 done.1
 bootstrap_heeds old a done orderly does =
     let gives : GiveAnswer (with_answer old a None) a (bootstrap_outcome old.bootstrap) (Ok done)
-    = unless_out {A = Done} {F = PeerFault} (fault_if (is_answering old a) faults.QuestionInUse ++ fault_if (not (has_room old.entries.answers)) faults.TableFull)
+    = unless_out {A = Done} {F = PeerFault} (fault_if (is_answering old a) faults.QuestionInUse ++ fault_if (not (has_capacity old.entries.answers)) faults.TableFull)
     (GiveAnswer (with_answer old a None) a (bootstrap_outcome old.bootstrap)) done does in
     let enters = bootstrap_enters old a orderly in
     let goes = answer_goes (with_answer old a None) a (bootstrap_outcome old.bootstrap) done enters.1 (bootstrap_plain old.bootstrap) gives in

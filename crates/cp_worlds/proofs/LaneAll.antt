@@ -14,7 +14,7 @@ use Rattle.cp_machine.specs.Supported.{is_supported}
 use Rattle.cp_machine.specs.Say.{IsExport}
 use Rattle.cp_machine.specs.Go.{Leave}
 use Rattle.cp_machine.specs.Resolving.{OnDisembargo}
-use Rattle.cp_machine.specs.Room.{message_fits}
+use Rattle.cp_machine.specs.Capacity.{message_fits}
 use Rattle.cp_machine.specs.Calling.{OwnDone}
 use Rattle.cp_machine.specs.Local.{Local}
 use Rattle.cp_machine.specs.Step.{On, Does, Receives, ReceivesIf}

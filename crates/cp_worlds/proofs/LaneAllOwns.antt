@@ -24,7 +24,7 @@ use Rattle.cp_refs.specs.declared.values.QuestionKind.{QuestionKind}
 use Rattle.cp_refs.specs.declared.values.QuestionKind.TheVariants as kinds
 use Rattle.cp_machine.specs.State.{State, none_over}
 use Rattle.cp_machine.specs.Then.{Done, fault_if, OrFull}
-use Rattle.cp_machine.specs.Room.{Fresh, has_room, message_fits}
+use Rattle.cp_machine.specs.Capacity.{Fresh, has_capacity, message_fits}
 use Rattle.cp_machine.specs.Supported.{is_supported}
 use Rattle.cp_machine.specs.Take.{TakeAll, lower}
 use Rattle.cp_machine.specs.Give.{Give, GiveAnswer, Settle, without_question}
@@ -196,7 +196,7 @@ module _ (s : State) (h : Within s None []) (still : s.waiting.over ≡ none_ove
   bootstrap_owns : (a : ℕ) (done : Done) → OnBootstrap s a (Ok done) → SameOwns s done.1
   bootstrap_owns a done does =
       let mid : State = with_answer s a None in
-      let gives = unless_out {A = Done} {F = PeerFault} (fault_if (is_answering s a) faults.QuestionInUse ++ fault_if (not (has_room s.entries.answers)) faults.TableFull)
+      let gives = unless_out {A = Done} {F = PeerFault} (fault_if (is_answering s a) faults.QuestionInUse ++ fault_if (not (has_capacity s.entries.answers)) faults.TableFull)
       (GiveAnswer mid a (bootstrap_outcome s.bootstrap)) done does in
       (answer_silent mid a (bootstrap_outcome s.bootstrap) done gives).bearing.tickets
 

@@ -9,7 +9,7 @@ use Rattle.cp_refs.specs.declared.cap.Cap.{Cap}
 use Rattle.cp_refs.specs.declared.cap.Cap.TheVariants as caps
 use Rattle.cp_refs.specs.declared.values.QuestionKind.TheVariants as kinds
 use Rattle.cp_machine.specs.State.{State}
-use Rattle.cp_machine.specs.Room.{Fresh}
+use Rattle.cp_machine.specs.Capacity.{Fresh}
 use Rattle.cp_machine.specs.Calling.{plain, on_wire, came_to, question_reference, reference_of, mark_of, asked, OwnDone}
 use Rattle.cp_machine.specs.Doing.{DoBootstrap}
 use Rattle.cp_machine.specs.InUse.{waiting_calls}
@@ -134,9 +134,9 @@ module _ (here there : End) (q : ℕ) (path : List ℕ) (mid : State) (m : Messa
         open_ = ap (question_reference path) at;
         before = there.inbox;
         opening = m;
-        behind = [];
+        after = [];
         only = only_last there.inbox (opens_place (path_to q path)) m unopened_ it;
-        sent_behind = lane_unmade (flat_map (sent_for mid) (there.inbox ++ m ∷ []));
+        sent_after = lane_unmade (flat_map (sent_for mid) (there.inbox ++ m ∷ []));
         mark = unmarked;
         untold = untold;
         no_back = lane_unmade (flat_map (forwarded_for mid there.vat) here.inbox);

@@ -232,8 +232,8 @@ module _ (here : End) (old s : State) (c : Call) (rest : List Message) (call : U
   abbrev here_then : End
   here_then = with_mail here (messages_sent done.0)
 
-  abbrev behind_it : End
-  behind_it = record { vat = done.1; inbox = rest }
+  abbrev after_it : End
+  after_it = record { vat = done.1; inbox = rest }
 
   abbrev ts : List ℕ
   ts = of_lane made (sent_for here.vat (messages.Call c))
@@ -281,8 +281,8 @@ module _ (here : End) (old s : State) (c : Call) (rest : List Message) (call : U
       placed : PlacedIn (entries old.waiting.calls) (entries (insert old.waiting.calls call.ticket held)) call.ticket held
       placed = put_placed old.waiting.calls call.ticket held unheld_here
 
-      none_behind : AllByRecursion (λ e. of_lane made (waits_for here.vat e.1.origin) ≡ []) (put_placed old.waiting.calls call.ticket held unheld_here).back
-      none_behind = by (put_placed old.waiting.calls call.ticket held unheld_here).back (put_placed old.waiting.calls call.ticket held unheld_here).higher back_all
+      none_after : AllByRecursion (λ e. of_lane made (waits_for here.vat e.1.origin) ≡ []) (put_placed old.waiting.calls call.ticket held unheld_here).back
+      none_after = by (put_placed old.waiting.calls call.ticket held unheld_here).back (put_placed old.waiting.calls call.ticket held unheld_here).higher back_all
         where
           back_all : AllByRecursion (λ e. get old.waiting.calls e.0 ≡ Some e.1) (put_placed old.waiting.calls call.ticket held unheld_here).back
           back_all =
@@ -305,7 +305,7 @@ module _ (here : End) (old s : State) (c : Call) (rest : List Message) (call : U
             was = refl;
             bears = refl;
             waiting = ap (λ cs. of_lane made (flat_map (λ h. waits_for here.vat h.origin) (values cs))) put
-                ∙ lane_last made (λ h. waits_for here.vat h.origin) (put_placed old.waiting.calls call.ticket held unheld_here) none_behind
+                ∙ lane_last made (λ h. waits_for here.vat h.origin) (put_placed old.waiting.calls call.ticket held unheld_here) none_after
                 ∙ ap (λ o. waits here before_it made ++ of_lane made (waits_for here.vat o)) from;
             calls = λ ticket h at. elim (put_cases old.waiting.calls call.ticket ticket held h (sym (ap (λ cs. get cs ticket) put) ∙ at)) [
               | inl it ↦ inr (inr (ap (λ (x : Held). x.gate) (sym it.1)))
@@ -333,13 +333,13 @@ module _ (here : End) (old s : State) (c : Call) (rest : List Message) (call : U
       let new = fresh q f.fresh in
       let same_calls : done.1.waiting.calls ≡ old.waiting.calls = f.calls ∙ calls in
       let others : (r : ℕ) → (q == r) ≡ false → get done.1.entries.questions r ≡ get old.entries.questions r = λ r other. f.others r other ∙ ap (λ t. get t r) asked in
-      let waits_then : waits here behind_it made ≡ waits here before_it made =
+      let waits_then : waits here after_it made ≡ waits here before_it made =
       ap (λ cs. of_lane made (flat_map (λ h. waits_for here.vat h.origin) (values cs))) same_calls in
       record {
         taken = inr (messages.Call c, refl, λ n. refl);
         moved =
             ap (λ xs. xs ++ on_way here before_it made) none_waits ∙ lane_cons made (sent_for here.vat) (messages.Call c) rest
-            ∙ ap (λ xs. ts ++ (xs ++ on_way here behind_it made)) (sym (waits_then ∙ none_waits));
+            ∙ ap (λ xs. ts ++ (xs ++ on_way here after_it made)) (sym (waits_then ∙ none_waits));
         calls = λ ticket h is. inr (sym (ap (λ cs. get cs ticket) same_calls) ∙ is);
         forwards = forwards_other here.vat old done.1 made q c.question_id f.gives others here.inbox new.on_way;
         held = λ none_ ticket h is. held_other here.vat old done.1 made q c.question_id f.gives others h.origin (new.held ticket h is) (none_ ticket h is);
@@ -364,19 +364,19 @@ module _ (here : End) (old s : State) (c : Call) (rest : List Message) (call : U
         by (inl none) = absurd (some none)
         by (inr is) = is
 
-    unopened_not : {A : Type 0} (before behind : List Message) (opening : Message) → messages.Call c ∷ rest ≡ before ++ opening ∷ behind
+    unopened_not : {A : Type 0} (before after : List Message) (opening : Message) → messages.Call c ∷ rest ≡ before ++ opening ∷ after
         → sent_in here.vat made (before ++ opening ∷ []) ≡ [] → A
-    unopened_not [] behind opening is none =
+    unopened_not [] after opening is none =
         let same : messages.Call c ≡ opening = ap (λ ms. first_or (messages.Call c) ms) is in
         absurd (some (ap (λ m. of_lane made (sent_for here.vat m)) same ∙ (none_lane made (sent_for here.vat) (opening ∷ []) none).0))
-    unopened_not (x ∷ before) behind opening is none =
+    unopened_not (x ∷ before) after opening is none =
         let same : messages.Call c ≡ x = ap (λ ms. first_or (messages.Call c) ms) is in
         absurd (some (ap (λ m. of_lane made (sent_for here.vat m)) same ∙ (none_lane made (sent_for here.vat) (x ∷ before ++ opening ∷ []) none).0))
 
     -- The lane holds on.
-    pub lane_call : (delivered : List Delivery) → Phase here before_it ref made → InLane here before_it ref made delivered → InLane here_then behind_it ref made delivered
+    pub lane_call : (delivered : List Delivery) → Phase here before_it ref made → InLane here before_it ref made delivered → InLane here_then after_it ref made delivered
     lane_call delivered (absent p) lane = absurd (some (rw (p.unmade) (lane_unmade (sent_for here.vat (messages.Call c)))))
-    lane_call delivered (unopened p) lane = unopened_not p.before p.behind p.opening p.only.all p.sent_behind
+    lane_call delivered (unopened p) lane = unopened_not p.before p.after p.opening p.only.all p.sent_after
     lane_call delivered (unsettled p) lane =
         let moves = call_waits p (its_target lane.targets) in
         waits_there here before_it ref made done.1 rest (messages_sent done.0) ts p

@@ -95,14 +95,14 @@ module _ (here there : End) (ref : Reference) (made : List ℕ) (x : Message) (r
   pub elsewhere_heard : IsElsewhere here there ref made → IsElsewhere heard_end theard_end ref made
   elsewhere_heard (came_to_other p) = came_to_other (p.0, refs.same ∙ p.1, p.2)
   elsewhere_heard (told_other p) =
-      let taken = only_taken x rest (tells ref) p.before p.telling p.behind (rw was at p.only) not_ in
+      let taken = only_taken x rest (tells ref) p.before p.telling p.after (rw was at p.only) not_ in
       told_other
       (record {
         yet = yet_on p.yet;
         closed = p.closed;
         before = taken.left;
         telling = p.telling;
-        behind = p.behind;
+        after = p.after;
         only = taken.only;
         says = other_on here.vat mid exports (told_by ref p.telling) p.says;
       })
@@ -207,10 +207,10 @@ module _ (old s : State) (c : Call) (rest : List Message) (there : End) (ref : R
       pub same_here : waits_here here_then made ≡ waits_here here made
       same_here = ap (λ cs. of_lane made (flat_map (λ held. waits_as held held.origin) (values cs))) silent.calls
 
-    told_not : {A : Type 0} (before behind : List Message) (telling : Message) → IsOnly (it ∷ rest) (tells ref) before telling behind
+    told_not : {A : Type 0} (before after : List Message) (telling : Message) → IsOnly (it ∷ rest) (tells ref) before telling after
         → back_in s there.vat made before ≡ [] → A
-    told_not before behind telling only none =
-        let taken = only_taken it rest (tells ref) before telling behind only tells_none in
+    told_not before after telling only none =
+        let taken = only_taken it rest (tells ref) before telling after only tells_none in
         absurd (some (none_lane made (forwarded_for s there.vat) (it ∷ taken.left) (rw (taken.was) at none)).0)
 
     inside : (delivered : List Delivery) → InLane here there ref made delivered → InLane here_then there_then ref made (delivered ++ ds)
@@ -220,7 +220,7 @@ module _ (old s : State) (c : Call) (rest : List Message) (there : End) (ref : R
         by (absent p) = absurd (some (rw (p.unmade) (lane_unmade (stands_for s there.vat c.question_id))))
         by (unopened p) = not_back p.no_back
         by (unsettled p) = not_back p.no_back
-        by (told p) = told_not p.before p.behind p.telling p.only p.back_behind
+        by (told p) = told_not p.before p.after p.telling p.only p.back_after
         by (free p) = not_back p.no_back
         by (marked p) =
             let m = p.comes in

@@ -18,25 +18,25 @@ any_both is xs ys one more = list_any-append is xs ys ∙ ap (λ b. b || list_an
 pub any_mail : (is : Message → Bool) (xs ys : List Message) → list_any is xs ≡ false → list_any is ys ≡ false → list_any is (xs ++ ys) ≡ false
 any_mail is xs ys one more = any_both is xs ys one more
 
-pub only_mail : {inbox : List Message} {is : Message → Bool} {before : List Message} {m : Message} {behind : List Message} (more : List Message) → IsOnly inbox is before m behind
-    → list_any is more ≡ false → IsOnly (inbox ++ more) is before m (behind ++ more)
-only_mail {is = is} {before = before} {m = m} {behind = behind} more only none =
+pub only_mail : {inbox : List Message} {is : Message → Bool} {before : List Message} {m : Message} {after : List Message} (more : List Message) → IsOnly inbox is before m after
+    → list_any is more ≡ false → IsOnly (inbox ++ more) is before m (after ++ more)
+only_mail {is = is} {before = before} {m = m} {after = after} more only none =
     record {
-      all = ap (λ xs. xs ++ more) only.all ∙ append_assoc before (m ∷ behind) more;
+      all = ap (λ xs. xs ++ more) only.all ∙ append_assoc before (m ∷ after) more;
       it = only.it;
       none_before = only.none_before;
-      none_behind = any_both is behind more only.none_behind none;
+      none_after = any_both is after more only.none_after none;
     }
 
 -- one that is alone at the end
 pub only_last : (inbox : List Message) (is : Message → Bool) (m : Message) → list_any is inbox ≡ false → is m ≡ true → IsOnly (inbox ++ m ∷ []) is inbox m []
-only_last inbox is m none it = record { all = refl; it = it; none_before = none; none_behind = refl }
+only_last inbox is m none it = record { all = refl; it = it; none_before = none; none_after = refl }
 
 -- what stands before it when another one was taken
-pub record IsTaken (rest : List Message) (is : Message → Bool) (x : Message) (before : List Message) (m : Message) (behind : List Message) : Type 0 where
+pub record IsTaken (rest : List Message) (is : Message → Bool) (x : Message) (before : List Message) (m : Message) (after : List Message) : Type 0 where
   pub left : List Message
   pub was : before ≡ x ∷ left
-  pub only : IsOnly rest is left m behind
+  pub only : IsOnly rest is left m after
 
 abbrev first_or : Message → List Message → Message
 first_or m [] = m
@@ -46,12 +46,12 @@ abbrev rest_of : List Message → List Message
 rest_of [] = []
 rest_of (x ∷ xs) = xs
 
-pub only_taken : (x : Message) (rest : List Message) (is : Message → Bool) (before : List Message) (m : Message) (behind : List Message) → IsOnly (x ∷ rest) is before m behind
-    → is x ≡ false → IsTaken rest is x before m behind
-only_taken x rest is [] m behind only apart =
+pub only_taken : (x : Message) (rest : List Message) (is : Message → Bool) (before : List Message) (m : Message) (after : List Message) → IsOnly (x ∷ rest) is before m after
+    → is x ≡ false → IsTaken rest is x before m after
+only_taken x rest is [] m after only apart =
     let same : x ≡ m = ap (first_or x) only.all in
     absurd (true≢false (sym only.it ∙ sym (ap is same) ∙ apart))
-only_taken x rest is (y ∷ before) m behind only apart =
+only_taken x rest is (y ∷ before) m after only apart =
     let same : y ≡ x = sym (ap (first_or x) only.all) in
     record {
       left = before;
@@ -61,7 +61,7 @@ only_taken x rest is (y ∷ before) m behind only apart =
             all = ap rest_of only.all;
             it = only.it;
             none_before = any_rest is y before only.none_before;
-            none_behind = only.none_behind;
+            none_after = only.none_after;
           };
     }
   where
@@ -73,10 +73,10 @@ only_taken x rest is (y ∷ before) m behind only apart =
         by false t h = rw t at h
 
 -- it is the front itself
-pub only_front : (x : Message) (rest : List Message) (is : Message → Bool) (before : List Message) (m : Message) (behind : List Message) → IsOnly (x ∷ rest) is before m behind
-    → is x ≡ true → (before ≡ []) × (m ≡ x) × (behind ≡ rest)
-only_front x rest is [] m behind only it = (refl, sym (ap (first_or x) only.all), sym (ap rest_of only.all))
-only_front x rest is (y ∷ before) m behind only it =
+pub only_front : (x : Message) (rest : List Message) (is : Message → Bool) (before : List Message) (m : Message) (after : List Message) → IsOnly (x ∷ rest) is before m after
+    → is x ≡ true → (before ≡ []) × (m ≡ x) × (after ≡ rest)
+only_front x rest is [] m after only it = (refl, sym (ap (first_or x) only.all), sym (ap rest_of only.all))
+only_front x rest is (y ∷ before) m after only it =
     let same : x ≡ y = ap (first_or x) only.all in
     absurd (first_not is y before only.none_before (sym (ap is same) ∙ it))
   where
@@ -98,12 +98,12 @@ none_of_front is x rest none = by (is x) refl none
     by false t h = t
 
 -- one that comes after others
-pub only_later : {ms : List Message} {is : Message → Bool} {before : List Message} {m : Message} {behind : List Message} (inbox : List Message) → list_any is inbox ≡ false
-    → IsOnly ms is before m behind → IsOnly (inbox ++ ms) is (inbox ++ before) m behind
-only_later {is = is} {before = before} {m = m} {behind = behind} inbox none only =
+pub only_later : {ms : List Message} {is : Message → Bool} {before : List Message} {m : Message} {after : List Message} (inbox : List Message) → list_any is inbox ≡ false
+    → IsOnly ms is before m after → IsOnly (inbox ++ ms) is (inbox ++ before) m after
+only_later {is = is} {before = before} {m = m} {after = after} inbox none only =
     record {
-      all = ap (λ xs. inbox ++ xs) only.all ∙ sym (append_assoc inbox before (m ∷ behind));
+      all = ap (λ xs. inbox ++ xs) only.all ∙ sym (append_assoc inbox before (m ∷ after));
       it = only.it;
       none_before = any_both is inbox before none only.none_before;
-      none_behind = only.none_behind;
+      none_after = only.none_after;
     }

@@ -224,8 +224,8 @@ module _ (here there : End) (ref : Reference) (made : List ℕ) (mid : State) (i
   way_same : on_way here_then there_then made ≡ on_way here there made
   way_same = level_way here there made mid inbox ms calm.level
 
-  sent_behind : (xs : List Message) → sent_in here.vat made xs ≡ [] → sent_in mid made (xs ++ ms) ≡ []
-  sent_behind = level_sent here there made mid inbox ms calm.level
+  sent_after : (xs : List Message) → sent_in here.vat made xs ≡ [] → sent_in mid made (xs ++ ms) ≡ []
+  sent_after = level_sent here there made mid inbox ms calm.level
 
   goes_on : (e : ℕ) → GoBackTo here there made e → GoBackTo here_then there_then made e
   goes_on = level_goes here there made mid inbox ms calm.level
@@ -244,16 +244,16 @@ module _ (here there : End) (ref : Reference) (made : List ℕ) (mid : State) (i
       by (inr (m, was, a)) = any_taken is m inbox (rw was at none)
 
   -- the only message of a kind to this end, with those before it
-  only_on : (is : Message → Bool) (before : List Message) (m : Message) (behind : List Message) → IsOnly here.inbox is before m behind
+  only_on : (is : Message → Bool) (before : List Message) (m : Message) (after : List Message) → IsOnly here.inbox is before m after
       → ((x : Message) → IsApartHere here there ref made x → is x ≡ false)
-      → (left : List Message) × IsOnly inbox is left m behind × (back_in here.vat there.vat made before ≡ [] → back_in mid there.vat made left ≡ [])
-  only_on is before m behind only apart = by calm.front
+      → (left : List Message) × IsOnly inbox is left m after × (back_in here.vat there.vat made before ≡ [] → back_in mid there.vat made left ≡ [])
+  only_on is before m after only apart = by calm.front
     where
       by : IsFront (IsApartHere here there ref made) here.inbox inbox
-          → (left : List Message) × IsOnly inbox is left m behind × (back_in here.vat there.vat made before ≡ [] → back_in mid there.vat made left ≡ [])
+          → (left : List Message) × IsOnly inbox is left m after × (back_in here.vat there.vat made before ≡ [] → back_in mid there.vat made left ≡ [])
       by (inl same) = (before, rw (same) only, λ none. back_in_same made here.vat mid calm.level.tickets there.vat before ∙ none)
       by (inr (x, was, a)) =
-          let taken = only_taken x inbox is before m behind (rw was at only) (apart x a) in (
+          let taken = only_taken x inbox is before m after (rw was at only) (apart x a) in (
             taken.left,
             taken.only,
             λ none.
@@ -280,9 +280,9 @@ module _ (here there : End) (ref : Reference) (made : List ℕ) (mid : State) (i
         open_ = calm.open_ p.open_;
         before = p.before;
         opening = p.opening;
-        behind = p.behind ++ ms;
+        after = p.after ++ ms;
         only = only_mail ms p.only (calm.unopened_ p.open_);
-        sent_behind = sent_in_same made here.vat mid calm.level.tickets (p.before ++ p.opening ∷ []) ∙ p.sent_behind;
+        sent_after = sent_in_same made here.vat mid calm.level.tickets (p.before ++ p.opening ∷ []) ∙ p.sent_after;
         mark = rw (calm.mark) p.mark;
         untold = none_on (tells ref) p.untold;
         no_back = back_same ∙ p.no_back;
@@ -305,7 +305,7 @@ module _ (here there : End) (ref : Reference) (made : List ℕ) (mid : State) (i
 
   told_on : Told here there ref made → Told here_then there_then ref made
   told_on p =
-      let only = only_on (tells ref) p.before p.telling p.behind p.only (λ x apart. apart.tell) in
+      let only = only_on (tells ref) p.before p.telling p.after p.only (λ x apart. apart.tell) in
       record {
         yet = calm.yet p.yet;
         object = p.object;
@@ -314,10 +314,10 @@ module _ (here there : End) (ref : Reference) (made : List ℕ) (mid : State) (i
         ends = p.ends;
         before = only.0;
         telling = p.telling;
-        behind = p.behind;
+        after = p.after;
         only = only.1;
         says = p.says;
-        back_behind = only.2 p.back_behind;
+        back_after = only.2 p.back_after;
         goes_back = goes_on p.number p.goes_back;
         waiting = waiting_there (LeadsBack there.vat p.number) p.waiting;
         mark = rw (calm.mark) p.mark;
@@ -332,25 +332,25 @@ module _ (here there : End) (ref : Reference) (made : List ℕ) (mid : State) (i
         mark = calm.mark ∙ p.mark;
         before = p.before;
         loop = p.loop;
-        behind = p.behind ++ ms;
+        after = p.after ++ ms;
         only = only_mail ms p.only (calm.no_loop p.embargo p.mark);
-        sent_before = sent_behind p.behind p.sent_before;
+        sent_before = sent_after p.after p.sent_before;
         no_echo = none_on (is_echo p.embargo) p.no_echo;
         waiting = waiting_on (λ g. g ≡ gates.Embargo p.embargo) (λ g. g ≡ gates.Embargo p.embargo) (λ g at. at) p.waiting;
       }
 
   echoed_on : Echoed here there ref made → Echoed here_then there_then ref made
   echoed_on p =
-      let only = only_on (is_echo p.embargo) p.before p.echo p.behind p.only (λ x apart. apart.echo p.embargo p.mark) in
+      let only = only_on (is_echo p.embargo) p.before p.echo p.after p.only (λ x apart. apart.echo p.embargo p.mark) in
       record {
         comes = comes_on p.comes;
         embargo = p.embargo;
         mark = calm.mark ∙ p.mark;
         before = only.0;
         echo = p.echo;
-        behind = p.behind;
+        after = p.after;
         only = only.1;
-        back_before = back_in_same made here.vat mid calm.level.tickets there.vat p.behind ∙ p.back_before;
+        back_before = back_in_same made here.vat mid calm.level.tickets there.vat p.after ∙ p.back_before;
         no_loop = any_mail (is_loop p.embargo) there.inbox ms p.no_loop (calm.no_loop p.embargo p.mark);
         no_way = way_same ∙ p.no_way;
         waiting = waiting_on (λ g. g ≡ gates.Embargo p.embargo) (λ g. g ≡ gates.Embargo p.embargo) (λ g at. at) p.waiting;
@@ -425,14 +425,14 @@ module _ (here there : End) (ref : Reference) (made : List ℕ) (mid : State) (i
   elsewhere_on : IsElsewhere here there ref made → IsElsewhere here_then there_then ref made
   elsewhere_on (came_to_other p) = came_to_other (p.0, calm.came p.0 p.1, p.2)
   elsewhere_on (told_other p) =
-      let only = only_on (tells ref) p.before p.telling p.behind p.only (λ x apart. apart.tell) in
+      let only = only_on (tells ref) p.before p.telling p.after p.only (λ x apart. apart.tell) in
       told_other
       (record {
         yet = calm.yet p.yet;
         closed = p.closed;
         before = only.0;
         telling = p.telling;
-        behind = p.behind;
+        after = p.after;
         only = only.1;
         says = other_on here.vat mid calm.exports (told_by ref p.telling) p.says;
       })

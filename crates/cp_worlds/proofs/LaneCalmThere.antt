@@ -64,16 +64,16 @@ module _ (here there : End) (made : List ℕ) (mid : State) (inbox ms : List Mes
   pub level_way : on_way here_next there_next made ≡ on_way here there made
   level_way = front_same level.taken
 
-  pub level_before : (before behind : List Message) (m : Message) → here.inbox ≡ before ++ m ∷ behind → back_in here.vat there.vat made before ≡ [] → back_in here.vat mid made before ≡ []
-  level_before before behind m is none =
-      let all = all_front (λ m. of_lane made (forwarded_for here.vat mid m) ≡ of_lane made (forwarded_for here.vat there.vat m)) before (m ∷ behind) (rw is at level.forwards) in
+  pub level_before : (before after : List Message) (m : Message) → here.inbox ≡ before ++ m ∷ after → back_in here.vat there.vat made before ≡ [] → back_in here.vat mid made before ≡ []
+  level_before before after m is none =
+      let all = all_front (λ m. of_lane made (forwarded_for here.vat mid m) ≡ of_lane made (forwarded_for here.vat there.vat m)) before (m ∷ after) (rw is at level.forwards) in
       lane_same made (forwarded_for here.vat there.vat) (forwarded_for here.vat mid) before all ∙ none
 
-  pub level_behind : (before behind : List Message) (m : Message) → here.inbox ≡ before ++ m ∷ behind → back_in here.vat there.vat made behind ≡ []
-      → back_in here.vat mid made (behind ++ ms) ≡ []
-  level_behind before behind m is none =
-      let all = all_back (λ m. of_lane made (forwarded_for here.vat mid m) ≡ of_lane made (forwarded_for here.vat there.vat m)) before (m ∷ behind) (rw is at level.forwards) in
-      lane_mail made (forwarded_for here.vat there.vat) (forwarded_for here.vat mid) behind ms all.1 level.sends ∙ none
+  pub level_after : (before after : List Message) (m : Message) → here.inbox ≡ before ++ m ∷ after → back_in here.vat there.vat made after ≡ []
+      → back_in here.vat mid made (after ++ ms) ≡ []
+  level_after before after m is none =
+      let all = all_back (λ m. of_lane made (forwarded_for here.vat mid m) ≡ of_lane made (forwarded_for here.vat there.vat m)) before (m ∷ after) (rw is at level.forwards) in
+      lane_mail made (forwarded_for here.vat there.vat) (forwarded_for here.vat mid) after ms all.1 level.sends ∙ none
 
   pub level_goes : (e : ℕ) → GoBackTo here there made e → GoBackTo here_next there_next made e
   level_goes e goes = all_both (λ m. of_lane made (forwarded_for here.vat mid m) ≡ [] ⊎ GoesTo e m) here.inbox ms (old here.inbox level.forwards goes) (new ms level.sends)
@@ -127,12 +127,12 @@ module _ (here there : End) (ref : Reference) (made : List ℕ) (mid : State) (i
   way_same : on_way here_then there_then made ≡ on_way here there made
   way_same = level_way here there made mid inbox ms calm.level
 
-  back_before : (before behind : List Message) (m : Message) → here.inbox ≡ before ++ m ∷ behind → back_in here.vat there.vat made before ≡ [] → back_in here.vat mid made before ≡ []
+  back_before : (before after : List Message) (m : Message) → here.inbox ≡ before ++ m ∷ after → back_in here.vat there.vat made before ≡ [] → back_in here.vat mid made before ≡ []
   back_before = level_before here there made mid inbox ms calm.level
 
-  back_behind : (before behind : List Message) (m : Message) → here.inbox ≡ before ++ m ∷ behind → back_in here.vat there.vat made behind ≡ []
-      → back_in here.vat mid made (behind ++ ms) ≡ []
-  back_behind = level_behind here there made mid inbox ms calm.level
+  back_after : (before after : List Message) (m : Message) → here.inbox ≡ before ++ m ∷ after → back_in here.vat there.vat made after ≡ []
+      → back_in here.vat mid made (after ++ ms) ≡ []
+  back_after = level_after here there made mid inbox ms calm.level
 
   goes_on : (e : ℕ) → GoBackTo here there made e → GoBackTo here_then there_then made e
   goes_on = level_goes here there made mid inbox ms calm.level
@@ -166,16 +166,16 @@ module _ (here there : End) (ref : Reference) (made : List ℕ) (mid : State) (i
   unopened_on : Unopened here there ref made → Unopened here_then there_then ref made
   unopened_on p = by calm.front
     where
-      with_front : (before : List Message) → IsOnly inbox (opens_place ref) before p.opening p.behind → sent_in here.vat made (before ++ p.opening ∷ []) ≡ []
+      with_front : (before : List Message) → IsOnly inbox (opens_place ref) before p.opening p.after → sent_in here.vat made (before ++ p.opening ∷ []) ≡ []
           → Unopened here_then there_then ref made
       with_front before only none =
           record {
             open_ = p.open_;
             before = before;
             opening = p.opening;
-            behind = p.behind;
+            after = p.after;
             only = only;
-            sent_behind = none;
+            sent_after = none;
             mark = p.mark;
             untold = untold_on (inl p.open_) p.untold;
             no_back = back_same ∙ p.no_back;
@@ -184,10 +184,10 @@ module _ (here there : End) (ref : Reference) (made : List ℕ) (mid : State) (i
           }
 
       by : IsFront (IsApartThere here ref made) there.inbox inbox → Unopened here_then there_then ref made
-      by (inl same) = with_front p.before (rw (same) p.only) p.sent_behind
+      by (inl same) = with_front p.before (rw (same) p.only) p.sent_after
       by (inr (m, was, apart)) =
-          let taken = only_taken m inbox (opens_place ref) p.before p.opening p.behind (rw was at p.only) apart.opens_ in
-          let none : sent_in here.vat made ((m ∷ taken.left) ++ p.opening ∷ []) ≡ [] = rw taken.was at p.sent_behind in
+          let taken = only_taken m inbox (opens_place ref) p.before p.opening p.after (rw was at p.only) apart.opens_ in
+          let none : sent_in here.vat made ((m ∷ taken.left) ++ p.opening ∷ []) ≡ [] = rw taken.was at p.sent_after in
           with_front taken.left taken.only
           (sym (lane_cons made (sent_for here.vat) m (taken.left ++ p.opening ∷ []) ∙ ap (λ ys. ys ++ sent_in here.vat made (taken.left ++ p.opening ∷ [])) apart.sent) ∙ none)
 
@@ -214,10 +214,10 @@ module _ (here there : End) (ref : Reference) (made : List ℕ) (mid : State) (i
         ends = calm.ends p.number p.ends;
         before = p.before;
         telling = p.telling;
-        behind = p.behind ++ ms;
+        after = p.after ++ ms;
         only = only_mail ms p.only (calm.untold p.yet);
         says = p.says;
-        back_behind = back_before p.before p.behind p.telling p.only.all p.back_behind;
+        back_after = back_before p.before p.after p.telling p.only.all p.back_after;
         goes_back = goes_on p.number p.goes_back;
         waiting = waiting_on (LeadsBack there.vat p.number) (LeadsBack mid p.number) (calm.leads p.number) p.waiting;
         mark = p.mark;
@@ -227,7 +227,7 @@ module _ (here there : End) (ref : Reference) (made : List ℕ) (mid : State) (i
   embargoed_on : Embargoed here there ref made → Embargoed here_then there_then ref made
   embargoed_on p = by calm.front
     where
-      with_front : (before : List Message) → IsOnly inbox (is_loop p.embargo) before p.loop p.behind → Embargoed here_then there_then ref made
+      with_front : (before : List Message) → IsOnly inbox (is_loop p.embargo) before p.loop p.after → Embargoed here_then there_then ref made
       with_front before only =
           record {
             comes = comes_on p.comes;
@@ -235,7 +235,7 @@ module _ (here there : End) (ref : Reference) (made : List ℕ) (mid : State) (i
             mark = p.mark;
             before = before;
             loop = p.loop;
-            behind = p.behind;
+            after = p.after;
             only = only;
             sent_before = p.sent_before;
             no_echo = any_mail (is_echo p.embargo) here.inbox ms p.no_echo (calm.no_echo p.embargo p.mark);
@@ -245,7 +245,7 @@ module _ (here there : End) (ref : Reference) (made : List ℕ) (mid : State) (i
       by : IsFront (IsApartThere here ref made) there.inbox inbox → Embargoed here_then there_then ref made
       by (inl same) = with_front p.before (rw (same) p.only)
       by (inr (m, was, apart)) =
-          let taken = only_taken m inbox (is_loop p.embargo) p.before p.loop p.behind (rw was at p.only) (apart.loop p.embargo p.mark) in
+          let taken = only_taken m inbox (is_loop p.embargo) p.before p.loop p.after (rw was at p.only) (apart.loop p.embargo p.mark) in
           with_front taken.left taken.only
 
   echoed_on : Echoed here there ref made → Echoed here_then there_then ref made
@@ -256,9 +256,9 @@ module _ (here there : End) (ref : Reference) (made : List ℕ) (mid : State) (i
         mark = p.mark;
         before = p.before;
         echo = p.echo;
-        behind = p.behind ++ ms;
+        after = p.after ++ ms;
         only = only_mail ms p.only (calm.no_echo p.embargo p.mark);
-        back_before = back_behind p.before p.behind p.echo p.only.all p.back_before;
+        back_before = back_after p.before p.after p.echo p.only.all p.back_before;
         no_loop = none_on (is_loop p.embargo) (λ m apart. apart.loop p.embargo p.mark) p.no_loop;
         no_way = way_same ∙ p.no_way;
         waiting = p.waiting;
@@ -317,7 +317,7 @@ module _ (here there : End) (ref : Reference) (made : List ℕ) (mid : State) (i
   elsewhere_on : IsElsewhere here there ref made → IsElsewhere here_then there_then ref made
   elsewhere_on (came_to_other p) = came_to_other p
   elsewhere_on (told_other p) =
-      told_other (record { yet = p.yet; closed = calm.closed_ p.closed; before = p.before; telling = p.telling; behind = p.behind ++ ms; only = only_mail ms p.only (calm.untold p.yet); says = p.says })
+      told_other (record { yet = p.yet; closed = calm.closed_ p.closed; before = p.before; telling = p.telling; after = p.after ++ ms; only = only_mail ms p.only (calm.untold p.yet); says = p.says })
   elsewhere_on (hosted_there p) = hosted_there (record { yet = p.yet; hosted = calm.hosted p.hosted; untold = untold_on p.yet p.untold })
 
   -- The lane holds on, where an absent reference does.

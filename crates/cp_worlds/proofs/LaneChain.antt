@@ -212,7 +212,7 @@ absent_at here old new final inbox effects kept known (import_ i) step none = by
   where
     untold : PlaceStep old new (import_ i) (messages_sent effects) → list_any (tells (import_ i)) (messages_sent effects) ≡ false
     untold (stays open_ is) = is
-    untold (settles gate before telling behind open_ only closed right) = none_out (sym none.1 ∙ open_.1.1)
+    untold (settles gate before telling after open_ only closed right) = none_out (sym none.1 ∙ open_.1.1)
 
     by : (get new.counts.exports i ≡ None) ⊎ IsNewPlace new (import_ i)
         → IsAbsent here.vat new (import_ i)
@@ -271,7 +271,7 @@ module _ (here : End) (old new final : State) (inbox : List Message) (effects : 
           → list_any (tells (import_ i)) (here.inbox ++ messages_sent effects) ≡ false
       untold i none (stays open_ is) =
           any_mail (tells (import_ i)) here.inbox (messages_sent effects) (known.untold i (gone i (get old.counts.exports i) refl none)) is
-      untold i none (settles gate before telling behind open_ only closed right) = none_out (sym (gone i (get old.counts.exports i) refl none) ∙ open_.1.1)
+      untold i none (settles gate before telling after open_ only closed right) = none_out (sym (gone i (get old.counts.exports i) refl none) ∙ open_.1.1)
 
 -- Such parts one after another.
 pub data Chain : State → List Effect → State → Type 0 where

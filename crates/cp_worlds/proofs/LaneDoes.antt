@@ -26,8 +26,8 @@ use Rattle.cp_refs.specs.declared.values.QuestionKind.{QuestionKind}
 use Rattle.cp_refs.specs.declared.values.QuestionKind.TheVariants as kinds
 use Rattle.cp_machine.specs.State.{State, none_over}
 use Rattle.cp_machine.specs.Then.{Done}
-use Rattle.cp_machine.specs.Room.{Fresh}
-use Rattle.cp_machine.specs.Calling.{asked, called, own_call, mark_of, with_mark, marked, has_mark_room, disembargo_of, FirstEmbargoed, GoBack, GoByValue, GoFrom, plain, on_wire, came_to, reference_of, OwnDone, Opens, call_refusals, DoCall}
+use Rattle.cp_machine.specs.Capacity.{Fresh}
+use Rattle.cp_machine.specs.Calling.{asked, called, own_call, mark_of, with_mark, marked, has_mark_capacity, disembargo_of, FirstEmbargoed, GoBack, GoByValue, GoFrom, plain, on_wire, came_to, reference_of, OwnDone, Opens, call_refusals, DoCall}
 use Rattle.cp_machine.specs.Calling as calling
 use Rattle.cp_machine.specs.Doing.{is_ungiven, is_ungiven_answer, is_ungiven_question, awaits, answer_refusals, promise_made, is_made, is_settled, resolve_refusals, value_refusals, Resolves}
 use Rattle.cp_machine.specs.Give.{Settle, Give}
@@ -156,7 +156,7 @@ mark_kept s (caps.Broken x) embargo =
 
 marked_chain : (s mid : State) (cap : Cap) (mark : Option (Option ℕ)) → Ok mid ≡ marked s cap mark → Chain s [] mid
 marked_chain s mid cap (Some embargo) is = rw (ok_in _ _ is) ended
-marked_chain s mid cap None is = by (has_mark_room s cap) is
+marked_chain s mid cap None is = by (has_mark_capacity s cap) is
   where
     by : (b : Bool) → Ok mid ≡ cond b (Ok (with_mark s cap None)) (Err peer_faults.TableFull) → Chain s [] mid
     by true e = rw (ok_in _ _ e) (chain_one (mark_kept s cap None))
@@ -265,7 +265,7 @@ module _ (old : State) (q : ℕ) (call : Underway) (from : call.origin ≡ origi
 marked_as : (s mid : State) (cap : Cap) (mark : Option (Option ℕ)) → Ok mid ≡ marked s cap mark
     → (mid.values ≡ s.values) × (mid.waiting ≡ s.waiting) × (mid.counts ≡ s.counts) × (mid.entries ≡ s.entries)
 marked_as s mid cap (Some embargo) is = rw (ok_in _ _ is) (refl, refl, refl, refl)
-marked_as s mid cap None is = by (has_mark_room s cap) is
+marked_as s mid cap None is = by (has_mark_capacity s cap) is
   where
     at : (cap : Cap) → ((with_mark s cap None).values ≡ s.values) × ((with_mark s cap None).waiting ≡ s.waiting) × ((with_mark s cap None).counts ≡ s.counts)
         × ((with_mark s cap None).entries ≡ s.entries)

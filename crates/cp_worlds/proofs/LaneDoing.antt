@@ -16,7 +16,7 @@ use Rattle.cp_refs.specs.declared.values.QuestionKind.{QuestionKind}
 use Rattle.cp_refs.specs.declared.values.QuestionKind.TheVariants as kinds
 use Rattle.cp_machine.specs.State.{State, none_over}
 use Rattle.cp_machine.specs.Then.{Done, OrFull}
-use Rattle.cp_machine.specs.Room.{Fresh}
+use Rattle.cp_machine.specs.Capacity.{Fresh}
 use Rattle.cp_machine.specs.Say.{IsExport}
 use Rattle.cp_machine.specs.Give.{Give, GiveOwnBy, Settle, question_settled}
 use Rattle.cp_machine.specs.Calling.{OwnDone}

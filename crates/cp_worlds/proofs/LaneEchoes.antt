@@ -213,9 +213,9 @@ module _ (s : State) (n : ℕ) (value : Cap) (target : Target) (rest : List Mess
     elsewhere_on : IsElsewhere here there ref made → IsElsewhere here_then (with_mail there []) ref made
     elsewhere_on (came_to_other p) = came_to_other p
     elsewhere_on (told_other p) =
-        let taken = only_taken message rest (tells ref) p.before p.telling p.behind p.only (tells_none ref) in
+        let taken = only_taken message rest (tells ref) p.before p.telling p.after p.only (tells_none ref) in
         told_other
-        (record { yet = yet_on p.yet; closed = p.closed; before = taken.left; telling = p.telling; behind = p.behind; only = taken.only; says = p.says })
+        (record { yet = yet_on p.yet; closed = p.closed; before = taken.left; telling = p.telling; after = p.after; only = taken.only; says = p.says })
     elsewhere_on (hosted_there p) = hosted_there (record { yet = yet_on p.yet; hosted = p.hosted; untold = any_taken (tells ref) message rest p.untold })
 
     is_its : (m : ℕ) → mark_of s (cap_of ref) ≡ Some (Some m) → is_echo m message ≡ true

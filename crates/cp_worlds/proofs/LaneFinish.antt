@@ -32,12 +32,12 @@ use Rattle.cp_order.proofs.Tables.{there_of}
 use Rattle.cp_worlds.specs.Accounts.{accounts_of, asked_account, is_releasing, is_finish_noted}
 use Rattle.cp_worlds.specs.Ledger.{opens, finishes}
 use Rattle.cp_worlds.specs.World.{End, with_mail}
-use Rattle.cp_worlds.specs.Lives.{Standing, absent, ungiven, left_ungiven, given, mistaken, opened, finished, standing_of, stands_behind, will_stand, returns_of, FitsOpen, FitsReturned, FitsNone, FitsAt, Fits, Agree}
+use Rattle.cp_worlds.specs.Lives.{Standing, absent, ungiven, left_ungiven, given, mistaken, opened, finished, standing_of, stands_after, will_stand, returns_of, FitsOpen, FitsReturned, FitsNone, FitsAt, Fits, Agree}
 use Rattle.cp_worlds.specs.Places.{NoneFinished}
 use Rattle.cp_worlds.specs.Lane.{Reference, import_, path_to, cap_of, CameTo, Delivery}
 use Rattle.cp_worlds.specs.Naming.{place_of, answered_cap}
 use Rattle.cp_worlds.specs.Phases.{tells, IsClosedPlace, EndsAt, IsAbsent, IsHostedThere, IsOnly, LeadsBack, Phase, absent as unheard, unopened, unsettled, told, free, marked, embargoed, echoed, local_open, IsElsewhere, came_to_other, told_other, hosted_there, InLane, LaneHolds}
-use Rattle.cp_worlds.proofs.Standings.{behind_by, stays_mistaken, never_fits}
+use Rattle.cp_worlds.proofs.Standings.{after_by, stays_mistaken, never_fits}
 use Rattle.cp_worlds.proofs.Grown.{PlacesStay, ways_same, places_same, comes_import}
 use Rattle.cp_worlds.proofs.GrownComes.{unlowered}
 use Rattle.cp_worlds.proofs.PhaseThere.{another_phase}
@@ -75,14 +75,14 @@ not_given_finished release (given mentions) is = absurd is
 not_given_finished true mistaken is = tt
 not_given_finished false mistaken is = tt
 
-not_given_behind : (o f r : Bool) (st : Standing) → IsNotGiven st → IsNotGiven (behind_by o f r st)
-not_given_behind true f r st is = not_given_opened st
-not_given_behind false true r st is = not_given_finished r st is
-not_given_behind false false r st is = is
+not_given_after : (o f r : Bool) (st : Standing) → IsNotGiven st → IsNotGiven (after_by o f r st)
+not_given_after true f r st is = not_given_opened st
+not_given_after false true r st is = not_given_finished r st is
+not_given_after false false r st is = is
 
 will_not_be_given : (q : ℕ) (ms : List Message) (st : Standing) → IsNotGiven st → IsNotGiven (will_stand q ms st)
 will_not_be_given q [] st is = is
-will_not_be_given q (m ∷ ms) st is = will_not_be_given q ms (stands_behind q m st) (not_given_behind (opens q m) (finishes q m) (is_releasing m) st is)
+will_not_be_given q (m ∷ ms) st is = will_not_be_given q ms (stands_after q m st) (not_given_after (opens q m) (finishes q m) (is_releasing m) st is)
 
 -- So no Return of a question of this number is on the way, nor did one come.
 open_returns : (rs : List (List ℕ)) (st : Standing) → IsNotGiven st → FitsOpen rs st → rs ≡ []
@@ -185,8 +185,8 @@ module _ (here : End) (s final : State) (rest : List Message) (known : IsThere h
   abbrev before_it : End
   before_it = record { vat = s; inbox = rest }
 
-  abbrev behind_it : End
-  behind_it = record { vat = gone; inbox = rest }
+  abbrev after_it : End
+  after_it = record { vat = gone; inbox = rest }
 
   level : (made : List ℕ) → LevelThere here before_it made gone rest []
   level made = still_level here before_it made [] gone refl (λ q. refl) refl
@@ -246,9 +246,9 @@ module _ (here : End) (s final : State) (rest : List Message) (known : IsThere h
   other_leads : (e : ℕ) (gate : Gate) → LeadsBack s e gate → LeadsBack gone e gate
   other_leads e gate is = (is.0, is.1, routes_import s.values gone.values (ways_same refl refl) is.0 e is.2)
 
-  other_kept : (ref : Reference) (made : List ℕ) (delivered : List Delivery) → IsApart ref → LaneHolds here before_it ref made delivered → LaneHolds here behind_it ref made delivered
+  other_kept : (ref : Reference) (made : List ℕ) (delivered : List Delivery) → IsApart ref → LaneHolds here before_it ref made delivered → LaneHolds here after_it ref made delivered
   other_kept ref made delivered other lane =
-      subst (λ h. LaneHolds h behind_it ref made delivered) (nothing_sent here)
+      subst (λ h. LaneHolds h after_it ref made delivered) (nothing_sent here)
       (part_there here before_it ref made gone rest []
       (record {
         level = level made;
@@ -271,17 +271,17 @@ module _ (here : End) (s final : State) (rest : List Message) (known : IsThere h
     abbrev its : Reference
     its = path_to a path
 
-    not_told : {A : Type 0} (before behind : List Message) (m : Message) → IsOnly here.inbox (tells its) before m behind → A
-    not_told before behind m only = absurd (has before (sym (ap (list_any (tells its)) only.all) ∙ untold))
+    not_told : {A : Type 0} (before after : List Message) (m : Message) → IsOnly here.inbox (tells its) before m after → A
+    not_told before after m only = absurd (has before (sym (ap (list_any (tells its)) only.all) ∙ untold))
       where
-        has : (xs : List Message) → list_any (tells its) (xs ++ m ∷ behind) ≡ false → ⊥
-        has [] none = true≢false (sym only.it ∙ none_of_front (tells its) m behind none)
-        has (x ∷ xs) none = has xs (any_taken (tells its) x (xs ++ m ∷ behind) none)
+        has : (xs : List Message) → list_any (tells its) (xs ++ m ∷ after) ≡ false → ⊥
+        has [] none = true≢false (sym only.it ∙ none_of_front (tells its) m after none)
+        has (x ∷ xs) none = has xs (any_taken (tells its) x (xs ++ m ∷ after) none)
 
     not_marked : {A : Type 0} (k : ℕ) (mark : Option ℕ) → CameTo here.vat its (caps.Object k) → mark_of here.vat (cap_of its) ≡ Some mark → A
     not_marked k mark came is = unmarked here.vat local_ a path (caps.Object k) came unreturned mark is
 
-    its_phase : Phase here before_it its made → Phase (with_mail here []) behind_it its made
+    its_phase : Phase here before_it its made → Phase (with_mail here []) after_it its made
     its_phase (unheard p) = unheard (record { none = p.none; unmade = p.unmade })
     its_phase (unopened p) =
         unopened
@@ -289,9 +289,9 @@ module _ (here : End) (s final : State) (rest : List Message) (known : IsThere h
           open_ = p.open_;
           before = p.before;
           opening = p.opening;
-          behind = p.behind;
+          after = p.after;
           only = p.only;
-          sent_behind = p.sent_behind;
+          sent_after = p.sent_after;
           mark = p.mark;
           untold = any_mail (tells its) here.inbox [] p.untold refl;
           no_back = level_back here before_it made gone rest [] (level made) ∙ p.no_back;
@@ -299,7 +299,7 @@ module _ (here : End) (s final : State) (rest : List Message) (known : IsThere h
           none_here = p.none_here;
         })
     its_phase (unsettled p) = none_out (some_out (sym p.open_.0 ∙ was))
-    its_phase (told p) = not_told p.before p.behind p.telling p.only
+    its_phase (told p) = not_told p.before p.after p.telling p.only
     its_phase (free p) =
         free
         (record {
@@ -325,26 +325,26 @@ module _ (here : End) (s final : State) (rest : List Message) (known : IsThere h
           no_way = level_way here before_it made gone rest [] (level made) ∙ p.no_way;
         })
 
-    its_elsewhere : IsElsewhere here before_it its made → IsElsewhere here behind_it its made
+    its_elsewhere : IsElsewhere here before_it its made → IsElsewhere here after_it its made
     its_elsewhere (came_to_other p) = came_to_other p
-    its_elsewhere (told_other p) = not_told p.before p.behind p.telling p.only
+    its_elsewhere (told_other p) = not_told p.before p.after p.telling p.only
     its_elsewhere (hosted_there p) = absurd p.hosted
 
-    its_kept : LaneHolds here before_it its made delivered → LaneHolds here behind_it its made delivered
+    its_kept : LaneHolds here before_it its made delivered → LaneHolds here after_it its made delivered
     its_kept (inl elsewhere) = inl (its_elsewhere elsewhere)
     its_kept (inr lane) =
         inr
-        (subst (λ h. InLane h behind_it its made delivered) (nothing_sent here)
+        (subst (λ h. InLane h after_it its made delivered) (nothing_sent here)
         (another_phase here before_it its made gone rest [] (level made) delivered lane (its_phase lane.phase)))
 
   pub gone_kept : Local here.vat → ((path : List ℕ) → list_any (tells (path_to a path)) here.inbox ≡ false) → IfSome (get here.vat.entries.questions a) IsUnreturned
-      → (ref : Reference) (made : List ℕ) (delivered : List Delivery) → LaneHolds here before_it ref made delivered → LaneHolds here behind_it ref made delivered
+      → (ref : Reference) (made : List ℕ) (delivered : List Delivery) → LaneHolds here before_it ref made delivered → LaneHolds here after_it ref made delivered
   gone_kept local_ untold unreturned (import_ i) made delivered lane = other_kept (import_ i) made delivered tt lane
   gone_kept local_ untold unreturned (path_to q path) made delivered lane = by (a == q) refl
     where
-      by : (b : Bool) → (a == q) ≡ b → LaneHolds here behind_it (path_to q path) made delivered
+      by : (b : Bool) → (a == q) ≡ b → LaneHolds here after_it (path_to q path) made delivered
       by true t =
-          subst (λ n. LaneHolds here behind_it (path_to n path) made delivered) (is_equal a q t)
+          subst (λ n. LaneHolds here after_it (path_to n path) made delivered) (is_equal a q t)
           (its_kept path made delivered local_ (untold path) unreturned (subst (λ n. LaneHolds here before_it (path_to n path) made delivered) (sym (is_equal a q t)) lane))
       by false t = other_kept (path_to q path) made delivered t lane
 
@@ -358,13 +358,13 @@ module _ (here : End) (s final : State) (f : Finish) (rest sent : List Message) 
   known : IsThere here s s (messages.Finish f ∷ rest)
   known = known_there here s s (messages.Finish f ∷ rest) (messages.Finish f ∷ rest) here.inbox starts (places_same refl refl) local_ agree
 
-  stands_then : (st : Standing) → stands_behind a (messages.Finish f) st ≡ finished false st
+  stands_then : (st : Standing) → stands_after a (messages.Finish f) st ≡ finished false st
   stands_then st = rw (is_itself a, keeps) refl
 
   fits : (st : Standing) → standing_of ((accounts_of s).answers a) ≡ st → Fits ((accounts_of here.vat).questions a) (returns_of a here.inbox) (will_stand a rest (finished false st))
   fits st is =
       subst (λ x. Fits ((accounts_of here.vat).questions a) (returns_of a here.inbox) (will_stand a rest x)) (stands_then st)
-      (subst (λ x. Fits ((accounts_of here.vat).questions a) (returns_of a here.inbox) (will_stand a rest (stands_behind a (messages.Finish f) x))) is (agree.lives_back a))
+      (subst (λ x. Fits ((accounts_of here.vat).questions a) (returns_of a here.inbox) (will_stand a rest (stands_after a (messages.Finish f) x))) is (agree.lives_back a))
 
   to_rest : (ref : Reference) (made : List ℕ) (delivered : List Delivery) → LaneHolds here (record { vat = s; inbox = messages.Finish f ∷ rest }) ref made delivered
       → LaneHolds here (record { vat = s; inbox = rest }) ref made delivered

@@ -37,10 +37,10 @@ module _ (keep : MovesKeep) where
       → StillHolds (last_of w moves) × CallsHold (end_of (last_of w moves) side) (end_of (last_of w moves) (across side)) ref (m ++ made w side ref moves) (all ++ deliveries w side moves)
   all_keep [] w holds steps open_ still side ref m all calls = (holds, rw (append-nil m, append-nil all) calls)
   all_keep (move ∷ more) w holds steps open_ still side ref m all calls =
-      let first = keep w move holds steps.0 (first_open more move.behind steps.1 open_) still.0 in
+      let first = keep w move holds steps.0 (first_open more move.after steps.1 open_) still.0 in
       rw
-      (← append_assoc m (made_in w side ref move) (made move.behind side ref more), ← append_assoc all (deliveries_of w side move) (deliveries move.behind side more))
-      (all_keep more move.behind first.0 steps.1 open_ still.1 side ref (m ++ made_in w side ref move) (all ++ deliveries_of w side move) (first.1 side ref m all calls))
+      (← append_assoc m (made_in w side ref move) (made move.after side ref more), ← append_assoc all (deliveries_of w side move) (deliveries move.after side more))
+      (all_keep more move.after first.0 steps.1 open_ still.1 side ref (m ++ made_in w side ref move) (all ++ deliveries_of w side move) (first.1 side ref m all calls))
 
 new_holds : (one other : Option ℕ) → StillHolds (new_world one other)
 new_holds one other =
@@ -160,9 +160,9 @@ empty_back here there made is = rw (is) refl
 empty_way : (here there : End) (made : List ℕ) → there.inbox ≡ [] → on_way here there made ≡ []
 empty_way here there made is = rw (is) refl
 
-not_empty : {A : Type 0} (inbox before behind : List Message) (m : Message) → inbox ≡ before ++ m ∷ behind → inbox ≡ [] → A
-not_empty inbox [] behind m is none = absurd (cc)
-not_empty inbox (x ∷ before) behind m is none = absurd (cc)
+not_empty : {A : Type 0} (inbox before after : List Message) (m : Message) → inbox ≡ before ++ m ∷ after → inbox ≡ [] → A
+not_empty inbox [] after m is none = absurd (cc)
+not_empty inbox (x ∷ before) after m is none = absurd (cc)
 
 module _ (here there : End) (ref : Reference) (k : ℕ) (made : List ℕ) (holds : EndHolds here there) (came : CameTo here.vat ref (caps.Object k)) (no_inbox : here.inbox ≡ [])
     (no_outbox : there.inbox ≡ []) where
@@ -175,8 +175,8 @@ module _ (here there : End) (ref : Reference) (k : ℕ) (made : List ℕ) (holds
       none_left _ _ _ _ (empty_back here there made no_inbox) p.no_waits (empty_way here there made no_outbox)
       (none_waits_here here made p.object holds.local_.none_over_ p.waiting)
   nothing_left (marked p) = none_left _ _ _ _ (empty_back here there made no_inbox) p.comes.no_waits (empty_way here there made no_outbox) p.none_here
-  nothing_left (embargoed p) = not_empty there.inbox p.before p.behind p.loop p.only.all no_outbox
-  nothing_left (echoed p) = not_empty here.inbox p.before p.behind p.echo p.only.all no_inbox
+  nothing_left (embargoed p) = not_empty there.inbox p.before p.after p.loop p.only.all no_outbox
+  nothing_left (echoed p) = not_empty here.inbox p.before p.after p.echo p.only.all no_inbox
   nothing_left (local_open p) = not_plain here.vat ref k came (local_plain here.vat ref p.gate p.open_)
 
 -- The calls of a lane that came to an object are in order.

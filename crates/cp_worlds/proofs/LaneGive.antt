@@ -21,7 +21,7 @@ use Rattle.cp_refs.specs.declared.route.Gate.TheVariants as gates
 use Rattle.cp_refs.specs.declared.values.Question.{Question}
 use Rattle.cp_machine.specs.State.{State, gave, with_exports}
 use Rattle.cp_machine.specs.Then.{Done}
-use Rattle.cp_machine.specs.Say.{Raise, counted, counted_out, opened, has_no_room, IsExport, SayEnd, Say, SayAll}
+use Rattle.cp_machine.specs.Say.{Raise, counted, counted_out, opened, has_no_capacity, IsExport, SayEnd, Say, SayAll}
 use Rattle.cp_machine.specs.Give.{ResolvesEnd, Tells, settled, value_for, last_for, Settle, SettleTied, Returns, given, returned_mentions, return_of, GiveBy, question_settled, GiveOwnBy, Give}
 use Rattle.cp_machine.specs.Local.{AreOne, tied_to}
 use Rattle.cp_machine.specs.declared.effect.Effect.{Effect}
@@ -83,7 +83,7 @@ raised_fresh : (old : State) (cap : Cap) (out : Result (ℕ × State) PeerFault)
 raised_fresh old cap out new (counted e count is room) = λ i. put_fresh old e (count + 1) cap i new
 raised_fresh old cap out new (counted_out e is) = tt
 raised_fresh old cap out new (opened e none at) = λ i. put_fresh old e 1 cap i new
-raised_fresh old cap out new (has_no_room none is) = tt
+raised_fresh old cap out new (has_no_capacity none is) = tt
 
 end_fresh : (old : State) (last : Cap) (said : Descriptor × State) → IsOpenCap old last → SayEnd old last (Ok said) → (i : ℕ) → FreshBy old said.1 i
 end_fresh old caps.None said open_ is i = rw (ok_in _ _ is) (λ none. inl none)

@@ -183,8 +183,8 @@ module _ (here : End) (s final : State) (d : Disembargo) (n : ℕ) (is_it : d.co
   abbrev before_it : End
   before_it = record { vat = s; inbox = loop ∷ rest }
 
-  abbrev behind_it : End
-  behind_it = record { vat = s; inbox = rest }
+  abbrev after_it : End
+  after_it = record { vat = s; inbox = rest }
 
   abbrev here_then : End
   here_then = with_mail here (echo ∷ [])
@@ -222,16 +222,16 @@ module _ (here : End) (s final : State) (d : Disembargo) (n : ℕ) (is_it : d.co
 
   -- a lane whose embargo has another number
   other_loop : (ref : Reference) (made : List ℕ) (delivered : List Delivery) → ((k : ℕ) → mark_of here.vat (cap_of ref) ≡ Some (Some k) → (n == k) ≡ false)
-      → LaneHolds here before_it ref made delivered → LaneHolds here_then behind_it ref made delivered
+      → LaneHolds here before_it ref made delivered → LaneHolds here_then after_it ref made delivered
   other_loop ref made delivered other lane = part_there here before_it ref made s rest (echo ∷ []) (loop_part ref made other) delivered lane
 
-  loop_elsewhere : (ref : Reference) (made : List ℕ) → IsElsewhere here before_it ref made → IsElsewhere here_then behind_it ref made
+  loop_elsewhere : (ref : Reference) (made : List ℕ) → IsElsewhere here before_it ref made → IsElsewhere here_then after_it ref made
   loop_elsewhere ref made elsewhere =
       elsewhere_part here before_it ref made s rest (echo ∷ []) (place_stays s s ref (echo ∷ []) (λ e c is. is) (λ p is. is) (λ a is. is) (one_untold ref)) (λ is. is) (λ is. is) elsewhere
 
   -- that of this number
   module _ (ref : Reference) (made : List ℕ) (delivered : List Delivery) (its : mark_of here.vat (cap_of ref) ≡ Some (Some n)) (lane : InLane here before_it ref made delivered) where
-    with_phase : Phase here_then behind_it ref made → LaneHolds here_then behind_it ref made delivered
+    with_phase : Phase here_then after_it ref made → LaneHolds here_then after_it ref made delivered
     with_phase phase = inr (another_phase here before_it ref made s rest (echo ∷ []) (loop_level made) delivered lane phase)
 
     marked_if_not : {A : Type 0} (m : List ℕ) → IsMarkedIf m (mark_of here.vat (cap_of ref)) → A
@@ -241,7 +241,7 @@ module _ (here : End) (s final : State) (d : Disembargo) (n : ℕ) (is_it : d.co
     same_number : (k : ℕ) → mark_of here.vat (cap_of ref) ≡ Some (Some k) → k ≡ n
     same_number k is = some_out (some_out (sym is ∙ its))
 
-    loop_phase : Phase here before_it ref made → LaneHolds here_then behind_it ref made delivered
+    loop_phase : Phase here before_it ref made → LaneHolds here_then after_it ref made delivered
     loop_phase (absent p) = with_phase (absent (record { none = p.none; unmade = p.unmade }))
     loop_phase (unopened p) = marked_if_not made p.mark
     loop_phase (unsettled p) = marked_if_not made p.mark
@@ -269,16 +269,16 @@ module _ (here : End) (s final : State) (d : Disembargo) (n : ℕ) (is_it : d.co
         }))
 
   -- Each lane holds on.
-  pub loop_kept : (ref : Reference) (made : List ℕ) (delivered : List Delivery) → LaneHolds here before_it ref made delivered → LaneHolds here_then behind_it ref made delivered
+  pub loop_kept : (ref : Reference) (made : List ℕ) (delivered : List Delivery) → LaneHolds here before_it ref made delivered → LaneHolds here_then after_it ref made delivered
   loop_kept ref made delivered (inl elsewhere) = inl (loop_elsewhere ref made elsewhere)
   loop_kept ref made delivered (inr lane) = by (mark_of here.vat (cap_of ref)) refl
     where
-      by : (mark : Option (Option ℕ)) → mark_of here.vat (cap_of ref) ≡ mark → LaneHolds here_then behind_it ref made delivered
+      by : (mark : Option (Option ℕ)) → mark_of here.vat (cap_of ref) ≡ mark → LaneHolds here_then after_it ref made delivered
       by None is = other_loop ref made delivered (λ k at. none_out (sym is ∙ at)) (inr lane)
       by (Some None) is = other_loop ref made delivered (λ k at. none_out (some_out (sym is ∙ at))) (inr lane)
       by (Some (Some k)) is = number (n == k) refl
         where
-          number : (b : Bool) → (n == k) ≡ b → LaneHolds here_then behind_it ref made delivered
+          number : (b : Bool) → (n == k) ≡ b → LaneHolds here_then after_it ref made delivered
           number true t = loop_phase ref made delivered (is ∙ ap (λ j. Some (Some j)) (sym (is_equal n k t))) lane lane.phase
           number false t = other_loop ref made delivered (λ j at. ap (λ i. n == i) (some_out (some_out (sym at ∙ is))) ∙ t) (inr lane)
 

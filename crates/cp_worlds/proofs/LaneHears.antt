@@ -20,7 +20,7 @@ use Rattle.cp_refs.specs.declared.cap.Cap.TheVariants as caps
 use Rattle.cp_refs.specs.declared.outcome.Outcome.{Outcome}
 use Rattle.cp_machine.specs.State.{State, with_answers}
 use Rattle.cp_machine.specs.Then.{Done, fault_if}
-use Rattle.cp_machine.specs.Room.{has_room}
+use Rattle.cp_machine.specs.Capacity.{has_capacity}
 use Rattle.cp_machine.specs.Say.{IsExport}
 use Rattle.cp_machine.specs.Take.{answer_of, path_of, lower}
 use Rattle.cp_machine.specs.Give.{GiveAnswer}
@@ -128,7 +128,7 @@ module _ (s : State) (rest : List Message) (there : End) (ref : Reference) (made
       → LaneHolds asked_here there ref made delivered → BootstrapThen done.0 done.1
   bootstrap_lane done exports does holds =
       let gives = unless_out {A = Done} {F = PeerFault}
-      (fault_if (is_answering s a) faults.QuestionInUse ++ fault_if (not (has_room s.entries.answers)) faults.TableFull)
+      (fault_if (is_answering s a) faults.QuestionInUse ++ fault_if (not (has_capacity s.entries.answers)) faults.TableFull)
       (GiveAnswer opened a (bootstrap_outcome s.bootstrap)) done does in
       let first : Silent s [] opened = record { calls = refl; bearing = bearing_same s opened refl; no_call = refl; no_delivery = refl } in
       let silent = silent_both s opened done.1 [] done.0 first (answer_silent opened a (bootstrap_outcome s.bootstrap) done gives) in

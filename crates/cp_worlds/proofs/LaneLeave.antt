@@ -9,7 +9,7 @@ use Rattle.cp_tables.specs.declared.exchange.Stage.TheVariants as stages
 use Rattle.cp_rpc.specs.declared.message.Message.{Message}
 use Rattle.cp_refs.specs.declared.call.Held.{Held}
 use Rattle.cp_machine.specs.State.{State, gave, none_over, with_over}
-use Rattle.cp_machine.specs.Go.{Leave, stays, leaves, finds_no_room, NoneOver}
+use Rattle.cp_machine.specs.Go.{Leave, stays, leaves, finds_table_full, NoneOver}
 use Rattle.cp_machine.specs.Local.{Local}
 use Rattle.cp_machine.specs.declared.effect.Effect.{Effect}
 use Rattle.cp_machine.specs.declared.entry.AnswerEntry.{AnswerEntry}
@@ -20,7 +20,7 @@ use Rattle.cp_order.proofs.Tables.{here_of, there_of}
 use Rattle.cp_worlds.specs.World.{End, with_mail, messages_sent}
 use Rattle.cp_worlds.specs.Accounts.{asked_account, kept_account, is_releasing, is_finish_noted}
 use Rattle.cp_worlds.specs.Ledger.{opens, finishes}
-use Rattle.cp_worlds.specs.Lives.{Standing, absent, ungiven, left_ungiven, given, mistaken, standing_at, standing_of, stands_behind, will_stand, returns_of, Fits, FitsOpen, FitsReturned, FitsNone, FitsAt, opened, finished}
+use Rattle.cp_worlds.specs.Lives.{Standing, absent, ungiven, left_ungiven, given, mistaken, standing_at, standing_of, stands_after, will_stand, returns_of, Fits, FitsOpen, FitsReturned, FitsNone, FitsAt, opened, finished}
 use Rattle.cp_worlds.specs.Places.{NoneFinished}
 use Rattle.cp_worlds.specs.Lane.{Reference, Delivery}
 use Rattle.cp_worlds.specs.Phases.{of_lane, waits_for, AllWait, LeadsBack, ComesBack, Phase, absent as unheard, unopened, unsettled, told, free, marked, embargoed, echoed, local_open, IsElsewhere, came_to_other, told_other, hosted_there, LaneHolds}
@@ -53,17 +53,17 @@ left_finished r (given m) is = absurd is
 left_finished true mistaken is = tt
 left_finished false mistaken is = tt
 
-left_behind : (q : ℕ) (m : Message) (st : Standing) → IsLeft st → IsLeft (stands_behind q m st)
-left_behind q m st is = by (opens q m) (finishes q m) refl refl
+left_after : (q : ℕ) (m : Message) (st : Standing) → IsLeft st → IsLeft (stands_after q m st)
+left_after q m st is = by (opens q m) (finishes q m) refl refl
   where
-    by : (o f : Bool) → opens q m ≡ o → finishes q m ≡ f → IsLeft (stands_behind q m st)
+    by : (o f : Bool) → opens q m ≡ o → finishes q m ≡ f → IsLeft (stands_after q m st)
     by true f o_ f_ = rw (o_) (left_opened st is)
     by false true o_ f_ = rw (o_, f_) (left_finished (is_releasing m) st is)
     by false false o_ f_ = rw (o_, f_) is
 
 will_left : (q : ℕ) (ms : List Message) (st : Standing) → IsLeft st → IsLeft (will_stand q ms st)
 will_left q [] st is = is
-will_left q (m ∷ ms) st is = will_left q ms (stands_behind q m st) (left_behind q m st is)
+will_left q (m ∷ ms) st is = will_left q ms (stands_after q m st) (left_after q m st is)
 
 open_left : (rs : List (List ℕ)) (st : Standing) → IsLeft st → FitsOpen rs st → ⊥
 open_left [] left_ungiven is fits = fits
@@ -146,18 +146,18 @@ module _ (here : End) (s : State) (inbox : List Message) (rests : NoneOver s) wh
 
   rest_phase : (ref : Reference) (made : List ℕ) → Phase here (record { vat = s; inbox = inbox }) ref made → Phase here (record { vat = rested; inbox = inbox }) ref made
   rest_phase ref made (unheard p) = unheard (record { none = p.none; unmade = p.unmade })
-  rest_phase ref made (unopened p) = unopened (record { open_ = p.open_; before = p.before; opening = p.opening; behind = p.behind; only = p.only; sent_behind = p.sent_behind; mark = p.mark; untold = p.untold; no_back = p.no_back; no_waits = p.no_waits; none_here = p.none_here })
+  rest_phase ref made (unopened p) = unopened (record { open_ = p.open_; before = p.before; opening = p.opening; after = p.after; only = p.only; sent_after = p.sent_after; mark = p.mark; untold = p.untold; no_back = p.no_back; no_waits = p.no_waits; none_here = p.none_here })
   rest_phase ref made (unsettled p) = unsettled (record { yet = p.yet; gate = p.gate; open_ = p.open_; waiting = p.waiting; mark = p.mark; untold = p.untold; no_back = p.no_back; none_here = p.none_here })
-  rest_phase ref made (told p) = told (record { yet = p.yet; object = p.object; number = p.number; is_export = p.is_export; ends = p.ends; before = p.before; telling = p.telling; behind = p.behind; only = p.only; says = p.says; back_behind = p.back_behind; goes_back = p.goes_back; waiting = none_waits ref made p.number p.waiting; mark = p.mark; none_here = p.none_here })
+  rest_phase ref made (told p) = told (record { yet = p.yet; object = p.object; number = p.number; is_export = p.is_export; ends = p.ends; before = p.before; telling = p.telling; after = p.after; only = p.only; says = p.says; back_after = p.back_after; goes_back = p.goes_back; waiting = none_waits ref made p.number p.waiting; mark = p.mark; none_here = p.none_here })
   rest_phase ref made (free p) = free (record { object = p.object; came = p.came; mark = p.mark; no_back = p.no_back; no_waits = p.no_waits; no_way = p.no_way; waiting = p.waiting })
   rest_phase ref made (marked p) = marked (record { comes = rest_comes ref made p.comes; mark = p.mark; none_here = p.none_here })
-  rest_phase ref made (embargoed p) = embargoed (record { comes = rest_comes ref made p.comes; embargo = p.embargo; mark = p.mark; before = p.before; loop = p.loop; behind = p.behind; only = p.only; sent_before = p.sent_before; no_echo = p.no_echo; waiting = p.waiting })
-  rest_phase ref made (echoed p) = echoed (record { comes = rest_comes ref made p.comes; embargo = p.embargo; mark = p.mark; before = p.before; echo = p.echo; behind = p.behind; only = p.only; back_before = p.back_before; no_loop = p.no_loop; no_way = p.no_way; waiting = p.waiting })
+  rest_phase ref made (embargoed p) = embargoed (record { comes = rest_comes ref made p.comes; embargo = p.embargo; mark = p.mark; before = p.before; loop = p.loop; after = p.after; only = p.only; sent_before = p.sent_before; no_echo = p.no_echo; waiting = p.waiting })
+  rest_phase ref made (echoed p) = echoed (record { comes = rest_comes ref made p.comes; embargo = p.embargo; mark = p.mark; before = p.before; echo = p.echo; after = p.after; only = p.only; back_before = p.back_before; no_loop = p.no_loop; no_way = p.no_way; waiting = p.waiting })
   rest_phase ref made (local_open p) = local_open (record { gate = p.gate; open_ = p.open_; waiting = p.waiting; no_back = p.no_back; no_waits = p.no_waits; no_way = p.no_way })
 
   rest_elsewhere : (ref : Reference) (made : List ℕ) → IsElsewhere here (record { vat = s; inbox = inbox }) ref made → IsElsewhere here (record { vat = rested; inbox = inbox }) ref made
   rest_elsewhere ref made (came_to_other p) = came_to_other p
-  rest_elsewhere ref made (told_other p) = told_other (record { yet = p.yet; closed = p.closed; before = p.before; telling = p.telling; behind = p.behind; only = p.only; says = p.says })
+  rest_elsewhere ref made (told_other p) = told_other (record { yet = p.yet; closed = p.closed; before = p.before; telling = p.telling; after = p.after; only = p.only; says = p.says })
   rest_elsewhere ref made (hosted_there p) = hosted_there (record { yet = p.yet; hosted = p.hosted; untold = p.untold })
 
   pub rest_kept : (ref : Reference) (made : List ℕ) (delivered : List Delivery) → LaneHolds here (record { vat = s; inbox = inbox }) ref made delivered
@@ -195,7 +195,7 @@ leave_by {s = s} {all = all} here final inbox local_ unfinished h known ends_ (l
         (← same_mail here first rest all is)
         (deeper (turn_known here s final inbox h.within h.unfinished left_ known (fresh_there h local_) call cap next (first, mid) goes later) ends ref made delivered
         (turn_kept here s final inbox h.within h.unfinished left_ known (fresh_there h local_) call cap next (first, mid) goes later ref made delivered lane))
-leave_by here final inbox local_ unfinished h known ends_ (finds_no_room call cap next goes) = tt
+leave_by here final inbox local_ unfinished h known ends_ (finds_table_full call cap next goes) = tt
 
 pub leave_kept : {s last : State} {all : List Effect} (here : End) (inbox : List Message) → Local here.vat → NoneFinished here.vat → Midway s inbox here
     → IsThere here s last inbox → Leave s all (Ok last) → (ref : Reference) (made : List ℕ) (delivered : List Delivery)

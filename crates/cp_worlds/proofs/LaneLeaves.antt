@@ -7,7 +7,7 @@ use Rattle.cp_refs.specs.declared.call.Held.{Held}
 use Rattle.cp_refs.specs.declared.route.Gate.{Gate}
 use Rattle.cp_machine.specs.State.{State, gave, none_over, with_over}
 use Rattle.cp_machine.specs.Calling.{mark_of}
-use Rattle.cp_machine.specs.Go.{NoneOver, Leave, stays, leaves, finds_no_room}
+use Rattle.cp_machine.specs.Go.{NoneOver, Leave, stays, leaves, finds_table_full}
 use Rattle.cp_machine.specs.declared.effect.Effect.{Effect}
 use Rattle.cp_machine.specs.declared.fault.PeerFault.{PeerFault}
 use Rattle.cp_machine.proofs.Basics.{none_out}
@@ -129,7 +129,7 @@ leave_by {s = s} old inbox there ref made delivered h tickets holds (leaves {mid
         )
         two
     both (Err fault) two = tt
-leave_by old inbox there ref made delivered h tickets holds (finds_no_room call cap next goes) = tt
+leave_by old inbox there ref made delivered h tickets holds (finds_table_full call cap next goes) = tt
 
 pub leave_lane : (old s last : State) (all : List Effect) (inbox : List Message) (there : End) (ref : Reference) (made : List ℕ) (delivered : List Delivery)
     → Midway s inbox there → ((q : ℕ) → of_lane made (own_ticket (get s.entries.questions q)) ≡ of_lane made (own_ticket (get old.entries.questions q)))

@@ -258,8 +258,8 @@ module _ (s : State) (inbox : List Message) (there : End) (local_ : Local s) (th
       unheld : get s.waiting.calls t ≡ None
       unheld = none_waits_next s local_
 
-      none_behind : AllByRecursion (λ e. of_lane more (waits_as e.1 e.1.origin) ≡ []) (put_placed s.waiting.calls t held unheld).back
-      none_behind = by (put_placed s.waiting.calls t held unheld).back (put_placed s.waiting.calls t held unheld).higher back_all
+      none_after : AllByRecursion (λ e. of_lane more (waits_as e.1 e.1.origin) ≡ []) (put_placed s.waiting.calls t held unheld).back
+      none_after = by (put_placed s.waiting.calls t held unheld).back (put_placed s.waiting.calls t held unheld).higher back_all
         where
           back_all : AllByRecursion (λ e. get s.waiting.calls e.0 ≡ Some e.1) (put_placed s.waiting.calls t held unheld).back
           back_all =
@@ -279,7 +279,7 @@ module _ (s : State) (inbox : List Message) (there : End) (local_ : Local s) (th
       held_here : waits_here here_then more ≡ waits_here here made ++ t ∷ []
       held_here =
           ap (λ cs. of_lane more (flat_map (λ (x : Held). waits_as x x.origin) (values cs))) put
-          ∙ lane_last more (λ (x : Held). waits_as x x.origin) (put_placed s.waiting.calls t held unheld) none_behind
+          ∙ lane_last more (λ (x : Held). waits_as x x.origin) (put_placed s.waiting.calls t held unheld) none_after
           ∙ ap (λ xs. xs ++ of_lane more (t ∷ [])) all_here ∙ ap (λ xs. waits_here here made ++ xs) (lane_of_last made t)
 
       pub waiting_more : (At : Gate → Type 0) → At gate → AllWaitHere here made At → AllWaitHere here_then more At

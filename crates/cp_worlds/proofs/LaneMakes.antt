@@ -19,11 +19,11 @@ use Rattle.cp_refs.specs.declared.values.QuestionKind.{QuestionKind}
 use Rattle.cp_refs.specs.declared.values.QuestionKind.TheVariants as kinds
 use Rattle.cp_machine.specs.State.{State}
 use Rattle.cp_machine.specs.Then.{Done, fault_if}
-use Rattle.cp_machine.specs.Room.{has_room, has_ticket, Fresh, cap_fits, request_fits}
+use Rattle.cp_machine.specs.Capacity.{has_capacity, has_ticket, Fresh, cap_fits, request_fits}
 use Rattle.cp_machine.specs.Say.{IsExport}
 use Rattle.cp_machine.specs.InUse.{is_own, has_question, has_promise, has_import, is_local_path}
 use Rattle.cp_machine.specs.Go.{held_at, delivered, Go, GoTo, Leave}
-use Rattle.cp_machine.specs.Calling.{plain, on_wire, came_to, import_reference, question_reference, reference_of, called, own_call, mark_of, with_mark, has_mark_room, marked, old_target, FirstEmbargoed, GoBack, GoByValue, GoFrom, OwnDone, not_all, call_refusals, DoCall}
+use Rattle.cp_machine.specs.Calling.{plain, on_wire, came_to, import_reference, question_reference, reference_of, called, own_call, mark_of, with_mark, has_mark_capacity, marked, old_target, FirstEmbargoed, GoBack, GoByValue, GoFrom, OwnDone, not_all, call_refusals, DoCall}
 use Rattle.cp_machine.specs.Calling as calling
 use Rattle.cp_machine.specs.Local.{Local}
 use Rattle.cp_machine.specs.declared.effect.Effect.{Effect}
@@ -145,7 +145,7 @@ module _ (s : State) (inbox : List Message) (there : End) (local_ : Local s) (th
       put false e = ok_out e
 
       by : (o : Option (Option ℕ)) → mark_of s cap ≡ o → Ok mid ≡ marked (called s q kinds.Wire) cap o → mark_of mid cap ≡ Some None
-      by None at e = put (has_mark_room (called s q kinds.Wire) cap) e
+      by None at e = put (has_mark_capacity (called s q kinds.Wire) cap) e
       by (Some None) at e = ap (λ x. mark_of x cap) (ok_in _ _ e) ∙ before ∙ at
       by (Some (Some n)) at e = never_embargoed made n (rw at at marked_if)
 
@@ -242,9 +242,9 @@ module _ (s : State) (inbox : List Message) (there : End) (local_ : Local s) (th
       p n (ap (λ (d : Done). d.0) is) refl (free_out s.marks.embargoes n parts.1)
       (ap (λ (d : Done). mark_of d.1 cap) is ∙ mark_same (held_at mid (own_call s q request) (gates.Embargo n)) mid ref refl ∙ mark_got from cap (Some n) came) lane
 
-  waits_behind : (n : ℕ) (object : ℕ) → mark_of s cap ≡ Some (Some n) → GoBack (called s q kinds.Local) (own_call s q request) cap (caps.Object object) (mark_of s cap) (Ok done)
+  waits_after : (n : ℕ) (object : ℕ) → mark_of s cap ≡ Some (Some n) → GoBack (called s q kinds.Local) (own_call s q request) cap (caps.Object object) (mark_of s cap) (Ok done)
       → done ≡ ([], held_at (called s q kinds.Local) (own_call s q request) (gates.Embargo n))
-  waits_behind n object mark goes =
+  waits_after n object mark goes =
       let go : Go (called s q kinds.Local) (own_call s q request) (routes.Wait (gates.Embargo n)) (Ok done) = rw mark at goes in ok_in _ _ go
 
   held_mark : (n : ℕ) → done ≡ ([], held_at (called s q kinds.Local) (own_call s q request) (gates.Embargo n)) → mark_of done.1 cap ≡ mark_of s cap
@@ -265,11 +265,11 @@ module _ (s : State) (inbox : List Message) (there : End) (local_ : Local s) (th
   came_phase value is goes c lane (phases.free p) = back_free p (value_at value p.object is p.came goes) c lane
   came_phase value is goes c lane (phases.marked p) = back_marked p (value_at value p.comes.object is p.comes.came goes) c lane
   came_phase value is goes c lane (phases.embargoed p) =
-      let waits = waits_behind p.embargo p.comes.object p.mark (value_at value p.comes.object is p.comes.came goes) in
+      let waits = waits_after p.embargo p.comes.object p.mark (value_at value p.comes.object is p.comes.came goes) in
       embargoed_lane s inbox there local_ there_local midway loops made tickets q fresh request ref delivered_ done.0 done.1 c exports not_path (gates.Embargo p.embargo)
       (ap (λ (d : Done). d.1.waiting.calls) waits) (ap (λ (d : Done). d.0) waits) (held_mark p.embargo waits) p refl lane
   came_phase value is goes c lane (phases.echoed p) =
-      let waits = waits_behind p.embargo p.comes.object p.mark (value_at value p.comes.object is p.comes.came goes) in
+      let waits = waits_after p.embargo p.comes.object p.mark (value_at value p.comes.object is p.comes.came goes) in
       echoed_lane s inbox there local_ there_local midway loops made tickets q fresh request ref delivered_ done.0 done.1 c exports not_path (gates.Embargo p.embargo)
       (ap (λ (d : Done). d.1.waiting.calls) waits) (ap (λ (d : Done). d.0) waits) (held_mark p.embargo waits) p refl lane
   came_phase value is goes c lane (phases.local_open p) = plain_came value (sym (local_plain s ref p.gate p.open_) ∙ is)
@@ -291,7 +291,7 @@ allowed s cap request none =
     let import_fault = fault_if (not_all (has_import s) (cap ∷ request.caps)) refusals.UnknownImport in
     let imports = not_met _ refusals.UnknownImport (back_empty _ import_fault none) in
     let five = front_empty _ import_fault none in
-    let four = front_empty _ (fault_if (not (has_room s.entries.questions && has_ticket s)) refusals.Full) five in
+    let four = front_empty _ (fault_if (not (has_capacity s.entries.questions && has_ticket s)) refusals.Full) five in
     let three = front_empty _ (fault_if (not (cap_fits cap && request_fits request)) refusals.TooLarge) four in
     let two = front_empty _ (fault_if (list_any (is_local_path s) request.caps) refusals.Unsettled) three in
     let one = front_empty (fault_if (not_all (has_question s) (cap ∷ request.caps)) refusals.UnknownQuestion) (fault_if (not_all (has_promise s) (cap ∷ request.caps)) refusals.UnknownPromise) two in

@@ -23,7 +23,7 @@ use Rattle.cp_refs.specs.declared.route.Route.{Route}
 use Rattle.cp_refs.specs.declared.route.Route.TheVariants as routes
 use Rattle.cp_machine.specs.State.{State, none_over}
 use Rattle.cp_machine.specs.Then.{Done, fault_if}
-use Rattle.cp_machine.specs.Room.{Fresh, has_room}
+use Rattle.cp_machine.specs.Capacity.{Fresh, has_capacity}
 use Rattle.cp_machine.specs.Take.{held_once_more, held_import, answer_of, path_of, tie, tied, TakeAnswer, taken_export, Take, TakeAll}
 use Rattle.cp_machine.specs.Answering.{with_answer, bootstrap_outcome, is_answering, OnBootstrap, GoToTarget, peer_call, entered, call_faults, target_faults, OnCall}
 use Rattle.cp_machine.specs.Go.{Underway, Go}
@@ -93,7 +93,7 @@ left_held s i kind (Some entry) new left is = by (ltb entry.count 4294967295) is
         → NoneLeft new
     by true e = rw (ok_in _ _ e) left
     by false e = ok_out e
-left_held s i kind None new left is = by (has_room s.counts.imports) is
+left_held s i kind None new left is = by (has_capacity s.counts.imports) is
   where
     by : (b : Bool) → Ok new
         ≡ (if b then Ok (
@@ -153,8 +153,8 @@ module _ (here : End) (s final : State) (b : Bootstrap) (rest : List Message) (k
   abbrev mid : State
   mid = with_answer s a None
 
-  fine : fault_if (is_answering s a) faults.QuestionInUse ++ fault_if (not (has_room s.entries.answers)) faults.TableFull ≡ []
-  fine = no_faults (fault_if (is_answering s a) faults.QuestionInUse ++ fault_if (not (has_room s.entries.answers)) faults.TableFull) _ done does
+  fine : fault_if (is_answering s a) faults.QuestionInUse ++ fault_if (not (has_capacity s.entries.answers)) faults.TableFull ≡ []
+  fine = no_faults (fault_if (is_answering s a) faults.QuestionInUse ++ fault_if (not (has_capacity s.entries.answers)) faults.TableFull) _ done does
 
   unanswered : get s.values.answers a ≡ None
   unanswered = unanswered_of s w a (none_of (get s.entries.answers a) (not_met _ _ (front_empty _ _ fine)))
@@ -169,7 +169,7 @@ module _ (here : End) (s final : State) (b : Bootstrap) (rest : List Message) (k
   chain : Chain mid done.0 done.1
   chain =
       give_chain mid (origins.Answer a) (bootstrap_outcome s.bootstrap) done w.one_export none (left_put s a _ refl left) may
-      (unless_out (fault_if (is_answering s a) faults.QuestionInUse ++ fault_if (not (has_room s.entries.answers)) faults.TableFull) _ done does)
+      (unless_out (fault_if (is_answering s a) faults.QuestionInUse ++ fault_if (not (has_capacity s.entries.answers)) faults.TableFull) _ done does)
 
   stay : PlacesStay mid final
   stay = places_both (chain_places chain) later
@@ -311,17 +311,17 @@ module _ (here : End) (s final : State) (c : Call) (rest : List Message) (known 
   abbrev Before : Reference → List ℕ → List Delivery → Type 0
   Before ref made delivered = LaneHolds here (record { vat = t; inbox = it ∷ rest }) ref made delivered
 
-  abbrev Behind : Reference → List ℕ → List Delivery → Type 0
-  Behind ref made delivered = LaneHolds (with_mail here (messages_sent done.0)) (record { vat = done.1; inbox = rest }) ref made delivered
+  abbrev After : Reference → List ℕ → List Delivery → Type 0
+  After ref made delivered = LaneHolds (with_mail here (messages_sent done.0)) (record { vat = done.1; inbox = rest }) ref made delivered
 
-  kept_by : (ref : Reference) (made : List ℕ) (delivered : List Delivery) → Before ref made delivered → Behind ref made delivered
+  kept_by : (ref : Reference) (made : List ℕ) (delivered : List Delivery) → Before ref made delivered → After ref made delivered
   kept_by ref made delivered (inl elsewhere) =
       inl
       (hand_elsewhere here new rest call qa refl both.0.one_export none_t left_new may_give route.0 done route.1 gone_places ref made
       (open_elsewhere here t final it rest known_t qa new refl refl refl refl unanswered_t once new_final (is_itself qa) other_calls (λ n. refl) ref made elsewhere))
   kept_by ref made delivered (inr lane) = by (of_lane made (sent_for here.vat it)) refl
     where
-      by : (xs : List ℕ) → of_lane made (sent_for here.vat it) ≡ xs → Behind ref made delivered
+      by : (xs : List ℕ) → of_lane made (sent_for here.vat it) ≡ xs → After ref made delivered
       by [] is =
           (hand_kept here new final rest known_new call qa refl unheld fresh_new both.0.one_export none_t left_new may_give route.0 done route.1 gone_places later).0 ref made delivered is
           (open_there here t final it rest known_t qa new refl refl refl refl unanswered_t once new_final (is_itself qa) other_calls (λ n. refl) ref made delivered is (inr lane))

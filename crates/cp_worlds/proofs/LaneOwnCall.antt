@@ -28,11 +28,11 @@ use Rattle.cp_refs.specs.declared.values.QuestionKind.{QuestionKind}
 use Rattle.cp_refs.specs.declared.values.QuestionKind.TheVariants as kinds
 use Rattle.cp_machine.specs.State.{State}
 use Rattle.cp_machine.specs.Then.{Done}
-use Rattle.cp_machine.specs.Room.{Fresh}
+use Rattle.cp_machine.specs.Capacity.{Fresh}
 use Rattle.cp_machine.specs.Say.{SayAll, promised, mentions_of}
 use Rattle.cp_machine.specs.Give.{GiveOwnBy}
 use Rattle.cp_machine.specs.Go.{Underway, held_at, delivered, call_of, sent, GoOut, Go, GoTo}
-use Rattle.cp_machine.specs.Calling.{plain, on_wire, came_to, reference_of, question_reference, called, own_call, mark_of, with_mark, has_mark_room, marked, old_target, disembargo_of, FirstEmbargoed, GoBack, GoByValue, GoFrom}
+use Rattle.cp_machine.specs.Calling.{plain, on_wire, came_to, reference_of, question_reference, called, own_call, mark_of, with_mark, has_mark_capacity, marked, old_target, disembargo_of, FirstEmbargoed, GoBack, GoByValue, GoFrom}
 use Rattle.cp_machine.specs.Calling as calling
 use Rattle.cp_machine.specs.declared.effect.Effect.{Effect}
 use Rattle.cp_machine.specs.declared.effect.Effect.TheVariants as effects
@@ -145,7 +145,7 @@ module _ (s : State) (q : ℕ) (request : Request) (none : NoneFinished s) (fres
 
   pub starts_marked : (kind : QuestionKind) (cap : Cap) (mark : Option (Option ℕ)) (mid : State) → Ok mid ≡ marked (called s q kind) cap mark → Starts s q kind cap mid
   starts_marked kind cap (Some embargo) mid is = rw (ok_in _ _ is) (starts_called kind cap)
-  starts_marked kind cap None mid is = by (has_mark_room (called s q kind) cap) is
+  starts_marked kind cap None mid is = by (has_mark_capacity (called s q kind) cap) is
     where
       by : (b : Bool) → Ok mid ≡ cond b (Ok (with_mark (called s q kind) cap None)) (Err faults.TableFull) → Starts s q kind cap mid
       by true e = rw (ok_in _ _ e) (starts_with kind cap (called s q kind) None (starts_called kind cap))

@@ -184,7 +184,7 @@ module _ (old : State) (a : ℕ) (kept : AnswerEntry) (outcome : Outcome) (said 
           rw
           (← is_equal a q t)
           (settles (gates.Answer a path) [] (messages.Return (record { answer_id = a; release_param_caps = false; returned = said.0 })) [] (open_, refl)
-          (record { all = refl; it = is_itself a; none_before = refl; none_behind = refl }) (outcome, given_answer)
+          (record { all = refl; it = is_itself a; none_before = refl; none_after = refl }) (outcome, given_answer)
           (right_by given_then (path_to a path) (gates.Answer a path) (messages.Return (record { answer_id = a; release_param_caps = false; returned = said.0 })) (given_path path)))
       by false t = stays (λ gate o. (given_open q false t refl o.0, o.1)) (rw (t) refl)
 
@@ -315,7 +315,7 @@ module _ (old : State) (p : ℕ) (value : Cap) (done : Done) (one : AreOne old) 
           rw
           (← is_equal e i t, sent)
           (settles (gates.Promise p) [] (messages.Resolve (record { promise_id = e; resolution = parts.0.0 })) [] (p, export_, open_, refl)
-          (record { all = refl; it = is_itself e; none_before = refl; none_behind = refl })
+          (record { all = refl; it = is_itself e; none_before = refl; none_after = refl })
           (p, to, grows.grown.places.exports e (caps.Promise p) export_, settled_promise)
           (right_by done.1 (import_ e) (gates.Promise p) (messages.Resolve (record { promise_id = e; resolution = parts.0.0 }))
           (λ number at. settled_ends e number export_ (resolved_end (settled old p to) (last_for p last) parts.0 number parts.1 at))))

@@ -156,7 +156,7 @@ module _ (s : State) (r : Resolve) (rest : List Message) (there : End) (made : L
 
   told_then : InLane here there ref made delivered → Told here there ref made → LaneHolds here_then (with_mail there []) ref made delivered
   told_then lane p =
-      let front = only_front message rest (tells ref) p.before p.telling p.behind p.only tells_it in
+      let front = only_front message rest (tells ref) p.before p.telling p.after p.only tells_it in
       let says : resolved_as r.resolution ≡ Some (descriptors.ReceiverHosted p.number) = ap (told_by ref) (sym front.1) ∙ p.says in
       let mine : IsExport s p.number value = rw says at taken in
       let object : value ≡ caps.Object p.object = same_export s p.number value (caps.Object p.object) mine p.is_export in
@@ -167,7 +167,7 @@ module _ (s : State) (r : Resolve) (rest : List Message) (there : End) (made : L
   own_lane : LaneHolds here there ref made delivered → LaneHolds here_then (with_mail there []) ref made delivered
   own_lane (inl (came_to_other p)) = never_came p.0 p.1
   own_lane (inl (told_other p)) =
-      let front = only_front message rest (tells ref) p.before p.telling p.behind p.only tells_it in
+      let front = only_front message rest (tells ref) p.before p.telling p.after p.only tells_it in
       let says : IsOther s (resolved_as r.resolution) = rw front.1 at p.says in
       inl (came_to_other (value, came, other_taken s (resolved_as r.resolution) value taken says))
   own_lane (inl (hosted_there p)) = never_untold p.untold

@@ -19,7 +19,7 @@ use Rattle.cp_refs.specs.declared.call.Origin.TheVariants as origins
 use Rattle.cp_refs.specs.declared.outcome.Outcome.{Outcome}
 use Rattle.cp_refs.specs.declared.values.Question.{Question}
 use Rattle.cp_machine.specs.State.{State, none_over, with_exports}
-use Rattle.cp_machine.specs.Then.{Done, Then, fault_if, behind}
+use Rattle.cp_machine.specs.Then.{Done, Then, fault_if, after}
 use Rattle.cp_machine.specs.Take.{TakeAll, lower}
 use Rattle.cp_machine.specs.Asking.{TakeReturned, Settles, ReturnBy, is_asked, ReturnOf, OnReturn}
 use Rattle.cp_machine.specs.Give.{without_question, GiveAnswer, Give}
@@ -200,7 +200,7 @@ module _ (here : End) (s final : State) (r : Return) (rest : List Message) (know
       plain_kept here s final (messages.Return r) rest done known tt (chain_both take (give_chain t (origins.Own q) taken.0 done inn.within.one_export none_t left_t may gives)) later
 
   -- one that forwards
-  module _ (a : ℕ) (forwards : entry.kept.forwards ≡ Some a) (x : Done) (gives : GiveAnswer (without_question t q) a taken.0 (Ok x)) (same : done ≡ behind (finish_of q false ∷ []) x) where
+  module _ (a : ℕ) (forwards : entry.kept.forwards ≡ Some a) (x : Done) (gives : GiveAnswer (without_question t q) a taken.0 (Ok x)) (same : done ≡ after (finish_of q false ∷ []) x) where
     unvalued : get t.values.questions q ≡ None
     unvalued = by (get t.values.questions q) (rw entry_t at (inn.within.questions_valued q))
       where
@@ -252,7 +252,7 @@ module _ (here : End) (s final : State) (r : Return) (rest : List Message) (know
         (chain_kept here final rest take t_final known_s ref made delivered
         (take_there here s final (messages.Return r) rest known ref made delivered (plain_apart here ref made (messages.Return r) tt) lane))
 
-    forwarded_kept : HeardKept here s (messages.Return r ∷ rest) (behind (finish_of q false ∷ []) x) rest final
+    forwarded_kept : HeardKept here s (messages.Return r ∷ rest) (after (finish_of q false ∷ []) x) rest final
     forwarded_kept =
         let later_x : PlacesStay x.1 final = subst (λ d. PlacesStay d.1 final) same later in
         let known_gone = gone_known here t final rest known_t q unvalued fresh gone_final in

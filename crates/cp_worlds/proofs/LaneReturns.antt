@@ -25,7 +25,7 @@ use Rattle.cp_refs.specs.declared.values.Question.{Question}
 use Rattle.cp_refs.specs.declared.values.QuestionKind.{QuestionKind}
 use Rattle.cp_refs.specs.declared.values.QuestionKind.TheVariants as kinds
 use Rattle.cp_machine.specs.State.{State, gave, none_over, with_exports}
-use Rattle.cp_machine.specs.Then.{Done, Then, fault_if, behind}
+use Rattle.cp_machine.specs.Then.{Done, Then, fault_if, after}
 use Rattle.cp_machine.specs.Say.{IsExport, mentions_of}
 use Rattle.cp_machine.specs.Take.{times, lower}
 use Rattle.cp_machine.specs.Give.{GiveAnswer, GiveOwnBy, question_settled, is_path_of, without_question}
@@ -73,11 +73,11 @@ use Rattle.cp_worlds.proofs.LaneResolves.{IsTakenAs, same_export, other_taken, n
 use Rattle.cp_worlds.proofs.LaneTaken.{path_taken, table_taken}
 
 -- one of a kind isn't on the way where none is
-not_only : {A : Type 0} (inbox : List Message) (is : Message → Bool) (before : List Message) (m : Message) (behind : List Message) → list_any is inbox ≡ false
-    → IsOnly inbox is before m behind → A
-not_only inbox is before m behind none only =
-    let all : (list_any is before || list_any is (m ∷ behind)) ≡ false = sym (ap (list_any is) only.all ∙ list_any-append is before (m ∷ behind)) ∙ none in
-    absurd (true≢false (sym only.it ∙ none_of_front is m behind (or_second (list_any is before) (list_any is (m ∷ behind)) all)))
+not_only : {A : Type 0} (inbox : List Message) (is : Message → Bool) (before : List Message) (m : Message) (after : List Message) → list_any is inbox ≡ false
+    → IsOnly inbox is before m after → A
+not_only inbox is before m after none only =
+    let all : (list_any is before || list_any is (m ∷ after)) ≡ false = sym (ap (list_any is) only.all ∙ list_any-append is before (m ∷ after)) ∙ none in
+    absurd (true≢false (sym only.it ∙ none_of_front is m after (or_second (list_any is before) (list_any is (m ∷ after)) all)))
 
 same_question : (question : Question) (kind : QuestionKind) → question.kind ≡ kind → question.outcome ≡ None → question ≡ record { kind = kind; outcome = None }
 same_question question kind is unset = rw (is, unset) refl
@@ -147,7 +147,7 @@ module _ (s : State) (r : Return) (rest : List Message) (there : End) (made : Li
 
       told_then : InLane here there ref made delivered → Told here there ref made → LaneHolds here_then (with_mail there []) ref made delivered
       told_then lane p =
-          let front = only_front message rest (tells ref) p.before p.telling p.behind p.only tells_it in
+          let front = only_front message rest (tells ref) p.before p.telling p.after p.only tells_it in
           let says : path_returned path r.returned ≡ Some (descriptors.ReceiverHosted p.number) = ap (told_by ref) (sym front.1) ∙ p.says in
           let mine : IsExport s p.number (cap_at outcome path) = rw says at (taken path) in
           let object : cap_at outcome path ≡ caps.Object p.object = same_export s p.number (cap_at outcome path) (caps.Object p.object) mine p.is_export in
@@ -158,7 +158,7 @@ module _ (s : State) (r : Return) (rest : List Message) (there : End) (made : Li
       wire_given : LaneHolds here there ref made delivered → LaneHolds here_then (with_mail there []) ref made delivered
       wire_given (inl (came_to_other p)) = never_came p.0 p.1
       wire_given (inl (told_other p)) =
-          let front = only_front message rest (tells ref) p.before p.telling p.behind p.only tells_it in
+          let front = only_front message rest (tells ref) p.before p.telling p.after p.only tells_it in
           let says : IsOther s (path_returned path r.returned) = rw front.1 at p.says in
           inl (came_to_other (cap_at outcome path, came, other_taken s (path_returned path r.returned) (cap_at outcome path) (taken path) says))
       wire_given (inl (hosted_there p)) = never_untold p.untold
@@ -166,7 +166,7 @@ module _ (s : State) (r : Return) (rest : List Message) (there : End) (made : Li
         where
           by : Phase here there ref made → LaneHolds here_then (with_mail there []) ref made delivered
           by (absent p) = none_out (sym p.none ∙ at)
-          by (unopened p) = not_only there.inbox (opens_place ref) p.before p.opening p.behind unopened_ p.only
+          by (unopened p) = not_only there.inbox (opens_place ref) p.before p.opening p.after unopened_ p.only
           by (unsettled p) = never_untold p.untold
           by (told p) = told_then lane p
           by (free p) = never_came (caps.Object p.object) p.came
@@ -355,14 +355,14 @@ module _ (s : State) (r : Return) (rest : List Message) (there : End) (made : Li
 
   abbrev GivenThen : Reference → Type 0
   GivenThen ref =
-      LaneHolds (record { vat = x.1; inbox = rest }) (with_mail there (messages_sent (behind finish x).0)) ref made
-      (delivered ++ lane_delivered s there.vat made (behind finish x).0)
+      LaneHolds (record { vat = x.1; inbox = rest }) (with_mail there (messages_sent (after finish x).0)) ref made
+      (delivered ++ lane_delivered s there.vat made (after finish x).0)
 
   none_here : (old : State) → lane_delivered old there.vat made x.0 ≡ []
   none_here old = none_delivered old there.vat made x.0 given_silent.no_delivery
 
-  none_all : lane_delivered s there.vat made (behind finish x).0 ≡ []
-  none_all = none_delivered s there.vat made (behind finish x).0 given_silent.no_delivery
+  none_all : lane_delivered s there.vat made (after finish x).0 ≡ []
+  none_all = none_delivered s there.vat made (after finish x).0 given_silent.no_delivery
 
   other_forwarded : (ref : Reference) → (IsPathOf q_ ref → ⊥) → tells ref (messages.Return r) ≡ false → LaneHolds before_it there ref made delivered → GivenThen ref
   other_forwarded ref not_ untold holds =
@@ -371,7 +371,7 @@ module _ (s : State) (r : Return) (rest : List Message) (there : End) (made : Li
       let taken : LaneHolds left there ref made delivered = rw (append-nil delivered, nothing_sent there) at first in
       let told_ = lane_stays left there ref made gone finish (gone_calm ref not_) (λ e cap at. at) gone_level delivered taken in
       let last = silent_lane (record { vat = gone; inbox = rest }) there_told ref made x.1 rest x.0 given_silent (ref_calm ref given_calm) exports (inl refl) delivered told_ in
-      rw (none_all, ← same_mail there finish x.0 (behind finish x).0 refl) (rw (none_here gone) at last)
+      rw (none_all, ← same_mail there finish x.0 (after finish x).0 refl) (rw (none_here gone) at last)
 
   path_forwarded : (path : List ℕ) → LaneHolds before_it there (path_to q_ path) made delivered → GivenThen (path_to q_ path)
   path_forwarded path holds =
@@ -380,7 +380,7 @@ module _ (s : State) (r : Return) (rest : List Message) (there : End) (made : Li
       rw
       (none_all, nothing.0, nothing.1)
       (inr
-      (unmade_lane (record { vat = x.1; inbox = rest }) (with_mail there (messages_sent (behind finish x).0)) (path_to q_ path)
+      (unmade_lane (record { vat = x.1; inbox = rest }) (with_mail there (messages_sent (after finish x).0)) (path_to q_ path)
       (absent (record { none = none; unmade = refl }))))
 
   forwarded_lane : (ref : Reference) → LaneHolds before_it there ref made delivered → GivenThen ref
@@ -490,14 +490,14 @@ module _ (s : State) (r : Return) (rest : List Message) (there : End) (ref : Ref
           rw (← there_none) (subst (λ (d : Done). LaneHolds (record { vat = d.1; inbox = rest }) (with_mail there (messages_sent d.0)) ref made (delivered ++ lane_delivered t there.vat made d.0))
           (sym (ok_in _ _ parts.2)) last)
         where
-          delivered_same : (x : Done) → GiveAnswer (without_question t r.answer_id) a taken.0 (Ok x) → (done : Done) → done ≡ behind (finish_of r.answer_id false ∷ []) x
+          delivered_same : (x : Done) → GiveAnswer (without_question t r.answer_id) a taken.0 (Ok x) → (done : Done) → done ≡ after (finish_of r.answer_id false ∷ []) x
               → lane_delivered t there.vat made done.0 ≡ lane_delivered s there.vat made done.0
           delivered_same x gives_ done same =
               let silent = answer_silent (without_question t r.answer_id) a taken.0 x gives_ in
               rw
               (same)
-              (none_delivered t there.vat made (behind (finish_of r.answer_id false ∷ []) x).0 silent.no_delivery
-              ∙ sym (none_delivered s there.vat made (behind (finish_of r.answer_id false ∷ []) x).0 silent.no_delivery))
+              (none_delivered t there.vat made (after (finish_of r.answer_id false ∷ []) x).0 silent.no_delivery
+              ∙ sym (none_delivered s there.vat made (after (finish_of r.answer_id false ∷ []) x).0 silent.no_delivery))
 
     return_by : (stage : Stage) → entry.stage ≡ stage → (done : Done) → ReturnBy s r entry.kept stage (Ok done) → LaneHolds returned_here there ref made delivered
         → ReturnedThen done.0 done.1

@@ -34,7 +34,7 @@ use Rattle.cp_worlds.specs.Accounts.{accounts_of, kept_account, lowerable}
 use Rattle.cp_worlds.specs.Ledger.{opens}
 use Rattle.cp_worlds.specs.Owed.{named_on_way, lowered_on_way}
 use Rattle.cp_worlds.specs.World.{End}
-use Rattle.cp_worlds.specs.Lives.{Standing, absent, ungiven, left_ungiven, given, mistaken, opened, standing_at, standing_of, stands_behind, will_stand, returns_of, Agree}
+use Rattle.cp_worlds.specs.Lives.{Standing, absent, ungiven, left_ungiven, given, mistaken, opened, standing_at, standing_of, stands_after, will_stand, returns_of, Agree}
 use Rattle.cp_worlds.specs.Places.{IsLastOf, AreLast}
 use Rattle.cp_worlds.specs.Lane.{Reference, import_, path_to}
 use Rattle.cp_worlds.specs.Naming.{place_of, exported_cap, answered_cap}
@@ -46,13 +46,13 @@ use Rattle.cp_worlds.proofs.PartsLives.{IsOpened, will_stay}
 use Rattle.cp_worlds.proofs.LaneChain.{IsThere}
 
 -- What isn't exported isn't told of: a Resolve on the way is of a promise's export.
-untold_of : (s : State) (i : ℕ) → get s.counts.exports i ≡ None → (m : Message) (behind : List Message) → IsLastOf s m behind → tells (import_ i) m ≡ false
-untold_of s i none (messages.Resolve r) behind last = by (r.promise_id == i) refl
+untold_of : (s : State) (i : ℕ) → get s.counts.exports i ≡ None → (m : Message) (after : List Message) → IsLastOf s m after → tells (import_ i) m ≡ false
+untold_of s i none (messages.Resolve r) after last = by (r.promise_id == i) refl
   where
     by : (b : Bool) → (r.promise_id == i) ≡ b → (r.promise_id == i) ≡ false
     by true t = none_out (sym none ∙ ap (λ n. get s.counts.exports n) (sym (is_equal r.promise_id i t)) ∙ last.2.1)
     by false t = t
-untold_of s i none m behind last = refl
+untold_of s i none m after last = refl
 
 untold_all : (s : State) (i : ℕ) → get s.counts.exports i ≡ None → (ms : List Message) → AreLast s ms → list_any (tells (import_ i)) ms ≡ false
 untold_all s i none [] last = refl
@@ -78,10 +78,10 @@ wrong_by mistaken is = refl
 
 pub opened_again : (q : ℕ) (ms : List Message) (st : Standing) → IsOpened st → list_any (opens q) ms ≡ true → will_stand q ms st ≡ mistaken
 opened_again q [] st is any = absurd (true≢false (sym any))
-opened_again q (m ∷ ms) st is any = by (opens q m) refl any (opened_again q ms (stands_behind q m st) (will_stay q (m ∷ []) st is))
+opened_again q (m ∷ ms) st is any = by (opens q m) refl any (opened_again q ms (stands_after q m st) (will_stay q (m ∷ []) st is))
   where
     by : (b : Bool) → opens q m ≡ b → (opens q m || list_any (opens q) ms) ≡ true
-        → (list_any (opens q) ms ≡ true → will_stand q ms (stands_behind q m st) ≡ mistaken) → will_stand q ms (stands_behind q m st) ≡ mistaken
+        → (list_any (opens q) ms ≡ true → will_stand q ms (stands_after q m st) ≡ mistaken) → will_stand q ms (stands_after q m st) ≡ mistaken
     by true t any more = rw (t, wrong_by st is) (stays_mistaken q ms)
     by false t any more = more (rw t at any)
 

@@ -21,7 +21,7 @@ use Rattle.cp_refs.specs.declared.route.Route.{Route}
 use Rattle.cp_refs.specs.declared.route.Route.TheVariants as routes
 use Rattle.cp_machine.specs.State.{State, none_over}
 use Rattle.cp_machine.specs.Then.{Done, fault_if}
-use Rattle.cp_machine.specs.Room.{has_room, message_fits}
+use Rattle.cp_machine.specs.Capacity.{has_capacity, message_fits}
 use Rattle.cp_machine.specs.Supported.{is_supported}
 use Rattle.cp_machine.specs.Take.{TakeAll, lower}
 use Rattle.cp_machine.specs.Give.{GiveAnswer, GiveOwn, GiveOwnBy, without_question}
@@ -82,7 +82,7 @@ not_some (Some x) is = absurd (true≢false is)
 module _ (s : State) (w : Within s None []) (still : s.waiting.over ≡ none_over) where
   bootstrap_stay : (a : ℕ) (done : Done) → OnBootstrap s a (Ok done) → PlacesStay s done.1
   bootstrap_stay a done does =
-      let checks = fault_if (is_answering s a) faults.QuestionInUse ++ fault_if (not (has_room s.entries.answers)) faults.TableFull in
+      let checks = fault_if (is_answering s a) faults.QuestionInUse ++ fault_if (not (has_capacity s.entries.answers)) faults.TableFull in
       let free = not_some (get s.entries.answers a) (not_met _ _ (front_empty _ _ (no_faults checks _ done does))) in
       places_both (opened_stay s a None (unanswered_of s w a free))
       (answer_grows (with_answer s a None) a (bootstrap_outcome s.bootstrap) done w.one_export (opened_may s a None) (unless_out checks _ done does)).places

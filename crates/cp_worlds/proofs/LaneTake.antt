@@ -84,7 +84,7 @@ module _ (here : End) (s final : State) (m : Message) (rest : List Message) (kno
   pub take_elsewhere : (ref : Reference) (made : List ℕ) → IsElsewhere here with_it ref made → IsElsewhere here without_it ref made
   take_elsewhere ref made (came_to_other p) = came_to_other p
   take_elsewhere ref made (told_other p) =
-      told_other (record { yet = p.yet; closed = p.closed; before = p.before; telling = p.telling; behind = p.behind; only = p.only; says = p.says })
+      told_other (record { yet = p.yet; closed = p.closed; before = p.before; telling = p.telling; after = p.after; only = p.only; says = p.says })
   take_elsewhere ref made (hosted_there p) = hosted_there (record { yet = p.yet; hosted = p.hosted; untold = p.untold })
 
 -- What descriptors name is taken in.
@@ -110,8 +110,8 @@ module _ (here : End) (s final : State) (m : Message) (rest : List Message) (kno
   abbrev before_it : End
   before_it = record { vat = s; inbox = m ∷ rest }
 
-  abbrev behind_it : End
-  behind_it = record { vat = new; inbox = rest }
+  abbrev after_it : End
+  after_it = record { vat = new; inbox = rest }
 
   answer_on : (q : ℕ) (x : Option Outcome) → get s.values.answers q ≡ Some x → get new.values.answers q ≡ Some x
   answer_on q x is = ap (λ v. get v.answers q) changed ∙ by (a == q) refl
@@ -194,7 +194,7 @@ module _ (here : End) (s final : State) (m : Message) (rest : List Message) (kno
       level : LevelThere here before_it made new rest []
       level = opened_level made none
 
-      open_phase : Phase here before_it its made → Phase (with_mail here []) behind_it its made
+      open_phase : Phase here before_it its made → Phase (with_mail here []) after_it its made
       open_phase (absent p) = absent (record { none = p.none; unmade = p.unmade })
       open_phase (unopened p) =
           unsettled
@@ -227,42 +227,42 @@ module _ (here : End) (s final : State) (m : Message) (rest : List Message) (kno
             no_way = level_way here before_it made new rest [] level ∙ p.no_way;
           })
 
-    its_elsewhere : IsElsewhere here before_it its made → IsElsewhere here behind_it its made
+    its_elsewhere : IsElsewhere here before_it its made → IsElsewhere here after_it its made
     its_elsewhere (came_to_other p) = came_to_other p
     its_elsewhere (told_other p) = none_out (sym unanswered ∙ p.closed.1)
     its_elsewhere (hosted_there p) = absurd p.hosted
 
-    its_lane : (delivered : List Delivery) → of_lane made (sent_for here.vat m) ≡ [] → LaneHolds here before_it its made delivered → LaneHolds here behind_it its made delivered
+    its_lane : (delivered : List Delivery) → of_lane made (sent_for here.vat m) ≡ [] → LaneHolds here before_it its made delivered → LaneHolds here after_it its made delivered
     its_lane delivered none (inl elsewhere) = inl (its_elsewhere elsewhere)
     its_lane delivered none (inr lane) =
         inr
-        (subst (λ h. InLane h behind_it its made delivered) (nothing_sent here)
+        (subst (λ h. InLane h after_it its made delivered) (nothing_sent here)
         (another_phase here before_it its made new rest [] (opened_level made none) delivered lane (open_phase none delivered lane.phase)))
 
   -- of any reference
   module _ (it : opens a m ≡ true) (others : (q : ℕ) → (a == q) ≡ false → opens q m ≡ false) (no_loop : (n : ℕ) → is_loop n m ≡ false) where
     pub open_there : (ref : Reference) (made : List ℕ) (delivered : List Delivery) → of_lane made (sent_for here.vat m) ≡ [] → LaneHolds here before_it ref made delivered
-        → LaneHolds here behind_it ref made delivered
+        → LaneHolds here after_it ref made delivered
     open_there (import_ i) made delivered none lane =
-        subst (λ h. LaneHolds h behind_it (import_ i) made delivered) (nothing_sent here)
+        subst (λ h. LaneHolds h after_it (import_ i) made delivered) (nothing_sent here)
         (part_there here before_it (import_ i) made new rest [] (open_part (import_ i) made (record { sent = none; opens_ = refl; loop = λ n marked_. no_loop n })) delivered lane)
     open_there (path_to q path) made delivered none lane = by (a == q) refl
       where
-        by : (b : Bool) → (a == q) ≡ b → LaneHolds here behind_it (path_to q path) made delivered
+        by : (b : Bool) → (a == q) ≡ b → LaneHolds here after_it (path_to q path) made delivered
         by true t =
-            subst (λ n. LaneHolds here behind_it (path_to n path) made delivered) (is_equal a q t)
+            subst (λ n. LaneHolds here after_it (path_to n path) made delivered) (is_equal a q t)
             (its_lane path made it delivered none (subst (λ n. LaneHolds here before_it (path_to n path) made delivered) (sym (is_equal a q t)) lane))
         by false t =
-            subst (λ h. LaneHolds h behind_it (path_to q path) made delivered) (nothing_sent here)
+            subst (λ h. LaneHolds h after_it (path_to q path) made delivered) (nothing_sent here)
             (part_there here before_it (path_to q path) made new rest []
             (open_part (path_to q path) made (record { sent = none; opens_ = others q t; loop = λ n marked_. no_loop n })) delivered lane)
 
-    pub open_elsewhere : (ref : Reference) (made : List ℕ) → IsElsewhere here before_it ref made → IsElsewhere here behind_it ref made
+    pub open_elsewhere : (ref : Reference) (made : List ℕ) → IsElsewhere here before_it ref made → IsElsewhere here after_it ref made
     open_elsewhere ref made (came_to_other p) = came_to_other p
     open_elsewhere (import_ i) made (told_other p) =
-        told_other (record { yet = p.yet; closed = closed_on s new opened_places (import_ i) p.closed; before = p.before; telling = p.telling; behind = p.behind; only = p.only; says = p.says })
+        told_other (record { yet = p.yet; closed = closed_on s new opened_places (import_ i) p.closed; before = p.before; telling = p.telling; after = p.after; only = p.only; says = p.says })
     open_elsewhere (path_to q path) made (told_other p) =
-        told_other (record { yet = p.yet; closed = closed_on s new opened_places (path_to q path) p.closed; before = p.before; telling = p.telling; behind = p.behind; only = p.only; says = p.says })
+        told_other (record { yet = p.yet; closed = closed_on s new opened_places (path_to q path) p.closed; before = p.before; telling = p.telling; after = p.after; only = p.only; says = p.says })
     open_elsewhere (import_ i) made (hosted_there p) =
         hosted_there (record { yet = p.yet; hosted = hosted_on s new opened_places (import_ i) p.hosted; untold = p.untold })
     open_elsewhere (path_to q path) made (hosted_there p) = absurd p.hosted

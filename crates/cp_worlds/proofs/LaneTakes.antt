@@ -13,7 +13,7 @@ use Rattle.cp_refs.specs.declared.outcome.Outcome.{Outcome}
 use Rattle.cp_refs.specs.declared.route.Gate.{Gate}
 use Rattle.cp_machine.specs.State.{State, gave}
 use Rattle.cp_machine.specs.Then.{Then}
-use Rattle.cp_machine.specs.Room.{has_room, Fresh}
+use Rattle.cp_machine.specs.Capacity.{has_capacity, Fresh}
 use Rattle.cp_machine.specs.Say.{IsExport, mentions_of}
 use Rattle.cp_machine.specs.Take.{times, answer_of, path_of, held_once_more, held_import, TakeAnswer, taken_export, Take, TakeAll}
 use Rattle.cp_machine.specs.Calling.{plain, on_wire, came_to, import_reference, question_reference, reference_of, mark_of}
@@ -50,7 +50,7 @@ held_back old i kind (Some entry) new is = by (ltb entry.count 4294967295) is
         → ResolvesNone old new
     by true is = λ j value at. sym (ap (λ (s : State). get s.values.imports j) (ok_in _ _ is)) ∙ at
     by false is = ok_out is
-held_back old i kind None new is = by (has_room old.counts.imports) is
+held_back old i kind None new is = by (has_capacity old.counts.imports) is
   where
     opened : State
     opened = record old {

@@ -38,7 +38,7 @@ IsToldRightly mid ref gate telling =
 -- What a part of an event does to the place for a reference: it stays open if it was, and nothing is told; or it is settled, and that is told.
 pub data PlaceStep (old mid : State) (ref : Reference) (ms : List Message) : Type 0 where
   stays : ((gate : Gate) → IsOpenPlace old ref gate → IsOpenPlace mid ref gate) → list_any (tells ref) ms ≡ false → PlaceStep old mid ref ms
-  settles : (gate : Gate) (before : List Message) (telling : Message) (behind : List Message) → IsOpenPlace old ref gate → IsOnly ms (tells ref) before telling behind
+  settles : (gate : Gate) (before : List Message) (telling : Message) (after : List Message) → IsOpenPlace old ref gate → IsOnly ms (tells ref) before telling after
       → IsClosedPlace mid ref → IsToldRightly mid ref gate telling → PlaceStep old mid ref ms
 
 -- a place that is there from now on: an open promise, or an object
@@ -168,36 +168,36 @@ module _ (here there : End) (ref : Reference) (made : List ℕ) (mid : State) (i
     absent_by p lane (inr new) = new_place ref refl new.0 new.1 new.2 p.none p.unmade lane
 
     -- its open place is settled
-    module _ (gate : Gate) (before : List Message) (telling : Message) (behind : List Message) (open_ : IsOpenPlace there.vat ref gate)
-        (only : IsOnly ms (tells ref) before telling behind) (closed : IsClosedPlace mid ref) where
+    module _ (gate : Gate) (before : List Message) (telling : Message) (after : List Message) (open_ : IsOpenPlace there.vat ref gate)
+        (only : IsOnly ms (tells ref) before telling after) (closed : IsClosedPlace mid ref) where
       settled_at : (e : ℕ) (cap : Cap) → IsExport here.vat e cap → told_by ref telling ≡ Some (descriptors.ReceiverHosted e) → EndsAt mid (place_of mid ref) e → LeadsBack mid e gate
           → (p : Unsettled here there ref made) → InLane here there ref made delivered → LaneHolds here_then there_then ref made delivered
       settled_at e (caps.Object k) export_ says ends_ leads_ p lane =
           inr
           (another_phase here there ref made mid inbox ms part.level delivered lane
-          (told (is_told here there ref made mid inbox ms part.level before behind telling only k e export_ says ends_ p (subst (LeadsBack mid e) (sym (open_gate there.vat ref gate p.gate open_ p.open_)) leads_))))
+          (told (is_told here there ref made mid inbox ms part.level before after telling only k e export_ says ends_ p (subst (LeadsBack mid e) (sym (open_gate there.vat ref gate p.gate open_ p.open_)) leads_))))
       settled_at e caps.None export_ says ends_ leads_ p lane =
-          inl (told_other (is_other here there ref made mid inbox ms part.level before behind telling only closed (other_cap here.vat e caps.None export_ (λ is. is) (told_by ref telling) says) p))
+          inl (told_other (is_other here there ref made mid inbox ms part.level before after telling only closed (other_cap here.vat e caps.None export_ (λ is. is) (told_by ref telling) says) p))
       settled_at e (caps.Promise r) export_ says ends_ leads_ p lane =
-          inl (told_other (is_other here there ref made mid inbox ms part.level before behind telling only closed (other_cap here.vat e (caps.Promise r) export_ (λ is. is) (told_by ref telling) says) p))
+          inl (told_other (is_other here there ref made mid inbox ms part.level before after telling only closed (other_cap here.vat e (caps.Promise r) export_ (λ is. is) (told_by ref telling) says) p))
       settled_at e (caps.Import i) export_ says ends_ leads_ p lane =
-          inl (told_other (is_other here there ref made mid inbox ms part.level before behind telling only closed (other_cap here.vat e (caps.Import i) export_ (λ is. is) (told_by ref telling) says) p))
+          inl (told_other (is_other here there ref made mid inbox ms part.level before after telling only closed (other_cap here.vat e (caps.Import i) export_ (λ is. is) (told_by ref telling) says) p))
       settled_at e (caps.Pipelined q path) export_ says ends_ leads_ p lane =
-          inl (told_other (is_other here there ref made mid inbox ms part.level before behind telling only closed (other_cap here.vat e (caps.Pipelined q path) export_ (λ is. is) (told_by ref telling) says) p))
+          inl (told_other (is_other here there ref made mid inbox ms part.level before after telling only closed (other_cap here.vat e (caps.Pipelined q path) export_ (λ is. is) (told_by ref telling) says) p))
       settled_at e (caps.Broken x) export_ says ends_ leads_ p lane =
-          inl (told_other (is_other here there ref made mid inbox ms part.level before behind telling only closed (other_cap here.vat e (caps.Broken x) export_ (λ is. is) (told_by ref telling) says) p))
+          inl (told_other (is_other here there ref made mid inbox ms part.level before after telling only closed (other_cap here.vat e (caps.Broken x) export_ (λ is. is) (told_by ref telling) says) p))
 
       settled_by : IsToldRightly mid ref gate telling → (p : Unsettled here there ref made) → InLane here there ref made delivered
           → LaneHolds here_then there_then ref made delivered
       settled_by (inl other) p lane =
-          inl (told_other (is_other here there ref made mid inbox ms part.level before behind telling only closed (not_back here.vat (told_by ref telling) other) p))
+          inl (told_other (is_other here there ref made mid inbox ms part.level before after telling only closed (not_back here.vat (told_by ref telling) other) p))
       settled_by (inr (e, says, ends_, leads_)) p lane =
           let found = part.held_there e ends_ in settled_at e found.0 found.1 says ends_ leads_ p lane
 
       -- No other phase has an open place, but for that of a local question's path, or of one that isn't an own one.
-      opens_not : (before : List Message) (m : Message) (behind : List Message) → IsOnly there.inbox (opens_place ref) before m behind
+      opens_not : (before : List Message) (m : Message) (after : List Message) → IsOnly there.inbox (opens_place ref) before m after
           → list_any (opens_place ref) there.inbox ≡ false → ⊥
-      opens_not before m behind only none = has_not (opens_place ref) before m behind only.it (rw (only.all) at none)
+      opens_not before m after only none = has_not (opens_place ref) before m after only.it (rw (only.all) at none)
         where
           has_not : (is : Message → Bool) (xs : List Message) (m : Message) (ys : List Message) → is m ≡ true → list_any is (xs ++ m ∷ ys) ≡ false → ⊥
           has_not is [] m ys it none = true≢false (rw it at none)
@@ -210,7 +210,7 @@ module _ (here there : End) (ref : Reference) (made : List ℕ) (mid : State) (i
           → LaneHolds here_then there_then ref made delivered
       settled_phase right (unsettled p) lane = settled_by right p lane
       settled_phase right (absent p) lane = absent_by p lane (part.absent_ p.none)
-      settled_phase right (unopened p) lane = absurd (opens_not p.before p.opening p.behind p.only (part.not_opened gate open_))
+      settled_phase right (unopened p) lane = absurd (opens_not p.before p.opening p.after p.only (part.not_opened gate open_))
       settled_phase right (told p) lane = open_ends there.vat ref gate p.number open_ p.ends
       settled_phase right (free p) lane = on_calm (calm_not (λ yet. not_yet here there ref p.object p.came made yet)) (inr lane)
       settled_phase right (marked p) lane = open_ends there.vat ref gate p.comes.number open_ p.comes.ends
@@ -231,7 +231,7 @@ module _ (here there : End) (ref : Reference) (made : List ℕ) (mid : State) (i
     part_by : PlaceStep there.vat mid ref ms → LaneHolds here there ref made delivered → LaneHolds here_then there_then ref made delivered
     part_by (stays open_ untold) lane =
         calm_there here there ref made mid inbox ms (calm_by (λ yet. open_) (λ yet. untold)) delivered (λ p l. absent_by p l (part.absent_ p.none)) lane
-    part_by (settles gate before telling behind open_ only closed right) lane = settled_lane gate before telling behind open_ only closed right lane
+    part_by (settles gate before telling after open_ only closed right) lane = settled_lane gate before telling after open_ only closed right lane
 
     pub part_there : LaneHolds here there ref made delivered → LaneHolds here_then there_then ref made delivered
     part_there lane = part_by part.place lane

@@ -31,10 +31,10 @@ use Rattle.cp_refs.specs.declared.route.Route.{Route}
 use Rattle.cp_refs.specs.declared.route.Route.TheVariants as routes
 use Rattle.cp_machine.specs.State.{State, gave, with_questions}
 use Rattle.cp_machine.specs.Then.{Done}
-use Rattle.cp_machine.specs.Room.{Fresh}
+use Rattle.cp_machine.specs.Capacity.{Fresh}
 use Rattle.cp_machine.specs.Say.{IsExport, SayAll, promised}
 use Rattle.cp_machine.specs.Give.{Give}
-use Rattle.cp_machine.specs.Go.{Underway, IsNext, delivered, call_of, finish_behind, forwarding, sent, GoOut, Go, GoTo, without_call, underway}
+use Rattle.cp_machine.specs.Go.{Underway, IsNext, delivered, call_of, finish_after, forwarding, sent, GoOut, Go, GoTo, without_call, underway}
 use Rattle.cp_machine.specs.Local.{AreOne, IsTicketOf}
 use Rattle.cp_machine.specs.Calling.{mark_of}
 use Rattle.cp_machine.specs.declared.effect.Effect.{Effect}
@@ -83,15 +83,15 @@ elsewhere_part here there ref made mid inbox ms (stays open_ untold) closed host
       closed = closed p.closed;
       before = p.before;
       telling = p.telling;
-      behind = p.behind ++ ms;
+      after = p.after ++ ms;
       only = only_mail ms p.only untold;
       says = p.says;
     })
 elsewhere_part here there ref made mid inbox ms (stays open_ untold) closed hosted (hosted_there p) =
     hosted_there (record { yet = p.yet; hosted = hosted p.hosted; untold = any_mail (tells ref) here.inbox ms p.untold untold })
-elsewhere_part here there ref made mid inbox ms (settles gate before telling behind open_ only closed_ right) closed hosted (told_other p) =
+elsewhere_part here there ref made mid inbox ms (settles gate before telling after open_ only closed_ right) closed hosted (told_other p) =
     open_closed there.vat ref gate open_ p.closed
-elsewhere_part here there ref made mid inbox ms (settles gate before telling behind open_ only closed_ right) closed hosted (hosted_there p) =
+elsewhere_part here there ref made mid inbox ms (settles gate before telling after open_ only closed_ right) closed hosted (hosted_there p) =
     open_hosted there.vat ref gate open_ p.hosted
 
 pub same_mail : (here : End) (first rest all : List Effect) → all ≡ first ++ rest → with_mail (with_mail here (messages_sent first)) (messages_sent rest) ≡ with_mail here (messages_sent all)
@@ -120,7 +120,7 @@ pub record Steady (old : State) (done : Done) : Type 0 where
   pub no_echo : (n : ℕ) → list_any (is_echo n) (messages_sent done.0) ≡ false
 
 call_untold : (q : ℕ) (target : Target) (request : Request) (table : List Descriptor) (stage : Stage) (ref : Reference)
-    → list_any (tells ref) (messages_sent (call_of q target request table ∷ finish_behind q stage)) ≡ false
+    → list_any (tells ref) (messages_sent (call_of q target request table ∷ finish_after q stage)) ≡ false
 call_untold q target request table stages.Open (import_ i) = refl
 call_untold q target request table stages.Open (path_to p path) = refl
 call_untold q target request table stages.Finished (import_ i) = refl
@@ -129,7 +129,7 @@ call_untold q target request table stages.Returned (import_ i) = refl
 call_untold q target request table stages.Returned (path_to p path) = refl
 
 call_echoes : (q : ℕ) (target : Target) (request : Request) (table : List Descriptor) (stage : Stage) (n : ℕ)
-    → list_any (is_echo n) (messages_sent (call_of q target request table ∷ finish_behind q stage)) ≡ false
+    → list_any (is_echo n) (messages_sent (call_of q target request table ∷ finish_after q stage)) ≡ false
 call_echoes q target request table stages.Open n = refl
 call_echoes q target request table stages.Finished n = refl
 call_echoes q target request table stages.Returned n = refl

@@ -33,11 +33,11 @@ use Rattle.cp_refs.specs.declared.values.QuestionKind.{QuestionKind}
 use Rattle.cp_refs.specs.declared.values.QuestionKind.TheVariants as kinds
 use Rattle.cp_machine.specs.State.{State, gave, with_exports}
 use Rattle.cp_machine.specs.Then.{Done}
-use Rattle.cp_machine.specs.Room.{Fresh}
+use Rattle.cp_machine.specs.Capacity.{Fresh}
 use Rattle.cp_machine.specs.Say.{IsExport, SayAll, promised}
 use Rattle.cp_machine.specs.Give.{question_settled, GiveOwnBy, Give}
 use Rattle.cp_machine.specs.Go as going
-use Rattle.cp_machine.specs.Go.{Underway, held_at, delivered, sent, finish_behind, call_of, GoOut, Go, GoTo, IsNext, without_call, underway}
+use Rattle.cp_machine.specs.Go.{Underway, held_at, delivered, sent, finish_after, call_of, GoOut, Go, GoTo, IsNext, without_call, underway}
 use Rattle.cp_machine.specs.InUse.{is_question_here, is_open_here}
 use Rattle.cp_machine.specs.Calling.{mark_of}
 use Rattle.cp_machine.specs.Local.{IsTicketOf, AnswerIs, is_wire, IsImportMark, IsPathMark}
@@ -158,8 +158,8 @@ module _ {s : State} {inbox : List Message} {other : End} (h : Midway s inbox ot
       let parts = then_out {A = List Descriptor × State} {B = Done} (SayAll left call.request.caps) _ done goes.2 in
       let only = (said_all call.request.caps left parts.0 parts.1).only in
       let off = wire_off q (get s.values.questions q) refl from in
-      let none_behind = no_finish s q goes.0 goes.0.stage h.unfinished goes.1 refl in
-      rw (ok_in _ _ parts.2) (own_out q target parts.0.0 parts.0.1 (finish_behind q goes.0.stage) only off none_behind)
+      let none_after = no_finish s q goes.0 goes.0.stage h.unfinished goes.1 refl in
+      rw (ok_in _ _ parts.2) (own_out q target parts.0.0 parts.0.1 (finish_after q goes.0.stage) only off none_after)
 
   from_left : (first : List Effect) (new : State) → Calm left first new → Calm s first new
   from_left first new calm = calm_both s left new [] first (left_calm s call) calm

@@ -12,7 +12,7 @@ use Rattle.cp_refs.specs.declared.route.Gate.{Gate}
 use Rattle.cp_refs.specs.declared.route.Gate.TheVariants as gates
 use Rattle.cp_refs.specs.declared.route.Route.{Route}
 use Rattle.cp_machine.specs.State.{State, gave, none_over, with_over}
-use Rattle.cp_machine.specs.Go.{NoneOver, Leave, stays, leaves, finds_no_room}
+use Rattle.cp_machine.specs.Go.{NoneOver, Leave, stays, leaves, finds_table_full}
 use Rattle.cp_machine.specs.Waits.{Port, on, on_answer, LeadsBy, PortRoutes, WaitsBy, WaitsAt, WaitRightly}
 use Rattle.cp_machine.specs.declared.effect.Effect.{Effect}
 use Rattle.cp_machine.specs.declared.fault.PeerFault.{PeerFault}
@@ -78,7 +78,7 @@ rests_by {old = old} ports h over may (leaves {mid = mid} {first = first} {last 
     further : (out : Result State PeerFault) → RestsAs mid ports out → RestsAs old ports out
     further (Err fault) there = tt
     further (Ok state) there = (there.0, turns call given next goes there.1, there.2, there.3, there.4)
-rests_by ports h over may (finds_no_room call cap next goes) = tt
+rests_by ports h over may (finds_table_full call cap next goes) = tt
 
 -- where they rest no gate is over
 abbrev IsOver : Result State PeerFault → Type 0
@@ -88,7 +88,7 @@ IsOver (Ok last) = last.waiting.over ≡ none_over
 over_by : {old : State} {all : List Effect} {out : Result State PeerFault} → Leave old all out → IsOver out
 over_by (stays none) = refl
 over_by (leaves call given next goes more same) = over_by more
-over_by (finds_no_room call cap next goes) = tt
+over_by (finds_table_full call cap next goes) = tt
 
 pub leave_keeps : LeaveKeeps
 leave_keeps =

@@ -7,9 +7,9 @@ use Rattle.cp_tables.specs.declared.exchange.Stage.TheVariants as stages
 use Rattle.cp_rpc.specs.declared.message.Message.{Message}
 use Rattle.cp_machine.proofs.Basics.{some_out, none_out}
 use Rattle.cp_worlds.specs.Ledger.{named_by, opens, returns_to, finishes}
-use Rattle.cp_worlds.specs.Accounts.{Account, new_account, is_releasing, asked, given_up_at, question_finished, question_behind, gone_by, given_at, answer_given, answer_behind, question_returned, question_heard, return_noted, answer_finished, finish_noted, answer_heard}
-use Rattle.cp_worlds.specs.Lives.{Standing, absent, ungiven, left_ungiven, given, mistaken, standing_at, standing_of, opened, finished, stands_behind, will_stand, return_of, FitsOpen, FitsFinished, FitsReturned, FitsNone, FitsAt, Fits}
-use Rattle.cp_worlds.proofs.Standings.{behind_by, stays_mistaken, never_fits, none_stays, finishing_leaves, finishing_ends, Ways, ways, WaysLeft, ways_left}
+use Rattle.cp_worlds.specs.Accounts.{Account, new_account, is_releasing, asked, given_up_at, question_finished, question_after, gone_by, given_at, answer_given, answer_after, question_returned, question_heard, return_noted, answer_finished, finish_noted, answer_heard}
+use Rattle.cp_worlds.specs.Lives.{Standing, absent, ungiven, left_ungiven, given, mistaken, standing_at, standing_of, opened, finished, stands_after, will_stand, return_of, FitsOpen, FitsFinished, FitsReturned, FitsNone, FitsAt, Fits}
+use Rattle.cp_worlds.proofs.Standings.{after_by, stays_mistaken, never_fits, none_stays, finishing_leaves, finishing_ends, Ways, ways, WaysLeft, ways_left}
 
 -- a question is asked, and given up
 none_opens : (rs : List (List ℕ)) (W : Standing) → FitsNone rs W → FitsOpen rs (opened W)
@@ -60,13 +60,13 @@ finish_fits release None new rs W e h = none_out e
 finish_fits release (Some account) new rs W e h = finish_at release account.stage account.kept new rs W e h
 
 asking_by : (o f release : Bool) (named : List ℕ) (Q new : Option Account) (rs : List (List ℕ)) (W : Standing)
-    → (if o then asked named Q else (if f then question_finished release Q else Some Q)) ≡ Some new → Fits Q rs W → Fits new rs (behind_by o f release W)
+    → (if o then asked named Q else (if f then question_finished release Q else Some Q)) ≡ Some new → Fits Q rs W → Fits new rs (after_by o f release W)
 asking_by true f release named Q new rs W e h = asked_fits named Q new rs W e h
 asking_by false true release named Q new rs W e h = finish_fits release Q new rs W e h
 asking_by false false release named Q new rs W e h = rw (← some_out e) h
 
-pub asking_fits : (q : ℕ) (m : Message) (Q new : Option Account) (rs : List (List ℕ)) (W : Standing) → question_behind q m Q ≡ Some new → Fits Q rs W
-    → Fits new rs (stands_behind q m W)
+pub asking_fits : (q : ℕ) (m : Message) (Q new : Option Account) (rs : List (List ℕ)) (W : Standing) → question_after q m Q ≡ Some new → Fits Q rs W
+    → Fits new rs (stands_after q m W)
 asking_fits q m Q new rs W e h = asking_by (opens q m) (finishes q m) (is_releasing m) (named_by m) Q new rs W e h
 
 -- an answer is given
@@ -134,7 +134,7 @@ answering_by : (b : Bool) (q : ℕ) (ms : List Message) (named : List ℕ) (A ne
 answering_by true q ms named A new Q rs e h = given_fits q ms named A new Q rs e h
 answering_by false q ms named A new Q rs e h = rw (append-nil rs, ← some_out e) h
 
-pub answering_fits : (q : ℕ) (m : Message) (ms : List Message) (A new Q : Option Account) (rs : List (List ℕ)) → answer_behind q m A ≡ Some new
+pub answering_fits : (q : ℕ) (m : Message) (ms : List Message) (A new Q : Option Account) (rs : List (List ℕ)) → answer_after q m A ≡ Some new
     → Fits Q rs (will_stand q ms (standing_of A)) → Fits Q (rs ++ return_of q m) (will_stand q ms (standing_of new))
 answering_fits q m ms A new Q rs e h = answering_by (returns_to q m) q ms (named_by m) A new Q rs e h
 
@@ -186,7 +186,7 @@ finish_heard true stages.Returned kept = inl refl
 finish_heard false stages.Returned kept = inl refl
 
 abbrev Heard : Bool → Bool → Bool → Option Account → Type 0
-Heard o f release A = (behind_by o f release (standing_of A) ≡ standing_of (heard_by o f A)) ⊎ (behind_by o f release (standing_of A) ≡ mistaken)
+Heard o f release A = (after_by o f release (standing_of A) ≡ standing_of (heard_by o f A)) ⊎ (after_by o f release (standing_of A) ≡ mistaken)
 
 opened_heard : (stage : Stage) (kept : List ℕ) → opened (standing_at stage kept) ≡ mistaken
 opened_heard stages.Open kept = refl
@@ -205,10 +205,10 @@ heard false true release (Some account) = finish_heard release account.stage acc
 heard false false release A = inl refl
 
 hearing_by : (q : ℕ) (o f release : Bool) (ms : List Message) (A Q : Option Account) (rs : List (List ℕ)) → Heard o f release A
-    → Fits Q rs (will_stand q ms (behind_by o f release (standing_of A))) → Fits Q rs (will_stand q ms (standing_of (heard_by o f A)))
+    → Fits Q rs (will_stand q ms (after_by o f release (standing_of A))) → Fits Q rs (will_stand q ms (standing_of (heard_by o f A)))
 hearing_by q o f release ms A Q rs (inl e) h = rw (← e) h
 hearing_by q o f release ms A Q rs (inr e) h = absurd (never_fits Q rs (rw (← stays_mistaken q ms, ← e) h))
 
 pub hearing_fits : (q : ℕ) (m : Message) (ms : List Message) (A Q : Option Account) (rs : List (List ℕ))
-    → Fits Q rs (will_stand q ms (stands_behind q m (standing_of A))) → Fits Q rs (will_stand q ms (standing_of (answer_heard q m A)))
+    → Fits Q rs (will_stand q ms (stands_after q m (standing_of A))) → Fits Q rs (will_stand q ms (standing_of (answer_heard q m A)))
 hearing_fits q m ms A Q rs h = hearing_by q (opens q m) (finishes q m) (is_releasing m) ms A Q rs (heard (opens q m) (finishes q m) (is_releasing m) A) h

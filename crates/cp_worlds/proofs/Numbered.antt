@@ -105,29 +105,29 @@ pub record Counts (w : World) : Type 0 where
   pub first : AreBoth w.first.vat.counts
   pub second : AreBoth w.second.vat.counts
 
-move_counts : (w : World) (move : Move) → Counts w → Makes w move → AreOpen move.behind → Counts move.behind
+move_counts : (w : World) (move : Move) → Counts w → Makes w move → AreOpen move.after → Counts move.after
 move_counts w move counts makes open_ = by move.side makes.steps makes.takes makes.sends
   where
-    by : (side : Side) → Step (end_of w side).vat move.moment.event move.moment.result move.moment.effects (end_of move.behind side).vat
-        → Takes (end_of w side).inbox move.moment.event (end_of move.behind side).inbox
-        → end_of move.behind (across side) ≡ with_mail (end_of w (across side)) (messages_sent move.moment.effects) → Counts move.behind
+    by : (side : Side) → Step (end_of w side).vat move.moment.event move.moment.result move.moment.effects (end_of move.after side).vat
+        → Takes (end_of w side).inbox move.moment.event (end_of move.after side).inbox
+        → end_of move.after (across side) ≡ with_mail (end_of w (across side)) (messages_sent move.moment.effects) → Counts move.after
     by at_first steps takes sends =
         record {
-          holds = move_keeps at_first w move.behind move.moment counts.holds open_ steps takes sends;
-          first = step_counts open_.0 (usual_event move.moment.event w.first.inbox move.behind.first.inbox counts.holds.agreed.usual takes) counts.first steps;
+          holds = move_keeps at_first w move.after move.moment counts.holds open_ steps takes sends;
+          first = step_counts open_.0 (usual_event move.moment.event w.first.inbox move.after.first.inbox counts.holds.agreed.usual takes) counts.first steps;
           second = rw (sends) counts.second;
         }
     by at_second steps takes sends =
         record {
-          holds = move_keeps at_second w move.behind move.moment counts.holds open_ steps takes sends;
+          holds = move_keeps at_second w move.after move.moment counts.holds open_ steps takes sends;
           first = rw (sends) counts.first;
-          second = step_counts open_.1 (usual_event move.moment.event w.second.inbox move.behind.second.inbox counts.holds.agreed.usual_back takes) counts.second steps;
+          second = step_counts open_.1 (usual_event move.moment.event w.second.inbox move.after.second.inbox counts.holds.agreed.usual_back takes) counts.second steps;
         }
 
 all_count : (moves : List Move) (w : World) → Counts w → Moves w moves → AreOpen (last_of w moves) → Counts (last_of w moves)
 all_count [] w counts made open_ = counts
 all_count (move ∷ more) w counts made open_ =
-    all_count more move.behind (move_counts w move counts made.0 (first_open more move.behind made.1 open_)) made.1 open_
+    all_count more move.after (move_counts w move counts made.0 (first_open more move.after made.1 open_)) made.1 open_
 
 none_counts : AreBoth (record { exports = empty; imports = empty })
 none_counts = (AreCounts-empty Cap, AreCounts-empty ImportKind)
@@ -160,24 +160,24 @@ held_count w side e counts (inl there) =
 held_count w side e counts (inr named) = omega (arith, named)
 
 -- a number stays in each move
-move_stays : (w : World) (move : Move) → Counts w → Makes w move → AreOpen move.behind → (side : Side) (e : ℕ) (cap : Cap) → IsNumberOf (end_of w side).vat.counts.exports e cap
-    → IsHeldThere w side e → IsNumberOf (end_of move.behind side).vat.counts.exports e cap
+move_stays : (w : World) (move : Move) → Counts w → Makes w move → AreOpen move.after → (side : Side) (e : ℕ) (cap : Cap) → IsNumberOf (end_of w side).vat.counts.exports e cap
+    → IsHeldThere w side e → IsNumberOf (end_of move.after side).vat.counts.exports e cap
 move_stays w move counts makes open_ side e cap is held = by move.side side makes.steps makes.takes makes.sends is (held_count w side e counts held)
   where
     agreed : AreAgreed w
     agreed = counts.holds.agreed
 
-    by : (mover side : Side) → Step (end_of w mover).vat move.moment.event move.moment.result move.moment.effects (end_of move.behind mover).vat
-        → Takes (end_of w mover).inbox move.moment.event (end_of move.behind mover).inbox
-        → end_of move.behind (across mover) ≡ with_mail (end_of w (across mover)) (messages_sent move.moment.effects) → IsNumberOf (end_of w side).vat.counts.exports e cap
+    by : (mover side : Side) → Step (end_of w mover).vat move.moment.event move.moment.result move.moment.effects (end_of move.after mover).vat
+        → Takes (end_of w mover).inbox move.moment.event (end_of move.after mover).inbox
+        → end_of move.after (across mover) ≡ with_mail (end_of w (across mover)) (messages_sent move.moment.effects) → IsNumberOf (end_of w side).vat.counts.exports e cap
         → 0 < (accounts_of (end_of w (across side)).vat).imports e + named_on_way (accounts_of (end_of w (across side)).vat).questions (end_of w (across side)).inbox e
-        → IsNumberOf (end_of move.behind side).vat.counts.exports e cap
+        → IsNumberOf (end_of move.after side).vat.counts.exports e cap
     by at_first at_first steps takes sends is held =
-        step_stays open_.0 (usual_event move.moment.event w.first.inbox move.behind.first.inbox agreed.usual takes) e cap
-        (left_by move.moment.event w.first.vat (accounts_of w.second.vat) w.first.inbox move.behind.first.inbox w.second.inbox e takes (agreed.counts e) held) is steps
+        step_stays open_.0 (usual_event move.moment.event w.first.inbox move.after.first.inbox agreed.usual takes) e cap
+        (left_by move.moment.event w.first.vat (accounts_of w.second.vat) w.first.inbox move.after.first.inbox w.second.inbox e takes (agreed.counts e) held) is steps
     by at_second at_second steps takes sends is held =
-        step_stays open_.1 (usual_event move.moment.event w.second.inbox move.behind.second.inbox agreed.usual_back takes) e cap
-        (left_by move.moment.event w.second.vat (accounts_of w.first.vat) w.second.inbox move.behind.second.inbox w.first.inbox e takes (agreed.counts_back e) held) is steps
+        step_stays open_.1 (usual_event move.moment.event w.second.inbox move.after.second.inbox agreed.usual_back takes) e cap
+        (left_by move.moment.event w.second.vat (accounts_of w.first.vat) w.second.inbox move.after.second.inbox w.first.inbox e takes (agreed.counts_back e) held) is steps
     by at_first at_second steps takes sends is held = rw (sends) is
     by at_second at_first steps takes sends is held = rw (sends) is
 
@@ -185,9 +185,9 @@ all_stay : (more : List Move) (w : World) → Counts w → Moves w more → AreO
     → IsHeldOver w side e more → IsNumberOf (end_of (last_of w more) side).vat.counts.exports e cap
 all_stay [] w counts made open_ side e cap is held = is
 all_stay (move ∷ more) w counts made open_ side e cap is held =
-    let open_behind = first_open more move.behind made.1 open_ in
-    all_stay more move.behind (move_counts w move counts made.0 open_behind) made.1 open_ side e cap
-    (move_stays w move counts made.0 open_behind side e cap is held.0) held.1
+    let open_after = first_open more move.after made.1 open_ in
+    all_stay more move.after (move_counts w move counts made.0 open_after) made.1 open_ side e cap
+    (move_stays w move counts made.0 open_after side e cap is held.0) held.1
 
 pub numbers_stay : NumbersStay
 numbers_stay one other moves more made goes open_ side e cap is held =

@@ -157,34 +157,34 @@ module _ (here : End) (ref : Reference) (made : List ℕ) (delivered : List Deli
   step_there inbox rest sent one other agree takes still open_ local_new agree_new (faulted m was does closed) holds = closed_open closed open_
 
 -- So a move keeps what holds of the calls made on each reference, from either side.
-module _ (w : World) (move : Move) (holds : StillHolds w) (makes : Makes w move) (open_ : AreOpen move.behind)
+module _ (w : World) (move : Move) (holds : StillHolds w) (makes : Makes w move) (open_ : AreOpen move.after)
     (still : IsStill move.moment.event) (ref : Reference) (made : List ℕ) (all : List Delivery) where
   abbrev LaneThen : Side → Side → Type 0
   LaneThen acting side =
       CallsHold (end_of w side) (end_of w (across side)) ref made all
-      → LaneHolds (end_of move.behind side) (end_of move.behind (across side)) ref (made ++ (if is_side acting side then made_by (end_of w side).vat ref move.moment else []))
+      → LaneHolds (end_of move.after side) (end_of move.after (across side)) ref (made ++ (if is_side acting side then made_by (end_of w side).vat ref move.moment else []))
       (delivered_among (made ++ (if is_side acting side then made_by (end_of w side).vat ref move.moment else []))
       (all ++ (if is_side acting side then flat_map (delivery_of (end_of w side).vat (end_of w (across side)).vat) move.moment.effects else [])))
 
   -- what holds after it
-  behind : StillHolds move.behind
-  behind = still_kept w move holds makes open_ still
+  after : StillHolds move.after
+  after = still_kept w move holds makes open_ still
 
   -- at its own end
   own_lane : (acting : Side) → move.side ≡ acting → EndHolds (end_of w (across acting)) (end_of w acting)
       → CallsHold (end_of w acting) (end_of w (across acting)) ref made all
-      → LaneHolds (end_of move.behind acting) (end_of move.behind (across acting)) ref (made ++ made_by (end_of w acting).vat ref move.moment)
+      → LaneHolds (end_of move.after acting) (end_of move.after (across acting)) ref (made ++ made_by (end_of w acting).vat ref move.moment)
       (delivered_among (made ++ made_by (end_of w acting).vat ref move.moment)
       (all ++ flat_map (delivery_of (end_of w acting).vat (end_of w (across acting)).vat) move.moment.effects))
   own_lane acting is other calls =
-      let steps : Step (end_of w acting).vat move.moment.event move.moment.result move.moment.effects (end_of move.behind acting).vat = rw is at makes.steps in
-      let takes : Takes (end_of w acting).inbox move.moment.event (end_of move.behind acting).inbox = rw is at makes.takes in
-      let sends : end_of move.behind (across acting) ≡ with_mail (end_of w (across acting)) (messages_sent move.moment.effects) = rw is at makes.sends in
+      let steps : Step (end_of w acting).vat move.moment.event move.moment.result move.moment.effects (end_of move.after acting).vat = rw is at makes.steps in
+      let takes : Takes (end_of w acting).inbox move.moment.event (end_of move.after acting).inbox = rw is at makes.takes in
+      let sends : end_of move.after (across acting) ≡ with_mail (end_of w (across acting)) (messages_sent move.moment.effects) = rw is at makes.sends in
       let moment = move.moment in
       rw
       (sends, ← delivered_then (end_of w acting).vat ref made all calls.given (end_of w (across acting)).vat moment.event moment.result moment.effects)
-      (step_here (end_of w acting).inbox (end_of move.behind acting).inbox (end_of w (across acting)) ref made (delivered_among made all)
-      (holds.ends acting) other (agree_at acting w holds.agreed) calls.tickets takes still (end_open acting move.behind open_) steps calls.lane)
+      (step_here (end_of w acting).inbox (end_of move.after acting).inbox (end_of w (across acting)) ref made (delivered_among made all)
+      (holds.ends acting) other (agree_at acting w holds.agreed) calls.tickets takes still (end_open acting move.after open_) steps calls.lane)
 
   -- at the other one
   other_lane : (here there here_then there_then : End) → EndHolds here there → EndHolds there here → Agree (accounts_of there.vat) there.inbox (accounts_of here.vat) here.inbox
@@ -203,12 +203,12 @@ module _ (w : World) (move : Move) (holds : StillHolds w) (makes : Makes w move)
   lane_then at_first at_first is calls = own_lane at_first is (holds.ends at_second) calls
   lane_then at_second at_second is calls = own_lane at_second is (holds.ends at_first) calls
   lane_then at_first at_second is calls =
-      other_lane w.second w.first move.behind.second move.behind.first (holds.ends at_second) (holds.ends at_first) (agree_at at_first w holds.agreed)
-      (behind.ends at_first).local_ (agree_at at_first move.behind behind.agreed) (end_open at_first move.behind open_) (rw is at makes.steps) (rw is at makes.takes)
+      other_lane w.second w.first move.after.second move.after.first (holds.ends at_second) (holds.ends at_first) (agree_at at_first w holds.agreed)
+      (after.ends at_first).local_ (agree_at at_first move.after after.agreed) (end_open at_first move.after open_) (rw is at makes.steps) (rw is at makes.takes)
       (rw is at makes.sends) calls
   lane_then at_second at_first is calls =
-      other_lane w.first w.second move.behind.first move.behind.second (holds.ends at_first) (holds.ends at_second) (agree_at at_second w holds.agreed)
-      (behind.ends at_second).local_ (agree_at at_second move.behind behind.agreed) (end_open at_second move.behind open_) (rw is at makes.steps) (rw is at makes.takes)
+      other_lane w.first w.second move.after.first move.after.second (holds.ends at_first) (holds.ends at_second) (agree_at at_second w holds.agreed)
+      (after.ends at_second).local_ (agree_at at_second move.after after.agreed) (end_open at_second move.after open_) (rw is at makes.steps) (rw is at makes.takes)
       (rw is at makes.sends) calls
 
 moves_keep : MovesKeep

@@ -22,8 +22,8 @@ use Rattle.cp_machine.specs.State.{State, with_exports, with_questions}
 use Rattle.cp_machine.specs.Then.{Done}
 use Rattle.cp_machine.specs.Take.{times}
 use Rattle.cp_machine.specs.Say.{SayAll, mentions_of}
-use Rattle.cp_machine.specs.Go.{Underway, GoOut, call_of, forwarding, sent, finish_behind}
-use Rattle.cp_machine.specs.Room.{Fresh}
+use Rattle.cp_machine.specs.Go.{Underway, GoOut, call_of, forwarding, sent, finish_after}
+use Rattle.cp_machine.specs.Capacity.{Fresh}
 use Rattle.cp_machine.specs.Supported.{is_supported_target, is_supported_descriptor}
 use Rattle.cp_machine.specs.declared.entry.QuestionEntry.{QuestionEntry}
 use Rattle.cp_machine.proofs.Basics.{is_equal, ok_in, then_out, put_at}
@@ -83,7 +83,7 @@ kept_sent kept ds = record kept { is_sent = true; mentions = mentions_of ds }
 own_out : (old : State) (mid : State) (X : Table (Counted Cap)) (q : ℕ) (target : Target) (request : Request) (ds : List Descriptor) (kept : QuestionEntry) (stage : Stage)
     → mid ≡ with_exports old X → ((f : ℕ) → count_of X f ≡ count_of old.counts.exports f + times f (mentions_of ds)) → list_all is_supported_descriptor ds ≡ true
     → get old.entries.questions q ≡ Some (record { stage = stage; kept = kept }) → IsUnsent (record { stage = stage; kept = kept }) → is_supported_target target ≡ true
-    → Sends old (call_of q target request ds ∷ finish_behind q stage) (sent mid q ds)
+    → Sends old (call_of q target request ds ∷ finish_after q stage) (sent mid q ds)
 own_out old mid X q target request ds kept stages.Open only counts all is unsent to =
     rw
     (only, is)

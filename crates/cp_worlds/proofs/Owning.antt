@@ -15,7 +15,7 @@ use Rattle.cp_refs.specs.declared.outcome.Outcome.{Outcome}
 use Rattle.cp_refs.specs.declared.values.QuestionKind.TheVariants as kinds
 use Rattle.cp_machine.specs.State.{State}
 use Rattle.cp_machine.specs.Then.{Done, fault_if, Unless}
-use Rattle.cp_machine.specs.Room.{Fresh, cap_fits, outcome_fits}
+use Rattle.cp_machine.specs.Capacity.{Fresh, cap_fits, outcome_fits}
 use Rattle.cp_machine.specs.Give.{Give, Settle}
 use Rattle.cp_machine.specs.InUse.{is_import_used, is_promise_used, is_question_used, is_own_question, has_question, has_promise, has_import, is_pipelined, is_unsettled, caps_of}
 use Rattle.cp_machine.specs.Resolving.{release_of}

@@ -19,9 +19,9 @@ use Rattle.cp_refs.specs.declared.route.Route.{Route}
 use Rattle.cp_refs.specs.declared.route.Route.TheVariants as routes
 use Rattle.cp_machine.specs.State.{State, with_exports, with_questions}
 use Rattle.cp_machine.specs.Then.{Done}
-use Rattle.cp_machine.specs.Room.{Fresh}
+use Rattle.cp_machine.specs.Capacity.{Fresh}
 use Rattle.cp_machine.specs.Say.{SayAll, promised, mentions_of}
-use Rattle.cp_machine.specs.Go.{Underway, held_at, call_of, forwarding, sent, finish_behind, GoOut, Go, GoTo}
+use Rattle.cp_machine.specs.Go.{Underway, held_at, call_of, forwarding, sent, finish_after, GoOut, Go, GoTo}
 use Rattle.cp_machine.specs.declared.effect.Effect.{Effect}
 use Rattle.cp_machine.specs.declared.effect.Effect.TheVariants as effects
 use Rattle.cp_machine.specs.declared.entry.QuestionEntry.{QuestionEntry}
@@ -50,7 +50,7 @@ pub data Went (call : Underway) (old : State) : List Effect → State → Type 0
       → new.waiting.calls ≡ old.waiting.calls → SentFor call.origin old q new → Went call old done new
 
 pub no_finish : (s : State) (q : ℕ) (entry : Exchange QuestionEntry) (stage : Stage) → NoneFinished s → get s.entries.questions q ≡ Some entry → entry.stage ≡ stage
-    → finish_behind q stage ≡ []
+    → finish_after q stage ≡ []
 no_finish s q entry stages.Open none is at = refl
 no_finish s q entry stages.Returned none is at = refl
 no_finish s q entry stages.Finished none is at =
@@ -84,12 +84,12 @@ out_went old call target (origins.Own q) done none is goes =
     let only = (said_all call.request.caps old parts.0 parts.1).only in
     let same = bearing_both old mid (sent mid q parts.0.0) (bearing_same old mid (ap (λ s. s.entries.questions) only))
     (bearing_changed (λ x. record x { kept = record x.kept { is_sent = true; mentions = mentions_of parts.0.0 } }) (λ x. (refl, refl)) mid (sent mid q parts.0.0) q refl) in
-    let none_behind = no_finish old q goes.0 goes.0.stage none goes.1 refl in
+    let none_after = no_finish old q goes.0 goes.0.stage none goes.1 refl in
     let new : State = sent mid q parts.0.0 in
     let for_ : SentFor call.origin old q new = rw (is) (refl, same) in
     rw
     (ok_in _ _ parts.2)
-    (sent_ {new = new} q target parts.0.0 (ap (λ more. call_of q target call.request parts.0.0 ∷ more) none_behind) (ap (λ s. s.waiting.calls) only) for_)
+    (sent_ {new = new} q target parts.0.0 (ap (λ more. call_of q target call.request parts.0.0 ∷ more) none_after) (ap (λ s. s.waiting.calls) only) for_)
 
 pub go_went : (old : State) (call : Underway) (route : Route) (done : Done) → NoneFinished old → Go old call route (Ok done) → Went call old done.0 done.1
 go_went old call (routes.Deliver k) done none goes = rw (ok_in _ _ goes) (delivered_ k refl (delivered_silent old call.origin))

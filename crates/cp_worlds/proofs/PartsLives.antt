@@ -6,8 +6,8 @@ use Rattle.cp_tables.specs.declared.exchange.Stage.TheVariants as stages
 use Rattle.cp_rpc.specs.declared.message.Message.{Message}
 use Rattle.cp_worlds.specs.Ledger.{opens, finishes}
 use Rattle.cp_worlds.specs.Accounts.{is_releasing}
-use Rattle.cp_worlds.specs.Lives.{Standing, absent, ungiven, left_ungiven, given, mistaken, opened, finished, stands_behind, will_stand, FitsOpen, FitsReturned, FitsNone, Fits}
-use Rattle.cp_worlds.proofs.Standings.{behind_by, stays_mistaken}
+use Rattle.cp_worlds.specs.Lives.{Standing, absent, ungiven, left_ungiven, given, mistaken, opened, finished, stands_after, will_stand, FitsOpen, FitsReturned, FitsNone, Fits}
+use Rattle.cp_worlds.proofs.Standings.{after_by, stays_mistaken}
 
 -- How an answer may stand for good: where it was opened on the way, it won't be absent, nor will it be given.
 abbrev pub IsOpened : Standing → Type 0
@@ -32,23 +32,23 @@ finished_stays release (given mentions) is = absurd is
 finished_stays true mistaken is = tt
 finished_stays false mistaken is = tt
 
-behind_stays : (o f r : Bool) (st : Standing) → IsOpened st → IsOpened (behind_by o f r st)
-behind_stays true f r st is = opened_is st
-behind_stays false true r st is = finished_stays r st is
-behind_stays false false r st is = is
+after_stays : (o f r : Bool) (st : Standing) → IsOpened st → IsOpened (after_by o f r st)
+after_stays true f r st is = opened_is st
+after_stays false true r st is = finished_stays r st is
+after_stays false false r st is = is
 
 pub will_stay : (q : ℕ) (ms : List Message) (st : Standing) → IsOpened st → IsOpened (will_stand q ms st)
 will_stay q [] st is = is
 will_stay q (m ∷ ms) st is =
-    will_stay q ms (stands_behind q m st) (behind_stays (opens q m) (finishes q m) (is_releasing m) st is)
+    will_stay q ms (stands_after q m st) (after_stays (opens q m) (finishes q m) (is_releasing m) st is)
 
 pub will_open : (q : ℕ) (ms : List Message) (st : Standing) → list_any (opens q) ms ≡ true → IsOpened (will_stand q ms st)
 will_open q [] st is = absurd (true≢false (sym is))
-will_open q (m ∷ ms) st is = by (opens q m) refl is (will_open q ms (stands_behind q m st))
+will_open q (m ∷ ms) st is = by (opens q m) refl is (will_open q ms (stands_after q m st))
   where
-    by : (b : Bool) → opens q m ≡ b → (opens q m || list_any (opens q) ms) ≡ true → (list_any (opens q) ms ≡ true → IsOpened (will_stand q ms (stands_behind q m st)))
-        → IsOpened (will_stand q ms (stands_behind q m st))
-    by true t any more = will_stay q ms (stands_behind q m st) (rw (t) (opened_is st))
+    by : (b : Bool) → opens q m ≡ b → (opens q m || list_any (opens q) ms) ≡ true → (list_any (opens q) ms ≡ true → IsOpened (will_stand q ms (stands_after q m st)))
+        → IsOpened (will_stand q ms (stands_after q m st))
+    by true t any more = will_stay q ms (stands_after q m st) (rw (t) (opened_is st))
     by false t any more = more (rw t at any)
 
 -- A question that isn't there, or whose Return came, isn't opened by a message on the way.

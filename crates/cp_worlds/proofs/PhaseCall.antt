@@ -93,18 +93,18 @@ module _ (here there : End) (ref : Reference) (made : List ℕ) (t : ℕ) (mid :
         each (m ∷ xs) same (inl none, all) = (inl (same.0 ∙ none), each xs same.1 all)
         each (m ∷ xs) same (inr to, all) = (inr to, each xs same.1 all)
 
-    back_in_front : (before behind : List Message) (m : Message) → here.inbox ≡ before ++ m ∷ behind → back_in here.vat there.vat made before ≡ []
+    back_in_front : (before after : List Message) (m : Message) → here.inbox ≡ before ++ m ∷ after → back_in here.vat there.vat made before ≡ []
         → back_in mid there.vat more before ≡ []
-    back_in_front before behind m is none =
+    back_in_front before after m is none =
         lane_two made more (forwarded_for here.vat there.vat) (forwarded_for mid there.vat) before
-        (all_front (λ m. of_lane more (forwarded_for mid there.vat m) ≡ of_lane made (forwarded_for here.vat there.vat m)) before (m ∷ behind) (rw is at h.back_))
+        (all_front (λ m. of_lane more (forwarded_for mid there.vat m) ≡ of_lane made (forwarded_for here.vat there.vat m)) before (m ∷ after) (rw is at h.back_))
         ∙ none
 
-    back_in_rest : (before behind : List Message) (m : Message) → here.inbox ≡ before ++ m ∷ behind → back_in here.vat there.vat made behind ≡ []
-        → back_in mid there.vat more behind ≡ []
-    back_in_rest before behind m is none =
-        let all = all_back (λ m. of_lane more (forwarded_for mid there.vat m) ≡ of_lane made (forwarded_for here.vat there.vat m)) before (m ∷ behind) (rw is at h.back_) in
-        lane_two made more (forwarded_for here.vat there.vat) (forwarded_for mid there.vat) behind all.1 ∙ none
+    back_in_rest : (before after : List Message) (m : Message) → here.inbox ≡ before ++ m ∷ after → back_in here.vat there.vat made after ≡ []
+        → back_in mid there.vat more after ≡ []
+    back_in_rest before after m is none =
+        let all = all_back (λ m. of_lane more (forwarded_for mid there.vat m) ≡ of_lane made (forwarded_for here.vat there.vat m)) before (m ∷ after) (rw is at h.back_) in
+        lane_two made more (forwarded_for here.vat there.vat) (forwarded_for mid there.vat) after all.1 ∙ none
 
     comes_on : ComesBack here there ref made → ComesBack here_then there_then ref more
     comes_on c =
@@ -149,9 +149,9 @@ module _ (here there : End) (ref : Reference) (made : List ℕ) (t : ℕ) (mid :
             open_ = h.reference ∙ open_;
             before = p.before;
             opening = p.opening;
-            behind = p.behind ++ ms;
+            after = p.after ++ ms;
             only = only_mail ms p.only no_opening;
-            sent_behind = lane_two made more (sent_for here.vat) (sent_for mid) (p.before ++ p.opening ∷ []) front ∙ p.sent_behind;
+            sent_after = lane_two made more (sent_for here.vat) (sent_for mid) (p.before ++ p.opening ∷ []) front ∙ p.sent_after;
             mark = marked_more made t (mark_of mid (cap_of ref)) mark;
             untold = p.untold;
             no_back = same_back ∙ p.no_back;
@@ -161,8 +161,8 @@ module _ (here there : End) (ref : Reference) (made : List ℕ) (t : ℕ) (mid :
         where
           front : AllByRecursion (λ m. of_lane more (sent_for mid m) ≡ of_lane made (sent_for here.vat m)) (p.before ++ p.opening ∷ [])
           front =
-              all_front (λ m. of_lane more (sent_for mid m) ≡ of_lane made (sent_for here.vat m)) (p.before ++ p.opening ∷ []) p.behind
-              (rw (p.only.all ∙ sym (append_assoc p.before (p.opening ∷ []) p.behind)) at h.way_)
+              all_front (λ m. of_lane more (sent_for mid m) ≡ of_lane made (sent_for here.vat m)) (p.before ++ p.opening ∷ []) p.after
+              (rw (p.only.all ∙ sym (append_assoc p.before (p.opening ∷ []) p.after)) at h.way_)
 
       pub sent_unsettled : (p : Unsettled here there ref made) (delivered : List Delivery) → InLane here there ref made delivered
           → InLane here_then there_then ref more (delivered ++ [])
@@ -192,10 +192,10 @@ module _ (here there : End) (ref : Reference) (made : List ℕ) (t : ℕ) (mid :
             ends = p.ends;
             before = p.before;
             telling = p.telling;
-            behind = p.behind;
+            after = p.after;
             only = p.only;
             says = p.says;
-            back_behind = back_in_front p.before p.behind p.telling p.only.all p.back_behind;
+            back_after = back_in_front p.before p.after p.telling p.only.all p.back_after;
             goes_back = goes_on p.number p.goes_back;
             waiting = waiting_there (LeadsBack there.vat p.number) p.waiting;
             mark = marked_more made t (mark_of mid (cap_of ref)) mark;
@@ -268,7 +268,7 @@ module _ (here there : End) (ref : Reference) (made : List ℕ) (t : ℕ) (mid :
             mark = mark;
             before = there.inbox;
             loop = loop;
-            behind = [];
+            after = [];
             only = rw (sent) (only_last there.inbox (is_loop n) loop none it);
             sent_before = refl;
             no_echo = no_echo;
@@ -288,15 +288,15 @@ module _ (here there : End) (ref : Reference) (made : List ℕ) (t : ℕ) (mid :
               mark = mark ∙ p.mark;
               before = p.before;
               loop = p.loop;
-              behind = p.behind;
+              after = p.after;
               only = rw (silent, append-nil there.inbox) p.only;
-              sent_before = lane_two made more (sent_for here.vat) (sent_for mid) p.behind rest.1 ∙ p.sent_before;
+              sent_before = lane_two made more (sent_for here.vat) (sent_for mid) p.after rest.1 ∙ p.sent_before;
               no_echo = p.no_echo;
               waiting = waiting p.waiting;
             })) lane
           where
-            rest : AllByRecursion (λ m. of_lane more (sent_for mid m) ≡ of_lane made (sent_for here.vat m)) (p.loop ∷ p.behind)
-            rest = all_back (λ m. of_lane more (sent_for mid m) ≡ of_lane made (sent_for here.vat m)) p.before (p.loop ∷ p.behind) (rw (p.only.all) at h.way_)
+            rest : AllByRecursion (λ m. of_lane more (sent_for mid m) ≡ of_lane made (sent_for here.vat m)) (p.loop ∷ p.after)
+            rest = all_back (λ m. of_lane more (sent_for mid m) ≡ of_lane made (sent_for here.vat m)) p.before (p.loop ∷ p.after) (rw (p.only.all) at h.way_)
 
         pub held_echoed : (p : Echoed here there ref made)
             → (AllWaitHere here made (λ g. g ≡ gates.Embargo p.embargo) → AllWaitHere here_then more (λ g. g ≡ gates.Embargo p.embargo)) → (delivered : List Delivery)
@@ -310,9 +310,9 @@ module _ (here there : End) (ref : Reference) (made : List ℕ) (t : ℕ) (mid :
               mark = mark ∙ p.mark;
               before = p.before;
               echo = p.echo;
-              behind = p.behind;
+              after = p.after;
               only = p.only;
-              back_before = back_in_rest p.before p.behind p.echo p.only.all p.back_before;
+              back_before = back_in_rest p.before p.after p.echo p.only.all p.back_before;
               no_loop = rw (silent, append-nil there.inbox) p.no_loop;
               no_way = same_way ∙ p.no_way;
               waiting = waiting p.waiting;
@@ -344,7 +344,7 @@ module _ (here there : End) (ref : Reference) (made : List ℕ) (t : ℕ) (mid :
         closed = p.closed;
         before = p.before;
         telling = p.telling;
-        behind = p.behind;
+        after = p.after;
         only = p.only;
         says = other_on here.vat mid exports (told_by ref p.telling) p.says;
       })

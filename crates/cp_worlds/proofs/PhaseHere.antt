@@ -120,8 +120,8 @@ module _ (here there : End) (ref : Reference) (made : List ℕ) (mid : State) (i
           waiting = level_waits_here here there made mid inbox ms level (λ g. g ≡ gates.Embargo p.embargo) (GaveObject mid p.comes.object) (λ g at. rw (at) gave_) p.waiting;
         }))
       where
-        front : (p.before ≡ []) × (p.echo ≡ x) × (p.behind ≡ inbox)
-        front = only_front x inbox (is_echo p.embargo) p.before p.echo p.behind (rw was at p.only) echo_
+        front : (p.before ≡ []) × (p.echo ≡ x) × (p.after ≡ inbox)
+        front = only_front x inbox (is_echo p.embargo) p.before p.echo p.after (rw was at p.only) echo_
 
         at_object : AreDelivered (came_to (caps.Object p.comes.object)) delivered
         at_object = rw (p.comes.came) at lane.delivered_
@@ -288,9 +288,9 @@ module _ (here there : End) (ref : Reference) (made : List ℕ) (mid : State) (i
             mark = d.mark ∙ p.mark;
             before = p.before;
             loop = p.loop;
-            behind = p.behind;
+            after = p.after;
             only = rw (d.silent, append-nil there.inbox) p.only;
-            sent_before = sent_in_same made here.vat mid d.tickets p.behind ∙ p.sent_before;
+            sent_before = sent_in_same made here.vat mid d.tickets p.after ∙ p.sent_before;
             no_echo = any_taken (is_echo p.embargo) x inbox (rw was at p.no_echo);
             waiting = waiting_here (λ g. g ≡ gates.Embargo p.embargo) (λ g. g ≡ gates.Embargo p.embargo) (λ g at. at) p.waiting;
           }))
@@ -298,7 +298,7 @@ module _ (here there : End) (ref : Reference) (made : List ℕ) (mid : State) (i
       pub back_echoed : (p : Echoed here there ref made) → p.comes.object ≡ k → is_echo p.embargo x ≡ false → (delivered : List Delivery)
           → InLane here there ref made delivered → InLane here_then there_then ref made (delivered ++ ds)
       back_echoed p is other delivered lane =
-          let left = only_taken x inbox (is_echo p.embargo) p.before p.echo p.behind (rw was at p.only) other in
+          let left = only_taken x inbox (is_echo p.embargo) p.before p.echo p.after (rw was at p.only) other in
           back_by delivered (rw (p.comes.came, is) at lane.delivered_) lane
           (echoed
           (record {
@@ -307,9 +307,9 @@ module _ (here there : End) (ref : Reference) (made : List ℕ) (mid : State) (i
             mark = d.mark ∙ p.mark;
             before = left.left;
             echo = p.echo;
-            behind = p.behind;
+            after = p.after;
             only = left.only;
-            back_before = back_in_same made here.vat mid d.tickets there.vat p.behind ∙ p.back_before;
+            back_before = back_in_same made here.vat mid d.tickets there.vat p.after ∙ p.back_before;
             no_loop = rw (d.silent, append-nil there.inbox) p.no_loop;
             no_way = way_same ∙ p.no_way;
             waiting = waiting_here (λ g. g ≡ gates.Embargo p.embargo) (λ g. g ≡ gates.Embargo p.embargo) (λ g at. at) p.waiting;

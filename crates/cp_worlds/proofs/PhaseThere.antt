@@ -99,7 +99,7 @@ module _ (here there : End) (ref : Reference) (made : List ℕ) (mid : State) (i
       is_hosted k export_ = record { yet = rw (is) (inr (unheld, unmade)); hosted = rw (is) (k, export_); untold = untold }
 
     -- Its place comes back to an object of this end: it is told so, and the calls that wait there go back.
-    module _ (before behind : List Message) (telling : Message) (only : IsOnly ms (tells ref) before telling behind) where
+    module _ (before after : List Message) (telling : Message) (only : IsOnly ms (tells ref) before telling after) where
       pub is_told : (k e : ℕ) → IsExport here.vat e (caps.Object k) → told_by ref telling ≡ Some (descriptors.ReceiverHosted e) → EndsAt mid (place_of mid ref) e
           → (p : Unsettled here there ref made) → LeadsBack mid e p.gate → Told here_then there_then ref made
       is_told k e export_ says ends p leads =
@@ -111,34 +111,34 @@ module _ (here there : End) (ref : Reference) (made : List ℕ) (mid : State) (i
             ends = ends;
             before = here.inbox ++ before;
             telling = telling;
-            behind = behind;
+            after = after;
             only = only_later here.inbox p.untold only;
             says = says;
-            back_behind = lane_front made (forwarded_for here.vat mid) (here.inbox ++ before) (telling ∷ behind) all;
+            back_after = lane_front made (forwarded_for here.vat mid) (here.inbox ++ before) (telling ∷ after) all;
             goes_back = none_goes here.vat mid made e (here.inbox ++ ms) (back_none p.no_back);
             waiting = level_waits here there made mid inbox ms level (λ g. g ≡ p.gate) (LeadsBack mid e) (λ g at. rw (at) leads) p.waiting;
             mark = p.mark;
             none_here = p.none_here;
           }
         where
-          all : back_in here.vat mid made ((here.inbox ++ before) ++ telling ∷ behind) ≡ []
-          all = ap (back_in here.vat mid made) (append_assoc here.inbox before (telling ∷ behind) ∙ ap (λ xs. here.inbox ++ xs) (sym only.all)) ∙ back_none p.no_back
+          all : back_in here.vat mid made ((here.inbox ++ before) ++ telling ∷ after) ≡ []
+          all = ap (back_in here.vat mid made) (append_assoc here.inbox before (telling ∷ after) ∙ ap (λ xs. here.inbox ++ xs) (sym only.all)) ∙ back_none p.no_back
 
       -- It comes to something else.
       pub is_other : IsClosedPlace mid ref → IsOther here.vat (told_by ref telling) → Unsettled here there ref made → ToldOther here_then there_then ref made
       is_other closed says p =
-          record { yet = p.yet; closed = closed; before = here.inbox ++ before; telling = telling; behind = behind; only = only_later here.inbox p.untold only; says = says }
+          record { yet = p.yet; closed = closed; before = here.inbox ++ before; telling = telling; after = after; only = only_later here.inbox p.untold only; says = says }
 
       -- So it may just when it is opened.
       pub is_other_at_once : IsClosedPlace mid ref → IsOther here.vat (told_by ref telling) → Unopened here there ref made → ToldOther here_then there_then ref made
       is_other_at_once closed says p =
-          record { yet = inl p.open_; closed = closed; before = here.inbox ++ before; telling = telling; behind = behind; only = only_later here.inbox p.untold only; says = says }
+          record { yet = inl p.open_; closed = closed; before = here.inbox ++ before; telling = telling; after = after; only = only_later here.inbox p.untold only; says = says }
 
     -- Its Disembargo comes there and is echoed: no call is on the way there any more.
     pub is_echoed : (x echo : Message) → there.inbox ≡ x ∷ inbox → ms ≡ echo ∷ [] → ((e : ℕ) → EndsAt there.vat (place_of there.vat ref) e → EndsAt mid (place_of mid ref) e)
         → (p : Embargoed here there ref made) → is_loop p.embargo x ≡ true → is_echo p.embargo echo ≡ true → Echoed here_then there_then ref made
     is_echoed x echo was sent ends p loop_ echo_ =
-        let front = only_front x inbox (is_loop p.embargo) p.before p.loop p.behind (rw was at p.only) loop_ in
+        let front = only_front x inbox (is_loop p.embargo) p.before p.loop p.after (rw was at p.only) loop_ in
         record {
           comes =
               record {
@@ -154,10 +154,10 @@ module _ (here there : End) (ref : Reference) (made : List ℕ) (mid : State) (i
           mark = p.mark;
           before = here.inbox;
           echo = echo;
-          behind = [];
+          after = [];
           only = rw (sent) (only_last here.inbox (is_echo p.embargo) echo p.no_echo echo_);
           back_before = refl;
-          no_loop = rw (← front.2) p.only.none_behind;
+          no_loop = rw (← front.2) p.only.none_after;
           no_way = rw (← front.2) p.sent_before;
           waiting = p.waiting;
         }
@@ -283,11 +283,11 @@ module _ (here there : End) (ref : Reference) (made : List ℕ) (mid : State) (i
           phase = phase;
         }
 
-    before_same : (before behind : List Message) (m : Message) → here.inbox ≡ before ++ m ∷ behind → back_in here.vat there.vat made before ≡ []
+    before_same : (before after : List Message) (m : Message) → here.inbox ≡ before ++ m ∷ after → back_in here.vat there.vat made before ≡ []
         → back_in here.vat mid made before ≡ []
-    before_same before behind m is none =
+    before_same before after m is none =
         lane_same made (forwarded_for here.vat there.vat) (forwarded_for here.vat mid) before
-        (all_front (λ m. of_lane made (forwarded_for here.vat mid m) ≡ of_lane made (forwarded_for here.vat there.vat m)) before (m ∷ behind) (rw is at moves.forwards))
+        (all_front (λ m. of_lane made (forwarded_for here.vat mid m) ≡ of_lane made (forwarded_for here.vat there.vat m)) before (m ∷ after) (rw is at moves.forwards))
         ∙ none
 
     -- while it is told
@@ -304,10 +304,10 @@ module _ (here there : End) (ref : Reference) (made : List ℕ) (mid : State) (i
           ends = moves.ends (rw is at p.ends);
           before = p.before;
           telling = p.telling;
-          behind = p.behind ++ ms;
+          after = p.after ++ ms;
           only = only_mail ms p.only moves.untold;
           says = rw (← is) p.says;
-          back_behind = before_same p.before p.behind p.telling p.only.all p.back_behind;
+          back_after = before_same p.before p.after p.telling p.only.all p.back_after;
           goes_back = all_go (rw is at p.goes_back);
           waiting = waiting;
           mark = p.mark;
@@ -356,7 +356,7 @@ module _ (here there : End) (ref : Reference) (made : List ℕ) (mid : State) (i
         → InLane here_then there_then ref made delivered
     goes_embargoed p is delivered lane = lane_back_by delivered lane (embargoed (by moves.taken))
       where
-        with_front : (before : List Message) → IsOnly inbox (is_loop p.embargo) before p.loop p.behind → Embargoed here_then there_then ref made
+        with_front : (before : List Message) → IsOnly inbox (is_loop p.embargo) before p.loop p.after → Embargoed here_then there_then ref made
         with_front before only =
             record {
               comes = comes_back p.comes is;
@@ -364,7 +364,7 @@ module _ (here there : End) (ref : Reference) (made : List ℕ) (mid : State) (i
               mark = p.mark;
               before = before;
               loop = p.loop;
-              behind = p.behind;
+              after = p.after;
               only = only;
               sent_before = p.sent_before;
               no_echo = any_mail (is_echo p.embargo) here.inbox ms p.no_echo (moves.no_echo p.embargo);
@@ -374,4 +374,4 @@ module _ (here there : End) (ref : Reference) (made : List ℕ) (mid : State) (i
         by : IsFront (λ x. ((n : ℕ) → is_loop n x ≡ false)) there.inbox inbox → Embargoed here_then there_then ref made
         by (inl same) = with_front p.before (rw (same) p.only)
         by (inr (x, was, apart)) =
-            let left = only_taken x inbox (is_loop p.embargo) p.before p.loop p.behind (rw was at p.only) (apart p.embargo) in with_front left.left left.only
+            let left = only_taken x inbox (is_loop p.embargo) p.before p.loop p.after (rw was at p.only) (apart p.embargo) in with_front left.left left.only

@@ -18,8 +18,8 @@ use Rattle.cp_refs.specs.declared.outcome.Outcome.{Outcome}
 use Rattle.cp_refs.specs.declared.outcome.Outcome.TheVariants as outcomes
 use Rattle.cp_machine.specs.State.{State}
 use Rattle.cp_machine.specs.InUse.{is_pipelined, caps_of}
-use Rattle.cp_machine.specs.Say.{Raise, counted, counted_out, opened, has_no_room, SayEnd, Say, SayAll, end_by, end_within}
-use Rattle.cp_machine.specs.Room.{free}
+use Rattle.cp_machine.specs.Say.{Raise, counted, counted_out, opened, has_no_capacity, SayEnd, Say, SayAll, end_by, end_within}
+use Rattle.cp_machine.specs.Capacity.{free}
 use Rattle.cp_machine.specs.declared.fault.PeerFault.{PeerFault}
 use Rattle.cp_machine.proofs.Basics.{some_out, none_out, ok_in, or_first, or_second, then_out, put_at, gone_at}
 use Rattle.cp_worlds.specs.Lives.{is_settled_descriptor}
@@ -86,7 +86,7 @@ raised_plain : (old : State) (cap : Cap) (out : Result (ℕ × State) PeerFault)
 raised_plain old cap out plain all (counted e count is room) = λ f. put_plain old.counts.exports e f _ (e == f) refl plain all
 raised_plain old cap out plain all (counted_out e is) = tt
 raised_plain old cap out plain all (opened e none (free n is small room)) = λ f. put_plain old.counts.exports e f _ (e == f) refl plain all
-raised_plain old cap out plain all (has_no_room none is) = tt
+raised_plain old cap out plain all (has_no_capacity none is) = tt
 
 same_plain : (old : State) (d : Descriptor) (said : Descriptor × State) → ◌≡◌ {A = Result (Descriptor × State) PeerFault} (Ok said) (Ok (d, old)) → ArePlainExports old.counts.exports
     → ArePlainExports said.1.counts.exports

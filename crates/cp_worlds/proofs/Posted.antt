@@ -16,7 +16,7 @@ use Rattle.cp_refs.specs.declared.values.QuestionKind.TheVariants as kinds
 use Rattle.cp_machine.specs.State.{State, with_exports, with_questions, with_answers}
 use Rattle.cp_machine.specs.Then.{Done, fault_if}
 use Rattle.cp_machine.specs.InUse.{is_own_question, is_question_used}
-use Rattle.cp_machine.specs.Room.{Fresh, free}
+use Rattle.cp_machine.specs.Capacity.{Fresh, free}
 use Rattle.cp_machine.specs.Take.{times, lower}
 use Rattle.cp_machine.specs.Give.{without_question}
 use Rattle.cp_machine.specs.Go.{finish_of}

@@ -171,7 +171,7 @@ module _ (here there : End) (ref : Reference) (made : List ℕ) (mid : State) (e
         closed = p.closed;
         before = p.before;
         telling = p.telling;
-        behind = p.behind;
+        after = p.after;
         only = p.only;
         says = other_on here.vat mid exports (told_by ref p.telling) p.says;
       })

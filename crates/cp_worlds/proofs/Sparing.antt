@@ -26,8 +26,8 @@ use Rattle.cp_refs.specs.declared.route.Route.{Route}
 use Rattle.cp_refs.specs.declared.route.Route.TheVariants as routes
 use Rattle.cp_machine.specs.State.{State}
 use Rattle.cp_machine.specs.Then.{Done, Then, Unless, Each}
-use Rattle.cp_machine.specs.Room.{has_room, Fresh, free, full}
-use Rattle.cp_machine.specs.Say.{Raise, counted, counted_out, opened, has_no_room, SayEnd, Say, SayAll, promised}
+use Rattle.cp_machine.specs.Capacity.{has_capacity, Fresh, free, full}
+use Rattle.cp_machine.specs.Say.{Raise, counted, counted_out, opened, has_no_capacity, SayEnd, Say, SayAll, promised}
 use Rattle.cp_machine.specs.Take.{answer_of, path_of, held_once_more, held_import, TakeAnswer, taken_export, Take, TakeAll}
 use Rattle.cp_machine.specs.Give.{ResolvesEnd, Tells, settled, value_for, last_for, Settle, SettleTied, Returns, given, gone, GiveBy, GiveAnswer, GiveOwnBy, GiveOwn, Give}
 use Rattle.cp_machine.specs.Go.{Underway, GoOut, Go}
@@ -77,7 +77,7 @@ raise_spared : (old : State) (cap : Cap) (out : Result (ℕ × State) PeerFault)
 raise_spared old cap out (counted e count is room) = tt
 raise_spared old cap out (counted_out e is) = tt
 raise_spared old cap out (opened e none fresh) = tt
-raise_spared old cap out (has_no_room {fault = fault} none is) = fresh_spared old.counts.exports (Err fault) is
+raise_spared old cap out (has_no_capacity {fault = fault} none is) = fresh_spared old.counts.exports (Err fault) is
 
 said_spared : (old : State) (last : Cap) (out : Result (Descriptor × State) PeerFault) → SayEnd old last out → IsSpared out
 said_spared old caps.None out is = ok_spared out _ is
@@ -183,7 +183,7 @@ held_spared old i kind (Some entry) = by (ltb entry.count 4294967295)
         else Err faults.TableFull)
     by true = tt
     by false = tt
-held_spared old i kind None = by (has_room old.counts.imports)
+held_spared old i kind None = by (has_capacity old.counts.imports)
   where
     by : (b : Bool)
         → IsSpared

@@ -7,25 +7,25 @@ use Rattle.cp_tables.specs.declared.exchange.Stage.TheVariants as stages
 use Rattle.cp_rpc.specs.declared.message.Message.{Message}
 use Rattle.cp_worlds.specs.Ledger.{opens, finishes}
 use Rattle.cp_worlds.specs.Accounts.{Account, is_releasing}
-use Rattle.cp_worlds.specs.Lives.{Standing, absent, ungiven, left_ungiven, given, mistaken, opened, finished, stands_behind, will_stand, FitsAt, Fits}
+use Rattle.cp_worlds.specs.Lives.{Standing, absent, ungiven, left_ungiven, given, mistaken, opened, finished, stands_after, will_stand, FitsAt, Fits}
 
 pub will_append : (q : ℕ) (ms more : List Message) (st : Standing) → will_stand q (ms ++ more) st ≡ will_stand q more (will_stand q ms st)
 will_append q [] more st = refl
-will_append q (m ∷ ms) more st = will_append q ms more (stands_behind q m st)
+will_append q (m ∷ ms) more st = will_append q ms more (stands_after q m st)
 
 -- what a message does, by whether it opens, finishes and releases
-abbrev pub behind_by : Bool → Bool → Bool → Standing → Standing
-behind_by opens finishes release st = if opens then opened st else (if finishes then finished release st else st)
+abbrev pub after_by : Bool → Bool → Bool → Standing → Standing
+after_by opens finishes release st = if opens then opened st else (if finishes then finished release st else st)
 
-mistaken_behind : (o f r : Bool) → behind_by o f r mistaken ≡ mistaken
-mistaken_behind true f r = refl
-mistaken_behind false true true = refl
-mistaken_behind false true false = refl
-mistaken_behind false false r = refl
+mistaken_after : (o f r : Bool) → after_by o f r mistaken ≡ mistaken
+mistaken_after true f r = refl
+mistaken_after false true true = refl
+mistaken_after false true false = refl
+mistaken_after false false r = refl
 
 pub stays_mistaken : (q : ℕ) (ms : List Message) → will_stand q ms mistaken ≡ mistaken
 stays_mistaken q [] = refl
-stays_mistaken q (m ∷ ms) = rw (mistaken_behind (opens q m) (finishes q m) (is_releasing m)) (stays_mistaken q ms)
+stays_mistaken q (m ∷ ms) = rw (mistaken_after (opens q m) (finishes q m) (is_releasing m)) (stays_mistaken q ms)
 
 -- nothing fits what is mistaken
 mistaken_at : (stage : Stage) (returns : List (List ℕ)) → FitsAt stage returns mistaken → ⊥

@@ -13,7 +13,7 @@ use Rattle.cp_refs.specs.declared.cap.Cap.{Cap}
 use Rattle.cp_refs.specs.declared.cap.Cap.TheVariants as caps
 use Rattle.cp_machine.specs.State.{State}
 use Rattle.cp_machine.specs.Then.{Done, fault_if}
-use Rattle.cp_machine.specs.Room.{message_fits}
+use Rattle.cp_machine.specs.Capacity.{message_fits}
 use Rattle.cp_machine.specs.Supported.{is_supported}
 use Rattle.cp_machine.specs.Say.{mentioned_by, mentions_of}
 use Rattle.cp_machine.specs.Take.{times}

@@ -29,7 +29,7 @@ use Rattle.cp_order.specs.Within.{Within}
 use Rattle.cp_order.proofs.Between.{local_is_within}
 use Rattle.cp_order.proofs.Stepping.{does_within, receives_within, step_keeps}
 use Rattle.cp_worlds.specs.Ledger.{named_by}
-use Rattle.cp_worlds.specs.Accounts.{Account, accounts_of, is_given_up, taken_in, Lowerable, lowerable, lowered_by, lowerable_behind}
+use Rattle.cp_worlds.specs.Accounts.{Account, accounts_of, is_given_up, taken_in, Lowerable, lowerable, lowered_by, lowerable_after}
 use Rattle.cp_worlds.specs.Owed.{named_on_way, lowered_on_way}
 use Rattle.cp_worlds.specs.World.{World, Side, at_first, at_second, across, End, end_of, Move, Makes, messages_sent, Takes, with_mail, AreOpen}
 use Rattle.cp_worlds.specs.Lives.{IsUsual, AreUsual, Agree, AreAgreed}
@@ -76,7 +76,7 @@ none_lowered lists (m ∷ ms) e usual quiet =
     omega (
       arith,
       lowers_none lists m e usual.0 (or_first (gives_up m) (list_any gives_up ms) quiet),
-      none_lowered (lowerable_behind m lists) ms e usual.1 (or_second (gives_up m) (list_any gives_up ms) quiet),
+      none_lowered (lowerable_after m lists) ms e usual.1 (or_second (gives_up m) (list_any gives_up ms) quiet),
     )
 
 -- So a Resolve comes to an import that is held.
@@ -233,12 +233,12 @@ front_known here there one other agree m more is =
       comes_to_held here there m more agree_now other.local_ other.quiet.inbox last_now.0,
     )
 
-pub end_moved : (here there behind : End) (moment : Moment) → EndHolds here there → EndHolds there here
-    → Agree (accounts_of here.vat) here.inbox (accounts_of there.vat) there.inbox → IsStill moment.event → behind.vat.is_closed ≡ false
-    → Step here.vat moment.event moment.result moment.effects behind.vat → Takes here.inbox moment.event behind.inbox
-    → StepMoved here.vat here.inbox moment.effects behind.vat behind.inbox
-end_moved here there behind moment one other agree still open_ steps takes =
-    step_moved here.inbox behind.inbox one.local_ one.quiet.questions (front_known here there one other agree) takes still open_ steps
+pub end_moved : (here there after : End) (moment : Moment) → EndHolds here there → EndHolds there here
+    → Agree (accounts_of here.vat) here.inbox (accounts_of there.vat) there.inbox → IsStill moment.event → after.vat.is_closed ≡ false
+    → Step here.vat moment.event moment.result moment.effects after.vat → Takes here.inbox moment.event after.inbox
+    → StepMoved here.vat here.inbox moment.effects after.vat after.inbox
+end_moved here there after moment one other agree still open_ steps takes =
+    step_moved here.inbox after.inbox one.local_ one.quiet.questions (front_known here there one other agree) takes still open_ steps
 
 -- from either side
 pub agree_at : (side : Side) (w : World) → AreAgreed w
@@ -257,34 +257,34 @@ pub other_end : (side : Side) (w : World) → StillHolds w → EndHolds (end_of 
 other_end at_first w h = h.ends at_second
 other_end at_second w h = h.ends at_first
 
-pub move_moved : (w : World) (move : Move) → StillHolds w → Makes w move → AreOpen move.behind → IsStill move.moment.event
-    → StepMoved (end_of w move.side).vat (end_of w move.side).inbox move.moment.effects (end_of move.behind move.side).vat (end_of move.behind move.side).inbox
+pub move_moved : (w : World) (move : Move) → StillHolds w → Makes w move → AreOpen move.after → IsStill move.moment.event
+    → StepMoved (end_of w move.side).vat (end_of w move.side).inbox move.moment.effects (end_of move.after move.side).vat (end_of move.after move.side).inbox
 move_moved w move h makes open_ still =
-    end_moved (end_of w move.side) (end_of w (across move.side)) (end_of move.behind move.side) move.moment (h.ends move.side) (other_end move.side w h) (agree_at move.side w h.agreed)
-    still (end_open move.side move.behind open_) makes.steps makes.takes
+    end_moved (end_of w move.side) (end_of w (across move.side)) (end_of move.after move.side) move.moment (h.ends move.side) (other_end move.side w h) (agree_at move.side w h.agreed)
+    still (end_open move.side move.after open_) makes.steps makes.takes
 
-pub still_kept : (w : World) (move : Move) → StillHolds w → Makes w move → AreOpen move.behind → IsStill move.moment.event → StillHolds move.behind
+pub still_kept : (w : World) (move : Move) → StillHolds w → Makes w move → AreOpen move.after → IsStill move.moment.event → StillHolds move.after
 still_kept w move h makes open_ still =
-    by move.side move.behind move.moment makes.steps makes.sends (move_moved w move h makes open_ still)
-    (move_keeps move.side w move.behind move.moment (holds_now w h) open_ makes.steps makes.takes makes.sends) open_
+    by move.side move.after move.moment makes.steps makes.sends (move_moved w move h makes open_ still)
+    (move_keeps move.side w move.after move.moment (holds_now w h) open_ makes.steps makes.takes makes.sends) open_
   where
-    by : (side : Side) (behind : World) (moment : Moment) → Step (end_of w side).vat moment.event moment.result moment.effects (end_of behind side).vat
-        → end_of behind (across side) ≡ with_mail (end_of w (across side)) (messages_sent moment.effects)
-        → StepMoved (end_of w side).vat (end_of w side).inbox moment.effects (end_of behind side).vat (end_of behind side).inbox → Holds behind → AreOpen behind
-        → StillHolds behind
-    by at_first behind moment steps sends moved holds open_now = record { agreed = holds.agreed; ends = ends }
+    by : (side : Side) (after : World) (moment : Moment) → Step (end_of w side).vat moment.event moment.result moment.effects (end_of after side).vat
+        → end_of after (across side) ≡ with_mail (end_of w (across side)) (messages_sent moment.effects)
+        → StepMoved (end_of w side).vat (end_of w side).inbox moment.effects (end_of after side).vat (end_of after side).inbox → Holds after → AreOpen after
+        → StillHolds after
+    by at_first after moment steps sends moved holds open_now = record { agreed = holds.agreed; ends = ends }
       where
-        local_ : Local behind.first.vat
-        local_ = step_keeps w.first.vat behind.first.vat moment.event moment.result moment.effects (h.ends at_first).local_ open_now.0 steps
+        local_ : Local after.first.vat
+        local_ = step_keeps w.first.vat after.first.vat moment.event moment.result moment.effects (h.ends at_first).local_ open_now.0 steps
 
-        ends : (side : Side) → EndHolds (end_of behind side) (end_of behind (across side))
-        ends at_first = rw (sends) (ends_here w.first w.second behind.first.vat behind.first.inbox moment.effects moved local_ holds.first (h.ends at_first))
-        ends at_second = rw (sends) (ends_there w.first w.second behind.first.vat behind.first.inbox moment.effects moved (h.ends at_first) (h.ends at_second))
-    by at_second behind moment steps sends moved holds open_now = record { agreed = holds.agreed; ends = ends }
+        ends : (side : Side) → EndHolds (end_of after side) (end_of after (across side))
+        ends at_first = rw (sends) (ends_here w.first w.second after.first.vat after.first.inbox moment.effects moved local_ holds.first (h.ends at_first))
+        ends at_second = rw (sends) (ends_there w.first w.second after.first.vat after.first.inbox moment.effects moved (h.ends at_first) (h.ends at_second))
+    by at_second after moment steps sends moved holds open_now = record { agreed = holds.agreed; ends = ends }
       where
-        local_ : Local behind.second.vat
-        local_ = step_keeps w.second.vat behind.second.vat moment.event moment.result moment.effects (h.ends at_second).local_ open_now.1 steps
+        local_ : Local after.second.vat
+        local_ = step_keeps w.second.vat after.second.vat moment.event moment.result moment.effects (h.ends at_second).local_ open_now.1 steps
 
-        ends : (side : Side) → EndHolds (end_of behind side) (end_of behind (across side))
-        ends at_first = rw (sends) (ends_there w.second w.first behind.second.vat behind.second.inbox moment.effects moved (h.ends at_second) (h.ends at_first))
-        ends at_second = rw (sends) (ends_here w.second w.first behind.second.vat behind.second.inbox moment.effects moved local_ holds.second (h.ends at_second))
+        ends : (side : Side) → EndHolds (end_of after side) (end_of after (across side))
+        ends at_first = rw (sends) (ends_there w.second w.first after.second.vat after.second.inbox moment.effects moved (h.ends at_second) (h.ends at_first))
+        ends at_second = rw (sends) (ends_here w.second w.first after.second.vat after.second.inbox moment.effects moved local_ holds.second (h.ends at_second))

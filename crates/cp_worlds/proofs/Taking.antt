@@ -10,7 +10,7 @@ use Rattle.cp_rpc.specs.declared.descriptor.Descriptor.TheVariants as descriptor
 use Rattle.cp_refs.specs.declared.cap.Cap.{Cap}
 use Rattle.cp_refs.specs.declared.outcome.Outcome.{Outcome}
 use Rattle.cp_machine.specs.State.{State}
-use Rattle.cp_machine.specs.Room.{has_room, Fresh}
+use Rattle.cp_machine.specs.Capacity.{has_capacity, Fresh}
 use Rattle.cp_machine.specs.Say.{mentioned_by, mentions_of}
 use Rattle.cp_machine.specs.Take.{times, held_import, held_once_more, answer_of, path_of, tie, tied, TakeAnswer, taken_export, Take, TakeAll}
 use Rattle.cp_machine.specs.declared.entry.ImportKind.{ImportKind}
@@ -56,7 +56,7 @@ held_by old i kind (Some entry) new there is = by (ltb entry.count 4294967295) i
         → HeldMore old i new
     by true is = rw (ok_in _ _ is) (refl, refl, refl, refl, λ f. raised_one old.counts.imports i f entry.count entry.kept (i == f) refl (rw (there) refl))
     by false is = ok_out is
-held_by old i kind None new there is = by (has_room old.counts.imports) is
+held_by old i kind None new there is = by (has_capacity old.counts.imports) is
   where
     by : (b : Bool)
         → Ok new

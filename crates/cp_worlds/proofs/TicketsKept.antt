@@ -143,13 +143,13 @@ step_made {made = made} ref local_ h moved open_ (received m first rest mid was 
 step_made ref local_ h moved open_ (faulted m was does closed) = closed_open closed open_
 
 -- from either side
-module _ (w behind : World) (moment : Moment) (ref : Reference) (made : List ℕ) where
+module _ (w after : World) (moment : Moment) (ref : Reference) (made : List ℕ) where
   abbrev KeptFor : Side → Side → Type 0
   KeptFor acting side =
-      TicketsMove (end_of w acting).vat (end_of behind acting).vat → Local (end_of w acting).vat → (end_of behind acting).vat.is_closed ≡ false
-      → Step (end_of w acting).vat moment.event moment.result moment.effects (end_of behind acting).vat
-      → end_of behind (across acting) ≡ with_mail (end_of w (across acting)) (messages_sent moment.effects) → TicketsHold (end_of w side).vat made
-      → TicketsHold (end_of behind side).vat (made ++ (if is_side acting side then made_by (end_of w side).vat ref moment else []))
+      TicketsMove (end_of w acting).vat (end_of after acting).vat → Local (end_of w acting).vat → (end_of after acting).vat.is_closed ≡ false
+      → Step (end_of w acting).vat moment.event moment.result moment.effects (end_of after acting).vat
+      → end_of after (across acting) ≡ with_mail (end_of w (across acting)) (messages_sent moment.effects) → TicketsHold (end_of w side).vat made
+      → TicketsHold (end_of after side).vat (made ++ (if is_side acting side then made_by (end_of w side).vat ref moment else []))
 
   kept_for : (acting side : Side) → KeptFor acting side
   kept_for at_first at_first moved local_ open_ steps sends h = step_made ref local_ h moved open_ steps
@@ -161,8 +161,8 @@ end_open : (side : Side) (w : World) → AreOpen w → (end_of w side).vat.is_cl
 end_open at_first w open_ = open_.0
 end_open at_second w open_ = open_.1
 
-pub tickets_kept : (w : World) (move : Move) → StillHolds w → Makes w move → AreOpen move.behind → IsStill move.moment.event → (side : Side) (ref : Reference) (made : List ℕ)
-    → TicketsHold (end_of w side).vat made → TicketsHold (end_of move.behind side).vat (made ++ made_in w side ref move)
+pub tickets_kept : (w : World) (move : Move) → StillHolds w → Makes w move → AreOpen move.after → IsStill move.moment.event → (side : Side) (ref : Reference) (made : List ℕ)
+    → TicketsHold (end_of w side).vat made → TicketsHold (end_of move.after side).vat (made ++ made_in w side ref move)
 tickets_kept w move h makes open_ still side ref made tickets =
-    kept_for w move.behind move.moment ref made move.side side (move_moved w move h makes open_ still).moved.tickets (h.ends move.side).local_
-    (end_open move.side move.behind open_) makes.steps makes.sends tickets
+    kept_for w move.after move.moment ref made move.side side (move_moved w move h makes open_ still).moved.tickets (h.ends move.side).local_
+    (end_open move.side move.after open_) makes.steps makes.sends tickets

@@ -95,33 +95,33 @@ agree_back agree =
       counts_back = agree.counts;
     }
 
-pub move_keeps : (side : Side) (old behind : World) (moment : Moment) → Holds old → AreOpen behind
-    → Step (end_of old side).vat moment.event moment.result moment.effects (end_of behind side).vat → Takes (end_of old side).inbox moment.event (end_of behind side).inbox
-    → end_of behind (across side) ≡ with_mail (end_of old (across side)) (messages_sent moment.effects) → Holds behind
-move_keeps at_first old behind moment holds open_ steps takes sends =
-    let on = step_agrees old.first.inbox behind.first.inbox old.second.inbox (accounts_of old.second.vat) holds.first holds.agreed takes open_.0 steps in
+pub move_keeps : (side : Side) (old after : World) (moment : Moment) → Holds old → AreOpen after
+    → Step (end_of old side).vat moment.event moment.result moment.effects (end_of after side).vat → Takes (end_of old side).inbox moment.event (end_of after side).inbox
+    → end_of after (across side) ≡ with_mail (end_of old (across side)) (messages_sent moment.effects) → Holds after
+move_keeps at_first old after moment holds open_ steps takes sends =
+    let on = step_agrees old.first.inbox after.first.inbox old.second.inbox (accounts_of old.second.vat) holds.first holds.agreed takes open_.0 steps in
     record { agreed = rw (sends) on.0; first = on.1; second = rw (sends) holds.second }
-move_keeps at_second old behind moment holds open_ steps takes sends =
-    let on = step_agrees old.second.inbox behind.second.inbox old.first.inbox (accounts_of old.first.vat) holds.second (agree_back holds.agreed) takes open_.1 steps in
+move_keeps at_second old after moment holds open_ steps takes sends =
+    let on = step_agrees old.second.inbox after.second.inbox old.first.inbox (accounts_of old.first.vat) holds.second (agree_back holds.agreed) takes open_.1 steps in
     record { agreed = rw (sends) (agree_back on.0); first = rw (sends) holds.first; second = on.1 }
 
-move_open : (side : Side) (old behind : World) (moment : Moment) → AreOpen behind
-    → Step (end_of old side).vat moment.event moment.result moment.effects (end_of behind side).vat
-    → end_of behind (across side) ≡ with_mail (end_of old (across side)) (messages_sent moment.effects) → AreOpen old
-move_open at_first old behind moment open_ steps sends = (step_open open_.0 steps, sym (ap (λ end. end.vat.is_closed) sends) ∙ open_.1)
-move_open at_second old behind moment open_ steps sends = (sym (ap (λ end. end.vat.is_closed) sends) ∙ open_.0, step_open open_.1 steps)
+move_open : (side : Side) (old after : World) (moment : Moment) → AreOpen after
+    → Step (end_of old side).vat moment.event moment.result moment.effects (end_of after side).vat
+    → end_of after (across side) ≡ with_mail (end_of old (across side)) (messages_sent moment.effects) → AreOpen old
+move_open at_first old after moment open_ steps sends = (step_open open_.0 steps, sym (ap (λ end. end.vat.is_closed) sends) ∙ open_.1)
+move_open at_second old after moment open_ steps sends = (sym (ap (λ end. end.vat.is_closed) sends) ∙ open_.0, step_open open_.1 steps)
 
 -- moves one after another
 pub first_open : (moves : List Move) (w : World) → Moves w moves → AreOpen (last_of w moves) → AreOpen w
 first_open [] w made open_ = open_
 first_open (move ∷ more) w made open_ =
-    move_open move.side w move.behind move.moment (first_open more move.behind made.1 open_) made.0.steps made.0.sends
+    move_open move.side w move.after move.moment (first_open more move.after made.1 open_) made.0.steps made.0.sends
 
 all_hold : (moves : List Move) (w : World) → Holds w → Moves w moves → AreOpen (last_of w moves) → Holds (last_of w moves)
 all_hold [] w holds made open_ = holds
 all_hold (move ∷ more) w holds made open_ =
-    all_hold more move.behind
-    (move_keeps move.side w move.behind move.moment holds (first_open more move.behind made.1 open_) made.0.steps made.0.takes made.0.sends) made.1 open_
+    all_hold more move.after
+    (move_keeps move.side w move.after move.moment holds (first_open more move.after made.1 open_) made.0.steps made.0.takes made.0.sends) made.1 open_
 
 -- after all moves of two new vats
 pub holds_of : (one other : Option ℕ) (moves : List Move) → Moves (new_world one other) moves → AreOpen (last_of (new_world one other) moves) → Holds (last_of (new_world one other) moves)

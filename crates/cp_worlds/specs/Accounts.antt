@@ -91,11 +91,11 @@ lowered_by lists (messages.Unimplemented t) e = times e (resolve_named (told t))
 lowered_by lists other e = 0
 
 -- After a Finish its number has no results: the next Finish of that number is about another answer.
-abbrev pub results_behind : Message → (ℕ → List ℕ) → ℕ → List ℕ
-results_behind m results a = if finishes a m then [] else results a
+abbrev pub results_after : Message → (ℕ → List ℕ) → ℕ → List ℕ
+results_after m results a = if finishes a m then [] else results a
 
-abbrev pub lowerable_behind : Message → Lowerable → Lowerable
-lowerable_behind m lists = record lists { results = results_behind m lists.results }
+abbrev pub lowerable_after : Message → Lowerable → Lowerable
+lowerable_after m lists = record lists { results = results_after m lists.results }
 
 -- a question or an answer that was opened just now, by a message that named these exports
 abbrev pub new_account : List ℕ → Account
@@ -120,8 +120,8 @@ abbrev pub is_releasing : Message → Bool
 is_releasing (messages.Finish f) = f.release_result_caps
 is_releasing other = false
 
-abbrev pub question_behind : ℕ → Message → Option Account → Option (Option Account)
-question_behind q m account =
+abbrev pub question_after : ℕ → Message → Option Account → Option (Option Account)
+question_after q m account =
     if opens q m then asked (named_by m) account
     else (if finishes q m then question_finished (is_releasing m) account else Some account)
 
@@ -139,15 +139,15 @@ abbrev pub answer_given : List ℕ → Option Account → Option (Option Account
 answer_given mentions None = None
 answer_given mentions (Some account) = given_at mentions account.stage
 
-abbrev pub answer_behind : ℕ → Message → Option Account → Option (Option Account)
-answer_behind a m account = if returns_to a m then answer_given (named_by m) account else Some account
+abbrev pub answer_after : ℕ → Message → Option Account → Option (Option Account)
+answer_after a m account = if returns_to a m then answer_given (named_by m) account else Some account
 
 -- A message was sent: exports count what it names, imports what it gives up.
 pub record Sent (old : Accounts) (m : Message) (new : Accounts) : Type 0 where
   pub exports : (e : ℕ) → new.exports e ≡ old.exports e + times e (named_by m)
   pub imports : (i : ℕ) → old.imports i ≡ new.imports i + given_up m i
-  pub questions : (q : ℕ) → question_behind q m (old.questions q) ≡ Some (new.questions q)
-  pub answers : (a : ℕ) → answer_behind a m (old.answers a) ≡ Some (new.answers a)
+  pub questions : (q : ℕ) → question_after q m (old.questions q) ≡ Some (new.questions q)
+  pub answers : (a : ℕ) → answer_after a m (old.answers a) ≡ Some (new.answers a)
 
 -- What a message that came does to a question: its Return is noted, and with its Finish it is gone.
 abbrev pub return_noted : Stage → List ℕ → Option Account

@@ -64,7 +64,7 @@ made_by s ref moment = if called_on ref moment.event then ticket_if moment.resul
 abbrev pub made : World → Side → Reference → List Move → List ℕ
 made w side ref [] = []
 made w side ref (move ∷ more) =
-    (if is_side move.side side then made_by (end_of w side).vat ref move.moment else []) ++ made move.behind side ref more
+    (if is_side move.side side then made_by (end_of w side).vat ref move.moment else []) ++ made move.after side ref more
 
 -- the ticket of an own call, by its question
 abbrev pub ticket_of_own : Option ℕ → Option ℕ → List ℕ
@@ -104,7 +104,7 @@ deliveries_of w side move = if is_side move.side side then flat_map (delivery_of
 
 abbrev pub deliveries : World → Side → List Move → List Delivery
 deliveries w side [] = []
-deliveries w side (move ∷ more) = deliveries_of w side move ++ deliveries move.behind side more
+deliveries w side (move ∷ more) = deliveries_of w side move ++ deliveries move.after side more
 
 -- Delivered: the calls delivered that were made on the reference, in order.
 abbrev pub is_among : ℕ → List ℕ → Bool

@@ -38,7 +38,7 @@ made_in w side ref move = if is_side move.side side then made_by (end_of w side)
 abbrev pub CallsKeep : World → Move → Type 0
 CallsKeep w move =
     (side : Side) (ref : Reference) (made : List ℕ) (all : List Delivery) → CallsHold (end_of w side) (end_of w (across side)) ref made all
-    → CallsHold (end_of move.behind side) (end_of move.behind (across side)) ref (made ++ made_in w side ref move) (all ++ deliveries_of w side move)
+    → CallsHold (end_of move.after side) (end_of move.after (across side)) ref (made ++ made_in w side ref move) (all ++ deliveries_of w side move)
 
 abbrev pub MovesKeep : Type 0
-MovesKeep = (w : World) (move : Move) → StillHolds w → Makes w move → AreOpen move.behind → IsStill move.moment.event → StillHolds move.behind × CallsKeep w move
+MovesKeep = (w : World) (move : Move) → StillHolds w → Makes w move → AreOpen move.after → IsStill move.moment.event → StillHolds move.after × CallsKeep w move

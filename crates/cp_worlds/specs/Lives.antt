@@ -73,13 +73,13 @@ finished true ungiven = left_ungiven
 finished release (given mentions) = absent
 finished release other = mistaken
 
-abbrev pub stands_behind : ℕ → Message → Standing → Standing
-stands_behind q m standing = if opens q m then opened standing else (if finishes q m then finished (is_releasing m) standing else standing)
+abbrev pub stands_after : ℕ → Message → Standing → Standing
+stands_after q m standing = if opens q m then opened standing else (if finishes q m then finished (is_releasing m) standing else standing)
 
 -- how it will stand when all messages on the way came
 abbrev pub will_stand : ℕ → List Message → Standing → Standing
 will_stand q [] standing = standing
-will_stand q (m ∷ more) standing = will_stand q more (stands_behind q m standing)
+will_stand q (m ∷ more) standing = will_stand q more (stands_after q m standing)
 
 -- the Returns of a question that are on the way, by what each names
 abbrev pub return_of : ℕ → Message → List (List ℕ)

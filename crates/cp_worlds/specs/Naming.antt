@@ -24,7 +24,7 @@ use Rattle.cp_worlds.specs.Lane.{Reference, import_, path_to}
 
 -- of each message on the way, with what comes before it and after it
 abbrev pub EachOnWay : List Message → (List Message → Message → List Message → Type 0) → Type 0
-EachOnWay inbox Holds = (before behind : List Message) (m : Message) → inbox ≡ before ++ m ∷ behind → Holds before m behind
+EachOnWay inbox Holds = (before after : List Message) (m : Message) → inbox ≡ before ++ m ∷ after → Holds before m after
 
 -- the descriptors of a message
 abbrev pub returned_table : Returned → List Descriptor
@@ -62,12 +62,12 @@ IsOfExportUnless true d export_ = Unit {0}
 IsOfExportUnless false d None = Unit {0}
 IsOfExportUnless false d (Some entry) = IsOfCap d entry.kept
 
-abbrev pub IsOfKindBehind : State → List Message → Descriptor → Type 0
-IsOfKindBehind sender behind (descriptors.SenderHosted e) =
-    IsOfExportUnless (list_any (resolves e) behind) (descriptors.SenderHosted e) (get sender.counts.exports e)
-IsOfKindBehind sender behind (descriptors.SenderPromise e) =
-    IsOfExportUnless (list_any (resolves e) behind) (descriptors.SenderPromise e) (get sender.counts.exports e)
-IsOfKindBehind sender behind other = Unit {0}
+abbrev pub IsOfKindAfter : State → List Message → Descriptor → Type 0
+IsOfKindAfter sender after (descriptors.SenderHosted e) =
+    IsOfExportUnless (list_any (resolves e) after) (descriptors.SenderHosted e) (get sender.counts.exports e)
+IsOfKindAfter sender after (descriptors.SenderPromise e) =
+    IsOfExportUnless (list_any (resolves e) after) (descriptors.SenderPromise e) (get sender.counts.exports e)
+IsOfKindAfter sender after other = Unit {0}
 
 -- the loop of an embargo, on its way there and on its way back
 abbrev pub is_loop_of : ℕ → Context → Bool

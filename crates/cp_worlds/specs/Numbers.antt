@@ -77,7 +77,7 @@ IsHeldThere w side e =
 -- It is so before each of these moves.
 abbrev pub IsHeldOver : World → Side → ℕ → List Move → Type 0
 IsHeldOver w side e [] = Unit {0}
-IsHeldOver w side e (move ∷ more) = IsHeldThere w side e × IsHeldOver move.behind side e more
+IsHeldOver w side e (move ∷ more) = IsHeldThere w side e × IsHeldOver move.after side e more
 
 -- A number stays its capability's while the other vat holds it or a descriptor of it that counts is on the way: of every list of moves and then some more
 -- in which neither vat was closed.

@@ -2,7 +2,7 @@
 use Rattle.std.specs.Prelude.{ℕ, ◌+◌, List, [], ◌∷◌, Option}
 use Rattle.cp_rpc.specs.declared.message.Message.{Message}
 use Rattle.cp_machine.specs.Take.{times}
-use Rattle.cp_worlds.specs.Accounts.{Account, Accounts, accounts_of, taken_in, Lowerable, lowerable, lowered_by, lowerable_behind}
+use Rattle.cp_worlds.specs.Accounts.{Account, Accounts, accounts_of, taken_in, Lowerable, lowerable, lowered_by, lowerable_after}
 use Rattle.cp_worlds.specs.World.{End, World, Side, across, end_of}
 
 -- how often the messages to a vat name an import that it will take in
@@ -13,7 +13,7 @@ named_on_way questions (m ∷ more) i = times i (taken_in questions m) + named_o
 -- how much the messages to a vat will lower an export
 abbrev pub lowered_on_way : Lowerable → List Message → ℕ → ℕ
 lowered_on_way lists [] e = 0
-lowered_on_way lists (m ∷ more) e = lowered_by lists m e + lowered_on_way (lowerable_behind m lists) more e
+lowered_on_way lists (m ∷ more) e = lowered_by lists m e + lowered_on_way (lowerable_after m lists) more e
 
 -- An export is owed as much as the other vat's import of its number counts, as often as the messages on the way there name it, and as much as the messages
 -- on the way back will lower it.

@@ -123,11 +123,11 @@ AreDelivered (came_to (caps.Object k)) delivered = AllByRecursion (λ delivery. 
 AreDelivered other delivered = delivered ≡ []
 
 -- The only message of a kind on the way, with those before it and those after it.
-pub record IsOnly (inbox : List Message) (is : Message → Bool) (before : List Message) (m : Message) (behind : List Message) : Type 0 where
-  pub all : inbox ≡ before ++ m ∷ behind
+pub record IsOnly (inbox : List Message) (is : Message → Bool) (before : List Message) (m : Message) (after : List Message) : Type 0 where
+  pub all : inbox ≡ before ++ m ∷ after
   pub it : is m ≡ true
   pub none_before : list_any is before ≡ false
-  pub none_behind : list_any is behind ≡ false
+  pub none_after : list_any is after ≡ false
 
 -- a message that opens a reference there, and one that reports what it came to
 abbrev pub opens_place : Reference → Message → Bool
@@ -192,9 +192,9 @@ pub record Unopened (here there : End) (ref : Reference) (made : List ℕ) : Typ
   pub open_ : reference_of here.vat.values (cap_of ref) ≡ on_wire
   pub before : List Message
   pub opening : Message
-  pub behind : List Message
-  pub only : IsOnly there.inbox (opens_place ref) before opening behind
-  pub sent_behind : sent_in here.vat made (before ++ opening ∷ []) ≡ []
+  pub after : List Message
+  pub only : IsOnly there.inbox (opens_place ref) before opening after
+  pub sent_after : sent_in here.vat made (before ++ opening ∷ []) ≡ []
   pub mark : IsMarkedIf made (mark_of here.vat (cap_of ref))
   pub untold : list_any (tells ref) here.inbox ≡ false
   pub no_back : back here there made ≡ []
@@ -221,10 +221,10 @@ pub record Told (here there : End) (ref : Reference) (made : List ℕ) : Type 0 
   pub ends : EndsAt there.vat (place_of there.vat ref) number
   pub before : List Message
   pub telling : Message
-  pub behind : List Message
-  pub only : IsOnly here.inbox (tells ref) before telling behind
+  pub after : List Message
+  pub only : IsOnly here.inbox (tells ref) before telling after
   pub says : told_by ref telling ≡ Some (descriptors.ReceiverHosted number)
-  pub back_behind : back_in here.vat there.vat made before ≡ []
+  pub back_after : back_in here.vat there.vat made before ≡ []
   pub goes_back : GoBackTo here there made number
   pub waiting : AllWait here there made (LeadsBack there.vat number)
   pub mark : IsMarkedIf made (mark_of here.vat (cap_of ref))
@@ -263,9 +263,9 @@ pub record Embargoed (here there : End) (ref : Reference) (made : List ℕ) : Ty
   pub mark : mark_of here.vat (cap_of ref) ≡ Some (Some embargo)
   pub before : List Message
   pub loop : Message
-  pub behind : List Message
-  pub only : IsOnly there.inbox (is_loop embargo) before loop behind
-  pub sent_before : sent_in here.vat made behind ≡ []
+  pub after : List Message
+  pub only : IsOnly there.inbox (is_loop embargo) before loop after
+  pub sent_before : sent_in here.vat made after ≡ []
   pub no_echo : list_any (is_echo embargo) here.inbox ≡ false
   pub waiting : AllWaitHere here made (λ g. g ≡ gates.Embargo embargo)
 
@@ -276,9 +276,9 @@ pub record Echoed (here there : End) (ref : Reference) (made : List ℕ) : Type 
   pub mark : mark_of here.vat (cap_of ref) ≡ Some (Some embargo)
   pub before : List Message
   pub echo : Message
-  pub behind : List Message
-  pub only : IsOnly here.inbox (is_echo embargo) before echo behind
-  pub back_before : back_in here.vat there.vat made behind ≡ []
+  pub after : List Message
+  pub only : IsOnly here.inbox (is_echo embargo) before echo after
+  pub back_before : back_in here.vat there.vat made after ≡ []
   pub no_loop : list_any (is_loop embargo) there.inbox ≡ false
   pub no_way : on_way here there made ≡ []
   pub waiting : AllWaitHere here made (λ g. g ≡ gates.Embargo embargo)
@@ -321,8 +321,8 @@ pub record ToldOther (here there : End) (ref : Reference) (made : List ℕ) : Ty
   pub closed : IsClosedPlace there.vat ref
   pub before : List Message
   pub telling : Message
-  pub behind : List Message
-  pub only : IsOnly here.inbox (tells ref) before telling behind
+  pub after : List Message
+  pub only : IsOnly here.inbox (tells ref) before telling after
   pub says : IsOther here.vat (told_by ref telling)
 
 -- It came to nothing yet, and is an object of the other vat's, which no message reports to be anything else.

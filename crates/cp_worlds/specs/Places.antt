@@ -18,11 +18,11 @@ NoneFinished s = (q : ℕ) → IfSome (get s.entries.questions q) (λ entry. is_
 
 -- After the Resolve of an export nothing names that export, nor does the Resolve itself: its promise was settled.
 abbrev pub IsLastOf : State → Message → List Message → Type 0
-IsLastOf sender (messages.Resolve r) behind =
+IsLastOf sender (messages.Resolve r) after =
     (p : ℕ) × (value : Cap) × IsExport sender r.promise_id (caps.Promise p) × (get sender.values.promises p ≡ Some (Some value))
-    × AllByRecursion (λ m. times r.promise_id (named_by m) ≡ 0) (messages.Resolve r ∷ behind)
-IsLastOf sender other behind = Unit {0}
+    × AllByRecursion (λ m. times r.promise_id (named_by m) ≡ 0) (messages.Resolve r ∷ after)
+IsLastOf sender other after = Unit {0}
 
 abbrev pub AreLast : State → List Message → Type 0
 AreLast sender [] = Unit {0}
-AreLast sender (m ∷ behind) = IsLastOf sender m behind × AreLast sender behind
+AreLast sender (m ∷ after) = IsLastOf sender m after × AreLast sender after

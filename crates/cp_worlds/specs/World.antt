@@ -42,7 +42,7 @@ new_world one other = record { first = new_end one; second = new_end other }
 pub record Move : Type 0 where
   pub side : Side
   pub moment : Moment
-  pub behind : World
+  pub after : World
 
 -- the messages that effects send
 abbrev pub message_sent : Effect → List Message
@@ -63,18 +63,18 @@ with_mail there messages = record there { inbox = there.inbox ++ messages }
 
 -- The vat of one side makes a step: its application calls, or it receives the front of the messages to it. What it sends goes to the other end.
 pub record Makes (old : World) (move : Move) : Type 0 where
-  pub steps : Step (end_of old move.side).vat move.moment.event move.moment.result move.moment.effects (end_of move.behind move.side).vat
-  pub takes : Takes (end_of old move.side).inbox move.moment.event (end_of move.behind move.side).inbox
-  pub sends : end_of move.behind (across move.side) ≡ with_mail (end_of old (across move.side)) (messages_sent move.moment.effects)
+  pub steps : Step (end_of old move.side).vat move.moment.event move.moment.result move.moment.effects (end_of move.after move.side).vat
+  pub takes : Takes (end_of old move.side).inbox move.moment.event (end_of move.after move.side).inbox
+  pub sends : end_of move.after (across move.side) ≡ with_mail (end_of old (across move.side)) (messages_sent move.moment.effects)
 
 -- moves one after another, and the world after them
 abbrev pub Moves : World → List Move → Type 0
 Moves old [] = Unit {0}
-Moves old (move ∷ more) = Makes old move × Moves move.behind more
+Moves old (move ∷ more) = Makes old move × Moves move.after more
 
 abbrev pub last_of : World → List Move → World
 last_of old [] = old
-last_of old (move ∷ more) = last_of move.behind more
+last_of old (move ∷ more) = last_of move.after more
 
 -- Neither vat is closed. A closed vat stays so, and one whose memory ran out is closed: so none was, and none did.
 abbrev pub AreOpen : World → Type 0

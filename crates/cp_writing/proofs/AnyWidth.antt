@@ -6,17 +6,17 @@ use Rattle.cp_words.specs.declared.pointer.ElementSize.TheVariants as sizes
 use Rattle.cp_words.specs.declared.pointer.Pointer.TheVariants as pointers
 use Rattle.cp_words.specs.declared.kind.Kind.{Kind}
 use Rattle.cp_words.specs.declared.kind.Kind.TheVariants as kinds
-use Rattle.cp_writing.specs.declared.sheet.Room.{Room}
+use Rattle.cp_writing.specs.declared.sheet.Capacity.{Capacity}
 use Rattle.cp_tree.specs.Node.{element_size, element_count, Node, null, cap, struct, list, ptrs, structs, Nodes, no_nodes, node, Bodies, no_bodies, body, count, number_of}
 use Rattle.cp_writing.specs.Packed.{packed}
-use Rattle.cp_writing.specs.Sheets.{Written, Placed, put, append, with_room, place_in, place_by}
+use Rattle.cp_writing.specs.Sheets.{Written, Placed, put, append, with_segment_for, place_in, place_by}
 use Rattle.cp_writing.specs.Writing.{body_blank, bodies_blank, tag_word, struct_placed, ptrs_placed, structs_placed, tree_by, row_by, bodies_by}
 use Rattle.cp_writing.proofs.Sheets.{with_room_keeps}
 
-module _ (a b : Room) (one : a.segments ≤ 1) (other : b.segments ≤ 1) where
+module _ (a b : Capacity) (one : a.segments ≤ 1) (other : b.segments ≤ 1) where
   same_place : (s p : ℕ) (k : Kind) (size : ℕ) (F : Written) → place_by a s p k size F ≡ place_by b s p k size F
   same_place s p k size F =
-      let stays : (room : Room) → room.segments ≤ 1 → with_room room s size F ≡ F = λ room few. with_room_keeps (λ G. G ≡ F) room s size F refl (λ more. absurd (omega (arith, more, few))) in
+      let stays : (capacity : Capacity) → capacity.segments ≤ 1 → with_segment_for capacity s size F ≡ F = λ capacity few. with_room_keeps (λ G. G ≡ F) capacity s size F refl (λ more. absurd (omega (arith, more, few))) in
       ap (place_in s p k size) (stays a one ∙ sym (stays b other))
 
   mutual

@@ -95,13 +95,13 @@ bounded_put F s p w le small h = record {
   counts = λ b. omega (arith, h.counts b, end-put F s p w b le, words-put F s p w);
   few = omega (arith, h.few, full-put F s p w);
   fit = λ within b r.
-      let room : F.words ≤ 67108864 = omega (arith, within, words-put F s p w) in
+      let capacity : F.words ≤ 67108864 = omega (arith, within, words-put F s p w) in
       ⊎_elim
       (λ e. subst (λ t. at (put s p w F) t r < 2 ^ 64) (sym e) (subst (λ xs. slice_index xs r < 2 ^ 64) (sym (seg-put_same F s p w le)) (⊎_elim
-      (λ q. set_fits (seg F s) p w r (small room) q)
-      (λ q. subst (λ n. n < 2 ^ 64) (sym (get_or-set_other (seg F s) p r w 0 q)) (h.fit room s r))
+      (λ q. set_fits (seg F s) p w r (small capacity) q)
+      (λ q. subst (λ n. n < 2 ^ 64) (sym (get_or-set_other (seg F s) p r w 0 q)) (h.fit capacity s r))
       (cases_eq r p))))
-      (λ n. subst (λ xs. slice_index xs r < 2 ^ 64) (sym (seg-put_other F s p w b le n)) (h.fit room b r))
+      (λ n. subst (λ xs. slice_index xs r < 2 ^ 64) (sym (seg-put_other F s p w b le n)) (h.fit capacity b r))
       (cases_eq b s);
 }
 
@@ -113,11 +113,11 @@ bounded_append F ws fits h = record {
       (cases_eq b (length F.full));
   few = h.few;
   fit = λ within b r.
-      let room : F.words ≤ 67108864 = omega (arith, within) in
+      let capacity : F.words ≤ 67108864 = omega (arith, within) in
       ⊎_elim
       (λ e. subst (λ t. at (append ws F) t r < 2 ^ 64) (sym e) (subst (λ xs. slice_index xs r < 2 ^ 64) (sym (seg-append_last F ws))
-      (append_fit F.last ws (λ i. subst (λ xs. slice_index xs i < 2 ^ 64) (seg-last F) (h.fit room (length F.full) i)) fits r)))
-      (λ n. subst (λ xs. slice_index xs r < 2 ^ 64) (sym (seg-append_other F ws b n)) (h.fit room b r))
+      (append_fit F.last ws (λ i. subst (λ xs. slice_index xs i < 2 ^ 64) (seg-last F) (h.fit capacity (length F.full) i)) fits r)))
+      (λ n. subst (λ xs. slice_index xs r < 2 ^ 64) (sym (seg-append_other F ws b n)) (h.fit capacity b r))
       (cases_eq b (length F.full));
 }
 

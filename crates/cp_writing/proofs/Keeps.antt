@@ -9,13 +9,13 @@ use Rattle.cp_words.specs.declared.kind.Kind.TheVariants as kinds
 use Rattle.std.proofs.lemmas.Bool.{cases_eq, ne_eqb}
 use Rattle.std.proofs.lemmas.List.{length-append, length-replicate, get_or_append_left, get_or-set_other}
 use Rattle.cp_words.specs.declared.kind.Kind.{Kind}
-use Rattle.cp_writing.specs.declared.sheet.Room.{Room}
+use Rattle.cp_writing.specs.declared.sheet.Capacity.{Capacity}
 use Rattle.cp_tree.specs.Node.{Node, null, cap, struct, list, ptrs, structs, Nodes, no_nodes, node, Bodies, no_bodies, body, count, number_of, element_size, element_count}
 use Rattle.cp_writing.specs.Packed.{packed}
 use Rattle.cp_tree.specs.Shaped.{Shaped, EachShaped, EachEven}
-use Rattle.cp_writing.specs.Sheets.{Written, Placed, put, append, begin, end_of, here, after_pad, with_room, place_by, body_word}
+use Rattle.cp_writing.specs.Sheets.{Written, Placed, put, append, begin, end_of, here, after_landing_pad, with_segment_for, place_by, body_word}
 use Rattle.cp_writing.specs.Writing.{body_blank, bodies_blank, struct_placed, ptrs_placed, structs_placed, tag_word, tree_by, row_by, bodies_by}
-use Rattle.cp_writing.proofs.Sheets.{seg, seg-last, seg-put_same, seg-put_other, seg-append_last, seg-append_other, seg-begin, end-put, end-last, end-begin, full-put, full-begin, words-put, last-put, with_room_keeps, room-goes, place-cases}
+use Rattle.cp_writing.proofs.Sheets.{seg, seg-last, seg-put_same, seg-put_other, seg-append_last, seg-append_other, seg-begin, end-put, end-last, end-begin, full-put, full-begin, words-put, last-put, with_room_keeps, capacity-goes, place-cases}
 
 -- a word of what is written
 abbrev pub at : Written → ℕ → ℕ → ℕ
@@ -91,8 +91,8 @@ pub record Spot (F : Written) (s p size : ℕ) (x : Placed) : Type 0 where
   pub end : x.at.word ≡ end_of x.sheet x.at.segment
   pub last : 0 < size → x.at.segment ≡ length x.sheet.full
 
-keeps_room : (room : Room) (s p n size : ℕ) (F : Written) → Keeps F s p n (with_room room s size F)
-keeps_room room s p n size F = with_room_keeps (λ G. Keeps F s p n G) room s size F (keeps_nothing F s p n) (λ more. keeps_begin F s p n)
+keeps_room : (capacity : Capacity) (s p n size : ℕ) (F : Written) → Keeps F s p n (with_segment_for capacity s size F)
+keeps_room capacity s p n size F = with_room_keeps (λ G. Keeps F s p n G) capacity s size F (keeps_nothing F s p n) (λ more. keeps_begin F s p n)
 
 spot_here : (F G : Written) (s p : ℕ) (k : Kind) (size : ℕ) → Keeps F s p 1 G → s ≤ length G.full → (size ≡ 0) ⊎ (s ≡ length G.full) → Spot F s p size (here s p k G)
 spot_here F G s p k size h le direct =
@@ -104,39 +104,39 @@ spot_here F G s p k size h le direct =
       last = λ some. ⊎_elim (λ z. absurd (omega (arith, z, some))) (λ e. e ∙ sym (full-put G s p w)) direct;
     }
 
-spot_behind : (F G : Written) (s p : ℕ) (k : Kind) (size : ℕ) → Keeps F s p 1 G → s ≤ length G.full → Spot F s p size (after_pad s p k G)
-spot_behind F G s p k size h le =
+spot_after : (F G : Written) (s p : ℕ) (k : Kind) (size : ℕ) → Keeps F s p 1 G → s ≤ length G.full → Spot F s p size (after_landing_pad s p k G)
+spot_after F G s p k size h le =
     let w = word_of (pointers.Far false (length G.last) (length G.full)) in
     let P = put s p w G in
-    let pad = body_word k 0 ∷ [] in
+    let landing_pad = body_word k 0 ∷ [] in
     let full = full-put G s p w in
-    let end : end_of (append pad P) (length P.full) ≡ length P.last + 1 = ap length (seg-append_last P pad) ∙ length-append P.last pad in
+    let end : end_of (append landing_pad P) (length P.full) ≡ length P.last + 1 = ap length (seg-append_last P landing_pad) ∙ length-append P.last landing_pad in
     record {
-      keeps = keeps_both (keeps_both h (keeps_put G s p w le) (λ b r lt i. i) (λ b r lt i. i)) (keeps_append P pad s p 1) (λ b r lt i. i) (λ b r lt i. i);
+      keeps = keeps_both (keeps_both h (keeps_put G s p w le) (λ b r lt i. i) (λ b r lt i. i)) (keeps_append P landing_pad s p 1) (λ b r lt i. i) (λ b r lt i. i);
       there = omega (arith, full);
-      end = subst (λ n. length G.last + 1 ≡ end_of (append pad P) n) full (sym (end ∙ ap (λ n. n + 1) (last-put G s p w)));
+      end = subst (λ n. length G.last + 1 ≡ end_of (append landing_pad P) n) full (sym (end ∙ ap (λ n. n + 1) (last-put G s p w)));
       last = λ some. sym full;
     }
 
-pub spot : (room : Room) (s p : ℕ) (k : Kind) (size : ℕ) (F : Written) → s ≤ length F.full → Spot F s p size (place_by room s p k size F)
-spot room s p k size F le =
-    let G = with_room room s size F in
-    let h = keeps_room room s p 1 size F in
-    let there : s ≤ length G.full = omega (arith, le, room-goes room s size F) in
-    place-cases (Spot F s p size) s p k size G (spot_here F G s p k size h there) (λ some other. spot_behind F G s p k size h there)
+pub spot : (capacity : Capacity) (s p : ℕ) (k : Kind) (size : ℕ) (F : Written) → s ≤ length F.full → Spot F s p size (place_by capacity s p k size F)
+spot capacity s p k size F le =
+    let G = with_segment_for capacity s size F in
+    let h = keeps_room capacity s p 1 size F in
+    let there : s ≤ length G.full = omega (arith, le, capacity-goes capacity s size F) in
+    place-cases (Spot F s p size) s p k size G (spot_here F G s p k size h there) (λ some other. spot_after F G s p k size h there)
 
 -- a body of this many words lies where it was placed
 pub record Lies (F : Written) (s p : ℕ) (xs : List ℕ) (x : Placed) : Type 0 where
   pub keeps : Keeps F s p 1 (append xs x.sheet)
   pub there : x.at.segment ≤ length x.sheet.full
-  pub behind : end_of F x.at.segment ≤ x.at.word
+  pub after : end_of F x.at.segment ≤ x.at.word
   pub inside : x.at.word + length xs ≤ end_of (append xs x.sheet) x.at.segment
 
 pub lies : (F : Written) (s p size : ℕ) (xs : List ℕ) (x : Placed) → Spot F s p size x → length xs ≡ size → Lies F s p xs x
 lies F s p size xs x h long = record {
   keeps = keeps_both h.keeps (keeps_append x.sheet xs s p 1) (λ b r lt i. i) (λ b r lt i. i);
   there = h.there;
-  behind = omega (arith, h.end, h.keeps.ends x.at.segment);
+  after = omega (arith, h.end, h.keeps.ends x.at.segment);
   inside = ⊎_elim
       (λ z. omega (arith, z, long, h.end, (keeps_append x.sheet xs s p 1).ends x.at.segment))
       (λ nz.
@@ -147,7 +147,7 @@ lies F s p size xs x h long = record {
 
 -- what hangs on pointers of a body is after what was there before
 pub keeps_inner : {F G H : Written} {s p s' q n lo : ℕ} → Keeps F s p 1 G → Keeps G s' q n H → end_of F s' ≤ lo → lo ≤ q → Keeps F s p 1 H
-keeps_inner {F} {G} {H} {s} {p} {s'} {q} {n} {lo} h k behind le = keeps_both h k (λ b r lt i. i) (λ b r lt i. absurd (omega (arith, lt, ap (end_of F) i.0, i.1, behind, le)))
+keeps_inner {F} {G} {H} {s} {p} {s'} {q} {n} {lo} h k after le = keeps_both h k (λ b r lt i. i) (λ b r lt i. absurd (omega (arith, lt, ap (end_of F) i.0, i.1, after, le)))
 
 -- words of bodies
 pub length-blank : (ws : List ℕ) (n : ℕ) → length (body_blank ws n) ≡ length ws + n
@@ -166,42 +166,42 @@ either P zero x y h k = h
 either P (suc n) x y h k = subst (λ b. P (if b then x else y)) (sym (ne_eqb (suc n) 0 (λ z. omega (arith, z)))) k
 
 mutual
-  pub keeps_tree : (room : Room) (t : Node) (s p : ℕ) (F : Written) → Shaped t → s ≤ length F.full → Keeps F s p 1 (tree_by room s p t F)
-  keeps_tree room null s p F shaped le = keeps_put F s p 0 le
-  keeps_tree room (cap i) s p F shaped le = keeps_put F s p (word_of (pointers.Cap i)) le
-  keeps_tree room (struct ws ts) s p F shaped le =
-      let x = struct_placed room s p ws (count ts) F in
+  pub keeps_tree : (capacity : Capacity) (t : Node) (s p : ℕ) (F : Written) → Shaped t → s ≤ length F.full → Keeps F s p 1 (tree_by capacity s p t F)
+  keeps_tree capacity null s p F shaped le = keeps_put F s p 0 le
+  keeps_tree capacity (cap i) s p F shaped le = keeps_put F s p (word_of (pointers.Cap i)) le
+  keeps_tree capacity (struct ws ts) s p F shaped le =
+      let x = struct_placed capacity s p ws (count ts) F in
       let xs = body_blank ws (count ts) in
-      let l = lies F s p (length ws + count ts) xs x (spot room s p (kinds.Struct (length ws) (count ts)) (length ws + count ts) F le) (length-blank ws (count ts)) in
+      let l = lies F s p (length ws + count ts) xs x (spot capacity s p (kinds.Struct (length ws) (count ts)) (length ws + count ts) F le) (length-blank ws (count ts)) in
       either (λ G. Keeps F s p 1 G) (length ws + count ts) _ _ (keeps_put F s p (word_of (pointers.Struct (negsuc 0) 0 0)) le)
-      (keeps_inner l.keeps (keeps_row room ts x.at.segment (x.at.word + length ws) (append xs x.sheet) shaped.2 l.there (omega (arith, l.inside, length-blank ws (count ts)))) l.behind (omega arith))
-  keeps_tree room (list es) s p F shaped le =
-      let x = place_by room s p (kinds.List (element_size es) (element_count es)) (words_for (element_size es) (element_count es)) F in
-      keeps_both (spot room s p (kinds.List (element_size es) (element_count es)) (words_for (element_size es) (element_count es)) F le).keeps (keeps_append x.sheet (packed es) s p 1) (λ b r lt i. i) (λ b r lt i. i)
-  keeps_tree room (ptrs ts) s p F shaped le =
-      let x = ptrs_placed room s p (count ts) F in
+      (keeps_inner l.keeps (keeps_row capacity ts x.at.segment (x.at.word + length ws) (append xs x.sheet) shaped.2 l.there (omega (arith, l.inside, length-blank ws (count ts)))) l.after (omega arith))
+  keeps_tree capacity (list es) s p F shaped le =
+      let x = place_by capacity s p (kinds.List (element_size es) (element_count es)) (words_for (element_size es) (element_count es)) F in
+      keeps_both (spot capacity s p (kinds.List (element_size es) (element_count es)) (words_for (element_size es) (element_count es)) F le).keeps (keeps_append x.sheet (packed es) s p 1) (λ b r lt i. i) (λ b r lt i. i)
+  keeps_tree capacity (ptrs ts) s p F shaped le =
+      let x = ptrs_placed capacity s p (count ts) F in
       let xs = replicate {A = ℕ} (count ts) 0 in
-      let l = lies F s p (count ts) xs x (spot room s p (kinds.List sizes.Pointer (count ts)) (count ts) F le) (length-replicate {A = ℕ} (count ts) 0) in
-      keeps_inner l.keeps (keeps_row room ts x.at.segment (x.at.word + 0) (append xs x.sheet) shaped.1 l.there (omega (arith, l.inside, length-replicate {A = ℕ} (count ts) 0))) l.behind (omega arith)
-  keeps_tree room (structs d n bs) s p F shaped le =
-      let x = structs_placed room s p d n (number_of bs) F in
+      let l = lies F s p (count ts) xs x (spot capacity s p (kinds.List sizes.Pointer (count ts)) (count ts) F le) (length-replicate {A = ℕ} (count ts) 0) in
+      keeps_inner l.keeps (keeps_row capacity ts x.at.segment (x.at.word + 0) (append xs x.sheet) shaped.1 l.there (omega (arith, l.inside, length-replicate {A = ℕ} (count ts) 0))) l.after (omega arith)
+  keeps_tree capacity (structs d n bs) s p F shaped le =
+      let x = structs_placed capacity s p d n (number_of bs) F in
       let xs = tag_word (number_of bs) d n ∷ bodies_blank bs in
       let long : length xs ≡ number_of bs * (d + n) + 1 = omega (arith, length-bodies d n bs shaped.3) in
-      let l = lies F s p (number_of bs * (d + n) + 1) xs x (spot room s p (kinds.List sizes.Composite (number_of bs * (d + n))) (number_of bs * (d + n) + 1) F le) long in
-      keeps_inner l.keeps (keeps_bodies room bs x.at.segment (x.at.word + 1) d n (append xs x.sheet) shaped.3 l.there (omega (arith, l.inside, long))) l.behind (omega arith)
+      let l = lies F s p (number_of bs * (d + n) + 1) xs x (spot capacity s p (kinds.List sizes.Composite (number_of bs * (d + n))) (number_of bs * (d + n) + 1) F le) long in
+      keeps_inner l.keeps (keeps_bodies capacity bs x.at.segment (x.at.word + 1) d n (append xs x.sheet) shaped.3 l.there (omega (arith, l.inside, long))) l.after (omega arith)
 
-  pub keeps_row : (room : Room) (ts : Nodes) (s p : ℕ) (F : Written) → EachShaped ts → s ≤ length F.full → p + count ts ≤ end_of F s → Keeps F s p (count ts) (row_by room s p ts F)
-  keeps_row room no_nodes s p F shaped le inside = keeps_nothing F s p 0
-  keeps_row room (node t ts) s p F shaped le inside =
-      let first = keeps_tree room t s p F shaped.0 le in
-      keeps_both first (keeps_row room ts s (p + 1) (tree_by room s p t F) shaped.1 (omega (arith, le, first.goes)) (omega (arith, inside, first.ends s)))
+  pub keeps_row : (capacity : Capacity) (ts : Nodes) (s p : ℕ) (F : Written) → EachShaped ts → s ≤ length F.full → p + count ts ≤ end_of F s → Keeps F s p (count ts) (row_by capacity s p ts F)
+  keeps_row capacity no_nodes s p F shaped le inside = keeps_nothing F s p 0
+  keeps_row capacity (node t ts) s p F shaped le inside =
+      let first = keeps_tree capacity t s p F shaped.0 le in
+      keeps_both first (keeps_row capacity ts s (p + 1) (tree_by capacity s p t F) shaped.1 (omega (arith, le, first.goes)) (omega (arith, inside, first.ends s)))
       (λ b r lt i. (i.0, i.1, omega (arith, i.2))) (λ b r lt i. (i.0, omega (arith, i.1), omega (arith, i.2)))
 
-  pub keeps_bodies : (room : Room) (bs : Bodies) (s q d n : ℕ) (F : Written) → EachEven d n bs → s ≤ length F.full → q + number_of bs * (d + n) ≤ end_of F s → Keeps F s q (number_of bs * (d + n)) (bodies_by room s q d n bs F)
-  keeps_bodies room no_bodies s q d n F even le inside = keeps_nothing F s q (0 * (d + n))
-  keeps_bodies room (body ws ts bs) s q d n F even le inside =
+  pub keeps_bodies : (capacity : Capacity) (bs : Bodies) (s q d n : ℕ) (F : Written) → EachEven d n bs → s ≤ length F.full → q + number_of bs * (d + n) ≤ end_of F s → Keeps F s q (number_of bs * (d + n)) (bodies_by capacity s q d n bs F)
+  keeps_bodies capacity no_bodies s q d n F even le inside = keeps_nothing F s q (0 * (d + n))
+  keeps_bodies capacity (body ws ts bs) s q d n F even le inside =
       let product : suc (number_of bs) * (d + n) ≡ number_of bs * (d + n) + (d + n) = suc-mul (number_of bs) (d + n) in
-      let first = keeps_row room ts s (q + d) F even.3 le (omega (arith, even.1, inside, product)) in
-      let G = row_by room s (q + d) ts F in
-      keeps_both first (keeps_bodies room bs s (q + d + n) d n G even.4 (omega (arith, le, first.goes)) (omega (arith, inside, product, first.ends s)))
+      let first = keeps_row capacity ts s (q + d) F even.3 le (omega (arith, even.1, inside, product)) in
+      let G = row_by capacity s (q + d) ts F in
+      keeps_both first (keeps_bodies capacity bs s (q + d + n) d n G even.4 (omega (arith, le, first.goes)) (omega (arith, inside, product, first.ends s)))
       (λ b r lt i. (i.0, omega (arith, i.1), omega (arith, i.2, even.1, product))) (λ b r lt i. (i.0, omega (arith, i.1), omega (arith, i.2, product)))

@@ -2,7 +2,7 @@
 use Rattle.std.proofs.Common.{◌≡◌, ℕ, ◌+◌, ◌<◌, ◌≤◌, ◌⊎◌, List, length, drop, get_or, refl, sym, ap, ◌∙◌, arith}
 use Rattle.std.specs.Prelude.{slice_index}
 use Rattle.std.proofs.lemmas.List.{ext_get_or, length-drop, length-take-le, get_or-take, get_or-drop, get_or-set_same, get_or-append-add}
-use Rattle.cp_words.specs.Aims.{segment, words_at}
+use Rattle.cp_words.specs.Targets.{segment, words_at}
 use Rattle.cp_writing.specs.Layout.{Filled}
 use Rattle.cp_writing.specs.Sheets.{Written, Placed, put, append, end_of}
 use Rattle.cp_writing.proofs.Sheets.{seg, seg-put_same, seg-append_last, end-last, full-put, last-put}
@@ -62,8 +62,8 @@ stand F s p size xs x h long i lt =
 -- words that are those of a list
 pub are_words : (S : List (List ℕ)) (s q n : ℕ) (ws : List ℕ) → length ws ≡ n → q + n ≤ length (segment S s) → ((i : ℕ) → i < n → slice_index (segment S s) (q + i) ≡ get_or ws i 0) → ws ≡ words_at S s q n
 are_words S s q n ws long inside same =
-    let room : n ≤ length (drop q (segment S s)) = omega (arith, length-drop q (segment S s), inside) in
-    ext_get_or 0 ws (words_at S s q n) (long ∙ sym (length-take-le n (drop q (segment S s)) room))
+    let capacity : n ≤ length (drop q (segment S s)) = omega (arith, length-drop q (segment S s), inside) in
+    ext_get_or 0 ws (words_at S s q n) (long ∙ sym (length-take-le n (drop q (segment S s)) capacity))
     (λ i lt.
     let within : i < n = omega (arith, lt, long) in
     sym (get_or-take n (drop q (segment S s)) i 0 within ∙ get_or-drop q (segment S s) i 0 ∙ same i within))

@@ -11,10 +11,10 @@ use Rattle.cp_words.specs.declared.pointer.Pointer.{Pointer}
 use Rattle.cp_words.specs.declared.pointer.Pointer.TheVariants as pointers
 use Rattle.cp_words.specs.declared.kind.Kind.{Kind}
 use Rattle.cp_words.specs.declared.kind.Kind.TheVariants as kinds
-use Rattle.cp_words.specs.Aims.{segment, words_at, Holds, IsBodyPointer, AimsHere, AimsByPad}
+use Rattle.cp_words.specs.Targets.{segment, words_at, Holds, IsBodyPointer, HasTargetHere, HasTargetByLandingPad}
 use Rattle.cp_tree.specs.Node.{Node, null, cap, struct, list, ptrs, structs, Nodes, no_nodes, node, Bodies, no_bodies, body, count, number_of, element_size, element_count}
 use Rattle.cp_tree.specs.Shaped.{AllFit, Shaped, EachShaped, EachEven}
-use Rattle.cp_writing.specs.Layout.{Filled, Room, FitsHere, FitsAfterPad, Follows, FollowsPad, Begins, IsEnd, Places, without_words, here, after_pad, in_new, last_here, last_after_pad, HoldElements, Lays, LaysRow, LaysBodies, Layout}
+use Rattle.cp_writing.specs.Layout.{Filled, Capacity, FitsHere, FitsAfterLandingPad, Follows, FollowsLandingPad, Begins, IsEnd, Places, without_words, here, after_landing_pad, in_new, last_here, last_after_landing_pad, HoldElements, Lays, LaysRow, LaysBodies, Layout}
 use Rattle.cp_writing.proofs.OneWord.{one_word, one_tag, one_held}
 
 -- ---- where a body is placed
@@ -25,50 +25,50 @@ data Way : Type 0 where
   padded : Way
   fresh : Way
 
-abbrev way_by : Room → ℕ → ℕ → Filled → Way
-way_by room s size f =
+abbrev way_by : Capacity → ℕ → ℕ → Filled → Way
+way_by capacity s size f =
     if size == 0 then empty
-    else (if s == f.last then (if nat_le (f.used + size) room.words then direct else (if nat_le room.segments (f.last + 1) then direct else fresh))
-    else (if nat_le (f.used + 1 + size) room.words then padded else (if nat_le room.segments (f.last + 1) then padded else fresh)))
+    else (if s == f.last then (if nat_le (f.used + size) capacity.words then direct else (if nat_le capacity.segments (f.last + 1) then direct else fresh))
+    else (if nat_le (f.used + 1 + size) capacity.words then padded else (if nat_le capacity.segments (f.last + 1) then padded else fresh)))
 
 -- the body is placed so
 abbrev Goes : Way → List (List ℕ) → ℕ → ℕ → Kind → ℕ → Filled → ℕ → ℕ → Filled → Type 0
-Goes empty S s p k size f s' start g = (size ≡ 0) × (s' ≡ s) × AimsHere S s p k start × IsEnd S s f start × (g ≡ f)
+Goes empty S s p k size f s' start g = (size ≡ 0) × (s' ≡ s) × HasTargetHere S s p k start × IsEnd S s f start × (g ≡ f)
 Goes direct S s p k size f s' start g = (s ≡ f.last) × Follows S s p k size f s' start g
-Goes padded S s p k size f s' start g = FollowsPad S s p k size f s' start g
+Goes padded S s p k size f s' start g = FollowsLandingPad S s p k size f s' start g
 Goes fresh S s p k size f s' start g = Begins S s p k size f s' start g
 
-module _ (S : List (List ℕ)) (room : Room) (s p : ℕ) (k : Kind) (size : ℕ) (f : Filled) (s' start : ℕ) (g : Filled) where
+module _ (S : List (List ℕ)) (capacity : Capacity) (s p : ℕ) (k : Kind) (size : ℕ) (f : Filled) (s' start : ℕ) (g : Filled) where
   abbrev At : Way → Type 0
   At w = Goes w S s p k size f s' start g
 
-  no_here : ¬ (FitsHere room s size f) → s ≡ f.last → room.words < f.used + size
-  no_here never e = ⊎_elim (λ lt. lt) (λ le. absurd (never (e, le))) (cases_lt room.words (f.used + size))
+  no_here : ¬ (FitsHere capacity s size f) → s ≡ f.last → capacity.words < f.used + size
+  no_here never e = ⊎_elim (λ lt. lt) (λ le. absurd (never (e, le))) (cases_lt capacity.words (f.used + size))
 
-  no_pad : ¬ (FitsAfterPad room s size f) → s ≢ f.last → room.words < f.used + 1 + size
-  no_pad never e = ⊎_elim (λ lt. lt) (λ le. absurd (never (e, le))) (cases_lt room.words (f.used + 1 + size))
+  no_pad : ¬ (FitsAfterLandingPad capacity s size f) → s ≢ f.last → capacity.words < f.used + 1 + size
+  no_pad never e = ⊎_elim (λ lt. lt) (λ le. absurd (never (e, le))) (cases_lt capacity.words (f.used + 1 + size))
 
-  goes : Places S room s p k size f s' start g → At (way_by room s size f)
-  goes (without_words none aims same end fills) =
-      let way : way_by room s size f ≡ empty = rw (eq-eqb size 0 none) refl in
-      subst At (sym way) (none, same, aims, end, fills)
+  goes : Places S capacity s p k size f s' start g → At (way_by capacity s size f)
+  goes (without_words none has_target same end fills) =
+      let way : way_by capacity s size f ≡ empty = rw (eq-eqb size 0 none) refl in
+      subst At (sym way) (none, same, has_target, end, fills)
   goes (here some fits follows) =
-      let way : way_by room s size f ≡ direct = rw (ne_eqb size 0 (λ z. omega (arith, z, some)), eq-eqb s f.last fits.0, le-leb (f.used + size) room.words fits.1) refl in
+      let way : way_by capacity s size f ≡ direct = rw (ne_eqb size 0 (λ z. omega (arith, z, some)), eq-eqb s f.last fits.0, le-leb (f.used + size) capacity.words fits.1) refl in
       subst At (sym way) (fits.0, follows)
-  goes (after_pad some not_here fits follows) =
-      let way : way_by room s size f ≡ padded = rw (ne_eqb size 0 (λ z. omega (arith, z, some)), ne_eqb s f.last fits.0, le-leb (f.used + 1 + size) room.words fits.1) refl in
+  goes (after_landing_pad some not_here fits follows) =
+      let way : way_by capacity s size f ≡ padded = rw (ne_eqb size 0 (λ z. omega (arith, z, some)), ne_eqb s f.last fits.0, le-leb (f.used + 1 + size) capacity.words fits.1) refl in
       subst At (sym way) follows
-  goes (in_new some not_here not_behind more begins) =
-      let way : way_by room s size f ≡ fresh = ⊎_elim
-      (λ e. rw (ne_eqb size 0 (λ z. omega (arith, z, some)), eq-eqb s f.last e, lt-leb (f.used + size) room.words (no_here not_here e), lt-leb room.segments (f.last + 1) more) refl)
-      (λ e. rw (ne_eqb size 0 (λ z. omega (arith, z, some)), ne_eqb s f.last e, lt-leb (f.used + 1 + size) room.words (no_pad not_behind e), lt-leb room.segments (f.last + 1) more) refl)
+  goes (in_new some not_here not_after more begins) =
+      let way : way_by capacity s size f ≡ fresh = ⊎_elim
+      (λ e. rw (ne_eqb size 0 (λ z. omega (arith, z, some)), eq-eqb s f.last e, lt-leb (f.used + size) capacity.words (no_here not_here e), lt-leb capacity.segments (f.last + 1) more) refl)
+      (λ e. rw (ne_eqb size 0 (λ z. omega (arith, z, some)), ne_eqb s f.last e, lt-leb (f.used + 1 + size) capacity.words (no_pad not_after e), lt-leb capacity.segments (f.last + 1) more) refl)
       (cases_eq s f.last) in
       subst At (sym way) begins
-  goes (last_here some not_here not_behind no_more same follows) =
-      let way : way_by room s size f ≡ direct = rw (ne_eqb size 0 (λ z. omega (arith, z, some)), eq-eqb s f.last same, lt-leb (f.used + size) room.words (no_here not_here same), le-leb room.segments (f.last + 1) no_more) refl in
+  goes (last_here some not_here not_after no_more same follows) =
+      let way : way_by capacity s size f ≡ direct = rw (ne_eqb size 0 (λ z. omega (arith, z, some)), eq-eqb s f.last same, lt-leb (f.used + size) capacity.words (no_here not_here same), le-leb capacity.segments (f.last + 1) no_more) refl in
       subst At (sym way) (same, follows)
-  goes (last_after_pad some not_here not_behind no_more other follows) =
-      let way : way_by room s size f ≡ padded = rw (ne_eqb size 0 (λ z. omega (arith, z, some)), ne_eqb s f.last other, lt-leb (f.used + 1 + size) room.words (no_pad not_behind other), le-leb room.segments (f.last + 1) no_more) refl in
+  goes (last_after_landing_pad some not_here not_after no_more other follows) =
+      let way : way_by capacity s size f ≡ padded = rw (ne_eqb size 0 (λ z. omega (arith, z, some)), ne_eqb s f.last other, lt-leb (f.used + 1 + size) capacity.words (no_pad not_after other), le-leb capacity.segments (f.last + 1) no_more) refl in
       subst At (sym way) follows
 
 -- ---- words
@@ -104,17 +104,17 @@ module _ (S T : List (List ℕ)) (fit : All (AllFit 64) S) (fits : All (AllFit 6
   pointer_same : (s p : ℕ) (r : Pointer) → Holds S s p r → Holds T s p r → Same s p
   pointer_same s p r h k = one_word (slice_index (segment S s) p) (slice_index (segment T s) p) r (word_fits S fit s p) (word_fits T fits s p) h.1 k.1
 
-  here_same : (s p : ℕ) (k : Kind) (start : ℕ) → AimsHere S s p k start → AimsHere T s p k start → Same s p
+  here_same : (s p : ℕ) (k : Kind) (start : ℕ) → HasTargetHere S s p k start → HasTargetHere T s p k start → Same s p
   here_same s p k start h g =
       let offset : h.offset ≡ g.offset = omega (arith, ints, h.begins, g.begins) in
       let pointer : h.pointer ≡ g.pointer = pointer_is h.pointer h.offset k h.says ∙ ap (λ (o : ℤ). pointer_for o k) offset ∙ sym (pointer_is g.pointer g.offset k g.says) in
       pointer_same s p g.pointer (subst (Holds S s p) pointer h.stands) g.stands
 
-  pad_same : (s p : ℕ) (k : Kind) (a b a' b' : ℕ) (h : AimsByPad S s p k a b) (g : AimsByPad T s p k a' b') → a ≡ a' → b ≡ b' → h.place ≡ g.place → Same s p × Same a h.place
+  pad_same : (s p : ℕ) (k : Kind) (a b a' b' : ℕ) (h : HasTargetByLandingPad S s p k a b) (g : HasTargetByLandingPad T s p k a' b') → a ≡ a' → b ≡ b' → h.place ≡ g.place → Same s p × Same a h.place
   pad_same s p k a b a' b' h g there start place =
       let pointer = subst (λ (t : ℕ). Holds T s p (pointers.Far false h.place t)) (sym there) (subst (λ (i : ℕ). Holds T s p (pointers.Far false i a')) (sym place) g.stands) in
-      let begun = subst (λ (i : ℕ). AimsHere T a' h.place k i) (sym start) (subst (λ (i : ℕ). AimsHere T a' i k b') (sym place) g.pad) in
-      (pointer_same s p (pointers.Far false h.place a) h.stands pointer, here_same a h.place k b h.pad (subst (λ (t : ℕ). AimsHere T t h.place k b) (sym there) begun))
+      let begun = subst (λ (i : ℕ). HasTargetHere T a' h.place k i) (sym start) (subst (λ (i : ℕ). HasTargetHere T a' i k b') (sym place) g.landing_pad) in
+      (pointer_same s p (pointers.Far false h.place a) h.stands pointer, here_same a h.place k b h.landing_pad (subst (λ (t : ℕ). HasTargetHere T t h.place k b) (sym there) begun))
 
   data_same : (s q n : ℕ) → words_at S s q n ≡ words_at T s q n → (i : ℕ) → i < n → Same s (q + i)
   data_same s q n e i lt = sym (word_at S s q n i lt) ∙ ap (λ (ws : List ℕ). slice_index ws i) e ∙ word_at T s q n i lt
@@ -202,7 +202,7 @@ module _ (S T : List (List ℕ)) (fit : All (AllFit 64) S) (fits : All (AllFit 6
           there = h.1 ∙ sym m.1;
           start = end;
           filled = same;
-          pointer = here_same s p k b h.2 (subst (λ (i : ℕ). AimsHere T s p k i) (sym end) m.2);
+          pointer = here_same s p k b h.2 (subst (λ (i : ℕ). HasTargetHere T s p k i) (sym end) m.2);
           inside = omega (arith, le, h.1, ap (λ (x : Filled). x.last) h.4);
           known = subst Known (sym h.4) known;
           alike = λ its. subst (Alike f) (sym h.4) (nothing_alike f);
@@ -214,21 +214,21 @@ module _ (S T : List (List ℕ)) (fit : All (AllFit 64) S) (fits : All (AllFit 6
         ends (inr x) (inl y) = absurd (x.0 y.0)
         ends (inr x) (inr y) = x.1 ∙ known s (omega (arith, le, x.0)) ∙ sym y.1
     goes_same direct (at, h) (there, m) =
-        let start : b ≡ b' = h.behind ∙ sym m.behind in
+        let start : b ≡ b' = h.starts_after ∙ sym m.starts_after in
         let place : a ≡ f.last = h.same ∙ at in
         record {
           there = h.same ∙ sym m.same;
           start = start;
           filled = h.fills ∙ sym m.fills;
-          pointer = here_same s p k b h.aims (subst (λ (i : ℕ). AimsHere T s p k i) (sym start) m.aims);
+          pointer = here_same s p k b h.has_target (subst (λ (i : ℕ). HasTargetHere T s p k i) (sym start) m.has_target);
           inside = omega (arith, place, ap (λ (x : Filled). x.last) h.fills);
           known = subst Known (sym h.fills) known;
-          alike = λ its. subst (Alike f) (sym h.fills) (more_alike f size (λ i lt. subst (λ (t : ℕ). Same t (f.used + i)) place (subst (λ (q : ℕ). Same a (q + i)) h.behind (its i lt))));
+          alike = λ its. subst (Alike f) (sym h.fills) (more_alike f size (λ i lt. subst (λ (t : ℕ). Same t (f.used + i)) place (subst (λ (q : ℕ). Same a (q + i)) h.starts_after (its i lt))));
         }
     goes_same padded h m =
-        let start : b ≡ b' = h.behind ∙ sym m.behind in
+        let start : b ≡ b' = h.starts_after ∙ sym m.starts_after in
         let there : a ≡ a' = h.last ∙ sym m.last in
-        let pads = pad_same s p k a b a' b' h.aims m.aims there start (h.pad ∙ sym m.pad) in
+        let pads = pad_same s p k a b a' b' h.has_target m.has_target there start (h.landing_pad ∙ sym m.landing_pad) in
         let body_at = λ (its : (i : ℕ) → i < size → Same a (b + i)). more_alike f (1 + size) (with_pad its pads.1) in
         let whole : f.used + (1 + size) ≡ f.used + 1 + size = omega arith in
         let fills : record { last = f.last; used = f.used + (1 + size) } ≡ g = ap (λ (n : ℕ). let x : Filled = record { last = f.last; used = n } in x) whole ∙ sym h.fills in
@@ -242,17 +242,17 @@ module _ (S T : List (List ℕ)) (fit : All (AllFit 64) S) (fits : All (AllFit 6
           alike = λ its. subst (Alike f) fills (body_at its);
         }
       where
-        with_pad : ((i : ℕ) → i < size → Same a (b + i)) → Same a h.aims.place → (i : ℕ) → i < 1 + size → Same f.last (f.used + i)
-        with_pad its pad zero lt =
-            let at : h.aims.place ≡ f.used + 0 = omega (arith, h.pad) in
-            subst (λ (q : ℕ). Same f.last q) at (subst (λ (t : ℕ). Same t h.aims.place) h.last pad)
-        with_pad its pad (suc i) lt =
-            let at : b + i ≡ f.used + suc i = omega (arith, h.behind) in
+        with_pad : ((i : ℕ) → i < size → Same a (b + i)) → Same a h.has_target.place → (i : ℕ) → i < 1 + size → Same f.last (f.used + i)
+        with_pad its landing_pad zero lt =
+            let at : h.has_target.place ≡ f.used + 0 = omega (arith, h.landing_pad) in
+            subst (λ (q : ℕ). Same f.last q) at (subst (λ (t : ℕ). Same t h.has_target.place) h.last landing_pad)
+        with_pad its landing_pad (suc i) lt =
+            let at : b + i ≡ f.used + suc i = omega (arith, h.starts_after) in
             subst (λ (q : ℕ). Same f.last q) at (subst (λ (t : ℕ). Same t (b + i)) h.last (its i (omega (arith, lt))))
     goes_same fresh h m =
-        let start : b ≡ b' = h.behind ∙ sym m.behind in
+        let start : b ≡ b' = h.starts_after ∙ sym m.starts_after in
         let there : a ≡ a' = h.next ∙ sym m.next in
-        let pads = pad_same s p k a b a' b' h.aims m.aims there start (h.pad ∙ sym m.pad) in
+        let pads = pad_same s p k a b a' b' h.has_target m.has_target there start (h.landing_pad ∙ sym m.landing_pad) in
         let whole = λ (its : (i : ℕ) → i < size → Same a (b + i)). begun_alike f (1 + size) h.ends m.ends (with_pad its pads.1) in
         record {
           there = there;
@@ -264,10 +264,10 @@ module _ (S T : List (List ℕ)) (fit : All (AllFit 64) S) (fits : All (AllFit 6
           alike = λ its. subst (Alike f) (sym h.fills) (whole its);
         }
       where
-        with_pad : ((i : ℕ) → i < size → Same a (b + i)) → Same a h.aims.place → (i : ℕ) → i < 1 + size → Same (f.last + 1) i
-        with_pad its pad zero lt = subst (λ (q : ℕ). Same (f.last + 1) q) h.pad (subst (λ (t : ℕ). Same t h.aims.place) h.next pad)
-        with_pad its pad (suc i) lt =
-            let at : b + i ≡ suc i = omega (arith, h.behind) in
+        with_pad : ((i : ℕ) → i < size → Same a (b + i)) → Same a h.has_target.place → (i : ℕ) → i < 1 + size → Same (f.last + 1) i
+        with_pad its landing_pad zero lt = subst (λ (q : ℕ). Same (f.last + 1) q) h.landing_pad (subst (λ (t : ℕ). Same t h.has_target.place) h.next landing_pad)
+        with_pad its landing_pad (suc i) lt =
+            let at : b + i ≡ suc i = omega (arith, h.starts_after) in
             subst (λ (q : ℕ). Same (f.last + 1) q) at (subst (λ (t : ℕ). Same t (b + i)) h.next (its i (omega (arith, lt))))
 
         known_begun : Known g
@@ -276,21 +276,21 @@ module _ (S T : List (List ℕ)) (fit : All (AllFit 64) S) (fits : All (AllFit 6
             (λ ge. let e : t ≡ f.last = omega (arith, ge, lt, ap (λ (x : Filled). x.last) h.fills) in subst (λ (t : ℕ). length (segment S t) ≡ length (segment T t)) (sym e) (h.ends ∙ sym m.ends))
             (cases_lt t f.last)
 
-  module _ (room : Room) where
+  module _ (capacity : Capacity) where
     placed_same : (s p : ℕ) (k : Kind) (size : ℕ) (f : Filled) (a b : ℕ) (g : Filled) (a' b' : ℕ) (g' : Filled) → s ≤ f.last → Known f
-        → Places S room s p k size f a b g → Places T room s p k size f a' b' g' → PlacedSame s p size f a b g a' b' g'
+        → Places S capacity s p k size f a b g → Places T capacity s p k size f a' b' g' → PlacedSame s p size f a b g a' b' g'
     placed_same s p k size f a b g a' b' g' le known h m =
-        goes_same s p k size f a b g a' b' g' le known (way_by room s size f) (goes S room s p k size f a b g h) (goes T room s p k size f a' b' g' m)
+        goes_same s p k size f a b g a' b' g' le known (way_by capacity s size f) (goes S capacity s p k size f a b g h) (goes T capacity s p k size f a' b' g' m)
 
     -- what a struct's layout is
     abbrev LaysStruct : List (List ℕ) → ℕ → ℕ → List ℕ → Nodes → Filled → Filled → Type 0
     LaysStruct U s p ws ts f g =
-        (s' : ℕ) × (start : ℕ) × (mid : Filled) × Places U room s p (kinds.Struct (length ws) (count ts)) (length ws + count ts) f s' start mid
-        × (ws ≡ words_at U s' start (length ws)) × LaysRow U room s' (start + length ws) ts mid g
+        (s' : ℕ) × (start : ℕ) × (mid : Filled) × Places U capacity s p (kinds.Struct (length ws) (count ts)) (length ws + count ts) f s' start mid
+        × (ws ≡ words_at U s' start (length ws)) × LaysRow U capacity s' (start + length ws) ts mid g
 
-    behind_tag : (s q size : ℕ) → Same s q → ((i : ℕ) → i < size → Same s (q + 1 + i)) → (i : ℕ) → i < size + 1 → Same s (q + i)
-    behind_tag s q size tag all zero lt = let e : q ≡ q + 0 = omega arith in subst (λ (i : ℕ). Same s i) e tag
-    behind_tag s q size tag all (suc i) lt = let e : q + 1 + i ≡ q + suc i = omega arith in subst (λ (j : ℕ). Same s j) e (all i (omega (arith, lt)))
+    after_tag : (s q size : ℕ) → Same s q → ((i : ℕ) → i < size → Same s (q + 1 + i)) → (i : ℕ) → i < size + 1 → Same s (q + i)
+    after_tag s q size tag all zero lt = let e : q ≡ q + 0 = omega arith in subst (λ (i : ℕ). Same s i) e tag
+    after_tag s q size tag all (suc i) lt = let e : q + 1 + i ≡ q + suc i = omega arith in subst (λ (j : ℕ). Same s j) e (all i (omega (arith, lt)))
 
     -- a struct's words, and then its pointers
     both_parts : (s q d n : ℕ) → ((i : ℕ) → i < d → Same s (q + i)) → ((i : ℕ) → i < n → Same s (q + d + i)) → (i : ℕ) → i < d + n → Same s (q + i)
@@ -301,20 +301,20 @@ module _ (S T : List (List ℕ)) (fit : All (AllFit 64) S) (fits : All (AllFit 6
 
     -- a row is the same in both
     abbrev RowSame : Nodes → Type 0
-    RowSame ts = (s p : ℕ) (f g h : Filled) → s ≤ f.last → Known f → LaysRow S room s p ts f g → LaysRow T room s p ts f h → (g ≡ h) × ((i : ℕ) → i < count ts → Same s (p + i)) × Alike f g
+    RowSame ts = (s p : ℕ) (f g h : Filled) → s ≤ f.last → Known f → LaysRow S capacity s p ts f g → LaysRow T capacity s p ts f h → (g ≡ h) × ((i : ℕ) → i < count ts → Same s (p + i)) × Alike f g
 
     struct_same : (ws : List ℕ) (ts : Nodes) → RowSame ts → (s p : ℕ) (f g h : Filled) → s ≤ f.last → Known f → LaysStruct S s p ws ts f g → LaysStruct T s p ws ts f h → (g ≡ h) × Same s p × Alike f g
     struct_same ws ts rows s p f g h le known a b =
         let d = length ws in
         let there = placed_same s p (kinds.Struct d (count ts)) (d + count ts) f a.0 a.1 a.2 b.0 b.1 b.2 le known a.3 b.3 in
         let words = subst (λ (t : ℕ). ws ≡ words_at T t a.1 d) (sym there.there) (subst (λ (q : ℕ). ws ≡ words_at T b.0 q d) (sym there.start) b.4) in
-        let second = subst (λ (m : Filled). LaysRow T room a.0 (a.1 + d) ts m h) (sym there.filled)
-        (subst (λ (q : ℕ). LaysRow T room a.0 (q + d) ts b.2 h) (sym there.start) (subst (λ (t : ℕ). LaysRow T room t (b.1 + d) ts b.2 h) (sym there.there) b.5)) in
+        let second = subst (λ (m : Filled). LaysRow T capacity a.0 (a.1 + d) ts m h) (sym there.filled)
+        (subst (λ (q : ℕ). LaysRow T capacity a.0 (q + d) ts b.2 h) (sym there.start) (subst (λ (t : ℕ). LaysRow T capacity t (b.1 + d) ts b.2 h) (sym there.there) b.5)) in
         let row = rows a.0 (a.1 + d) a.2 g h there.inside there.known a.5 second in
         (row.0, there.pointer, both_alike f a.2 g (there.alike (both_parts a.0 a.1 d (count ts) (data_same a.0 a.1 d (sym a.4 ∙ words)) row.1)) row.2)
 
     mutual
-      tree_same : (t : Node) (s p : ℕ) (f g h : Filled) → Shaped t → s ≤ f.last → Known f → Lays S room s p t f g → Lays T room s p t f h → (g ≡ h) × Same s p × Alike f g
+      tree_same : (t : Node) (s p : ℕ) (f g h : Filled) → Shaped t → s ≤ f.last → Known f → Lays S capacity s p t f g → Lays T capacity s p t f h → (g ≡ h) × Same s p × Alike f g
       tree_same null s p f g h shaped le known a b = (a.1 ∙ sym b.1, pointer_same s p pointers.Null a.0 b.0, subst (Alike f) (sym a.1) (nothing_alike f))
       tree_same (cap i) s p f g h shaped le known a b = (a.1 ∙ sym b.1, pointer_same s p (pointers.Cap i) a.0 b.0, subst (Alike f) (sym a.1) (nothing_alike f))
       tree_same (struct [] no_nodes) s p f g h shaped le known a b = (a.1 ∙ sym b.1, pointer_same s p (pointers.Struct (negsuc 0) 0 0) a.0 b.0, subst (Alike f) (sym a.1) (nothing_alike f))
@@ -331,7 +331,7 @@ module _ (S T : List (List ℕ)) (fit : All (AllFit 64) S) (fits : All (AllFit 6
           (there.filled, there.pointer, there.alike each)
       tree_same (ptrs ts) s p f g h shaped le known a b =
           let there = placed_same s p (kinds.List sizes.Pointer (count ts)) (count ts) f a.0 a.1 a.2 b.0 b.1 b.2 le known a.3 b.3 in
-          let second = subst (λ (m : Filled). LaysRow T room a.0 a.1 ts m h) (sym there.filled) (subst (λ (q : ℕ). LaysRow T room a.0 q ts b.2 h) (sym there.start) (subst (λ (t : ℕ). LaysRow T room t b.1 ts b.2 h) (sym there.there) b.4)) in
+          let second = subst (λ (m : Filled). LaysRow T capacity a.0 a.1 ts m h) (sym there.filled) (subst (λ (q : ℕ). LaysRow T capacity a.0 q ts b.2 h) (sym there.start) (subst (λ (t : ℕ). LaysRow T capacity t b.1 ts b.2 h) (sym there.there) b.4)) in
           let row = row_same ts a.0 a.1 a.2 g h shaped.1 there.inside there.known a.4 second in
           (row.0, there.pointer, both_alike f a.2 g (there.alike row.1) row.2)
       tree_same (structs d n bs) s p f g h shaped le known a b =
@@ -339,35 +339,35 @@ module _ (S T : List (List ℕ)) (fit : All (AllFit 64) S) (fits : All (AllFit 6
           let there = placed_same s p (kinds.List sizes.Composite size) (size + 1) f a.0 a.1 a.2 b.0 b.1 b.2 le known a.3 b.3 in
           let tagged = subst (λ (t : ℕ). tag_of (slice_index (segment T t) a.1) ≡ Some (record { count = number_of bs; words = d; ptrs = n })) (sym there.there)
           (subst (λ (q : ℕ). tag_of (slice_index (segment T b.0) q) ≡ Some (record { count = number_of bs; words = d; ptrs = n })) (sym there.start) b.4) in
-          let second = subst (λ (m : Filled). LaysBodies T room a.0 (a.1 + 1) d n bs m h) (sym there.filled)
-          (subst (λ (q : ℕ). LaysBodies T room a.0 (q + 1) d n bs b.2 h) (sym there.start) (subst (λ (t : ℕ). LaysBodies T room t (b.1 + 1) d n bs b.2 h) (sym there.there) b.5)) in
+          let second = subst (λ (m : Filled). LaysBodies T capacity a.0 (a.1 + 1) d n bs m h) (sym there.filled)
+          (subst (λ (q : ℕ). LaysBodies T capacity a.0 (q + 1) d n bs b.2 h) (sym there.start) (subst (λ (t : ℕ). LaysBodies T capacity t (b.1 + 1) d n bs b.2 h) (sym there.there) b.5)) in
           let tag : Same a.0 a.1 = one_tag (slice_index (segment S a.0) a.1) (slice_index (segment T a.0) a.1) (record { count = number_of bs; words = d; ptrs = n }) (word_fits S fit a.0 a.1) (word_fits T fits a.0 a.1) a.4 tagged in
           let row = bodies_same bs d n a.0 (a.1 + 1) a.2 g h shaped.3 there.inside there.known a.5 second in
-          (row.0, there.pointer, both_alike f a.2 g (there.alike (behind_tag a.0 a.1 size tag row.1)) row.2)
+          (row.0, there.pointer, both_alike f a.2 g (there.alike (after_tag a.0 a.1 size tag row.1)) row.2)
 
-      row_same : (ts : Nodes) (s p : ℕ) (f g h : Filled) → EachShaped ts → s ≤ f.last → Known f → LaysRow S room s p ts f g → LaysRow T room s p ts f h → (g ≡ h) × ((i : ℕ) → i < count ts → Same s (p + i)) × Alike f g
+      row_same : (ts : Nodes) (s p : ℕ) (f g h : Filled) → EachShaped ts → s ≤ f.last → Known f → LaysRow S capacity s p ts f g → LaysRow T capacity s p ts f h → (g ≡ h) × ((i : ℕ) → i < count ts → Same s (p + i)) × Alike f g
       row_same no_nodes s p f g h shaped le known a b = (a ∙ sym b, λ i lt. absurd (omega (arith, lt)), subst (Alike f) (sym a) (nothing_alike f))
       row_same (node t ts) s p f g h shaped le known a b =
           let first = tree_same t s p f a.0 b.0 shaped.0 le known a.1 b.1 in
-          let second = subst (λ (m : Filled). LaysRow T room s (p + 1) ts m h) (sym first.0) b.2 in
+          let second = subst (λ (m : Filled). LaysRow T capacity s (p + 1) ts m h) (sym first.0) b.2 in
           let later = row_same ts s (p + 1) a.0 g h shaped.1 (omega (arith, le, first.2.order)) (known_after f a.0 known first.2) a.2 second in
-          (later.0, λ i lt. behind_tag s p (count ts) first.1 later.1 i (omega (arith, lt)), both_alike f a.0 g first.2 later.2)
+          (later.0, λ i lt. after_tag s p (count ts) first.1 later.1 i (omega (arith, lt)), both_alike f a.0 g first.2 later.2)
 
-      bodies_same : (bs : Bodies) (d n s q : ℕ) (f g h : Filled) → EachEven d n bs → s ≤ f.last → Known f → LaysBodies S room s q d n bs f g → LaysBodies T room s q d n bs f h
+      bodies_same : (bs : Bodies) (d n s q : ℕ) (f g h : Filled) → EachEven d n bs → s ≤ f.last → Known f → LaysBodies S capacity s q d n bs f g → LaysBodies T capacity s q d n bs f h
           → (g ≡ h) × ((i : ℕ) → i < number_of bs * (d + n) → Same s (q + i)) × Alike f g
       bodies_same no_bodies d n s q f g h even le known a b = (a ∙ sym b, λ i lt. absurd (omega (arith, lt)), subst (Alike f) (sym a) (nothing_alike f))
       bodies_same (body ws ts bs) d n s q f g h even le known a b =
           let first = row_same ts s (q + d) f a.0 b.0 even.3 le known a.2 b.2 in
-          let second = subst (λ (m : Filled). LaysBodies T room s (q + d + n) d n bs m h) (sym first.0) b.3 in
+          let second = subst (λ (m : Filled). LaysBodies T capacity s (q + d + n) d n bs m h) (sym first.0) b.3 in
           let later = bodies_same bs d n s (q + d + n) a.0 g h even.4 (omega (arith, le, first.2.order)) (known_after f a.0 known first.2) a.3 second in
           let here = both_parts s q d n (data_same s q d (sym a.1 ∙ b.1)) (λ i lt. first.1 i (omega (arith, lt, even.1))) in
           let split : suc (number_of bs) * (d + n) ≡ number_of bs * (d + n) + (d + n) = suc-mul (number_of bs) (d + n) in
           let all = both_parts s q (d + n) (number_of bs * (d + n)) here (λ i lt. let e : q + d + n + i ≡ q + (d + n) + i = omega arith in subst (λ (j : ℕ). Same s j) e (later.1 i lt)) in
           (later.0, λ i lt. all i (omega (arith, lt, split)), both_alike f a.0 g first.2 later.2)
 
-pub one_layout : (S T : List (List ℕ)) (room : Room) (t : Node) → Shaped t → Layout S room t → Layout T room t → S ≡ T
-one_layout S T room t shaped l k =
-    let limit : Room = record { words = max 1 room.words; segments = room.segments } in
+pub one_layout : (S T : List (List ℕ)) (capacity : Capacity) (t : Node) → Shaped t → Layout S capacity t → Layout T capacity t → S ≡ T
+one_layout S T capacity t shaped l k =
+    let limit : Capacity = record { words = max 1 capacity.words; segments = capacity.segments } in
     let first : Filled = record { last = 0; used = 1 } in
     let known : Known S T l.fit k.fit first = λ s lt. absurd (omega (arith, lt)) in
     let same = tree_same S T l.fit k.fit limit t 0 0 first l.filled k.filled shaped (omega arith) known l.laid k.laid in

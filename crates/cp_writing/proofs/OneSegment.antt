@@ -8,48 +8,48 @@ use Rattle.cp_words.specs.declared.pointer.ElementSize.TheVariants as sizes
 use Rattle.cp_words.specs.declared.pointer.Pointer.TheVariants as pointers
 use Rattle.cp_words.specs.declared.kind.Kind.{Kind}
 use Rattle.cp_words.specs.declared.kind.Kind.TheVariants as kinds
-use Rattle.cp_writing.specs.declared.sheet.Room.{Room}
+use Rattle.cp_writing.specs.declared.sheet.Capacity.{Capacity}
 use Rattle.cp_tree.specs.Node.{Elements, element_size, element_count, voids, bits, bytes, halves, quads, words, Node, null, cap, struct, list, ptrs, structs, Nodes, no_nodes, node, Bodies, no_bodies, body, count, number_of}
 use Rattle.cp_writing.specs.Packed.{packed, bit_of}
 use Rattle.cp_tree.specs.Shaped.{Shaped, EachShaped, EachEven}
-use Rattle.cp_writing.specs.Sheets.{Written, put, append, begin, end_of, body_word, pad_for, Placed, here, with_room, place_in, place_by}
+use Rattle.cp_writing.specs.Sheets.{Written, put, append, begin, end_of, body_word, landing_pad_for, Placed, here, with_segment_for, place_in, place_by}
 use Rattle.cp_writing.specs.Writing.{body_blank, bodies_blank, tag_word, begun, struct_begun, ptrs_begun, structs_begun, tree_by, row_by, bodies_by}
-use Rattle.cp_writing.specs.LaidOut.{room_for, laid_out}
+use Rattle.cp_writing.specs.LaidOut.{capacity_for, laid_out}
 use Rattle.cp_writing.proofs.Sheets.{words-put, full-put, last-put, with_room_keeps, place-here, place-cases}
 use Rattle.cp_writing.proofs.Keeps.{either, length-blank, length-bodies}
 use Rattle.cp_writing.proofs.Packing.{length_groups, length_bits}
 
 -- ---- writing more counts no fewer words
 
-counts_place : (room : Room) (s p : ℕ) (k : Kind) (size : ℕ) (F : Written) → F.words ≤ (place_by room s p k size F).sheet.words
-counts_place room s p k size F =
-    let G = with_room room s size F in
-    let more : F.words ≤ G.words = with_room_keeps (λ H. F.words ≤ H.words) room s size F (omega arith) (λ _. omega arith) in
+counts_place : (capacity : Capacity) (s p : ℕ) (k : Kind) (size : ℕ) (F : Written) → F.words ≤ (place_by capacity s p k size F).sheet.words
+counts_place capacity s p k size F =
+    let G = with_segment_for capacity s size F in
+    let more : F.words ≤ G.words = with_room_keeps (λ H. F.words ≤ H.words) capacity s size F (omega arith) (λ _. omega arith) in
     place-cases (λ x. F.words ≤ x.sheet.words) s p k size G (λ direct. omega (arith, more, words-put G s p (body_word k (end_of G s - (p + 1))))) (λ some other. omega (arith, more, words-put G s p (word_of (pointers.Far false (length G.last) (length G.full)))))
 
 mutual
-  counts_tree : (room : Room) (t : Node) (s p : ℕ) (F : Written) → F.words ≤ (tree_by room s p t F).words
-  counts_tree room null s p F = omega (arith, words-put F s p 0)
-  counts_tree room (cap i) s p F = omega (arith, words-put F s p (word_of (pointers.Cap i)))
-  counts_tree room (struct ws ts) s p F =
-      let x = struct_begun room s p ws (count ts) F in
-      let begun = counts_place room s p (kinds.Struct (length ws) (count ts)) (length ws + count ts) F in
-      either (λ G. F.words ≤ G.words) (length ws + count ts) _ _ (omega (arith, words-put F s p (word_of (pointers.Struct (negsuc 0) 0 0)))) (omega (arith, begun, counts_row room ts x.at.segment x.at.word x.sheet))
-  counts_tree room (list es) s p F = omega (arith, counts_place room s p (kinds.List (element_size es) (element_count es)) (words_for (element_size es) (element_count es)) F)
-  counts_tree room (ptrs ts) s p F =
-      let x = ptrs_begun room s p (count ts) F in
-      omega (arith, counts_place room s p (kinds.List sizes.Pointer (count ts)) (count ts) F, counts_row room ts x.at.segment x.at.word x.sheet)
-  counts_tree room (structs d n bs) s p F =
-      let x = structs_begun room s p d n (number_of bs) (bodies_blank bs) F in
-      omega (arith, counts_place room s p (kinds.List sizes.Composite (number_of bs * (d + n))) (number_of bs * (d + n) + 1) F, counts_bodies room bs x.at.segment x.at.word d n x.sheet)
+  counts_tree : (capacity : Capacity) (t : Node) (s p : ℕ) (F : Written) → F.words ≤ (tree_by capacity s p t F).words
+  counts_tree capacity null s p F = omega (arith, words-put F s p 0)
+  counts_tree capacity (cap i) s p F = omega (arith, words-put F s p (word_of (pointers.Cap i)))
+  counts_tree capacity (struct ws ts) s p F =
+      let x = struct_begun capacity s p ws (count ts) F in
+      let begun = counts_place capacity s p (kinds.Struct (length ws) (count ts)) (length ws + count ts) F in
+      either (λ G. F.words ≤ G.words) (length ws + count ts) _ _ (omega (arith, words-put F s p (word_of (pointers.Struct (negsuc 0) 0 0)))) (omega (arith, begun, counts_row capacity ts x.at.segment x.at.word x.sheet))
+  counts_tree capacity (list es) s p F = omega (arith, counts_place capacity s p (kinds.List (element_size es) (element_count es)) (words_for (element_size es) (element_count es)) F)
+  counts_tree capacity (ptrs ts) s p F =
+      let x = ptrs_begun capacity s p (count ts) F in
+      omega (arith, counts_place capacity s p (kinds.List sizes.Pointer (count ts)) (count ts) F, counts_row capacity ts x.at.segment x.at.word x.sheet)
+  counts_tree capacity (structs d n bs) s p F =
+      let x = structs_begun capacity s p d n (number_of bs) (bodies_blank bs) F in
+      omega (arith, counts_place capacity s p (kinds.List sizes.Composite (number_of bs * (d + n))) (number_of bs * (d + n) + 1) F, counts_bodies capacity bs x.at.segment x.at.word d n x.sheet)
 
-  counts_row : (room : Room) (ts : Nodes) (s p : ℕ) (F : Written) → F.words ≤ (row_by room s p ts F).words
-  counts_row room no_nodes s p F = omega arith
-  counts_row room (node t ts) s p F = omega (arith, counts_tree room t s p F, counts_row room ts s (p + 1) (tree_by room s p t F))
+  counts_row : (capacity : Capacity) (ts : Nodes) (s p : ℕ) (F : Written) → F.words ≤ (row_by capacity s p ts F).words
+  counts_row capacity no_nodes s p F = omega arith
+  counts_row capacity (node t ts) s p F = omega (arith, counts_tree capacity t s p F, counts_row capacity ts s (p + 1) (tree_by capacity s p t F))
 
-  counts_bodies : (room : Room) (bs : Bodies) (s q d n : ℕ) (F : Written) → F.words ≤ (bodies_by room s q d n bs F).words
-  counts_bodies room no_bodies s q d n F = omega arith
-  counts_bodies room (body ws ts bs) s q d n F = omega (arith, counts_row room ts s (q + d) F, counts_bodies room bs s (q + d + n) d n (row_by room s (q + d) ts F))
+  counts_bodies : (capacity : Capacity) (bs : Bodies) (s q d n : ℕ) (F : Written) → F.words ≤ (bodies_by capacity s q d n bs F).words
+  counts_bodies capacity no_bodies s q d n F = omega arith
+  counts_bodies capacity (body ws ts bs) s q d n F = omega (arith, counts_row capacity ts s (q + d) F, counts_bodies capacity bs s (q + d + n) d n (row_by capacity s (q + d) ts F))
 
 -- as many words as the elements take
 length_packed : (es : Elements) → length (packed es) ≡ words_for (element_size es) (element_count es)
@@ -73,8 +73,8 @@ sole_append : (F : Written) (ws : List ℕ) → Sole F → Sole (append ws F)
 sole_append F ws h = (h.0, omega (arith, length-append F.last ws, h.1))
 
 -- a segment may have this many words, or there may be one alone
-abbrev Wide : ℕ → Room → Type 0
-Wide u room = (u ≤ room.words) ⊎ (room.segments ≤ 1)
+abbrev Wide : ℕ → Capacity → Type 0
+Wide u capacity = (u ≤ capacity.words) ⊎ (capacity.segments ≤ 1)
 
 -- the same, and in one segment
 abbrev Same : Written → Written → Type 0
@@ -90,26 +90,26 @@ same_choice false x y z u s h fits = h fits
 
 module _ (u : ℕ) where
   -- no segment is begun for what fits
-  with_here : (room : Room) → Wide u room → (size : ℕ) (F : Written) → Sole F → F.words + size ≤ u → with_room room 0 size F ≡ F
-  with_here room (inr one) size F sole fits = with_room_keeps (λ G. G ≡ F) room 0 size F refl (λ more. absurd (omega (arith, more, one)))
-  with_here room (inl wide) size F sole fits =
-      let none : pad_for 0 F ≡ 0 = ap (λ b. if b then 0 else 1) (eq-eqb 0 (length F.full) (sym sole.0)) in
-      stays _ _ _ F (begin F) (le-leb (length F.last + pad_for 0 F + size) room.words (omega (arith, none, sole.1, fits, wide)))
+  with_here : (capacity : Capacity) → Wide u capacity → (size : ℕ) (F : Written) → Sole F → F.words + size ≤ u → with_segment_for capacity 0 size F ≡ F
+  with_here capacity (inr one) size F sole fits = with_room_keeps (λ G. G ≡ F) capacity 0 size F refl (λ more. absurd (omega (arith, more, one)))
+  with_here capacity (inl wide) size F sole fits =
+      let none : landing_pad_for 0 F ≡ 0 = ap (λ b. if b then 0 else 1) (eq-eqb 0 (length F.full) (sym sole.0)) in
+      stays _ _ _ F (begin F) (le-leb (length F.last + landing_pad_for 0 F + size) capacity.words (omega (arith, none, sole.1, fits, wide)))
 
-  placed_here : (room : Room) → Wide u room → (p : ℕ) (k : Kind) (size : ℕ) (F : Written) → Sole F → F.words + size ≤ u → place_by room 0 p k size F ≡ here 0 p k F
-  placed_here room wide p k size F sole fits = ap (place_in 0 p k size) (with_here room wide size F sole fits) ∙ place-here 0 p k size F (inr (sym sole.0))
+  placed_here : (capacity : Capacity) → Wide u capacity → (p : ℕ) (k : Kind) (size : ℕ) (F : Written) → Sole F → F.words + size ≤ u → place_by capacity 0 p k size F ≡ here 0 p k F
+  placed_here capacity wide p k size F sole fits = ap (place_in 0 p k size) (with_here capacity wide size F sole fits) ∙ place-here 0 p k size F (inr (sym sole.0))
 
-module _ (u : ℕ) (Q R : Room) (wq : Wide u Q) (wr : Wide u R) where
+module _ (u : ℕ) (Q R : Capacity) (wq : Wide u Q) (wr : Wide u R) where
   -- a body and what hangs on it, where its words fit
-  begun_same : (k : Kind) (size n p : ℕ) (blank : List ℕ) (F : Written) (rest : Room → Placed → Written)
+  begun_same : (k : Kind) (size n p : ℕ) (blank : List ℕ) (F : Written) (rest : Capacity → Placed → Written)
       → ((x : Placed) → x.sheet.words ≤ (rest Q x).words)
       → ((x : Placed) → x.at.segment ≡ 0 → Sole x.sheet → (rest Q x).words ≤ u → Same (rest R x) (rest Q x))
       → Sole F → length blank ≡ size → (rest Q (begun blank n (place_by Q 0 p k size F))).words ≤ u
       → Same (rest R (begun blank n (place_by R 0 p k size F))) (rest Q (begun blank n (place_by Q 0 p k size F)))
   begun_same k size n p blank F rest counts next sole long fits =
-      let room : F.words + size ≤ u = omega (arith, counts (begun blank n (place_by Q 0 p k size F)), counts_place Q 0 p k size F, long, fits) in
-      let q = placed_here u Q wq p k size F sole room in
-      let r = placed_here u R wr p k size F sole room in
+      let capacity : F.words + size ≤ u = omega (arith, counts (begun blank n (place_by Q 0 p k size F)), counts_place Q 0 p k size F, long, fits) in
+      let q = placed_here u Q wq p k size F sole capacity in
+      let r = placed_here u R wr p k size F sole capacity in
       let there = begun blank n (here 0 p k F) in
       let less : (rest Q there).words ≤ u = subst (λ x. (rest Q (begun blank n x)).words ≤ u) q fits in
       let same = next there refl (sole_append _ blank (sole_put F 0 p _ sole)) less in
@@ -124,28 +124,28 @@ module _ (u : ℕ) (Q R : Room) (wq : Wide u Q) (wr : Wide u R) where
         (λ z. (tree_by Q z p (struct ws ts) F).words ≤ u → Same (tree_by R z p (struct ws ts) F) (tree_by Q z p (struct ws ts) F))
         (sym e)
         (same_choice _ _ _ _ u (sole_put F 0 p _ sole)
-        (begun_same (kinds.Struct (length ws) (count ts)) (length ws + count ts) (length ws) p (body_blank ws (count ts)) F (λ room x. row_by room x.at.segment x.at.word ts x.sheet)
+        (begun_same (kinds.Struct (length ws) (count ts)) (length ws + count ts) (length ws) p (body_blank ws (count ts)) F (λ capacity x. row_by capacity x.at.segment x.at.word ts x.sheet)
         (λ x. counts_row Q ts x.at.segment x.at.word x.sheet) (λ x at. same_row ts x.at.segment x.at.word x.sheet at shaped.2) sole (length-blank ws (count ts))))
         fits
     same_tree (list es) s p F e shaped sole fits =
         subst
         (λ z. (tree_by Q z p (list es) F).words ≤ u → Same (tree_by R z p (list es) F) (tree_by Q z p (list es) F))
         (sym e)
-        (begun_same (kinds.List (element_size es) (element_count es)) (words_for (element_size es) (element_count es)) 0 p (packed es) F (λ room x. x.sheet)
+        (begun_same (kinds.List (element_size es) (element_count es)) (words_for (element_size es) (element_count es)) 0 p (packed es) F (λ capacity x. x.sheet)
         (λ x. omega arith) (λ x at single less. (refl, single)) sole (length_packed es))
         fits
     same_tree (ptrs ts) s p F e shaped sole fits =
         subst
         (λ z. (tree_by Q z p (ptrs ts) F).words ≤ u → Same (tree_by R z p (ptrs ts) F) (tree_by Q z p (ptrs ts) F))
         (sym e)
-        (begun_same (kinds.List sizes.Pointer (count ts)) (count ts) 0 p (replicate (count ts) 0) F (λ room x. row_by room x.at.segment x.at.word ts x.sheet)
+        (begun_same (kinds.List sizes.Pointer (count ts)) (count ts) 0 p (replicate (count ts) 0) F (λ capacity x. row_by capacity x.at.segment x.at.word ts x.sheet)
         (λ x. counts_row Q ts x.at.segment x.at.word x.sheet) (λ x at. same_row ts x.at.segment x.at.word x.sheet at shaped.1) sole (length-replicate {A = ℕ} (count ts) 0))
         fits
     same_tree (structs d n bs) s p F e shaped sole fits =
         subst
         (λ z. (tree_by Q z p (structs d n bs) F).words ≤ u → Same (tree_by R z p (structs d n bs) F) (tree_by Q z p (structs d n bs) F))
         (sym e)
-        (begun_same (kinds.List sizes.Composite (number_of bs * (d + n))) (number_of bs * (d + n) + 1) 1 p (tag_word (number_of bs) d n ∷ bodies_blank bs) F (λ room x. bodies_by room x.at.segment x.at.word d n bs x.sheet)
+        (begun_same (kinds.List sizes.Composite (number_of bs * (d + n))) (number_of bs * (d + n) + 1) 1 p (tag_word (number_of bs) d n ∷ bodies_blank bs) F (λ capacity x. bodies_by capacity x.at.segment x.at.word d n bs x.sheet)
         (λ x. counts_bodies Q bs x.at.segment x.at.word d n x.sheet) (λ x at. same_bodies bs x.at.segment x.at.word d n x.sheet at shaped.3) sole (omega (arith, length-bodies d n bs shaped.3)))
         fits
 
@@ -162,14 +162,14 @@ module _ (u : ℕ) (Q R : Room) (wq : Wide u Q) (wr : Wide u R) where
         let rest = same_bodies bs s (q + d + n) d n (row_by Q s (q + d) ts F) e even.4 first.1 fits in (ap (bodies_by R s (q + d + n) d n bs) first.0 ∙ rest.0, rest.1)
 
 -- what fits the frame is laid out the same, whether more segments may be begun or not
-pub one_segment : (limits : Bounds) (t : Node) → Shaped t → (laid_out (room_for (max 1 limits.frame_words) limits.segments limits) t).words ≤ limits.frame_words
-    → laid_out (room_for (max 1 limits.frame_words) 1 limits) t ≡ laid_out (room_for (max 1 limits.frame_words) limits.segments limits) t
+pub one_segment : (limits : Bounds) (t : Node) → Shaped t → (laid_out (capacity_for (max 1 limits.frame_words) limits.segments limits) t).words ≤ limits.frame_words
+    → laid_out (capacity_for (max 1 limits.frame_words) 1 limits) t ≡ laid_out (capacity_for (max 1 limits.frame_words) limits.segments limits) t
 one_segment limits t shaped fits =
-    (same_tree limits.frame_words (room_for (max 1 limits.frame_words) limits.segments limits) (room_for (max 1 limits.frame_words) 1 limits) (inl (omega arith)) (inr (omega arith)) t 0 0
+    (same_tree limits.frame_words (capacity_for (max 1 limits.frame_words) limits.segments limits) (capacity_for (max 1 limits.frame_words) 1 limits) (inl (omega arith)) (inr (omega arith)) t 0 0
     (record { full = []; last = 0 ∷ []; words = 1 }) refl shaped (refl, omega arith) fits).0
 
-pub one_segment_alone : (limits : Bounds) (t : Node) → Shaped t → (laid_out (room_for (max 1 limits.frame_words) 1 limits) t).words ≤ limits.frame_words
-    → laid_out (room_for (max 1 limits.frame_words) limits.segments limits) t ≡ laid_out (room_for (max 1 limits.frame_words) 1 limits) t
+pub one_segment_alone : (limits : Bounds) (t : Node) → Shaped t → (laid_out (capacity_for (max 1 limits.frame_words) 1 limits) t).words ≤ limits.frame_words
+    → laid_out (capacity_for (max 1 limits.frame_words) limits.segments limits) t ≡ laid_out (capacity_for (max 1 limits.frame_words) 1 limits) t
 one_segment_alone limits t shaped fits =
-    (same_tree limits.frame_words (room_for (max 1 limits.frame_words) 1 limits) (room_for (max 1 limits.frame_words) limits.segments limits) (inr (omega arith)) (inl (omega arith)) t 0 0
+    (same_tree limits.frame_words (capacity_for (max 1 limits.frame_words) 1 limits) (capacity_for (max 1 limits.frame_words) limits.segments limits) (inr (omega arith)) (inl (omega arith)) t 0 0
     (record { full = []; last = 0 ∷ []; words = 1 }) refl shaped (refl, omega arith) fits).0

@@ -83,7 +83,7 @@ module _ (w per : ℕ) (ns ws : List ℕ) (whole : per * w ≡ 64) (some : 0 < p
 
   -- the bits after the last digit are zero
   pub padded : (k : ℕ) → length ns * w ≤ k → element ws 1 k ≡ 0
-  padded k behind =
+  padded k after =
       let from = drop (per * (k / 64)) ns in
       let ds = take per from in
       let n = length ds in
@@ -94,7 +94,7 @@ module _ (w per : ℕ) (ns ws : List ℕ) (whole : per * w ≡ 64) (some : 0 < p
       (λ lt.
       let within : per * (k / 64) + n ≤ length ns = omega (arith, short, lt) in
       let scaled : (per * (k / 64) + n) * w ≤ length ns * w = mul-le-mul_right w within in
-      omega (arith, scaled, add-mul (per * (k / 64)) n w, before, split, behind, mul_comm w n))
+      omega (arith, scaled, add-mul (per * (k / 64)) n w, before, split, after, mul_comm w n))
       (λ le.
       let none : w * n ≡ 0 = ap (λ m. w * m) (omega (arith, le)) ∙ mul-zero w in
       omega (arith, none))
@@ -133,12 +133,12 @@ pub singles_are : (base : ℕ) (ns : List ℕ) → AreGroups base 1 ns ns
 singles_are base ns g = let one : 1 * g ≡ g = omega arith in rw one (single base ns g)
 
 pub packed_holds : (es : Elements) → ElementsFit es → HoldElements (packed es) es
-packed_holds (voids n) fit = record { elements = refl; padding = λ k behind. rw (zero-div (2 ^ (k * 1 % 64))) refl }
+packed_holds (voids n) fit = record { elements = refl; padding = λ k after. rw (zero-div (2 ^ (k * 1 % 64))) refl }
 packed_holds (bits bs) fit =
     let are = groups_are 2 64 (map bit_of bs) (omega arith) in
     record {
       elements = ap bits (flags_are bs (groups 2 64 (map bit_of bs)) are);
-      padding = λ k behind. padded 1 64 (map bit_of bs) (groups 2 64 (map bit_of bs)) refl (omega arith) (bit_below bs) are k (omega (arith, length_bits bs, behind));
+      padding = λ k after. padded 1 64 (map bit_of bs) (groups 2 64 (map bit_of bs)) refl (omega arith) (bit_below bs) are k (omega (arith, length_bits bs, after));
     }
 packed_holds (bytes ns) fit =
     let are = groups_are 256 8 ns (omega arith) in

@@ -9,10 +9,10 @@ use Rattle.cp_words.specs.declared.pointer.ElementSize.TheVariants as sizes
 use Rattle.cp_words.specs.declared.pointer.Pointer.TheVariants as pointers
 use Rattle.cp_words.specs.declared.kind.Kind.{Kind}
 use Rattle.cp_words.specs.declared.kind.Kind.TheVariants as kinds
-use Rattle.cp_writing.specs.declared.sheet.Room.{Room}
+use Rattle.cp_writing.specs.declared.sheet.Capacity.{Capacity}
 use Rattle.cp_tree.specs.Node.{Node, null, cap, struct, list, ptrs, structs, Nodes, no_nodes, node, Bodies, no_bodies, body, count, number_of, element_size, element_count}
 use Rattle.cp_writing.specs.Packed.{packed}
-use Rattle.cp_writing.specs.Sheets.{Written, lists, put, append, begin, with_room, place_by, body_word}
+use Rattle.cp_writing.specs.Sheets.{Written, segments_of, put, append, begin, with_segment_for, place_by, body_word}
 use Rattle.cp_writing.specs.LaidOut.{laid_out}
 use Rattle.cp_writing.specs.Writing.{body_blank, bodies_blank, tag_word, struct_placed, ptrs_placed, structs_placed, tree_by, row_by, bodies_by}
 use Rattle.cp_writing.proofs.Keeps.{either}
@@ -20,47 +20,47 @@ use Rattle.cp_writing.proofs.Sheets.{put-here, put-there, full-put, full-begin, 
 
 -- A step of writing keeps what holds of what is written: a word that is set, words that are appended, and a new segment
 -- where one may be begun.
-pub record IsKept (room : Room) (P : Written → Type 0) : Type 0 where
+pub record IsKept (capacity : Capacity) (P : Written → Type 0) : Type 0 where
   pub puts : (s p w : ℕ) (F : Written) → P F → P (put s p w F)
   pub appends : (ws : List ℕ) (F : Written) → P F → P (append ws F)
-  pub begins : (F : Written) → length F.full + 1 < room.segments → P F → P (begin F)
+  pub begins : (F : Written) → length F.full + 1 < capacity.segments → P F → P (begin F)
 
-module _ (room : Room) (P : Written → Type 0) (kept : IsKept room P) where
-  placed : (s p : ℕ) (k : Kind) (size : ℕ) (F : Written) → P F → P (place_by room s p k size F).sheet
+module _ (capacity : Capacity) (P : Written → Type 0) (kept : IsKept capacity P) where
+  placed : (s p : ℕ) (k : Kind) (size : ℕ) (F : Written) → P F → P (place_by capacity s p k size F).sheet
   placed s p k size F h =
-      let G = with_room room s size F in
-      let g : P G = with_room_keeps P room s size F h (λ more. kept.begins F more h) in
+      let G = with_segment_for capacity s size F in
+      let g : P G = with_room_keeps P capacity s size F h (λ more. kept.begins F more h) in
       place-cases (λ x. P x.sheet) s p k size G (λ direct. kept.puts s p _ G g) (λ some other. kept.appends (body_word k 0 ∷ []) _ (kept.puts s p _ G g))
 
   mutual
     -- what each step keeps, writing a tree keeps
-    pub tree_keeps : (t : Node) (s p : ℕ) (F : Written) → P F → P (tree_by room s p t F)
+    pub tree_keeps : (t : Node) (s p : ℕ) (F : Written) → P F → P (tree_by capacity s p t F)
     tree_keeps null s p F h = kept.puts s p 0 F h
     tree_keeps (cap i) s p F h = kept.puts s p (word_of (pointers.Cap i)) F h
     tree_keeps (struct ws ts) s p F h =
-        let x = struct_placed room s p ws (count ts) F in
+        let x = struct_placed capacity s p ws (count ts) F in
         either P (length ws + count ts) _ _ (kept.puts s p (word_of (pointers.Struct (negsuc 0) 0 0)) F h)
         (row_keeps ts x.at.segment (x.at.word + length ws) (append (body_blank ws (count ts)) x.sheet) (kept.appends (body_blank ws (count ts)) x.sheet (placed s p (kinds.Struct (length ws) (count ts)) (length ws + count ts) F h)))
     tree_keeps (list es) s p F h = kept.appends (packed es) _ (placed s p (kinds.List (element_size es) (element_count es)) (words_for (element_size es) (element_count es)) F h)
     tree_keeps (ptrs ts) s p F h =
-        let x = ptrs_placed room s p (count ts) F in
+        let x = ptrs_placed capacity s p (count ts) F in
         row_keeps ts x.at.segment (x.at.word + 0) (append (replicate (count ts) 0) x.sheet) (kept.appends (replicate (count ts) 0) x.sheet (placed s p (kinds.List sizes.Pointer (count ts)) (count ts) F h))
     tree_keeps (structs d n bs) s p F h =
-        let x = structs_placed room s p d n (number_of bs) F in
+        let x = structs_placed capacity s p d n (number_of bs) F in
         let ws = tag_word (number_of bs) d n ∷ bodies_blank bs in
         bodies_keep bs d n x.at.segment (x.at.word + 1) (append ws x.sheet) (kept.appends ws x.sheet (placed s p (kinds.List sizes.Composite (number_of bs * (d + n))) (number_of bs * (d + n) + 1) F h))
 
-    row_keeps : (ts : Nodes) (s p : ℕ) (F : Written) → P F → P (row_by room s p ts F)
+    row_keeps : (ts : Nodes) (s p : ℕ) (F : Written) → P F → P (row_by capacity s p ts F)
     row_keeps no_nodes s p F h = h
-    row_keeps (node t ts) s p F h = row_keeps ts s (p + 1) (tree_by room s p t F) (tree_keeps t s p F h)
+    row_keeps (node t ts) s p F h = row_keeps ts s (p + 1) (tree_by capacity s p t F) (tree_keeps t s p F h)
 
-    bodies_keep : (bs : Bodies) (d n s q : ℕ) (F : Written) → P F → P (bodies_by room s q d n bs F)
+    bodies_keep : (bs : Bodies) (d n s q : ℕ) (F : Written) → P F → P (bodies_by capacity s q d n bs F)
     bodies_keep no_bodies d n s q F h = h
-    bodies_keep (body ws ts bs) d n s q F h = bodies_keep bs d n s (q + d + n) (row_by room s (q + d) ts F) (row_keeps ts s (q + d) F h)
+    bodies_keep (body ws ts bs) d n s q F h = bodies_keep bs d n s (q + d + n) (row_by capacity s (q + d) ts F) (row_keeps ts s (q + d) F h)
 
 -- each word of a segment is counted
 abbrev pub IsCounted : Written → Type 0
-IsCounted F = F.words ≡ sum (map length (lists F))
+IsCounted F = F.words ≡ sum (map length (segments_of F))
 
 lengths : (xs : List (List ℕ)) (x : List ℕ) → sum (map length (xs ++ x ∷ [])) ≡ sum (map length xs) + length x
 lengths xs x = ap sum (map_push length xs x) ∙ sum_by_push (λ n. n) (map length xs) (length x)
@@ -78,31 +78,31 @@ counted_put s p w F h = ⊎_elim
     rw (put-there F s p w other) (h ∙ lengths F.full F.last ∙ ap (λ ns. sum ns + length F.last) (sym (lengths-set F.full s p w)) ∙ sym (lengths there F.last)))
     (cases_eq s (length F.full))
 
-counted : (room : Room) → IsKept room IsCounted
-counted room = record {
+counted : (capacity : Capacity) → IsKept capacity IsCounted
+counted capacity = record {
   puts = counted_put;
   appends = λ ws F h. omega (arith, h, lengths F.full F.last, lengths F.full (F.last ++ ws), length-append F.last ws);
   begins = λ F more h. omega (arith, h, lengths (F.full ++ F.last ∷ []) []);
 }
 
 -- no more segments than there may be
-abbrev pub IsFew : Room → Written → Type 0
-IsFew room F = length (lists F) ≤ max 1 room.segments
+abbrev pub IsFew : Capacity → Written → Type 0
+IsFew capacity F = length (segments_of F) ≤ max 1 capacity.segments
 
-few : (room : Room) → IsKept room (IsFew room)
-few room = record {
+few : (capacity : Capacity) → IsKept capacity (IsFew capacity)
+few capacity = record {
   puts = λ s p w F h. omega (arith, h, length_push F.full F.last, length_push (put s p w F).full (put s p w F).last, full-put F s p w);
   appends = λ ws F h. omega (arith, h, length_push F.full F.last, length_push F.full (F.last ++ ws));
   begins = λ F more h. omega (arith, more, length_push (begin F).full (begin F).last, full-begin F);
 }
 
 -- the words that a tree is written as are counted
-pub laid_words : (room : Room) (t : Node) → (laid_out room t).words ≡ sum (map length (lists (laid_out room t)))
-laid_words room t = tree_keeps room IsCounted (counted room) t 0 0 _ refl
+pub laid_words : (capacity : Capacity) (t : Node) → (laid_out capacity t).words ≡ sum (map length (segments_of (laid_out capacity t)))
+laid_words capacity t = tree_keeps capacity IsCounted (counted capacity) t 0 0 _ refl
 
 -- its segments are no more than there may be, or one
-pub laid_segments : (room : Room) (t : Node) → length (lists (laid_out room t)) ≤ max 1 room.segments
-laid_segments room t = tree_keeps room (IsFew room) (few room) t 0 0 _ (omega arith)
+pub laid_segments : (capacity : Capacity) (t : Node) → length (segments_of (laid_out capacity t)) ≤ max 1 capacity.segments
+laid_segments capacity t = tree_keeps capacity (IsFew capacity) (few capacity) t 0 0 _ (omega arith)
 
-pub laid_within : (room : Room) (t : Node) → 0 < room.segments → length (lists (laid_out room t)) ≤ room.segments
-laid_within room t some = omega (arith, laid_segments room t, some)
+pub laid_within : (capacity : Capacity) (t : Node) → 0 < capacity.segments → length (segments_of (laid_out capacity t)) ≤ capacity.segments
+laid_within capacity t some = omega (arith, laid_segments capacity t, some)

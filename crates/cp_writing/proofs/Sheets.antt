@@ -6,15 +6,15 @@ use Rattle.std.proofs.lemmas.List.{length-set, length-map, map-set, get_or-map, 
 use Rattle.std.specs.Prelude.{Vec}
 use Rattle.std.specs.Vec.{with_item}
 use Rattle.std.specs.declared.alloc.Global.{Global}
-use Rattle.cp_tree.specs.NodeOf.{words_of}
-use Rattle.cp_words.specs.Aims.{segment}
-use Rattle.cp_writing.specs.declared.sheet.Room.{Room}
+use Rattle.cp_words.specs.Segments.{words_of}
+use Rattle.cp_words.specs.Targets.{segment}
+use Rattle.cp_writing.specs.declared.sheet.Capacity.{Capacity}
 use Rattle.cp_words.specs.declared.kind.Kind.{Kind}
-use Rattle.cp_writing.specs.Sheets.{Placed, here, after_pad, place_in, with_room, KeepsTo, Written, lists, end_of, put, append, begin}
+use Rattle.cp_writing.specs.Sheets.{Placed, here, after_landing_pad, place_in, with_segment_for, KeepsTo, Written, segments_of, end_of, put, append, begin}
 
 -- a segment of those that are written
 abbrev pub seg : Written → ℕ → List ℕ
-seg F s = segment (lists F) s
+seg F s = segment (segments_of F) s
 
 pub seg-last : (F : Written) → seg F (length F.full) ≡ F.last
 seg-last F = get_or_push F.full F.last [] (length F.full) refl
@@ -23,7 +23,7 @@ pub seg-full : (F : Written) (s : ℕ) → s < length F.full → seg F s ≡ sli
 seg-full F s lt = get_or_append_left F.full (F.last ∷ []) [] s lt
 
 pub seg-past : (F : Written) (s : ℕ) → length F.full < s → seg F s ≡ []
-seg-past F s lt = get_or_past (lists F) s [] (omega (arith, length_push F.full F.last))
+seg-past F s lt = get_or_past (segments_of F) s [] (omega (arith, length_push F.full F.last))
 
 -- a word at a place: that segment has it, and the others stay
 pub put-here : (F : Written) (p w : ℕ) → put (length F.full) p w F ≡ record { full = F.full; last = set F.last p w; words = F.words }
@@ -128,25 +128,25 @@ chosen P false true c x y h k = h
 chosen P false false true x y h k = h
 chosen P false false false x y h k = k refl
 
--- what holds of what is written holds once there is room, if it does where a segment is begun that may be
-pub with_room_keeps : (P : Written → Type 0) (room : Room) (s size : ℕ) (F : Written) → P F → (length F.full + 1 < room.segments → P (begin F)) → P (with_room room s size F)
-with_room_keeps P room s size F h k = chosen P _ _ (nat_le room.segments (length F.full + 1)) F (begin F) h (λ e. let n = leb-false room.segments (length F.full + 1) e in k (omega (arith, n)))
+-- what holds of what is written holds once there is capacity, if it does where a segment is begun that may be
+pub with_room_keeps : (P : Written → Type 0) (capacity : Capacity) (s size : ℕ) (F : Written) → P F → (length F.full + 1 < capacity.segments → P (begin F)) → P (with_segment_for capacity s size F)
+with_room_keeps P capacity s size F h k = chosen P _ _ (nat_le capacity.segments (length F.full + 1)) F (begin F) h (λ e. let n = leb-false capacity.segments (length F.full + 1) e in k (omega (arith, n)))
 
 pub end-begin : (F : Written) (b : ℕ) → end_of (begin F) b ≡ end_of F b
 end-begin F b = ap length (seg-begin F b)
 
-pub room-keeps : (room : Room) (s size : ℕ) (F : Written) → KeepsTo room F → KeepsTo room (with_room room s size F)
-room-keeps room s size F h =
-    with_room_keeps (KeepsTo room) room s size F h (λ more. (h.0, h.1, omega (arith, length_push F.full F.last, more, h.0), λ b. rw (end-begin F b) (h.3 b)))
+pub capacity-keeps : (capacity : Capacity) (s size : ℕ) (F : Written) → KeepsTo capacity F → KeepsTo capacity (with_segment_for capacity s size F)
+capacity-keeps capacity s size F h =
+    with_room_keeps (KeepsTo capacity) capacity s size F h (λ more. (h.0, h.1, omega (arith, length_push F.full F.last, more, h.0), λ b. rw (end-begin F b) (h.3 b)))
 
 pub full-begin : (F : Written) → length (begin F).full ≡ length F.full + 1
 full-begin F = length_push F.full F.last
 
-pub put-keeps : (room : Room) (F : Written) (s p w : ℕ) → s ≤ length F.full → KeepsTo room F → KeepsTo room (put s p w F)
-put-keeps room F s p w le h = (h.0, omega (arith, h.1, words-put F s p w), omega (arith, h.2, full-put F s p w), λ b. omega (arith, h.3 b, end-put F s p w b le, words-put F s p w))
+pub put-keeps : (capacity : Capacity) (F : Written) (s p w : ℕ) → s ≤ length F.full → KeepsTo capacity F → KeepsTo capacity (put s p w F)
+put-keeps capacity F s p w le h = (h.0, omega (arith, h.1, words-put F s p w), omega (arith, h.2, full-put F s p w), λ b. omega (arith, h.3 b, end-put F s p w b le, words-put F s p w))
 
-pub append-keeps : (room : Room) (F : Written) (ws : List ℕ) → KeepsTo room F → F.words + length ws ≤ room.whole → KeepsTo room (append ws F)
-append-keeps room F ws h within = (
+pub append-keeps : (capacity : Capacity) (F : Written) (ws : List ℕ) → KeepsTo capacity F → F.words + length ws ≤ capacity.whole → KeepsTo capacity (append ws F)
+append-keeps capacity F ws h within = (
   h.0,
   within,
   h.2,
@@ -157,11 +157,11 @@ append-keeps room F ws h within = (
 )
 
 -- words that were counted were appended
-pub counted : (room : Room) (F : Written) (ws : List ℕ) (full : List (List ℕ)) (last : List ℕ) (words n : ℕ) → KeepsTo room F → length ws ≡ n → F.words + n ≤ room.whole → full ≡ F.full → words ≡ F.words + n → last ≡ F.last ++ ws
-    → (record { full = full; last = last; words = words } ≡ append ws F) × KeepsTo room (record { full = full; last = last; words = words })
-counted room F ws full last words n h long within same count is =
+pub counted : (capacity : Capacity) (F : Written) (ws : List ℕ) (full : List (List ℕ)) (last : List ℕ) (words n : ℕ) → KeepsTo capacity F → length ws ≡ n → F.words + n ≤ capacity.whole → full ≡ F.full → words ≡ F.words + n → last ≡ F.last ++ ws
+    → (record { full = full; last = last; words = words } ≡ append ws F) × KeepsTo capacity (record { full = full; last = last; words = words })
+counted capacity F ws full last words n h long within same count is =
     let e : record { full = full; last = last; words = words } ≡ append ws F = rw (same, is, count, long) refl in
-    (e, subst (KeepsTo room) (sym e) (append-keeps room F ws h (omega (arith, long, within))))
+    (e, subst (KeepsTo capacity) (sym e) (append-keeps capacity F ws h (omega (arith, long, within))))
 
 -- where a body is placed directly, and where not
 pub place-here : (s p : ℕ) (k : Kind) (size : ℕ) (F : Written) → (size ≡ 0) ⊎ (s ≡ length F.full) → place_in s p k size F ≡ here s p k F
@@ -169,16 +169,16 @@ place-here s p k zero F h = refl
 place-here s p k (suc size) F (inl e) = absurd (omega (arith, e))
 place-here s p k (suc size) F (inr e) = rw (ne_eqb (suc size) 0 (λ z. omega (arith, z)), eq-eqb s (length F.full) e) refl
 
-pub place-there : (s p : ℕ) (k : Kind) (size : ℕ) (F : Written) → 0 < size → s ≢ length F.full → place_in s p k size F ≡ after_pad s p k F
+pub place-there : (s p : ℕ) (k : Kind) (size : ℕ) (F : Written) → 0 < size → s ≢ length F.full → place_in s p k size F ≡ after_landing_pad s p k F
 place-there s p k zero F some other = absurd (omega (arith, some))
 place-there s p k (suc size) F some other = rw (ne_eqb (suc size) 0 (λ z. omega (arith, z)), ne_eqb s (length F.full) other) refl
 
-pub place-cases : (P : Placed → Type 0) (s p : ℕ) (k : Kind) (size : ℕ) (F : Written) → ((size ≡ 0) ⊎ (s ≡ length F.full) → P (here s p k F)) → (0 < size → s ≢ length F.full → P (after_pad s p k F)) → P (place_in s p k size F)
+pub place-cases : (P : Placed → Type 0) (s p : ℕ) (k : Kind) (size : ℕ) (F : Written) → ((size ≡ 0) ⊎ (s ≡ length F.full) → P (here s p k F)) → (0 < size → s ≢ length F.full → P (after_landing_pad s p k F)) → P (place_in s p k size F)
 place-cases P s p k zero F direct padded = direct (inl refl)
 place-cases P s p k (suc size) F direct padded = ⊎_elim
     (λ e. subst P (sym (place-here s p k (suc size) F (inr e))) (direct (inr e)))
     (λ n. subst P (sym (place-there s p k (suc size) F (omega arith) n)) (padded (omega arith) n))
     (cases_eq s (length F.full))
 
-pub room-goes : (room : Room) (s size : ℕ) (F : Written) → length F.full ≤ length (with_room room s size F).full
-room-goes room s size F = with_room_keeps (λ G. length F.full ≤ length G.full) room s size F (omega arith) (λ more. omega (arith, full-begin F))
+pub capacity-goes : (capacity : Capacity) (s size : ℕ) (F : Written) → length F.full ≤ length (with_segment_for capacity s size F).full
+capacity-goes capacity s size F = with_room_keeps (λ G. length F.full ≤ length G.full) capacity s size F (omega arith) (λ more. omega (arith, full-begin F))

@@ -8,9 +8,9 @@ use Rattle.cp_words.specs.declared.place.Place.{Place}
 use Rattle.cp_tree.specs.declared.fault.WriteFault.{WriteFault}
 use Rattle.cp_tree.specs.declared.fault.WriteFault.TheVariants as faults
 use Rattle.cp_writing.specs.declared.sheet.Sheet.{Sheet}
-use Rattle.cp_writing.specs.declared.sheet.Room.{Room}
-use Rattle.cp_tree.specs.NodeOf.{words_of}
-use Rattle.cp_words.specs.Aims.{segment}
+use Rattle.cp_writing.specs.declared.sheet.Capacity.{Capacity}
+use Rattle.cp_words.specs.Segments.{words_of}
+use Rattle.cp_words.specs.Targets.{segment}
 
 -- the segments that are full, the last one, and how many words were counted
 pub record Written : Type 0 where
@@ -21,12 +21,12 @@ pub record Written : Type 0 where
 abbrev pub written : Sheet → Written
 written w = record { full = words_of w.full.items; last = w.last.items; words = w.words }
 
-abbrev pub lists : Written → List (List ℕ)
-lists F = F.full ++ F.last ∷ []
+abbrev pub segments_of : Written → List (List ℕ)
+segments_of F = F.full ++ F.last ∷ []
 
 -- where a segment ends
 abbrev pub end_of : Written → ℕ → ℕ
-end_of F s = length (segment (lists F) s)
+end_of F s = length (segment (segments_of F) s)
 
 -- a word is written at a place
 abbrev pub put : ℕ → ℕ → ℕ → Written → Written
@@ -62,57 +62,57 @@ abbrev pub here : ℕ → ℕ → Kind → Written → Placed
 here s p k F = record { sheet = put s p (body_word k (end_of F s - (p + 1))) F; at = record { segment = s; word = end_of F s } }
 
 -- after a landing pad, at the end of the last segment
-abbrev pub after_pad : ℕ → ℕ → Kind → Written → Placed
-after_pad s p k F =
+abbrev pub after_landing_pad : ℕ → ℕ → Kind → Written → Placed
+after_landing_pad s p k F =
     record { sheet = append (body_word k 0 ∷ []) (put s p (word_of (pointers.Far false (length F.last) (length F.full))) F); at = record { segment = length F.full; word = length F.last + 1 } }
 
 -- how many words a landing pad takes before a body whose pointer is in a segment
-abbrev pub pad_for : ℕ → Written → ℕ
-pad_for s F = if s == length F.full then 0 else 1
+abbrev pub landing_pad_for : ℕ → Written → ℕ
+landing_pad_for s F = if s == length F.full then 0 else 1
 
 -- what doesn't fit into the last segment begins a new one, where one may be begun
-abbrev pub with_room : Room → ℕ → ℕ → Written → Written
-with_room room s size F =
+abbrev pub with_segment_for : Capacity → ℕ → ℕ → Written → Written
+with_segment_for capacity s size F =
     if size == 0 then F
-    else (if nat_le (length F.last + pad_for s F + size) room.words then F
-    else (if nat_le room.segments (length F.full + 1) then F
+    else (if nat_le (length F.last + landing_pad_for s F + size) capacity.words then F
+    else (if nat_le capacity.segments (length F.full + 1) then F
     else begin F))
 
 abbrev pub place_in : ℕ → ℕ → Kind → ℕ → Written → Placed
 place_in s p k size F =
     if size == 0 then here s p k F
     else (if s == length F.full then here s p k F
-    else after_pad s p k F)
+    else after_landing_pad s p k F)
 
-abbrev pub place_by : Room → ℕ → ℕ → Kind → ℕ → Written → Placed
-place_by room s p k size F = place_in s p k size (with_room room s size F)
+abbrev pub place_by : Capacity → ℕ → ℕ → Kind → ℕ → Written → Placed
+place_by capacity s p k size F = place_in s p k size (with_segment_for capacity s size F)
 
 -- no more than limits can allow
-abbrev pub IsRoom : Room → Type 0
-IsRoom room = (0 < room.whole) × (room.whole ≤ 67108864) × (room.words < 2 ^ 32) × (room.segments ≤ 512)
+abbrev pub IsCapacity : Capacity → Type 0
+IsCapacity capacity = (0 < capacity.whole) × (capacity.whole ≤ 67108864) × (capacity.words < 2 ^ 32) × (capacity.segments ≤ 512)
 
 -- no more words are counted than may be written, and none that a segment has isn't counted
-abbrev pub KeepsTo : Room → Written → Type 0
-KeepsTo room F = IsRoom room × (F.words ≤ room.whole) × (length F.full < 512) × ((s : ℕ) → end_of F s ≤ F.words)
+abbrev pub KeepsTo : Capacity → Written → Type 0
+KeepsTo capacity F = IsCapacity capacity × (F.words ≤ capacity.whole) × (length F.full < 512) × ((s : ℕ) → end_of F s ≤ F.words)
 
 -- a word was written there
 abbrev pub IsPlace : Written → Place → Type 0
 IsPlace F at = (at.segment ≤ length F.full) × (at.word < end_of F at.segment)
 
 -- why no more is written: the words are too many, or memory ran out
-abbrev pub Refuses : Room → WriteFault → Written → Type 0
-Refuses room faults.TooManyWords wanted = room.whole < wanted.words
-Refuses room faults.OutOfMemory wanted = Unit {0}
-Refuses room other wanted = ⊥
+abbrev pub Refuses : Capacity → WriteFault → Written → Type 0
+Refuses capacity faults.TooManyWords wanted = capacity.whole < wanted.words
+Refuses capacity faults.OutOfMemory wanted = Unit {0}
+Refuses capacity other wanted = ⊥
 
 -- the words were written and counted, or not
-abbrev pub Writes : {X : Type 0} → Room → Result X WriteFault → Written → Written → Type 0
-Writes room (Ok x) wanted new = (new ≡ wanted) × KeepsTo room new
-Writes room (Err e) wanted new = Refuses room e wanted
+abbrev pub Writes : {X : Type 0} → Capacity → Result X WriteFault → Written → Written → Type 0
+Writes capacity (Ok x) wanted new = (new ≡ wanted) × KeepsTo capacity new
+Writes capacity (Err e) wanted new = Refuses capacity e wanted
 
 -- a body was placed, or its landing pad is one word too many
-abbrev pub Places : Room → Result Place WriteFault → Placed → Written → Type 0
-Places room result wanted new = Writes room result wanted.sheet new × IfOk result (λ at. at ≡ wanted.at)
+abbrev pub Places : Capacity → Result Place WriteFault → Placed → Written → Type 0
+Places capacity result wanted new = Writes capacity result wanted.sheet new × IfOk result (λ at. at ≡ wanted.at)
 
 -- this many words were written from a place on
 abbrev pub IsRun : Written → Place → ℕ → Type 0

@@ -4,7 +4,7 @@ use Rattle.cp_words.specs.Limits.{Bounds}
 use Rattle.cp_tree.specs.Node.{Node, depth, cost}
 use Rattle.cp_tree.specs.declared.fault.WriteFault.{WriteFault}
 use Rattle.cp_tree.specs.declared.fault.WriteFault.TheVariants as faults
-use Rattle.cp_writing.specs.Layout.{Room, Layout}
+use Rattle.cp_writing.specs.Layout.{Capacity, Layout}
 
 -- its depth and its cost are within the limits
 abbrev pub FitsIn : Bounds → Node → Type 0
@@ -17,7 +17,7 @@ IsCostFaultOf limits t faults.TooCostly = (depth t ≤ limits.nesting) × (limit
 IsCostFaultOf limits t other = ⊥
 
 -- or else it has no layout that has only as many words as a frame may have; or memory ran out
-abbrev pub IsWriteFaultOf : Bounds → Room → Node → WriteFault → Type 0
-IsWriteFaultOf limits room t faults.TooManyWords = FitsIn limits t × ((S : List (List ℕ)) → Layout S room t → limits.frame_words < sum (map length S))
-IsWriteFaultOf limits room t faults.OutOfMemory = Unit {0}
-IsWriteFaultOf limits room t fault = IsCostFaultOf limits t fault
+abbrev pub IsWriteFaultOf : Bounds → Capacity → Node → WriteFault → Type 0
+IsWriteFaultOf limits capacity t faults.TooManyWords = FitsIn limits t × ((S : List (List ℕ)) → Layout S capacity t → limits.frame_words < sum (map length S))
+IsWriteFaultOf limits capacity t faults.OutOfMemory = Unit {0}
+IsWriteFaultOf limits capacity t fault = IsCostFaultOf limits t fault

@@ -6,7 +6,7 @@ use Rattle.cp_words.specs.declared.pointer.Pointer.TheVariants as pointers
 use Rattle.cp_words.specs.declared.kind.Kind.TheVariants as kinds
 use Rattle.cp_words.specs.declared.place.Place.{Place}
 use Rattle.cp_tree.specs.declared.fault.WriteFault.{WriteFault}
-use Rattle.cp_writing.specs.declared.sheet.Room.{Room}
+use Rattle.cp_writing.specs.declared.sheet.Capacity.{Capacity}
 use Rattle.cp_tree.specs.Node.{element_size, element_count, Node, null, cap, struct, list, ptrs, structs, Nodes, no_nodes, node, Bodies, no_bodies, body, count, number_of}
 use Rattle.cp_writing.specs.Packed.{packed}
 use Rattle.cp_tree.specs.Shaped.{Shaped}
@@ -25,64 +25,64 @@ abbrev pub tag_word : ℕ → ℕ → ℕ → ℕ
 tag_word k d n = 4 * k + 2 ^ 32 * d + 2 ^ 48 * n
 
 -- where the bodies of a struct, and of lists of pointers and structs, are placed
-abbrev pub struct_placed : Room → ℕ → ℕ → List ℕ → ℕ → Written → Placed
-struct_placed room s p ws n F = place_by room s p (kinds.Struct (length ws) n) (length ws + n) F
+abbrev pub struct_placed : Capacity → ℕ → ℕ → List ℕ → ℕ → Written → Placed
+struct_placed capacity s p ws n F = place_by capacity s p (kinds.Struct (length ws) n) (length ws + n) F
 
-abbrev pub ptrs_placed : Room → ℕ → ℕ → ℕ → Written → Placed
-ptrs_placed room s p n F = place_by room s p (kinds.List sizes.Pointer n) n F
+abbrev pub ptrs_placed : Capacity → ℕ → ℕ → ℕ → Written → Placed
+ptrs_placed capacity s p n F = place_by capacity s p (kinds.List sizes.Pointer n) n F
 
-abbrev pub structs_placed : Room → ℕ → ℕ → ℕ → ℕ → ℕ → Written → Placed
-structs_placed room s p d n k F = place_by room s p (kinds.List sizes.Composite (k * (d + n))) (k * (d + n) + 1) F
+abbrev pub structs_placed : Capacity → ℕ → ℕ → ℕ → ℕ → ℕ → Written → Placed
+structs_placed capacity s p d n k F = place_by capacity s p (kinds.List sizes.Composite (k * (d + n))) (k * (d + n) + 1) F
 
 -- the words of a body were appended where it was placed, and what hangs on it begins some words after its start
 abbrev pub begun : List ℕ → ℕ → Placed → Placed
 begun ws n x = record { sheet = append ws x.sheet; at = record { segment = x.at.segment; word = x.at.word + n } }
 
 -- the bodies, with blank words for their pointers, and where the pointers or the elements begin
-abbrev pub struct_begun : Room → ℕ → ℕ → List ℕ → ℕ → Written → Placed
-struct_begun room s p ws n F = begun (body_blank ws n) (length ws) (struct_placed room s p ws n F)
+abbrev pub struct_begun : Capacity → ℕ → ℕ → List ℕ → ℕ → Written → Placed
+struct_begun capacity s p ws n F = begun (body_blank ws n) (length ws) (struct_placed capacity s p ws n F)
 
-abbrev pub ptrs_begun : Room → ℕ → ℕ → ℕ → Written → Placed
-ptrs_begun room s p n F = begun (replicate n 0) 0 (ptrs_placed room s p n F)
+abbrev pub ptrs_begun : Capacity → ℕ → ℕ → ℕ → Written → Placed
+ptrs_begun capacity s p n F = begun (replicate n 0) 0 (ptrs_placed capacity s p n F)
 
-abbrev pub structs_begun : Room → ℕ → ℕ → ℕ → ℕ → ℕ → List ℕ → Written → Placed
-structs_begun room s p d n k ws F = begun (tag_word k d n ∷ ws) 1 (structs_placed room s p d n k F)
+abbrev pub structs_begun : Capacity → ℕ → ℕ → ℕ → ℕ → ℕ → List ℕ → Written → Placed
+structs_begun capacity s p d n k ws F = begun (tag_word k d n ∷ ws) 1 (structs_placed capacity s p d n k F)
 
 abbrev mutual
   -- the tree whose pointer is word p of segment s is written
-  pub tree_by : Room → ℕ → ℕ → Node → Written → Written
-  tree_by room s p null F = put s p 0 F
-  tree_by room s p (cap i) F = put s p (word_of (pointers.Cap i)) F
-  tree_by room s p (struct ws ts) F =
+  pub tree_by : Capacity → ℕ → ℕ → Node → Written → Written
+  tree_by capacity s p null F = put s p 0 F
+  tree_by capacity s p (cap i) F = put s p (word_of (pointers.Cap i)) F
+  tree_by capacity s p (struct ws ts) F =
       if length ws + count ts == 0 then put s p (word_of (pointers.Struct (negsuc 0) 0 0)) F
-      else row_by room (struct_begun room s p ws (count ts) F).at.segment (struct_begun room s p ws (count ts) F).at.word ts (struct_begun room s p ws (count ts) F).sheet
-  tree_by room s p (list es) F = append (packed es) (place_by room s p (kinds.List (element_size es) (element_count es)) (words_for (element_size es) (element_count es)) F).sheet
-  tree_by room s p (ptrs ts) F = row_by room (ptrs_begun room s p (count ts) F).at.segment (ptrs_begun room s p (count ts) F).at.word ts (ptrs_begun room s p (count ts) F).sheet
-  tree_by room s p (structs d n bs) F = bodies_by room (structs_begun room s p d n (number_of bs) (bodies_blank bs) F).at.segment (structs_begun room s p d n (number_of bs) (bodies_blank bs) F).at.word d n bs (structs_begun room s p d n (number_of bs) (bodies_blank bs) F).sheet
+      else row_by capacity (struct_begun capacity s p ws (count ts) F).at.segment (struct_begun capacity s p ws (count ts) F).at.word ts (struct_begun capacity s p ws (count ts) F).sheet
+  tree_by capacity s p (list es) F = append (packed es) (place_by capacity s p (kinds.List (element_size es) (element_count es)) (words_for (element_size es) (element_count es)) F).sheet
+  tree_by capacity s p (ptrs ts) F = row_by capacity (ptrs_begun capacity s p (count ts) F).at.segment (ptrs_begun capacity s p (count ts) F).at.word ts (ptrs_begun capacity s p (count ts) F).sheet
+  tree_by capacity s p (structs d n bs) F = bodies_by capacity (structs_begun capacity s p d n (number_of bs) (bodies_blank bs) F).at.segment (structs_begun capacity s p d n (number_of bs) (bodies_blank bs) F).at.word d n bs (structs_begun capacity s p d n (number_of bs) (bodies_blank bs) F).sheet
 
   -- the trees whose pointers stand from word p on
-  pub row_by : Room → ℕ → ℕ → Nodes → Written → Written
-  row_by room s p no_nodes F = F
-  row_by room s p (node t ts) F = row_by room s (p + 1) ts (tree_by room s p t F)
+  pub row_by : Capacity → ℕ → ℕ → Nodes → Written → Written
+  row_by capacity s p no_nodes F = F
+  row_by capacity s p (node t ts) F = row_by capacity s (p + 1) ts (tree_by capacity s p t F)
 
   -- what hangs on the pointers of a composite list's elements, which stand from word q on
-  pub bodies_by : Room → ℕ → ℕ → ℕ → ℕ → Bodies → Written → Written
-  bodies_by room s q d n no_bodies F = F
-  bodies_by room s q d n (body ws ts bs) F = bodies_by room s (q + d + n) d n bs (row_by room s (q + d) ts F)
+  pub bodies_by : Capacity → ℕ → ℕ → ℕ → ℕ → Bodies → Written → Written
+  bodies_by capacity s q d n no_bodies F = F
+  bodies_by capacity s q d n (body ws ts bs) F = bodies_by capacity s (q + d + n) d n bs (row_by capacity s (q + d) ts F)
 
 -- A body with n pointers was begun, and its pointers stand from a place on: whatever hangs on them, the tree is written
 -- once that is. Or a limit was met for it, and so one is met for the tree.
-abbrev pub Begins : Room → Place → ℕ → (Nodes → Node) → Result Place WriteFault → Written → Written → Type 0
-Begins room at n tree (Ok first) old new =
-    KeepsTo room new
+abbrev pub Begins : Capacity → Place → ℕ → (Nodes → Node) → Result Place WriteFault → Written → Written → Type 0
+Begins capacity at n tree (Ok first) old new =
+    KeepsTo capacity new
     × IsRun new first n
-    × ((ts : Nodes) → count ts ≡ n → tree_by room at.segment at.word (tree ts) old ≡ row_by room first.segment first.word ts new)
-Begins room at n tree (Err e) old new = (ts : Nodes) → count ts ≡ n → Shaped (tree ts) → Refuses room e (tree_by room at.segment at.word (tree ts) old)
+    × ((ts : Nodes) → count ts ≡ n → tree_by capacity at.segment at.word (tree ts) old ≡ row_by capacity first.segment first.word ts new)
+Begins capacity at n tree (Err e) old new = (ts : Nodes) → count ts ≡ n → Shaped (tree ts) → Refuses capacity e (tree_by capacity at.segment at.word (tree ts) old)
 
 -- The same of a composite list, whose elements stand from a place on.
-abbrev pub BeginsBodies : Room → Place → ℕ → ℕ → Bodies → Result Place WriteFault → Written → Written → Type 0
-BeginsBodies room at d n bs (Ok first) old new =
-    KeepsTo room new
+abbrev pub BeginsBodies : Capacity → Place → ℕ → ℕ → Bodies → Result Place WriteFault → Written → Written → Type 0
+BeginsBodies capacity at d n bs (Ok first) old new =
+    KeepsTo capacity new
     × IsRun new first (number_of bs * (d + n))
-    × (tree_by room at.segment at.word (structs d n bs) old ≡ bodies_by room first.segment first.word d n bs new)
-BeginsBodies room at d n bs (Err e) old new = Refuses room e (tree_by room at.segment at.word (structs d n bs) old)
+    × (tree_by capacity at.segment at.word (structs d n bs) old ≡ bodies_by capacity first.segment first.word d n bs new)
+BeginsBodies capacity at d n bs (Err e) old new = Refuses capacity e (tree_by capacity at.segment at.word (structs d n bs) old)

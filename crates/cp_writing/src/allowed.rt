@@ -7,15 +7,15 @@ use cp_tree::WriteFault;
 /// Goes one level down, to a body or a list that costs this much without what hangs on it. Gives how
 /// many levels are left below it.
 #[inline(always)]
-pub(crate) fn charge(levels: u32, left: &mut u64, price: u64) -> Result<u32, WriteFault>
-    ensures { Charges levels left.old price result left.new }
+pub(crate) fn charge(levels: u32, budget: &mut u64, price: u64) -> Result<u32, WriteFault>
+    ensures { Charges levels budget.old price result budget.new }
 {
     if levels == 0 {
         return Err(WriteFault::TooDeep);
     }
-    if price > *left {
+    if price > *budget {
         return Err(WriteFault::TooCostly);
     }
-    *left -= price;
+    *budget -= price;
     Ok(levels - 1)
 }

@@ -11,7 +11,7 @@ ghost use Rattle.cp_writing.specs.Writing.{body_blank, bodies_blank, tag_word, s
 
 use crate::allowed::charge;
 use crate::lay_list::{lay_list, place_list};
-use crate::sheet::{Room, Sheet};
+use crate::sheet::{Capacity, Sheet};
 use cp_tree::{BodiesRef, RowRef, StructsRef, Top, TreeRef, WriteFault};
 use cp_words::{ElementSize, Kind, Place, Pointer, encode};
 
@@ -20,16 +20,16 @@ use cp_words::{ElementSize, Kind, Place, Pointer, encode};
 #[cycle(lay)]
 pub(crate) fn lay(
     sheet: &mut Sheet,
-    room: Room,
+    capacity: Capacity,
     at: Place,
     tree: TreeRef,
     levels: u32,
-    left: &mut u64,
+    budget: &mut u64,
 ) -> Result<(), WriteFault>
-    requires keeps { KeepsTo room (written sheet.old) }
+    requires keeps { KeepsTo capacity (written sheet.old) }
     requires there { IsPlace (written sheet.old) at }
     requires shaped { Shaped (node_in tree) }
-    ensures { Lays room levels left.old result left.new (depth (node_in tree.entry)) (cost (node_in tree.entry)) (tree_by room at.segment at.word (node_in tree.entry) (written sheet.old)) (written sheet.new) }
+    ensures { Lays capacity levels budget.old result budget.new (depth (node_in tree.entry)) (cost (node_in tree.entry)) (tree_by capacity at.segment at.word (node_in tree.entry) (written sheet.old)) (written sheet.new) }
 {
     match tree.top() {
         Top::Null => {
@@ -42,22 +42,22 @@ pub(crate) fn lay(
         }
         Top::Struct(body) => {
             let count = body.ptrs.len();
-            let below = charge(levels, left, 1 + body.words.len() as u64 + count as u64)?;
-            let first = begin_struct(sheet, room, at, body.words, count)?;
-            lay_row(sheet, room, first, body.ptrs, below, left)
+            let below = charge(levels, budget, 1 + body.words.len() as u64 + count as u64)?;
+            let first = begin_struct(sheet, capacity, at, body.words, count)?;
+            lay_row(sheet, capacity, first, body.ptrs, below, budget)
         }
-        Top::List(list) => lay_list(sheet, room, at, list, levels, left),
+        Top::List(list) => lay_list(sheet, capacity, at, list, levels, budget),
         Top::Ptrs(trees) => {
             let count = trees.len();
-            let below = charge(levels, left, 1 + count as u64)?;
-            let first = begin_ptrs(sheet, room, at, count)?;
-            lay_row(sheet, room, first, trees, below, left)
+            let below = charge(levels, budget, 1 + count as u64)?;
+            let first = begin_ptrs(sheet, capacity, at, count)?;
+            lay_row(sheet, capacity, first, trees, below, budget)
         }
         Top::Structs(list) => {
             let price = 1 + list.words as u64 + list.ptrs as u64;
-            let below = charge(levels, left, 2 + list.items.len() as u64 * price)?;
-            let first = begin_structs(sheet, room, at, list)?;
-            lay_bodies(sheet, room, first, list, below, left)
+            let below = charge(levels, budget, 2 + list.items.len() as u64 * price)?;
+            let first = begin_structs(sheet, capacity, at, list)?;
+            lay_bodies(sheet, capacity, first, list, below, budget)
         }
     }
 }
@@ -66,20 +66,20 @@ pub(crate) fn lay(
 #[cycle(lay)]
 fn lay_row(
     sheet: &mut Sheet,
-    room: Room,
+    capacity: Capacity,
     first: Place,
     trees: RowRef,
     levels: u32,
-    left: &mut u64,
+    budget: &mut u64,
 ) -> Result<(), WriteFault>
-    requires keeps { KeepsTo room (written sheet.old) }
+    requires keeps { KeepsTo capacity (written sheet.old) }
     requires run { IsRun (written sheet.old) first (count (nodes_of (row_in trees))) }
     requires shaped { EachShaped (nodes_of (row_in trees)) }
-    ensures { Lays room levels left.old result left.new (greatest_depth (nodes_of (row_in trees.entry))) (total_cost (nodes_of (row_in trees.entry))) (row_by room first.segment first.word (nodes_of (row_in trees.entry)) (written sheet.old)) (written sheet.new) }
+    ensures { Lays capacity levels budget.old result budget.new (greatest_depth (nodes_of (row_in trees.entry))) (total_cost (nodes_of (row_in trees.entry))) (row_by capacity first.segment first.word (nodes_of (row_in trees.entry)) (written sheet.old)) (written sheet.new) }
 {
     let mut at = first;
     for tree in trees {
-        lay(sheet, room, at, tree, levels, left)?;
+        lay(sheet, capacity, at, tree, levels, budget)?;
         at.word += 1;
     }
     Ok(())
@@ -89,16 +89,16 @@ fn lay_row(
 #[cycle(lay)]
 fn lay_bodies(
     sheet: &mut Sheet,
-    room: Room,
+    capacity: Capacity,
     first: Place,
     list: StructsRef,
     levels: u32,
-    left: &mut u64,
+    budget: &mut u64,
 ) -> Result<(), WriteFault>
-    requires keeps { KeepsTo room (written sheet.old) }
+    requires keeps { KeepsTo capacity (written sheet.old) }
     requires run { IsRun (written sheet.old) first (number_of (bodies_of (bodies_in list.items)) * (list.words + list.ptrs)) }
     requires even { EachEven list.words list.ptrs (bodies_of (bodies_in list.items)) }
-    ensures { Lays room levels left.old result left.new (deepest_body (bodies_of (bodies_in list.entry.items))) (body_cost (bodies_of (bodies_in list.entry.items))) (bodies_by room first.segment first.word list.entry.words list.entry.ptrs (bodies_of (bodies_in list.entry.items)) (written sheet.old)) (written sheet.new) }
+    ensures { Lays capacity levels budget.old result budget.new (deepest_body (bodies_of (bodies_in list.entry.items))) (body_cost (bodies_of (bodies_in list.entry.items))) (bodies_by capacity first.segment first.word list.entry.words list.entry.ptrs (bodies_of (bodies_in list.entry.items)) (written sheet.old)) (written sheet.new) }
 {
     if list.ptrs == 0 {
         return Ok(());
@@ -109,7 +109,7 @@ fn lay_bodies(
             segment: at.segment,
             word: at.word + list.words as usize,
         };
-        lay_row(sheet, room, pointers, body.ptrs, levels, left)?;
+        lay_row(sheet, capacity, pointers, body.ptrs, levels, budget)?;
         at.word = pointers.word + list.ptrs as usize;
     }
     Ok(())
@@ -120,15 +120,15 @@ fn lay_bodies(
 #[inline(always)]
 fn begin_struct(
     sheet: &mut Sheet,
-    room: Room,
+    capacity: Capacity,
     at: Place,
     words: &[u64],
     ptrs: usize,
 ) -> Result<Place, WriteFault>
-    requires keeps { KeepsTo room (written sheet.old) }
+    requires keeps { KeepsTo capacity (written sheet.old) }
     requires there { IsPlace (written sheet.old) at }
     requires sizes { HasSizes (length words.now) ptrs }
-    ensures { Begins room at ptrs (struct words.now) result (written sheet.old) (written sheet.new) }
+    ensures { Begins capacity at ptrs (struct words.now) result (written sheet.old) (written sheet.new) }
 {
     if words.len() + ptrs == 0 {
         let empty = Pointer::Struct {
@@ -143,8 +143,8 @@ fn begin_struct(
         words: words.len() as u16,
         ptrs: ptrs as u16,
     };
-    let start = sheet.place(room, at, kind, words.len() + ptrs)?;
-    append_body(sheet, room, words, ptrs)?;
+    let start = sheet.place(capacity, at, kind, words.len() + ptrs)?;
+    append_body(sheet, capacity, words, ptrs)?;
     Ok(Place {
         segment: start.segment,
         word: start.word + words.len(),
@@ -152,14 +152,14 @@ fn begin_struct(
 }
 
 /// Begins a list of pointers: blank words. Gives where they begin.
-fn begin_ptrs(sheet: &mut Sheet, room: Room, at: Place, count: usize) -> Result<Place, WriteFault>
-    requires keeps { KeepsTo room (written sheet.old) }
+fn begin_ptrs(sheet: &mut Sheet, capacity: Capacity, at: Place, count: usize) -> Result<Place, WriteFault>
+    requires keeps { KeepsTo capacity (written sheet.old) }
     requires there { IsPlace (written sheet.old) at }
     requires few { count < 2 ^ 29 }
-    ensures { Begins room at count pointers result (written sheet.old) (written sheet.new) }
+    ensures { Begins capacity at count pointers result (written sheet.old) (written sheet.new) }
 {
-    let start = place_list(sheet, room, at, ElementSize::Pointer, count, count)?;
-    sheet.append_blank(room, count)?;
+    let start = place_list(sheet, capacity, at, ElementSize::Pointer, count, count)?;
+    sheet.append_blank(capacity, count)?;
     Ok(start)
 }
 
@@ -167,38 +167,38 @@ fn begin_ptrs(sheet: &mut Sheet, room: Room, at: Place, count: usize) -> Result<
 /// where the elements begin.
 fn begin_structs(
     sheet: &mut Sheet,
-    room: Room,
+    capacity: Capacity,
     at: Place,
     list: StructsRef,
 ) -> Result<Place, WriteFault>
-    requires keeps { KeepsTo room (written sheet.old) }
+    requires keeps { KeepsTo capacity (written sheet.old) }
     requires there { IsPlace (written sheet.old) at }
     requires shaped { Shaped (structs list.words list.ptrs (bodies_of (bodies_in list.items))) }
-    ensures { BeginsBodies room at list.entry.words list.entry.ptrs (bodies_of (bodies_in list.entry.items)) result (written sheet.old) (written sheet.new) }
+    ensures { BeginsBodies capacity at list.entry.words list.entry.ptrs (bodies_of (bodies_in list.entry.items)) result (written sheet.old) (written sheet.new) }
 {
-    let first = begin_elements(sheet, room, at, list.words, list.ptrs, list.items.len())?;
-    append_bodies(sheet, room, list.items)?;
+    let first = begin_elements(sheet, capacity, at, list.words, list.ptrs, list.items.len())?;
+    append_bodies(sheet, capacity, list.items)?;
     Ok(first)
 }
 
 /// Begins a composite list: its tag. Gives where its elements begin.
 fn begin_elements(
     sheet: &mut Sheet,
-    room: Room,
+    capacity: Capacity,
     at: Place,
     words: u16,
     ptrs: u16,
     count: usize,
 ) -> Result<Place, WriteFault>
-    requires keeps { KeepsTo room (written sheet.old) }
+    requires keeps { KeepsTo capacity (written sheet.old) }
     requires there { IsPlace (written sheet.old) at }
     requires few { count < 2 ^ 30 }
     requires small { count * (words + ptrs) < 2 ^ 29 }
-    ensures { Places room result (structs_begun room at.segment at.word words ptrs count [] (written sheet.old)) (written sheet.new) }
+    ensures { Places capacity result (structs_begun capacity at.segment at.word words ptrs count [] (written sheet.old)) (written sheet.new) }
 {
     let size = count * (words as usize + ptrs as usize);
-    let tag = place_list(sheet, room, at, ElementSize::Composite, size, size + 1)?;
-    sheet.append(room, &[tag_word(count, words, ptrs)])?;
+    let tag = place_list(sheet, capacity, at, ElementSize::Composite, size, size + 1)?;
+    sheet.append(capacity, &[tag_word(count, words, ptrs)])?;
     Ok(Place {
         segment: tag.segment,
         word: tag.word + 1,
@@ -215,25 +215,25 @@ fn tag_word(count: usize, words: u16, ptrs: u16) -> u64
 
 /// The elements of a composite list, each with blank words for its pointers.
 #[inline]
-fn append_bodies(sheet: &mut Sheet, room: Room, bodies: BodiesRef) -> Result<(), WriteFault>
-    requires { KeepsTo room (written sheet.old) }
-    ensures { Writes room result (append (bodies_blank (bodies_of (bodies_in bodies.entry))) (written sheet.old)) (written sheet.new) }
+fn append_bodies(sheet: &mut Sheet, capacity: Capacity, bodies: BodiesRef) -> Result<(), WriteFault>
+    requires { KeepsTo capacity (written sheet.old) }
+    ensures { Writes capacity result (append (bodies_blank (bodies_of (bodies_in bodies.entry))) (written sheet.old)) (written sheet.new) }
 {
     for body in bodies {
-        append_body(sheet, room, body.words, body.ptrs.len())?;
+        append_body(sheet, capacity, body.words, body.ptrs.len())?;
     }
     Ok(())
 }
 
 /// A struct's data words, and blank words for its pointers.
 #[inline(always)]
-fn append_body(sheet: &mut Sheet, room: Room, words: &[u64], ptrs: usize) -> Result<(), WriteFault>
-    requires { KeepsTo room (written sheet.old) }
-    ensures { Writes room result (append (body_blank words.now ptrs) (written sheet.old)) (written sheet.new) }
+fn append_body(sheet: &mut Sheet, capacity: Capacity, words: &[u64], ptrs: usize) -> Result<(), WriteFault>
+    requires { KeepsTo capacity (written sheet.old) }
+    ensures { Writes capacity result (append (body_blank words.now ptrs) (written sheet.old)) (written sheet.new) }
 {
     if ptrs == 0 {
-        return sheet.append(room, words);
+        return sheet.append(capacity, words);
     }
-    sheet.append(room, words)?;
-    sheet.append_blank(room, ptrs)
+    sheet.append(capacity, words)?;
+    sheet.append_blank(capacity, ptrs)
 }

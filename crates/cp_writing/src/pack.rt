@@ -5,93 +5,6 @@ ghost use Rattle.cp_writing.specs.Packed.{value, groups, bit_of};
 
 use std::alloc::AllocError;
 
-/// A bit as a number.
-fn bit(flag: bool) -> u64
-    ensures value { result ≡ bit_of flag }
-    ensures small { result < 2 }
-{
-    flag as u64
-}
-
-/// The word that at most 64 bits are, the first one lowest.
-fn bits_word(items: &[bool]) -> u64
-    requires { length items.now ≤ 64 }
-    ensures { result ≡ value 2 (map bit_of items.now) }
-{
-    let mut word = 0;
-    let mut i = items.len();
-    while i > 0 {
-        i -= 1;
-        word = 2 * word + bit(items[i]);
-    }
-    word
-}
-
-/// The word that at most 8 bytes are, the first one lowest.
-fn bytes_word(items: &[u8]) -> u64
-    requires { length items.now ≤ 8 }
-    ensures { result ≡ value 256 items.now }
-{
-    let mut word = 0;
-    let mut i = items.len();
-    while i > 0 {
-        i -= 1;
-        word = 0x100 * word + items[i] as u64;
-    }
-    word
-}
-
-/// The word that at most 4 numbers of two bytes are, the first one lowest.
-fn halves_word(items: &[u16]) -> u64
-    requires { length items.now ≤ 4 }
-    ensures { result ≡ value 65536 items.now }
-{
-    let mut word = 0;
-    let mut i = items.len();
-    while i > 0 {
-        i -= 1;
-        word = 0x1_0000 * word + items[i] as u64;
-    }
-    word
-}
-
-/// The word that at most 2 numbers of four bytes are, the first one lowest.
-fn quads_word(items: &[u32]) -> u64
-    requires { length items.now ≤ 2 }
-    ensures { result ≡ value 4294967296 items.now }
-{
-    let mut word = 0;
-    let mut i = items.len();
-    while i > 0 {
-        i -= 1;
-        word = 0x1_0000_0000 * word + items[i] as u64;
-    }
-    word
-}
-
-/// The word that 8 bytes are.
-fn eight_bytes(items: &[u8; 8]) -> u64
-    ensures { result ≡ value 256 items.now }
-{
-    u64::from_le_bytes(*items)
-}
-
-/// The word that 4 numbers of two bytes are.
-fn four_halves(items: &[u16; 4]) -> u64
-    ensures { result ≡ value 65536 items.now }
-{
-    let low = items[0] as u64 + 0x1_0000 * items[1] as u64;
-    let high = items[2] as u64 + 0x1_0000 * items[3] as u64;
-    low + 0x1_0000_0000 * high
-}
-
-/// The word that 2 numbers of four bytes are.
-fn two_quads(items: &[u32; 2]) -> u64
-    ensures { result ≡ value 4294967296 items.now }
-{
-    items[0] as u64 + 0x1_0000_0000 * items[1] as u64
-}
-
 /// Appends the words of a list of bits.
 pub(crate) fn push_bits(words: &mut Vec<u64>, items: &[bool]) -> Result<(), AllocError>
     ensures { OnOk result (words.new.items ≡ words.old.items ++ groups 2 64 (map bit_of items.now)) }
@@ -138,4 +51,91 @@ pub(crate) fn push_quads(words: &mut Vec<u64>, items: &[u32]) -> Result<(), Allo
         words.push(quads_word(rest))?;
     }
     Ok(())
+}
+
+/// The word that at most 64 bits are, the first one lowest.
+fn bits_word(items: &[bool]) -> u64
+    requires { length items.now ≤ 64 }
+    ensures { result ≡ value 2 (map bit_of items.now) }
+{
+    let mut word = 0;
+    let mut i = items.len();
+    while i > 0 {
+        i -= 1;
+        word = 2 * word + bit(items[i]);
+    }
+    word
+}
+
+/// A bit as a number.
+fn bit(flag: bool) -> u64
+    ensures value { result ≡ bit_of flag }
+    ensures small { result < 2 }
+{
+    flag as u64
+}
+
+/// The word that 8 bytes are.
+fn eight_bytes(items: &[u8; 8]) -> u64
+    ensures { result ≡ value 256 items.now }
+{
+    u64::from_le_bytes(*items)
+}
+
+/// The word that at most 8 bytes are, the first one lowest.
+fn bytes_word(items: &[u8]) -> u64
+    requires { length items.now ≤ 8 }
+    ensures { result ≡ value 256 items.now }
+{
+    let mut word = 0;
+    let mut i = items.len();
+    while i > 0 {
+        i -= 1;
+        word = 0x100 * word + items[i] as u64;
+    }
+    word
+}
+
+/// The word that 4 numbers of two bytes are.
+fn four_halves(items: &[u16; 4]) -> u64
+    ensures { result ≡ value 65536 items.now }
+{
+    let low = items[0] as u64 + 0x1_0000 * items[1] as u64;
+    let high = items[2] as u64 + 0x1_0000 * items[3] as u64;
+    low + 0x1_0000_0000 * high
+}
+
+/// The word that at most 4 numbers of two bytes are, the first one lowest.
+fn halves_word(items: &[u16]) -> u64
+    requires { length items.now ≤ 4 }
+    ensures { result ≡ value 65536 items.now }
+{
+    let mut word = 0;
+    let mut i = items.len();
+    while i > 0 {
+        i -= 1;
+        word = 0x1_0000 * word + items[i] as u64;
+    }
+    word
+}
+
+/// The word that 2 numbers of four bytes are.
+fn two_quads(items: &[u32; 2]) -> u64
+    ensures { result ≡ value 4294967296 items.now }
+{
+    items[0] as u64 + 0x1_0000_0000 * items[1] as u64
+}
+
+/// The word that at most 2 numbers of four bytes are, the first one lowest.
+fn quads_word(items: &[u32]) -> u64
+    requires { length items.now ≤ 2 }
+    ensures { result ≡ value 4294967296 items.now }
+{
+    let mut word = 0;
+    let mut i = items.len();
+    while i > 0 {
+        i -= 1;
+        word = 0x1_0000_0000 * word + items[i] as u64;
+    }
+    word
 }

@@ -1,10 +1,10 @@
 //! Segments while they are written.
 
 ghost use Rattle.std.specs.Prelude.{ℕ, ◌≡◌, ◌<◌, ◌≤◌, ◌++◌, IfErr, ◌+◌, ◌∷◌, ◌^◌, [], length, replicate, OnOk, IfOk};
-ghost use Rattle.cp_tree.specs.NodeOf.{words_of};
+ghost use Rattle.cp_words.specs.Segments.{words_of};
 ghost use Rattle.cp_tree.specs.Node.{bits, bytes, halves, quads};
 ghost use Rattle.cp_writing.specs.Packed.{packed};
-ghost use Rattle.cp_writing.specs.Sheets.{written, lists, end_of, put, append, begin, place_by, body_word, IsNamed, with_room, here, after_pad, IsRoom, KeepsTo, IsPlace, Writes, Places};
+ghost use Rattle.cp_writing.specs.Sheets.{written, segments_of, end_of, put, append, begin, place_by, body_word, IsNamed, with_segment_for, here, after_landing_pad, IsCapacity, KeepsTo, IsPlace, Writes, Places};
 ghost use Rattle.cp_tree.specs.declared.fault.WriteFault.TheVariants.{TooManyWords};
 
 use crate::pack::{push_bits, push_bytes, push_halves, push_quads};
@@ -16,7 +16,7 @@ use std::mem;
 /// How much may be written: at most this many words in a segment, this many segments, and this many words
 /// in all of them together.
 #[derive(Clone, Copy)]
-pub(crate) struct Room {
+pub(crate) struct Capacity {
     pub words: usize,
     pub segments: usize,
     pub whole: usize,
@@ -27,45 +27,24 @@ pub(crate) struct Room {
 #[derive(Drop)]
 pub(crate) struct Sheet {
     alloc: Global,
-    capacity: usize,
+    reserved: usize,
     full: Vec<Vec<u64>>,
     last: Vec<u64>,
     words: usize,
 }
 
-/// The word of a pointer to a body that begins this many words after it.
-fn body_word(kind: Kind, offset: usize) -> u64
-    requires named { IsNamed kind }
-    requires near { offset < 2 ^ 29 }
-    ensures { result ≡ body_word kind offset }
-{
-    let offset = offset as i32;
-    encode(match kind {
-        Kind::Struct { words, ptrs } => Pointer::Struct {
-            offset,
-            words,
-            ptrs,
-        },
-        Kind::List { size, count } => Pointer::List {
-            offset,
-            size,
-            count,
-        },
-    })
-}
-
 impl Sheet {
     /// One segment with a blank word, the root's pointer.
-    pub fn new(alloc: Global, room: Room, capacity: usize) -> Result<Sheet, AllocError>
-        requires { IsRoom room }
+    pub fn new(alloc: Global, capacity: Capacity, reserved: usize) -> Result<Sheet, AllocError>
+        requires { IsCapacity capacity }
         ensures written { IfOk result (λ w. written w ≡ record { full = []; last = 0 ∷ []; words = 1 }) }
-        ensures keeps { IfOk result (λ w. KeepsTo room (written w)) }
+        ensures keeps { IfOk result (λ w. KeepsTo capacity (written w)) }
     {
-        let mut last = Vec::with_capacity(alloc, capacity)?;
+        let mut last = Vec::with_capacity(alloc, reserved)?;
         last.push(0)?;
         Ok(Sheet {
             alloc,
-            capacity,
+            reserved,
             full: Vec::new(alloc),
             last,
             words: 1,
@@ -74,14 +53,14 @@ impl Sheet {
 
     /// The segments. Most messages have one, which needs no vector around it.
     pub fn into_segments(self) -> Result<Segments, AllocError>
-        ensures { IfOk result (λ s. s ≡ lists (written self)) }
+        ensures { IfOk result (λ s. s ≡ segments_of (written self)) }
     {
-        let mut lists = self.full;
-        if lists.is_empty() {
+        let mut segments = self.full;
+        if segments.is_empty() {
             return Ok(Segments::one(self.last));
         }
-        lists.push(self.last)?;
-        let Ok(segments) = Segments::new(lists) else {
+        segments.push(self.last)?;
+        let Ok(segments) = Segments::new(segments) else {
             unreachable!()
         };
         Ok(segments)
@@ -121,14 +100,14 @@ impl Sheet {
 
     /// Counts this many more words.
     #[inline(always)]
-    fn count(&mut self, room: Room, words: usize) -> Result<(), WriteFault>
-        requires within { self.old.words ≤ room.whole }
-        requires small { room.whole ≤ 67108864 }
+    fn count(&mut self, capacity: Capacity, words: usize) -> Result<(), WriteFault>
+        requires within { self.old.words ≤ capacity.whole }
+        requires small { capacity.whole ≤ 67108864 }
         ensures counted { OnOk result (self.new ≡ record self.old { words = self.old.words + words }) }
-        ensures within { OnOk result (self.old.words + words ≤ room.whole) }
-        ensures past { IfErr result (λ e. (e ≡ TooManyWords) × (room.whole < self.old.words + words)) }
+        ensures within { OnOk result (self.old.words + words ≤ capacity.whole) }
+        ensures past { IfErr result (λ e. (e ≡ TooManyWords) × (capacity.whole < self.old.words + words)) }
     {
-        if words > room.whole - self.words {
+        if words > capacity.whole - self.words {
             return Err(WriteFault::TooManyWords);
         }
         self.words += words;
@@ -137,58 +116,58 @@ impl Sheet {
 
     /// Appends the words to the last segment.
     #[inline(always)]
-    pub fn append(&mut self, room: Room, words: &[u64]) -> Result<(), WriteFault>
-        requires { KeepsTo room (written self.old) }
-        ensures { Writes room result (append words.now (written self.old)) (written self.new) }
+    pub fn append(&mut self, capacity: Capacity, words: &[u64]) -> Result<(), WriteFault>
+        requires { KeepsTo capacity (written self.old) }
+        ensures { Writes capacity result (append words.now (written self.old)) (written self.new) }
     {
-        self.count(room, words.len())?;
+        self.count(capacity, words.len())?;
         self.last.extend_from_slice(words)?;
         Ok(())
     }
 
     /// Appends this many blank words to the last segment.
     #[inline(always)]
-    pub fn append_blank(&mut self, room: Room, words: usize) -> Result<(), WriteFault>
-        requires { KeepsTo room (written self.old) }
-        ensures { Writes room result (append (replicate words 0) (written self.old)) (written self.new) }
+    pub fn append_blank(&mut self, capacity: Capacity, words: usize) -> Result<(), WriteFault>
+        requires { KeepsTo capacity (written self.old) }
+        ensures { Writes capacity result (append (replicate words 0) (written self.old)) (written self.new) }
     {
-        self.count(room, words)?;
+        self.count(capacity, words)?;
         self.last.resize(self.last.len() + words, 0)?;
         Ok(())
     }
 
-    pub fn append_bits(&mut self, room: Room, items: &[bool]) -> Result<(), WriteFault>
-        requires { KeepsTo room (written self.old) }
-        ensures { Writes room result (append (packed (bits items.now)) (written self.old)) (written self.new) }
+    pub fn append_bits(&mut self, capacity: Capacity, items: &[bool]) -> Result<(), WriteFault>
+        requires { KeepsTo capacity (written self.old) }
+        ensures { Writes capacity result (append (packed (bits items.now)) (written self.old)) (written self.new) }
     {
-        self.count(room, (items.len() + 63) / 64)?;
+        self.count(capacity, (items.len() + 63) / 64)?;
         push_bits(&mut self.last, items)?;
         Ok(())
     }
 
-    pub fn append_bytes(&mut self, room: Room, items: &[u8]) -> Result<(), WriteFault>
-        requires { KeepsTo room (written self.old) }
-        ensures { Writes room result (append (packed (bytes items.now)) (written self.old)) (written self.new) }
+    pub fn append_bytes(&mut self, capacity: Capacity, items: &[u8]) -> Result<(), WriteFault>
+        requires { KeepsTo capacity (written self.old) }
+        ensures { Writes capacity result (append (packed (bytes items.now)) (written self.old)) (written self.new) }
     {
-        self.count(room, (items.len() + 7) / 8)?;
+        self.count(capacity, (items.len() + 7) / 8)?;
         push_bytes(&mut self.last, items)?;
         Ok(())
     }
 
-    pub fn append_halves(&mut self, room: Room, items: &[u16]) -> Result<(), WriteFault>
-        requires { KeepsTo room (written self.old) }
-        ensures { Writes room result (append (packed (halves items.now)) (written self.old)) (written self.new) }
+    pub fn append_halves(&mut self, capacity: Capacity, items: &[u16]) -> Result<(), WriteFault>
+        requires { KeepsTo capacity (written self.old) }
+        ensures { Writes capacity result (append (packed (halves items.now)) (written self.old)) (written self.new) }
     {
-        self.count(room, (items.len() + 3) / 4)?;
+        self.count(capacity, (items.len() + 3) / 4)?;
         push_halves(&mut self.last, items)?;
         Ok(())
     }
 
-    pub fn append_quads(&mut self, room: Room, items: &[u32]) -> Result<(), WriteFault>
-        requires { KeepsTo room (written self.old) }
-        ensures { Writes room result (append (packed (quads items.now)) (written self.old)) (written self.new) }
+    pub fn append_quads(&mut self, capacity: Capacity, items: &[u32]) -> Result<(), WriteFault>
+        requires { KeepsTo capacity (written self.old) }
+        ensures { Writes capacity result (append (packed (quads items.now)) (written self.old)) (written self.new) }
     {
-        self.count(room, (items.len() + 1) / 2)?;
+        self.count(capacity, (items.len() + 1) / 2)?;
         push_quads(&mut self.last, items)?;
         Ok(())
     }
@@ -199,7 +178,7 @@ impl Sheet {
         requires { size < 2 ^ 60 }
         ensures { OnOk result (written self.new ≡ begin (written self.old)) }
     {
-        let next = Vec::with_capacity(self.alloc, self.capacity.max(size + 1))?;
+        let next = Vec::with_capacity(self.alloc, self.reserved.max(size + 1))?;
         self.full.push(mem::replace(&mut self.last, next))?;
         Ok(())
     }
@@ -207,16 +186,16 @@ impl Sheet {
     /// Begins a new segment, if a body of this many words, whose pointer is in a segment, doesn't fit
     /// into the last one and a new one may be begun.
     #[inline(always)]
-    fn make_room(&mut self, room: Room, segment: usize, size: usize) -> Result<(), AllocError>
-        requires keeps { KeepsTo room (written self.old) }
+    fn segment_for(&mut self, capacity: Capacity, segment: usize, size: usize) -> Result<(), AllocError>
+        requires keeps { KeepsTo capacity (written self.old) }
         requires sized { size < 2 ^ 60 }
-        ensures { OnOk result (written self.new ≡ with_room room segment size (written self.old)) }
+        ensures { OnOk result (written self.new ≡ with_segment_for capacity segment size (written self.old)) }
     {
-        let pad = if segment == self.full.len() { 0 } else { 1 };
-        if size == 0 || self.last.len() + pad + size <= room.words {
+        let landing_pad = if segment == self.full.len() { 0 } else { 1 };
+        if size == 0 || self.last.len() + landing_pad + size <= capacity.words {
             return Ok(());
         }
-        if self.full.len() + 1 >= room.segments {
+        if self.full.len() + 1 >= capacity.segments {
             return Ok(());
         }
         self.begin(size)
@@ -242,11 +221,11 @@ impl Sheet {
     /// Names a body by a landing pad, and gives where it is to be written: after the landing pad, which is at the end
     /// of the last segment.
     #[cold]
-    fn place_after_pad(&mut self, room: Room, at: Place, kind: Kind) -> Result<Place, WriteFault>
-        requires keeps { KeepsTo room (written self.old) }
+    fn place_after_landing_pad(&mut self, capacity: Capacity, at: Place, kind: Kind) -> Result<Place, WriteFault>
+        requires keeps { KeepsTo capacity (written self.old) }
         requires there { IsPlace (written self.old) at }
         requires named { IsNamed kind }
-        ensures { Places room result (after_pad at.segment at.word kind (written self.old)) (written self.new) }
+        ensures { Places capacity result (after_landing_pad at.segment at.word kind (written self.old)) (written self.new) }
     {
         let place = self.last.len();
         let segment = self.full.len();
@@ -256,7 +235,7 @@ impl Sheet {
             segment: segment as u32,
         };
         self.put(at, encode(far));
-        self.append(room, &[body_word(kind, 0)])?;
+        self.append(capacity, &[body_word(kind, 0)])?;
         Ok(Place {
             segment,
             word: place + 1,
@@ -268,21 +247,42 @@ impl Sheet {
     #[inline(always)]
     pub fn place(
         &mut self,
-        room: Room,
+        capacity: Capacity,
         at: Place,
         kind: Kind,
         size: usize,
     ) -> Result<Place, WriteFault>
-        requires keeps { KeepsTo room (written self.old) }
+        requires keeps { KeepsTo capacity (written self.old) }
         requires there { IsPlace (written self.old) at }
         requires named { IsNamed kind }
         requires sized { size < 2 ^ 60 }
-        ensures { Places room result (place_by room at.segment at.word kind size (written self.old)) (written self.new) }
+        ensures { Places capacity result (place_by capacity at.segment at.word kind size (written self.old)) (written self.new) }
     {
-        self.make_room(room, at.segment, size)?;
+        self.segment_for(capacity, at.segment, size)?;
         if size == 0 || at.segment == self.full.len() {
             return Ok(self.place_here(at, kind));
         }
-        self.place_after_pad(room, at, kind)
+        self.place_after_landing_pad(capacity, at, kind)
     }
+}
+
+/// The word of a pointer to a body that begins this many words after it.
+fn body_word(kind: Kind, offset: usize) -> u64
+    requires named { IsNamed kind }
+    requires near { offset < 2 ^ 29 }
+    ensures { result ≡ body_word kind offset }
+{
+    let offset = offset as i32;
+    encode(match kind {
+        Kind::Struct { words, ptrs } => Pointer::Struct {
+            offset,
+            words,
+            ptrs,
+        },
+        Kind::List { size, count } => Pointer::List {
+            offset,
+            size,
+            count,
+        },
+    })
 }

@@ -6,12 +6,12 @@ ghost use Rattle.cp_tree.specs.Node.{depth, cost};
 ghost use Rattle.cp_tree.specs.DraftOf.{draft_of};
 ghost use Rattle.cp_tree.specs.Lent.{node_in};
 ghost use Rattle.cp_tree.specs.Shaped.{Shaped};
-ghost use Rattle.cp_writing.specs.Sheets.{lists, written};
+ghost use Rattle.cp_writing.specs.Sheets.{segments_of, written};
 ghost use Rattle.cp_writing.specs.Writes.{IsCostFaultOf, IsWriteFaultOf, FitsIn};
-ghost use Rattle.cp_writing.specs.LaidOut.{room_for, laid_out, MeetsLimit};
+ghost use Rattle.cp_writing.specs.LaidOut.{capacity_for, laid_out, MeetsLimit};
 
 use crate::lay::lay;
-use crate::sheet::{Room, Sheet};
+use crate::sheet::{Capacity, Sheet};
 use cp_tree::{Draft, Object, TreeRef, WriteFault, nests};
 use cp_words::{Limits, Place, Segments};
 use std::alloc::Global;
@@ -83,24 +83,24 @@ fn lay_out(
 ) -> Result<Sheet, WriteFault>
     requires shaped { Shaped (node_in tree) }
     requires few { segments ≤ 512 }
-    ensures written { IfOk result (λ w. written w ≡ laid_out (room_for words segments limits) (node_in tree.entry)) }
+    ensures written { IfOk result (λ w. written w ≡ laid_out (capacity_for words segments limits) (node_in tree.entry)) }
     ensures fits { OnOk result (FitsIn limits (node_in tree.entry)) }
     ensures within { IfOk result (λ w. (written w).words ≤ limits.frame_words) }
     ensures small { IfOk result (λ w. (written w).words ≤ 67108864) }
-    ensures refused { IfErr result (MeetsLimit limits (room_for words segments limits) (node_in tree.entry)) }
+    ensures refused { IfErr result (MeetsLimit limits (capacity_for words segments limits) (node_in tree.entry)) }
 {
-    let room = Room {
+    let capacity = Capacity {
         words: words as usize,
         segments: segments as usize,
         whole: limits.frame_words() as usize,
     };
-    let mut sheet = Sheet::new(alloc, room, room.words.min(FIRST_WORDS))?;
+    let mut sheet = Sheet::new(alloc, capacity, capacity.words.min(FIRST_WORDS))?;
     let root = Place {
         segment: 0,
         word: 0,
     };
-    let mut left = limits.traversal() as u64;
-    match lay(&mut sheet, room, root, tree, limits.nesting(), &mut left) {
+    let mut budget = limits.traversal() as u64;
+    match lay(&mut sheet, capacity, root, tree, limits.nesting(), &mut budget) {
         Ok(()) => Ok(sheet),
         Err(WriteFault::OutOfMemory) => Err(WriteFault::OutOfMemory),
         Err(fault) => {
@@ -116,11 +116,11 @@ fn keeps_to(tree: TreeRef, limits: Limits) -> Result<(), WriteFault>
     ensures fits { OnOk result (FitsIn limits (node_in tree.entry)) }
     ensures refused { IfErr result (IsCostFaultOf limits (node_in tree.entry)) }
 {
-    let mut left = Some(limits.traversal() as u64);
-    if !nests(tree, limits.nesting(), &mut left) {
+    let mut budget = Some(limits.traversal() as u64);
+    if !nests(tree, limits.nesting(), &mut budget) {
         return Err(WriteFault::TooDeep);
     }
-    match left {
+    match budget {
         Some(_) => Ok(()),
         None => Err(WriteFault::TooCostly),
     }

@@ -693,7 +693,7 @@ const PACKED: [u8; 40] = [
 ];
 
 /// A command ends well, or says that memory ran out.
-fn expect_memory_told(rt: &impl Abort, alloc: Global, plan: Plan, bytes: &[u8]) {
+fn expect_memory_reported(rt: &impl Abort, alloc: Global, plan: Plan, bytes: &[u8]) {
     let (mut from, mut err) = (bytes, Vec::new(alloc));
     let status = act(alloc, &plan, &mut from, &mut io::sink(), &mut err);
     let said = String::from_utf8(err).expect(rt, "UTF-8");
@@ -715,10 +715,10 @@ fn allocation_failure_is_reported(rt: HostRuntime) {
         (Mode::Plain, PLAIN.as_slice()),
         (Mode::Packed, PACKED.as_slice()),
     ] {
-        expect_memory_told(&rt, rt.alloc(), show(mode), bytes);
-        expect_memory_told(&rt, rt.alloc(), check(mode), bytes);
-        expect_memory_told(&rt, rt.alloc(), Plan::Recut { mode, words }, bytes);
+        expect_memory_reported(&rt, rt.alloc(), show(mode), bytes);
+        expect_memory_reported(&rt, rt.alloc(), check(mode), bytes);
+        expect_memory_reported(&rt, rt.alloc(), Plan::Recut { mode, words }, bytes);
     }
-    expect_memory_told(&rt, rt.alloc(), Plan::Pack, &PLAIN);
-    expect_memory_told(&rt, rt.alloc(), Plan::Unpack, &PACKED);
+    expect_memory_reported(&rt, rt.alloc(), Plan::Pack, &PLAIN);
+    expect_memory_reported(&rt, rt.alloc(), Plan::Unpack, &PACKED);
 }

@@ -11,7 +11,7 @@ fn calls_wait_and_leave(rt: HostRuntime) {
         &rt,
         alloc,
         None,
-        &[ASKED, WHAT_A_BOOTSTRAP_FAILS_WITH_IS_TOLD],
+        &[ASKED, WHAT_A_BOOTSTRAP_FAILS_WITH_IS_REPORTED],
     );
     expect(
         &rt,
@@ -82,7 +82,7 @@ fn calls_wait_and_leave(rt: HostRuntime) {
 }
 
 #[test]
-fn what_it_gives_is_told(rt: HostRuntime) {
+fn what_it_gives_is_reported(rt: HostRuntime) {
     expect(&rt, rt.alloc(), None, &[HOLDING_7]);
 }
 
@@ -93,7 +93,7 @@ const A_BOOTSTRAP_FAILS_WITHOUT_AN_OBJECT: &str = "
 ";
 
 /// What a bootstrap fails with is reported.
-const WHAT_A_BOOTSTRAP_FAILS_WITH_IS_TOLD: &str = "
+const WHAT_A_BOOTSTRAP_FAILS_WITH_IS_REPORTED: &str = "
     < return a=0 releaseParamCaps=false exception unknown:7 \"x\"
     ! settled question:0 exception unknown:7 \"x\"
 ";

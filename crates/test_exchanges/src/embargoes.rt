@@ -49,7 +49,7 @@ fn calls_wait_for_an_echo(rt: HostRuntime) {
         &rt,
         alloc,
         None,
-        &[ASKED, BEHIND_AN_EMBARGO_A_CALL_WAITS_FOR_A_PROMISE],
+        &[ASKED, AFTER_AN_EMBARGO_A_CALL_WAITS_FOR_A_PROMISE],
     );
     expect(
         &rt,
@@ -170,7 +170,7 @@ const AN_ECHO_WITHOUT_AN_EMBARGO: &str = "
 ";
 
 /// After an embargo a call waits for a promise.
-const BEHIND_AN_EMBARGO_A_CALL_WAITS_FOR_A_PROMISE: &str = "
+const AFTER_AN_EMBARGO_A_CALL_WAITS_FOR_A_PROMISE: &str = "
     promise
     = promise:0
     call question:0[] {(;cap:0) caps[promise:0]}

@@ -27,7 +27,7 @@ pub fn prepare(rt: &impl Abort, alloc: Global, vat: &mut Vat, script: &str) {
 }
 
 /// Whether a line says what follows.
-pub fn is_told(line: &str) -> bool {
+pub fn is_reported(line: &str) -> bool {
     line.starts_with("> ") || line.starts_with("! ") || line.starts_with("= ")
 }
 
@@ -48,7 +48,7 @@ pub fn expect_next(rt: &impl Abort, alloc: Global, mut vat: Vat, script: &[&str]
         for line in part.lines() {
             let line = line.trim();
             wanted.push_line(line);
-            if !line.is_empty() && !is_told(line) {
+            if !line.is_empty() && !is_reported(line) {
                 lines.push_line(line);
                 let event = read(rt, alloc, line);
                 let given = act(alloc, &mut vat, event, Taken::InPlace);

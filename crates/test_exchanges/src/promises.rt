@@ -6,7 +6,7 @@ use crate::beginnings::{
 use crate::playing::expect;
 
 #[test]
-fn promises_are_settled_and_told(rt: HostRuntime) {
+fn promises_are_settled_and_reported(rt: HostRuntime) {
     let alloc = rt.alloc();
     expect(
         &rt,
@@ -37,9 +37,9 @@ fn promises_are_settled_and_told(rt: HostRuntime) {
         alloc,
         Some(0),
         &[
-            A_BROKEN_PROMISE_IS_TOLD_BEFORE,
+            A_BROKEN_PROMISE_IS_REPORTED_BEFORE,
             CALLED,
-            A_BROKEN_PROMISE_IS_TOLD_AFTER,
+            A_BROKEN_PROMISE_IS_REPORTED_AFTER,
         ],
     );
     expect(&rt, alloc, None, &[PROMISES_DO_NOT_LEAD_TO_EACH_OTHER]);
@@ -231,13 +231,13 @@ const AN_UNKNOWN_RESOLVE_OF_NULL_CHANGES_NOTHING: &str = "
 ";
 
 /// A broken promise is reported, what comes before.
-const A_BROKEN_PROMISE_IS_TOLD_BEFORE: &str = "
+const A_BROKEN_PROMISE_IS_REPORTED_BEFORE: &str = "
     promise
     = promise:0
 ";
 
 /// A broken promise is reported, what comes after.
-const A_BROKEN_PROMISE_IS_TOLD_AFTER: &str = "
+const A_BROKEN_PROMISE_IS_REPORTED_AFTER: &str = "
     answer answer:1 {(;cap:0) caps[promise:0]}
     > return a=1 releaseParamCaps=false results {(;cap:0) caps[senderPromise:1]}
     < call q=2 to=import:1 i=0000000000000009 m=4 results=caller params={(;) caps[]}

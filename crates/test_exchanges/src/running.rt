@@ -1,6 +1,6 @@
 //! Scripts, played by `run` as one list of events.
 
-use crate::playing::{expect_lines, is_told, read};
+use crate::playing::{expect_lines, is_reported, read};
 use cp_machine::{Event, Ran};
 use cp_scripts::Lines;
 use cp_vat::run;
@@ -29,7 +29,7 @@ fn read_all<'a>(rt: &impl Abort, alloc: Global, parts: &'a [&'a str]) -> Script<
                 script.wanted.push_line(line);
             }
             is_refused = is_refused || line.starts_with("= refused");
-            if !line.is_empty() && !is_told(line) {
+            if !line.is_empty() && !is_reported(line) {
                 script
                     .events
                     .push(read(rt, alloc, line))

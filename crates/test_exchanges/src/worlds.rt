@@ -40,7 +40,7 @@ fn two_vats_agree(rt: HostRuntime) {
         &rt,
         alloc,
         (Some(0), Some(0)),
-        &[A_PROMISE_IS_RESOLVED_BEHIND_THE_RETURN_THAT_NAMES_IT],
+        &[A_PROMISE_IS_RESOLVED_AFTER_THE_RETURN_THAT_NAMES_IT],
     );
 }
 
@@ -217,7 +217,7 @@ const A_NUMBER_GOES_TO_ANOTHER_KIND_WHILE_ITS_RETURN_IS_ON_THE_WAY: &str = "
 ";
 
 /// A promise is resolved after the return that names it.
-const A_PROMISE_IS_RESOLVED_BEHIND_THE_RETURN_THAT_NAMES_IT: &str = "
+const A_PROMISE_IS_RESOLVED_AFTER_THE_RETURN_THAT_NAMES_IT: &str = "
     A bootstrap
     = question:0
     > bootstrap q=0

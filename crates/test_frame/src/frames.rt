@@ -71,9 +71,9 @@ pub fn expect_joined(rt: &impl Abort, lists: &[Vec<u64>], words: &[u64]) {
     let mut rest = words;
     for list in lists {
         assert!(rt; list.len() <= rest.len());
-        let (front, behind) = rest.split_at(list.len());
+        let (front, after) = rest.split_at(list.len());
         expect_words(rt, list, front);
-        rest = behind;
+        rest = after;
     }
     assert!(rt; rest.is_empty());
 }
@@ -93,9 +93,9 @@ pub fn expect_fed(
     rt: &impl Abort,
     reader: &mut FrameReader,
     bytes: &[u8],
-    told: Result<usize, FrameFault>,
+    reported: Result<usize, FrameFault>,
 ) {
-    assert_eq!(rt; fed(reader, bytes), told);
+    assert_eq!(rt; fed(reader, bytes), reported);
 }
 
 /// This many bytes and words are held.
@@ -104,8 +104,8 @@ pub fn expect_held(rt: &impl Abort, reader: &FrameReader, held: (usize, usize)) 
 }
 
 /// This is reported at the end.
-pub fn expect_end(rt: &impl Abort, reader: &mut FrameReader, told: Result<(), FrameFault>) {
-    assert_eq!(rt; reader.finish(), told);
+pub fn expect_end(rt: &impl Abort, reader: &mut FrameReader, reported: Result<(), FrameFault>) {
+    assert_eq!(rt; reader.finish(), reported);
 }
 
 /// The segments of the one frame that these bytes are.
@@ -288,7 +288,7 @@ fn faulty_stream() -> [u8; 44] {
 }
 
 #[test]
-fn a_fault_behind_a_frame_is_kept(rt: HostRuntime) {
+fn a_fault_after_a_frame_is_kept(rt: HostRuntime) {
     let mut reader = new_reader(rt.alloc());
     expect_fed(&rt, &mut reader, &faulty_stream(), Ok(1));
     expect_fed(&rt, &mut reader, &[], Err(FrameFault::TooManySegments));
@@ -297,7 +297,7 @@ fn a_fault_behind_a_frame_is_kept(rt: HostRuntime) {
 }
 
 #[test]
-fn a_fault_behind_a_frame_is_told_at_the_end(rt: HostRuntime) {
+fn a_fault_after_a_frame_is_told_at_the_end(rt: HostRuntime) {
     let mut reader = new_reader(rt.alloc());
     expect_fed(&rt, &mut reader, &faulty_stream(), Ok(1));
     expect_end(&rt, &mut reader, Err(FrameFault::TooManySegments));
@@ -336,8 +336,8 @@ pub fn expect_next_fault(
     piece: &[u8],
     fault: FrameFault,
 ) {
-    let told = reader.next(piece).err();
-    assert!(rt; told == Some(fault));
+    let reported = reader.next(piece).err();
+    assert!(rt; reported == Some(fault));
 }
 
 #[test]
@@ -358,7 +358,7 @@ fn frames_are_taken_one_by_one(rt: HostRuntime) {
 }
 
 #[test]
-fn a_fault_behind_a_frame_is_told_where_it_comes(rt: HostRuntime) {
+fn a_fault_after_a_frame_is_told_where_it_comes(rt: HostRuntime) {
     let fault = FrameFault::TooManySegments;
     let mut reader = new_reader(rt.alloc());
     let stream = faulty_stream();
@@ -372,7 +372,7 @@ fn a_fault_behind_a_frame_is_told_where_it_comes(rt: HostRuntime) {
 }
 
 #[test]
-fn too_many_segments_are_told_with_the_fourth_byte(rt: HostRuntime) {
+fn too_many_segments_are_reported_with_the_fourth_byte(rt: HostRuntime) {
     let fault = FrameFault::TooManySegments;
     expect_fault_in(&rt, new_reader(rt.alloc()), (&[], &[0xff; 4]), fault);
     let cut = (&[0x00, 0x02, 0x00][..], &[0x00][..]);
@@ -383,7 +383,7 @@ fn too_many_segments_are_told_with_the_fourth_byte(rt: HostRuntime) {
 }
 
 #[test]
-fn a_frame_too_large_is_told_with_the_last_byte_of_a_size(rt: HostRuntime) {
+fn a_frame_too_large_is_reported_with_the_last_byte_of_a_size(rt: HostRuntime) {
     let table = [2, 0, 0, 0, 0, 0, 0, 0, 1, 0, 0x80, 0];
     let fault = FrameFault::FrameTooLarge;
     for cut in 0..12 {
@@ -449,7 +449,7 @@ fn expect_large(rt: &impl Abort, frames: &[(u64, Segments)]) {
 const LARGE_TABLE: [u8; 8] = [0, 0, 0, 0, 0x40, 0x0d, 0x03, 0];
 
 /// The last of this many pieces more brings the frame.
-fn expect_large_behind(rt: &impl Abort, mut reader: FrameReader, piece: &[u8], more: u32) {
+fn expect_large_after(rt: &impl Abort, mut reader: FrameReader, piece: &[u8], more: u32) {
     for _ in 1..more {
         expect_fed(rt, &mut reader, piece, Ok(0));
     }
@@ -464,7 +464,7 @@ fn a_large_segment_grows_with_its_bytes(rt: HostRuntime) {
     let piece = vec![in rt.alloc(); 0x8au8; 64_000].expect(&rt, "memory");
     let mut reader = new_reader(rt.alloc());
     expect_fed(&rt, &mut reader, &LARGE_TABLE, Ok(0));
-    expect_large_behind(&rt, reader, &piece, 25);
+    expect_large_after(&rt, reader, &piece, 25);
     drop(piece);
 }
 
@@ -474,9 +474,9 @@ fn a_large_segment_moves_into_a_room_that_is_given_back(rt: HostRuntime) {
     let mut reader = new_reader(rt.alloc());
     expect_fed(&rt, &mut reader, &LARGE_TABLE, Ok(0));
     expect_fed(&rt, &mut reader, &piece, Ok(0));
-    let room = Vec::with_capacity(rt.alloc(), 200_000).expect(&rt, "memory");
-    reader.reuse(Segments::one(room));
-    expect_large_behind(&rt, reader, &piece, 24);
+    let buffer = Vec::with_capacity(rt.alloc(), 200_000).expect(&rt, "memory");
+    reader.reuse(Segments::one(buffer));
+    expect_large_after(&rt, reader, &piece, 24);
     drop(piece);
 }
 
@@ -525,8 +525,12 @@ fn limits_are_kept_in_writing(rt: HostRuntime) {
 }
 
 /// What comes of writing is this.
-fn expect_told(rt: &impl Abort, written: Result<(), FrameFault>, told: Result<(), FrameFault>) {
-    assert_eq!(rt; written, told);
+fn expect_reported(
+    rt: &impl Abort,
+    written: Result<(), FrameFault>,
+    reported: Result<(), FrameFault>,
+) {
+    assert_eq!(rt; written, reported);
 }
 
 /// A frame is written over what is in `out`.
@@ -534,7 +538,7 @@ fn expect_over(rt: &impl Abort, alloc: Global, out: &mut Vec<u8>, bytes: &[u8]) 
     let segments = segments_of(rt, new_reader(alloc), bytes);
     let written = write_over(alloc, out, &segments, Mode::Plain, Limits::standard());
     drop(segments);
-    expect_told(rt, written, Ok(()));
+    expect_reported(rt, written, Ok(()));
     expect_bytes(rt, out, bytes);
 }
 
@@ -549,26 +553,26 @@ fn a_frame_is_written_over_another(rt: HostRuntime) {
     let segments = segments_of(&rt, new_reader(alloc), &THREE_SEGMENTS);
     let written = write_over(alloc, &mut out, &segments, Mode::Packed, limits);
     drop(segments);
-    expect_told(&rt, written, Err(FrameFault::TooManySegments));
+    expect_reported(&rt, written, Err(FrameFault::TooManySegments));
     assert!(rt; out.is_empty());
     drop(out);
 }
 
 /// A frame is written after what is in `out`.
-fn expect_behind(rt: &impl Abort, alloc: Global, out: &mut Vec<u8>, bytes: &[u8]) {
+fn expect_after(rt: &impl Abort, alloc: Global, out: &mut Vec<u8>, bytes: &[u8]) {
     let segments = segments_of(rt, new_reader(alloc), bytes);
-    let written = write_behind(out, &segments, Limits::standard());
+    let written = write_after(out, &segments, Limits::standard());
     drop(segments);
-    expect_told(rt, written, Ok(()));
+    expect_reported(rt, written, Ok(()));
 }
 
 #[test]
-fn frames_are_written_behind_one_another(rt: HostRuntime) {
+fn frames_are_written_after_one_another(rt: HostRuntime) {
     let alloc = rt.alloc();
     let mut out = Vec::new(alloc);
-    expect_behind(&rt, alloc, &mut out, &THREE_SEGMENTS);
+    expect_after(&rt, alloc, &mut out, &THREE_SEGMENTS);
     expect_bytes(&rt, &out, &THREE_SEGMENTS);
-    expect_behind(&rt, alloc, &mut out, &FINISH);
+    expect_after(&rt, alloc, &mut out, &FINISH);
     let both = joined(&rt, alloc, &[&THREE_SEGMENTS, &FINISH]);
     expect_bytes(&rt, &out, &both);
     drop(both);
@@ -576,10 +580,10 @@ fn frames_are_written_behind_one_another(rt: HostRuntime) {
 }
 
 /// A frame that goes out to a writer is the frame as it is written.
-fn send(rt: &impl Abort, alloc: Global, room: &mut Vec<u8>, segments: &Segments, mode: Mode) {
+fn send(rt: &impl Abort, alloc: Global, buffer: &mut Vec<u8>, segments: &Segments, mode: Mode) {
     let limits = Limits::standard();
     let mut out: Vec<u8> = Vec::new(alloc);
-    let sent = send_frame(alloc, &mut out, room, segments, mode, limits);
+    let sent = send_frame(alloc, &mut out, buffer, segments, mode, limits);
     sent.expect(rt, "memory").expect(rt, "a writer");
     let frame = write_frame(alloc, segments, mode, limits).expect(rt, "a frame");
     expect_bytes(rt, &out, &frame);
@@ -589,13 +593,13 @@ fn send(rt: &impl Abort, alloc: Global, room: &mut Vec<u8>, segments: &Segments,
 
 #[test]
 fn a_frame_goes_out_to_a_writer(rt: HostRuntime) {
-    let mut room = Vec::new(rt.alloc());
+    let mut buffer = Vec::new(rt.alloc());
     let segments = segments_of(&rt, new_reader(rt.alloc()), &THREE_SEGMENTS);
     for mode in [Mode::Plain, Mode::Packed] {
-        send(&rt, rt.alloc(), &mut room, &segments, mode);
+        send(&rt, rt.alloc(), &mut buffer, &segments, mode);
     }
     drop(segments);
-    drop(room);
+    drop(buffer);
 }
 
 // With ample memory no allocation fails. `rt try --test --fail-alloc N` fails the Nth.

@@ -48,7 +48,7 @@ fn bytes_are_words(rt: HostRuntime) {
     push_plain(&mut out, &[0x0807_0605_0403_0201, 9]).expect(&rt, "memory");
     expect_bytes(&rt, &out, &[1, 2, 3, 4, 5, 6, 7, 8, 9, 0, 0, 0, 0, 0, 0, 0]);
     let mut words = Vec::new(rt.alloc());
-    make_room(&mut words, 2, 4).expect(&rt, "memory");
+    reserve_words(&mut words, 2, 4).expect(&rt, "memory");
     assert!(&rt; 2 <= words.capacity());
     take_in(&mut words, &out).expect(&rt, "memory");
     expect_words(&rt, &words, &[0x0807_0605_0403_0201, 9]);

@@ -70,7 +70,7 @@ fn a_byte_under_a_set_bit_may_be_zero(rt: HostRuntime) {
 }
 
 #[test]
-fn too_many_words_are_told_before_an_open_group(rt: HostRuntime) {
+fn too_many_words_are_reported_before_an_open_group(rt: HostRuntime) {
     let (large, short) = (FrameFault::FrameTooLarge, FrameFault::Truncated);
     let raw = [0xff, 1, 2, 3, 4, 5, 6, 7, 8, 1];
     expect_fault(&rt, rt.alloc(), &[0, 0], 0, large);
@@ -104,7 +104,7 @@ fn expect_cuts(rt: &impl Abort, alloc: Global, words: &[u64], bytes: &[u8]) {
 }
 
 #[test]
-fn bytes_that_are_cut_end_inside_a_group_or_behind_one(rt: HostRuntime) {
+fn bytes_that_are_cut_end_inside_a_group_or_after_one(rt: HostRuntime) {
     expect_cuts(&rt, rt.alloc(), &TWO.1, &TWO.0);
     expect_cuts(&rt, rt.alloc(), &[0; 4], &[0, 3]);
     for bytes in [&FINISH[..], &BOOTSTRAP[..], &RELEASE[..]] {
@@ -181,12 +181,12 @@ fn allocation_failure_leaves_nothing_written(rt: HostRuntime) {
 fn send(
     rt: &impl Abort,
     alloc: Global,
-    room: &mut Vec<u8>,
+    buffer: &mut Vec<u8>,
     segments: &Segments,
     (mode, length): (Mode, u64),
 ) {
     let mut to = Cursor::new([0u8; 64]);
-    match send_frame(alloc, &mut to, room, segments, mode, Limits::standard()) {
+    match send_frame(alloc, &mut to, buffer, segments, mode, Limits::standard()) {
         Ok(sent) => {
             sent.expect(rt, "a writer");
             assert!(rt; to.position() == length);
@@ -198,11 +198,11 @@ fn send(
 #[test]
 fn allocation_failure_leaves_nothing_sent(rt: HostRuntime) {
     let segments = two_segments(&rt, rt.alloc());
-    let mut room = Vec::new(rt.alloc());
+    let mut buffer = Vec::new(rt.alloc());
     for sent in [(Mode::Packed, 15), (Mode::Plain, 56), (Mode::Packed, 15)] {
-        send(&rt, rt.alloc(), &mut room, &segments, sent);
+        send(&rt, rt.alloc(), &mut buffer, &segments, sent);
     }
-    drop(room);
+    drop(buffer);
     drop(segments);
 }
 

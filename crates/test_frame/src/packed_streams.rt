@@ -72,17 +72,17 @@ fn expect_bytes(rt: &impl Abort, alloc: Global, bytes: &[u8], words: &[u64]) {
 }
 
 /// The words of packed bytes after those of the segment table.
-fn words_behind(rt: &impl Abort, alloc: Global, bytes: &[u8], table: usize) -> Vec<u64> {
+fn words_after(rt: &impl Abort, alloc: Global, bytes: &[u8], table: usize) -> Vec<u64> {
     let words = unpack(alloc, bytes, 600).expect(rt, "words");
-    let behind = words[table.min(words.len())..].to_vec(alloc);
+    let after = words[table.min(words.len())..].to_vec(alloc);
     drop(words);
-    behind.expect(rt, "memory")
+    after.expect(rt, "memory")
 }
 
 #[test]
 fn packed_frames_come_however_they_are_cut(rt: HostRuntime) {
     for bytes in [&FINISH[..], &BOOTSTRAP[..], &RELEASE[..]] {
-        let words = words_behind(&rt, rt.alloc(), bytes, 1);
+        let words = words_after(&rt, rt.alloc(), bytes, 1);
         expect_cuts(&rt, rt.alloc(), bytes, &words);
         drop(words);
     }
@@ -91,8 +91,8 @@ fn packed_frames_come_however_they_are_cut(rt: HostRuntime) {
 #[test]
 fn packed_frames_are_taken_one_by_one(rt: HostRuntime) {
     let stream = joined(&rt, rt.alloc(), &[&FINISH, &RELEASE, &[0, 1]]);
-    let finish = words_behind(&rt, rt.alloc(), &FINISH, 1);
-    let release = words_behind(&rt, rt.alloc(), &RELEASE, 1);
+    let finish = words_after(&rt, rt.alloc(), &FINISH, 1);
+    let release = words_after(&rt, rt.alloc(), &RELEASE, 1);
     let (front, back) = stream.split_at(stream.len().min(FINISH.len() + 3));
     let mut reader = new_reader(rt.alloc());
     let left = expect_next(&rt, &mut reader, front, FINISH.len(), &finish);
@@ -106,9 +106,9 @@ fn packed_frames_are_taken_one_by_one(rt: HostRuntime) {
 /// Packed words after the table of a frame of one segment.
 fn expect_segment(rt: &impl Abort, alloc: Global, words: &[u64]) {
     let mut bytes = pack(alloc, &[(words.len() as u64) << 32]).expect(rt, "memory");
-    let behind = pack(alloc, words).expect(rt, "memory");
-    bytes.extend_from_slice(&behind).expect(rt, "memory");
-    drop(behind);
+    let after = pack(alloc, words).expect(rt, "memory");
+    bytes.extend_from_slice(&after).expect(rt, "memory");
+    drop(after);
     expect_cuts(rt, alloc, &bytes, words);
     drop(bytes);
 }
@@ -180,7 +180,7 @@ fn expect_fault(rt: &impl Abort, alloc: Global, bytes: &[u8], fault: FrameFault)
 }
 
 #[test]
-fn a_run_past_the_frame_is_told_with_its_count(rt: HostRuntime) {
+fn a_run_past_the_frame_is_reported_with_its_count(rt: HostRuntime) {
     let fault = FrameFault::RunPastFrame;
     expect_fault(&rt, rt.alloc(), &[0, 3], fault);
     expect_fault(&rt, rt.alloc(), &[0, 1], fault);
@@ -193,7 +193,7 @@ fn a_run_past_the_frame_is_told_with_its_count(rt: HostRuntime) {
 }
 
 #[test]
-fn faults_of_the_table_are_told_with_a_byte(rt: HostRuntime) {
+fn faults_of_the_table_are_reported_with_a_byte(rt: HostRuntime) {
     let many = FrameFault::TooManySegments;
     expect_fault(&rt, rt.alloc(), &[0x0f, 0xff, 0xff, 0xff, 0xff], many);
     expect_fault(&rt, rt.alloc(), &[0x02, 2], many);

@@ -170,3 +170,15 @@ fn an_open_question_is_asked_or_waited_for(rt: HostRuntime) {
     assert!(rt; matches!(route, Some(Route::Wait(Gate::Question(1, _)))));
     drop(route);
 }
+
+#[test]
+fn a_path_and_a_table_give_back_their_vectors(rt: HostRuntime) {
+    let fields = vec![in rt.alloc(); 3].expect(&rt, "memory");
+    let fields = Path::new(fields).into_fields();
+    assert!(rt; fields.len() == 1 && fields[0] == 3);
+    drop(fields);
+    let caps = vec![in rt.alloc(); Cap::Object(5)].expect(&rt, "memory");
+    let caps = Caps::new(caps).into_caps();
+    assert!(rt; caps.len() == 1 && matches!(caps[0], Cap::Object(5)));
+    drop(caps);
+}

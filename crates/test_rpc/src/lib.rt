@@ -6,3 +6,5 @@
 mod messages;
 #[cfg(test)]
 mod messages_written;
+#[cfg(test)]
+mod parts;

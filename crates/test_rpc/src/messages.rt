@@ -121,7 +121,7 @@ fn faulty_texts_have_their_fields(rt: HostRuntime) {
 }
 
 #[test]
-fn the_first_fault_is_told(rt: HostRuntime) {
+fn the_first_fault_is_reported(rt: HostRuntime) {
     let mut words = ABORT;
     words[7] = 0x0100;
     let trace = SchemaFault::Text(Field::ExceptionTrace);

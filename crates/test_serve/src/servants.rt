@@ -94,3 +94,11 @@ impl Servant for Starved {
         Ok(None)
     }
 }
+
+#[test]
+fn numbers_give_back_their_vector(rt: HostRuntime) {
+    let numbers = vec![in rt.alloc(); 5, 6].expect(&rt, "memory");
+    let numbers = Ids::new(numbers).into_ids();
+    assert!(rt; numbers.len() == 2 && numbers[1] == 6);
+    drop(numbers);
+}

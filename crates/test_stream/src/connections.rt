@@ -341,8 +341,8 @@ fn expect_unwritten(
     (nesting, traversal): (u32, u32),
     fault: WriteFault,
 ) {
-    let (told, bytes) = fault_within(rt, alloc, nesting, traversal);
-    assert!(rt; told == Some(at(0, Refusal::Write(fault))));
+    let (reported, bytes) = fault_within(rt, alloc, nesting, traversal);
+    assert!(rt; reported == Some(at(0, Refusal::Write(fault))));
     assert!(rt; bytes == 0);
 }
 

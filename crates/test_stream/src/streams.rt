@@ -105,7 +105,7 @@ fn expect_count(rt: &impl Abort, reader: &mut MessageReader, piece: &[u8], count
 }
 
 /// The fault that is reported for a piece.
-fn told(reader: &mut MessageReader, piece: &[u8]) -> Option<StreamFault> {
+fn reported(reader: &mut MessageReader, piece: &[u8]) -> Option<StreamFault> {
     reader.feed(piece).err()
 }
 
@@ -116,7 +116,7 @@ fn expect_fed(
     piece: &[u8],
     fault: Option<StreamFault>,
 ) {
-    assert_eq!(rt; told(reader, piece), fault);
+    assert_eq!(rt; reported(reader, piece), fault);
 }
 
 /// This fault, or none, is reported at the end.
@@ -186,7 +186,7 @@ fn expect_kept_to_the_end(rt: &impl Abort, alloc: Global, stream: &[u8], refusal
 }
 
 /// The fault is reported at once where no message comes.
-fn expect_told(rt: &impl Abort, alloc: Global, bytes: &[u8], refusal: Refusal) {
+fn expect_reported(rt: &impl Abort, alloc: Global, bytes: &[u8], refusal: Refusal) {
     let mut reader = new_reader(alloc);
     expect_fed(rt, &mut reader, bytes, Some(at(0, refusal)));
     expect_fed(rt, &mut reader, &[], Some(at(0, FAILED)));
@@ -194,14 +194,14 @@ fn expect_told(rt: &impl Abort, alloc: Global, bytes: &[u8], refusal: Refusal) {
 }
 
 #[test]
-fn a_fault_behind_a_message_is_kept(rt: HostRuntime) {
+fn a_fault_after_a_message_is_kept(rt: HostRuntime) {
     let alloc = rt.alloc();
     for (bytes, refusal) in FAULTS {
         let stream = joined(&rt, alloc, &FINISH, bytes);
         expect_kept(&rt, alloc, &stream, refusal);
         expect_kept_to_the_end(&rt, alloc, &stream, refusal);
         drop(stream);
-        expect_told(&rt, alloc, bytes, refusal);
+        expect_reported(&rt, alloc, bytes, refusal);
     }
 }
 
@@ -210,15 +210,15 @@ fn expect_truncated(rt: &impl Abort, alloc: Global, before: &[u8], front: &[u8])
     let mut reader = new_reader(alloc);
     expect_fed(rt, &mut reader, before, None);
     expect_fed(rt, &mut reader, front, None);
-    let behind = before.len() as u64;
-    let truncated = at(behind, Refusal::Frame(FrameFault::Truncated));
+    let after = before.len() as u64;
+    let truncated = at(after, Refusal::Frame(FrameFault::Truncated));
     expect_end(rt, &mut reader, Some(truncated));
-    expect_end(rt, &mut reader, Some(at(behind, FAILED)));
+    expect_end(rt, &mut reader, Some(at(after, FAILED)));
     drop(reader);
 }
 
 #[test]
-fn a_stream_ends_behind_a_message(rt: HostRuntime) {
+fn a_stream_ends_after_a_message(rt: HostRuntime) {
     for length in 1..40 {
         expect_truncated(&rt, rt.alloc(), &[], &FINISH[..length]);
         expect_truncated(&rt, rt.alloc(), &FINISH, &KEEPING[..length]);
@@ -241,11 +241,11 @@ pub(crate) fn is_memory(fault: StreamFault) -> bool {
 /// A reader that met an allocation failure has failed after the same bytes.
 pub(crate) fn expect_failed(rt: &impl Abort, reader: &mut MessageReader, fault: StreamFault) {
     assert!(rt; is_memory(fault));
-    let StreamFault::Refused { at: behind, .. } = fault else {
+    let StreamFault::Refused { at: after, .. } = fault else {
         return;
     };
-    expect_fed(rt, reader, &FINISH, Some(at(behind, FAILED)));
-    expect_end(rt, reader, Some(at(behind, FAILED)));
+    expect_fed(rt, reader, &FINISH, Some(at(after, FAILED)));
+    expect_end(rt, reader, Some(at(after, FAILED)));
 }
 
 // With ample memory no allocation fails. `rt try --test --fail-alloc N` fails the Nth.
@@ -253,7 +253,7 @@ pub(crate) fn expect_failed(rt: &impl Abort, reader: &mut MessageReader, fault: 
 fn allocation_failure_is_reported_and_then_failed(rt: HostRuntime) {
     let mut reader = new_reader(rt.alloc());
     for piece in [&FINISH[..], &TWO_SEGMENTS[..13], &TWO_SEGMENTS[13..]] {
-        if let Some(fault) = told(&mut reader, piece) {
+        if let Some(fault) = reported(&mut reader, piece) {
             return expect_failed(&rt, &mut reader, fault);
         }
     }
@@ -399,9 +399,9 @@ pub(crate) fn expect_read(
     rt: &impl Abort,
     alloc: Global,
     (from, mode): (&mut Tap<Source>, Mode),
-    told: Result<bool, StreamFault>,
+    reported: Result<bool, StreamFault>,
 ) {
-    assert_eq!(rt; read(alloc, from, mode), told);
+    assert_eq!(rt; read(alloc, from, mode), reported);
 }
 
 /// Bytes are the wanted ones.
@@ -424,7 +424,7 @@ fn expect_two(rt: &impl Abort, alloc: Global, mode: Mode, frame: &[u8]) {
 }
 
 /// A device that ends with this front of a frame is refused after the front's bytes.
-fn expect_refused_behind(rt: &impl Abort, alloc: Global, mode: Mode, front: &[u8]) {
+fn expect_refused_after(rt: &impl Abort, alloc: Global, mode: Mode, front: &[u8]) {
     let mut from = tap_of(front, 0);
     let truncated = at(0, Refusal::Frame(FrameFault::Truncated));
     expect_read(rt, alloc, (&mut from, mode), Err(truncated));
@@ -435,7 +435,7 @@ fn expect_refused_behind(rt: &impl Abort, alloc: Global, mode: Mode, front: &[u8
 /// A device that ends inside a frame is refused after the frame's bytes that it had.
 pub(crate) fn expect_cut_short(rt: &impl Abort, alloc: Global, mode: Mode, frame: &[u8]) {
     for length in 1..frame.len() {
-        expect_refused_behind(rt, alloc, mode, &frame[..length]);
+        expect_refused_after(rt, alloc, mode, &frame[..length]);
     }
 }
 

@@ -275,7 +275,7 @@ fn limited(
 }
 
 #[test]
-fn depth_is_told_before_cost_and_cost_before_words(rt: HostRuntime) {
+fn depth_is_reported_before_cost_and_cost_before_words(rt: HostRuntime) {
     let object = object(&rt, finish(&rt, rt.alloc()));
     // Two levels, a cost of 5, and 6 words in segments of one word.
     for (limits, wanted) in [

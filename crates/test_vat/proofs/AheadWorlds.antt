@@ -44,13 +44,13 @@ abbrev is_hosted : Option Descriptor → Bool
 is_hosted (Some (descriptors.ReceiverHosted e)) = true
 is_hosted other = false
 
-in_all : {X : Type 0} (P : X → Type 0) (before behind : List X) (m : X) → AllByRecursion P (before ++ m ∷ behind) → P m
-in_all P [] behind m h = h.0
-in_all P (x ∷ before) behind m h = in_all P before behind m h.1
+in_all : {X : Type 0} (P : X → Type 0) (before after : List X) (m : X) → AllByRecursion P (before ++ m ∷ after) → P m
+in_all P [] after m h = h.0
+in_all P (x ∷ before) after m h = in_all P before after m h.1
 
-none_in : {X : Type 0} (before behind : List X) (m : X) → [] ≡ before ++ m ∷ behind → ⊥
-none_in [] behind m is = cc
-none_in (x ∷ before) behind m is = cc
+none_in : {X : Type 0} (before after : List X) (m : X) → [] ≡ before ++ m ∷ after → ⊥
+none_in [] after m is = cc
+none_in (x ∷ before) after m is = cc
 
 -- the place: a promise that came to what was lent
 place_is : place_of (world past).second.vat given_reference ≡ Some (caps.Promise 0)
@@ -76,8 +76,8 @@ told_promise =
       closed = (outcomes.Results one_object (caps.Promise 0 ∷ []), get_is past.second.vat.answers 1);
       before = return_message 0 (results (cap 0) (descriptors.SenderHosted 0 ∷ [])) ∷ [];
       telling = return_message 1 (results one_object (descriptors.SenderPromise 1 ∷ []));
-      behind = resolve_message 1 (resolutions.Cap (descriptors.ReceiverHosted 0)) ∷ [];
-      only = record { all = refl; it = refl; none_before = refl; none_behind = refl };
+      after = resolve_message 1 (resolutions.Cap (descriptors.ReceiverHosted 0)) ∷ [];
+      only = record { all = refl; it = refl; none_before = refl; none_after = refl };
       says = tt;
     }
 
@@ -96,16 +96,16 @@ TellsNoHost m = tells given_reference m ≡ true → is_hosted (told_by given_re
 none_tells : AllByRecursion TellsNoHost on_the_way
 none_tells = (λ h. refl, (λ h. refl, (λ h. refl, tt)))
 
-not_told : (before behind : List Message) (m : Message) → IsOnly (world past).first.inbox (tells given_reference) before m behind → (e : ℕ)
+not_told : (before after : List Message) (m : Message) → IsOnly (world past).first.inbox (tells given_reference) before m after → (e : ℕ)
     → told_by given_reference m ≡ Some (descriptors.ReceiverHosted e) → ⊥
-not_told before behind m only e says =
-    true≢false (sym (ap is_hosted says) ∙ in_all TellsNoHost before behind m (subst (AllByRecursion TellsNoHost) (they_are ∙ only.all) none_tells) only.it)
+not_told before after m only e says =
+    true≢false (sym (ap is_hosted says) ∙ in_all TellsNoHost before after m (subst (AllByRecursion TellsNoHost) (they_are ∙ only.all) none_tells) only.it)
 
 no_phase : Phase (world past).first (world past).second given_reference [] → ⊥
 no_phase (absent p) = not_other plain refl (ap (question_reference (0 ∷ [])) p.none)
-no_phase (unopened p) = none_in p.before p.behind p.opening p.only.all
+no_phase (unopened p) = none_in p.before p.after p.opening p.only.all
 no_phase (unsettled p) = true≢false (ap (λ o. is_some (unwrap_or o None)) (sym (get_is past.second.vat.answers 1) ∙ p.open_.0))
-no_phase (told p) = not_told p.before p.behind p.telling p.only p.number p.says
+no_phase (told p) = not_told p.before p.after p.telling p.only p.number p.says
 no_phase (free p) = not_other (came_to (caps.Object p.object)) refl p.came
 no_phase (marked p) = not_other (came_to (caps.Object p.comes.object)) refl p.comes.came
 no_phase (embargoed p) = not_other (came_to (caps.Object p.comes.object)) refl p.comes.came

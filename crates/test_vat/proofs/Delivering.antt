@@ -52,11 +52,11 @@ deliveries_of_are w at_second m = λ i. if is_side m.side at_second then flat_ma
 
 abbrev pub known_deliveries : KnownWorld → Side → List KnownMove → List Delivery
 known_deliveries w side [] = []
-known_deliveries w side (m ∷ more) = known_deliveries_of w side m ++ known_deliveries m.behind side more
+known_deliveries w side (m ∷ more) = known_deliveries_of w side m ++ known_deliveries m.after side more
 
 deliveries_are : (w : KnownWorld) (side : Side) (moves : List KnownMove) → deliveries (world w) side (map move moves) ≡ known_deliveries w side moves
 deliveries_are w side [] = refl
-deliveries_are w side (m ∷ more) = λ i. deliveries_of_are w side m i ++ deliveries_are m.behind side more i
+deliveries_are w side (m ∷ more) = λ i. deliveries_of_are w side m i ++ deliveries_are m.after side more i
 
 -- what a reference came to
 reference_there : (w : KnownWorld) (side : Side) (c : Cap) → reference_of (end_of (world w) side).vat.values c ≡ known_reference (known_end w side).vat c

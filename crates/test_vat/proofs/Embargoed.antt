@@ -31,7 +31,7 @@ use Rattle.cp_refs.specs.declared.values.Question.{Question}
 use Rattle.cp_refs.specs.declared.values.QuestionKind.TheVariants as kinds
 use Rattle.cp_machine.specs.State.{State, new_state, none_over, with_over, with_exports}
 use Rattle.cp_machine.specs.Then.{Done, Then, OrFull}
-use Rattle.cp_machine.specs.Room.{Fresh}
+use Rattle.cp_machine.specs.Capacity.{Fresh}
 use Rattle.cp_machine.specs.Say.{SayAll, promised}
 use Rattle.cp_machine.specs.Take.{Take, TakeAll, taken_export}
 use Rattle.cp_machine.specs.Give.{GiveOwn, GiveOwnBy, question_settled}

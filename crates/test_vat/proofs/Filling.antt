@@ -23,7 +23,7 @@ use Rattle.test_vat.specs.FaultRows.{failed_bootstrap, failed_bootstraps, answer
 use Rattle.test_vat.specs.RefusalRows.{asked_bootstrap, asked_bootstraps, questions_full}
 use Rattle.cp_refs.specs.declared.cap.Cap.TheVariants as caps
 use Rattle.cp_refs.specs.declared.values.QuestionKind.TheVariants as kinds
-use Rattle.cp_machine.specs.Room.{has_room, has_ticket, free, full}
+use Rattle.cp_machine.specs.Capacity.{has_capacity, has_ticket, free, full}
 use Rattle.cp_machine.specs.InUse.{has_import}
 use Rattle.cp_machine.specs.Calling.{asked, not_all, Opens}
 use Rattle.cp_machine.specs.declared.effect.Effect.TheVariants as effects
@@ -42,7 +42,7 @@ record Filled (n : ℕ) (s : State) : Type 0 where
   is_open : s.is_closed ≡ false
   has_no_calls : s.waiting.calls ≡ empty
   has_no_bootstrap : s.bootstrap ≡ None
-  free_behind : (q : ℕ) → n ≤ q → get s.entries.answers q ≡ None
+  free_after : (q : ℕ) → n ≤ q → get s.entries.answers q ≡ None
   size : len s.entries.answers ≡ n
 
 abbrev bare : AnswerEntry
@@ -72,7 +72,7 @@ module _ (s : State) (n : ℕ) (filled : Filled n s) where
   roomy below = ap (λ m. ltb m 65536) filled.size ∙ lt-ltb n 65536 below
 
   no_fault : n < 65536 → (fault_if (is_some (get s.entries.answers n)) faults.QuestionInUse ++ fault_if (not (ltb (len s.entries.answers) 65536)) faults.TableFull) ≡ []
-  no_fault below = λ i. fault_if (is_some (filled.free_behind n (omega arith) i)) faults.QuestionInUse ++ fault_if (not (roomy below i)) faults.TableFull
+  no_fault below = λ i. fault_if (is_some (filled.free_after n (omega arith) i)) faults.QuestionInUse ++ fault_if (not (roomy below i)) faults.TableFull
 
   answers : n < 65536 → OnBootstrap s n (Ok (sent_back n, mid_state s n))
   answers below =
@@ -89,7 +89,7 @@ module _ (s : State) (n : ℕ) (filled : Filled n s) where
   free_now q past =
       get-insert_other (with_answer s n None).entries.answers n q _ (λ e. absurd (omega (arith, e)))
       ∙ get-insert_other s.entries.answers n q _ (λ e. absurd (omega (arith, e)))
-      ∙ filled.free_behind q (omega (arith, past))
+      ∙ filled.free_after q (omega (arith, past))
 
   filled_more : Filled (suc n) (next_state s n)
   filled_more =
@@ -97,7 +97,7 @@ module _ (s : State) (n : ℕ) (filled : Filled n s) where
         is_open = filled.is_open;
         has_no_calls = filled.has_no_calls;
         has_no_bootstrap = filled.has_no_bootstrap;
-        free_behind = free_now;
+        free_after = free_now;
         size = one_longer;
       }
     where
@@ -107,7 +107,7 @@ module _ (s : State) (n : ℕ) (filled : Filled n s) where
             len-insert nat_cmp_total (with_answer s n None).entries.answers n (record { stage = _; kept = bare }),
             get-insert_same s.entries.answers n (new_exchange bare),
             len-insert nat_cmp_total s.entries.answers n (new_exchange bare),
-            filled.free_behind n (omega arith),
+            filled.free_after n (omega arith),
             filled.size,
           ) (omega arith)
 
@@ -124,7 +124,7 @@ fills zero below = (
     is_open = refl;
     has_no_calls = refl;
     has_no_bootstrap = refl;
-    free_behind = λ q _. get-empty nat_cmp q;
+    free_after = λ q _. get-empty nat_cmp q;
     size = len-empty nat_cmp (Exchange AnswerEntry);
   },
 )
@@ -140,7 +140,7 @@ overflows : (n : ℕ) (s : State) → Filled n s → ltb n 65536 ≡ false → O
 overflows n s filled past =
     subst
     (λ found. Unless found (GiveAnswer (with_answer s n None) n (bootstrap_outcome s.bootstrap)) (Err faults.TableFull))
-    (sym (λ i. fault_if (is_some (filled.free_behind n (omega arith) i)) faults.QuestionInUse ++ fault_if (not ((ap (λ m. ltb m 65536) filled.size ∙ past) i)) faults.TableFull))
+    (sym (λ i. fault_if (is_some (filled.free_after n (omega arith) i)) faults.QuestionInUse ++ fault_if (not ((ap (λ m. ltb m 65536) filled.size ∙ past) i)) faults.TableFull))
     refl
 
 pub answers_full_is : Run None answers_full
@@ -161,7 +161,7 @@ answers_full_is =
 record Asked (n : ℕ) (s : State) : Type 0 where
   is_open : s.is_closed ≡ false
   has_no_calls : s.waiting.calls ≡ empty
-  free_behind : (q : ℕ) → n ≤ q → get s.entries.questions q ≡ None
+  free_after : (q : ℕ) → n ≤ q → get s.entries.questions q ≡ None
   size : len s.entries.questions ≡ n
 
 abbrev asked_state : State → ℕ → State
@@ -177,7 +177,7 @@ module _ (s : State) (n : ℕ) (before : Asked n s) where
       (asked_state s n)
       before.is_open (
         Ok (values.Question n, effects.Send (bootstrap_message n) ∷ [], asked_state s n),
-        (Ok n, free n (before.free_behind n (omega arith)) (omega (arith, below)) (ap (λ m. ltb m 65536) before.size ∙ lt-ltb n 65536 below), refl),
+        (Ok n, free n (before.free_after n (omega arith)) (omega (arith, below)) (ap (λ m. ltb m 65536) before.size ∙ lt-ltb n 65536 below), refl),
         refl,
       )
       (all_left (stays (none_waiting (asked_state s n) before.has_no_calls)))
@@ -188,8 +188,8 @@ module _ (s : State) (n : ℕ) (before : Asked n s) where
       record {
         is_open = before.is_open;
         has_no_calls = before.has_no_calls;
-        free_behind = λ q past. get-insert_other s.entries.questions n q _ (λ e. absurd (omega (arith, e))) ∙ before.free_behind q (omega (arith, past));
-        size = rw (len-insert nat_cmp_total s.entries.questions n _, before.free_behind n (omega arith), before.size) (omega arith);
+        free_after = λ q past. get-insert_other s.entries.questions n q _ (λ e. absurd (omega (arith, e))) ∙ before.free_after q (omega (arith, past));
+        size = rw (len-insert nat_cmp_total s.entries.questions n _, before.free_after n (omega arith), before.size) (omega arith);
       }
 
 asks_all : (n : ℕ) → n ≤ 65536 → (s : State) × Steps (new_state None) (asked_bootstraps n) s × Asked n s
@@ -197,7 +197,7 @@ unfolding asked_bootstraps
 asks_all zero below = (
   new_state None,
   refl,
-  record { is_open = refl; has_no_calls = refl; free_behind = λ q _. get-empty nat_cmp q; size = len-empty nat_cmp (Exchange QuestionEntry) },
+  record { is_open = refl; has_no_calls = refl; free_after = λ q _. get-empty nat_cmp q; size = len-empty nat_cmp (Exchange QuestionEntry) },
 )
 asks_all (suc n) below =
     let before = asks_all n (omega (arith, below)) in
@@ -208,7 +208,7 @@ asks_all (suc n) below =
     )
 
 -- with 65,536 questions none is asked any more, and that is told before anything about an import
-no_room : (s : State) → Asked 65536 s → has_room s.entries.questions ≡ false
+no_room : (s : State) → Asked 65536 s → has_capacity s.entries.questions ≡ false
 no_room s before = ap (λ m. ltb m 65536) before.size
 
 none_asked : (s : State) → Asked 65536 s → Step s events.Bootstrap (Err refusals.Full) [] s

@@ -10,8 +10,8 @@ use Rattle.cp_refs.specs.declared.cap.Cap.{Cap}
 use Rattle.cp_refs.specs.declared.cap.Cap.TheVariants as caps
 use Rattle.cp_refs.specs.declared.route.Route.{Route}
 use Rattle.cp_rpc.specs.declared.descriptor.Descriptor.TheVariants as descriptors
-use Rattle.cp_machine.specs.Room.{Fresh, free, full, has_room}
-use Rattle.cp_machine.specs.Say.{end_by, end_within, ComesTo, HasNoExport, Raise, counted, opened, has_no_room, SayEnd, Say, SayAll}
+use Rattle.cp_machine.specs.Capacity.{Fresh, free, full, has_capacity}
+use Rattle.cp_machine.specs.Say.{end_by, end_within, ComesTo, HasNoExport, Raise, counted, opened, has_no_capacity, SayEnd, Say, SayAll}
 use Rattle.cp_machine.specs.Say.{promised as promised_answer}
 use Rattle.cp_machine.specs.declared.fault.PeerFault.TheVariants as faults
 use Rattle.test_vat.proofs.Known.{Listed, tabled, Known, state, at, get_is, size, len_is}
@@ -91,7 +91,7 @@ module _ {X : Type 0} (es : Listed X) where
   lowest zero n = n
   lowest (suc more) n = cond (is_some (at es n)) (lowest more (n + 1)) n
 
-  pub room_is : has_room (tabled es) ≡ ltb (size es) 65536
+  pub room_is : has_capacity (tabled es) ≡ ltb (size es) 65536
   room_is = ap (λ n. ltb n 65536) (len_is es)
 
   abbrev pub find_fresh : Finds plain (Fresh (tabled es))
@@ -146,7 +146,7 @@ module _ (cap : Cap) (is_it : Cap → Bool) (yes : (c : Cap) → is_it c ≡ tru
       by : Finds plain (Fresh (state k).counts.exports) → Finds beside (Raise (state k) cap)
       by lacks = lacks
       by (found (Ok e) fresh) = found (Ok (e, record k { exports = (e, new_counted cap) ∷ k.exports })) (opened e none fresh)
-      by (found (Err fault) none_free) = found (Err fault) (has_no_room none none_free)
+      by (found (Err fault) none_free) = found (Err fault) (has_no_capacity none none_free)
   raise_by k (under e count is) = by (ltb count (2 ^ 32 - 1)) refl
     where
       by : (b : Bool) → ltb count (2 ^ 32 - 1) ≡ b → Finds beside (Raise (state k) cap)

@@ -17,7 +17,7 @@ use Rattle.cp_refs.specs.declared.call.Origin.TheVariants as origins
 use Rattle.cp_refs.specs.declared.outcome.Outcome.{Outcome}
 use Rattle.cp_refs.specs.declared.outcome.Outcome.TheVariants as outcomes
 use Rattle.cp_machine.specs.State.{State}
-use Rattle.cp_machine.specs.Then.{Then, behind}
+use Rattle.cp_machine.specs.Then.{Then, after}
 use Rattle.cp_machine.specs.Give.{return_of, resolve_of, ResolvesEnd, Tells, value_for, last_for, Settle, SettleTied, Returns, returned_mentions, gone, GiveBy, GiveAnswer, question_settled, is_path_of, without_question, GiveOwnBy, GiveOwn, Give}
 use Rattle.cp_machine.specs.declared.effect.Effect.TheVariants as effects
 use Rattle.cp_machine.specs.declared.entry.AnswerEntry.{AnswerEntry}
@@ -88,7 +88,7 @@ find_given_by k a outcome kept stages.Open =
     follow _ (find_tied_settled (given_known said.1 a kept outcome said.0) outcome kept.tied) (λ rest. found (Ok (return_of a said.0 ∷ rest.0, rest.1)) refl))
 find_given_by k a outcome kept stages.Finished =
     moved
-    (λ s. Then (SettleTied s outcome kept.tied) (λ rest out. out ≡ Ok (behind (return_of a returns.Canceled ∷ []) rest)))
+    (λ s. Then (SettleTied s outcome kept.tied) (λ rest out. out ≡ Ok (after (return_of a returns.Canceled ∷ []) rest)))
     (gone_is k a outcome)
     (follow _ (find_tied_settled (gone_known k a outcome) outcome kept.tied) (λ rest. found (Ok (return_of a returns.Canceled ∷ rest.0, rest.1)) refl))
 find_given_by k a outcome kept stages.Returned = lacks

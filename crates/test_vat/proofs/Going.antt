@@ -24,7 +24,7 @@ use Rattle.cp_refs.specs.declared.route.Route.TheVariants as routes
 use Rattle.cp_machine.specs.State.{State, gave}
 use Rattle.cp_machine.specs.Say.{promised}
 use Rattle.cp_machine.specs.Say.{mentions_of}
-use Rattle.cp_machine.specs.Go.{Underway, delivered, call_of, forwarding, sent, finish_behind, GoOut, Go, GoTo, NoneOver, IsNext, without_call, underway, Leave, stays, leaves, finds_no_room}
+use Rattle.cp_machine.specs.Go.{Underway, delivered, call_of, forwarding, sent, finish_after, GoOut, Go, GoTo, NoneOver, IsNext, without_call, underway, Leave, stays, leaves, finds_table_full}
 use Rattle.cp_machine.specs.declared.effect.Effect.{Effect}
 use Rattle.cp_machine.specs.declared.effect.Effect.TheVariants as effects
 use Rattle.cp_machine.specs.declared.entry.QuestionEntry.{QuestionEntry}
@@ -71,7 +71,7 @@ find_out k call target (origins.Answer a) =
 find_out k call target (origins.Own q) =
     holding k.asked q _ (λ entry.
     follow _ (find_all_said k call.request.caps) (λ said.
-    let first : List Effect = call_of q target call.request said.0 ∷ finish_behind q entry.stage in
+    let first : List Effect = call_of q target call.request said.0 ∷ finish_after q entry.stage in
     found (Ok (first, sent_known said.1 q said.0)) (ap (λ s. Ok (first, s)) (sym (sent_is said.1 q said.0)))))
 
 abbrev pub find_gone : (k : Known) (call : Underway) (route : Route) → Finds beside (Go (state k) call route)
@@ -204,13 +204,13 @@ pub data Left (k : Known) : Type 0 where
 pub without_call_is : (k : Known) (call : Held) → without_call (state k) call ≡ state (record k { calls = without k.calls call.ticket })
 without_call_is k call = λ i. record (state k) { waiting = record (state k).waiting { calls = remove_is k.calls call.ticket i } }
 
-abbrev pub left_behind : (k : Known) (call : Held) (c : Cap) → IsNext (state k) call c → (first : List Effect) (mid : Known) → GoTo (without_call (state k) call) (underway call) c (Ok (first, state mid)) → Left mid → Left k
-left_behind k call c is first mid goes (left rest out more) = left (first ++ rest) out (leaves call c is goes more refl)
-left_behind k call c is first mid goes stuck = stuck
+abbrev pub left_after : (k : Known) (call : Held) (c : Cap) → IsNext (state k) call c → (first : List Effect) (mid : Known) → GoTo (without_call (state k) call) (underway call) c (Ok (first, state mid)) → Left mid → Left k
+left_after k call c is first mid goes (left rest out more) = left (first ++ rest) out (leaves call c is goes more refl)
+left_after k call c is first mid goes stuck = stuck
 
 abbrev pub left_by : (k : Known) (call : Held) (c : Cap) → IsNext (state k) call c → Finds beside (GoTo (without_call (state k) call) (underway call) c) → ((mid : Known) → Left mid) → Left k
-left_by k call c is (found (Ok (first, mid)) goes) rest = left_behind k call c is first mid goes (rest mid)
-left_by k call c is (found (Err fault) goes) rest = left [] (Err fault) (finds_no_room call c is goes)
+left_by k call c is (found (Ok (first, mid)) goes) rest = left_after k call c is first mid goes (rest mid)
+left_by k call c is (found (Err fault) goes) rest = left [] (Err fault) (finds_table_full call c is goes)
 left_by k call c is lacks rest = stuck
 
 abbrev pub left_from : (k : Known) → Next k → ((mid : Known) → Left mid) → Left k

@@ -22,7 +22,7 @@ use Rattle.cp_refs.specs.declared.cap.Cap.{Cap}
 use Rattle.cp_refs.specs.declared.cap.Cap.TheVariants as caps
 use Rattle.cp_refs.specs.declared.outcome.Outcome.{Outcome}
 use Rattle.cp_machine.specs.Then.{fault_if}
-use Rattle.cp_machine.specs.Room.{message_fits}
+use Rattle.cp_machine.specs.Capacity.{message_fits}
 use Rattle.cp_machine.specs.Supported.{is_supported}
 use Rattle.cp_machine.specs.Take.{path_of}
 use Rattle.cp_machine.specs.Resolving.{OnRelease, given_back, releases_of, is_open_promise, TakeResolution, ResolveOf, OnResolve, echo_to, Echoes, EchoesExport, EchoesAnswer, EchoesTarget, is_under, embargo_ended, ended_by, OnDisembargo, told, UnknownToPeer}

@@ -9,7 +9,7 @@ use Rattle.cp_machine.specs.State.{State, gave, none_over, with_over}
 use Rattle.cp_machine.specs.Then.{Done, Then, Unless, OrFull}
 use Rattle.cp_machine.specs.Calling.{OwnDone}
 use Rattle.cp_machine.specs.Doing.{quietly, Quietly}
-use Rattle.cp_machine.specs.Go.{Leave, IsNext, NoneOver, GoTo, without_call, underway, stays, leaves, finds_no_room}
+use Rattle.cp_machine.specs.Go.{Leave, IsNext, NoneOver, GoTo, without_call, underway, stays, leaves, finds_table_full}
 use Rattle.cp_machine.specs.Step.{Receives, Does, Follows, all_left, found_full, Step, aborts, was_closed, ran_out, refused, did, received, faulted}
 use Rattle.cp_machine.specs.declared.effect.Effect.{Effect}
 use Rattle.cp_machine.specs.declared.effect.Effect.TheVariants as effects
@@ -68,9 +68,9 @@ abbrev pub is_closing : Effect → Bool
 is_closing (effects.Closed reason) = true
 is_closing other = false
 
-closing_behind : (first rest : List Effect) → list_any is_closing (first ++ rest) ≡ false → list_any is_closing rest ≡ false
-closing_behind [] rest e = e
-closing_behind (effect ∷ first) rest e = closing_behind first rest (none_after (is_closing effect) _ e)
+closing_after : (first rest : List Effect) → list_any is_closing (first ++ rest) ≡ false → list_any is_closing rest ≡ false
+closing_after [] rest e = e
+closing_after (effect ∷ first) rest e = closing_after first rest (none_after (is_closing effect) _ e)
   where
     none_after : (a b : Bool) → (a || b) ≡ false → b ≡ false
     none_after false b e = e
@@ -120,13 +120,13 @@ step_shows (was_closed event closed) quiet = tt
 step_shows (ran_out event open_before closed) quiet = tt
 step_shows (refused event open_before does) quiet = tt
 step_shows (did event first rest mid open_before does follows is) quiet =
-    answered _ _ event _ _ first rest mid does (left_of follows (closing_behind first rest (sym (ap (list_any is_closing) is) ∙ quiet))) is
+    answered _ _ event _ _ first rest mid does (left_of follows (closing_after first rest (sym (ap (list_any is_closing) is) ∙ quiet))) is
 step_shows (received m first rest mid open_before receives follows is) quiet = (
   first,
   rest,
   mid,
   receives,
-  left_of follows (closing_behind first rest (sym (ap (list_any is_closing) is) ∙ quiet)),
+  left_of follows (closing_after first rest (sym (ap (list_any is_closing) is) ∙ quiet)),
   is,
 )
 step_shows (faulted {fault = fault} m open_before receives closed) quiet = absurd (true≢false quiet)
@@ -151,7 +151,7 @@ leave_shows : {old : State} {all : List Effect} {out : Result State PeerFault} �
 leave_shows (stays none) = inl (none, refl, refl)
 leave_shows (leaves {mid = mid} {first = first} {rest = rest} {last = Ok new} call cap next went leaving is) = inr (call, cap, first, rest, mid, next, went, leaving, is)
 leave_shows (leaves {last = Err fault} call cap next went leaving is) = tt
-leave_shows (finds_no_room call cap next found) = tt
+leave_shows (finds_table_full call cap next found) = tt
 
 pub leave_ok : {old new : State} {all : List Effect} → Leave old all (Ok new) → (NoneOver old × (all ≡ []) × (new ≡ with_over old none_over)) ⊎ NextGoes old all new
 leave_ok leaving = leave_shows leaving

@@ -38,10 +38,10 @@ new_worlds one other = record { first = record { vat = new_known one; inbox = []
 pub record KnownMove : Type 0 where
   pub side : Side
   pub moment : Moment
-  pub behind : KnownWorld
+  pub after : KnownWorld
 
 abbrev pub move : KnownMove → Move
-move m = record { side = m.side; moment = m.moment; behind = world m.behind }
+move m = record { side = m.side; moment = m.moment; after = world m.after }
 
 -- an event of an end: where one is to come, it is the front of the messages to it
 pub data Taken (inbox : List Message) : Type 0 where
@@ -80,7 +80,7 @@ module _ (w : KnownWorld) where
       (record {
         side = at_first;
         moment = record { event = event; result = result; effects = effects };
-        behind = record { first = record { vat = new; inbox = rest }; second = mailed w.second effects };
+        after = record { first = record { vat = new; inbox = rest }; second = mailed w.second effects };
       })
       (record { steps = step; takes = takes; sends = refl })
   acts at_second event result effects new rest takes step =
@@ -88,7 +88,7 @@ module _ (w : KnownWorld) where
       (record {
         side = at_second;
         moment = record { event = event; result = result; effects = effects };
-        behind = record { first = mailed w.first effects; second = record { vat = new; inbox = rest } };
+        after = record { first = mailed w.first effects; second = record { vat = new; inbox = rest } };
       })
       (record { steps = step; takes = takes; sends = refl })
 
@@ -107,11 +107,11 @@ module _ (w : KnownWorld) where
 pub data Found (w : KnownWorld) : Type 0 where
   found : (moves : List KnownMove) → Moves (world w) (map move moves) → Found w
 
-abbrev pub found_behind : (w : KnownWorld) (m : KnownMove) → Makes (world w) (move m) → Found m.behind → Found w
-found_behind w m makes (found more are) = found (m ∷ more) (makes, are)
+abbrev pub found_after : (w : KnownWorld) (m : KnownMove) → Makes (world w) (move m) → Found m.after → Found w
+found_after w m makes (found more are) = found (m ∷ more) (makes, are)
 
 abbrev pub found_from : (w : KnownWorld) → Acted w → ((mid : KnownWorld) → Found mid) → Found w
-found_from w (acted m makes) rest = found_behind w m makes (rest m.behind)
+found_from w (acted m makes) rest = found_after w m makes (rest m.after)
 found_from w unacted rest = found [] tt
 
 abbrev pub find_moves : (w : KnownWorld) → List (Side × Moment) → Found w
@@ -132,8 +132,8 @@ plays w turns e = (are_moves (find_moves w turns), e)
 -- the world after them
 abbrev pub last_known : KnownWorld → List KnownMove → KnownWorld
 last_known w [] = w
-last_known w (m ∷ more) = last_known m.behind more
+last_known w (m ∷ more) = last_known m.after more
 
 pub last_is : (w : KnownWorld) (moves : List KnownMove) → last_of (world w) (map move moves) ≡ world (last_known w moves)
 last_is w [] = refl
-last_is w (m ∷ more) = last_is m.behind more
+last_is w (m ∷ more) = last_is m.after more

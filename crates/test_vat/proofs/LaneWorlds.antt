@@ -6,7 +6,7 @@ use Rattle.cp_tree.specs.Node.{cap}
 use Rattle.cp_rpc.specs.declared.descriptor.Descriptor.TheVariants as descriptors
 use Rattle.cp_rpc.specs.declared.message.Message.{Message}
 use Rattle.cp_worlds.specs.Accounts.{asked_account, is_given_up}
-use Rattle.cp_worlds.specs.Naming.{IsOfKindBehind, IsOfExportUnless, looked_at}
+use Rattle.cp_worlds.specs.Naming.{IsOfKindAfter, IsOfExportUnless, looked_at}
 use Rattle.test_vat.specs.RowWords.{return_message, results, one_object}
 use Rattle.test_vat.specs.LaneWorlds.{number_again, IsOfOtherKind, NumberAgain}
 use Rattle.test_vat.proofs.Known.{get_is}
@@ -31,27 +31,27 @@ abbrev later : List Message
 later = promise_told ∷ last_told ∷ []
 
 -- what holds of each message and those after it
-abbrev EachBehind : (Message → List Message → Type 0) → List Message → Type 0
-EachBehind Holds [] = Unit {0}
-EachBehind Holds (m ∷ behind) = Holds m behind × EachBehind Holds behind
+abbrev EachAfter : (Message → List Message → Type 0) → List Message → Type 0
+EachAfter Holds [] = Unit {0}
+EachAfter Holds (m ∷ after) = Holds m after × EachAfter Holds after
 
-behind_it : (Holds : Message → List Message → Type 0) (before behind : List Message) (m : Message) → EachBehind Holds (before ++ m ∷ behind) → Holds m behind
-behind_it Holds [] behind m all = all.0
-behind_it Holds (x ∷ before) behind m all = behind_it Holds before behind m all.1
+after_it : (Holds : Message → List Message → Type 0) (before after : List Message) (m : Message) → EachAfter Holds (before ++ m ∷ after) → Holds m after
+after_it Holds [] after m all = all.0
+after_it Holds (x ∷ before) after m all = after_it Holds before after m all.1
 
 abbrev LooksRight : Message → List Message → Type 0
-LooksRight m behind = AllByRecursion (IsOfKindBehind (world past_again).second.vat behind) (looked_at (world past_again).first.vat m)
+LooksRight m after = AllByRecursion (IsOfKindAfter (world past_again).second.vat after) (looked_at (world past_again).first.vat m)
 
-all_look_right : EachBehind LooksRight (world past_again).first.inbox
+all_look_right : EachAfter LooksRight (world past_again).first.inbox
 all_look_right = (
-  subst (λ given_up. AllByRecursion (IsOfKindBehind (world past_again).second.vat later) (if given_up then [] else descriptors.SenderHosted 0 ∷ []))
+  subst (λ given_up. AllByRecursion (IsOfKindAfter (world past_again).second.vat later) (if given_up then [] else descriptors.SenderHosted 0 ∷ []))
       (sym (ap (λ o. is_given_up (asked_account o)) (get_is past_again.first.vat.asked 0)))
       (subst (IsOfExportUnless false (descriptors.SenderHosted 0)) (sym (get_is past_again.second.vat.exports 0)) tt, tt),
   (
-    subst (λ given_up. AllByRecursion (IsOfKindBehind (world past_again).second.vat (last_told ∷ [])) (if given_up then [] else descriptors.SenderPromise 1 ∷ []))
+    subst (λ given_up. AllByRecursion (IsOfKindAfter (world past_again).second.vat (last_told ∷ [])) (if given_up then [] else descriptors.SenderPromise 1 ∷ []))
         (sym (ap (λ o. is_given_up (asked_account o)) (get_is past_again.first.vat.asked 1))) tt,
     (
-      subst (λ given_up. AllByRecursion (IsOfKindBehind (world past_again).second.vat []) (if given_up then [] else descriptors.SenderHosted 1 ∷ []))
+      subst (λ given_up. AllByRecursion (IsOfKindAfter (world past_again).second.vat []) (if given_up then [] else descriptors.SenderHosted 1 ∷ []))
           (sym (ap (λ o. is_given_up (asked_account o)) (get_is past_again.first.vat.asked 2)))
           (subst (IsOfExportUnless false (descriptors.SenderHosted 1)) (sym (get_is past_again.second.vat.exports 1)) tt, tt),
       tt,
@@ -72,7 +72,7 @@ other_kind =
           (last_told ∷ [])
           promise_told
           refl).0;
-      is_of_kind = λ before behind m is. behind_it LooksRight before behind m (subst (EachBehind LooksRight) is all_look_right);
+      is_of_kind = λ before after m is. after_it LooksRight before after m (subst (EachAfter LooksRight) is all_look_right);
     }
 
 pub number_is_again : NumberAgain

@@ -14,7 +14,7 @@ use Rattle.cp_machine.specs.Answering.{GoToTarget, OnBootstrap, OnCall, bootstra
 use Rattle.cp_machine.specs.Doing.{DoAnswer, answer_refusals}
 use Rattle.cp_machine.specs.Give.{GiveAnswer, given, return_of}
 use Rattle.cp_machine.specs.Go.{IsNext, Leave, NoneOver, delivered, held_at, leaves, stays, without_call}
-use Rattle.cp_machine.specs.Room.{Fresh, free}
+use Rattle.cp_machine.specs.Capacity.{Fresh, free}
 use Rattle.cp_machine.specs.Run.{Run}
 use Rattle.cp_machine.specs.Say.{HasNoExport, Raise, Say, SayAll, opened}
 use Rattle.cp_machine.specs.State.{State, gave, new_state, none_over, with_exports, with_over}
@@ -166,17 +166,17 @@ two_answers = simp (get-insert {X = Exchange AnswerEntry} nat_cmp_total, len-ins
 abbrev e_2 : State
 e_2 = entered s_2' 2
 
-pub kept_1_behind : get e_2.entries.answers 1 ≡ Some entry_1
-kept_1_behind = simp (get-insert {X = Exchange AnswerEntry} nat_cmp_total) refl
+pub kept_1_after : get e_2.entries.answers 1 ≡ Some entry_1
+kept_1_after = simp (get-insert {X = Exchange AnswerEntry} nat_cmp_total) refl
 
-pub ungiven_1_behind : get e_2.values.answers 1 ≡ Some None
-ungiven_1_behind = simp (get-insert {X = Option Outcome} nat_cmp_total) refl
+pub ungiven_1_after : get e_2.values.answers 1 ≡ Some None
+ungiven_1_after = simp (get-insert {X = Option Outcome} nat_cmp_total) refl
 
 abbrev pub s_3 : State
 s_3 = held_at e_2 (peer_call s_2' call_2 []) (gates.Answer 1 (0 ∷ []))
 
 goes_2 : GoToTarget e_2 (peer_call s_2' call_2 []) (on_answer 1 0) (Ok ([], s_3))
-goes_2 = rw (kept_1_behind, ungiven_1_behind) refl
+goes_2 = rw (kept_1_after, ungiven_1_after) refl
 
 pub on_call_2 : OnCall s_2' call_2 (Ok ([], s_3))
 on_call_2 = rw (free_2, two_answers, kept_1, ungiven_1) (Ok ([], s_2'), refl, goes_2)

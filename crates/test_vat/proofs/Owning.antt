@@ -11,9 +11,9 @@ use Rattle.cp_refs.specs.declared.route.Route.TheVariants as routes
 use Rattle.cp_refs.specs.declared.values.QuestionKind.{QuestionKind}
 use Rattle.cp_refs.specs.declared.values.QuestionKind.TheVariants as kinds
 use Rattle.cp_machine.specs.Then.{fault_if, OrFull}
-use Rattle.cp_machine.specs.Room.{has_ticket, cap_fits, request_fits}
+use Rattle.cp_machine.specs.Capacity.{has_ticket, cap_fits, request_fits}
 use Rattle.cp_machine.specs.Go.{Underway, held_at}
-use Rattle.cp_machine.specs.Calling.{Reference, plain, on_wire, came_to, import_reference, question_reference, reference_of, own_call, mark_of, with_mark, marked, has_mark_room, disembargo_of, FirstEmbargoed, GoBack, GoByValue, GoFrom, OwnDone, Opens, not_all, call_refusals, DoCall}
+use Rattle.cp_machine.specs.Calling.{Reference, plain, on_wire, came_to, import_reference, question_reference, reference_of, own_call, mark_of, with_mark, marked, has_mark_capacity, disembargo_of, FirstEmbargoed, GoBack, GoByValue, GoFrom, OwnDone, Opens, not_all, call_refusals, DoCall}
 use Rattle.cp_machine.specs.declared.effect.Effect.{Effect}
 use Rattle.cp_machine.specs.declared.event.Value.{Value}
 use Rattle.cp_machine.specs.declared.event.Value.TheVariants as values
@@ -92,7 +92,7 @@ mark_room k (caps.Promise p) = true
 mark_room k (caps.Import i) = true
 mark_room k (caps.Broken x) = true
 
-pub mark_room_is : (k : Known) (c : Cap) → has_mark_room (state k) c ≡ mark_room k c
+pub mark_room_is : (k : Known) (c : Cap) → has_mark_capacity (state k) c ≡ mark_room k c
 mark_room_is k (caps.Pipelined q path) = ap (λ n. ltb n 65536) (path_len_is k.marked_paths)
 mark_room_is k caps.None = refl
 mark_room_is k (caps.Object n) = refl

@@ -25,9 +25,9 @@ use Rattle.cp_refs.specs.declared.outcome.Outcome.TheVariants as outcomes
 use Rattle.cp_refs.specs.declared.route.Route.{Route}
 use Rattle.cp_refs.specs.declared.route.Route.TheVariants as routes
 use Rattle.cp_machine.specs.State.{State, gave, with_exports, with_over, none_over}
-use Rattle.cp_machine.specs.Then.{Done, Then, OrFull, behind, fault_if}
-use Rattle.cp_machine.specs.Room.{has_room}
-use Rattle.cp_machine.specs.Say.{Raise, counted, counted_out, opened, has_no_room, ComesTo, SayEnd, SayAll}
+use Rattle.cp_machine.specs.Then.{Done, Then, OrFull, after, fault_if}
+use Rattle.cp_machine.specs.Capacity.{has_capacity}
+use Rattle.cp_machine.specs.Say.{Raise, counted, counted_out, opened, has_no_capacity, ComesTo, SayEnd, SayAll}
 use Rattle.cp_machine.specs.Doing.{DoAnswer, Quietly, answer_refusals}
 use Rattle.cp_machine.specs.Give.{Give, SettleTied, given, GiveAnswer, GiveBy, return_of, returned_mentions}
 use Rattle.cp_machine.specs.Go.{Underway, underway, without_call, Leave, NoneOver, Go, GoTo, held_at, delivered}
@@ -56,7 +56,7 @@ use Rattle.cp_machine.specs.declared.event.Event.TheVariants as events
 use Rattle.cp_machine.specs.declared.event.Value.TheVariants as values
 use Rattle.test_vat.specs.Rows.{small_call, on_answer, small_request}
 use Rattle.test_vat.proofs.OneWaits.{returned_0, none_waits}
-use Rattle.test_vat.proofs.OneWaits.{s_1, s_2, s_2', s_3, s_3', entry_1, held_2, export_0, kept_1_behind, ungiven_1_behind, none_ended}
+use Rattle.test_vat.proofs.OneWaits.{s_1, s_2, s_2', s_3, s_3', entry_1, held_2, export_0, kept_1_after, ungiven_1_after, none_ended}
 use Rattle.test_vat.proofs.Inverts.{is_closing, shows, quietly_ok, leave_ok, NextGoes, unless_ok, then_ok, quiet, ok_inj, some_inj, none_not_some}
 
 -- an object comes to itself, and a call on it goes there
@@ -82,7 +82,7 @@ raise_shows : {old : State} {c : Cap} {out : Result (ℕ × State) PeerFault} �
 raise_shows (counted e count is below) = (_, inl (count, is, refl), refl)
 raise_shows (counted_out e is) = tt
 raise_shows (opened e none fresh) = (_, inr (none, refl), refl)
-raise_shows (has_no_room none no_room) = tt
+raise_shows (has_no_capacity none no_room) = tt
 
 -- an object that is sent
 abbrev pub SaysObject : State → ℕ → List Descriptor → State → Type 0
@@ -135,14 +135,14 @@ gave_by : (old : State) (a k : ℕ) (content : Node) (kept : AnswerEntry) (done 
     → SaysObject old k named.0 named.1
     → ◌≡◌ {A = Result (Returned × State) PeerFault} (Ok said) (Ok (returns.Results (record { content = content; cap_table = named.0 }), named.1))
     → ◌≡◌ {A = Result Done PeerFault} (Ok rest) (Ok ([], given said.1 a kept (outcomes.Results content (caps.Object k ∷ [])) said.0))
-    → ◌≡◌ {A = Result Done PeerFault} (Ok done) (Ok (behind (return_of a said.0 ∷ []) rest))
+    → ◌≡◌ {A = Result Done PeerFault} (Ok done) (Ok (after (return_of a said.0 ∷ []) rest))
     → GivesObject old a k content kept done
 gave_by old a k content kept done said named rest (e, exports, how, is_named, new_is) said_is rest_is done_is = (
   e,
   exports,
   how,
   ok_inj done_is
-      ∙ ap (λ r. behind (return_of a said.0 ∷ []) r) (ok_inj rest_is)
+      ∙ ap (λ r. after (return_of a said.0 ∷ []) r) (ok_inj rest_is)
       ∙ ap
       {A = Returned × State}
       {B = Done}
@@ -206,7 +206,7 @@ booted_by old new mid a first rest none (e, exports, how, done_is) leaving is =
 boot_given : (old : State) (a : ℕ) (done : Done) → OnBootstrap old a (Ok done) → GiveAnswer (with_answer old a None) a (bootstrap_outcome old.bootstrap) (Ok done)
 boot_given old a done does =
     unless_ok
-    (fault_if (is_answering old a) faults.QuestionInUse ++ fault_if (not (has_room old.entries.answers)) faults.TableFull)
+    (fault_if (is_answering old a) faults.QuestionInUse ++ fault_if (not (has_capacity old.entries.answers)) faults.TableFull)
     (GiveAnswer (with_answer old a None) a (bootstrap_outcome old.bootstrap))
     done
     does
@@ -296,7 +296,7 @@ waits_at old q entry done is_kept is_open is_ungiven does =
     by_answer is goes = rw (is) at goes
 
 pub only_s_3 : (new : State) → Step s_2' (events.Receive (small_call 2 (on_answer 1 0))) (Ok values.Nothing) [] new → new ≡ s_3'
-only_s_3 new step = pinned s_2' new (small_call 2 (on_answer 1 0)) [] ([], s_3) refl (λ done does. waits_at s_2' 2 entry_1 done kept_1_behind refl ungiven_1_behind does) refl step
+only_s_3 new step = pinned s_2' new (small_call 2 (on_answer 1 0)) [] ([], s_3) refl (λ done does. waits_at s_2' 2 entry_1 done kept_1_after refl ungiven_1_after does) refl step
 
 -- a second call that waits
 abbrev pub s_4 : State

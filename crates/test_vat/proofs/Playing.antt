@@ -41,23 +41,23 @@ abbrev pub shut : Known → Known
 shut k = record k { is_closed = true }
 
 module _ (k : Known) where
-  abbrev pub stepped_behind : (event : Event) (value : Value) (first : List Effect) (mid : Known)
+  abbrev pub stepped_after : (event : Event) (value : Value) (first : List Effect) (mid : Known)
       → ((rest all : List Effect) (new : State) → Follows (state mid) rest new → all ≡ first ++ rest → Step (state k) event (Ok value) all new)
       → Left mid → Stepped k event
-  stepped_behind event value first mid by (left rest (Ok new) leave) = stepped (Ok value) (first ++ rest) new (by rest (first ++ rest) (state new) (all_left leave) refl)
-  stepped_behind event value first mid by (left rest (Err fault) leave) =
+  stepped_after event value first mid by (left rest (Ok new) leave) = stepped (Ok value) (first ++ rest) new (by rest (first ++ rest) (state new) (all_left leave) refl)
+  stepped_after event value first mid by (left rest (Err fault) leave) =
       stepped (Ok value) (first ++ (rest ++ aborts fault)) (shut mid) (by (rest ++ aborts fault) (first ++ (rest ++ aborts fault)) (state (shut mid)) (found_full leave refl refl) refl)
-  stepped_behind event value first mid by stuck = unstepped
+  stepped_after event value first mid by stuck = unstepped
 
   abbrev pub message_step : (m : Message) → k.is_closed ≡ false → Finds beside (Receives (state k) m) → Stepped k (events.Receive m)
   message_step m open_yet (found (Ok (first, mid)) receives) =
-      stepped_behind (events.Receive m) values.Nothing first mid (λ rest all new follows is. received m first rest (state mid) open_yet receives follows is) (find_left 9 mid)
+      stepped_after (events.Receive m) values.Nothing first mid (λ rest all new follows is. received m first rest (state mid) open_yet receives follows is) (find_left 9 mid)
   message_step m open_yet (found (Err fault) receives) = stepped (Ok values.Nothing) (aborts fault) (shut k) (faulted m open_yet receives refl)
   message_step m open_yet lacks = unstepped
 
   abbrev pub call_step : (event : Event) → k.is_closed ≡ false → Finds owned (Does (state k) event) → Stepped k event
   call_step event open_yet (found (Ok (value, first, mid)) does) =
-      stepped_behind event value first mid (λ rest all new follows is. did event first rest (state mid) open_yet does follows is) (find_left 9 mid)
+      stepped_after event value first mid (λ rest all new follows is. did event first rest (state mid) open_yet does follows is) (find_left 9 mid)
   call_step event open_yet (found (Err fault) does) = stepped (Err fault) [] k (refused event open_yet does)
   call_step event open_yet lacks = unstepped
 

@@ -20,8 +20,8 @@ use Rattle.cp_refs.specs.declared.outcome.Outcome.TheVariants as outcomes
 use Rattle.cp_refs.specs.declared.route.Gate.TheVariants as gates
 use Rattle.cp_refs.specs.declared.route.Route.TheVariants as routes
 use Rattle.cp_machine.specs.State.{with_answers}
-use Rattle.cp_machine.specs.Then.{Then, fault_if, behind}
-use Rattle.cp_machine.specs.Room.{has_ticket}
+use Rattle.cp_machine.specs.Then.{Then, fault_if, after}
+use Rattle.cp_machine.specs.Capacity.{has_ticket}
 use Rattle.cp_machine.specs.Take.{path_of}
 use Rattle.cp_machine.specs.Give.{GiveAnswer}
 use Rattle.cp_machine.specs.Go.{Underway, finish_of}
@@ -144,7 +144,7 @@ abbrev pub find_question_settled : (k : Known) (q : ℕ) (o : Option ℕ) (outco
 find_question_settled k q None outcome = find_own_given k q outcome
 find_question_settled k q (Some a) outcome =
     moved
-    (λ s. Then (GiveAnswer s a outcome) (λ done out. out ≡ Ok (behind (finish_of q false ∷ []) done)))
+    (λ s. Then (GiveAnswer s a outcome) (λ done out. out ≡ Ok (after (finish_of q false ∷ []) done)))
     (without_question_is k q)
     (follow _ (find_answer_given (without_question_known k q) a outcome) (λ done. found (Ok (finish_of q false ∷ done.0, done.1)) refl))
 

@@ -94,8 +94,8 @@ embargo_message = disembargo_message (on_answer 1 0) (contexts.SenderLoopback 0)
 abbrev echo_message : Message
 echo_message = disembargo_message (on_import 0) (contexts.ReceiverLoopback 0)
 
-abbrev calls_behind : ℕ → Moment
-calls_behind q = does (events.Call given_cap small_request) (values.Question q) (sends embargo_message ∷ [])
+abbrev calls_after : ℕ → Moment
+calls_after q = does (events.Call given_cap small_request) (values.Question q) (sends embargo_message ∷ [])
 
 -- The calls that were sent come back and are delivered. After them comes the echo, and lets the one that waits go.
 abbrev comes_back : ℕ → ℕ → ℕ → Moment
@@ -129,7 +129,7 @@ abbrev pub lane_of_three_calls : List (Side × Moment)
 lane_of_three_calls =
     begins
     ++ (at_first, loan_settles 3)
-    ∷ (at_first, calls_behind 4)
+    ∷ (at_first, calls_after 4)
     ∷ both_come_back
     ++ (at_second, echoes)
     ∷ (at_first, embargo_ends 3 4 3) ∷ []
@@ -159,7 +159,7 @@ lane_again =
     ∷ (at_second, waits_there 6)
     ∷ (at_second, answers_back 2 3)
     ∷ (at_first, loan_settles 4)
-    ∷ (at_first, calls_behind 7)
+    ∷ (at_first, calls_after 7)
     ∷ (at_first, comes_back 4 2 10)
     ∷ (at_first, comes_back 4 3 11)
     ∷ (at_second, echoes)

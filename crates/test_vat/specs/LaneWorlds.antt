@@ -13,7 +13,7 @@ use Rattle.cp_machine.specs.declared.event.Event.TheVariants as events
 use Rattle.cp_machine.specs.declared.event.Value.TheVariants as values
 use Rattle.cp_worlds.specs.Accounts.{accounts_of, is_given_up}
 use Rattle.cp_worlds.specs.World.{World, Side, at_first, at_second, Move, last_of}
-use Rattle.cp_worlds.specs.Naming.{EachOnWay, table_of, IsOfKindBehind, looked_at, place_of}
+use Rattle.cp_worlds.specs.Naming.{EachOnWay, table_of, IsOfKindAfter, looked_at, place_of}
 use Rattle.cp_worlds.specs.Phases.{EndsAt, Phase, CameToOther, ToldOther, HostedThere}
 use Rattle.test_vat.specs.RowWords.{comes, does, call_message, return_message, finish_message, resolve_message, sends, on_whole_answer, results, one_object, request, small_request, small_call, bootstrap_comes, bootstrap_does}
 use Rattle.test_vat.specs.WorldRows.{Plays}
@@ -62,8 +62,8 @@ number_again =
 -- The question was given up, and what its Return names isn't of its export's kind. All that is looked at when it comes is.
 pub record IsOfOtherKind (w : World) : Type 0 where
   pub given_up : is_given_up ((accounts_of w.first.vat).questions 1) ≡ true
-  pub other_kind : EachOnWay w.first.inbox (λ before m behind. AllByRecursion (IsOfKindBehind w.second.vat behind) (table_of m)) → ⊥
-  pub is_of_kind : EachOnWay w.first.inbox (λ before m behind. AllByRecursion (IsOfKindBehind w.second.vat behind) (looked_at w.first.vat m))
+  pub other_kind : EachOnWay w.first.inbox (λ before m after. AllByRecursion (IsOfKindAfter w.second.vat after) (table_of m)) → ⊥
+  pub is_of_kind : EachOnWay w.first.inbox (λ before m after. AllByRecursion (IsOfKindAfter w.second.vat after) (looked_at w.first.vat m))
 
 abbrev pub NumberAgain : Type 0
 NumberAgain = (moves : List Move) × Plays two_vats number_again moves × IsOfOtherKind (last_of two_vats moves)

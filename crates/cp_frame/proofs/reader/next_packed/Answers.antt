@@ -5,7 +5,7 @@ use Rattle.cp_frame.specs.declared.rest.Rest.{Rest}
 use Rattle.cp_frame.specs.Rest.{InPacked}
 use Rattle.cp_frame.specs.Bulk.{TakesFront}
 use Rattle.cp_packed.proofs.Bytes.{bytes_by}
-use Rattle.cp_frame.proofs.Following.{front_both, fault_behind, still_packed, stops_packed, through_packed}
+use Rattle.cp_frame.proofs.Following.{front_both, fault_after, still_packed, stops_packed, through_packed}
 use Rattle.cp_frame.proofs.reader.next_packed.Goals as goal
 
 pub reading-preserved : goal.reading-preserved
@@ -40,7 +40,7 @@ returns-in_err-left-clause-fault c =
     let are = bytes_by piece (λ j. omega (arith, c.type_inv.piece j)) in
     let p = err_from_is_err_and c.from_residual.result c.from_residual.ensures.1 in
     rw (p.1, p.2)
-    (fault_behind limits c.args.rest.now c.reading.rest piece c.reading.left.now c.in_err-left.field-0.0 c.requires are c.reading.invariant.takes c.reading.invariant.begun c.in_err-left.ensures.fault)
+    (fault_after limits c.args.rest.now c.reading.rest piece c.reading.left.now c.in_err-left.field-0.0 c.requires are c.reading.invariant.takes c.reading.invariant.begun c.in_err-left.ensures.fault)
 
 pub returns-clause-none : goal.returns-clause-none
 returns-clause-none c =

@@ -5,7 +5,7 @@ use Rattle.std.proofs.lemmas.Result.{err_from_is_err_and}
 use Rattle.cp_frame.specs.Parts.{IsEmpty, rest_of, with_spare}
 use Rattle.cp_frame.specs.Single.{TakesWhole}
 use Rattle.cp_frame.proofs.Ends.{complete_of, open_of}
-use Rattle.cp_frame.proofs.Following.{ends_plain, ends_whole, told_plain}
+use Rattle.cp_frame.proofs.Following.{ends_plain, ends_whole, reported_plain}
 use Rattle.cp_frame.proofs.Singles.{complete_parts, empty_of, nothing_come}
 use Rattle.cp_frame.proofs.reader.next_plain.Goals as goal
 
@@ -42,7 +42,7 @@ finish-taken-requires c =
 pub returns-in_err-left-clause-fault : goal.returns-in_err-left-clause-fault
 returns-in_err-left-clause-fault c =
     let p = err_from_is_err_and c.from_residual-in_err-left.result c.from_residual-in_err-left.ensures.1 in
-    rw (p.1, p.2, ← c.reading.invariant.whole) (told_plain c.args.limits (rest_of c.reading.frame ++ c.reading.left.now) c.in_err-left.field-0.0 c.in_err-left.ensures.fault)
+    rw (p.1, p.2, ← c.reading.invariant.whole) (reported_plain c.args.limits (rest_of c.reading.frame ++ c.reading.left.now) c.in_err-left.field-0.0 c.in_err-left.ensures.fault)
 
 pub returns-then-is_complete-clause-given : goal.returns-then-is_complete-clause-given
 returns-then-is_complete-clause-given c =

@@ -6,7 +6,7 @@ use Rattle.cp_frame.specs.declared.mode.Mode.TheVariants.{Packed}
 use Rattle.cp_frame.specs.Bulk.{TakesFront}
 use Rattle.cp_frame.specs.Following.{HasThere}
 use Rattle.cp_packed.proofs.Bytes.{bytes_by}
-use Rattle.cp_frame.proofs.Following.{front_both, none_packed, fault_behind}
+use Rattle.cp_frame.proofs.Following.{front_both, none_packed, fault_after}
 use Rattle.cp_frame.proofs.reader.take_some.Goals as goal
 
 pub take_byte-requires-clause-begun : goal.take_byte-requires-clause-begun
@@ -36,4 +36,4 @@ returns-clause-fault c =
     let few : length left ≤ length middle = grind (arith, nat_tests) in
     let begun = none_packed limits r s left middle c.requires.begun are c.in_ok-back.ensures.takes c.in_ok-back.ensures.sound few in
     IfErr-weaker c.take_byte.result (λ fault. (fault ≡ OutOfMemory) ⊎ HasThere Packed limits s middle fault) (λ fault. (fault ≡ OutOfMemory) ⊎ HasThere Packed limits r left fault)
-    (λ fault h. fault_behind limits r s left middle fault c.requires.begun are c.in_ok-back.ensures.takes begun h) c.take_byte.ensures.fault
+    (λ fault h. fault_after limits r s left middle fault c.requires.begun are c.in_ok-back.ensures.takes begun h) c.take_byte.ensures.fault

@@ -5,7 +5,7 @@ use Rattle.cp_frame.proofs.send.send_words.Given as goal
 
 abbrev pub invariant-sending : goal.invariant-sending
 invariant-sending g l =
-    (length l.room ≡ length l.fn.room) × (done : List ℕ) × (bytes_of l.words ≡ done ++ bytes_of l.left) × Appends (g.W.Write.contents l.fn.to) (g.W.Write.contents l.to) done
+    (length l.buffer ≡ length l.fn.buffer) × (done : List ℕ) × (bytes_of l.words ≡ done ++ bytes_of l.left) × Appends (g.W.Write.contents l.fn.to) (g.W.Write.contents l.to) done
 
 abbrev pub decreases-sending : goal.decreases-sending
 decreases-sending g l = length l.left

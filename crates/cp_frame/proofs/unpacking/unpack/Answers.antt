@@ -46,11 +46,11 @@ unpacking-preserved c =
     let p = pending_of l.group in
     let q = pending_of c.take_byte.new.group in
     let mid = c.take_byte.new.words.items in
-    let behind = c.split_at.result.1.now in
+    let following = c.split_at.result.1.now in
     let some : 0 < length left = grind (arith, nat_tests) in
-    let splits : left ≡ x ∷ behind = first_left left some ∙ ap (λ (b : List ℕ). x ∷ b) (sym c.split_at.ensures.back) in
-    let front = within_byte c.args.limit [] l.words.items mid bytes left behind x nothing p q l.invariant splits c.in_ok-take_byte.ensures.takes in
-    within_both c.args.limit [] mid c.take_front-in-unpacking.new.words.items bytes behind c.in_ok-left-2.left.now nothing q (pending_of c.take_front-in-unpacking.new.group) front c.in_ok-left-2.ensures
+    let splits : left ≡ x ∷ following = first_left left some ∙ ap (λ (b : List ℕ). x ∷ b) (sym c.split_at.ensures.back) in
+    let front = within_byte c.args.limit [] l.words.items mid bytes left following x nothing p q l.invariant splits c.in_ok-take_byte.ensures.takes in
+    within_both c.args.limit [] mid c.take_front-in-unpacking.new.words.items bytes following c.in_ok-left-2.left.now nothing q (pending_of c.take_front-in-unpacking.new.group) front c.in_ok-left-2.ensures
 
 pub returns-then-is_empty-clause-words : goal.returns-then-is_empty-clause-words
 returns-then-is_empty-clause-words c =

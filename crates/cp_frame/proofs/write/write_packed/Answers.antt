@@ -1,5 +1,5 @@
 use Rattle.std.proofs.Common.{◌∙◌, arith}
-use Rattle.cp_frame.specs.Parts.{lists}
+use Rattle.cp_words.specs.Segments.{words_of}
 use Rattle.cp_frame.proofs.Filling.{length_lists}
 use Rattle.cp_frame.proofs.Pieces.{pieces_none, pieces_more, pieces_all}
 use Rattle.cp_frame.proofs.write.write_packed.Goals as goal
@@ -20,4 +20,4 @@ loop-segment-init c =
 pub returns : goal.returns
 returns c =
     let h = c.loop-segment.invariant in
-    pieces_all h.0 (lists c.args.segments.now) c.loop-segment.segment-index c.loop-segment.out.items h.1 (omega (arith, length_lists c.args.segments.now, c.loop-segment-test.false)) h.2
+    pieces_all h.0 (words_of c.args.segments.now) c.loop-segment.segment-index c.loop-segment.out.items h.1 (omega (arith, length_lists c.args.segments.now, c.loop-segment-test.false)) h.2

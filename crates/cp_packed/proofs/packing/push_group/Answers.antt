@@ -24,7 +24,7 @@ pub returns-then-tag-eq0-clause-group : goal.returns-then-tag-eq0-clause-group
 returns-then-tag-eq0-clause-group c =
     let words = c.args.words.now in
     let w = get_or words 0 0 in
-    let behind = c.split_at.result.1.now in
+    let after = c.split_at.result.1.now in
     let n = c.zero_run.result in
     let out = c.args.out.now.items in
     let b : c.to_le_bytes-bytes.result ≡ to_le_bytes w64 w = c.to_le_bytes-bytes.ensures in
@@ -37,13 +37,13 @@ returns-then-tag-eq0-clause-group c =
     let text : c.push-then-tag-eq0.new.self.items ≡ out ++ 0 ∷ n ∷ [] =
     two_bytes out c.push.new.self.items c.push-then-tag-eq0.new.self.items c.tag_of-tag.result (length c.split_at-then-tag-eq0.result.0.now) c.in_ok-push.ensures.items c.in_ok-push-2.ensures.items
     ∙ ap (λ (m : ℕ). out ++ m ∷ length c.split_at-then-tag-eq0.result.0.now ∷ []) c.if-tag-eq0.true ∙ ap (λ (m : ℕ). out ++ 0 ∷ m ∷ []) count in
-    puts_zeros out c.push-then-tag-eq0.new.self.items words behind c.split_at-then-tag-eq0.result.1.now w n small none whole c.zero_run.ensures.few c.zero_run.ensures.zeros c.split_at-then-tag-eq0.ensures.back ends text
+    puts_zeros out c.push-then-tag-eq0.new.self.items words after c.split_at-then-tag-eq0.result.1.now w n small none whole c.zero_run.ensures.few c.zero_run.ensures.zeros c.split_at-then-tag-eq0.ensures.back ends text
 
 pub returns-clause-group : goal.returns-clause-group
 returns-clause-group c =
     let words = c.args.words.now in
     let w = get_or words 0 0 in
-    let behind = c.split_at.result.1.now in
+    let after = c.split_at.result.1.now in
     let n = c.raw_run.result in
     let out = c.args.out.now.items in
     let b : c.to_le_bytes-bytes.result ≡ to_le_bytes w64 w = c.to_le_bytes-bytes.ensures in
@@ -55,13 +55,13 @@ returns-clause-group c =
       | else-tag-gt0-via-else-tag-gt0 x ↦ absurd (omega (arith, x.if-tag-gt0.false, c.if-tag-eq0.false))
     ] in
     let whole = first_word words c.requires ∙ ap (λ (vs : List ℕ). w ∷ vs) (sym c.split_at.ensures.back) in
-    let are : AreWords behind = words_by behind (λ i. subst (λ (vs : List ℕ). get_or vs i 0 < 2 ^ 64) (sym c.split_at.ensures.back) (subst (λ m. m < 2 ^ 64) (sym (get_or-drop 1 words i 0)) (omega (arith, c.type_inv.words (1 + i))))) in
+    let are : AreWords after = words_by after (λ i. subst (λ (vs : List ℕ). get_or vs i 0 < 2 ^ 64) (sym c.split_at.ensures.back) (subst (λ m. m < 2 ^ 64) (sym (get_or-drop 1 words i 0)) (omega (arith, c.type_inv.words (1 + i))))) in
     let ends = subst (λ (vs : List ℕ). (n ≡ 255) ⊎ StartsWithout (λ v. zero_bytes v ≤ 1) vs) (sym c.split_at-2.ensures.back) c.raw_run.ensures.ends in
-    let text : c.push_plain.new.out.items ≡ out ++ 255 ∷ (to_le_bytes w64 w ++ (n ∷ bytes_of (take n behind))) =
+    let text : c.push_plain.new.out.items ≡ out ++ 255 ∷ (to_le_bytes w64 w ++ (n ∷ bytes_of (take n after))) =
     raw_bytes out c.push.new.self.items c.extend_from_slice.new.self.items c.push-2.new.self.items c.push_plain.new.out.items c.to_le_bytes-bytes.result (bytes_of c.split_at-2.result.0.now) c.tag_of-tag.result (length c.split_at-2.result.0.now)
     c.in_ok-push.ensures.items c.in_ok-extend_from_slice.ensures.items c.in_ok-push-3.ensures.items c.in_ok-push_plain.ensures
     ∙ ap (λ (m : ℕ). out ++ m ∷ (c.to_le_bytes-bytes.result ++ (length c.split_at-2.result.0.now ∷ bytes_of c.split_at-2.result.0.now))) tag_full
     ∙ ap (λ (d : List ℕ). out ++ 255 ∷ (d ++ (length c.split_at-2.result.0.now ∷ bytes_of c.split_at-2.result.0.now))) b
     ∙ ap (λ (m : ℕ). out ++ 255 ∷ (to_le_bytes w64 w ++ (m ∷ bytes_of c.split_at-2.result.0.now))) c.split_at-2.ensures.front_len
     ∙ ap (λ (vs : List ℕ). out ++ 255 ∷ (to_le_bytes w64 w ++ (n ∷ bytes_of vs))) c.split_at-2.ensures.front in
-    puts_raw out c.push_plain.new.out.items words behind c.split_at-2.result.1.now w n small are (sym t ∙ tag_full) whole c.raw_run.ensures.few c.raw_run.ensures.within c.raw_run.ensures.full c.split_at-2.ensures.back ends text
+    puts_raw out c.push_plain.new.out.items words after c.split_at-2.result.1.now w n small are (sym t ∙ tag_full) whole c.raw_run.ensures.few c.raw_run.ensures.within c.raw_run.ensures.full c.split_at-2.ensures.back ends text

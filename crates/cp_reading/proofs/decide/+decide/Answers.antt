@@ -3,7 +3,8 @@ use Rattle.std.proofs.lemmas.List.{length-map}
 use Rattle.std.proofs.lemmas.Slice.Eq.{bytes_eq-Decides}
 use Rattle.cp_words.specs.declared.pointer.ElementSize.TheVariants as sizes
 use Rattle.cp_tree.specs.Node.{structs, count, number_of}
-use Rattle.cp_tree.specs.NodeOf.{node_of, body_of, nodes_of, bodies_of, words_of}
+use Rattle.cp_tree.specs.NodeOf.{node_of, body_of, nodes_of, bodies_of}
+use Rattle.cp_words.specs.Segments.{words_of}
 use Rattle.cp_reading.specs.declared.area.Form.TheVariants as forms
 use Rattle.cp_tree.proofs.Trees.{body_of-is, node-Ptrs, node-Structs, count-nodes, number-bodies}
 use Rattle.cp_reading.proofs.Decided.{same_sizes, not_false, carried, never, has_parts, body_decides, no_body_decides}

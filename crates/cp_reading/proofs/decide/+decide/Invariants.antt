@@ -1,6 +1,7 @@
 use Rattle.std.proofs.Common.{◌≡◌, ◌+◌, ◌*◌, map, drop}
 use Rattle.cp_reading.specs.Denotes.{EachDenotes, EachBody}
-use Rattle.cp_tree.specs.NodeOf.{node_of, body_of, nodes_of, bodies_of, words_of}
+use Rattle.cp_tree.specs.NodeOf.{node_of, body_of, nodes_of, bodies_of}
+use Rattle.cp_words.specs.Segments.{words_of}
 use Rattle.cp_reading.proofs.decide.+decide.Given as goal
 
 abbrev pub invariant-bodies_hold-loop-body : goal.invariant-bodies_hold-loop-body

@@ -1,5 +1,5 @@
 use Rattle.std.proofs.Common.{All, take}
-use Rattle.cp_tree.specs.NodeOf.{words_of}
+use Rattle.cp_words.specs.Segments.{words_of}
 use Rattle.cp_tree.specs.Shaped.{AllFit}
 use Rattle.cp_reading.proofs.fit.segments_fit.Given as goal
 

@@ -2,7 +2,7 @@ use Rattle.std.proofs.Common.{◌<◌, length, refl}
 use Rattle.std.specs.Prelude.{Vec, ℕ}
 use Rattle.std.specs.declared.alloc.Global.{Global}
 use Rattle.std.proofs.lemmas.List.{length-map}
-use Rattle.cp_tree.specs.NodeOf.{words_of}
+use Rattle.cp_words.specs.Segments.{words_of}
 use Rattle.cp_reading.proofs.Views.{found-node, found-part}
 use Rattle.cp_reading.proofs.view.body_at.Goals as goal
 

@@ -1,6 +1,6 @@
 use Rattle.std.proofs.Common.{◌≡◌, ℕ, Ok, arith, refl, sym, ap, ◌∙◌}
 use Rattle.cp_tree.specs.Node.{Node}
-use Rattle.cp_tree.specs.NodeOf.{words_of}
+use Rattle.cp_words.specs.Segments.{words_of}
 use Rattle.cp_reading.specs.Reading.{body_by, kids_at, most_nesting, most_traversal, pointer_read, area_read, node_in}
 use Rattle.cp_reading.proofs.Views.{body_again, ok_of, ok_is_ok}
 use Rattle.cp_reading.proofs.view.far_body.Goals as goal

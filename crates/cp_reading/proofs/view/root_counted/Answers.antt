@@ -1,7 +1,7 @@
 use Rattle.std.proofs.Common.{◌≡◌, ◌+◌, arith, Ok, Err, sym, ap, subst, ◌∙◌}
 use Rattle.std.proofs.lemmas.Result.{err_from_is_err_and}
 use Rattle.cp_reading.specs.Denotes.{Root}
-use Rattle.cp_tree.specs.NodeOf.{words_of}
+use Rattle.cp_words.specs.Segments.{words_of}
 use Rattle.cp_reading.specs.Reading.{root_of, area_read, node_in}
 use Rattle.cp_reading.specs.Visited.{pointers}
 use Rattle.cp_tree.specs.Shaped.{Shaped}

@@ -6,7 +6,7 @@ use Rattle.cp_refs.specs.declared.cap.Cap.{Cap}
 use Rattle.cp_refs.specs.declared.call.Origin.TheVariants as origins
 use Rattle.cp_machine.specs.State.{with_questions}
 use Rattle.cp_machine.specs.Say.{SayAll, mentions_of}
-use Rattle.cp_machine.specs.Go.{GoOut, call_of, finish_behind}
+use Rattle.cp_machine.specs.Go.{GoOut, call_of, finish_after}
 use Rattle.cp_state.specs.Halts.{Leaves}
 use Rattle.cp_state.specs.StateOf.{state_of}
 use Rattle.cp_rules.specs.Going.{underway_of}
@@ -34,11 +34,11 @@ returns-clause-acts c =
     let sent_as = call_of q c.args.target c.args.call.request c.in_ok-table.table in
     let noted = c.note_sent.ensures ∙ ap (λ m. with_change c.args.core.now.questions q (λ entry. record entry { kept = record entry.kept { is_sent = true; mentions = m } })) (c.in_ok-ids.ensures ∙ ap mentions_of c.descriptors.ensures) in
     let pushed = c.in_ok-push.ensures.items ∙ ap (λ e. c.args.effects.now.items ++ e ∷ []) c.call_effect.ensures in (
-      sent_as ∷ finish_behind q c.in-Some.entry.now.stage,
-      c.in_ok-finish_behind.ensures ∙ ap (λ l. l ++ finish_behind q c.in-Some.entry.now.stage) pushed ∙ append_assoc c.args.effects.now.items (sent_as ∷ []) (finish_behind q c.in-Some.entry.now.stage),
+      sent_as ∷ finish_after q c.in-Some.entry.now.stage,
+      c.in_ok-finish_after.ensures ∙ ap (λ l. l ++ finish_after q c.in-Some.entry.now.stage) pushed ∙ append_assoc c.args.effects.now.items (sent_as ∷ []) (finish_after q c.in-Some.entry.now.stage),
       (
         c.in-Some.entry.now,
         sym c.in-Some.ensures,
-        (Ok (c.in_ok-table.table, said), subst P c.values.ensures (subst Q c.caps.ensures (c.in_ok-table.ensures.said old)), ap (λ qs. Ok (sent_as ∷ finish_behind q c.in-Some.entry.now.stage, with_questions said qs)) noted),
+        (Ok (c.in_ok-table.table, said), subst P c.values.ensures (subst Q c.caps.ensures (c.in_ok-table.ensures.said old)), ap (λ qs. Ok (sent_as ∷ finish_after q c.in-Some.entry.now.stage, with_questions said qs)) noted),
       ),
     )

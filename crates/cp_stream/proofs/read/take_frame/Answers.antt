@@ -50,4 +50,4 @@ returns-in-Err-clause-stopped g c =
     let l = c.reading in
     rw c.refused.ensures (stops_there c.args.mode c.args.limits (g.R.Read.remaining c.args.from.now.inner) (g.R.Read.remaining l.from.inner) (g.R.Read.remaining c.read_some.new.from.inner)
     c.args.from.now.failures l.from.failures c.read_some.new.from.failures l.frames c.feed.new.self (take c.in_ok-length.length c.read_some.new.buffer) c.in-Err.fault
-    l.invariant c.in_ok-length.ensures.bytes c.in_ok-length.ensures.counted c.in-Err.ensures.told)
+    l.invariant c.in_ok-length.ensures.bytes c.in_ok-length.ensures.counted c.in-Err.ensures.reported)

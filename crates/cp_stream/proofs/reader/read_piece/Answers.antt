@@ -6,12 +6,12 @@ use Rattle.cp_stream.specs.declared.status.Status.TheVariants as statuses
 use Rattle.cp_stream.specs.declared.status.Status.{Status}
 use Rattle.cp_stream.specs.Reader.{IsMemory, Gives}
 use Rattle.cp_stream.specs.Kept.{seen, KeepsUp, ReadsPiece, RefusesPiece}
-use Rattle.cp_stream.proofs.Readers.{gives_all, gives_before, tells}
+use Rattle.cp_stream.proofs.Readers.{gives_all, gives_before, reports}
 use Rattle.cp_stream.proofs.reader.read_piece.Goals as goal
 use Rattle.cp_stream.proofs.reader.read_piece.Goals.{then-is_memory-via-then-is_memory, then-is_memory-via-else-is_memory+then-is_empty}
 
-pub returns-then-is_memory-clause-told : goal.returns-then-is_memory-clause-told
-returns-then-is_memory-clause-told c =
+pub returns-then-is_memory-clause-reported : goal.returns-then-is_memory-clause-reported
+returns-then-is_memory-clause-reported c =
     let same = subst (λ (s : Status). KeepsUp c.args.limits s c.args.frames.now) c.in-Reading.is c.requires in
     let refuses = subst (λ l. RefusesPiece l c.args.frames.now c.args.piece.now c.read_frames.new.frames c.read_frames.new.messages.items c.args.at.now c.read_frames.new.at c.in-Err.refusal) (sym same) c.in-Err.ensures.refused in
     let why : IsMemory c.in-Err.refusal ⊎ (c.read_frames.new.messages.items ≡ []) =
@@ -19,7 +19,7 @@ returns-then-is_memory-clause-told c =
       | then-is_memory-via-then-is_memory w ↦ inl (c.is_memory.ensures.0 w.if-is_memory.true)
       | then-is_memory-via-else-is_memory+then-is_empty w ↦ (let none : vec_len c.read_frames.new.messages ≡ 0 = grind (arith, nat_tests) in inr (nil_from_length c.read_frames.new.messages.items (omega (arith, none))))
     ] in
-    let all = tells c.args.frames.now c.read_frames.new.frames c.args.piece.now c.read_frames.new.messages.items c.args.at.now c.read_frames.new.at c.in-Err.refusal refuses why in
+    let all = reports c.args.frames.now c.read_frames.new.frames c.args.piece.now c.read_frames.new.messages.items c.args.at.now c.read_frames.new.at c.in-Err.refusal refuses why in
     rw (c.refused-then-is_memory.ensures, c.in-Reading.is) all
 
 pub returns-in-Ok-clause-given : goal.returns-in-Ok-clause-given

@@ -17,7 +17,7 @@ pub lay-returns-in-Null : goal.lay-returns-in-Null
 lay-returns-in-Null t c =
     let F = written c.args.sheet.now in
     let at = c.args.at in
-    rw (← c.in-Null.ensures) (omega arith, omega arith, c.put.ensures, subst (KeepsTo c.args.room) (sym c.put.ensures) (put-keeps c.args.room F at.segment at.word 0 c.requires.there.0 c.requires.keeps))
+    rw (← c.in-Null.ensures) (omega arith, omega arith, c.put.ensures, subst (KeepsTo c.args.capacity) (sym c.put.ensures) (put-keeps c.args.capacity F at.segment at.word 0 c.requires.there.0 c.requires.keeps))
 
 pub lay-returns-in-Cap : goal.lay-returns-in-Cap
 lay-returns-in-Cap t c =
@@ -25,7 +25,7 @@ lay-returns-in-Cap t c =
     let at = c.args.at in
     let i = c.in-Cap.index in
     let is = c.put-in-Cap.ensures ∙ ap (λ w. put at.segment at.word w F) c.encode.ensures.word in
-    rw (← c.in-Cap.ensures) (omega arith, omega arith, is, subst (KeepsTo c.args.room) (sym is) (put-keeps c.args.room F at.segment at.word (word_of (pointers.Cap i)) c.requires.there.0 c.requires.keeps))
+    rw (← c.in-Cap.ensures) (omega arith, omega arith, is, subst (KeepsTo c.args.capacity) (sym is) (put-keeps c.args.capacity F at.segment at.word (word_of (pointers.Cap i)) c.requires.there.0 c.requires.keeps))
 
 pub lay-lay_list-requires-clause-few : goal.lay-lay_list-requires-clause-few
 lay-lay_list-requires-clause-few t c = few_elements (elements_in c.in-List.list) (subst Shaped (sym c.in-List.ensures) c.requires.shaped)
@@ -36,7 +36,7 @@ lay-returns-in-List t c = rw (← c.in-List.ensures) c.lay_list.ensures
 pub lay-returns-in_err-below-in-Struct : goal.lay-returns-in_err-below-in-Struct
 lay-returns-in_err-below-in-Struct t c =
     let p = err_from_is_err_and c.from_residual.result c.from_residual.ensures.1 in
-    rw (p.1, p.2, ← c.in-Struct.ensures) (not_charged (Unit {0}) c.args.room c.args.levels c.args.left.now _ _ _ _ _ c.in_err-below-in-Struct.field-0.0 _ _ c.in_err-below-in-Struct.ensures (omega arith) (omega (arith, c.len-count.ensures.value)))
+    rw (p.1, p.2, ← c.in-Struct.ensures) (not_charged (Unit {0}) c.args.capacity c.args.levels c.args.budget.now _ _ _ _ _ c.in_err-below-in-Struct.field-0.0 _ _ c.in_err-below-in-Struct.ensures (omega arith) (omega (arith, c.len-count.ensures.value)))
 
 pub lay-begin_struct-requires-clause-sizes : goal.lay-begin_struct-requires-clause-sizes
 lay-begin_struct-requires-clause-sizes t c =
@@ -47,7 +47,7 @@ pub lay-returns-in_err-first-in-Struct : goal.lay-returns-in_err-first-in-Struct
 lay-returns-in_err-first-in-Struct t c =
     let b = c.in-Struct.body in
     let p = err_from_is_err_and c.from_residual-in_err-first-in-Struct.result c.from_residual-in_err-first-in-Struct.ensures.1 in
-    rw (p.1, p.2) (not_written (Unit {0}) c.args.room c.args.levels c.args.left.now _ _ _ _ _ _ (not_begun c.args.room c.args.at c.len-count.result (struct b.words.now) _ (nodes_of (row_in b.ptrs)) (written c.args.sheet.now) (written c.begin_struct.new.sheet) c.in_err-first-in-Struct.field-0.0 (sym c.in-Struct.ensures) (sym c.len-count.ensures.value) c.requires.shaped c.in_err-first-in-Struct.ensures))
+    rw (p.1, p.2) (not_written (Unit {0}) c.args.capacity c.args.levels c.args.budget.now _ _ _ _ _ _ (not_begun c.args.capacity c.args.at c.len-count.result (struct b.words.now) _ (nodes_of (row_in b.ptrs)) (written c.args.sheet.now) (written c.begin_struct.new.sheet) c.in_err-first-in-Struct.field-0.0 (sym c.in-Struct.ensures) (sym c.len-count.ensures.value) c.requires.shaped c.in_err-first-in-Struct.ensures))
 
 pub lay-lay_row-requires : goal.lay-lay_row-requires
 lay-lay_row-requires t c =
@@ -58,13 +58,13 @@ lay-lay_row-requires t c =
 pub lay-returns-in_ok-first-in-Struct : goal.lay-returns-in_ok-first-in-Struct
 lay-returns-in_ok-first-in-Struct t c =
     let b = c.in-Struct.body in
-    hung c.args.room c.args.at c.in_ok-first-in-Struct.first c.len-count.result (struct b.words.now) _ (nodes_of (row_in b.ptrs)) (written c.args.sheet.now) (written c.begin_struct.new.sheet) (written c.lay_row.new.sheet) c.lay_row.result c.args.levels c.args.left.now _ c.in_ok-below-in-Struct.below c.charge.new.left c.lay_row.new.left (sym c.in-Struct.ensures) (sym c.len-count.ensures.value)
+    hung c.args.capacity c.args.at c.in_ok-first-in-Struct.first c.len-count.result (struct b.words.now) _ (nodes_of (row_in b.ptrs)) (written c.args.sheet.now) (written c.begin_struct.new.sheet) (written c.lay_row.new.sheet) c.lay_row.result c.args.levels c.args.budget.now _ c.in_ok-below-in-Struct.below c.charge.new.budget c.lay_row.new.budget (sym c.in-Struct.ensures) (sym c.len-count.ensures.value)
     c.in_ok-first-in-Struct.ensures c.in_ok-below-in-Struct.ensures refl (omega (arith, c.len-count.ensures.value)) c.lay_row.ensures
 
 pub lay-returns-in_err-below-in-Ptrs : goal.lay-returns-in_err-below-in-Ptrs
 lay-returns-in_err-below-in-Ptrs t c =
     let p = err_from_is_err_and c.from_residual-in_err-below-in-Ptrs.result c.from_residual-in_err-below-in-Ptrs.ensures.1 in
-    rw (p.1, p.2, ← c.in-Ptrs.ensures) (not_charged (Unit {0}) c.args.room c.args.levels c.args.left.now _ _ _ _ _ c.in_err-below-in-Ptrs.field-0.0 _ _ c.in_err-below-in-Ptrs.ensures (omega arith) (omega (arith, c.len-count-in-Ptrs.ensures.value)))
+    rw (p.1, p.2, ← c.in-Ptrs.ensures) (not_charged (Unit {0}) c.args.capacity c.args.levels c.args.budget.now _ _ _ _ _ c.in_err-below-in-Ptrs.field-0.0 _ _ c.in_err-below-in-Ptrs.ensures (omega arith) (omega (arith, c.len-count-in-Ptrs.ensures.value)))
 
 pub lay-begin_ptrs-requires-clause-few : goal.lay-begin_ptrs-requires-clause-few
 lay-begin_ptrs-requires-clause-few t c =
@@ -74,7 +74,7 @@ lay-begin_ptrs-requires-clause-few t c =
 pub lay-returns-in_err-first-in-Ptrs : goal.lay-returns-in_err-first-in-Ptrs
 lay-returns-in_err-first-in-Ptrs t c =
     let p = err_from_is_err_and c.from_residual-in_err-first-in-Ptrs.result c.from_residual-in_err-first-in-Ptrs.ensures.1 in
-    rw (p.1, p.2) (not_written (Unit {0}) c.args.room c.args.levels c.args.left.now _ _ _ _ _ _ (not_begun c.args.room c.args.at c.len-count-in-Ptrs.result ptrs _ (nodes_of (row_in c.in-Ptrs.trees)) (written c.args.sheet.now) (written c.begin_ptrs.new.sheet) c.in_err-first-in-Ptrs.field-0.0 (sym c.in-Ptrs.ensures) (sym c.len-count-in-Ptrs.ensures.value) c.requires.shaped c.in_err-first-in-Ptrs.ensures))
+    rw (p.1, p.2) (not_written (Unit {0}) c.args.capacity c.args.levels c.args.budget.now _ _ _ _ _ _ (not_begun c.args.capacity c.args.at c.len-count-in-Ptrs.result ptrs _ (nodes_of (row_in c.in-Ptrs.trees)) (written c.args.sheet.now) (written c.begin_ptrs.new.sheet) c.in_err-first-in-Ptrs.field-0.0 (sym c.in-Ptrs.ensures) (sym c.len-count-in-Ptrs.ensures.value) c.requires.shaped c.in_err-first-in-Ptrs.ensures))
 
 pub lay-lay_row-requires-in-Ptrs : goal.lay-lay_row-requires-in-Ptrs
 lay-lay_row-requires-in-Ptrs t c =
@@ -85,7 +85,7 @@ lay-lay_row-requires-in-Ptrs t c =
 pub lay-returns-in_ok-first-in-Ptrs : goal.lay-returns-in_ok-first-in-Ptrs
 lay-returns-in_ok-first-in-Ptrs t c =
     let row = c.lay_row-in-Ptrs in
-    hung c.args.room c.args.at c.in_ok-first-in-Ptrs.first c.len-count-in-Ptrs.result ptrs _ (nodes_of (row_in c.in-Ptrs.trees)) (written c.args.sheet.now) (written c.begin_ptrs.new.sheet) (written row.new.sheet) row.result c.args.levels c.args.left.now _ c.in_ok-below-in-Ptrs.below c.charge-in-Ptrs.new.left row.new.left (sym c.in-Ptrs.ensures) (sym c.len-count-in-Ptrs.ensures.value)
+    hung c.args.capacity c.args.at c.in_ok-first-in-Ptrs.first c.len-count-in-Ptrs.result ptrs _ (nodes_of (row_in c.in-Ptrs.trees)) (written c.args.sheet.now) (written c.begin_ptrs.new.sheet) (written row.new.sheet) row.result c.args.levels c.args.budget.now _ c.in_ok-below-in-Ptrs.below c.charge-in-Ptrs.new.budget row.new.budget (sym c.in-Ptrs.ensures) (sym c.len-count-in-Ptrs.ensures.value)
     c.in_ok-first-in-Ptrs.ensures c.in_ok-below-in-Ptrs.ensures refl (omega (arith, c.len-count-in-Ptrs.ensures.value)) row.ensures
 
 pub lay-overflow_mul-len : goal.lay-overflow_mul-len
@@ -104,19 +104,19 @@ pub lay-returns-in_err-below-in-Structs : goal.lay-returns-in_err-below-in-Struc
 lay-returns-in_err-below-in-Structs t c =
     let price = ap (λ k. 2 + k * (1 + c.in-Structs.list.words + c.in-Structs.list.ptrs)) c.len.ensures.value in
     let p = err_from_is_err_and c.from_residual-in_err-below-in-Structs.result c.from_residual-in_err-below-in-Structs.ensures.1 in
-    rw (p.1, p.2, ← c.in-Structs.ensures) (not_charged (Unit {0}) c.args.room c.args.levels c.args.left.now _ _ _ _ _ c.in_err-below-in-Structs.field-0.0 _ _ c.in_err-below-in-Structs.ensures (omega arith) (omega (arith, price)))
+    rw (p.1, p.2, ← c.in-Structs.ensures) (not_charged (Unit {0}) c.args.capacity c.args.levels c.args.budget.now _ _ _ _ _ c.in_err-below-in-Structs.field-0.0 _ _ c.in_err-below-in-Structs.ensures (omega arith) (omega (arith, price)))
 
 pub lay-returns-in_ok-first-in-Structs : goal.lay-returns-in_ok-first-in-Structs
 lay-returns-in_ok-first-in-Structs t c =
     let list = c.in-Structs.list in
     let price = ap (λ k. 2 + k * (1 + list.words + list.ptrs)) c.len.ensures.value in
-    bodies_hung c.args.room c.args.at c.in_ok-first-in-Structs.first list.words list.ptrs _ (bodies_of (bodies_in list.items)) (written c.args.sheet.now) (written c.begin_structs.new.sheet) (written c.lay_bodies.new.sheet) c.lay_bodies.result c.args.levels c.args.left.now _ c.in_ok-below-in-Structs.below c.charge-in-Structs.new.left c.lay_bodies.new.left
+    bodies_hung c.args.capacity c.args.at c.in_ok-first-in-Structs.first list.words list.ptrs _ (bodies_of (bodies_in list.items)) (written c.args.sheet.now) (written c.begin_structs.new.sheet) (written c.lay_bodies.new.sheet) c.lay_bodies.result c.args.levels c.args.budget.now _ c.in_ok-below-in-Structs.below c.charge-in-Structs.new.budget c.lay_bodies.new.budget
     (sym c.in-Structs.ensures) c.in_ok-first-in-Structs.ensures c.in_ok-below-in-Structs.ensures (omega (arith, price)) c.lay_bodies.ensures
 
 pub lay_row-lay-requires : goal.lay_row-lay-requires
 lay_row-lay-requires t c =
     let l = c.loop-tree in
-    let needs = tree_needs c.args.room c.args.first.segment l.at _ _ _ (written l.sheet) _ (ap nodes_of c.in-Some.ensures.steps) l.invariant.0 in
+    let needs = tree_needs c.args.capacity c.args.first.segment l.at _ _ _ (written l.sheet) _ (ap nodes_of c.in-Some.ensures.steps) l.invariant.0 in
     (omega (arith, c.decreases), (needs.0, (needs.1, needs.2)))
 
 pub lay_row-returns-in_err-lay : goal.lay_row-returns-in_err-lay
@@ -124,16 +124,16 @@ lay_row-returns-in_err-lay t c =
     let l = c.loop-tree in
     let next = ap nodes_of c.in-Some.ensures.steps in
     let p = err_from_is_err_and c.from_residual.result c.from_residual.ensures.1 in
-    rw (p.1, p.2) (stops c.args.levels c.args.left.now l.left _ _ _ _ _ _ _ _ (ap greatest_depth next) (ap total_cost next) l.invariant.1 (Unit {0}) c.args.room _ c.in_err-lay.field-0.0 _ _ _ c.in_err-lay.ensures
-    (tree_refused c.args.room c.args.first.segment l.at _ _ _ (written l.sheet) _ next l.invariant.0 c.in_err-lay.field-0.0))
+    rw (p.1, p.2) (stops c.args.levels c.args.budget.now l.budget _ _ _ _ _ _ _ _ (ap greatest_depth next) (ap total_cost next) l.invariant.1 (Unit {0}) c.args.capacity _ c.in_err-lay.field-0.0 _ _ _ c.in_err-lay.ensures
+    (tree_refused c.args.capacity c.args.first.segment l.at _ _ _ (written l.sheet) _ next l.invariant.0 c.in_err-lay.field-0.0))
 
 pub lay_row-loop-tree-preserved : goal.lay_row-loop-tree-preserved
 lay_row-loop-tree-preserved t c =
     let l = c.loop-tree in
     let next = ap nodes_of c.in-Some.ensures.steps in
     let ok = c.in_ok-lay.ensures in
-    let row = row_next c.args.room c.args.first.segment l.at _ _ _ (written l.sheet) _ next l.invariant.0 (written c.lay.new.sheet) ok.2 ok.3 in
-    (row, goes_on c.args.levels c.args.left.now l.left _ _ _ _ _ _ _ _ (ap greatest_depth next) (ap total_cost next) l.invariant.1 c.lay.new.left ok.0 ok.1)
+    let row = row_next c.args.capacity c.args.first.segment l.at _ _ _ (written l.sheet) _ next l.invariant.0 (written c.lay.new.sheet) ok.2 ok.3 in
+    (row, goes_on c.args.levels c.args.budget.now l.budget _ _ _ _ _ _ _ _ (ap greatest_depth next) (ap total_cost next) l.invariant.1 c.lay.new.budget ok.0 ok.1)
 
 pub lay_bodies-returns-then-list-eq0 : goal.lay_bodies-returns-then-list-eq0
 lay_bodies-returns-then-list-eq0 t c =
@@ -141,13 +141,13 @@ lay_bodies-returns-then-list-eq0 t c =
     let list = c.args.list in
     let bs = bodies_of (bodies_in list.items) in
     let none = no_pointers list.words list.ptrs bs (omega arith) c.requires.even in
-    (omega (arith, none.0), omega (arith, none.1), sym (nothing_hangs_on c.args.room at.segment at.word list.words list.ptrs bs (written c.args.sheet.now) (omega arith) c.requires.even), c.requires.keeps)
+    (omega (arith, none.0), omega (arith, none.1), sym (nothing_hangs_on c.args.capacity at.segment at.word list.words list.ptrs bs (written c.args.sheet.now) (omega arith) c.requires.even), c.requires.keeps)
 
 pub lay_bodies-lay_row-requires : goal.lay_bodies-lay_row-requires
 lay_bodies-lay_row-requires t c =
     let l = c.loop-body in
     let list = c.args.list in
-    let needs = body_needs c.args.room c.args.first.segment l.at list.words list.ptrs _ _ _ _ (written l.sheet) _ (ap bodies_of c.in-Some.ensures.steps) l.invariant.0 in
+    let needs = body_needs c.args.capacity c.args.first.segment l.at list.words list.ptrs _ _ _ _ (written l.sheet) _ (ap bodies_of c.in-Some.ensures.steps) l.invariant.0 in
     (omega (arith, c.decreases), (needs.0, (needs.1, needs.2)))
 
 pub lay_bodies-returns-in_err-lay_row : goal.lay_bodies-returns-in_err-lay_row
@@ -156,8 +156,8 @@ lay_bodies-returns-in_err-lay_row t c =
     let list = c.args.list in
     let next = ap bodies_of c.in-Some.ensures.steps in
     let p = err_from_is_err_and c.from_residual.result c.from_residual.ensures.1 in
-    rw (p.1, p.2) (stops c.args.levels c.args.left.now l.left _ _ _ _ _ _ _ _ (ap deepest_body next) (ap body_cost next) l.invariant.1 (Unit {0}) c.args.room _ c.in_err-lay_row.field-0.0 _ _ _ c.in_err-lay_row.ensures
-    (body_refused c.args.room c.args.first.segment l.at list.words list.ptrs _ _ _ _ (written l.sheet) _ next l.invariant.0 c.in_err-lay_row.field-0.0))
+    rw (p.1, p.2) (stops c.args.levels c.args.budget.now l.budget _ _ _ _ _ _ _ _ (ap deepest_body next) (ap body_cost next) l.invariant.1 (Unit {0}) c.args.capacity _ c.in_err-lay_row.field-0.0 _ _ _ c.in_err-lay_row.ensures
+    (body_refused c.args.capacity c.args.first.segment l.at list.words list.ptrs _ _ _ _ (written l.sheet) _ next l.invariant.0 c.in_err-lay_row.field-0.0))
 
 pub lay_bodies-loop-body-preserved : goal.lay_bodies-loop-body-preserved
 lay_bodies-loop-body-preserved t c =
@@ -165,5 +165,5 @@ lay_bodies-loop-body-preserved t c =
     let list = c.args.list in
     let next = ap bodies_of c.in-Some.ensures.steps in
     let ok = c.in_ok-lay_row.ensures in
-    let row = bodies_next c.args.room c.args.first.segment l.at list.words list.ptrs _ _ _ _ (written l.sheet) _ next l.invariant.0 (written c.lay_row.new.sheet) ok.2 ok.3 in
-    (row, goes_on c.args.levels c.args.left.now l.left _ _ _ _ _ _ _ _ (ap deepest_body next) (ap body_cost next) l.invariant.1 c.lay_row.new.left ok.0 ok.1)
+    let row = bodies_next c.args.capacity c.args.first.segment l.at list.words list.ptrs _ _ _ _ (written l.sheet) _ next l.invariant.0 (written c.lay_row.new.sheet) ok.2 ok.3 in
+    (row, goes_on c.args.levels c.args.budget.now l.budget _ _ _ _ _ _ _ _ (ap deepest_body next) (ap body_cost next) l.invariant.1 c.lay_row.new.budget ok.0 ok.1)

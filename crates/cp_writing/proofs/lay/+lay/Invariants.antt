@@ -12,16 +12,16 @@ abbrev pub invariant-lay_row-loop-tree : goal.invariant-lay_row-loop-tree
 invariant-lay_row-loop-tree l =
     let all = nodes_of (row_in l.fn.trees) in
     let rest = nodes_of (row_in l.tree-iterator) in
-    RowKept l.room l.fn.first.segment l.at rest (written l.sheet) (row_by l.room l.fn.first.segment l.fn.first.word all (written l.initial.sheet))
-    × Going l.levels l.fn.left l.left (greatest_depth all) (total_cost all) (greatest_depth rest) (total_cost rest)
+    RowKept l.capacity l.fn.first.segment l.at rest (written l.sheet) (row_by l.capacity l.fn.first.segment l.fn.first.word all (written l.initial.sheet))
+    × Going l.levels l.fn.budget l.budget (greatest_depth all) (total_cost all) (greatest_depth rest) (total_cost rest)
 
 abbrev pub invariant-lay_bodies-loop-body : goal.invariant-lay_bodies-loop-body
 invariant-lay_bodies-loop-body l =
     let list = l.fn.list in
     let all = bodies_of (bodies_in list.items) in
     let rest = bodies_of (bodies_in l.body-iterator) in
-    BodiesKept l.room l.fn.first.segment l.at list.words list.ptrs rest (written l.sheet) (bodies_by l.room l.fn.first.segment l.fn.first.word list.words list.ptrs all (written l.initial.sheet))
-    × Going l.levels l.fn.left l.left (deepest_body all) (body_cost all) (deepest_body rest) (body_cost rest)
+    BodiesKept l.capacity l.fn.first.segment l.at list.words list.ptrs rest (written l.sheet) (bodies_by l.capacity l.fn.first.segment l.fn.first.word list.words list.ptrs all (written l.initial.sheet))
+    × Going l.levels l.fn.budget l.budget (deepest_body all) (body_cost all) (deepest_body rest) (body_cost rest)
 
 abbrev pub decreases-lay : goal.decreases-lay
 decreases-lay l = 4 * l.levels + 1

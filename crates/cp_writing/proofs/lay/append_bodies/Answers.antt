@@ -9,7 +9,7 @@ pub returns-in_err-append_body : goal.returns-in_err-append_body
 returns-in_err-append_body c =
     let p = err_from_is_err_and c.from_residual.result c.from_residual.ensures.1 in
     let next = ap bodies_of c.in-Some.ensures.steps in
-    rw (p.1, p.2) (writes_err c.args.room c.in_err-append_body.field-0.0 _ _ (first_blank _ _ _ c.in-Some.body.words.now _ c.len.result (written c.loop-body.sheet) _ next refl c.len.ensures.value c.loop-body.invariant.1) c.in_err-append_body.ensures)
+    rw (p.1, p.2) (writes_err c.args.capacity c.in_err-append_body.field-0.0 _ _ (first_blank _ _ _ c.in-Some.body.words.now _ c.len.result (written c.loop-body.sheet) _ next refl c.len.ensures.value c.loop-body.invariant.1) c.in_err-append_body.ensures)
 
 pub loop-body-preserved : goal.loop-body-preserved
 loop-body-preserved c =

@@ -7,5 +7,5 @@ use Rattle.cp_writing.proofs.lay.append_bodies.Given as goal
 
 abbrev pub invariant-loop-body : goal.invariant-loop-body
 invariant-loop-body l =
-    KeepsTo l.room (written l.sheet)
+    KeepsTo l.capacity (written l.sheet)
     × (append (bodies_blank (bodies_of (bodies_in l.body-iterator))) (written l.sheet) ≡ append (bodies_blank (bodies_of (bodies_in l.fn.bodies))) (written l.initial.sheet))

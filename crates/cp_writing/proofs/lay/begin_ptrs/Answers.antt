@@ -12,13 +12,13 @@ use Rattle.cp_writing.proofs.lay.begin_ptrs.Goals as goal
 pub returns-in_err-start : goal.returns-in_err-start
 returns-in_err-start c =
     let p = err_from_is_err_and c.from_residual.result c.from_residual.ensures.1 in
-    rw (p.1, p.2) (ptrs_refuse c.args.room c.args.at.segment c.args.at.word c.args.count (written c.args.sheet.now) c.in_err-start.field-0.0 _ c.requires.there.0 c.in_err-start.ensures.0 (omega arith))
+    rw (p.1, p.2) (ptrs_refuse c.args.capacity c.args.at.segment c.args.at.word c.args.count (written c.args.sheet.now) c.in_err-start.field-0.0 _ c.requires.there.0 c.in_err-start.ensures.0 (omega arith))
 
 pub returns-in_err-append_blank : goal.returns-in_err-append_blank
 returns-in_err-append_blank c =
     let p = err_from_is_err_and c.from_residual-in_err-append_blank.result c.from_residual-in_err-append_blank.ensures.1 in
     let words = ap (λ W. (append (replicate {A = ℕ} c.args.count 0) W).words) c.in_ok-start.ensures.0.0 in
-    rw (p.1, p.2) (ptrs_refuse c.args.room c.args.at.segment c.args.at.word c.args.count (written c.args.sheet.now) c.in_err-append_blank.field-0.0 _ c.requires.there.0 c.in_err-append_blank.ensures (omega (arith, words)))
+    rw (p.1, p.2) (ptrs_refuse c.args.capacity c.args.at.segment c.args.at.word c.args.count (written c.args.sheet.now) c.in_err-append_blank.field-0.0 _ c.requires.there.0 c.in_err-append_blank.ensures (omega (arith, words)))
 
 pub returns : goal.returns
 returns c =
@@ -29,11 +29,11 @@ returns c =
     let long = length-replicate {A = ℕ} n 0 in
     let start = c.in_ok-start.ensures in
     let new = c.in_ok-append_blank.ensures.0 ∙ ap (append blank) start.0.0 in
-    let x = ptrs_placed c.args.room at.segment at.word n F in
+    let x = ptrs_placed c.args.capacity at.segment at.word n F in
     let none : x.at.word ≡ x.at.word + 0 = omega arith in
     let first = start.1 ∙ ap (λ w. record { segment = x.at.segment; word = w }) none in
-    let run = run_of F at.segment at.word n blank x _ _ 0 n (spot c.args.room at.segment at.word (kinds.List sizes.Pointer n) n F c.requires.there.0) long new start.1 (omega (arith, long)) in (
+    let run = run_of F at.segment at.word n blank x _ _ 0 n (spot c.args.capacity at.segment at.word (kinds.List sizes.Pointer n) n F c.requires.there.0) long new start.1 (omega (arith, long)) in (
       c.in_ok-append_blank.ensures.1,
       (run.0, omega (arith, run.1)),
-      ptrs_hang c.args.room at.segment at.word n F _ _ first new,
+      ptrs_hang c.args.capacity at.segment at.word n F _ _ first new,
     )

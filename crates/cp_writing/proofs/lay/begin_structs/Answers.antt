@@ -18,16 +18,16 @@ pub returns-in_err-first : goal.returns-in_err-first
 returns-in_err-first c =
     let list = c.args.list in
     let p = err_from_is_err_and c.from_residual.result c.from_residual.ensures.1 in
-    rw (p.1, p.2) (tag_refused c.args.room c.args.at list.words list.ptrs (bodies_of (bodies_in list.items)) (written c.args.sheet.now) c.len.result c.len.ensures.value c.requires.shaped c.requires.there.0 c.in_err-first.field-0.0 c.in_err-first.ensures.0)
+    rw (p.1, p.2) (tag_refused c.args.capacity c.args.at list.words list.ptrs (bodies_of (bodies_in list.items)) (written c.args.sheet.now) c.len.result c.len.ensures.value c.requires.shaped c.requires.there.0 c.in_err-first.field-0.0 c.in_err-first.ensures.0)
 
 pub returns-in_err-append_bodies : goal.returns-in_err-append_bodies
 returns-in_err-append_bodies c =
     let list = c.args.list in
     let p = err_from_is_err_and c.from_residual-in_err-append_bodies.result c.from_residual-in_err-append_bodies.ensures.1 in
-    rw (p.1, p.2) (elements_refused c.args.room c.args.at list.words list.ptrs (bodies_of (bodies_in list.items)) (written c.args.sheet.now) c.len.result c.len.ensures.value c.requires.shaped c.requires.there.0 c.in_err-append_bodies.field-0.0 _ c.in_ok-first.ensures.0.0 c.in_err-append_bodies.ensures)
+    rw (p.1, p.2) (elements_refused c.args.capacity c.args.at list.words list.ptrs (bodies_of (bodies_in list.items)) (written c.args.sheet.now) c.len.result c.len.ensures.value c.requires.shaped c.requires.there.0 c.in_err-append_bodies.field-0.0 _ c.in_ok-first.ensures.0.0 c.in_err-append_bodies.ensures)
 
 pub returns : goal.returns
 returns c =
     let list = c.args.list in
     let all = c.in_ok-append_bodies.ensures in
-    elements_begun c.args.room c.args.at list.words list.ptrs (bodies_of (bodies_in list.items)) (written c.args.sheet.now) c.len.result c.len.ensures.value c.requires.shaped c.requires.there.0 _ _ _ c.in_ok-first.ensures.0.0 c.in_ok-first.ensures.1 all.0 all.1
+    elements_begun c.args.capacity c.args.at list.words list.ptrs (bodies_of (bodies_in list.items)) (written c.args.sheet.now) c.len.result c.len.ensures.value c.requires.shaped c.requires.there.0 _ _ _ c.in_ok-first.ensures.0.0 c.in_ok-first.ensures.1 all.0 all.1

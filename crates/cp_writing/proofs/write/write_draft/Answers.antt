@@ -3,8 +3,8 @@ use Rattle.std.specs.Prelude.{sum}
 use Rattle.std.proofs.lemmas.Result.{err_from_is_err_and}
 use Rattle.cp_tree.specs.DraftOf.{draft_of}
 use Rattle.cp_writing.specs.Layout.{Layout}
-use Rattle.cp_writing.specs.Sheets.{Written, written, lists}
-use Rattle.cp_writing.specs.LaidOut.{room_for, laid_out, MeetsLimit}
+use Rattle.cp_writing.specs.Sheets.{Written, written, segments_of}
+use Rattle.cp_writing.specs.LaidOut.{capacity_for, laid_out, MeetsLimit}
 use Rattle.cp_writing.proofs.LaidOut.{written_is_layout}
 use Rattle.cp_writing.proofs.LayoutWords.{meets_fault}
 use Rattle.cp_writing.proofs.SheetWords.{laid_words, laid_within}
@@ -20,10 +20,10 @@ returns-clause-layout c =
       | then-max_words-eq0 w ↦ omega (arith, w.words-is, w.if-max_words-eq0.true)
       | else-max_words-eq0 w ↦ omega (arith, w.words-is, w.if-max_words-eq0.false)
     ] in
-    let is : F ≡ laid_out (room_for (max 1 c.args.max_words) limits.segments limits) t =
+    let is : F ≡ laid_out (capacity_for (max 1 c.args.max_words) limits.segments limits) t =
     c.in_ok-sheet.ensures.written
-    ∙ ap (λ n. laid_out (room_for n c.segments.result limits) t) words
-    ∙ ap (λ n. laid_out (room_for (max 1 c.args.max_words) n limits) t) c.segments.ensures.value in
+    ∙ ap (λ n. laid_out (capacity_for n c.segments.result limits) t) words
+    ∙ ap (λ n. laid_out (capacity_for (max 1 c.args.max_words) n limits) t) c.segments.ensures.value in
     subst (λ S. Layout S (record { words = c.args.max_words; segments = limits.segments }) t) (sym (c.in_ok-into_segments.ensures))
     (written_is_layout c.args.max_words limits t F (omega (arith, c.segments.ensures.value, c.segments.ensures.range)) c.requires.shaped is c.in_ok-sheet.ensures.small)
 
@@ -31,10 +31,10 @@ pub returns-clause-small : goal.returns-clause-small
 returns-clause-small c =
     let limits = c.args.limits in
     let t = draft_of c.args.draft.now in
-    let room = room_for c.if-max_words-eq0.words c.segments.result limits in
-    let is = c.in_ok-into_segments.ensures ∙ ap lists c.in_ok-sheet.ensures.written in
+    let capacity = capacity_for c.if-max_words-eq0.words c.segments.result limits in
+    let is = c.in_ok-into_segments.ensures ∙ ap segments_of c.in_ok-sheet.ensures.written in
     subst (λ (s : List (List ℕ)). (length s ≤ limits.segments) × (sum (map length s) ≤ limits.frame_words)) (sym is)
-    (omega (arith, laid_within room t (omega (arith, c.segments.ensures.range)), c.segments.ensures.value), omega (arith, laid_words room t, ap (λ (F : Written). F.words) c.in_ok-sheet.ensures.written, c.in_ok-sheet.ensures.within))
+    (omega (arith, laid_within capacity t (omega (arith, c.segments.ensures.range)), c.segments.ensures.value), omega (arith, laid_words capacity t, ap (λ (F : Written). F.words) c.in_ok-sheet.ensures.written, c.in_ok-sheet.ensures.within))
 
 pub returns-in_err-sheet-clause-refused : goal.returns-in_err-sheet-clause-refused
 returns-in_err-sheet-clause-refused c =
@@ -45,7 +45,7 @@ returns-in_err-sheet-clause-refused c =
       | then-max_words-eq0 w ↦ omega (arith, w.words-is, w.if-max_words-eq0.true)
       | else-max_words-eq0 w ↦ omega (arith, w.words-is, w.if-max_words-eq0.false)
     ] in
-    let wide = subst (λ n. MeetsLimit limits (room_for n c.segments.result limits) t fault) words c.in_err-sheet.ensures.refused in
-    let met = subst (λ n. MeetsLimit limits (room_for (max 1 c.args.max_words) n limits) t fault) c.segments.ensures.value wide in
+    let wide = subst (λ n. MeetsLimit limits (capacity_for n c.segments.result limits) t fault) words c.in_err-sheet.ensures.refused in
+    let met = subst (λ n. MeetsLimit limits (capacity_for (max 1 c.args.max_words) n limits) t fault) c.segments.ensures.value wide in
     let p = err_from_is_err_and c.from_residual.result c.from_residual.ensures.1 in
     rw (p.1, p.2) (meets_fault limits c.args.max_words limits.segments t fault c.requires.shaped met)

@@ -1,6 +1,6 @@
 use Rattle.std.proofs.Common.{subst}
 use Rattle.cp_frame.specs.Reader.{Reader, Needs}
-use Rattle.cp_frame.proofs.Needed.{keeps_plain, tells_plain, tells_packed, less_kept}
+use Rattle.cp_frame.proofs.Needed.{keeps_plain, needs_of_plain, needs_of_packed, less_kept}
 use Rattle.cp_frame.proofs.reader.FrameReader.needs.Goals as goal
 
 pub needs-requires-clause-kept : goal.needs-requires-clause-kept
@@ -11,10 +11,10 @@ needs-requires-clause-kept c =
 pub returns-in-Reading-Plain : goal.returns-in-Reading-Plain
 returns-in-Reading-Plain c =
     let r = c.self.inside in
-    subst (λ (v : Reader). Needs v v.state c.needs.result) c.self.view_is (tells_plain r.mode r.limits r.status r.rest c.needs.result c.in-Reading-Plain.is-0 c.in-Reading-Plain.is-1 c.self.invariant c.needs.ensures)
+    subst (λ (v : Reader). Needs v v.state c.needs.result) c.self.view_is (needs_of_plain r.mode r.limits r.status r.rest c.needs.result c.in-Reading-Plain.is-0 c.in-Reading-Plain.is-1 c.self.invariant c.needs.ensures)
 
 pub returns-in-Reading-Packed : goal.returns-in-Reading-Packed
 returns-in-Reading-Packed c =
     let r = c.self.inside in
     subst (λ (v : Reader). Needs v v.state c.needs-in-Reading-Packed.result) c.self.view_is
-    (tells_packed r.mode r.limits r.status r.rest c.needs-in-Reading-Packed.result c.in-Reading-Packed.is-0 c.in-Reading-Packed.is-1 c.self.invariant c.needs-in-Reading-Packed.ensures)
+    (needs_of_packed r.mode r.limits r.status r.rest c.needs-in-Reading-Packed.result c.in-Reading-Packed.is-0 c.in-Reading-Packed.is-1 c.self.invariant c.needs-in-Reading-Packed.ensures)

@@ -2,7 +2,8 @@ use Rattle.std.proofs.Common.{rules, ◌≡◌, ◌+◌, ◌<◌, ◌≤◌, ari
 use Rattle.std.specs.Prelude.{ℕ, List}
 use Rattle.std.proofs.lemmas.List.{map_push}
 use Rattle.cp_tree.specs.Node.{Nodes, struct, count, number_of, depth}
-use Rattle.cp_tree.specs.NodeOf.{node_of, body_of, words_of}
+use Rattle.cp_tree.specs.NodeOf.{node_of, body_of}
+use Rattle.cp_words.specs.Segments.{words_of}
 use Rattle.cp_reading.specs.Viewed.{viewed_node}
 use Rattle.cp_reading.specs.Rows.{struct_at, trees_from}
 use Rattle.cp_tree.specs.Seen.{node_at, body_at}

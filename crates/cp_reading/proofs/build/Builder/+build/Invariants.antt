@@ -1,6 +1,7 @@
 use Rattle.std.proofs.Common.{◌≡◌, ◌+◌, ◌*◌, map, take}
 use Rattle.cp_tree.specs.Node.{depth}
-use Rattle.cp_tree.specs.NodeOf.{node_of, body_of, words_of}
+use Rattle.cp_tree.specs.NodeOf.{node_of, body_of}
+use Rattle.cp_words.specs.Segments.{words_of}
 use Rattle.cp_reading.specs.Viewed.{viewed_node}
 use Rattle.cp_reading.specs.Rows.{bodies_in, struct_at, structs_at, trees_from}
 use Rattle.cp_reading.specs.declared.view.Viewed.TheVariants as viewed

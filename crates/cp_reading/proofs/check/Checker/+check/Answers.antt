@@ -1,10 +1,10 @@
 use Rattle.std.proofs.Common.{◌≡◌, ◌∙◌, ◌<◌, ◌+◌, Some, ◌-◌, arith, add-zero, sym, refl}
 use Rattle.std.proofs.lemmas.Result.{err_from_is_err_and}
 use Rattle.cp_words.specs.Word.{pointer_of}
-use Rattle.cp_tree.specs.NodeOf.{words_of}
+use Rattle.cp_words.specs.Segments.{words_of}
 use Rattle.cp_reading.specs.Reading.{kids_at}
 use Rattle.cp_reading.proofs.Nears.{null_left, near_fails, near_body}
-use Rattle.cp_reading.proofs.Checks.{row_fails, row_goes_on, row_ends, bodies_fail, bodies_go_on, bodies_end, passed-flat, aimed, one_fewer}
+use Rattle.cp_reading.proofs.Checks.{row_fails, row_goes_on, row_ends, bodies_fail, bodies_go_on, bodies_end, passed-flat, target_found, one_fewer}
 use Rattle.cp_reading.proofs.Charges.{charged_err, charged_ok}
 use Rattle.cp_reading.proofs.check.Checker.+check.Goals as goal
 
@@ -73,13 +73,13 @@ check_any-returns-in_err-area-in-Some g t c =
     let p = err_from_is_err_and c.from_residual-in_err-area-in-Some.result c.from_residual-in_err-area-in-Some.ensures.1 in
     let word = c.requires.word_is in
     let says : pointer_of c.args.word ≡ Some c.in-Some.pointer = sym c.in-Some.ensures in
-    record { reports = rw (p.1, p.2, ← word, says, aimed _ _ _ _ _ _ (sym c.in_ok-target-in-Some.ensures.target), ← c.in_err-area-in-Some.ensures.area) refl; few = omega arith; same = refl; lent = refl }
+    record { reports = rw (p.1, p.2, ← word, says, target_found _ _ _ _ _ _ (sym c.in_ok-target-in-Some.ensures.target), ← c.in_err-area-in-Some.ensures.area) refl; few = omega arith; same = refl; lent = refl }
 
 pub check_any-returns-in_ok-area-in-Some : goal.check_any-returns-in_ok-area-in-Some
 check_any-returns-in_ok-area-in-Some g t c =
     let word = c.requires.word_is in
     let says : pointer_of c.args.word ≡ Some c.in-Some.pointer = sym c.in-Some.ensures in
-    record { reports = rw (← word, says, aimed _ _ _ _ _ _ (sym c.in_ok-target-in-Some.ensures.target), ← c.in_ok-area-in-Some.ensures.area) c.check_body.ensures.reports; few = omega (arith, c.check_body.ensures.few); same = c.check_body.ensures.same; lent = c.check_body.ensures.lent }
+    record { reports = rw (← word, says, target_found _ _ _ _ _ _ (sym c.in_ok-target-in-Some.ensures.target), ← c.in_ok-area-in-Some.ensures.area) c.check_body.ensures.reports; few = omega (arith, c.check_body.ensures.few); same = c.check_body.ensures.same; lent = c.check_body.ensures.lent }
 
 pub check_word-returns-then-word-eq0-clause-reports : goal.check_word-returns-then-word-eq0-clause-reports
 check_word-returns-then-word-eq0-clause-reports g t c = rw (← c.tick.ensures) (null_left c.args.at c.args.word (kids_at c.args.depth (words_of c.args.self.now.segments.now)) (words_of c.args.self.now.segments.now) c.args.self.now.budget c.tick.new.self (sym c.requires.word_is) c.if-word-eq0.true)

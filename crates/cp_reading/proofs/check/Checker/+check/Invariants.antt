@@ -1,5 +1,5 @@
 use Rattle.std.proofs.Common.{◌≡◌, ℕ, ◌+◌, ◌*◌, ◌≤◌}
-use Rattle.cp_tree.specs.NodeOf.{words_of}
+use Rattle.cp_words.specs.Segments.{words_of}
 use Rattle.cp_reading.specs.Reading.{rows_at, bodies_by}
 use Rattle.cp_reading.specs.Visited.{passed, pointers_of_row, pointers_of_bodies}
 use Rattle.cp_reading.proofs.check.Checker.+check.Given as goal

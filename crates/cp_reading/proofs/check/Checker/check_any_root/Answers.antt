@@ -1,7 +1,7 @@
 use Rattle.std.proofs.Common.{◌<◌, length, arith, sym}
 use Rattle.std.proofs.lemmas.Bool.Decides.{nat_tests}
-use Rattle.cp_words.specs.Aims.{segment}
-use Rattle.cp_tree.specs.NodeOf.{words_of}
+use Rattle.cp_words.specs.Targets.{segment}
+use Rattle.cp_words.specs.Segments.{words_of}
 use Rattle.cp_reading.proofs.Roots.{root_steps}
 use Rattle.cp_reading.proofs.check.Checker.check_any_root.Goals as goal
 

@@ -1,8 +1,8 @@
 use Rattle.std.proofs.Common.{◌≡◌, ◌<◌, ◌==◌, false, length, arith, refl, sym, ◌∙◌}
 use Rattle.std.proofs.lemmas.Bool.Decides.{nat_tests}
 use Rattle.std.proofs.lemmas.Result.{err_from_is_err_and}
-use Rattle.cp_words.specs.Aims.{segment}
-use Rattle.cp_tree.specs.NodeOf.{words_of}
+use Rattle.cp_words.specs.Targets.{segment}
+use Rattle.cp_words.specs.Segments.{words_of}
 use Rattle.cp_reading.proofs.Roots.{root_near, root_near_fails}
 use Rattle.cp_reading.proofs.check.Checker.check_root.Goals as goal
 

@@ -1,5 +1,5 @@
 use Rattle.std.proofs.Common.{sym, subst}
-use Rattle.cp_tree.specs.NodeOf.{words_of}
+use Rattle.cp_words.specs.Segments.{words_of}
 use Rattle.cp_reading.specs.Viewed.{viewed_node}
 use Rattle.cp_tree.specs.Shaped.{Shaped}
 use Rattle.cp_tree.proofs.PartsShaped.{part_of-shaped}

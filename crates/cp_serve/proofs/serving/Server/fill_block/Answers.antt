@@ -1,8 +1,8 @@
 use Rattle.std.proofs.Common.{[], ◌++◌, refl, arith}
 use Rattle.std.proofs.lemmas.Result.{err_from_is_err_and}
 use Rattle.cp_serve.specs.Reached.{ahead}
-use Rattle.cp_serve.proofs.Reaching.{serves_none, piece_untaken, stops_behind, fills_none, fills_more, fills_all, serves_more}
-use Rattle.cp_serve.proofs.Landing.{kept_block, nothing_behind}
+use Rattle.cp_serve.proofs.Reaching.{serves_none, piece_untaken, stops_after, fills_none, fills_more, fills_all, serves_more}
+use Rattle.cp_serve.proofs.Landing.{kept_block, nothing_after}
 use Rattle.cp_serve.proofs.serving.Server.fill_block.Goals as goal
 
 pub filling-init : goal.filling-init
@@ -22,7 +22,7 @@ returns-in_default-clause-taken g c =
     λ mode start held to bytes serves.
     let now = c.filling.invariant.1 mode start held to bytes serves in
     let r = kept_block (bytes ++ now.0) now.2.0 to c.filling.self.block c.take_next.new.self.block c.in_ok-back.ensures.same now.2.1 in
-    fills_none bytes now.0 now.2.0 c.filling.left.now c.args.piece.now c.filling.self c.take_next.new.self now.1 r (none now.2.0 now.2.2) _ (nothing_behind _ c.filling.left.now)
+    fills_none bytes now.0 now.2.0 c.filling.left.now c.args.piece.now c.filling.self c.take_next.new.self now.1 r (none now.2.0 now.2.2) _ (nothing_after _ c.filling.left.now)
 
 pub returns-in_err-put-clause-stopped : goal.returns-in_err-put-clause-stopped
 returns-in_err-put-clause-stopped g c =
@@ -31,7 +31,7 @@ returns-in_err-put-clause-stopped g c =
     rw (p.1, p.2) (λ mode start held from left to bytes serves.
     let now = c.filling.invariant.1 mode start held to bytes serves in
     let r = kept_block (bytes ++ now.0) now.2.0 to c.filling.self.block c.take_next.new.self.block c.in_ok-back.ensures.same now.2.1 in
-    stops_behind bytes now.0 now.2.0 c.filling.left.now c.args.piece.now c.in-Some.back.now from left c.filling.self c.take_next.new.self (ahead to c.take_next.new.self.block.items) (ahead to c.put.new.self.block.items) now.1 r now.2.2.is_open (next now.2.0 now.2.2)
+    stops_after bytes now.0 now.2.0 c.filling.left.now c.args.piece.now c.in-Some.back.now from left c.filling.self c.take_next.new.self (ahead to c.take_next.new.self.block.items) (ahead to c.put.new.self.block.items) now.1 r now.2.2.is_open (next now.2.0 now.2.2)
     (c.in_err-put.ensures.part to) c.in_err-put.field-0.0 c.in_err-put.ensures.stopped)
 
 pub returns-then-ends_block-clause-shorter : goal.returns-then-ends_block-clause-shorter

@@ -9,8 +9,8 @@ use Rattle.cp_serve.proofs.serving.Server.take_all.Goals as goal
 pub loop-pieces-init : goal.loop-pieces-init
 loop-pieces-init g c = (refl, λ mode start held serves. ([], Consumes-nil _, omega arith, serves))
 
-pub returns-in_err-room-clause-stopped : goal.returns-in_err-room-clause-stopped
-returns-in_err-room-clause-stopped g c =
+pub returns-in_err-storage-clause-stopped : goal.returns-in_err-storage-clause-stopped
+returns-in_err-storage-clause-stopped g c =
     let p = err_from_is_err_and c.from_residual.result c.from_residual.ensures.1 in
     rw (p.1, p.2) (λ mode start held serves. ([], Consumes-nil _, stops_full [] serves.0 [] (device g.R.Read.remaining c.args.from.now) (device g.R.Read.remaining c.args.from.now) [] serves.1))
 
@@ -26,7 +26,7 @@ returns-in_default-clause-stopped g c =
 
 pub returns-then-length-eq0-clause-taken : goal.returns-then-length-eq0-clause-taken
 returns-then-length-eq0-clause-taken g c =
-    let some : 0 < length c.read.new.buf = omega (arith, c.read.auto.buf, c.loop-pieces.auto.buffer, ap (λ (x : List ℕ). length x) c.as_mut_slice-buffer.ensures.value, c.in_ok-room.ensures.len) in
+    let some : 0 < length c.read.new.buf = omega (arith, c.read.auto.buf, c.loop-pieces.auto.buffer, ap (λ (x : List ℕ). length x) c.as_mut_slice-buffer.ensures.value, c.in_ok-storage.ensures.len) in
     after_both c.end_of_messages.result c.end_of_messages.ensures.same c.end_of_messages.ensures.nothing (λ same nothing. λ mode start held serves.
     let now = c.loop-pieces.invariant.1 mode start held serves in (
       now.0,
@@ -38,7 +38,7 @@ returns-then-length-eq0-clause-taken g c =
 
 pub returns-then-length-eq0-clause-stopped : goal.returns-then-length-eq0-clause-stopped
 returns-then-length-eq0-clause-stopped g c =
-    let some : 0 < length c.read.new.buf = omega (arith, c.read.auto.buf, c.loop-pieces.auto.buffer, ap (λ (x : List ℕ). length x) c.as_mut_slice-buffer.ensures.value, c.in_ok-room.ensures.len) in
+    let some : 0 < length c.read.new.buf = omega (arith, c.read.auto.buf, c.loop-pieces.auto.buffer, ap (λ (x : List ℕ). length x) c.as_mut_slice-buffer.ensures.value, c.in_ok-storage.ensures.len) in
     IfErr-weaker c.end_of_messages.result _ _ (λ fault inside. λ mode start held serves.
     let now = c.loop-pieces.invariant.1 mode start held serves in (
       now.0,

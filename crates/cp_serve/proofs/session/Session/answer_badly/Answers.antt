@@ -6,9 +6,9 @@ use Rattle.cp_serve.proofs.session.Session.answer_badly.Goals as goal
 pub returns-in-Ok : goal.returns-in-Ok
 returns-in-Ok c =
     let step = rw c.in_ok-outcome.ensures at c.in-Ok.ensures in
-    after_ok c.add.result c.add.ensures (λ did. record { result = _; effects = _; vat = _; step = step; room = tt; did = did })
+    after_ok c.add.result c.add.ensures (λ did. record { result = _; effects = _; vat = _; step = step; memory = tt; did = did })
 
 pub returns-in_default : goal.returns-in_default
 returns-in_default c =
     let step = rw c.in_ok-outcome.ensures at c.in-Err.ensures in
-    record { result = Err c.in-Err.fault; effects = []; vat = c.answer.new.self; step = step; room = c.in_default.not-OutOfMemory; did = did_none (work_of c.args.self.now) c.answer.new.self _ refl }
+    record { result = Err c.in-Err.fault; effects = []; vat = c.answer.new.self; step = step; memory = c.in_default.not-OutOfMemory; did = did_none (work_of c.args.self.now) c.answer.new.self _ refl }

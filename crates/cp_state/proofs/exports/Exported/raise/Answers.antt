@@ -1,5 +1,5 @@
 use Rattle.std.proofs.Common.{rules, ◌∙◌, sym}
-use Rattle.cp_machine.specs.Say.{opened, has_no_room}
+use Rattle.cp_machine.specs.Say.{opened, has_no_capacity}
 use Rattle.cp_state.specs.Index.{cap_of}
 use Rattle.cp_state.proofs.Numbering.{is_fresh, none_fresh}
 use Rattle.cp_state.proofs.Indexing.{raise_out, raise_more, raised_to, has_none, indexed-counted, indexed-opened, lowered_again, if_some, none_if, same_count, counted_back, opened_back}
@@ -34,7 +34,7 @@ returns-in-Some-clause-raised c s =
 pub returns-then-len-eq-LIMIT-clause-raised : goal.returns-then-len-eq-LIMIT-clause-raised
 returns-then-len-eq-LIMIT-clause-raised c s =
     let none = sym c.number.ensures ∙ none_if _ c.in_default.not-Some in
-    rw (← c.self.view_is) (has_no_room (has_none c.self.inside.exports c.self.inside.index c.self.invariant s (cap_of c.args.hosted) none) (none_fresh c.self.inside.exports (sym c.len.ensures.value ∙ c.if-len-eq-LIMIT.true)))
+    rw (← c.self.view_is) (has_no_capacity (has_none c.self.inside.exports c.self.inside.index c.self.invariant s (cap_of c.args.hosted) none) (none_fresh c.self.inside.exports (sym c.len.ensures.value ∙ c.if-len-eq-LIMIT.true)))
 
 pub invariant_of-self-in-Err : goal.invariant_of-self-in-Err
 invariant_of-self-in-Err c =

@@ -1,7 +1,7 @@
 use Rattle.std.proofs.Common.{◌≡◌, ◌+◌, ◌/◌, ◌++◌, length, ◌∙◌, ap, arith}
 use Rattle.std.proofs.lemmas.Result.{err_from_is_err_and}
 use Rattle.cp_tree.specs.Node.{halves}
-use Rattle.cp_tree.specs.NodeOf.{words_of}
+use Rattle.cp_words.specs.Segments.{words_of}
 use Rattle.cp_writing.specs.Packed.{packed}
 use Rattle.cp_writing.specs.Sheets.{written}
 use Rattle.cp_writing.specs.declared.sheet.Sheet.{Sheet}
@@ -22,5 +22,5 @@ returns c =
     let ws = packed (halves c.args.items.now) in
     let n = (length c.args.items.now + 3) / 4 in
     let long : length ws ≡ n = omega (arith, length_groups 65536 4 c.args.items.now) in
-    counted c.args.room (written c.args.self.now) ws (words_of s.full.items) c.push_halves.new.words.items s.words n c.requires long c.in_ok-count.ensures.within
+    counted c.args.capacity (written c.args.self.now) ws (words_of s.full.items) c.push_halves.new.words.items s.words n c.requires long c.in_ok-count.ensures.within
     (ap (λ (x : Sheet). words_of x.full.items) e) (ap (λ (x : Sheet). x.words) e) (c.in_ok-push_halves.ensures ∙ ap (λ (x : Sheet). x.last.items ++ ws) e)

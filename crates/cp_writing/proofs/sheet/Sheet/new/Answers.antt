@@ -1,5 +1,5 @@
 use Rattle.std.proofs.Common.{◌≡◌, length, ap, ◌∷◌, ◌++◌, ◌∙◌, [], arith}
-use Rattle.cp_tree.specs.NodeOf.{words_of}
+use Rattle.cp_words.specs.Segments.{words_of}
 use Rattle.cp_writing.proofs.Sheets.{one_blank}
 use Rattle.cp_writing.proofs.sheet.Sheet.new.Goals as goal
 

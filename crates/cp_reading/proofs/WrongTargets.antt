@@ -7,7 +7,7 @@ use Rattle.cp_words.specs.declared.pointer.Pointer.{Pointer}
 use Rattle.cp_words.specs.declared.pointer.Pointer.TheVariants as pointers
 use Rattle.cp_words.specs.declared.pointer.Tag.{Tag}
 use Rattle.cp_words.specs.declared.pointer.ElementSize.TheVariants as sizes
-use Rattle.cp_words.specs.Aims.{segment, Holds, IsBodyPointer, IsPadTag, Aims}
+use Rattle.cp_words.specs.Targets.{segment, Holds, IsBodyPointer, IsLandingPadTag, HasTarget}
 use Rattle.cp_reading.specs.Faults.{kind_words, StartsBefore, IsOutOfBounds, FaultBy}
 use Rattle.cp_reading.specs.Pruned.{IsReachable}
 use Rattle.cp_reading.specs.Reading.{◌>>=◌, start_of, in_segment, placed, tagged, target_here, tag_kind_of, target_second, target_by_two, or_bad_pad, target_by_one, target_by_far, target_by, area_by_kind, area_by}
@@ -19,7 +19,7 @@ use Rattle.cp_reading.specs.declared.area.Form.TheVariants as forms
 use Rattle.cp_words.specs.declared.place.Place.{Place}
 use Rattle.cp_reading.specs.declared.fault.TreeFault.{TreeFault}
 use Rattle.cp_reading.specs.declared.fault.TreeFault.TheVariants as faults
-use Rattle.cp_reading.proofs.Sound.{ok_is, passed, inside_is, placed_is, tag_sound, aim_sound}
+use Rattle.cp_reading.proofs.Sound.{ok_is, passed, inside_is, placed_is, tag_sound, target_sound}
 
 -- a step that failed, or the one after it did
 pub bind_err : {A B : Type 0} (r : Result A TreeFault) (f : A → Result B TreeFault) (e : TreeFault) → (r >>= f) ≡ Err e → (r ≡ Err e) ⊎ ((x : A) × (r ≡ Ok x) × (f x ≡ Err e))
@@ -70,7 +70,7 @@ module _ (S : List (List ℕ)) (s p : ℕ) (deep dear : Type 0) (reach : IsReach
       no_body (Some (pointers.List o size n)) is f r i k says b = cc
 
   -- what is no pad tag has no kind
-  no_tag : (o : Option Pointer) (r : Pointer) (k : Kind) → tag_kind_of o ≡ None → o ≡ Some r → IsPadTag r k → ⊥
+  no_tag : (o : Option Pointer) (r : Pointer) (k : Kind) → tag_kind_of o ≡ None → o ≡ Some r → IsLandingPadTag r k → ⊥
   no_tag o pointers.Null k e is t = let wrong : ◌≡◌ {A = Option Kind} (Some (kinds.Struct 0 0)) None = rw is at e in cc
   no_tag o (pointers.Struct offset d n) k e is t = let wrong : ◌≡◌ {A = Option Kind} (Some (kinds.Struct d n)) None = rw (is, t.0) at e in cc
   no_tag o (pointers.List offset size n) k e is t = let wrong : ◌≡◌ {A = Option Kind} (Some (kinds.List size n)) None = rw (is, t.0) at e in cc
@@ -82,7 +82,7 @@ module _ (S : List (List ℕ)) (s p : ℕ) (deep dear : Type 0) (reach : IsReach
     word_at q = pointer_of (slice_index (segment S other) q)
 
     abbrev NoPad : Type 0
-    NoPad = (start s' : ℕ) (r : Pointer) (k : Kind) → word_at place ≡ Some (pointers.Far false start s') → word_at (place + 1) ≡ Some r → IsPadTag r k → ⊥
+    NoPad = (start s' : ℕ) (r : Pointer) (k : Kind) → word_at place ≡ Some (pointers.Far false start s') → word_at (place + 1) ≡ Some r → IsLandingPadTag r k → ⊥
 
     bad : (e : TreeFault) → faults.BadPad at ≡ e → NoPad → Faulty e
     bad e is none = subst Faulty is (reach, inr (place, other, h, room, none))
@@ -128,12 +128,12 @@ module _ (S : List (List ℕ)) (s p : ℕ) (deep dear : Type 0) (reach : IsReach
       go (inr x) = subst Faulty x.1 (reach, inl (true, place, other, h, grind (arith, nat_tests, x.0)))
 
   -- what the way to a body says
-  pub aim_fails : (r : Pointer) (e : TreeFault) → Holds S s p r → target_by at S r ≡ Err e → (((x : ℕ) → r ≡ pointers.Cap x → ⊥) × (r ≡ pointers.Null → ⊥)) → Faulty e
-  aim_fails (pointers.Far double place other) e h f other_kind = far_fails double place other e h f
-  aim_fails pointers.Null e h f other_kind = absurd (other_kind.1 refl)
-  aim_fails (pointers.Cap i) e h f other_kind = absurd (other_kind.0 i refl)
-  aim_fails (pointers.Struct offset d n) e h f other_kind = cc
-  aim_fails (pointers.List offset size n) e h f other_kind = cc
+  pub target_fails : (r : Pointer) (e : TreeFault) → Holds S s p r → target_by at S r ≡ Err e → (((x : ℕ) → r ≡ pointers.Cap x → ⊥) × (r ≡ pointers.Null → ⊥)) → Faulty e
+  target_fails (pointers.Far double place other) e h f other_kind = far_fails double place other e h f
+  target_fails pointers.Null e h f other_kind = absurd (other_kind.1 refl)
+  target_fails (pointers.Cap i) e h f other_kind = absurd (other_kind.0 i refl)
+  target_fails (pointers.Struct offset d n) e h f other_kind = cc
+  target_fails (pointers.List offset size n) e h f other_kind = cc
 
   -- a pointer that leads nowhere begins before its segment
   abbrev Before : Type 0
@@ -152,12 +152,12 @@ module _ (S : List (List ℕ)) (s p : ℕ) (deep dear : Type 0) (reach : IsReach
       let first : start_of q offset ≡ None = ap (λ (a : Target). a.start) is ∙ none in
       (pointers.List offset size n, offset, kinds.List size n, h, (refl, refl), start_none q offset first)
 
-  pub aim_before : (r : Pointer) (target : Target) → Holds S s p r → target_by at S r ≡ Ok target → target.start ≡ None → Before
-  aim_before pointers.Null target h e none = cc
-  aim_before (pointers.Cap i) target h e none = cc
-  aim_before (pointers.Struct offset d n) target h e none = inl (here_before s p (pointers.Struct offset d n) target h (ap (λ x. Some x) (ok_is e)) none)
-  aim_before (pointers.List offset size n) target h e none = inl (here_before s p (pointers.List offset size n) target h (ap (λ x. Some x) (ok_is e)) none)
-  aim_before (pointers.Far false place other) target h e none =
+  pub target_before : (r : Pointer) (target : Target) → Holds S s p r → target_by at S r ≡ Ok target → target.start ≡ None → Before
+  target_before pointers.Null target h e none = cc
+  target_before (pointers.Cap i) target h e none = cc
+  target_before (pointers.Struct offset d n) target h e none = inl (here_before s p (pointers.Struct offset d n) target h (ap (λ x. Some x) (ok_is e)) none)
+  target_before (pointers.List offset size n) target h e none = inl (here_before s p (pointers.List offset size n) target h (ap (λ x. Some x) (ok_is e)) none)
+  target_before (pointers.Far false place other) target h e none =
       let k = passed (nat_lt other (length S)) _ _ target e in
       let j = passed (nat_lt place (length (segment S other))) _ _ target k.1 in
       go (grind (arith, nat_tests, j.0)) (pointer_of (slice_index (segment S other) place)) refl j.1
@@ -171,7 +171,7 @@ module _ (S : List (List ℕ)) (s p : ℕ) (deep dear : Type 0) (reach : IsReach
       go : place < length (segment S other) → (o : Option Pointer) → pointer_of (slice_index (segment S other) place) ≡ o → target_by_one at other place o ≡ Ok target → Before
       go within None says f = cc
       go within (Some r) says f = padded (target_here other place r) r within says refl f
-  aim_before (pointers.Far true place other) target h e none =
+  target_before (pointers.Far true place other) target h e none =
       let k = passed (nat_lt other (length S)) _ _ target e in
       let j = passed (nat_lt (place + 1) (length (segment S other))) _ _ target k.1 in
       two (pointer_of (slice_index (segment S other) place)) (tag_kind_of (pointer_of (slice_index (segment S other) (place + 1)))) refl j.1
@@ -198,41 +198,41 @@ module _ (S : List (List ℕ)) (s p : ℕ) (deep dear : Type 0) (reach : IsReach
   no_room e is room = subst Faulty is (reach, room)
 
   -- where a body begins, or the fault
-  placed_fails : (k : Kind) (s' size : ℕ) (o : Option ℕ) (e : TreeFault) → size ≡ kind_words k → (o ≡ None → Before) → ((start : ℕ) → o ≡ Some start → Aims S s p k s' start) → placed at (in_segment (segment S s') size o) ≡ Err e → Faulty e
-  placed_fails k s' size None e same before aims f = no_room e (err_is f) (inr (inr (inl (before refl))))
-  placed_fails k s' size (Some start) e same before aims f = go (nat_le (start + size) (length (segment S s'))) refl f
+  placed_fails : (k : Kind) (s' size : ℕ) (o : Option ℕ) (e : TreeFault) → size ≡ kind_words k → (o ≡ None → Before) → ((start : ℕ) → o ≡ Some start → HasTarget S s p k s' start) → placed at (in_segment (segment S s') size o) ≡ Err e → Faulty e
+  placed_fails k s' size None e same before has_target f = no_room e (err_is f) (inr (inr (inl (before refl))))
+  placed_fails k s' size (Some start) e same before has_target f = go (nat_le (start + size) (length (segment S s'))) refl f
     where
       go : (b : Bool) → nat_le (start + size) (length (segment S s')) ≡ b → placed at (cond b (Some start) None) ≡ Err e → Faulty e
       go true t f = cc
       go false t f =
           let past : length (segment S s') < start + size = grind (arith, nat_tests) in
-          no_room e (err_is f) (inr (inr (inr (inl (k, s', start, aims start refl, omega (arith, past, same))))))
+          no_room e (err_is f) (inr (inr (inr (inl (k, s', start, has_target start refl, omega (arith, past, same))))))
 
-  tagged_fails : (s' size tag : ℕ) (e : TreeFault) → Aims S s p (kinds.List sizes.Composite size) s' tag → (o : Option Tag) → tag_of (slice_index (segment S s') tag) ≡ o → tagged at s' size tag o ≡ Err e → Faulty e
-  tagged_fails s' size tag e aims None is f = subst Faulty (err_is f) (reach, (size, s', tag, aims, is))
-  tagged_fails s' size tag e aims (Some g) is f = go (nat_lt size (g.count * (g.words + g.ptrs))) refl f
+  tagged_fails : (s' size tag : ℕ) (e : TreeFault) → HasTarget S s p (kinds.List sizes.Composite size) s' tag → (o : Option Tag) → tag_of (slice_index (segment S s') tag) ≡ o → tagged at s' size tag o ≡ Err e → Faulty e
+  tagged_fails s' size tag e has_target None is f = subst Faulty (err_is f) (reach, (size, s', tag, has_target, is))
+  tagged_fails s' size tag e has_target (Some g) is f = go (nat_lt size (g.count * (g.words + g.ptrs))) refl f
     where
       go : (b : Bool) → nat_lt size (g.count * (g.words + g.ptrs)) ≡ b
           → ◌≡◌ {A = Result Area TreeFault} (cond b (Err (faults.OutOfBounds at)) (Ok (record { form = forms.Structs g.words g.ptrs g.count; segment = s'; start = tag + 1 }))) (Err e) → Faulty e
-      go true t f = no_room e (err_is f) (inr (inr (inr (inr (size, s', tag, g, aims, is, grind (arith, nat_tests))))))
+      go true t f = no_room e (err_is f) (inr (inr (inr (inr (size, s', tag, g, has_target, is, grind (arith, nat_tests))))))
       go false t f = cc
 
-  kind_fails : (s' : ℕ) (o : Option ℕ) (k : Kind) (e : TreeFault) → (o ≡ None → Before) → ((start : ℕ) → o ≡ Some start → Aims S s p k s' start) → area_by_kind at (segment S s') s' o k ≡ Err e → Faulty e
-  kind_fails s' o (kinds.Struct d n) e before aims f = go (bind_err (placed at (in_segment (segment S s') (d + n) o)) _ e f)
+  kind_fails : (s' : ℕ) (o : Option ℕ) (k : Kind) (e : TreeFault) → (o ≡ None → Before) → ((start : ℕ) → o ≡ Some start → HasTarget S s p k s' start) → area_by_kind at (segment S s') s' o k ≡ Err e → Faulty e
+  kind_fails s' o (kinds.Struct d n) e before has_target f = go (bind_err (placed at (in_segment (segment S s') (d + n) o)) _ e f)
     where
       go : (placed at (in_segment (segment S s') (d + n) o) ≡ Err e) ⊎ ((q : ℕ) × (placed at (in_segment (segment S s') (d + n) o) ≡ Ok q) × (◌≡◌ {A = Result Area TreeFault} (Ok (record { form = forms.Struct d n; segment = s'; start = q })) (Err e))) → Faulty e
-      go (inl g) = placed_fails (kinds.Struct d n) s' (d + n) o e refl before aims g
+      go (inl g) = placed_fails (kinds.Struct d n) s' (d + n) o e refl before has_target g
       go (inr g) = let wrong = g.2 in cc
-  kind_fails s' o (kinds.List sizes.Composite n) e before aims f = go (bind_err (placed at (in_segment (segment S s') (n + 1) o)) _ e f)
+  kind_fails s' o (kinds.List sizes.Composite n) e before has_target f = go (bind_err (placed at (in_segment (segment S s') (n + 1) o)) _ e f)
     where
       go : (placed at (in_segment (segment S s') (n + 1) o) ≡ Err e) ⊎ ((q : ℕ) × (placed at (in_segment (segment S s') (n + 1) o) ≡ Ok q) × (tagged at s' n q (tag_of (slice_index (segment S s') q)) ≡ Err e)) → Faulty e
-      go (inl g) = placed_fails (kinds.List sizes.Composite n) s' (n + 1) o e refl before aims g
-      go (inr g) = tagged_fails s' n g.0 e (aims g.0 (inside_is (segment S s') (n + 1) o g.0 (placed_is at _ g.0 g.1)).0) _ refl g.2
-  kind_fails s' o (kinds.List size n) e before aims f = go (bind_err (placed at (in_segment (segment S s') (words_for size n) o)) _ e f)
+      go (inl g) = placed_fails (kinds.List sizes.Composite n) s' (n + 1) o e refl before has_target g
+      go (inr g) = tagged_fails s' n g.0 e (has_target g.0 (inside_is (segment S s') (n + 1) o g.0 (placed_is at _ g.0 g.1)).0) _ refl g.2
+  kind_fails s' o (kinds.List size n) e before has_target f = go (bind_err (placed at (in_segment (segment S s') (words_for size n) o)) _ e f)
     where
       go : (placed at (in_segment (segment S s') (words_for size n) o) ≡ Err e) ⊎ ((q : ℕ) × (placed at (in_segment (segment S s') (words_for size n) o) ≡ Ok q) × (◌≡◌ {A = Result Area TreeFault} (Ok (record { form = forms.List size n; segment = s'; start = q })) (Err e))) → Faulty e
-      go (inl g) = placed_fails (kinds.List size n) s' (words_for size n) o e refl before aims g
+      go (inl g) = placed_fails (kinds.List size n) s' (words_for size n) o e refl before has_target g
       go (inr g) = let wrong = g.2 in cc
 
   pub area_fails : (r : Pointer) (target : Target) (e : TreeFault) → Holds S s p r → target_by at S r ≡ Ok target → area_by at S target ≡ Err e → Faulty e
-  area_fails r target e h aims f = kind_fails target.segment target.start target.kind e (aim_before r target h aims) (aim_sound S s p r target h aims) f
+  area_fails r target e h has_target f = kind_fails target.segment target.start target.kind e (target_before r target h has_target) (target_sound S s p r target h has_target) f

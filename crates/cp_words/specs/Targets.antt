@@ -27,15 +27,15 @@ IsBodyPointer (pointers.Far double place other) o k = ⊥
 IsBodyPointer (pointers.Cap i) o k = ⊥
 
 -- The second word of a landing pad: a struct or list pointer with offset zero. All zero bits are the struct of size zero.
-abbrev pub IsPadTag : Pointer → Kind → Type 0
-IsPadTag pointers.Null k = kinds.Struct 0 0 ≡ k
-IsPadTag (pointers.Struct offset d n) k = (offset ≡ pos 0) × (kinds.Struct d n ≡ k)
-IsPadTag (pointers.List offset size n) k = (offset ≡ pos 0) × (kinds.List size n ≡ k)
-IsPadTag (pointers.Far double place other) k = ⊥
-IsPadTag (pointers.Cap i) k = ⊥
+abbrev pub IsLandingPadTag : Pointer → Kind → Type 0
+IsLandingPadTag pointers.Null k = kinds.Struct 0 0 ≡ k
+IsLandingPadTag (pointers.Struct offset d n) k = (offset ≡ pos 0) × (kinds.Struct d n ≡ k)
+IsLandingPadTag (pointers.List offset size n) k = (offset ≡ pos 0) × (kinds.List size n ≡ k)
+IsLandingPadTag (pointers.Far double place other) k = ⊥
+IsLandingPadTag (pointers.Cap i) k = ⊥
 
 -- directly: the word's own body, in its segment
-pub record AimsHere (S : List (List ℕ)) (s p : ℕ) (k : Kind) (start : ℕ) : Type 0 where
+pub record HasTargetHere (S : List (List ℕ)) (s p : ℕ) (k : Kind) (start : ℕ) : Type 0 where
   pub pointer : Pointer
   pub offset : ℤ
   pub stands : Holds S s p pointer
@@ -43,13 +43,13 @@ pub record AimsHere (S : List (List ℕ)) (s p : ℕ) (k : Kind) (start : ℕ) :
   pub begins : pos start ≡ pos (p + 1) +ℤ offset
 
 -- by a landing pad of one word, which stands for the pointer
-pub record AimsByPad (S : List (List ℕ)) (s p : ℕ) (k : Kind) (s' start : ℕ) : Type 0 where
+pub record HasTargetByLandingPad (S : List (List ℕ)) (s p : ℕ) (k : Kind) (s' start : ℕ) : Type 0 where
   pub place : ℕ
   pub stands : Holds S s p (pointers.Far false place s')
-  pub pad : AimsHere S s' place k start
+  pub landing_pad : HasTargetHere S s' place k start
 
 -- by a landing pad of two words: where the body begins, and what it is
-pub record AimsByTwo (S : List (List ℕ)) (s p : ℕ) (k : Kind) (s' start : ℕ) : Type 0 where
+pub record HasTargetByTwoWords (S : List (List ℕ)) (s p : ℕ) (k : Kind) (s' start : ℕ) : Type 0 where
   pub place : ℕ
   pub other : ℕ
   pub pointer : Pointer
@@ -57,13 +57,13 @@ pub record AimsByTwo (S : List (List ℕ)) (s p : ℕ) (k : Kind) (s' start : �
   pub first : Holds S other place (pointers.Far false start s')
   pub exists : s' < length S
   pub second : Holds S other (place + 1) pointer
-  pub says : IsPadTag pointer k
+  pub says : IsLandingPadTag pointer k
 
 -- the word leads to a body of this kind, which begins at a word of segment s'
-abbrev pub Aims : List (List ℕ) → ℕ → ℕ → Kind → ℕ → ℕ → Type 0
-Aims S s p k s' start = (AimsHere S s p k start × (s' ≡ s)) ⊎ (AimsByPad S s p k s' start ⊎ AimsByTwo S s p k s' start)
+abbrev pub HasTarget : List (List ℕ) → ℕ → ℕ → Kind → ℕ → ℕ → Type 0
+HasTarget S s p k s' start = (HasTargetHere S s p k start × (s' ≡ s)) ⊎ (HasTargetByLandingPad S s p k s' start ⊎ HasTargetByTwoWords S s p k s' start)
 
 -- the word leads to a body of this many words, which lies wholly inside its segment
 pub record HasBody (S : List (List ℕ)) (s p : ℕ) (k : Kind) (size s' start : ℕ) : Type 0 where
-  pub aims : Aims S s p k s' start
+  pub has_target : HasTarget S s p k s' start
   pub inside : start + size ≤ length (segment S s')

@@ -4,7 +4,7 @@ use Rattle.cp_frame.specs.declared.status.Status.TheVariants.{Reading}
 use Rattle.cp_frame.proofs.Needed.{less_kept, small_least}
 use Rattle.cp_frame.proofs.Readers.{part_short}
 use Rattle.cp_frame.proofs.Taken.{takes_run}
-use Rattle.cp_frame.proofs.rest.Rest.take_run.Goals as goal
+use Rattle.cp_frame.proofs.rest.Rest.push_byte.Goals as goal
 
 pub overflow_add-self : goal.overflow_add-self
 overflow_add-self c =

@@ -27,13 +27,13 @@ use Rattle.cp_machine.specs.declared.fault.PeerFault.{PeerFault}
 use Rattle.cp_machine.specs.declared.fault.PeerFault.TheVariants as faults
 
 -- A table holds 65,536 entries at most; so do questions, answers, exports, imports, embargoes, promises and marked paths.
-abbrev pub has_room : {X : Type 0} → Table X → Bool
-has_room table = ltb (len table) 65536
+abbrev pub has_capacity : {X : Type 0} → Table X → Bool
+has_capacity table = ltb (len table) 65536
 
 -- any number that is free, where the table isn't full
 pub data Fresh {X : Type 0} (table : Table X) : Result ℕ PeerFault → Type 0 where
-  free : (n : ℕ) → get table n ≡ None → n < 2 ^ 32 → has_room table ≡ true → Fresh table (Ok n)
-  full : has_room table ≡ false → Fresh table (Err faults.TableFull)
+  free : (n : ℕ) → get table n ≡ None → n < 2 ^ 32 → has_capacity table ≡ true → Fresh table (Ok n)
+  full : has_capacity table ≡ false → Fresh table (Err faults.TableFull)
 
 -- there is a ticket for one more call
 abbrev pub has_ticket : State → Bool
