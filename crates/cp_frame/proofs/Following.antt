@@ -1,5 +1,5 @@
 -- A frame of a piece, and what follows it.
-use Rattle.std.proofs.Common.{IfNone, Option, Some, None, ◌≡◌, ◌⊎◌, inl, inr, ℕ, ◌^◌, ◌<◌, ◌≤◌, List, [], ◌∷◌, ◌++◌, length, drop, get_or, refl, sym, ◌∙◌, ap, subst, append_assoc, length-append, arith}
+use Rattle.std.proofs.Common.{◌≡◌, ◌⊎◌, inl, inr, ℕ, ◌^◌, ◌<◌, ◌≤◌, List, [], ◌∷◌, ◌++◌, length, drop, get_or, refl, sym, ◌∙◌, ap, subst, append_assoc, length-append, arith}
 use Rattle.std.specs.Int.{to_le_bytes, w64}
 use Rattle.std.proofs.lemmas.List.{append-nil, nil_from_length}
 use Rattle.std.proofs.lemmas.Grind.{flat_map-append}
@@ -10,11 +10,13 @@ use Rattle.cp_frame.specs.declared.mode.Mode.{Mode}
 use Rattle.cp_frame.specs.declared.mode.Mode.TheVariants as modes
 use Rattle.cp_frame.specs.declared.frame.OpenFrame.{OpenFrame}
 use Rattle.cp_frame.specs.declared.rest.Rest.{Rest}
+use Rattle.cp_frame.specs.declared.stream.OpenStream.{OpenStream}
 use Rattle.cp_packed.specs.Words.{AreBytes, AreWords, bytes_of}
 use Rattle.cp_frame.specs.Frame.{Frame}
 use Rattle.cp_frame.specs.Parts.{IsOpen, IsComplete, IsEmpty, IsFaultOf, rest_of}
 use Rattle.cp_words.specs.Segments.{words_of}
 use Rattle.cp_frame.specs.Stream.{Frames, HasFault, NamesFault, numbers}
+use Rattle.cp_frame.specs.Kept.{IsSameStream}
 use Rattle.cp_frame.specs.Rest.{bytes_for, IsRest, IsSound, InPacked, KeptFor, Reads, Refuses}
 use Rattle.cp_frame.specs.Bulk.{TakesBytes, TakesFront, GivesWhole}
 use Rattle.cp_frame.specs.Single.{IsStillOpen, TakesWhole}
@@ -179,6 +181,10 @@ pub fault_plain : (limits : Bounds) (r : Rest) (piece : List ℕ) (fault : Frame
 fault_plain limits r piece fault (inl e) = inl e
 fault_plain limits r piece fault (inr h) = inr (λ b m. subst (λ (c : List ℕ). HasFault modes.Plain limits (c ++ piece) fault) m.0 h)
 
+-- what holds by the form and the limits of a stream holds by those that it had
+pub by_same : (P : Mode → Bounds → Type 0) (old new : OpenStream) → IsSameStream old new → P new.mode new.limits → P old.mode old.limits
+by_same P old new same h = subst (λ (mode : Mode). P mode old.limits) same.0 (subst (λ (limits : Bounds). P new.mode limits) same.1 h)
+
 -- nothing was read
 pub read_none : (mode : Mode) (limits : Bounds) (r : Rest) (piece : List ℕ) → IsRest mode limits r → HasRead mode limits r piece [] r piece
 read_none mode limits r piece h = record {
@@ -220,8 +226,3 @@ read_fault mode limits old r piece left frames fault h (inl e) = inl e
 read_fault mode limits old r piece left frames fault h (inr k) = inr (λ b m.
     (let one = h.reads b m in
     (one.0 ++ left, subst (λ (c : List ℕ). Frames mode limits (b ++ c) frames (one.0 ++ left)) (sym h.whole) (frames_more mode limits b h.fed left frames one.0 one.1), k one.0 one.2)))
-
--- what follows from what a clause says where nothing is given
-pub none_then : {X : Type 0} (o : Option X) (P Q : Type 0) → (P → Q) → IfNone o P → IfNone o Q
-none_then None P Q f h = f h
-none_then (Some x) P Q f h = tt

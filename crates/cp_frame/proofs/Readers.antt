@@ -1,5 +1,5 @@
 -- What a reader did with a piece, and what it stands for.
-use Rattle.std.proofs.Common.{◌≡◌, ◌⊎◌, inl, inr, Result, Ok, Err, OnOk, ℕ, zero, suc, ◌+◌, ◌^◌, ◌<◌, ◌≤◌, List, [], ◌∷◌, ◌++◌, length, sum, take, get_or, refl, sym, ◌∙◌, ap, subst, length-append, arith}
+use Rattle.std.proofs.Common.{◌≡◌, ◌⊎◌, inl, inr, ℕ, zero, suc, ◌+◌, ◌^◌, ◌<◌, ◌≤◌, List, [], ◌∷◌, ◌++◌, length, sum, take, get_or, refl, sym, ◌∙◌, ap, subst, length-append, arith}
 use Rattle.cp_words.specs.Limits.{Bounds}
 use Rattle.cp_frame.specs.declared.fault.FrameFault.{FrameFault}
 use Rattle.cp_frame.specs.declared.fault.FrameFault.TheVariants as faults
@@ -13,9 +13,9 @@ use Rattle.cp_frame.specs.Framed.{sizes_of}
 use Rattle.cp_frame.specs.Stream.{Frames, HasFault, Laid, Open, numbers, named_sizes}
 use Rattle.cp_frame.specs.Parts.{rest_of, IsOpen, IsEmpty, InTable, InSegments, kept_words, halves}
 use Rattle.cp_words.specs.Segments.{words_of}
-use Rattle.cp_frame.specs.Reader.{Gives, Reports, KeepsLittle}
+use Rattle.cp_frame.specs.Reader.{Reader, Reports, KeepsLittle, failed}
 use Rattle.cp_packed.specs.Unpacking.{Pending, IsPending, laid, pending_of}
-use Rattle.cp_frame.specs.Rest.{InPacked, IsRest, IsBlank, KeptFor, Reads, Refuses, bytes_for, words_in_order}
+use Rattle.cp_frame.specs.Rest.{InPacked, IsRest, IsBlank, KeptFor, Refuses, bytes_for, words_in_order}
 use Rattle.cp_frame.specs.Kept.{seen, KeepsUp}
 use Rattle.cp_frame.proofs.Numbers.{numbers_more}
 use Rattle.cp_frame.proofs.Streams.{sum_more}
@@ -27,45 +27,15 @@ use Rattle.cp_frame.proofs.Alike.{alike_back, alike_laid}
 use Rattle.cp_frame.proofs.Texts.{bytes_words, text_are, brings_kept, laid_words}
 use Rattle.cp_frame.proofs.Taken.{short_header, keeps_blank}
 
--- a plain piece
-pub plain_reads : (limits : Bounds) (r s : Rest) (piece : List ℕ) (given : List (ℕ × List (List ℕ))) → IsOpen limits s.frame → Frames modes.Plain limits (rest_of r.frame ++ piece) given (rest_of s.frame)
-    → Reads modes.Plain limits r piece given s
-plain_reads limits r s piece given h k = λ b m. (rest_of s.frame, subst (λ (x : List ℕ). Frames modes.Plain limits (x ++ piece) given (rest_of s.frame)) m.0 k, (refl, refl, open_rest limits s.frame h))
+-- a fault is reported
+pub reports_memory : (mode : Mode) (limits : Bounds) (status : Status) (r : Rest) (new : Reader) (piece : List ℕ) (fault : FrameFault) → status ≡ statuses.Reading → new.state ≡ failed → fault ≡ faults.OutOfMemory
+    → Reports (seen mode limits status r) piece new fault
+reports_memory mode limits status r new piece fault e f h = subst (λ (s : Status). Reports (seen mode limits s r) piece new fault) (sym e) (record { reported = inl h; failed = f })
 
-pub plain_refuses : (limits : Bounds) (r : Rest) (piece : List ℕ) (given : List (ℕ × List (List ℕ))) (fault : FrameFault)
-    → (fault ≡ faults.OutOfMemory) ⊎ ((rest : List ℕ) × Frames modes.Plain limits (rest_of r.frame ++ piece) given rest × HasFault modes.Plain limits rest fault)
-    → (fault ≡ faults.OutOfMemory) ⊎ Refuses modes.Plain limits r piece given fault
-plain_refuses limits r piece given fault (inl h) = inl h
-plain_refuses limits r piece given fault (inr h) = inr (λ b m. (h.0, subst (λ (x : List ℕ). Frames modes.Plain limits (x ++ piece) given h.0) m.0 h.1, h.2))
-
-pub plain_ok : {E : Type 0} (limits : Bounds) (r s : Rest) (piece : List ℕ) (given : List (ℕ × List (List ℕ))) (result : Result (Unit {0}) E) → OnOk result (IsOpen limits s.frame)
-    → OnOk result (Frames modes.Plain limits (rest_of r.frame ++ piece) given (rest_of s.frame)) → OnOk result (Reads modes.Plain limits r piece given s)
-plain_ok limits r s piece given (Ok u) h k = plain_reads limits r s piece given h k
-plain_ok limits r s piece given (Err e) h k = tt
-
--- a piece of either form
-pub gives_open : (mode : Mode) (limits : Bounds) (status : Status) (r s : Rest) (piece : List ℕ) (given : List (ℕ × List (List ℕ))) → status ≡ statuses.Reading → Reads mode limits r piece given s
-    → Gives (seen mode limits status r) piece (seen mode limits status s) given
-gives_open mode limits status r s piece given e h =
-    subst (λ (s' : Status). Gives (seen mode limits s' r) piece (seen mode limits s' s) given) (sym e) (record { was_reading = tt; same_mode = refl; same_limits = refl; frames = h; kept = λ m. absurd m })
-
-pub gives_kept : (mode : Mode) (limits : Bounds) (status : Status) (r s : Rest) (piece : List ℕ) (given : List (ℕ × List (List ℕ))) (fault : FrameFault) → status ≡ statuses.Reading
-    → (given ≡ [] → ⊥) → (fault ≡ faults.OutOfMemory → ⊥) → (fault ≡ faults.OutOfMemory) ⊎ Refuses mode limits r piece given fault → Gives (seen mode limits status r) piece (seen mode limits (statuses.Refusing fault) s) given
-gives_kept mode limits status r s piece given fault e n m (inl h) = absurd (m h)
-gives_kept mode limits status r s piece given fault e n m (inr h) =
-    subst (λ (s' : Status). Gives (seen mode limits s' r) piece (seen mode limits (statuses.Refusing fault) s) given) (sym e)
-    (record { was_reading = tt; same_mode = refl; same_limits = refl; frames = h; kept = λ k. n })
-
-pub reports_memory : (mode : Mode) (limits : Bounds) (status : Status) (r s : Rest) (piece : List ℕ) (fault : FrameFault) → status ≡ statuses.Reading → fault ≡ faults.OutOfMemory
-    → Reports (seen mode limits status r) piece (seen mode limits statuses.Failed s) fault
-reports_memory mode limits status r s piece fault e h =
-    subst (λ (s' : Status). Reports (seen mode limits s' r) piece (seen mode limits statuses.Failed s) fault) (sym e) (record { reported = inl h; failed = refl })
-
-pub reports_fault : (mode : Mode) (limits : Bounds) (status : Status) (r s : Rest) (piece : List ℕ) (given : List (ℕ × List (List ℕ))) (fault : FrameFault) → status ≡ statuses.Reading → given ≡ []
-    → (fault ≡ faults.OutOfMemory) ⊎ Refuses mode limits r piece given fault → Reports (seen mode limits status r) piece (seen mode limits statuses.Failed s) fault
-reports_fault mode limits status r s piece given fault e n (inl h) = reports_memory mode limits status r s piece fault e h
-reports_fault mode limits status r s piece given fault e n (inr h) =
-    subst (λ (s' : Status). Reports (seen mode limits s' r) piece (seen mode limits statuses.Failed s) fault) (sym e) (record { reported = inr reported; failed = refl })
+pub reports_fault : (mode : Mode) (limits : Bounds) (status : Status) (r : Rest) (new : Reader) (piece : List ℕ) (given : List (ℕ × List (List ℕ))) (fault : FrameFault) → status ≡ statuses.Reading → new.state ≡ failed → given ≡ []
+    → (fault ≡ faults.OutOfMemory) ⊎ Refuses mode limits r piece given fault → Reports (seen mode limits status r) piece new fault
+reports_fault mode limits status r new piece given fault e f n (inl h) = reports_memory mode limits status r new piece fault e f h
+reports_fault mode limits status r new piece given fault e f n (inr h) = subst (λ (s : Status). Reports (seen mode limits s r) piece new fault) (sym e) (record { reported = inr reported; failed = f })
   where
     reported : (b : List ℕ) → KeptFor mode limits r b → HasFault mode limits (b ++ piece) fault
     reported b m =

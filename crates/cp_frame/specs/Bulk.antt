@@ -8,7 +8,7 @@ use Rattle.cp_frame.specs.Parts.{InSegments, IsComplete, rest_of}
 use Rattle.cp_words.specs.Segments.{words_of}
 use Rattle.cp_packed.specs.Unpacking.{Pending, nothing, after, given, pending_of}
 use Rattle.cp_frame.specs.Rest.{IsBlank}
-use Rattle.cp_packed.specs.Groups.{running, TakesGroups}
+use Rattle.cp_packed.specs.Groups.{running}
 
 -- Whatever is open of a group: a front of the bytes was taken, with the words that it brings, and there are no more than there may be.
 pub record TakesWithin (limit : ℕ) (old : List ℕ) (p : Pending) (left new : List ℕ) (q : Pending) (back : List ℕ) : Type 0 where

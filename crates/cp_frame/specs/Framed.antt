@@ -2,7 +2,7 @@
 use Rattle.std.specs.Prelude.{◌≡◌, ℕ, ◌-◌, ◌%◌, ◌^◌, ◌<◌, ◌≤◌, List, ◌∷◌, ◌++◌, length, map}
 use Rattle.std.specs.List.{AllByRecursion, flat_map}
 use Rattle.std.specs.Int.{to_le_bytes, w32}
-use Rattle.cp_packed.specs.Words.{AreWords, AreBytes, bytes_of}
+use Rattle.cp_packed.specs.Words.{AreWords, bytes_of}
 
 -- numbers of 32 bits as bytes, the lowest byte of each first
 abbrev pub spelled : List ℕ → List ℕ

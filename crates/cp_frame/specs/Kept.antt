@@ -7,6 +7,7 @@ use Rattle.cp_frame.specs.declared.mode.Mode.{Mode}
 use Rattle.cp_frame.specs.declared.status.Status.{Status}
 use Rattle.cp_frame.specs.declared.status.Status.TheVariants as statuses
 use Rattle.cp_frame.specs.declared.rest.Rest.{Rest}
+use Rattle.cp_frame.specs.declared.stream.OpenStream.{OpenStream}
 use Rattle.cp_frame.specs.Parts.{kept_words}
 use Rattle.cp_frame.specs.Rest.{bytes_for, count_for, IsRest, IsBlank}
 use Rattle.cp_frame.specs.Reader.{Reader, State, failed, refusing, reading}
@@ -37,3 +38,7 @@ abbrev pub IsReportedBy : Status → FrameFault → Type 0
 IsReportedBy statuses.Failed fault = fault ≡ faults.Failed
 IsReportedBy (statuses.Refusing kept) fault = fault ≡ kept
 IsReportedBy statuses.Reading fault = ⊥
+
+-- the form and the limits of a stream stay
+abbrev pub IsSameStream : OpenStream → OpenStream → Type 0
+IsSameStream old new = (new.mode ≡ old.mode) × (new.limits ≡ old.limits)

@@ -21,6 +21,10 @@ use Rattle.cp_packed.specs.Unpacking.{IsPending, nothing, next, brought, laid, p
 abbrev pub words_in_order : OpenFrame → List ℕ
 words_in_order f = f.table.items ++ (flat_map (λ ws. ws) (words_of f.segments.items) ++ f.words.items)
 
+-- a rest with another frame
+abbrev pub with_frame : Rest → OpenFrame → Rest
+with_frame r frame = record { frame = frame; group = r.group; taken = r.taken }
+
 -- packed bytes for words, of which the last begins a raw run of this many more
 abbrev pub heads : List ℕ → ℕ → List ℕ
 heads [] run = []

@@ -173,7 +173,7 @@ impl OpenFrame {
 
     /// Takes words of a raw run, of which this many are to come, and groups of the packed form, up to the
     /// end of the open segment.
-    pub fn take_groups<'a>(
+    pub fn take_segment_groups<'a>(
         &mut self,
         alloc: Global,
         limits: Limits,

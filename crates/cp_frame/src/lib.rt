@@ -14,6 +14,7 @@ mod send;
 mod single;
 mod spare;
 mod status;
+mod stream;
 mod table;
 mod unpacking;
 mod write;

@@ -108,7 +108,7 @@ impl Rest {
 
     /// Takes what of these bytes are words of a raw run and whole groups, where the segment table has
     /// come, up to the end of the open segment.
-    pub fn take_groups<'a>(
+    pub fn take_segment_groups<'a>(
         &mut self,
         alloc: Global,
         limits: Limits,
@@ -123,7 +123,7 @@ impl Rest {
         }
         let back = self
             .frame
-            .take_groups(alloc, limits, &mut self.group.run, left)?;
+            .take_segment_groups(alloc, limits, &mut self.group.run, left)?;
         self.taken += (left.len() - back.len()) as u64;
         Ok(back)
     }

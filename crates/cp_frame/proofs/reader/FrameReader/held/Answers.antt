@@ -6,4 +6,4 @@ use Rattle.cp_frame.proofs.reader.FrameReader.held.Goals as goal
 pub returns-clause-little : goal.returns-clause-little
 returns-clause-little c =
     let r = c.self.inside in
-    subst (λ (v : Reader). KeepsLittle v) c.self.view_is (keeps_little r.mode r.limits r.status r.rest c.self.invariant)
+    subst (λ (v : Reader). KeepsLittle v) c.self.view_is (keeps_little r.stream.mode r.stream.limits r.status r.stream.rest c.self.invariant)

@@ -4,8 +4,8 @@ use Rattle.cp_words.specs.Segments.{words_of}
 use Rattle.cp_frame.specs.Stream.{named_sizes}
 use Rattle.cp_packed.specs.Groups.{TakesGroups}
 use Rattle.cp_frame.proofs.Parted.{part_open, part_full}
-use Rattle.cp_frame.proofs.frame.OpenFrame.take_groups.Goals as goal
-use Rattle.cp_frame.proofs.frame.OpenFrame.take_groups.Goals.{then-len-most+in_ok-close, else-len-most}
+use Rattle.cp_frame.proofs.frame.OpenFrame.take_segment_groups.Goals as goal
+use Rattle.cp_frame.proofs.frame.OpenFrame.take_segment_groups.Goals.{then-len-most+in_ok-close, else-len-most}
 
 pub returns : goal.returns
 returns c =
