@@ -8,11 +8,12 @@ use Rattle.cp_words.specs.declared.place.Place.{Place}
 use Rattle.cp_tree.specs.declared.fault.WriteFault.{WriteFault}
 use Rattle.cp_tree.specs.declared.fault.WriteFault.TheVariants as faults
 use Rattle.cp_writing.specs.declared.sheet.Capacity.{Capacity}
+use Rattle.cp_writing.specs.declared.sheet.Sheet.{Sheet}
 use Rattle.cp_tree.specs.Node.{Node, struct, ptrs, structs, Nodes, no_nodes, node, Bodies, no_bodies, body, count, number_of}
 use Rattle.cp_tree.specs.Shaped.{Shaped, EachEven}
-use Rattle.cp_writing.specs.Sheets.{Written, Placed, put, append, IsPlace, IsRun, KeepsTo, Refuses}
-use Rattle.cp_writing.specs.Writing.{body_blank, bodies_blank, tag_word, struct_placed, ptrs_placed, structs_placed, struct_begun, ptrs_begun, structs_begun, Begins, BeginsBodies, tree_by, row_by, bodies_by}
-use Rattle.cp_writing.proofs.Sheets.{put-keeps, full-put, end-put}
+use Rattle.cp_writing.specs.Sheets.{Written, written, Placed, put, append, IsPlace, IsRun, IsWithin, SameLimits, Appends, Refuses}
+use Rattle.cp_writing.specs.Writing.{body_blank, bodies_blank, tag_word, struct_placed, ptrs_placed, structs_placed, struct_begun, ptrs_begun, structs_begun, Begins, BeginsBodies, tree_by, row_by, bodies_by, tree_on, row_on, bodies_on}
+use Rattle.cp_writing.proofs.Sheets.{put-keeps, full-put, end-put, within, limits_on}
 use Rattle.cp_writing.proofs.Keeps.{Spot, spot, Lies, lies, length-blank, length-bodies, keeps_row, keeps_bodies}
 
 pub append_twice : (F : Written) (a b : List ℕ) → append b (append a F) ≡ append (a ++ b) F
@@ -47,11 +48,11 @@ module _ (here rest : Bodies) (ws us : List ℕ) (ts : Nodes) (n : ℕ) (cur all
       omega (arith, words)
 
 -- what hangs on a row of trees, or of elements, from a place on is written from there on
-pub row_at : (capacity : Capacity) (ts : Nodes) (first : Place) (A : Written) (x : Placed) → first ≡ x.at → A ≡ x.sheet → row_by capacity first.segment first.word ts A ≡ row_by capacity x.at.segment x.at.word ts x.sheet
-row_at capacity ts first A x at is = rw (at, is) refl
+row_at : (capacity : Capacity) (ts : Nodes) (first : Place) (new : Sheet) (x : Placed) → new.capacity ≡ capacity → first ≡ x.at → written new ≡ x.sheet → row_on new first ts ≡ row_by capacity x.at.segment x.at.word ts x.sheet
+row_at capacity ts first new x same at is = ap (λ c. row_by c first.segment first.word ts (written new)) same ∙ ap (row_by capacity first.segment first.word ts) is ∙ ap (λ (q : Place). row_by capacity q.segment q.word ts x.sheet) at
 
-pub bodies_at : (capacity : Capacity) (d n : ℕ) (bs : Bodies) (first : Place) (A : Written) (x : Placed) → first ≡ x.at → A ≡ x.sheet → bodies_by capacity first.segment first.word d n bs A ≡ bodies_by capacity x.at.segment x.at.word d n bs x.sheet
-bodies_at capacity d n bs first A x at is = rw (at, is) refl
+bodies_at : (capacity : Capacity) (d n : ℕ) (bs : Bodies) (first : Place) (new : Sheet) (x : Placed) → new.capacity ≡ capacity → first ≡ x.at → written new ≡ x.sheet → bodies_on new first d n bs ≡ bodies_by capacity x.at.segment x.at.word d n bs x.sheet
+bodies_at capacity d n bs first new x same at is = ap (λ c. bodies_by c first.segment first.word d n bs (written new)) same ∙ ap (bodies_by capacity first.segment first.word d n bs) is ∙ ap (λ (q : Place). bodies_by capacity q.segment q.word d n bs x.sheet) at
 
 -- a struct of size zero, and any other
 empty_struct : (capacity : Capacity) (s p : ℕ) (ws : List ℕ) (ts : Nodes) (F : Written) → length ws + count ts ≡ 0 → tree_by capacity s p (struct ws ts) F ≡ put s p 4294967292 F
@@ -69,25 +70,28 @@ pub nothing_hangs_on : (capacity : Capacity) (s q d n : ℕ) (bs : Bodies) (F : 
 nothing_hangs_on capacity s q d n no_bodies F none e = refl
 nothing_hangs_on capacity s q d n (body ws ts bs) F none e = ap (bodies_by capacity s (q + d + n) d n bs) (nothing_hangs capacity s (q + d) ts F (e.1 ∙ none)) ∙ nothing_hangs_on capacity s (q + d + n) d n bs F none e.4
 
-pub empty_begins : (capacity : Capacity) (at : Place) (ws : List ℕ) (n : ℕ) (F new : Written) → length ws + n ≡ 0 → IsPlace F at → KeepsTo capacity F → new ≡ put at.segment at.word 4294967292 F → Begins capacity at n (struct ws) (Ok at) F new
-empty_begins capacity at ws n F new none there keeps is =
-    let G = put at.segment at.word 4294967292 F in
-    let run : IsRun G at n = (omega (arith, there.0, full-put F at.segment at.word 4294967292), omega (arith, there.1, none, end-put F at.segment at.word 4294967292 at.segment there.0)) in
-    subst (λ W. Begins capacity at n (struct ws) (Ok at) F W) (sym is) (
-      put-keeps capacity F at.segment at.word 4294967292 there.0 keeps,
-      run,
-      λ ts e. empty_struct capacity at.segment at.word ws ts F (omega (arith, none, e)) ∙ sym (nothing_hangs capacity at.segment at.word ts G (omega (arith, none, e))),
+pub empty_begins : (A B : Sheet) (at : Place) (ws : List ℕ) (n : ℕ) → length ws + n ≡ 0 → IsPlace (written A) at → IsWithin A → written B ≡ put at.segment at.word 4294967292 (written A) → SameLimits A B → Begins A B (Ok at) at n (struct ws)
+empty_begins A B at ws n none there keeps is same =
+    let F = written A in
+    let s = at.segment in
+    let p = at.word in
+    let G = put s p 4294967292 F in
+    let run : IsRun G at n = (omega (arith, there.0, full-put F s p 4294967292), omega (arith, there.1, none, end-put F s p 4294967292 s there.0)) in (
+      within A B G is same (put-keeps A.capacity F s p 4294967292 there.0 keeps),
+      subst (λ W. IsRun W at n) (sym is) run,
+      same,
+      λ ts e. empty_struct A.capacity s p ws ts F (omega (arith, none, e)) ∙ sym is ∙ sym (nothing_hangs B.capacity s p ts (written B) (omega (arith, none, e))),
     )
 
 module _ (capacity : Capacity) (s p : ℕ) (ws : List ℕ) (n : ℕ) (F : Written) (some : 0 < length ws + n) where
   abbrev begun_struct : ℕ → Placed
   begun_struct k = struct_begun capacity s p ws k F
 
-  pub struct_hangs : (first : Place) (new : Written) → first ≡ (begun_struct n).at → new ≡ (begun_struct n).sheet → (ts : Nodes) → count ts ≡ n → tree_by capacity s p (struct ws ts) F ≡ row_by capacity first.segment first.word ts new
-  struct_hangs first new at is ts e =
-      some_struct capacity s p ws ts F (omega (arith, some, e))
-      ∙ ap (λ k. row_by capacity (begun_struct k).at.segment (begun_struct k).at.word ts (begun_struct k).sheet) e
-      ∙ sym (row_at capacity ts first new (begun_struct n) at is)
+  struct_is : (ts : Nodes) → count ts ≡ n → tree_by capacity s p (struct ws ts) F ≡ row_by capacity (begun_struct n).at.segment (begun_struct n).at.word ts (begun_struct n).sheet
+  struct_is ts e = some_struct capacity s p ws ts F (omega (arith, some, e)) ∙ ap (λ k. row_by capacity (begun_struct k).at.segment (begun_struct k).at.word ts (begun_struct k).sheet) e
+
+  pub struct_hangs : (first : Place) (new : Sheet) → new.capacity ≡ capacity → first ≡ (begun_struct n).at → written new ≡ (begun_struct n).sheet → (ts : Nodes) → count ts ≡ n → tree_by capacity s p (struct ws ts) F ≡ row_on new first ts
+  struct_hangs first new same at is ts e = struct_is ts e ∙ sym (row_at capacity ts first new (begun_struct n) same at is)
 
   -- what hangs on a body has no fewer words than the body
   pub struct_refuses : (e : WriteFault) (A : Written) → s ≤ length F.full → Refuses capacity e A → A.words ≤ (begun_struct n).sheet.words → (ts : Nodes) → count ts ≡ n → Shaped (struct ws ts) → Refuses capacity e (tree_by capacity s p (struct ws ts) F)
@@ -95,15 +99,17 @@ module _ (capacity : Capacity) (s p : ℕ) (ws : List ℕ) (n : ℕ) (F : Writte
       let x = struct_placed capacity s p ws n F in
       let l = lies F s p (length ws + n) (body_blank ws n) x (spot capacity s p (kinds.Struct (length ws) n) (length ws + n) F le) (length-blank ws n) in
       let k = keeps_row capacity ts x.at.segment (x.at.word + length ws) (begun_struct n).sheet shaped.2 l.there (omega (arith, l.inside, length-blank ws n, many)) in
-      writes_err capacity e A _ (omega (arith, fewer, k.counts, ap (λ (W : Written). W.words) (struct_hangs (begun_struct n).at (begun_struct n).sheet refl refl ts many))) h
+      writes_err capacity e A _ (omega (arith, fewer, k.counts, ap (λ (W : Written). W.words) (struct_is ts many))) h
 
 module _ (capacity : Capacity) (s p n : ℕ) (F : Written) where
   abbrev begun_ptrs : ℕ → Placed
   begun_ptrs k = ptrs_begun capacity s p k F
 
-  pub ptrs_hang : (first : Place) (new : Written) → first ≡ (begun_ptrs n).at → new ≡ (begun_ptrs n).sheet → (ts : Nodes) → count ts ≡ n → tree_by capacity s p (ptrs ts) F ≡ row_by capacity first.segment first.word ts new
-  ptrs_hang first new at is ts e =
-      ap (λ k. row_by capacity (begun_ptrs k).at.segment (begun_ptrs k).at.word ts (begun_ptrs k).sheet) e ∙ sym (row_at capacity ts first new (begun_ptrs n) at is)
+  ptrs_are : (ts : Nodes) → count ts ≡ n → tree_by capacity s p (ptrs ts) F ≡ row_by capacity (begun_ptrs n).at.segment (begun_ptrs n).at.word ts (begun_ptrs n).sheet
+  ptrs_are ts e = ap (λ k. row_by capacity (begun_ptrs k).at.segment (begun_ptrs k).at.word ts (begun_ptrs k).sheet) e
+
+  pub ptrs_hang : (first : Place) (new : Sheet) → new.capacity ≡ capacity → first ≡ (begun_ptrs n).at → written new ≡ (begun_ptrs n).sheet → (ts : Nodes) → count ts ≡ n → tree_by capacity s p (ptrs ts) F ≡ row_on new first ts
+  ptrs_hang first new same at is ts e = ptrs_are ts e ∙ sym (row_at capacity ts first new (begun_ptrs n) same at is)
 
   pub ptrs_refuse : (e : WriteFault) (A : Written) → s ≤ length F.full → Refuses capacity e A → A.words ≤ (begun_ptrs n).sheet.words → (ts : Nodes) → count ts ≡ n → Shaped (ptrs ts) → Refuses capacity e (tree_by capacity s p (ptrs ts) F)
   ptrs_refuse e A le h fewer ts many shaped =
@@ -112,7 +118,7 @@ module _ (capacity : Capacity) (s p n : ℕ) (F : Written) where
       let long = length-replicate {A = ℕ} n 0 in
       let l = lies F s p n blank x (spot capacity s p (kinds.List sizes.Pointer n) n F le) long in
       let k = keeps_row capacity ts x.at.segment (x.at.word + 0) (begun_ptrs n).sheet shaped.1 l.there (omega (arith, l.inside, long, many)) in
-      writes_err capacity e A _ (omega (arith, fewer, k.counts, ap (λ (W : Written). W.words) (ptrs_hang (begun_ptrs n).at (begun_ptrs n).sheet refl refl ts many))) h
+      writes_err capacity e A _ (omega (arith, fewer, k.counts, ap (λ (W : Written). W.words) (ptrs_are ts many))) h
 
 module _ (capacity : Capacity) (at : Place) (d n : ℕ) (bs : Bodies) (F : Written) (k : ℕ) (many : k ≡ number_of bs) (shaped : Shaped (structs d n bs)) (le : at.segment ≤ length F.full) where
   abbrev begun_structs : ℕ → List ℕ → Placed
@@ -150,15 +156,22 @@ module _ (capacity : Capacity) (at : Place) (d n : ℕ) (bs : Bodies) (F : Writt
       let all = ap (λ (W : Written). W.words) (all_begun mid is) in
       writes_err capacity e (append (bodies_blank bs) mid) (tree_by capacity at.segment at.word (structs d n bs) F) (omega (arith, counted, all)) h
 
-  pub elements_begun : (first : Place) (mid new : Written) → mid ≡ (begun_structs k []).sheet → first ≡ (begun_structs k []).at → new ≡ append (bodies_blank bs) mid → KeepsTo capacity new → BeginsBodies capacity at d n bs (Ok first) F new
-  elements_begun first mid new is starts step keeps =
-      let x = begun_structs (number_of bs) (bodies_blank bs) in
-      let sheet : new ≡ x.sheet = step ∙ all_begun mid is in
-      let place : first ≡ x.at = starts ∙ ap (λ m. (begun_structs m []).at) many in
-      let l = structs_lie in
-      (keeps, rw (sheet, place) (l.there, omega (arith, l.inside, long)), sym (bodies_at capacity d n bs first new x place sheet))
+pub elements_begun : (A B C : Sheet) (at first : Place) (d n : ℕ) (bs : Bodies) (k : ℕ) → k ≡ number_of bs → Shaped (structs d n bs) → at.segment ≤ length (written A).full → written B ≡ (structs_begun A.capacity at.segment at.word d n k [] (written A)).sheet
+    → first ≡ (structs_begun A.capacity at.segment at.word d n k [] (written A)).at → SameLimits A B → Appends {X = Unit {0}} B C (Ok (tt {0})) (bodies_blank bs) → BeginsBodies A C (Ok first) at d n bs
+elements_begun A B C at first d n bs k many shaped le is starts same new =
+    let F = written A in
+    let x = structs_begun A.capacity at.segment at.word d n (number_of bs) (bodies_blank bs) F in
+    let sheet : written C ≡ x.sheet = new.0 ∙ all_begun A.capacity at d n bs F k many shaped le (written B) is in
+    let place : first ≡ x.at = starts ∙ ap (λ m. (structs_begun A.capacity at.segment at.word d n m [] F).at) many in
+    let l = structs_lie A.capacity at d n bs F k many shaped le in
+    let limits = limits_on A B C same new.2 in
+    let there : IsRun x.sheet x.at (number_of bs * (d + n)) = (l.there, omega (arith, l.inside, long A.capacity at d n bs F k many shaped le)) in (
+      new.1,
+      subst (λ W. IsRun W first (number_of bs * (d + n))) (sym sheet) (subst (λ q. IsRun x.sheet q (number_of bs * (d + n))) (sym place) there),
+      limits,
+      sym (bodies_at A.capacity d n bs first C x limits.0 place sheet),
+    )
 
 -- where there is no capacity for a body, there is none for its tree
-pub not_begun : (capacity : Capacity) (at : Place) (n : ℕ) (make : Nodes → Node) (t : Node) (ts : Nodes) (old new : Written) (e : WriteFault) → t ≡ make ts → count ts ≡ n → Shaped t → Begins capacity at n make (Err e) old new
-    → Refuses capacity e (tree_by capacity at.segment at.word t old)
-not_begun capacity at n make t ts old new e is many shaped begun = subst (λ u. Refuses capacity e (tree_by capacity at.segment at.word u old)) (sym is) (begun ts many (subst Shaped is shaped))
+pub not_begun : (A B : Sheet) (at : Place) (n : ℕ) (make : Nodes → Node) (t : Node) (ts : Nodes) (e : WriteFault) → t ≡ make ts → count ts ≡ n → Shaped t → Begins A B (Err e) at n make → Refuses A.capacity e (tree_on A at t)
+not_begun A B at n make t ts e is many shaped begun = subst (λ u. Refuses A.capacity e (tree_on A at u)) (sym is) (begun ts many (subst Shaped is shaped))

@@ -1,5 +1,5 @@
 -- Segments after each step of writing.
-use Rattle.std.proofs.Common.{◌≡◌, ◌≢◌, ℕ, zero, suc, ◌+◌, ◌<◌, ◌≤◌, ◌⊎◌, inl, inr, ⊎_elim, Bool, true, false, List, [], ◌∷◌, ◌++◌, length, set, get_or, refl, sym, ap, subst, ◌∙◌, arith}
+use Rattle.std.proofs.Common.{◌≡◌, ◌≢◌, ℕ, zero, suc, ◌+◌, ◌<◌, ◌≤◌, ◌⊎◌, inl, inr, ⊎_elim, Bool, true, false, List, [], ◌∷◌, ◌++◌, length, set, get_or, Result, Ok, Err, refl, sym, ap, subst, ◌∙◌, arith}
 use Rattle.std.specs.Prelude.{slice_index_or, nat_le, if◌then◌else◌}
 use Rattle.std.proofs.lemmas.Bool.{leb-false, cases_eq, ne_eqb, eq-eqb}
 use Rattle.std.proofs.lemmas.List.{length-set, length-map, map-set, get_or-map, length_push, length-append, get_or_append_left, get_or_push, get_or_past, get_or-set_same, get_or-set_other}
@@ -8,9 +8,11 @@ use Rattle.std.specs.Vec.{with_item}
 use Rattle.std.specs.declared.alloc.Global.{Global}
 use Rattle.cp_words.specs.Segments.{words_of}
 use Rattle.cp_words.specs.Targets.{segment}
+use Rattle.cp_tree.specs.declared.fault.WriteFault.{WriteFault}
 use Rattle.cp_writing.specs.declared.sheet.Capacity.{Capacity}
+use Rattle.cp_writing.specs.declared.sheet.Sheet.{Sheet}
 use Rattle.cp_words.specs.declared.kind.Kind.{Kind}
-use Rattle.cp_writing.specs.Sheets.{Placed, here, after_landing_pad, place_in, with_segment_for, KeepsTo, Written, segments_of, end_of, put, append, begin}
+use Rattle.cp_writing.specs.Sheets.{Placed, here, after_landing_pad, place_in, with_segment_for, KeepsTo, IsWithin, SameLimits, Refuses, Writes, Written, written, segments_of, end_of, put, append, begin}
 
 -- a segment of those that are written
 abbrev pub seg : Written → ℕ → List ℕ
@@ -156,12 +158,31 @@ append-keeps capacity F ws h within = (
       (cases_eq b (length F.full)),
 )
 
+-- a sheet keeps to its capacity, where what is written on it does
+pub within : (old new : Sheet) (F : Written) → written new ≡ F → SameLimits old new → KeepsTo old.capacity F → IsWithin new
+within old new F is same h = subst (λ k. KeepsTo k (written new)) (sym same.0) (subst (KeepsTo old.capacity) (sym is) h)
+
+pub limits_on : (old mid new : Sheet) → SameLimits old mid → SameLimits mid new → SameLimits old new
+limits_on old mid new same more = (more.0 ∙ same.0, more.1 ∙ same.1)
+
+-- what is refused after a step that leaves the limits, or written, is so from the start
+pub refuses_on : (old mid : Sheet) (e : WriteFault) (wanted : Written) → SameLimits old mid → Refuses mid.capacity e wanted → Refuses old.capacity e wanted
+refuses_on old mid e wanted same h = subst (λ k. Refuses k e wanted) same.0 h
+
+pub writes_on : {X : Type 0} (old mid new : Sheet) (r : Result X WriteFault) (wanted : Written) → SameLimits old mid → Writes mid new r wanted → Writes old new r wanted
+writes_on old mid new (Ok x) wanted same h = (h.0, h.1, limits_on old mid new same h.2)
+writes_on old mid new (Err e) wanted same h = refuses_on old mid e wanted same h
+
 -- words that were counted were appended
-pub counted : (capacity : Capacity) (F : Written) (ws : List ℕ) (full : List (List ℕ)) (last : List ℕ) (words n : ℕ) → KeepsTo capacity F → length ws ≡ n → F.words + n ≤ capacity.whole → full ≡ F.full → words ≡ F.words + n → last ≡ F.last ++ ws
-    → (record { full = full; last = last; words = words } ≡ append ws F) × KeepsTo capacity (record { full = full; last = last; words = words })
-counted capacity F ws full last words n h long within same count is =
-    let e : record { full = full; last = last; words = words } ≡ append ws F = rw (same, is, count, long) refl in
-    (e, subst (KeepsTo capacity) (sym e) (append-keeps capacity F ws h (omega (arith, long, within))))
+abbrev Appended : Sheet → List ℕ → Vec ℕ Global → Sheet → Type 0
+Appended old ws v mid = (written (record mid { last = v }) ≡ append ws (written old)) × IsWithin (record mid { last = v }) × SameLimits old (record mid { last = v })
+
+pub counted : (old mid : Sheet) (v : Vec ℕ Global) (ws : List ℕ) (n : ℕ) → IsWithin old → length ws ≡ n → old.words + n ≤ old.capacity.whole → mid ≡ record old { words = old.words + n } → v.items ≡ mid.last.items ++ ws → Appended old ws v mid
+counted old mid v ws n h long most count is =
+    let last : v.items ≡ old.last.items ++ ws = is ∙ ap (λ (w : Sheet). w.last.items ++ ws) count in
+    let new : Sheet = record old { words = old.words + n; last = v } in
+    let e : written new ≡ append ws (written old) = rw (last, long) refl in
+    subst (Appended old ws v) (sym count) (e, within old new _ e (refl, refl) (append-keeps old.capacity (written old) ws h (omega (arith, long, most))), (refl, refl))
 
 -- where a body is placed directly, and where not
 pub place-here : (s p : ℕ) (k : Kind) (size : ℕ) (F : Written) → (size ≡ 0) ⊎ (s ≡ length F.full) → place_in s p k size F ≡ here s p k F

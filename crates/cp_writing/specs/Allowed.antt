@@ -2,20 +2,21 @@
 use Rattle.std.specs.Prelude.{◌≡◌, ℕ, ◌+◌, ◌<◌, ◌≤◌, Result, Ok, Err}
 use Rattle.cp_tree.specs.declared.fault.WriteFault.{WriteFault}
 use Rattle.cp_tree.specs.declared.fault.WriteFault.TheVariants as faults
-use Rattle.cp_writing.specs.declared.sheet.Capacity.{Capacity}
-use Rattle.cp_writing.specs.Sheets.{Written, KeepsTo, Refuses}
+use Rattle.cp_writing.specs.declared.sheet.Sheet.{Sheet}
+use Rattle.cp_writing.specs.Sheets.{Written, written, IsWithin, Refuses}
 
--- One level was gone down and its price paid, or no level is left, or else too little for the price.
-abbrev pub Charges : ℕ → ℕ → ℕ → Result ℕ WriteFault → ℕ → Type 0
-Charges levels budget price (Ok below) rest = (levels ≡ below + 1) × (budget ≡ price + rest)
-Charges levels budget price (Err faults.TooDeep) rest = levels ≡ 0
-Charges levels budget price (Err faults.TooCostly) rest = budget < price
-Charges levels budget price (Err other) rest = ⊥
+-- One level was gone down and its price taken from the budget, and else the sheet stays. Or no level is left, or else the
+-- budget is too little for the price.
+abbrev pub Charges : Sheet → Sheet → ℕ → Result ℕ WriteFault → ℕ → Type 0
+Charges old new levels (Ok below) price = (levels ≡ below + 1) × (old.budget ≡ price + new.budget) × (new ≡ record old { budget = new.budget })
+Charges old new levels (Err faults.TooDeep) price = levels ≡ 0
+Charges old new levels (Err faults.TooCostly) price = old.budget < price
+Charges old new levels (Err other) price = ⊥
 
--- Trees of this depth and cost were written within this many levels, and this much is left of what they may cost; or they
--- pass one of these; or they weren't written, as the words are too many or memory ran out.
-abbrev pub Lays : {X : Type 0} → Capacity → ℕ → ℕ → Result X WriteFault → ℕ → ℕ → ℕ → Written → Written → Type 0
-Lays capacity levels budget (Ok x) rest deep price wanted new = (deep ≤ levels) × (budget ≡ price + rest) × (new ≡ wanted) × KeepsTo capacity new
-Lays capacity levels budget (Err faults.TooDeep) rest deep price wanted new = levels < deep
-Lays capacity levels budget (Err faults.TooCostly) rest deep price wanted new = budget < price
-Lays capacity levels budget (Err fault) rest deep price wanted new = Refuses capacity fault wanted
+-- Trees of this depth and cost were written within this many levels, and the budget has paid for them; or they pass one of
+-- these; or they weren't written, as the words are too many or memory ran out.
+abbrev pub Lays : {X : Type 0} → Sheet → Sheet → ℕ → Result X WriteFault → ℕ → ℕ → Written → Type 0
+Lays old new levels (Ok x) deep price wanted = (deep ≤ levels) × (old.budget ≡ price + new.budget) × (written new ≡ wanted) × IsWithin new × (new.capacity ≡ old.capacity)
+Lays old new levels (Err faults.TooDeep) deep price wanted = levels < deep
+Lays old new levels (Err faults.TooCostly) deep price wanted = old.budget < price
+Lays old new levels (Err fault) deep price wanted = Refuses old.capacity fault wanted

@@ -87,6 +87,10 @@ place_in s p k size F =
 abbrev pub place_by : Capacity → ℕ → ℕ → Kind → ℕ → Written → Placed
 place_by capacity s p k size F = place_in s p k size (with_segment_for capacity s size F)
 
+-- the same on a sheet, of a body whose pointer is at a place
+abbrev pub place_on : Sheet → Place → Kind → ℕ → Placed
+place_on w at k size = place_by w.capacity at.segment at.word k size (written w)
+
 -- no more than limits can allow
 abbrev pub IsCapacity : Capacity → Type 0
 IsCapacity capacity = (0 < capacity.whole) × (capacity.whole ≤ 67108864) × (capacity.words < 2 ^ 32) × (capacity.segments ≤ 512)
@@ -95,9 +99,21 @@ IsCapacity capacity = (0 < capacity.whole) × (capacity.whole ≤ 67108864) × (
 abbrev pub KeepsTo : Capacity → Written → Type 0
 KeepsTo capacity F = IsCapacity capacity × (F.words ≤ capacity.whole) × (length F.full < 512) × ((s : ℕ) → end_of F s ≤ F.words)
 
+-- a sheet keeps to its capacity
+abbrev pub IsWithin : Sheet → Type 0
+IsWithin w = KeepsTo w.capacity (written w)
+
+-- the capacity of a sheet and its budget stay
+abbrev pub SameLimits : Sheet → Sheet → Type 0
+SameLimits old new = (new.capacity ≡ old.capacity) × (new.budget ≡ old.budget)
+
 -- a word was written there
 abbrev pub IsPlace : Written → Place → Type 0
 IsPlace F at = (at.segment ≤ length F.full) × (at.word < end_of F at.segment)
+
+-- this many words were written from a place on
+abbrev pub IsRun : Written → Place → ℕ → Type 0
+IsRun F at n = (at.segment ≤ length F.full) × (at.word + n ≤ end_of F at.segment)
 
 -- why no more is written: the words are too many, or memory ran out
 abbrev pub Refuses : Capacity → WriteFault → Written → Type 0
@@ -105,15 +121,15 @@ Refuses capacity faults.TooManyWords wanted = capacity.whole < wanted.words
 Refuses capacity faults.OutOfMemory wanted = Unit {0}
 Refuses capacity other wanted = ⊥
 
--- the words were written and counted, or not
-abbrev pub Writes : {X : Type 0} → Capacity → Result X WriteFault → Written → Written → Type 0
-Writes capacity (Ok x) wanted new = (new ≡ wanted) × KeepsTo capacity new
-Writes capacity (Err e) wanted new = Refuses capacity e wanted
+-- the words were written and counted, and the limits stay; or no more is written
+abbrev pub Writes : {X : Type 0} → Sheet → Sheet → Result X WriteFault → Written → Type 0
+Writes old new (Ok x) wanted = (written new ≡ wanted) × IsWithin new × SameLimits old new
+Writes old new (Err e) wanted = Refuses old.capacity e wanted
+
+-- the same of words that are appended
+abbrev pub Appends : {X : Type 0} → Sheet → Sheet → Result X WriteFault → List ℕ → Type 0
+Appends old new result ws = Writes old new result (append ws (written old))
 
 -- a body was placed, or its landing pad is one word too many
-abbrev pub Places : Capacity → Result Place WriteFault → Placed → Written → Type 0
-Places capacity result wanted new = Writes capacity result wanted.sheet new × IfOk result (λ at. at ≡ wanted.at)
-
--- this many words were written from a place on
-abbrev pub IsRun : Written → Place → ℕ → Type 0
-IsRun F at n = (at.segment ≤ length F.full) × (at.word + n ≤ end_of F at.segment)
+abbrev pub Places : Sheet → Sheet → Result Place WriteFault → Placed → Type 0
+Places old new result wanted = Writes old new result wanted.sheet × IfOk result (λ at. at ≡ wanted.at)

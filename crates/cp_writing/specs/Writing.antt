@@ -7,10 +7,12 @@ use Rattle.cp_words.specs.declared.kind.Kind.TheVariants as kinds
 use Rattle.cp_words.specs.declared.place.Place.{Place}
 use Rattle.cp_tree.specs.declared.fault.WriteFault.{WriteFault}
 use Rattle.cp_writing.specs.declared.sheet.Capacity.{Capacity}
-use Rattle.cp_tree.specs.Node.{element_size, element_count, Node, null, cap, struct, list, ptrs, structs, Nodes, no_nodes, node, Bodies, no_bodies, body, count, number_of}
+use Rattle.cp_writing.specs.declared.sheet.Sheet.{Sheet}
+use Rattle.cp_tree.specs.Node.{element_size, element_count, Node, null, cap, struct, list, ptrs, structs, Nodes, no_nodes, node, Bodies, no_bodies, body, count, number_of, depth, greatest_depth, deepest_body, cost, total_cost, body_cost}
+use Rattle.cp_writing.specs.Allowed.{Lays}
 use Rattle.cp_writing.specs.Packed.{packed}
 use Rattle.cp_tree.specs.Shaped.{Shaped}
-use Rattle.cp_writing.specs.Sheets.{Written, put, append, Placed, place_by, KeepsTo, IsRun, Refuses}
+use Rattle.cp_writing.specs.Sheets.{Written, written, put, append, Placed, place_by, IsWithin, SameLimits, IsRun, Refuses}
 
 -- a struct's data words, and blank words for its pointers
 abbrev pub body_blank : List ℕ → ℕ → List ℕ
@@ -70,19 +72,41 @@ abbrev mutual
   bodies_by capacity s q d n no_bodies F = F
   bodies_by capacity s q d n (body ws ts bs) F = bodies_by capacity s (q + d + n) d n bs (row_by capacity s (q + d) ts F)
 
+-- the same on a sheet: of the tree whose pointer is at a place, of the trees from a place on, and of the elements there
+abbrev pub tree_on : Sheet → Place → Node → Written
+tree_on w at t = tree_by w.capacity at.segment at.word t (written w)
+
+abbrev pub row_on : Sheet → Place → Nodes → Written
+row_on w at ts = row_by w.capacity at.segment at.word ts (written w)
+
+abbrev pub bodies_on : Sheet → Place → ℕ → ℕ → Bodies → Written
+bodies_on w at d n bs = bodies_by w.capacity at.segment at.word d n bs (written w)
+
+-- these were laid out within this many levels, or a limit was met for them
+abbrev pub LaysTree : {X : Type 0} → Sheet → Sheet → ℕ → Result X WriteFault → Place → Node → Type 0
+LaysTree old new levels result at t = Lays old new levels result (depth t) (cost t) (tree_on old at t)
+
+abbrev pub LaysRow : {X : Type 0} → Sheet → Sheet → ℕ → Result X WriteFault → Place → Nodes → Type 0
+LaysRow old new levels result at ts = Lays old new levels result (greatest_depth ts) (total_cost ts) (row_on old at ts)
+
+abbrev pub LaysBodies : {X : Type 0} → Sheet → Sheet → ℕ → Result X WriteFault → Place → ℕ → ℕ → Bodies → Type 0
+LaysBodies old new levels result at d n bs = Lays old new levels result (deepest_body bs) (body_cost bs) (bodies_on old at d n bs)
+
 -- A body with n pointers was begun, and its pointers stand from a place on: whatever hangs on them, the tree is written
 -- once that is. Or a limit was met for it, and so one is met for the tree.
-abbrev pub Begins : Capacity → Place → ℕ → (Nodes → Node) → Result Place WriteFault → Written → Written → Type 0
-Begins capacity at n tree (Ok first) old new =
-    KeepsTo capacity new
-    × IsRun new first n
-    × ((ts : Nodes) → count ts ≡ n → tree_by capacity at.segment at.word (tree ts) old ≡ row_by capacity first.segment first.word ts new)
-Begins capacity at n tree (Err e) old new = (ts : Nodes) → count ts ≡ n → Shaped (tree ts) → Refuses capacity e (tree_by capacity at.segment at.word (tree ts) old)
+abbrev pub Begins : Sheet → Sheet → Result Place WriteFault → Place → ℕ → (Nodes → Node) → Type 0
+Begins old new (Ok first) at n tree =
+    IsWithin new
+    × IsRun (written new) first n
+    × SameLimits old new
+    × ((ts : Nodes) → count ts ≡ n → tree_on old at (tree ts) ≡ row_on new first ts)
+Begins old new (Err e) at n tree = (ts : Nodes) → count ts ≡ n → Shaped (tree ts) → Refuses old.capacity e (tree_on old at (tree ts))
 
 -- The same of a composite list, whose elements stand from a place on.
-abbrev pub BeginsBodies : Capacity → Place → ℕ → ℕ → Bodies → Result Place WriteFault → Written → Written → Type 0
-BeginsBodies capacity at d n bs (Ok first) old new =
-    KeepsTo capacity new
-    × IsRun new first (number_of bs * (d + n))
-    × (tree_by capacity at.segment at.word (structs d n bs) old ≡ bodies_by capacity first.segment first.word d n bs new)
-BeginsBodies capacity at d n bs (Err e) old new = Refuses capacity e (tree_by capacity at.segment at.word (structs d n bs) old)
+abbrev pub BeginsBodies : Sheet → Sheet → Result Place WriteFault → Place → ℕ → ℕ → Bodies → Type 0
+BeginsBodies old new (Ok first) at d n bs =
+    IsWithin new
+    × IsRun (written new) first (number_of bs * (d + n))
+    × SameLimits old new
+    × (tree_on old at (structs d n bs) ≡ bodies_on new first d n bs)
+BeginsBodies old new (Err e) at d n bs = Refuses old.capacity e (tree_on old at (structs d n bs))

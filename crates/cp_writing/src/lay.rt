@@ -2,34 +2,30 @@
 
 ghost use Rattle.std.specs.Prelude.{◌≡◌, ◌<◌, ◌+◌, ◌*◌, ◌^◌, [], length};
 ghost use Rattle.cp_tree.specs.Lent.{node_in, row_in, bodies_in};
-ghost use Rattle.cp_tree.specs.Node.{count, number_of, struct, structs, ptrs as pointers, depth, greatest_depth, deepest_body, cost, total_cost, body_cost};
+ghost use Rattle.cp_tree.specs.Node.{count, number_of, struct, structs, ptrs as pointers};
 ghost use Rattle.cp_tree.specs.NodeOf.{nodes_of, bodies_of};
 ghost use Rattle.cp_tree.specs.Shaped.{Shaped, EachShaped, EachEven, HasSizes};
-ghost use Rattle.cp_writing.specs.Allowed.{Lays};
-ghost use Rattle.cp_writing.specs.Sheets.{written, append, KeepsTo, IsPlace, IsRun, Writes, Places};
-ghost use Rattle.cp_writing.specs.Writing.{body_blank, bodies_blank, tag_word, structs_begun, Begins, BeginsBodies, tree_by, row_by, bodies_by};
+ghost use Rattle.cp_writing.specs.Sheets.{written, IsWithin, IsPlace, IsRun, Appends, Places};
+ghost use Rattle.cp_writing.specs.Writing.{body_blank, bodies_blank, tag_word, structs_begun, Begins, BeginsBodies, LaysTree, LaysRow, LaysBodies};
 
-use crate::allowed::charge;
 use crate::lay_list::{lay_list, place_list};
-use crate::sheet::{Capacity, Sheet};
+use crate::sheet::Sheet;
 use cp_tree::{BodiesRef, RowRef, StructsRef, Top, TreeRef, WriteFault};
 use cp_words::{ElementSize, Kind, Place, Pointer, encode};
 
 /// Lays out a tree whose pointer is at a place, if it nests no deeper than this many levels and costs
-/// no more than is left.
+/// no more than the sheet's budget.
 #[cycle(lay)]
 pub(crate) fn lay(
     sheet: &mut Sheet,
-    capacity: Capacity,
     at: Place,
     tree: TreeRef,
     levels: u32,
-    budget: &mut u64,
 ) -> Result<(), WriteFault>
-    requires keeps { KeepsTo capacity (written sheet.old) }
+    requires keeps { IsWithin sheet.old }
     requires there { IsPlace (written sheet.old) at }
     requires shaped { Shaped (node_in tree) }
-    ensures { Lays capacity levels budget.old result budget.new (depth (node_in tree.entry)) (cost (node_in tree.entry)) (tree_by capacity at.segment at.word (node_in tree.entry) (written sheet.old)) (written sheet.new) }
+    ensures { LaysTree sheet.old sheet.new levels result at (node_in tree.entry) }
 {
     match tree.top() {
         Top::Null => {
@@ -42,44 +38,37 @@ pub(crate) fn lay(
         }
         Top::Struct(body) => {
             let count = body.ptrs.len();
-            let below = charge(levels, budget, 1 + body.words.len() as u64 + count as u64)?;
-            let first = begin_struct(sheet, capacity, at, body.words, count)?;
-            lay_row(sheet, capacity, first, body.ptrs, below, budget)
+            let below = sheet.charge(levels, 1 + body.words.len() as u64 + count as u64)?;
+            let first = begin_struct(sheet, at, body.words, count)?;
+            lay_row(sheet, first, body.ptrs, below)
         }
-        Top::List(list) => lay_list(sheet, capacity, at, list, levels, budget),
+        Top::List(list) => lay_list(sheet, at, list, levels),
         Top::Ptrs(trees) => {
             let count = trees.len();
-            let below = charge(levels, budget, 1 + count as u64)?;
-            let first = begin_ptrs(sheet, capacity, at, count)?;
-            lay_row(sheet, capacity, first, trees, below, budget)
+            let below = sheet.charge(levels, 1 + count as u64)?;
+            let first = begin_ptrs(sheet, at, count)?;
+            lay_row(sheet, first, trees, below)
         }
         Top::Structs(list) => {
             let price = 1 + list.words as u64 + list.ptrs as u64;
-            let below = charge(levels, budget, 2 + list.items.len() as u64 * price)?;
-            let first = begin_structs(sheet, capacity, at, list)?;
-            lay_bodies(sheet, capacity, first, list, below, budget)
+            let below = sheet.charge(levels, 2 + list.items.len() as u64 * price)?;
+            let first = begin_structs(sheet, at, list)?;
+            lay_bodies(sheet, first, list, below)
         }
     }
 }
 
 /// Lays out the trees whose pointers stand from a place on.
 #[cycle(lay)]
-fn lay_row(
-    sheet: &mut Sheet,
-    capacity: Capacity,
-    first: Place,
-    trees: RowRef,
-    levels: u32,
-    budget: &mut u64,
-) -> Result<(), WriteFault>
-    requires keeps { KeepsTo capacity (written sheet.old) }
+fn lay_row(sheet: &mut Sheet, first: Place, trees: RowRef, levels: u32) -> Result<(), WriteFault>
+    requires keeps { IsWithin sheet.old }
     requires run { IsRun (written sheet.old) first (count (nodes_of (row_in trees))) }
     requires shaped { EachShaped (nodes_of (row_in trees)) }
-    ensures { Lays capacity levels budget.old result budget.new (greatest_depth (nodes_of (row_in trees.entry))) (total_cost (nodes_of (row_in trees.entry))) (row_by capacity first.segment first.word (nodes_of (row_in trees.entry)) (written sheet.old)) (written sheet.new) }
+    ensures { LaysRow sheet.old sheet.new levels result first (nodes_of (row_in trees.entry)) }
 {
     let mut at = first;
     for tree in trees {
-        lay(sheet, capacity, at, tree, levels, budget)?;
+        lay(sheet, at, tree, levels)?;
         at.word += 1;
     }
     Ok(())
@@ -89,16 +78,14 @@ fn lay_row(
 #[cycle(lay)]
 fn lay_bodies(
     sheet: &mut Sheet,
-    capacity: Capacity,
     first: Place,
     list: StructsRef,
     levels: u32,
-    budget: &mut u64,
 ) -> Result<(), WriteFault>
-    requires keeps { KeepsTo capacity (written sheet.old) }
+    requires keeps { IsWithin sheet.old }
     requires run { IsRun (written sheet.old) first (number_of (bodies_of (bodies_in list.items)) * (list.words + list.ptrs)) }
     requires even { EachEven list.words list.ptrs (bodies_of (bodies_in list.items)) }
-    ensures { Lays capacity levels budget.old result budget.new (deepest_body (bodies_of (bodies_in list.entry.items))) (body_cost (bodies_of (bodies_in list.entry.items))) (bodies_by capacity first.segment first.word list.entry.words list.entry.ptrs (bodies_of (bodies_in list.entry.items)) (written sheet.old)) (written sheet.new) }
+    ensures { LaysBodies sheet.old sheet.new levels result first list.entry.words list.entry.ptrs (bodies_of (bodies_in list.entry.items)) }
 {
     if list.ptrs == 0 {
         return Ok(());
@@ -109,7 +96,7 @@ fn lay_bodies(
             segment: at.segment,
             word: at.word + list.words as usize,
         };
-        lay_row(sheet, capacity, pointers, body.ptrs, levels, budget)?;
+        lay_row(sheet, pointers, body.ptrs, levels)?;
         at.word = pointers.word + list.ptrs as usize;
     }
     Ok(())
@@ -120,15 +107,14 @@ fn lay_bodies(
 #[inline(always)]
 fn begin_struct(
     sheet: &mut Sheet,
-    capacity: Capacity,
     at: Place,
     words: &[u64],
     ptrs: usize,
 ) -> Result<Place, WriteFault>
-    requires keeps { KeepsTo capacity (written sheet.old) }
+    requires keeps { IsWithin sheet.old }
     requires there { IsPlace (written sheet.old) at }
     requires sizes { HasSizes (length words.now) ptrs }
-    ensures { Begins capacity at ptrs (struct words.now) result (written sheet.old) (written sheet.new) }
+    ensures { Begins sheet.old sheet.new result at ptrs (struct words.now) }
 {
     if words.len() + ptrs == 0 {
         let empty = Pointer::Struct {
@@ -143,8 +129,8 @@ fn begin_struct(
         words: words.len() as u16,
         ptrs: ptrs as u16,
     };
-    let start = sheet.place(capacity, at, kind, words.len() + ptrs)?;
-    append_body(sheet, capacity, words, ptrs)?;
+    let start = sheet.place(at, kind, words.len() + ptrs)?;
+    append_body(sheet, words, ptrs)?;
     Ok(Place {
         segment: start.segment,
         word: start.word + words.len(),
@@ -152,53 +138,47 @@ fn begin_struct(
 }
 
 /// Begins a list of pointers: blank words. Gives where they begin.
-fn begin_ptrs(sheet: &mut Sheet, capacity: Capacity, at: Place, count: usize) -> Result<Place, WriteFault>
-    requires keeps { KeepsTo capacity (written sheet.old) }
+fn begin_ptrs(sheet: &mut Sheet, at: Place, count: usize) -> Result<Place, WriteFault>
+    requires keeps { IsWithin sheet.old }
     requires there { IsPlace (written sheet.old) at }
     requires few { count < 2 ^ 29 }
-    ensures { Begins capacity at count pointers result (written sheet.old) (written sheet.new) }
+    ensures { Begins sheet.old sheet.new result at count pointers }
 {
-    let start = place_list(sheet, capacity, at, ElementSize::Pointer, count, count)?;
-    sheet.append_blank(capacity, count)?;
+    let start = place_list(sheet, at, ElementSize::Pointer, count, count)?;
+    sheet.append_blank(count)?;
     Ok(start)
 }
 
 /// Begins a composite list: its tag, and its elements with blank words for their pointers. Gives
 /// where the elements begin.
-fn begin_structs(
-    sheet: &mut Sheet,
-    capacity: Capacity,
-    at: Place,
-    list: StructsRef,
-) -> Result<Place, WriteFault>
-    requires keeps { KeepsTo capacity (written sheet.old) }
+fn begin_structs(sheet: &mut Sheet, at: Place, list: StructsRef) -> Result<Place, WriteFault>
+    requires keeps { IsWithin sheet.old }
     requires there { IsPlace (written sheet.old) at }
     requires shaped { Shaped (structs list.words list.ptrs (bodies_of (bodies_in list.items))) }
-    ensures { BeginsBodies capacity at list.entry.words list.entry.ptrs (bodies_of (bodies_in list.entry.items)) result (written sheet.old) (written sheet.new) }
+    ensures { BeginsBodies sheet.old sheet.new result at list.entry.words list.entry.ptrs (bodies_of (bodies_in list.entry.items)) }
 {
-    let first = begin_elements(sheet, capacity, at, list.words, list.ptrs, list.items.len())?;
-    append_bodies(sheet, capacity, list.items)?;
+    let first = begin_elements(sheet, at, list.words, list.ptrs, list.items.len())?;
+    append_bodies(sheet, list.items)?;
     Ok(first)
 }
 
 /// Begins a composite list: its tag. Gives where its elements begin.
 fn begin_elements(
     sheet: &mut Sheet,
-    capacity: Capacity,
     at: Place,
     words: u16,
     ptrs: u16,
     count: usize,
 ) -> Result<Place, WriteFault>
-    requires keeps { KeepsTo capacity (written sheet.old) }
+    requires keeps { IsWithin sheet.old }
     requires there { IsPlace (written sheet.old) at }
     requires few { count < 2 ^ 30 }
     requires small { count * (words + ptrs) < 2 ^ 29 }
-    ensures { Places capacity result (structs_begun capacity at.segment at.word words ptrs count [] (written sheet.old)) (written sheet.new) }
+    ensures { Places sheet.old sheet.new result (structs_begun sheet.old.capacity at.segment at.word words ptrs count [] (written sheet.old)) }
 {
     let size = count * (words as usize + ptrs as usize);
-    let tag = place_list(sheet, capacity, at, ElementSize::Composite, size, size + 1)?;
-    sheet.append(capacity, &[tag_word(count, words, ptrs)])?;
+    let tag = place_list(sheet, at, ElementSize::Composite, size, size + 1)?;
+    sheet.append(&[tag_word(count, words, ptrs)])?;
     Ok(Place {
         segment: tag.segment,
         word: tag.word + 1,
@@ -215,25 +195,25 @@ fn tag_word(count: usize, words: u16, ptrs: u16) -> u64
 
 /// The elements of a composite list, each with blank words for its pointers.
 #[inline]
-fn append_bodies(sheet: &mut Sheet, capacity: Capacity, bodies: BodiesRef) -> Result<(), WriteFault>
-    requires { KeepsTo capacity (written sheet.old) }
-    ensures { Writes capacity result (append (bodies_blank (bodies_of (bodies_in bodies.entry))) (written sheet.old)) (written sheet.new) }
+fn append_bodies(sheet: &mut Sheet, bodies: BodiesRef) -> Result<(), WriteFault>
+    requires { IsWithin sheet.old }
+    ensures { Appends sheet.old sheet.new result (bodies_blank (bodies_of (bodies_in bodies.entry))) }
 {
     for body in bodies {
-        append_body(sheet, capacity, body.words, body.ptrs.len())?;
+        append_body(sheet, body.words, body.ptrs.len())?;
     }
     Ok(())
 }
 
 /// A struct's data words, and blank words for its pointers.
 #[inline(always)]
-fn append_body(sheet: &mut Sheet, capacity: Capacity, words: &[u64], ptrs: usize) -> Result<(), WriteFault>
-    requires { KeepsTo capacity (written sheet.old) }
-    ensures { Writes capacity result (append (body_blank words.now ptrs) (written sheet.old)) (written sheet.new) }
+fn append_body(sheet: &mut Sheet, words: &[u64], ptrs: usize) -> Result<(), WriteFault>
+    requires { IsWithin sheet.old }
+    ensures { Appends sheet.old sheet.new result (body_blank words.now ptrs) }
 {
     if ptrs == 0 {
-        return sheet.append(capacity, words);
+        return sheet.append(words);
     }
-    sheet.append(capacity, words)?;
-    sheet.append_blank(capacity, ptrs)
+    sheet.append(words)?;
+    sheet.append_blank(ptrs)
 }

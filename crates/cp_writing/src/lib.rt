@@ -1,7 +1,6 @@
 //! Trees, written into the segments of a Cap'n Proto message.
 #![tactic(auto)]
 
-mod allowed;
 mod laws;
 mod lay;
 mod lay_list;

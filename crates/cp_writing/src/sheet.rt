@@ -3,8 +3,9 @@
 ghost use Rattle.std.specs.Prelude.{ℕ, ◌≡◌, ◌<◌, ◌≤◌, ◌++◌, IfErr, ◌+◌, ◌∷◌, ◌^◌, [], length, replicate, OnOk, IfOk};
 ghost use Rattle.cp_words.specs.Segments.{words_of};
 ghost use Rattle.cp_tree.specs.Node.{bits, bytes, halves, quads};
+ghost use Rattle.cp_writing.specs.Allowed.{Charges};
 ghost use Rattle.cp_writing.specs.Packed.{packed};
-ghost use Rattle.cp_writing.specs.Sheets.{written, segments_of, end_of, put, append, begin, place_by, body_word, IsNamed, with_segment_for, here, after_landing_pad, IsCapacity, KeepsTo, IsPlace, Writes, Places};
+ghost use Rattle.cp_writing.specs.Sheets.{written, segments_of, end_of, put, begin, place_on, body_word, IsNamed, with_segment_for, here, after_landing_pad, IsCapacity, IsWithin, SameLimits, IsPlace, Appends, Places};
 ghost use Rattle.cp_tree.specs.declared.fault.WriteFault.TheVariants.{TooManyWords};
 
 use crate::pack::{push_bits, push_bytes, push_halves, push_quads};
@@ -12,6 +13,9 @@ use cp_tree::WriteFault;
 use cp_words::{Kind, Place, Pointer, Segments, encode};
 use std::alloc::{AllocError, Global};
 use std::mem;
+
+/// A segment begins with capacity for this many words, if it may have them.
+const FIRST_WORDS: usize = 128;
 
 /// How much may be written: at most this many words in a segment, this many segments, and this many words
 /// in all of them together.
@@ -22,12 +26,15 @@ pub(crate) struct Capacity {
     pub whole: usize,
 }
 
-/// What is written so far: the segments that are full, the last one, and the number of words of all.
-/// A segment is made with capacity for this many words.
+/// What is written so far: the segments that are full, the last one, and the number of words of all; how
+/// much may be written, and what the tree may still cost. A segment is made with capacity for `reserved`
+/// words.
 #[derive(Drop)]
 pub(crate) struct Sheet {
     alloc: Global,
     reserved: usize,
+    capacity: Capacity,
+    budget: u64,
     full: Vec<Vec<u64>>,
     last: Vec<u64>,
     words: usize,
@@ -35,16 +42,20 @@ pub(crate) struct Sheet {
 
 impl Sheet {
     /// One segment with a blank word, the root's pointer.
-    pub fn new(alloc: Global, capacity: Capacity, reserved: usize) -> Result<Sheet, AllocError>
+    pub fn new(alloc: Global, capacity: Capacity, budget: u64) -> Result<Sheet, AllocError>
         requires { IsCapacity capacity }
         ensures written { IfOk result (λ w. written w ≡ record { full = []; last = 0 ∷ []; words = 1 }) }
-        ensures keeps { IfOk result (λ w. KeepsTo capacity (written w)) }
+        ensures limits { IfOk result (λ w. (w.capacity ≡ capacity) × (w.budget ≡ budget)) }
+        ensures keeps { IfOk result IsWithin }
     {
+        let reserved = capacity.words.min(FIRST_WORDS);
         let mut last = Vec::with_capacity(alloc, reserved)?;
         last.push(0)?;
         Ok(Sheet {
             alloc,
             reserved,
+            capacity,
+            budget,
             full: Vec::new(alloc),
             last,
             words: 1,
@@ -73,6 +84,22 @@ impl Sheet {
         self.last
     }
 
+    /// Goes one level down, to a body or a list that costs this much without what hangs on it. Gives how
+    /// many levels are left below it.
+    #[inline(always)]
+    pub fn charge(&mut self, levels: u32, price: u64) -> Result<u32, WriteFault>
+        ensures { Charges self.old self.new levels result price }
+    {
+        if levels == 0 {
+            return Err(WriteFault::TooDeep);
+        }
+        if price > self.budget {
+            return Err(WriteFault::TooCostly);
+        }
+        self.budget -= price;
+        Ok(levels - 1)
+    }
+
     /// How many words a segment has.
     fn end(&self, segment: usize) -> usize
         requires { segment ≤ length (written self.now).full }
@@ -89,7 +116,8 @@ impl Sheet {
     #[inline]
     pub fn put(&mut self, at: Place, word: u64)
         requires { IsPlace (written self.old) at }
-        ensures { written self.new ≡ put at.segment at.word word (written self.old) }
+        ensures written { written self.new ≡ put at.segment at.word word (written self.old) }
+        ensures limits { SameLimits self.old self.new }
     {
         if at.segment == self.full.len() {
             self.last[at.word] = word;
@@ -100,14 +128,13 @@ impl Sheet {
 
     /// Counts this many more words.
     #[inline(always)]
-    fn count(&mut self, capacity: Capacity, words: usize) -> Result<(), WriteFault>
-        requires within { self.old.words ≤ capacity.whole }
-        requires small { capacity.whole ≤ 67108864 }
+    fn count(&mut self, words: usize) -> Result<(), WriteFault>
+        requires { IsWithin self.old }
         ensures counted { OnOk result (self.new ≡ record self.old { words = self.old.words + words }) }
-        ensures within { OnOk result (self.old.words + words ≤ capacity.whole) }
-        ensures past { IfErr result (λ e. (e ≡ TooManyWords) × (capacity.whole < self.old.words + words)) }
+        ensures within { OnOk result (self.old.words + words ≤ self.old.capacity.whole) }
+        ensures past { IfErr result (λ e. (e ≡ TooManyWords) × (self.old.capacity.whole < self.old.words + words)) }
     {
-        if words > capacity.whole - self.words {
+        if words > self.capacity.whole - self.words {
             return Err(WriteFault::TooManyWords);
         }
         self.words += words;
@@ -116,58 +143,58 @@ impl Sheet {
 
     /// Appends the words to the last segment.
     #[inline(always)]
-    pub fn append(&mut self, capacity: Capacity, words: &[u64]) -> Result<(), WriteFault>
-        requires { KeepsTo capacity (written self.old) }
-        ensures { Writes capacity result (append words.now (written self.old)) (written self.new) }
+    pub fn append(&mut self, words: &[u64]) -> Result<(), WriteFault>
+        requires { IsWithin self.old }
+        ensures { Appends self.old self.new result words.now }
     {
-        self.count(capacity, words.len())?;
+        self.count(words.len())?;
         self.last.extend_from_slice(words)?;
         Ok(())
     }
 
     /// Appends this many blank words to the last segment.
     #[inline(always)]
-    pub fn append_blank(&mut self, capacity: Capacity, words: usize) -> Result<(), WriteFault>
-        requires { KeepsTo capacity (written self.old) }
-        ensures { Writes capacity result (append (replicate words 0) (written self.old)) (written self.new) }
+    pub fn append_blank(&mut self, words: usize) -> Result<(), WriteFault>
+        requires { IsWithin self.old }
+        ensures { Appends self.old self.new result (replicate words 0) }
     {
-        self.count(capacity, words)?;
+        self.count(words)?;
         self.last.resize(self.last.len() + words, 0)?;
         Ok(())
     }
 
-    pub fn append_bits(&mut self, capacity: Capacity, items: &[bool]) -> Result<(), WriteFault>
-        requires { KeepsTo capacity (written self.old) }
-        ensures { Writes capacity result (append (packed (bits items.now)) (written self.old)) (written self.new) }
+    pub fn append_bits(&mut self, items: &[bool]) -> Result<(), WriteFault>
+        requires { IsWithin self.old }
+        ensures { Appends self.old self.new result (packed (bits items.now)) }
     {
-        self.count(capacity, (items.len() + 63) / 64)?;
+        self.count((items.len() + 63) / 64)?;
         push_bits(&mut self.last, items)?;
         Ok(())
     }
 
-    pub fn append_bytes(&mut self, capacity: Capacity, items: &[u8]) -> Result<(), WriteFault>
-        requires { KeepsTo capacity (written self.old) }
-        ensures { Writes capacity result (append (packed (bytes items.now)) (written self.old)) (written self.new) }
+    pub fn append_bytes(&mut self, items: &[u8]) -> Result<(), WriteFault>
+        requires { IsWithin self.old }
+        ensures { Appends self.old self.new result (packed (bytes items.now)) }
     {
-        self.count(capacity, (items.len() + 7) / 8)?;
+        self.count((items.len() + 7) / 8)?;
         push_bytes(&mut self.last, items)?;
         Ok(())
     }
 
-    pub fn append_halves(&mut self, capacity: Capacity, items: &[u16]) -> Result<(), WriteFault>
-        requires { KeepsTo capacity (written self.old) }
-        ensures { Writes capacity result (append (packed (halves items.now)) (written self.old)) (written self.new) }
+    pub fn append_halves(&mut self, items: &[u16]) -> Result<(), WriteFault>
+        requires { IsWithin self.old }
+        ensures { Appends self.old self.new result (packed (halves items.now)) }
     {
-        self.count(capacity, (items.len() + 3) / 4)?;
+        self.count((items.len() + 3) / 4)?;
         push_halves(&mut self.last, items)?;
         Ok(())
     }
 
-    pub fn append_quads(&mut self, capacity: Capacity, items: &[u32]) -> Result<(), WriteFault>
-        requires { KeepsTo capacity (written self.old) }
-        ensures { Writes capacity result (append (packed (quads items.now)) (written self.old)) (written self.new) }
+    pub fn append_quads(&mut self, items: &[u32]) -> Result<(), WriteFault>
+        requires { IsWithin self.old }
+        ensures { Appends self.old self.new result (packed (quads items.now)) }
     {
-        self.count(capacity, (items.len() + 1) / 2)?;
+        self.count((items.len() + 1) / 2)?;
         push_quads(&mut self.last, items)?;
         Ok(())
     }
@@ -176,7 +203,8 @@ impl Sheet {
     #[cold]
     fn begin(&mut self, size: usize) -> Result<(), AllocError>
         requires { size < 2 ^ 60 }
-        ensures { OnOk result (written self.new ≡ begin (written self.old)) }
+        ensures written { OnOk result (written self.new ≡ begin (written self.old)) }
+        ensures limits { OnOk result (SameLimits self.old self.new) }
     {
         let next = Vec::with_capacity(self.alloc, self.reserved.max(size + 1))?;
         self.full.push(mem::replace(&mut self.last, next))?;
@@ -186,16 +214,17 @@ impl Sheet {
     /// Begins a new segment, if a body of this many words, whose pointer is in a segment, doesn't fit
     /// into the last one and a new one may be begun.
     #[inline(always)]
-    fn segment_for(&mut self, capacity: Capacity, segment: usize, size: usize) -> Result<(), AllocError>
-        requires keeps { KeepsTo capacity (written self.old) }
+    fn segment_for(&mut self, segment: usize, size: usize) -> Result<(), AllocError>
+        requires keeps { IsWithin self.old }
         requires sized { size < 2 ^ 60 }
-        ensures { OnOk result (written self.new ≡ with_segment_for capacity segment size (written self.old)) }
+        ensures written { OnOk result (written self.new ≡ with_segment_for self.old.capacity segment size (written self.old)) }
+        ensures limits { OnOk result (SameLimits self.old self.new) }
     {
         let landing_pad = if segment == self.full.len() { 0 } else { 1 };
-        if size == 0 || self.last.len() + landing_pad + size <= capacity.words {
+        if size == 0 || self.last.len() + landing_pad + size <= self.capacity.words {
             return Ok(());
         }
-        if self.full.len() + 1 >= capacity.segments {
+        if self.full.len() + 1 >= self.capacity.segments {
             return Ok(());
         }
         self.begin(size)
@@ -209,6 +238,7 @@ impl Sheet {
         requires named { IsNamed kind }
         ensures written { written self.new ≡ (here at.segment at.word kind (written self.old)).sheet }
         ensures at { result ≡ (here at.segment at.word kind (written self.old)).at }
+        ensures limits { SameLimits self.old self.new }
     {
         let start = self.end(at.segment);
         self.put(at, body_word(kind, start - (at.word + 1)));
@@ -221,11 +251,11 @@ impl Sheet {
     /// Names a body by a landing pad, and gives where it is to be written: after the landing pad, which is at the end
     /// of the last segment.
     #[cold]
-    fn place_after_landing_pad(&mut self, capacity: Capacity, at: Place, kind: Kind) -> Result<Place, WriteFault>
-        requires keeps { KeepsTo capacity (written self.old) }
+    fn place_after_landing_pad(&mut self, at: Place, kind: Kind) -> Result<Place, WriteFault>
+        requires keeps { IsWithin self.old }
         requires there { IsPlace (written self.old) at }
         requires named { IsNamed kind }
-        ensures { Places capacity result (after_landing_pad at.segment at.word kind (written self.old)) (written self.new) }
+        ensures { Places self.old self.new result (after_landing_pad at.segment at.word kind (written self.old)) }
     {
         let place = self.last.len();
         let segment = self.full.len();
@@ -235,7 +265,7 @@ impl Sheet {
             segment: segment as u32,
         };
         self.put(at, encode(far));
-        self.append(capacity, &[body_word(kind, 0)])?;
+        self.append(&[body_word(kind, 0)])?;
         Ok(Place {
             segment,
             word: place + 1,
@@ -245,24 +275,18 @@ impl Sheet {
     /// Places a body of this many words, whose pointer is at a place: directly, or after a landing pad.
     /// Gives where it is to be written.
     #[inline(always)]
-    pub fn place(
-        &mut self,
-        capacity: Capacity,
-        at: Place,
-        kind: Kind,
-        size: usize,
-    ) -> Result<Place, WriteFault>
-        requires keeps { KeepsTo capacity (written self.old) }
+    pub fn place(&mut self, at: Place, kind: Kind, size: usize) -> Result<Place, WriteFault>
+        requires keeps { IsWithin self.old }
         requires there { IsPlace (written self.old) at }
         requires named { IsNamed kind }
         requires sized { size < 2 ^ 60 }
-        ensures { Places capacity result (place_by capacity at.segment at.word kind size (written self.old)) (written self.new) }
+        ensures { Places self.old self.new result (place_on self.old at kind size) }
     {
-        self.segment_for(capacity, at.segment, size)?;
+        self.segment_for(at.segment, size)?;
         if size == 0 || at.segment == self.full.len() {
             return Ok(self.place_here(at, kind));
         }
-        self.place_after_landing_pad(capacity, at, kind)
+        self.place_after_landing_pad(at, kind)
     }
 }
 

@@ -16,9 +16,6 @@ use cp_tree::{Draft, Object, TreeRef, WriteFault, nests};
 use cp_words::{Limits, Place, Segments};
 use std::alloc::Global;
 
-/// A segment begins with capacity for this many words, if it may have them.
-const FIRST_WORDS: usize = 128;
-
 /// Writes a tree with lent parts, of one that a message can hold, into segments of at most this many
 /// words, in the order of its pointers (encoding specification, "Messages", "Inter-Segment
 /// Pointers"). 0 counts as 1. What doesn't fit in its pointer's segment goes after a landing pad of one word;
@@ -94,13 +91,12 @@ fn lay_out(
         segments: segments as usize,
         whole: limits.frame_words() as usize,
     };
-    let mut sheet = Sheet::new(alloc, capacity, capacity.words.min(FIRST_WORDS))?;
+    let mut sheet = Sheet::new(alloc, capacity, limits.traversal() as u64)?;
     let root = Place {
         segment: 0,
         word: 0,
     };
-    let mut budget = limits.traversal() as u64;
-    match lay(&mut sheet, capacity, root, tree, limits.nesting(), &mut budget) {
+    match lay(&mut sheet, root, tree, limits.nesting()) {
         Ok(()) => Ok(sheet),
         Err(WriteFault::OutOfMemory) => Err(WriteFault::OutOfMemory),
         Err(fault) => {

@@ -1,10 +1,7 @@
-use Rattle.std.proofs.Common.{◌≡◌, ◌+◌, ◌/◌, ◌++◌, length, ◌∙◌, ap, arith}
+use Rattle.std.proofs.Common.{◌≡◌, ◌+◌, ◌/◌, length, arith}
 use Rattle.std.proofs.lemmas.Result.{err_from_is_err_and}
 use Rattle.cp_tree.specs.Node.{bytes}
-use Rattle.cp_words.specs.Segments.{words_of}
 use Rattle.cp_writing.specs.Packed.{packed}
-use Rattle.cp_writing.specs.Sheets.{written}
-use Rattle.cp_writing.specs.declared.sheet.Sheet.{Sheet}
 use Rattle.cp_writing.proofs.Packing.{length_groups}
 use Rattle.cp_writing.proofs.Sheets.{counted}
 use Rattle.cp_writing.proofs.sheet.Sheet.append_bytes.Goals as goal
@@ -17,10 +14,7 @@ returns-in_err-count c =
 
 pub returns : goal.returns
 returns c =
-    let s = c.count.new.self in
-    let e = c.in_ok-count.ensures.counted in
     let ws = packed (bytes c.args.items.now) in
     let n = (length c.args.items.now + 7) / 8 in
     let long : length ws ≡ n = omega (arith, length_groups 256 8 c.args.items.now) in
-    counted c.args.capacity (written c.args.self.now) ws (words_of s.full.items) c.push_bytes.new.words.items s.words n c.requires long c.in_ok-count.ensures.within
-    (ap (λ (x : Sheet). words_of x.full.items) e) (ap (λ (x : Sheet). x.words) e) (c.in_ok-push_bytes.ensures ∙ ap (λ (x : Sheet). x.last.items ++ ws) e)
+    counted c.args.self.now c.count.new.self c.push_bytes.new.words ws n c.requires long c.in_ok-count.ensures.within c.in_ok-count.ensures.counted c.in_ok-push_bytes.ensures

@@ -2,25 +2,35 @@ use Rattle.std.proofs.Common.{◌≡◌, ◌⊎◌, inl, inr, ◌≤◌, length,
 use Rattle.std.specs.Prelude.{Vec, ℕ}
 use Rattle.std.specs.declared.alloc.Global.{Global}
 use Rattle.std.proofs.lemmas.List.{length-map}
-use Rattle.cp_writing.specs.Sheets.{Placed, KeepsTo, written, with_segment_for, place_by, place_in, here}
-use Rattle.cp_writing.proofs.Sheets.{capacity-keeps, capacity-goes, put-keeps, place-here}
+use Rattle.cp_writing.specs.declared.sheet.Sheet.{Sheet}
+use Rattle.cp_writing.specs.Sheets.{Placed, IsWithin, SameLimits, written, with_segment_for, place_on, place_in, here}
+use Rattle.cp_writing.proofs.Sheets.{capacity-keeps, capacity-goes, put-keeps, place-here, within, limits_on}
 use Rattle.cp_writing.proofs.sheet.Sheet.place.Goals.{then-size-eq0-via-then-size-eq0, then-size-eq0-via-else-size-eq0+then-at-len}
 use Rattle.cp_writing.proofs.sheet.Sheet.place.Goals as goal
 
+roomy : (A B : Sheet) (segment size : ℕ) → written B ≡ with_segment_for A.capacity segment size (written A) → SameLimits A B → IsWithin A → IsWithin B
+roomy A B segment size is same keeps = within A B _ is same (capacity-keeps A.capacity segment size (written A) keeps)
+
 pub returns-then-size-eq0 : goal.returns-then-size-eq0
 returns-then-size-eq0 c =
-    let F = written c.segment_for.new.self in
-    let roomy : F ≡ with_segment_for c.args.capacity c.args.at.segment c.args.size (written c.args.self.now) = c.in_ok-segment_for.ensures in
-    let keeps : KeepsTo c.args.capacity F = subst (KeepsTo c.args.capacity) (sym roomy) (capacity-keeps c.args.capacity c.args.at.segment c.args.size (written c.args.self.now) c.requires.keeps) in
-    let direct : (c.args.size ≡ 0) ⊎ (c.args.at.segment ≡ length F.full) = elim c.then-size-eq0.branch [
+    let A = c.args.self.now in
+    let B = c.segment_for.new.self in
+    let C = c.place_here.new.self in
+    let at = c.args.at in
+    let segment = c.in_ok-segment_for.ensures in
+    let keeps = roomy A B at.segment c.args.size segment.written segment.limits c.requires.keeps in
+    let direct : (c.args.size ≡ 0) ⊎ (at.segment ≡ length (written B).full) = elim c.then-size-eq0.branch [
       | then-size-eq0-via-then-size-eq0 w ↦ inl w.if-size-eq0.true
-      | then-size-eq0-via-else-size-eq0+then-at-len w ↦ inr (w.if-at-len.true ∙ w.len.ensures ∙ c.segment_for.new.self.full.ok.0 ∙ sym (length-map c.segment_for.new.self.full.items (λ (x : Vec ℕ Global). x.items)))
+      | then-size-eq0-via-else-size-eq0+then-at-len w ↦ inr (w.if-at-len.true ∙ w.len.ensures ∙ B.full.ok.0 ∙ sym (length-map B.full.items (λ (x : Vec ℕ Global). x.items)))
     ] in
-    let e : place_by c.args.capacity c.args.at.segment c.args.at.word c.args.kind c.args.size (written c.args.self.now) ≡ here c.args.at.segment c.args.at.word c.args.kind F = ap (λ G. place_in c.args.at.segment c.args.at.word c.args.kind c.args.size G) (sym roomy) ∙ place-here c.args.at.segment c.args.at.word c.args.kind c.args.size F direct in
-    let sheet = c.place_here.ensures.written ∙ ap (λ (x : Placed). x.sheet) (sym e) in
-    let at = c.place_here.ensures.at ∙ ap (λ (x : Placed). x.at) (sym e) in
-    let goes : length (written c.args.self.now).full ≤ length F.full = subst (λ G. length (written c.args.self.now).full ≤ length G.full) (sym roomy) (capacity-goes c.args.capacity c.args.at.segment c.args.size (written c.args.self.now)) in
-    ((sheet, subst (KeepsTo c.args.capacity) (sym c.place_here.ensures.written) (put-keeps c.args.capacity F c.args.at.segment c.args.at.word _ (omega (arith, goes, c.requires.there)) keeps)), at)
+    let e : place_on A at c.args.kind c.args.size ≡ here at.segment at.word c.args.kind (written B) = ap (λ G. place_in at.segment at.word c.args.kind c.args.size G) (sym segment.written) ∙ place-here at.segment at.word c.args.kind c.args.size (written B) direct in
+    let placed = c.place_here.ensures in
+    let sheet = placed.written ∙ ap (λ (x : Placed). x.sheet) (sym e) in
+    let place = placed.at ∙ ap (λ (x : Placed). x.at) (sym e) in
+    let goes : length (written A).full ≤ length (written B).full = subst (λ G. length (written A).full ≤ length G.full) (sym segment.written) (capacity-goes A.capacity at.segment c.args.size (written A)) in
+    ((sheet, within B C _ placed.written placed.limits (put-keeps B.capacity (written B) at.segment at.word _ (omega (arith, goes, c.requires.there)) keeps), limits_on A B C segment.limits placed.limits), place)
 
 pub place_after_landing_pad-requires-clause-keeps : goal.place_after_landing_pad-requires-clause-keeps
-place_after_landing_pad-requires-clause-keeps c = subst (KeepsTo c.args.capacity) (sym c.in_ok-segment_for.ensures) (capacity-keeps c.args.capacity c.args.at.segment c.args.size (written c.args.self.now) c.requires.keeps)
+place_after_landing_pad-requires-clause-keeps c =
+    let segment = c.in_ok-segment_for.ensures in
+    roomy c.args.self.now c.segment_for.new.self c.args.at.segment c.args.size segment.written segment.limits c.requires.keeps

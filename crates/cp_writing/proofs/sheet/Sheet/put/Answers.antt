@@ -5,8 +5,8 @@ use Rattle.std.specs.declared.alloc.Global.{Global}
 use Rattle.cp_writing.proofs.Sheets.{put_there_of}
 use Rattle.cp_writing.proofs.sheet.Sheet.put.Goals as goal
 
-pub returns-else-at-len : goal.returns-else-at-len
-returns-else-at-len c =
+pub returns-else-at-len-clause-written : goal.returns-else-at-len-clause-written
+returns-else-at-len-clause-written c =
     let full = c.args.self.now.full in
     let same = length-map full.items (λ (x : Vec ℕ Global). x.items) in
     let lt : c.args.at.segment < length full.items = omega (arith, same, c.requires.0, c.if-at-len.false, c.len.ensures, full.ok.0) in
