@@ -9,7 +9,7 @@ ghost use Rattle.cp_reading.specs.Reading.{start_of, target_here, target_by_two,
 use crate::fault::TreeFault;
 use cp_words::{Kind, Place, Pointer, decode};
 
-/// The body at which a pointer aims. `None` starts before its segment.
+/// The body that a pointer leads to. `None` starts before its segment.
 #[derive(Clone, Copy)]
 pub(crate) struct Target {
     pub kind: Kind,
@@ -17,7 +17,7 @@ pub(crate) struct Target {
     pub start: Option<usize>,
 }
 
-/// The body at which a pointer aims.
+/// The body that a pointer leads to.
 pub(crate) fn target_of(
     segments: &[Vec<u64>],
     at: Place,
@@ -80,7 +80,7 @@ pub(crate) fn start_from(word: usize, offset: i32) -> Option<usize>
     }
 }
 
-/// The body at which a far pointer aims.
+/// The body that a far pointer leads to.
 fn target_by_far(
     segments: &[Vec<u64>],
     at: Place,

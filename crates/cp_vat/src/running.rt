@@ -12,7 +12,7 @@ use cp_refs::PromiseId;
 use std::alloc::Global;
 
 /// Does events in order on a new vat, which gives this object to a Bootstrap, and stops at the first
-/// refusal. Room for what they give is made before the first; where that is refused, no event is done,
+/// refusal. Capacity for what they give is made before the first; where that is refused, no event is done,
 /// and V10 is reported at place 0. What was done is in order: calls on a promise reach what it came to in
 /// the order in which they came, each once.
 pub fn run(alloc: Global, bootstrap: Option<u32>, events: Vec<Event>) -> Ran
