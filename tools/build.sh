@@ -1,6 +1,7 @@
 #!/usr/bin/env bash
 # tools/build.sh CRATE..    proves these crates and those that they use, where they aren't up to date, and builds
-#                           the programs and static libraries among them. It says on standard error what it does.
+#                           the programs and static libraries among them. It says on standard error what it does,
+#                           and in how many minutes it may end. If it is stopped, the next run goes on from there.
 #
 # `rt lib` holds the locks of all libraries below a crate until it ends, and nearly all crates share one. So that crates are
 # proved side by side, each is in a folder of its own: a copy of the sources, and links to the libraries that it uses, built.
@@ -9,7 +10,7 @@ set -eu
 . "$(dirname "${BASH_SOURCE[0]}")/crates.sh"
 room=$root/.git/build-room # rt ci wants no second crates.txt elsewhere
 [ -d "$root/.git" ] || room=$root/out/build-room
-declare -A behind state jobs pid since
+declare -A behind state jobs pid since seconds work
 
 put_back() { # CRATE
     local out=$room/$1/crates/$1/out
@@ -54,20 +55,61 @@ measure() { # processors, and free memory in MB, within the limits of the contro
     fi
 }
 
-look() { # which crates wait to be proved, and for each the lines of the longest chain of crates that begins with it
-    local at name it kit_of lines
-    for ((at = ${#order[@]} - 1; at >= 0; at--)); do
-        name=${order[at]} kit_of=''
-        lines=$(find "$room/sources/$name/src" -name '*.rt' -exec cat {} + | wc -l)
-        behind[$name]=$((${behind[$name]-0} + lines))
-        for it in ${uses[$name]}; do [ "${behind[$it]-0}" -ge "${behind[$name]}" ] || behind[$it]=${behind[$name]}; done
+read_costs() { # of each crate the seconds, and the processor's, that its proof takes; a tenth where most of it is kept
+    local name wall busy
+    for name in "${order[@]}"; do seconds[$name]=60 work[$name]=60; done
+    while read -r name wall busy; do
+        [ -n "${seconds[$name]-}" ] || continue
+        [ ! -d "$root/crates/$name/out/incremental" ] || wall=$((wall / 10 + 5)) busy=$((busy / 10 + 5))
+        seconds[$name]=$wall work[$name]=$busy
+    done <"$root/tools/costs.txt"
+}
+
+look() { # which crates wait to be proved
+    local name kit_of
+    for name in "${order[@]}"; do
+        kit_of=''
         read -r kit_of 2>/dev/null <"$root/crates/$name/out/kit" || :
-        if [ "$kit_of" != "$kit" ] || ! is_fresh "$name"; then
-            state[$name]=waits count=$((count + 1))
-            [ -d "$root/crates/$name/out/incremental" ] || new=$((new + lines))
-        fi
+        [ "$kit_of" = "$kit" ] && is_fresh "$name" || state[$name]=waits count=$((count + 1))
     done
+    read_costs
+    weigh_chains
     mapfile -t by_chain < <(for name in "${!state[@]}"; do printf '%s %s\n' "${behind[$name]}" "$name"; done | sort -rn | cut -d' ' -f2)
+}
+
+weigh_chains() { # sets behind to the seconds that each crate and the longest chain above it still take, and all_work
+    local at name it left
+    behind=() all_work=0
+    for ((at = ${#order[@]} - 1; at >= 0; at--)); do
+        name=${order[at]} left=0
+        case ${state[$name]-built} in
+        waits) left=${seconds[$name]} all_work=$((all_work + ${work[$name]})) ;;
+        runs)
+            left=$((${seconds[$name]} - (SECONDS - ${since[$name]}) * planned / spent))
+            left=$((left < 5 ? 5 : left)) all_work=$((all_work + left * ${work[$name]} / ${seconds[$name]}))
+            ;;
+        esac
+        behind[$name]=$((${behind[$name]-0} + left))
+        for it in ${uses[$name]}; do [ "${behind[$it]-0}" -ge "${behind[$name]}" ] || behind[$it]=${behind[$name]}; done
+    done
+}
+
+minutes_left() { # by the longest chain, by what the processors have to do, and by how fast this machine was so far
+    local most=0 it
+    weigh_chains
+    for it in "${behind[@]}"; do [ "$it" -le "$most" ] || most=$it; done
+    [ $((all_work / processors)) -le "$most" ] || most=$((all_work / processors))
+    minutes=$(((most * spent / planned + 59) / 60))
+}
+
+minutes_to_build() { # CRATE: sets minutes to what a build of it may take now
+    local kit processors memory by_chain=() count=0 all_work=0 spent=1 planned=1
+    closure "$1"
+    kit=$(rt version)
+    look
+    measure
+    minutes_left
+    state=()
 }
 
 begin() { # CRATE JOBS
@@ -101,7 +143,9 @@ finish() { # CRATE
     rm -rf "${room:?}/$name"
     ended=$((ended + 1))
     state[$name]=built
-    say "$name took $((SECONDS - since[$name])) s; $((count - ended)) to go"
+    spent=$((spent + SECONDS - since[$name])) planned=$((planned + ${seconds[$name]}))
+    minutes_left
+    say "$name took $((SECONDS - since[$name])) s; $((count - ended)) to go, in some $minutes min"
 }
 
 begin_ready() { # those that wait for no other, the longest chain first, with processors in proportion to their chains
@@ -125,11 +169,16 @@ begin_ready() { # those that wait for no other, the longest chain first, with pr
 
 are_fresh() { local it; for it; do is_fresh "$it" || return 1; done; }
 
-build() { # CRATE..
-    local name kit processors memory by_chain=() new=0 count=0 number=0 ended=0 started=$SECONDS is_mine=''
+is_built() { # CRATE..: whether they are, and no source is newer
     read_crates
     closure "$@"
-    are_fresh "$@" && return
+    are_fresh "$@"
+}
+
+build() { # CRATE..
+    local name kit processors memory minutes by_chain=() all_work=0 count=0 number=0 ended=0 started=$SECONDS is_mine=''
+    local spent=60 planned=60 # seconds that the crates took which were proved so far, and that the table has for them
+    is_built "$@" && return
     command -v rt >/dev/null || fail "rt isn't in PATH: proving needs the Rattle toolchain"
     trap leave EXIT
     on_signals interrupted
@@ -140,7 +189,8 @@ build() { # CRATE..
     kit=$(rt version)
     look
     measure
-    [ "$new" -lt 2000 ] || say "$count crates are to be proved first, once, which takes some $((new / 1000)) to $((new / 500)) minutes"
+    minutes_left
+    say "$count crates are to be proved, once, in some $minutes min; it can be stopped, and goes on from there"
     while [ "$ended" -lt "$count" ]; do
         begin_ready
         sleep 0.3

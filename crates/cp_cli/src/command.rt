@@ -35,6 +35,7 @@ pub(crate) enum Task<'a> {
 /// What `capnp_cli` understands.
 pub(crate) fn command<'a>(alloc: Global) -> Result<Command<'a>, AllocError> {
     Command::new(alloc, "capnp_cli")
+        .bin_name("capnp_cli")?
         .about("Cap'n Proto messages and two-party RPC")
         .version(VERSION)
         .after_help(
