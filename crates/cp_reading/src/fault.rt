@@ -39,9 +39,9 @@ impl TreeFault {
             TreeFault::NoRoot(_) => "there is no root pointer, or it is null",
             TreeFault::RootKind(_) => "the root isn't a struct",
             TreeFault::OutOfBounds(_) =>
-                "a body or a landing landing_pad isn't wholly inside its segment, or elements overrun their list",
+                "a body or a landing pad isn't wholly inside its segment, or elements overrun their list",
             TreeFault::NoSegment(_) => "a far pointer names a segment that doesn't exist",
-            TreeFault::BadPad(_) => "a far pointer's landing landing_pad hasn't the form of one",
+            TreeFault::BadPad(_) => "a far pointer's landing pad hasn't the form of one",
             TreeFault::BadTag(_) => "the tag of a composite list isn't a struct pointer",
             TreeFault::BadCapability(_) => "a capability pointer has one of bits 2 to 31 set",
             TreeFault::NestingLimit(_) =>
