@@ -7,7 +7,13 @@
 //!
 //! Object 0 of the list is what a bootstrap gives. A result that has `Cap::Object(k)` in its table gives object
 //! k. `Cap::Import(i)` in a call's table is an object of the peer's: an answer may pass it on, and names
-//! it in `gives_up` once your object doesn't need it any more. It is released when nothing else uses it.
+//! it in `gives_up` once your object doesn't need it any more. It is released, with all its counts, when the vat
+//! doesn't use it any more. The vat doesn't know what your objects hold: where two of them were given the same
+//! import, the first that gives it up takes it from the other, so let only the last one do so.
+//!
+//! What `poll` settles goes out after the next message, or where the messages end: while the peer is silent no
+//! object is polled.
+//!
 //! A call on a number past the list fails with `no such object`, and one whose answer the vat refuses with
 //! `bad outcome`.
 //!
