@@ -19,7 +19,7 @@ const MOST_WORDS: i64 = 8_388_608;
 const MOST_PORT: i64 = 65_535;
 
 /// The version of what users see.
-const VERSION: &str = "0.1.0";
+const VERSION: &str = "0.2.0";
 
 /// What is to be done.
 #[derive(Drop)]
@@ -34,8 +34,7 @@ pub(crate) enum Task<'a> {
 
 /// What `capnp_cli` understands.
 pub(crate) fn command<'a>(alloc: Global) -> Result<Command<'a>, AllocError> {
-    Command::new(alloc, "capnp_cli")
-        .bin_name("capnp_cli")?
+    let command = Command::new(alloc, "capnp_cli")
         .about("Cap'n Proto messages and two-party RPC")
         .version(VERSION)
         .after_help(
@@ -43,13 +42,22 @@ pub(crate) fn command<'a>(alloc: Global) -> Result<Command<'a>, AllocError> {
              says where and why; 2 if the command line is wrong, or if a file or a connection failed.",
         )
         .subcommand_required(true)
-        .subcommand(show(alloc)?)?
-        .subcommand(check(alloc)?)?
-        .subcommand(pack(alloc)?)?
-        .subcommand(unpack(alloc)?)?
-        .subcommand(recut(alloc)?)?
-        .subcommand(looped(alloc)?)?
-        .subcommand(serve(alloc)?)
+        .bin_name("capnp_cli")?;
+    let command = and(command, show(alloc))?;
+    let command = and(command, check(alloc))?;
+    let command = and(command, pack(alloc))?;
+    let command = and(command, unpack(alloc))?;
+    let command = and(command, recut(alloc))?;
+    let command = and(command, looped(alloc))?;
+    and(command, serve(alloc))
+}
+
+/// The command with one more of its words, which no exit of `command` has to let go.
+fn and<'a>(
+    command: Command<'a>,
+    more: Result<Command<'a>, AllocError>,
+) -> Result<Command<'a>, AllocError> {
+    command.subcommand(more?)
 }
 
 /// What the words ask for.

@@ -4,8 +4,9 @@
 mod command;
 
 use command::Task;
-use cp_commands::{BROKEN, LONGEST_LOOP, Plan, act, loop_bytes, serve_port};
+use cp_commands::{BROKEN, Plan, act};
 use cp_frame::Mode;
+use cp_ports::{LONGEST_LOOP, loop_bytes, serve_port};
 use std::env;
 use std::fs::File;
 use std::io::{self, BufWriter, Read, Write};

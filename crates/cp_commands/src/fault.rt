@@ -1,14 +1,10 @@
 //! What stops a command.
 
-use crate::status::{BROKEN, REFUSED};
 use cp_frame::FrameFault;
 use cp_reading::TreeFault;
-use cp_serve::ServeFault;
 use cp_stream::{Refusal, StreamFault};
 use cp_tree::WriteFault;
 use std::alloc::{AllocError, AllocFailed};
-use std::error::Error;
-use std::fmt;
 use std::io::{self, ErrorKind};
 
 /// Why a command stopped.
@@ -66,28 +62,3 @@ impl From<WriteFault> for Stop {
         Stop::Refused(Refusal::from(fault))
     }
 }
-
-/// Why a connection wasn't served to its end, as a line says it.
-#[derive(Clone, Copy, Debug)]
-pub struct Unserved(pub ServeFault);
-
-impl Unserved {
-    /// The status that a command ends with.
-    pub(crate) fn status(&self) -> u8 {
-        match self.0 {
-            ServeFault::Stream(StreamFault::Device) => BROKEN,
-            _ => REFUSED,
-        }
-    }
-}
-
-impl fmt::Display for Unserved {
-    fn fmt<W: fmt::Write>(&self, f: &mut fmt::Formatter<W>) -> fmt::Result {
-        match &self.0 {
-            ServeFault::Stream(StreamFault::Device) => f.write_str("device"),
-            fault => fault.fmt(f),
-        }
-    }
-}
-
-impl Error for Unserved {}

@@ -1,12 +1,9 @@
-//! What `capnp_cli` does: with a file, over a reader and two writers, and with connections.
+//! What `capnp_cli` does with a file, over a reader and two writers.
 #![tactic(auto)]
 
-mod capped;
-mod connections;
 mod fault;
 mod plan;
 mod status;
 
-pub use connections::{LONGEST_LOOP, loop_bytes, serve_connections, serve_port};
 pub use plan::{Plan, act};
-pub use status::BROKEN;
+pub use status::{ACCEPTED, BROKEN, REFUSED};

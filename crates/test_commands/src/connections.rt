@@ -1,7 +1,8 @@
 //! Connections that are served.
 
-use cp_commands::{LONGEST_LOOP, Plan, act, loop_bytes, serve_connections, serve_port};
+use cp_commands::{Plan, act};
 use cp_frame::Mode;
+use cp_ports::{LONGEST_LOOP, loop_bytes, serve_connections, serve_port};
 use cp_words::Limits;
 use std::alloc::Global;
 use std::io::{Read, Write};

@@ -1,4 +1,4 @@
-//! Tests of cp_commands, over its library.
+//! Tests of cp_commands and cp_ports, over their libraries.
 #![tactic(auto)]
 
 #[cfg(test)]

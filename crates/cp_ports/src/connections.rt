@@ -1,9 +1,8 @@
 //! Serving the Desk and the Cell on connections of 127.0.0.1.
 
 use crate::capped::Capped;
-use crate::fault::Unserved;
-use crate::plan::{Plan, act};
-use crate::status::{ACCEPTED, BROKEN};
+use crate::unserved::Unserved;
+use cp_commands::{ACCEPTED, BROKEN, Plan, act};
 use cp_frame::Mode;
 use cp_serve::{Cell, Desk, Servant, ServeFault, serve};
 use cp_stream::{StreamFault, Tap};
