@@ -54,6 +54,7 @@ asked_orderly old q kind ticket is_sent orderly fresh =
           (none_waits old.waiting.calls old.entries.questions orderly.held q (fresh_not (get old.entries.questions q) fresh))
           (never_delivered refl);
       values = orderly.values;
+      answers = orderly.answers;
       exports = orderly.exports;
     }
 
@@ -69,7 +70,7 @@ called_starts old q kind orderly fresh =
     record {
       same =
           same_accounts _ _ (λ e. refl) (λ i. refl) (λ p. fresh_put old.entries.questions q p (asked_entry (Some old.next_ticket) false) (q == p) refl fresh refl) (λ a. refl);
-      orderly = record { held = now.held; values = now.values; exports = now.exports };
+      orderly = record { held = now.held; values = now.values; answers = now.answers; exports = now.exports };
       may = (
         rw (get-insert_same old.entries.questions q (new_exchange (asked_entry (Some old.next_ticket) false))) ((refl, tt), refl),
         none_waits old.waiting.calls old.entries.questions orderly.held q (fresh_not (get old.entries.questions q) fresh),
@@ -82,7 +83,7 @@ marks_start old from mid q M is start =
     (is)
     (record {
       same = start.same;
-      orderly = record { held = start.orderly.held; values = start.orderly.values; exports = start.orderly.exports };
+      orderly = record { held = start.orderly.held; values = start.orderly.values; answers = start.orderly.answers; exports = start.orderly.exports };
       may = start.may;
     })
 
@@ -141,6 +142,7 @@ embargoed_goes old from mid q n M cap call gate is start own =
             (record { ticket = call.ticket; origin = call.origin; request = call.request; gate = gate })
             (λ p is. may_wait from call.origin p is (rw (own) start.may));
         values = start.orderly.values;
+        answers = start.orderly.answers;
         exports = start.orderly.exports;
       },
     )

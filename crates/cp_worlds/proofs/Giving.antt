@@ -35,7 +35,7 @@ use Rattle.cp_worlds.proofs.Posted.{unsent_put, unsent_gone}
 use Rattle.cp_worlds.proofs.Saying.{said_all}
 use Rattle.cp_worlds.proofs.Mailing.{sends_both, sends_one}
 use Rattle.cp_worlds.proofs.Holding.{put_question, gone_question}
-use Rattle.cp_worlds.proofs.Plainly.{IsPlainTable, table_plain, table_settled}
+use Rattle.cp_worlds.proofs.Plainly.{IsPlainTable, table_plain, table_settled, answers_put, answers_gone}
 use Rattle.cp_worlds.proofs.Resolved.{tied_goes}
 
 -- what a Return names is counted, and nothing else changed
@@ -77,9 +77,9 @@ given_step table a p kept mentions false t is =
 
 given_goes : (old mid : State) (X : Table (Counted Cap)) (a : ℕ) (kept : AnswerEntry) (outcome : Outcome) (returned : Returned) → mid ≡ with_exports old X
     → ((f : ℕ) → count_of X f ≡ count_of old.counts.exports f + times f (returned_mentions returned)) → is_supported_returned returned ≡ true
-    → is_settled_returned returned ≡ true → ArePlainExports X → IsOrderly old → get old.entries.answers a ≡ Some (record { stage = stages.Open; kept = kept })
-    → Goes old (return_of a returned ∷ []) (given mid a kept outcome returned)
-given_goes old mid X a kept outcome returned only counts supported settles plain orderly is =
+    → is_settled_returned returned ≡ true → ArePlainExports X → IsPlainTable (caps_of outcome) → IsOrderly old
+    → get old.entries.answers a ≡ Some (record { stage = stages.Open; kept = kept }) → Goes old (return_of a returned ∷ []) (given mid a kept outcome returned)
+given_goes old mid X a kept outcome returned only counts supported settles plain outcome_plain orderly is =
     rw
     (only) (
       sends_one
@@ -95,7 +95,12 @@ given_goes old mid X a kept outcome returned only counts supported settles plain
             questions = λ q. refl;
             answers = λ p. given_step old.entries.answers a p kept (returned_mentions returned) (a == p) refl is;
           }),
-      record { held = orderly.held; values = orderly.values; exports = plain },
+      record {
+        held = orderly.held;
+        values = orderly.values;
+        answers = answers_put old.values.answers a (Some outcome) outcome_plain orderly.answers;
+        exports = plain;
+      },
     )
 
 -- one that was finished goes
@@ -121,7 +126,7 @@ gone_goes old a kept outcome orderly is = (
         questions = λ q. refl;
         answers = λ p. left_step old.entries.answers a p kept (a == p) refl is;
       }),
-  record { held = orderly.held; values = orderly.values; exports = orderly.exports },
+  record { held = orderly.held; values = orderly.values; answers = answers_gone old.values.answers a orderly.answers; exports = orderly.exports },
 )
 
 gives_by : (old : State) (a : ℕ) (outcome : Outcome) (kept : AnswerEntry) (stage : Stage) (done : Done) → IsOrderly old → IsPlainTable (caps_of outcome)
@@ -130,7 +135,7 @@ gives_by old a outcome kept stages.Open done orderly plain is does =
     let says = then_out {A = Returned × State} {B = Done} (Returns old outcome) _ done does in
     let rest = then_out {A = Done} {B = Done} (SettleTied (given says.0.1 a kept outcome says.0.0) outcome kept.tied) _ done says.2 in
     let said = returns_as old outcome says.0 orderly plain says.1 in
-    let one = given_goes old says.0.1 says.0.1.counts.exports a kept outcome says.0.0 said.only said.counted said.supported said.settles said.plain orderly is in
+    let one = given_goes old says.0.1 says.0.1.counts.exports a kept outcome says.0.0 said.only said.counted said.supported said.settles said.plain plain orderly is in
     let all = tied_goes kept.tied (given says.0.1 a kept outcome says.0.0) outcome rest.0 one.1 plain rest.1 in
     rw
     (ok_in _ _ rest.2)
@@ -162,6 +167,7 @@ owns_by old q outcome kept stages.Open done orderly none unsent is does =
       record {
         held = put_question old.waiting.calls old.entries.questions orderly.held q (record { stage = stages.Returned; kept = kept }) none (λ here. unsent);
         values = orderly.values;
+        answers = orderly.answers;
         exports = orderly.exports;
       },
     )
@@ -176,6 +182,7 @@ owns_by old q outcome kept stages.Finished done orderly none unsent is does =
       record {
         held = gone_question old.waiting.calls old.entries.questions orderly.held q none;
         values = orderly.values;
+        answers = orderly.answers;
         exports = orderly.exports;
       },
     )

@@ -77,6 +77,7 @@ deliver_own old effect q (Some entry) silent orderly is back none =
       record {
         held = put_question old.waiting.calls old.entries.questions orderly.held q next none (λ here. back.0.0);
         values = orderly.values;
+        answers = orderly.answers;
         exports = orderly.exports;
       },
     )
@@ -91,7 +92,7 @@ deliver_goes old (origins.Answer a) effect silent orderly may = (
       silent
       (same_accounts _ _ (λ e. refl) (λ i. refl) (λ q. refl)
       (λ p. changed_account old.entries.answers a p (λ entry. record entry { kept = record entry.kept { is_delivered = true } }) (λ entry. refl))),
-  record { held = orderly.held; values = orderly.values; exports = orderly.exports },
+  record { held = orderly.held; values = orderly.values; answers = orderly.answers; exports = orderly.exports },
 )
 deliver_goes old (origins.Own q) effect silent orderly may =
     deliver_own old effect q (get old.entries.questions q) silent orderly refl may.0 may.1
@@ -111,6 +112,7 @@ peer_orderly old mid X q kept only plain orderly fresh undelivered =
           (none_waits old.waiting.calls old.entries.questions orderly.held q (fresh_not (get old.entries.questions q) fresh))
           (never_delivered undelivered);
       values = orderly.values;
+      answers = orderly.answers;
       exports = plain;
     })
 
@@ -126,6 +128,7 @@ own_orderly old mid X q entry ds only plain orderly is none undelivered =
           none
           (never_delivered undelivered);
       values = orderly.values;
+      answers = orderly.answers;
       exports = plain;
     })
 
@@ -174,6 +177,7 @@ go_goes old call (routes.Wait gate) done orderly may goes =
             (record { ticket = call.ticket; origin = call.origin; request = call.request; gate = gate })
             (λ q is. may_wait old call.origin q is may);
         values = orderly.values;
+        answers = orderly.answers;
         exports = orderly.exports;
       },
     )
@@ -193,6 +197,7 @@ left_orderly s call orderly =
     record {
       held = gone_call s.waiting.calls s.entries.questions orderly.held call.ticket;
       values = orderly.values;
+      answers = orderly.answers;
       exports = orderly.exports;
     }
 
@@ -208,7 +213,7 @@ turn_goes old mid call cap first orderly next goes =
 
 pub leave_goes : {old : State} {all : List Effect} {out : Result State PeerFault} → IsOrderly old → Leave old all out → LeftAs old all out
 leave_goes {old = old} orderly (stays none) =
-    (sends_none old (with_over old none_over) [] refl refl, record { held = orderly.held; values = orderly.values; exports = orderly.exports })
+    (sends_none old (with_over old none_over) [] refl refl, record { held = orderly.held; values = orderly.values; answers = orderly.answers; exports = orderly.exports })
 leave_goes {old = old} {all = all} orderly (leaves {mid = mid} {first = first} {rest = rest} {last = last} call cap next goes more same) =
     let one = turn_goes old mid call cap first orderly next goes in
     further last one (leave_goes one.1 more)

@@ -42,7 +42,7 @@ use Rattle.cp_worlds.specs.Accounts.{accounts_of, kept_account, new_account}
 use Rattle.cp_worlds.specs.Orderly.{ArePlainExports, IsPlainExport, IsOrderly, IsHeldAlone, Goes, Heeds}
 use Rattle.cp_worlds.proofs.Posted.{finish_heard, release_heard}
 use Rattle.cp_worlds.proofs.Mailing.{hears_both}
-use Rattle.cp_worlds.proofs.Plainly.{IsPlainTable, put_plain, gone_plain}
+use Rattle.cp_worlds.proofs.Plainly.{IsPlainTable, put_plain, gone_plain, answers_put, answers_gone}
 use Rattle.cp_worlds.proofs.Giving.{answer_goes}
 use Rattle.cp_worlds.proofs.Going.{go_goes, goto_goes}
 use Rattle.cp_worlds.proofs.Taking.{TakenIn, take_all_in}
@@ -89,6 +89,7 @@ call_enters old mid c taken orderly = (
   record {
     held = rw (taken.calls, taken.questions) orderly.held;
     values = taken.values orderly.values;
+    answers = answers_put mid.values.answers c.question_id None tt (rw (taken.given) orderly.answers);
     exports = rw (taken.exports) orderly.exports;
   },
 )
@@ -121,7 +122,7 @@ bootstrap_enters old a orderly = (
     usual = tt;
     posts = refl;
   },
-  record { held = orderly.held; values = orderly.values; exports = orderly.exports },
+  record { held = orderly.held; values = orderly.values; answers = answers_put old.values.answers a None tt orderly.answers; exports = orderly.exports },
 )
 
 pub bootstrap_heeds : (old : State) (a : ℕ) (done : Done) → IsOrderly old → OnBootstrap old a (Ok done) → Heeds old (messages.Bootstrap (record { question_id = a })) done.0 done.1
@@ -149,7 +150,7 @@ lowered_plain : (ids : List ℕ) (exports : Table (Counted Cap)) → ArePlainExp
 lowered_plain [] exports all = all
 lowered_plain (e ∷ ids) exports all = lowered_plain ids (lowered_by exports e 1) (less_all_plain exports e 1 all)
 
-lower_plain : (exports new : Table (Counted Cap)) (ids : List ℕ) → ArePlainExports exports → Ok new ≡ lower exports ids → ArePlainExports new
+pub lower_plain : (exports new : Table (Counted Cap)) (ids : List ℕ) → ArePlainExports exports → Ok new ≡ lower exports ids → ArePlainExports new
 lower_plain exports new ids all is =
     by (list_any (λ e. is_none (get exports e)) ids) (list_any (λ e. ltb (count_of exports e) (times e ids)) ids) is
   where
@@ -176,17 +177,18 @@ release_heeds old r done orderly does =
           (record {
             held = orderly.held;
             values = orderly.values;
+            answers = orderly.answers;
             exports = released_plain old.counts.exports parts.0 r.id r.reference_count orderly.exports parts.1;
           }),
     )
 
-lower_if_plain : (b : Bool) (exports new : Table (Counted Cap)) (ids : List ℕ) → ArePlainExports exports → Ok new ≡ (if b then lower exports ids else Ok exports) → ArePlainExports new
+pub lower_if_plain : (b : Bool) (exports new : Table (Counted Cap)) (ids : List ℕ) → ArePlainExports exports → Ok new ≡ (if b then lower exports ids else Ok exports) → ArePlainExports new
 lower_if_plain true exports new ids all is = lower_plain exports new ids all is
 lower_if_plain false exports new ids all is = rw (ok_in _ _ is) all
 
 finish_orderly : (old : State) (f : Finish) (kept : AnswerEntry) (stage : Stage) (done : Done) → IsOrderly old → AtStage old f kept stage (Ok done) → IsOrderly done.1
 finish_orderly old f kept stages.Open done orderly does =
-    rw (ok_in _ _ does) (record { held = orderly.held; values = orderly.values; exports = orderly.exports })
+    rw (ok_in _ _ does) (record { held = orderly.held; values = orderly.values; answers = orderly.answers; exports = orderly.exports })
 finish_orderly old f kept stages.Returned done orderly does =
     let parts = then_out {A = Table (Counted Cap)} {B = Done}
     (λ exports. exports ≡ (if f.release_result_caps then lower old.counts.exports kept.mentions else Ok old.counts.exports)) _ done does in
@@ -195,6 +197,7 @@ finish_orderly old f kept stages.Returned done orderly does =
     (record {
       held = orderly.held;
       values = orderly.values;
+      answers = answers_gone old.values.answers f.question_id orderly.answers;
       exports = lower_if_plain f.release_result_caps old.counts.exports parts.0 kept.mentions orderly.exports parts.1;
     })
 finish_orderly old f kept stages.Finished done orderly does = ok_out does
@@ -254,7 +257,7 @@ ends old d n (Some cap) done orderly is =
         usual = tt;
         posts = refl;
       },
-      record { held = orderly.held; values = orderly.values; exports = orderly.exports },
+      record { held = orderly.held; values = orderly.values; answers = orderly.answers; exports = orderly.exports },
     )
 
 pub disembargo_heeds : (old : State) (d : Disembargo) (context : Context) (done : Done) → IsOrderly old → OnDisembargo old context d.target (Ok done)

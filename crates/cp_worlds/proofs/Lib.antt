@@ -104,3 +104,5 @@ pub mod LaneStartPlaces
 pub mod LaneFinish
 pub mod LaneAllThere
 pub mod Order
+pub mod Tally
+pub mod Tallying

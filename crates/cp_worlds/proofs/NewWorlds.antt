@@ -7,6 +7,7 @@ use Rattle.cp_tables.specs.declared.counted.Counted.{Counted}
 use Rattle.cp_tables.specs.declared.exchange.Exchange.{Exchange}
 use Rattle.cp_refs.specs.declared.cap.Cap.{Cap}
 use Rattle.cp_refs.specs.declared.call.Held.{Held}
+use Rattle.cp_refs.specs.declared.outcome.Outcome.{Outcome}
 use Rattle.cp_machine.specs.State.{new_state}
 use Rattle.cp_machine.specs.declared.entry.AnswerEntry.{AnswerEntry}
 use Rattle.cp_machine.specs.declared.entry.ImportKind.{ImportKind}
@@ -45,5 +46,6 @@ new_orderly one =
             here = λ q entry is given. none_out (sym (get-empty {X = Exchange QuestionEntry} nat_cmp q) ∙ is);
           };
       values = λ p. rw (get-empty {X = Option Cap} nat_cmp p) tt;
+      answers = λ a. rw (get-empty {X = Option Outcome} nat_cmp a) tt;
       exports = λ e. rw (get-empty {X = Counted Cap} nat_cmp e) tt;
     }

@@ -126,6 +126,7 @@ promise_goes old done orderly does =
       record {
         held = orderly.held;
         values = values_put old.values.promises parts.0 None tt orderly.values;
+        answers = orderly.answers;
         exports = orderly.exports;
       },
     )
@@ -158,6 +159,7 @@ forget_goes old p done orderly does =
       record {
         held = orderly.held;
         values = λ q. value_gone old.values.promises p q (p == q) refl orderly.values;
+        answers = orderly.answers;
         exports = orderly.exports;
       },
     )
@@ -174,6 +176,7 @@ finish_orderly old q kept stages.Open done orderly is does =
           (λ back. ((back.0.0, tt), back.1))
           (orderly.held.here q (record { stage = stages.Open; kept = kept }) is);
       values = orderly.values;
+      answers = orderly.answers;
       exports = orderly.exports;
     })
 finish_orderly old q kept stages.Returned done orderly is does =
@@ -184,6 +187,7 @@ finish_orderly old q kept stages.Returned done orderly is does =
           gone_question old.waiting.calls old.entries.questions orderly.held q
           (none_waits old.waiting.calls old.entries.questions orderly.held q (rw (is) (given_not (record { stage = stages.Returned; kept = kept }) refl)));
       values = orderly.values;
+      answers = orderly.answers;
       exports = orderly.exports;
     })
 finish_orderly old q kept stages.Finished done orderly is does = absurd does
@@ -206,7 +210,7 @@ release_goes old i done orderly does =
     let is = unless_out {A = OwnDone} {F = VatFault}
     (fault_if (is_import_used old i) refusals.InUse ++ fault_if (is_none (get old.counts.imports i)) refusals.UnknownImport)
     (λ out. out ≡ Ok (values.Nothing, release_of i (count_of old.counts.imports i) ∷ [], without_import old i)) done does in
-    (releases_sent old i done does, rw (ok_in _ _ is) (record { held = orderly.held; values = orderly.values; exports = orderly.exports }))
+    (releases_sent old i done does, rw (ok_in _ _ is) (record { held = orderly.held; values = orderly.values; answers = orderly.answers; exports = orderly.exports }))
 
 -- any call of the application
 pub does_goes : (old : State) (event : Event) (done : OwnDone) → IsOrderly old → Does old event (Ok done) → Goes old done.1 done.2

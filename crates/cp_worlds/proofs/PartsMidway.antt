@@ -72,7 +72,7 @@ pub receives_midway : (s : State) (m : Message) (rest : List Message) (other : E
     → Agree (accounts_of s) (m ∷ rest) (accounts_of other.vat) other.inbox → gives_up m ≡ false → ComesToHeld s m → Receives s m (Ok done)
     → Midway done.1 rest (with_mail other (messages_sent done.0))
 receives_midway s m rest other done local_ none orderly agree quiet held does =
-    let hears = receives_heeds s m done agree.usual.0 orderly does in
+    let hears = receives_heeds s m done agree.usual.0.0 orderly does in
     record {
       within = receives_within s m done local_ does;
       unfinished = (receives_moved s (local_is_within s local_) local_.none_over_ none m done agree.usual.0 quiet held does).mails.unfinished none;

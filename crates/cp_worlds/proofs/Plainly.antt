@@ -23,7 +23,7 @@ use Rattle.cp_machine.specs.Capacity.{free}
 use Rattle.cp_machine.specs.declared.fault.PeerFault.{PeerFault}
 use Rattle.cp_machine.proofs.Basics.{some_out, none_out, ok_in, or_first, or_second, then_out, put_at, gone_at}
 use Rattle.cp_worlds.specs.Lives.{is_settled_descriptor}
-use Rattle.cp_worlds.specs.Orderly.{IsPlainValue, ArePlainValues, IsPlainExport, ArePlainExports}
+use Rattle.cp_worlds.specs.Orderly.{IsPlainValue, ArePlainValues, IsPlainAnswer, ArePlainAnswers, IsPlainExport, ArePlainExports}
 use Rattle.cp_worlds.proofs.Saying.{both_true, said_end}
 
 -- no capability of this table is a question's path
@@ -77,6 +77,23 @@ put_plain exports e f entry false t plain all = rw (put_at exports e f entry fal
 pub gone_plain : (exports : Table (Counted Cap)) (e f : ℕ) (b : Bool) → (e == f) ≡ b → ArePlainExports exports → IsPlainExport (get (remove exports e) f)
 gone_plain exports e f true t all = rw (gone_at exports e f true t) tt
 gone_plain exports e f false t all = rw (gone_at exports e f false t) (all f)
+
+-- how answers change
+put_answer : (answers : Table (Option Outcome)) (a b : ℕ) (outcome : Option Outcome) (c : Bool) → (a == b) ≡ c → IsPlainAnswer (Some outcome) → ArePlainAnswers answers
+    → IsPlainAnswer (get (insert answers a outcome) b)
+put_answer answers a b outcome true t plain all = rw (put_at answers a b outcome true t) plain
+put_answer answers a b outcome false t plain all = rw (put_at answers a b outcome false t) (all b)
+
+pub answers_put : (answers : Table (Option Outcome)) (a : ℕ) (outcome : Option Outcome) → IsPlainAnswer (Some outcome) → ArePlainAnswers answers
+    → ArePlainAnswers (insert answers a outcome)
+answers_put answers a outcome plain all b = put_answer answers a b outcome (a == b) refl plain all
+
+gone_answer : (answers : Table (Option Outcome)) (a b : ℕ) (c : Bool) → (a == b) ≡ c → ArePlainAnswers answers → IsPlainAnswer (get (remove answers a) b)
+gone_answer answers a b true t all = rw (gone_at answers a b true t) tt
+gone_answer answers a b false t all = rw (gone_at answers a b false t) (all b)
+
+pub answers_gone : (answers : Table (Option Outcome)) (a : ℕ) → ArePlainAnswers answers → ArePlainAnswers (remove answers a)
+answers_gone answers a all b = gone_answer answers a b (a == b) refl all
 
 abbrev RaisedPlain : Result (ℕ × State) PeerFault → Type 0
 RaisedPlain (Ok raised) = ArePlainExports raised.1.counts.exports

@@ -179,7 +179,7 @@ nothing_lowered : (b : Bool) (n e : ℕ) → n ≡ n + (if b then times e [] els
 nothing_lowered true n e = omega arith
 nothing_lowered false n e = omega arith
 
-lowered_if : (b : Bool) (old : State) (X : Table (Counted Cap)) (mentions : List ℕ) → Ok X ≡ (if b then lower old.counts.exports mentions else Ok old.counts.exports) → (e : ℕ)
+pub lowered_if : (b : Bool) (old : State) (X : Table (Counted Cap)) (mentions : List ℕ) → Ok X ≡ (if b then lower old.counts.exports mentions else Ok old.counts.exports) → (e : ℕ)
     → (accounts_of old).exports e ≡ (accounts_of (with_exports old X)).exports e + (if b then times e mentions else 0)
 lowered_if true old X mentions is e = lower_counts old.counts.exports X mentions is e
 lowered_if false old X mentions is e = rw (ok_in _ _ is) (omega arith)

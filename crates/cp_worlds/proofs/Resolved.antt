@@ -72,7 +72,7 @@ resolve_goes old mid X e resolution only counts supported settles plain orderly 
     (only) (
       sends_one old (with_exports old X) (messages.Resolve (record { promise_id = e; resolution = resolution })) (resolve_of e resolution ∷ []) refl (supported, settles)
           (record { exports = counts; imports = λ i. omega arith; questions = λ q. refl; answers = λ a. refl }),
-      record { held = orderly.held; values = orderly.values; exports = plain },
+      record { held = orderly.held; values = orderly.values; answers = orderly.answers; exports = plain },
     )
 
 tells_goes : (old : State) (p : ℕ) (last : Cap) (done : Done) → IsOrderly old → IsPlain last → Tells old p last (Ok done) → Goes old done.0 done.1
@@ -105,7 +105,7 @@ values_put promises p value plain all q = put_value promises p q value (p == q) 
 
 settled_orderly : (old : State) (p : ℕ) (value : Cap) → IsPlain value → IsOrderly old → IsOrderly (settled old p value)
 settled_orderly old p value plain orderly =
-    record { held = orderly.held; values = values_put old.values.promises p (Some value) plain orderly.values; exports = orderly.exports }
+    record { held = orderly.held; values = values_put old.values.promises p (Some value) plain orderly.values; answers = orderly.answers; exports = orderly.exports }
 
 pub settle_goes : (old : State) (p : ℕ) (value : Cap) (done : Done) → IsOrderly old → IsPlain value → Settle old p value (Ok done) → Goes old done.0 done.1
 settle_goes old p value done orderly plain does =

@@ -28,14 +28,15 @@ use Rattle.cp_machine.specs.declared.entry.QuestionEntry.{QuestionEntry}
 use Rattle.cp_machine.specs.declared.fault.PeerFault.TheVariants as faults
 use Rattle.cp_machine.proofs.Basics.{some_out, is_equal, ok_in, ok_out, then_out, put_at, gone_at}
 use Rattle.cp_worlds.specs.Accounts.{accounts_of, asked_account, question_finished, Came, question_returned}
-use Rattle.cp_worlds.specs.Lives.{IsUsual, is_settled_returned}
 use Rattle.cp_worlds.specs.Posting.{Hears}
 use Rattle.cp_worlds.specs.Orderly.{NoneWaits, IsOrderly, Heeds}
+use Rattle.cp_worlds.proofs.Posted.{lowered_if}
 use Rattle.cp_worlds.proofs.Mailing.{hears_both}
 use Rattle.cp_worlds.proofs.Holding.{sent_not, none_waits, put_question, gone_question}
 use Rattle.cp_worlds.proofs.Plainly.{IsPlainTable}
 use Rattle.cp_worlds.proofs.Giving.{answer_goes}
 use Rattle.cp_worlds.proofs.Taking.{TakenIn, taken_none, take_all_in, take_all_plain}
+use Rattle.cp_worlds.proofs.Heeding.{lower_if_plain}
 
 -- A Return is noted, and after a Finish the question is gone.
 returned_step : (table : Table (Exchange QuestionEntry)) (q p : ℕ) (kept : QuestionEntry) (b : Bool) → (q == p) ≡ b → get table q ≡ Some (new_exchange kept) → kept.is_sent ≡ true
@@ -66,35 +67,55 @@ table_names (returns.Unknown n) = refl
 abbrev ReturnedIn : State → Returned → Outcome × State → Type 0
 ReturnedIn old returned taken = TakenIn old (table_of returned) taken.1 × IsPlainTable (caps_of taken.0)
 
-returned_in : (old : State) (returned : Returned) (taken : Outcome × State) → IsOrderly old → is_settled_returned returned ≡ true → TakeReturned old returned (Ok taken)
-    → ReturnedIn old returned taken
-returned_in old (returns.Results p) taken orderly settled is =
+returned_in : (old : State) (returned : Returned) (taken : Outcome × State) → IsOrderly old → TakeReturned old returned (Ok taken) → ReturnedIn old returned taken
+returned_in old (returns.Results p) taken orderly is =
     let parts = then_out {A = List Cap × State} {B = Outcome × State} (TakeAll old p.cap_table) _ taken is in
-    rw (ok_in _ _ parts.2) (take_all_in p.cap_table old parts.0 parts.1, take_all_plain p.cap_table old parts.0 settled orderly.exports parts.1)
-returned_in old (returns.Exception x) taken orderly settled is = rw (ok_in _ _ is) (taken_none old, refl)
-returned_in old returns.Canceled taken orderly settled is = rw (ok_in _ _ is) (taken_none old, refl)
-returned_in old returns.ResultsSentElsewhere taken orderly settled is = absurd is
-returned_in old (returns.TakeFromOtherQuestion q) taken orderly settled is = absurd is
-returned_in old (returns.AcceptFromThirdParty t) taken orderly settled is = absurd is
-returned_in old (returns.Unknown n) taken orderly settled is = absurd is
+    rw (ok_in _ _ parts.2) (take_all_in p.cap_table old parts.0 parts.1, take_all_plain p.cap_table old parts.0 orderly.answers orderly.exports parts.1)
+returned_in old (returns.Exception x) taken orderly is = rw (ok_in _ _ is) (taken_none old, refl)
+returned_in old returns.Canceled taken orderly is = rw (ok_in _ _ is) (taken_none old, refl)
+returned_in old returns.ResultsSentElsewhere taken orderly is = absurd is
+returned_in old (returns.TakeFromOtherQuestion q) taken orderly is = absurd is
+returned_in old (returns.AcceptFromThirdParty t) taken orderly is = absurd is
+returned_in old (returns.Unknown n) taken orderly is = absurd is
+
+-- first the exports that the params named are lowered, if the Return asks for it
+abbrev Lowers : State → Return → QuestionEntry → Table (Counted Cap) → Type 0
+Lowers old r kept X = Ok X ≡ (if r.release_param_caps then lower old.counts.exports kept.mentions else Ok old.counts.exports)
+
+lowered_orderly : (old : State) (r : Return) (kept : QuestionEntry) (X : Table (Counted Cap)) → Lowers old r kept X → IsOrderly old → IsOrderly (with_exports old X)
+lowered_orderly old r kept X lowers orderly =
+    record {
+      held = orderly.held;
+      values = orderly.values;
+      answers = orderly.answers;
+      exports = lower_if_plain r.release_param_caps old.counts.exports X kept.mentions orderly.exports lowers;
+    }
 
 -- A Return comes to a question that is open.
 abbrev returned_to : State → ℕ → QuestionEntry → State
 returned_to s q kept = with_questions s (insert s.entries.questions q (record { stage = stages.Returned; kept = kept }))
 
-module _ (old mid : State) (r : Return) (kept : QuestionEntry) (keeps_params : r.release_param_caps ≡ false) (taken : TakenIn old (table_of r.returned) mid)
-    (orderly : IsOrderly old) (is : get old.entries.questions r.answer_id ≡ Some (new_exchange kept)) (is_sent : kept.is_sent ≡ true) where
+module _ (old mid : State) (r : Return) (kept : QuestionEntry) (X : Table (Counted Cap)) (lowers : Lowers old r kept X)
+    (taken : TakenIn (with_exports old X) (table_of r.returned) mid) (orderly : IsOrderly old)
+    (is : get old.entries.questions r.answer_id ≡ Some (new_exchange kept)) (is_sent : kept.is_sent ≡ true) where
   return_comes : Came (accounts_of old) (messages.Return r) (accounts_of (returned_to mid r.answer_id kept))
   return_comes =
       record {
-        exports = λ e. rw (keeps_params, taken.exports) (omega arith);
+        exports = λ e. rw (is, is_sent, taken.exports) (lowered_if r.release_param_caps old X kept.mentions lowers e);
         imports = λ i. rw (is, is_sent, ← table_names r.returned) (taken.counted i);
         questions = λ p. rw (taken.questions) (returned_step old.entries.questions r.answer_id p kept (r.answer_id == p) refl is is_sent);
         answers = taken.answers;
       }
 
   mid_orderly : IsOrderly mid
-  mid_orderly = record { held = rw (taken.calls, taken.questions) orderly.held; values = taken.values orderly.values; exports = rw (taken.exports) orderly.exports }
+  mid_orderly =
+      let low = lowered_orderly old r kept X lowers orderly in
+      record {
+        held = rw (taken.calls, taken.questions) low.held;
+        values = taken.values low.values;
+        answers = rw (taken.given) low.answers;
+        exports = rw (taken.exports) low.exports;
+      }
 
   still_there : get mid.entries.questions r.answer_id ≡ Some (new_exchange kept)
   still_there = rw (taken.questions) is
@@ -113,6 +134,7 @@ module _ (old mid : State) (r : Return) (kept : QuestionEntry) (keeps_params : r
               put_question mid.waiting.calls mid.entries.questions mid_orderly.held r.answer_id (record { stage = stages.Returned; kept = kept }) none_there
               (mid_orderly.held.here r.answer_id (new_exchange kept) still_there);
           values = mid_orderly.values;
+          answers = mid_orderly.answers;
           exports = mid_orderly.exports;
         },
       )
@@ -150,6 +172,7 @@ module _ (old mid : State) (r : Return) (kept : QuestionEntry) (keeps_params : r
     record {
       held = gone_question mid.waiting.calls mid.entries.questions mid_orderly.held r.answer_id none_there;
       values = mid_orderly.values;
+      answers = mid_orderly.answers;
       exports = mid_orderly.exports;
     },
   )
@@ -165,23 +188,25 @@ module _ (old mid : State) (r : Return) (kept : QuestionEntry) (keeps_params : r
       (ok_in _ _ parts.2)
       (hears_both old (without_question mid r.answer_id) parts.0.1 (messages.Return r) (finish_of r.answer_id false ∷ []) parts.0.0 first.0 goes.0, goes.1)
 
-open_heeds : (old : State) (r : Return) (kept : QuestionEntry) (done : Done) → IsUsual (messages.Return r) → IsOrderly old
-    → get old.entries.questions r.answer_id ≡ Some (new_exchange kept) → kept.is_sent ≡ true → ReturnBy old r kept stages.Open (Ok done) → Heeds old (messages.Return r) done.0 done.1
-open_heeds old r kept done usual orderly is is_sent does =
-    let taking = then_out {A = Outcome × State} {B = Done} (TakeReturned old r.returned) _ done does in
-    let taken = returned_in old r.returned taking.0 orderly usual.1.1 taking.1 in
-    settles_heed old taking.0.1 r kept usual.1.0 taken.0 orderly is is_sent kept.forwards taking.0.0 done taken.1 taking.2
+open_heeds : (old : State) (r : Return) (kept : QuestionEntry) (X : Table (Counted Cap)) (done : Done) → IsOrderly old → Lowers old r kept X
+    → get old.entries.questions r.answer_id ≡ Some (new_exchange kept) → kept.is_sent ≡ true → ReturnBy (with_exports old X) r kept stages.Open (Ok done)
+    → Heeds old (messages.Return r) done.0 done.1
+open_heeds old r kept X done orderly lowers is is_sent does =
+    let low : State = with_exports old X in
+    let taking = then_out {A = Outcome × State} {B = Done} (TakeReturned low r.returned) _ done does in
+    let taken = returned_in low r.returned taking.0 (lowered_orderly old r kept X lowers orderly) taking.1 in
+    settles_heed old taking.0.1 r kept X lowers taken.0 orderly is is_sent kept.forwards taking.0.0 done taken.1 taking.2
 
 -- one that was finished only ends
-leaves_own : (old : State) (r : Return) (kept : QuestionEntry) → r.release_param_caps ≡ false
+leaves_own : (old : State) (r : Return) (kept : QuestionEntry) (X : Table (Counted Cap)) → Lowers old r kept X
     → get old.entries.questions r.answer_id ≡ Some (record { stage = stages.Finished; kept = kept }) → kept.is_sent ≡ true
-    → Hears old (messages.Return r) [] (without_question old r.answer_id)
-leaves_own old r kept keeps_params is is_sent =
+    → Hears old (messages.Return r) [] (without_question (with_exports old X) r.answer_id)
+leaves_own old r kept X lowers is is_sent =
     record {
-      mid = accounts_of (without_question old r.answer_id);
+      mid = accounts_of (without_question (with_exports old X) r.answer_id);
       came =
           record {
-            exports = λ e. rw (keeps_params) (omega arith);
+            exports = λ e. rw (is, is_sent) (lowered_if r.release_param_caps old X kept.mentions lowers e);
             imports = λ i. rw (is, is_sent) (omega arith);
             questions = λ p. left_step old.entries.questions r.answer_id p kept (r.answer_id == p) refl is is_sent;
             answers = λ a. refl;
@@ -190,32 +215,25 @@ leaves_own old r kept keeps_params is is_sent =
       posts = refl;
     }
 
-left_heeds : (old : State) (r : Return) (kept : QuestionEntry) (done : Done) → IsUsual (messages.Return r) → IsOrderly old
-    → get old.entries.questions r.answer_id ≡ Some (record { stage = stages.Finished; kept = kept }) → kept.is_sent ≡ true → ReturnBy old r kept stages.Finished (Ok done)
-    → Heeds old (messages.Return r) done.0 done.1
-left_heeds old r kept done usual orderly is is_sent does =
+left_heeds : (old : State) (r : Return) (kept : QuestionEntry) (X : Table (Counted Cap)) (done : Done) → IsOrderly old → Lowers old r kept X
+    → get old.entries.questions r.answer_id ≡ Some (record { stage = stages.Finished; kept = kept }) → kept.is_sent ≡ true
+    → ReturnBy (with_exports old X) r kept stages.Finished (Ok done) → Heeds old (messages.Return r) done.0 done.1
+left_heeds old r kept X done orderly lowers is is_sent does =
+    let low = lowered_orderly old r kept X lowers orderly in
     rw
     (ok_in _ _ does) (
-      leaves_own old r kept usual.1.0 is is_sent,
+      leaves_own old r kept X lowers is is_sent,
       record {
         held =
             gone_question old.waiting.calls old.entries.questions orderly.held r.answer_id
             (none_waits old.waiting.calls old.entries.questions orderly.held r.answer_id (rw (is) (sent_not (record { stage = stages.Finished; kept = kept }) is_sent)));
-        values = orderly.values;
-        exports = orderly.exports;
+        values = low.values;
+        answers = low.answers;
+        exports = low.exports;
       },
     )
 
--- No Return of a vat lowers exports.
-unlowered : (b : Bool) (old : State) (ids : List ℕ) (X : Table (Counted Cap)) → b ≡ false → Ok X ≡ (if b then lower old.counts.exports ids else Ok old.counts.exports)
-    → with_exports old X ≡ old
-unlowered b old ids X none is =
-    ap (λ Y. with_exports old Y) (ok_in _ _ (is ∙ ap (λ c. if c then lower old.counts.exports ids else Ok old.counts.exports) none))
-
-return_by : (old from : State) (r : Return) (kept : QuestionEntry) (stage : Stage) (done : Done) → from ≡ old → ReturnBy from r kept stage (Ok done) → ReturnBy old r kept stage (Ok done)
-return_by old from r kept stage done same does = rw same at does
-
-return_at : (old : State) (r : Return) (kept : QuestionEntry) (stage : Stage) (is_sent : Bool) (done : Done) → IsUsual (messages.Return r) → IsOrderly old
+return_at : (old : State) (r : Return) (kept : QuestionEntry) (stage : Stage) (is_sent : Bool) (done : Done) → IsOrderly old
     → get old.entries.questions r.answer_id ≡ Some (record { stage = stage; kept = kept }) → kept.is_sent ≡ is_sent
     → Unless
     (fault_if (not (is_asked is_sent stage)) faults.UnknownQuestion)
@@ -224,22 +242,20 @@ return_at : (old : State) (r : Return) (kept : QuestionEntry) (stage : Stage) (i
     (λ exports. ReturnBy (with_exports old exports) r kept stage))
     (Ok done)
     → Heeds old (messages.Return r) done.0 done.1
-return_at old r kept stages.Open false done usual orderly is sends does = ok_out does
-return_at old r kept stages.Finished false done usual orderly is sends does = ok_out does
-return_at old r kept stages.Returned b done usual orderly is sends does = ok_out does
-return_at old r kept stages.Open true done usual orderly is sends does =
+return_at old r kept stages.Open false done orderly is sends does = ok_out does
+return_at old r kept stages.Finished false done orderly is sends does = ok_out does
+return_at old r kept stages.Returned b done orderly is sends does = ok_out does
+return_at old r kept stages.Open true done orderly is sends does =
     let lowers = then_out {A = Table (Counted Cap)} {B = Done} _ _ done does in
-    open_heeds old r kept done usual orderly is sends
-    (return_by old (with_exports old lowers.0) r kept stages.Open done (unlowered r.release_param_caps old kept.mentions lowers.0 usual.1.0 lowers.1) lowers.2)
-return_at old r kept stages.Finished true done usual orderly is sends does =
+    open_heeds old r kept lowers.0 done orderly lowers.1 is sends lowers.2
+return_at old r kept stages.Finished true done orderly is sends does =
     let lowers = then_out {A = Table (Counted Cap)} {B = Done} _ _ done does in
-    left_heeds old r kept done usual orderly is sends
-    (return_by old (with_exports old lowers.0) r kept stages.Finished done (unlowered r.release_param_caps old kept.mentions lowers.0 usual.1.0 lowers.1) lowers.2)
+    left_heeds old r kept lowers.0 done orderly lowers.1 is sends lowers.2
 
-return_of : (old : State) (r : Return) (o : Option (Exchange QuestionEntry)) (done : Done) → IsUsual (messages.Return r) → IsOrderly old
-    → get old.entries.questions r.answer_id ≡ o → ReturnOf old r o (Ok done) → Heeds old (messages.Return r) done.0 done.1
-return_of old r None done usual orderly is does = ok_out does
-return_of old r (Some entry) done usual orderly is does = return_at old r entry.kept entry.stage entry.kept.is_sent done usual orderly is refl does
+return_of : (old : State) (r : Return) (o : Option (Exchange QuestionEntry)) (done : Done) → IsOrderly old → get old.entries.questions r.answer_id ≡ o
+    → ReturnOf old r o (Ok done) → Heeds old (messages.Return r) done.0 done.1
+return_of old r None done orderly is does = ok_out does
+return_of old r (Some entry) done orderly is does = return_at old r entry.kept entry.stage entry.kept.is_sent done orderly is refl does
 
-pub return_heeds : (old : State) (r : Return) (done : Done) → IsUsual (messages.Return r) → IsOrderly old → OnReturn old r (Ok done) → Heeds old (messages.Return r) done.0 done.1
-return_heeds old r done usual orderly does = return_of old r (get old.entries.questions r.answer_id) done usual orderly refl does
+pub return_heeds : (old : State) (r : Return) (done : Done) → IsOrderly old → OnReturn old r (Ok done) → Heeds old (messages.Return r) done.0 done.1
+return_heeds old r done orderly does = return_of old r (get old.entries.questions r.answer_id) done orderly refl does

@@ -1,9 +1,12 @@
 -- Resolves that come, and whole steps of a vat, as the accounts see them.
-use Rattle.std.specs.Prelude.{◌≡◌, refl, ℕ, ◌+◌, not, Bool, true, false, List, [], ◌∷◌, Option, Some, None, Ok}
+use Rattle.std.specs.Prelude.{◌≡◌, refl, ℕ, ◌+◌, not, Bool, true, false, List, [], ◌∷◌, Option, Some, None, IsTrue, Ok}
 use Rattle.std.specs.FinMap.{get}
 use Rattle.std.proofs.Common.{arith, ap, sym, ◌∙◌, true≢false}
+use Rattle.cp_tree.specs.Node.{Node}
+use Rattle.cp_tables.specs.Table.{Table}
 use Rattle.cp_tables.specs.declared.counted.Counted.{Counted}
 use Rattle.cp_rpc.specs.declared.descriptor.Descriptor.{Descriptor}
+use Rattle.cp_rpc.specs.declared.exception.Exception.{Exception}
 use Rattle.cp_rpc.specs.declared.message.Message.{Message}
 use Rattle.cp_rpc.specs.declared.message.Message.TheVariants as messages
 use Rattle.cp_rpc.specs.declared.resolve.Resolution.{Resolution}
@@ -11,32 +14,32 @@ use Rattle.cp_rpc.specs.declared.resolve.Resolution.TheVariants as resolutions
 use Rattle.cp_rpc.specs.declared.resolve.Resolve.{Resolve}
 use Rattle.cp_refs.specs.declared.cap.Cap.{Cap}
 use Rattle.cp_refs.specs.declared.cap.Cap.TheVariants as caps
-use Rattle.cp_machine.specs.State.{State}
+use Rattle.cp_machine.specs.State.{State, with_exports}
 use Rattle.cp_machine.specs.Then.{Done, fault_if}
 use Rattle.cp_machine.specs.Capacity.{message_fits}
 use Rattle.cp_machine.specs.Supported.{is_supported}
 use Rattle.cp_machine.specs.Say.{mentioned_by, mentions_of}
-use Rattle.cp_machine.specs.Take.{times}
-use Rattle.cp_machine.specs.Resolving.{given_back, releases_of, is_open_promise, TakeResolution, resolved, ResolveOf}
+use Rattle.cp_machine.specs.Take.{times, lower}
+use Rattle.cp_machine.specs.Resolving.{given_back, releases_of, is_open_promise, TakeResolution, resolved, ResolveOf, told, UnknownToPeer, OnAbort}
 use Rattle.cp_machine.specs.Step.{On, ReceivesIf, Receives, Follows, all_left, found_full}
 use Rattle.cp_machine.specs.declared.effect.Effect.{Effect}
 use Rattle.cp_machine.specs.declared.entry.ImportKind.{ImportKind}
 use Rattle.cp_machine.specs.declared.fault.PeerFault.{PeerFault}
 use Rattle.cp_machine.specs.declared.fault.PeerFault.TheVariants as faults
-use Rattle.cp_machine.proofs.Basics.{ok_in, then_out, unless_out}
+use Rattle.cp_machine.proofs.Basics.{ok_in, ok_out, then_out, unless_out}
 use Rattle.cp_worlds.specs.Accounts.{Accounts, accounts_of}
 use Rattle.cp_worlds.specs.World.{messages_sent}
-use Rattle.cp_worlds.specs.Lives.{IsUsual, AreUsual}
+use Rattle.cp_worlds.specs.Lives.{AreUsual}
 use Rattle.cp_worlds.specs.Posting.{Posts}
 use Rattle.cp_worlds.specs.Orderly.{IsOrderly, Goes, Heeds, RulesPost}
-use Rattle.cp_worlds.proofs.Countings.{times_more, one_of}
+use Rattle.cp_worlds.proofs.Countings.{times_more, one_of, lower_counts}
 use Rattle.cp_worlds.proofs.Rules.{same_accounts}
 use Rattle.cp_worlds.proofs.Saying.{times_append}
 use Rattle.cp_worlds.proofs.Going.{go_goes, leave_goes}
 use Rattle.cp_worlds.proofs.Taking.{TakenIn, taken_none, take_in}
 use Rattle.cp_worlds.proofs.Owning.{does_goes}
 use Rattle.cp_worlds.proofs.NewWorlds.{new_orderly}
-use Rattle.cp_worlds.proofs.Heeding.{call_heeds, bootstrap_heeds, release_heeds, finish_heeds, disembargo_heeds}
+use Rattle.cp_worlds.proofs.Heeding.{call_heeds, bootstrap_heeds, lower_plain, release_heeds, finish_heeds, disembargo_heeds}
 use Rattle.cp_worlds.proofs.Returned.{return_heeds}
 
 -- The Resolve of an import that isn't held is given back, import by import.
@@ -95,6 +98,7 @@ held_heeds old mid r ds value taken named orderly = (
   record {
     held = rw (taken.calls, taken.questions) orderly.held;
     values = taken.values orderly.values;
+    answers = rw (taken.given) orderly.answers;
     exports = rw (taken.exports) orderly.exports;
   },
 )
@@ -119,25 +123,76 @@ resolve_of old r (Some entry) done orderly does =
     let parts = then_out {A = Cap × State} {B = Done} (TakeResolution old r.resolution) _ done rule in
     rw (ok_in _ _ parts.2) (resolution_heeds old r.promise_id r.resolution parts.0 orderly parts.1)
 
--- any usual message
-on_heeds : (old : State) (m : Message) (done : Done) → IsUsual m → IsOrderly old → On old m (Ok done) → Heeds old m done.0 done.1
-on_heeds old (messages.Unimplemented t) done usual orderly does = absurd usual.1
-on_heeds old (messages.Abort x) done usual orderly does = absurd usual.1
-on_heeds old (messages.Call c) done usual orderly does = call_heeds old c done orderly does
-on_heeds old (messages.Return r) done usual orderly does = return_heeds old r done usual orderly does
-on_heeds old (messages.Finish f) done usual orderly does = finish_heeds old f done orderly does
-on_heeds old (messages.Resolve r) done usual orderly does = resolve_of old r (get old.counts.imports r.promise_id) done orderly does
-on_heeds old (messages.Release r) done usual orderly does = release_heeds old r done orderly does
-on_heeds old (messages.Bootstrap b) done usual orderly does = bootstrap_heeds old b.question_id done orderly does
-on_heeds old (messages.Disembargo d) done usual orderly does = disembargo_heeds old d d.context done orderly does
-on_heeds old (messages.Other which body) done usual orderly does = absurd does
+-- a Resolve that the peer doesn't know is given back
+unknown_heeds : (old : State) (t : Node) (o : Option Message) (done : Done) → told t ≡ o → IsOrderly old → UnknownToPeer old o (Ok done)
+    → Heeds old (messages.Unimplemented t) done.0 done.1
+unknown_heeds old t (Some (messages.Resolve r)) done is orderly does =
+    let parts = then_out {A = Table (Counted Cap)} {B = Done} (λ exports. exports ≡ lower old.counts.exports (given_back r.resolution)) _ done does in
+    rw
+    (ok_in _ _ parts.2) (
+      record {
+        mid = accounts_of (with_exports old parts.0);
+        came =
+            record {
+              exports = λ e. rw (is) (lower_counts old.counts.exports parts.0 (given_back r.resolution) parts.1 e);
+              imports = λ i. omega arith;
+              questions = λ q. refl;
+              answers = λ a. refl;
+            };
+        usual = tt;
+        posts = refl;
+      },
+      record {
+        held = orderly.held;
+        values = orderly.values;
+        answers = orderly.answers;
+        exports = lower_plain old.counts.exports parts.0 (given_back r.resolution) orderly.exports parts.1;
+      },
+    )
+unknown_heeds old t None done is orderly does = ok_out does
+unknown_heeds old t (Some (messages.Unimplemented u)) done is orderly does = ok_out does
+unknown_heeds old t (Some (messages.Abort x)) done is orderly does = ok_out does
+unknown_heeds old t (Some (messages.Call c)) done is orderly does = ok_out does
+unknown_heeds old t (Some (messages.Return r)) done is orderly does = ok_out does
+unknown_heeds old t (Some (messages.Finish f)) done is orderly does = ok_out does
+unknown_heeds old t (Some (messages.Release r)) done is orderly does = ok_out does
+unknown_heeds old t (Some (messages.Bootstrap b)) done is orderly does = ok_out does
+unknown_heeds old t (Some (messages.Disembargo d)) done is orderly does = ok_out does
+unknown_heeds old t (Some (messages.Other which body)) done is orderly does = ok_out does
+
+-- an Abort changes no account
+abort_heeds : (old : State) (x : Exception) (done : Done) → IsOrderly old → OnAbort old x (Ok done) → Heeds old (messages.Abort x) done.0 done.1
+abort_heeds old x done orderly does =
+    rw
+    (ok_in _ _ does) (
+      record {
+        mid = accounts_of old;
+        came = record { exports = λ e. omega arith; imports = λ i. omega arith; questions = λ q. refl; answers = λ a. refl };
+        usual = tt;
+        posts = refl;
+      },
+      record { held = orderly.held; values = orderly.values; answers = orderly.answers; exports = orderly.exports },
+    )
+
+-- any message that is supported
+on_heeds : (old : State) (m : Message) (done : Done) → IsOrderly old → On old m (Ok done) → Heeds old m done.0 done.1
+on_heeds old (messages.Unimplemented t) done orderly does = unknown_heeds old t (told t) done refl orderly does
+on_heeds old (messages.Abort x) done orderly does = abort_heeds old x done orderly does
+on_heeds old (messages.Call c) done orderly does = call_heeds old c done orderly does
+on_heeds old (messages.Return r) done orderly does = return_heeds old r done orderly does
+on_heeds old (messages.Finish f) done orderly does = finish_heeds old f done orderly does
+on_heeds old (messages.Resolve r) done orderly does = resolve_of old r (get old.counts.imports r.promise_id) done orderly does
+on_heeds old (messages.Release r) done orderly does = release_heeds old r done orderly does
+on_heeds old (messages.Bootstrap b) done orderly does = bootstrap_heeds old b.question_id done orderly does
+on_heeds old (messages.Disembargo d) done orderly does = disembargo_heeds old d d.context done orderly does
+on_heeds old (messages.Other which body) done orderly does = absurd does
 
 supported_receives : (b : Bool) (old : State) (m : Message) (done : Done) → b ≡ true → ReceivesIf b old m (Ok done) → On old m (Ok done)
 supported_receives true old m done is does = unless_out {A = Done} {F = PeerFault} (fault_if (not (message_fits m)) faults.PayloadTooLarge) (On old m) done does
 supported_receives false old m done is does = absurd (true≢false (sym is))
 
-pub receives_heeds : (old : State) (m : Message) (done : Done) → IsUsual m → IsOrderly old → Receives old m (Ok done) → Heeds old m done.0 done.1
-receives_heeds old m done usual orderly does = on_heeds old m done usual orderly (supported_receives (is_supported m) old m done usual.0 does)
+pub receives_heeds : (old : State) (m : Message) (done : Done) → IsTrue (is_supported m) → IsOrderly old → Receives old m (Ok done) → Heeds old m done.0 done.1
+receives_heeds old m done supported orderly does = on_heeds old m done orderly (supported_receives (is_supported m) old m done supported does)
 
 -- what follows, while the vat is open
 pub follows_goes : (mid new : State) (rest : List Effect) → new.is_closed ≡ false → IsOrderly mid → Follows mid rest new → Goes mid rest new

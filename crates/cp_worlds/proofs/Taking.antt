@@ -1,10 +1,12 @@
 -- What is taken in of any capability table.
 use Rattle.std.specs.Prelude.{◌≡◌, refl, ℕ, ◌+◌, ◌==◌, ltb, if◌then◌else◌, Bool, true, false, List, [], ◌∷◌, Option, Some, None, Ok, Err}
-use Rattle.std.specs.List.{list_all}
 use Rattle.std.specs.FinMap.{get, insert}
-use Rattle.std.proofs.Common.{arith, ap, sym, ◌∙◌, true≢false}
+use Rattle.std.proofs.Common.{arith, ap, ◌∙◌}
 use Rattle.cp_tables.specs.Counted.{new_counted, count_of}
 use Rattle.cp_tables.specs.declared.counted.Counted.{Counted}
+use Rattle.cp_tables.specs.declared.exchange.Exchange.{Exchange}
+use Rattle.cp_tables.specs.declared.exchange.Stage.{Stage}
+use Rattle.cp_tables.specs.declared.exchange.Stage.TheVariants as stages
 use Rattle.cp_rpc.specs.declared.descriptor.Descriptor.{Descriptor}
 use Rattle.cp_rpc.specs.declared.descriptor.Descriptor.TheVariants as descriptors
 use Rattle.cp_refs.specs.declared.cap.Cap.{Cap}
@@ -12,17 +14,17 @@ use Rattle.cp_refs.specs.declared.outcome.Outcome.{Outcome}
 use Rattle.cp_machine.specs.State.{State}
 use Rattle.cp_machine.specs.Capacity.{has_capacity, Fresh}
 use Rattle.cp_machine.specs.Say.{mentioned_by, mentions_of}
-use Rattle.cp_machine.specs.Take.{times, held_import, held_once_more, answer_of, path_of, tie, tied, TakeAnswer, taken_export, Take, TakeAll}
+use Rattle.cp_machine.specs.Take.{times, held_import, held_once_more, unfinished, answer_by, answer_of, path_of, tie, tied, TakeAnswer, taken_export, Take, TakeAll}
+use Rattle.cp_machine.specs.declared.entry.AnswerEntry.{AnswerEntry}
 use Rattle.cp_machine.specs.declared.entry.ImportKind.{ImportKind}
 use Rattle.cp_machine.specs.declared.entry.ImportKind.TheVariants as kinds
 use Rattle.cp_machine.specs.declared.fault.PeerFault.TheVariants as faults
 use Rattle.cp_machine.proofs.Basics.{ok_in, ok_out, then_out}
 use Rattle.cp_worlds.specs.Accounts.{kept_account}
-use Rattle.cp_worlds.specs.Lives.{is_settled_descriptor}
-use Rattle.cp_worlds.specs.Orderly.{IsPlainExport, ArePlainValues, ArePlainExports}
+use Rattle.cp_worlds.specs.Orderly.{IsPlainAnswer, IsPlainExport, ArePlainValues, ArePlainAnswers, ArePlainExports}
 use Rattle.cp_worlds.proofs.Countings.{raised_one, opened_one}
-use Rattle.cp_worlds.proofs.Saying.{times_append, first_true, second_true}
-use Rattle.cp_worlds.proofs.Plainly.{IsPlain, IsPlainTable, plain_both}
+use Rattle.cp_worlds.proofs.Saying.{times_append}
+use Rattle.cp_worlds.proofs.Plainly.{IsPlain, IsPlainTable, plain_both, plain_at}
 use Rattle.cp_worlds.proofs.Resolved.{values_put}
 use Rattle.cp_worlds.proofs.Going.{changed_account}
 
@@ -33,16 +35,17 @@ pub record TakenIn (old : State) (ds : List Descriptor) (new : State) : Type 0 w
   pub answers : (a : ℕ) → kept_account (get new.entries.answers a) ≡ kept_account (get old.entries.answers a)
   pub calls : new.waiting.calls ≡ old.waiting.calls
   pub values : ArePlainValues old.values.promises → ArePlainValues new.values.promises
+  pub given : new.values.answers ≡ old.values.answers
   pub counted : (i : ℕ) → count_of new.counts.imports i ≡ count_of old.counts.imports i + times i (mentions_of ds)
 
 pub taken_none : (old : State) → TakenIn old [] old
-taken_none old = record { exports = refl; questions = refl; answers = λ a. refl; calls = refl; values = λ all. all; counted = λ i. omega arith }
+taken_none old = record { exports = refl; questions = refl; answers = λ a. refl; calls = refl; values = λ all. all; given = refl; counted = λ i. omega arith }
 
 -- an import is held once more
 abbrev HeldMore : State → ℕ → State → Type 0
 HeldMore old i new =
     (new.counts.exports ≡ old.counts.exports) × (new.entries ≡ old.entries) × (new.waiting.calls ≡ old.waiting.calls)
-    × (new.values.promises ≡ old.values.promises)
+    × (new.values.promises ≡ old.values.promises) × (new.values.answers ≡ old.values.answers)
     × ((f : ℕ) → count_of new.counts.imports f ≡ count_of old.counts.imports f + times f (i ∷ []))
 
 held_by : (old : State) (i : ℕ) (kind : ImportKind) (o : Option (Counted ImportKind)) (new : State) → get old.counts.imports i ≡ o → Ok new ≡ held_once_more old i kind o
@@ -54,7 +57,7 @@ held_by old i kind (Some entry) new there is = by (ltb entry.count 4294967295) i
         ≡ (if b then Ok (record old { counts = record old.counts { imports = insert old.counts.imports i (record entry { count = entry.count + 1 }) } })
         else Err faults.TableFull)
         → HeldMore old i new
-    by true is = rw (ok_in _ _ is) (refl, refl, refl, refl, λ f. raised_one old.counts.imports i f entry.count entry.kept (i == f) refl (rw (there) refl))
+    by true is = rw (ok_in _ _ is) (refl, refl, refl, refl, refl, λ f. raised_one old.counts.imports i f entry.count entry.kept (i == f) refl (rw (there) refl))
     by false is = ok_out is
 held_by old i kind None new there is = by (has_capacity old.counts.imports) is
   where
@@ -67,14 +70,14 @@ held_by old i kind None new there is = by (has_capacity old.counts.imports) is
         }
         ) else Err faults.TableFull)
         → HeldMore old i new
-    by true is = rw (ok_in _ _ is) (refl, refl, refl, refl, λ f. opened_one old.counts.imports i f kind (i == f) refl (rw (there) refl))
+    by true is = rw (ok_in _ _ is) (refl, refl, refl, refl, refl, λ f. opened_one old.counts.imports i f kind (i == f) refl (rw (there) refl))
     by false is = ok_out is
 
 same_in : (old : State) (d : Descriptor) (new : State) → mentioned_by d ≡ [] → new ≡ old → TakenIn old (d ∷ []) new
 same_in old d new none is =
     rw
     (is)
-    (record { exports = refl; questions = refl; answers = λ a. refl; calls = refl; values = λ all. all; counted = λ i. rw (none) (omega arith) })
+    (record { exports = refl; questions = refl; answers = λ a. refl; calls = refl; values = λ all. all; given = refl; counted = λ i. rw (none) (omega arith) })
 
 held_in : (old : State) (i : ℕ) (kind : ImportKind) (d : Descriptor) (new : State) → mentioned_by d ≡ i ∷ [] → Ok new ≡ held_import old i kind → TakenIn old (d ∷ []) new
 held_in old i kind d new named is =
@@ -85,7 +88,8 @@ held_in old i kind d new named is =
       answers = λ a. ap (λ entries. kept_account (get entries.answers a)) held.1;
       calls = held.2;
       values = λ all. rw (held.3) all;
-      counted = λ f. rw (named) (held.4 f);
+      given = held.4;
+      counted = λ f. rw (named) (held.5 f);
     }
 
 tied_in : (old : State) (a p : ℕ) (path : List ℕ) (d : Descriptor) → mentioned_by d ≡ [] → TakenIn old (d ∷ []) (tied old a path p)
@@ -96,6 +100,7 @@ tied_in old a p path d none =
       answers = λ b. changed_account old.entries.answers a b (λ entry. record entry { kept = tie p path entry.kept }) (λ entry. refl);
       calls = refl;
       values = λ all. values_put old.values.promises p None tt all;
+      given = refl;
       counted = λ i. rw (none) (omega arith);
     }
 
@@ -134,6 +139,7 @@ both_in old mid new d ds one more =
       answers = λ a. more.answers a ∙ one.answers a;
       calls = more.calls ∙ one.calls;
       values = λ all. more.values (one.values all);
+      given = more.given ∙ one.given;
       counted = λ i. omega (
         arith,
         one.counted i,
@@ -150,32 +156,51 @@ take_all_in (d ∷ table) old taken is =
     let rest = then_out {A = List Cap × State} {B = List Cap × State} (TakeAll first.0.1 table) _ taken first.2 in
     rw (ok_in _ _ rest.2) (both_in old first.0.1 rest.0.1 d table (take_in old d first.0 first.1) (take_all_in table first.0.1 rest.0 rest.1))
 
--- Without receiverAnswers no path of a question is taken in.
+-- No path of a question is taken in, since none is exported, and none is in an answer that was given.
 export_plain : (old : State) (o : Option (Counted Cap)) (taken : Cap × State) → IsPlainExport o → Ok taken ≡ taken_export old o → IsPlain taken.0
 export_plain old None taken plain is = ok_out is
 export_plain old (Some entry) taken plain is = rw (ap (λ t. t.0) (ok_in _ _ is)) plain
 
-pub take_plain : (old : State) (d : Descriptor) (taken : Cap × State) → is_settled_descriptor d ≡ true → ArePlainExports old.counts.exports → Take old d (Ok taken) → IsPlain taken.0
-take_plain old descriptors.None taken settled all is = rw (ok_in _ _ is) refl
-take_plain old (descriptors.SenderHosted i) taken settled all is =
+answer_plain : (old : State) (a : ℕ) (path : List ℕ) (o : Option (Option Outcome)) (taken : Cap × State) → IsPlainAnswer o → TakeAnswer old a path o (Ok taken) → IsPlain taken.0
+answer_plain old a path None taken plain is = ok_out is
+answer_plain old a path (Some (Some outcome)) taken plain is = rw (ap (λ t. t.0) (ok_in _ _ is)) (plain_at outcome path plain)
+answer_plain old a path (Some None) taken plain is =
+    let parts = then_out {A = ℕ} {B = Cap × State} (Fresh old.values.promises) _ taken is in
+    rw (ok_in _ _ parts.2) refl
+
+unfinished_plain : (stage : Stage) (o : Option (Option Outcome)) → IsPlainAnswer o → IsPlainAnswer (unfinished stage o)
+unfinished_plain stages.Open o plain = plain
+unfinished_plain stages.Returned o plain = plain
+unfinished_plain stages.Finished o plain = tt
+
+kept_plain : (entry : Option (Exchange AnswerEntry)) (o : Option (Option Outcome)) → IsPlainAnswer o → IsPlainAnswer (answer_by entry o)
+kept_plain None o plain = tt
+kept_plain (Some entry) o plain = unfinished_plain entry.stage o plain
+
+pub take_plain : (old : State) (d : Descriptor) (taken : Cap × State) → ArePlainAnswers old.values.answers → ArePlainExports old.counts.exports → Take old d (Ok taken)
+    → IsPlain taken.0
+take_plain old descriptors.None taken given all is = rw (ok_in _ _ is) refl
+take_plain old (descriptors.SenderHosted i) taken given all is =
     let parts = then_out {A = State} {B = Cap × State} (λ held. held ≡ held_import old i kinds.Hosted) _ taken is in
     rw (ok_in _ _ parts.2) refl
-take_plain old (descriptors.SenderPromise i) taken settled all is =
+take_plain old (descriptors.SenderPromise i) taken given all is =
     let parts = then_out {A = State} {B = Cap × State} (λ held. held ≡ held_import old i kinds.Promise) _ taken is in
     rw (ok_in _ _ parts.2) refl
-take_plain old (descriptors.ReceiverHosted e) taken settled all is = export_plain old (get old.counts.exports e) taken (all e) is
-take_plain old (descriptors.ReceiverAnswer answer) taken settled all is = absurd (true≢false (sym settled))
-take_plain old (descriptors.ThirdPartyHosted t) taken settled all is = absurd is
-take_plain old (descriptors.Unknown n) taken settled all is = absurd is
+take_plain old (descriptors.ReceiverHosted e) taken given all is = export_plain old (get old.counts.exports e) taken (all e) is
+take_plain old (descriptors.ReceiverAnswer answer) taken given all is =
+    answer_plain old answer.question_id (path_of answer.transform) (answer_of old answer.question_id) taken
+    (kept_plain (get old.entries.answers answer.question_id) (get old.values.answers answer.question_id) (given answer.question_id)) is
+take_plain old (descriptors.ThirdPartyHosted t) taken given all is = absurd is
+take_plain old (descriptors.Unknown n) taken given all is = absurd is
 
-pub take_all_plain : (table : List Descriptor) (old : State) (taken : List Cap × State) → list_all is_settled_descriptor table ≡ true → ArePlainExports old.counts.exports
+pub take_all_plain : (table : List Descriptor) (old : State) (taken : List Cap × State) → ArePlainAnswers old.values.answers → ArePlainExports old.counts.exports
     → TakeAll old table (Ok taken) → IsPlainTable taken.0
-take_all_plain [] old taken settled all is = rw (ok_in _ _ is) refl
-take_all_plain (d ∷ table) old taken settled all is =
+take_all_plain [] old taken given all is = rw (ok_in _ _ is) refl
+take_all_plain (d ∷ table) old taken given all is =
     let first = then_out {A = Cap × State} {B = List Cap × State} (Take old d) _ taken is in
     let rest = then_out {A = List Cap × State} {B = List Cap × State} (TakeAll first.0.1 table) _ taken first.2 in
-    let exports = (take_in old d first.0 first.1).exports in
+    let one = take_in old d first.0 first.1 in
     rw
     (ok_in _ _ rest.2)
-    (plain_both first.0.0 rest.0.0 (take_plain old d first.0 (first_true (is_settled_descriptor d) _ settled) all first.1)
-    (take_all_plain table first.0.1 rest.0 (second_true (is_settled_descriptor d) _ settled) (rw (exports) all) rest.1))
+    (plain_both first.0.0 rest.0.0 (take_plain old d first.0 given all first.1)
+    (take_all_plain table first.0.1 rest.0 (rw (one.given) given) (rw (one.exports) all) rest.1))

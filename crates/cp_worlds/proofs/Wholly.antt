@@ -63,13 +63,13 @@ step_agrees {old = old} {new = new} inbox rest to_other other orderly agree take
     rw (all) (keeps_by.sends (same_inbox old inbox rest to_other other same agree) (sends_both old mid new first more goes.0 on.0), on.1)
 step_agrees {old = old} {new = new} inbox rest to_other other orderly agree takes open_ (received m first more mid was does follows all) =
     let there : Agree (accounts_of old) (m ∷ rest) other to_other = rw takes at agree in
-    let heeds = receives_heeds old m (first, mid) there.usual.0 orderly does in
+    let heeds = receives_heeds old m (first, mid) there.usual.0.0 orderly does in
     let on = follows_goes mid new more open_ heeds.1 follows in
     rw (all) (keeps_by.hears there (hears_both old mid new m first more heeds.0 on.0), on.1)
 step_agrees inbox rest to_other other orderly agree takes open_ (faulted m was does closed) = closed_open closed open_
 
 -- a vat that is open was so before
-step_open : {old new : State} {event : Event} {result : Result Value VatFault} {effects : List Effect} → new.is_closed ≡ false → Step old event result effects new
+pub step_open : {old new : State} {event : Event} {result : Result Value VatFault} {effects : List Effect} → new.is_closed ≡ false → Step old event result effects new
     → old.is_closed ≡ false
 step_open open_ (was_closed event closed) = open_
 step_open open_ (ran_out event was closed) = was

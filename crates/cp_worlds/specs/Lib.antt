@@ -1,4 +1,5 @@
 pub mod Ledger
+pub mod Tallied
 pub mod World
 pub mod Accounts
 pub mod Owed

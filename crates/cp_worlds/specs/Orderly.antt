@@ -1,5 +1,6 @@
 -- What a vat keeps to, so that what it sends is as its accounts see it. (rpc.capnp: "Four Tables", "CapDescriptor.receiverAnswer".)
-use Rattle.std.specs.Prelude.{◌≡◌, ℕ, true, false, List, Option, Some, None, Ok}
+use Rattle.std.specs.Prelude.{◌≡◌, ℕ, true, false, List, Option, Some, None, Ok, IsTrue}
+use Rattle.std.specs.List.{list_any}
 use Rattle.std.specs.FinMap.{get}
 use Rattle.cp_tables.specs.Table.{Table}
 use Rattle.cp_tables.specs.declared.counted.Counted.{Counted}
@@ -9,6 +10,7 @@ use Rattle.cp_refs.specs.declared.cap.Cap.{Cap}
 use Rattle.cp_refs.specs.declared.call.Held.{Held}
 use Rattle.cp_refs.specs.declared.call.Origin.{Origin}
 use Rattle.cp_refs.specs.declared.call.Origin.TheVariants as origins
+use Rattle.cp_refs.specs.declared.outcome.Outcome.{Outcome}
 use Rattle.cp_refs.specs.declared.route.Route.{Route}
 use Rattle.cp_machine.specs.State.{State, new_state}
 use Rattle.cp_machine.specs.Then.{Done}
@@ -16,8 +18,8 @@ use Rattle.cp_machine.specs.Go.{Underway, Go, Leave}
 use Rattle.cp_machine.specs.Calling.{OwnDone}
 use Rattle.cp_machine.specs.Step.{Does, Receives}
 use Rattle.cp_machine.specs.declared.event.Event.{Event}
-use Rattle.cp_worlds.specs.Lives.{IsUsual}
-use Rattle.cp_machine.specs.InUse.{is_pipelined}
+use Rattle.cp_machine.specs.Supported.{is_supported}
+use Rattle.cp_machine.specs.InUse.{is_pipelined, caps_of}
 use Rattle.cp_machine.specs.declared.entry.QuestionEntry.{QuestionEntry}
 use Rattle.cp_machine.specs.declared.effect.Effect.{Effect}
 use Rattle.cp_worlds.specs.Posting.{IsUnsent, Sends, Hears}
@@ -38,13 +40,20 @@ pub record AreHeld (calls : Table Held) (questions : Table (Exchange QuestionEnt
       → more.origin ≡ origins.Own q → one ≡ other
   pub here : (q : ℕ) (entry : Exchange QuestionEntry) → get questions q ≡ Some entry → entry.kept.is_delivered ≡ true → entry.kept.is_sent ≡ false
 
--- no promise came to a question's path, and no such path is exported
+-- no promise came to a question's path, no answer that is kept was given one, and none is exported
 abbrev pub IsPlainValue : Option (Option Cap) → Type 0
 IsPlainValue (Some (Some value)) = is_pipelined value ≡ false
 IsPlainValue other = Unit {0}
 
 abbrev pub ArePlainValues : Table (Option Cap) → Type 0
 ArePlainValues promises = (p : ℕ) → IsPlainValue (get promises p)
+
+abbrev pub IsPlainAnswer : Option (Option Outcome) → Type 0
+IsPlainAnswer (Some (Some outcome)) = list_any is_pipelined (caps_of outcome) ≡ false
+IsPlainAnswer other = Unit {0}
+
+abbrev pub ArePlainAnswers : Table (Option Outcome) → Type 0
+ArePlainAnswers answers = (a : ℕ) → IsPlainAnswer (get answers a)
 
 abbrev pub IsPlainExport : Option (Counted Cap) → Type 0
 IsPlainExport None = Unit {0}
@@ -54,10 +63,11 @@ abbrev pub ArePlainExports : Table (Counted Cap) → Type 0
 ArePlainExports exports = (e : ℕ) → IsPlainExport (get exports e)
 
 -- A vat's state is orderly: the questions of its waiting calls are held back, and no Return and no Resolve will name a question's path, since none is the
--- value of a promise or exported.
+-- value of a promise, in an answer that was given, or exported.
 pub record IsOrderly (s : State) : Type 0 where
   pub held : AreHeld s.waiting.calls s.entries.questions
   pub values : ArePlainValues s.values.promises
+  pub answers : ArePlainAnswers s.values.answers
   pub exports : ArePlainExports s.counts.exports
 
 -- a call that goes is of the peer's, or of a question that is held back and of which no other call waits
@@ -78,8 +88,8 @@ pub record RulesPost : Type 0 where
   pub starts : (one : Option ℕ) → IsOrderly (new_state one)
   -- any call of the application
   pub does : (old : State) (event : Event) (done : OwnDone) → IsOrderly old → Does old event (Ok done) → Goes old done.1 done.2
-  -- any message that another vat sends
-  pub receives : (old : State) (m : Message) (done : Done) → IsUsual m → IsOrderly old → Receives old m (Ok done) → Heeds old m done.0 done.1
+  -- any message that is supported, whoever sends it
+  pub receives : (old : State) (m : Message) (done : Done) → IsTrue (is_supported m) → IsOrderly old → Receives old m (Ok done) → Heeds old m done.0 done.1
   -- a call by each route, and waiting calls that leave
   pub goes : (old : State) (call : Underway) (route : Route) (done : Done) → IsOrderly old → IsHeldAlone old call.origin → Go old call route (Ok done)
       → Goes old done.0 done.1

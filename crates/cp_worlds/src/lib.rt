@@ -2,4 +2,5 @@
 #![tactic(auto)]
 
 pub mod lanes;
+pub mod ledger;
 pub mod worlds;

@@ -20,7 +20,7 @@ use Rattle.cp_machine.specs.declared.fault.PeerFault.TheVariants as faults
 use Rattle.cp_worlds.specs.Accounts.{accounts_of, asked_account, kept_account, is_given_up, results_in}
 use Rattle.cp_worlds.specs.Owed.{owed, named_on_way}
 use Rattle.cp_worlds.specs.World.{at_second, World}
-use Rattle.cp_worlds.specs.Orderly.{IsHeldBack, IsPlainValue, IsPlainExport, IsOrderly}
+use Rattle.cp_worlds.specs.Orderly.{IsHeldBack, IsPlainValue, IsPlainAnswer, IsPlainExport, IsOrderly}
 use Rattle.cp_worlds.specs.Numbers.{IsHeldThere}
 use Rattle.cp_worlds.specs.Expected.{stage_of, IsAwaited, IsKept}
 use Rattle.cp_worlds.proofs.Wholly.{holds_of}
@@ -163,6 +163,7 @@ orderly_as_it_is =
       unsent = λ h. true≢false
           (subst IsHeldBack (get-insert_same (world waits).first.vat.entries.questions 0 _) (h.held.back 0 held_call 0 (get_is waits.first.vat.calls 0) refl)).0.0;
       no_path = λ h. true≢false (subst IsPlainValue (get-insert_same (world waits).first.vat.values.promises 1 _) (h.values 1));
+      none_given = λ h. true≢false (subst IsPlainAnswer (get-insert_same (world waits).first.vat.values.answers 0 _) (h.answers 0));
       none_exported = λ h. true≢false (subst IsPlainExport (get-insert_same (world waits).first.vat.counts.exports 0 _) (h.exports 0));
     }
 

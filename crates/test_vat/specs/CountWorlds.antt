@@ -135,7 +135,7 @@ waiting_call =
     (at_first, does events.Promise (values.Promise 0) [])
     ∷ (at_first, does (events.Call (caps.Promise 0) small_request) (values.Question 0) []) ∷ []
 
--- the state with a question that was sent, a promise that came to a question's path, and an export of one
+-- the state with a question that was sent, a promise that came to a question's path, an answer that was given one, and an export of one
 abbrev pub with_sent : State → State
 with_sent s =
     with_questions s (
@@ -148,14 +148,19 @@ with_sent s =
 abbrev pub with_path : State → State
 with_path s = record s { values = record s.values { promises = insert s.values.promises 1 (Some (caps.Pipelined 0 [])) } }
 
+abbrev pub with_path_given : State → State
+with_path_given s =
+    record s { values = record s.values { answers = insert s.values.answers 0 (Some (outcomes.Results one_object (caps.Pipelined 0 [] ∷ []))) } }
+
 abbrev pub with_path_exported : State → State
 with_path_exported s = with_exports s (insert s.counts.exports 0 (new_counted (caps.Pipelined 0 [])))
 
--- The vat is orderly. It isn't where the question of its waiting call was sent, nor where a question's path is a promise's value or exported.
+-- The vat is orderly. It isn't where the question of its waiting call was sent, nor where a question's path is a promise's value, was given or is exported.
 pub record IsOrderlyAsItIs (s : State) : Type 0 where
   pub orderly : IsOrderly s
   pub unsent : IsOrderly (with_sent s) → ⊥
   pub no_path : IsOrderly (with_path s) → ⊥
+  pub none_given : IsOrderly (with_path_given s) → ⊥
   pub none_exported : IsOrderly (with_path_exported s) → ⊥
 
 abbrev pub WaitingIsOrderly : Type 0

@@ -5,6 +5,7 @@ pub mod CountRows
 pub mod PromiseRows
 pub mod ReferenceRows
 pub mod FaultRows
+pub mod LedgerRows
 pub mod RefusalRows
 pub mod OrderRows
 pub mod WorldRows

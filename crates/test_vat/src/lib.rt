@@ -4,6 +4,7 @@
 pub mod count_rows;
 pub mod embargo_rows;
 pub mod fault_rows;
+pub mod ledger_rows;
 pub mod never;
 pub mod order;
 pub mod promise_rows;

@@ -1,0 +1,5 @@
+use Rattle.cp_worlds.proofs.Tallying.{ledger_agrees}
+use Rattle.cp_worlds.proofs.ledger.ledger_agrees.Goals as goal
+
+pub returns : goal.returns
+returns c = ledger_agrees

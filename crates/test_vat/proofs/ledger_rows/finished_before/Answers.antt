@@ -1,0 +1,7 @@
+use Rattle.std.specs.Prelude.{refl, Some}
+use Rattle.test_vat.specs.LedgerRows.{canceled}
+use Rattle.test_vat.proofs.Playing.{is_run}
+use Rattle.test_vat.proofs.ledger_rows.finished_before.Goals as goal
+
+pub returns-clause-run : goal.returns-clause-run
+returns-clause-run c = is_run (Some 0) canceled refl

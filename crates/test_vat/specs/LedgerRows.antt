@@ -1,0 +1,128 @@
+-- Exchanges beside what the Ledger says of their messages.
+use Rattle.std.specs.Prelude.{ℕ, true, false, List, [], ◌∷◌, ◌++◌, Option}
+use Rattle.cp_tree.specs.Node.{cap}
+use Rattle.cp_tables.specs.declared.exchange.Stage.{Stage}
+use Rattle.cp_rpc.specs.Made.{message_made}
+use Rattle.cp_rpc.specs.declared.call.SendResultsTo.TheVariants as results_to
+use Rattle.cp_rpc.specs.declared.descriptor.Descriptor.TheVariants as descriptors
+use Rattle.cp_rpc.specs.declared.message.Message.{Message}
+use Rattle.cp_rpc.specs.declared.message.Message.TheVariants as messages
+use Rattle.cp_rpc.specs.declared.resolve.Resolution.TheVariants as resolutions
+use Rattle.cp_rpc.specs.declared.returned.Returned.TheVariants as returns
+use Rattle.cp_refs.specs.declared.cap.Cap.TheVariants as caps
+use Rattle.cp_refs.specs.declared.call.Origin.TheVariants as origins
+use Rattle.cp_refs.specs.declared.outcome.Outcome.TheVariants as outcomes
+use Rattle.cp_machine.specs.Run.{Moment}
+use Rattle.cp_machine.specs.declared.effect.Effect.TheVariants as effects
+use Rattle.cp_machine.specs.declared.event.Event.TheVariants as events
+use Rattle.cp_machine.specs.declared.event.Value.TheVariants as values
+use Rattle.cp_worlds.specs.Ledger.{past_of, export_count, import_count, question_stage, answer_stage}
+use Rattle.test_vat.specs.RowWords.{comes, does, bootstrap_message, call_message, return_message, finish_message, resolve_message, release_message, sends, on_import, results, no_content, one_object, request, bootstrap_comes, bootstrap_does}
+use Rattle.test_vat.specs.PromiseRows.{promise_exported}
+
+-- what the Ledger says of an exchange's messages
+abbrev pub exported : List Moment → ℕ → ℕ
+exported history e = export_count (past_of history) e
+
+abbrev pub imported : List Moment → ℕ → ℕ
+imported history i = import_count (past_of history) i
+
+abbrev pub asked : List Moment → ℕ → Option Stage
+asked history q = question_stage (past_of history) q
+
+abbrev pub answered : List Moment → ℕ → Option Stage
+answered history a = answer_stage (past_of history) a
+
+-- a call's params name an export twice
+abbrev pub params_named : List Moment
+params_named =
+    bootstrap_does
+    ∷ comes
+    (return_message 0 (results (cap 0) (descriptors.SenderHosted 7 ∷ [])))
+    (effects.Settled 0 (outcomes.Results (cap 0) (caps.Import 7 ∷ [])) ∷ [])
+    ∷ does
+    (events.Call (caps.Import 7) (request one_object (caps.Object 3 ∷ caps.Object 3 ∷ [])))
+    (values.Question 1)
+    (sends (call_message 1 (on_import 7) one_object (descriptors.SenderHosted 0 ∷ descriptors.SenderHosted 0 ∷ [])) ∷ [])
+    ∷ []
+
+-- its Return gives them back
+abbrev pub params_given_back : List Moment
+params_given_back =
+    params_named
+    ++ comes
+    (messages.Return (record { answer_id = 1; release_param_caps = true; returned = results no_content [] }))
+    (effects.Settled 1 (outcomes.Results no_content []) ∷ [])
+    ∷ []
+
+-- the bootstrap object is given to two questions, and a Finish of the first gives it back once
+abbrev pub results_named : List Moment
+results_named =
+    bootstrap_comes ∷ comes (bootstrap_message 1) (sends (return_message 1 (results (cap 0) (descriptors.SenderHosted 0 ∷ []))) ∷ []) ∷ []
+
+abbrev pub results_given_back : List Moment
+results_given_back = results_named ++ comes (finish_message 0 true) [] ∷ []
+
+-- one before the Return gives back nothing, also where an answer of that number named something before
+abbrev pub finished_again : List Moment
+finished_again =
+    bootstrap_comes
+    ∷ comes (finish_message 0 false) []
+    ∷ comes (call_message 0 (on_import 0) no_content []) (effects.Deliver 0 (origins.Answer 0) 0 (request no_content []) ∷ [])
+    ∷ comes (finish_message 0 true) []
+    ∷ []
+
+-- the Return that follows is canceled, and the answer is gone
+abbrev pub canceled : List Moment
+canceled =
+    finished_again
+    ++ does (events.Answer (origins.Answer 0) (outcomes.Results one_object (caps.Object 5 ∷ []))) values.Nothing (sends (return_message 0 returns.Canceled) ∷ [])
+    ∷ []
+
+-- a promise is resolved to an object by a Resolve that the peer doesn't know
+abbrev pub resolve_given_back : List Moment
+resolve_given_back =
+    promise_exported
+    ++ comes (messages.Unimplemented (message_made (resolve_message 1 (resolutions.Cap (descriptors.SenderHosted 2))))) []
+    ∷ []
+
+-- the application finishes a question, and its Return names an import
+abbrev pub return_ignored : List Moment
+return_ignored =
+    bootstrap_does
+    ∷ does (events.Finish 0) values.Nothing (sends (finish_message 0 true) ∷ [])
+    ∷ comes (return_message 0 (results (cap 0) (descriptors.SenderHosted 7 ∷ []))) []
+    ∷ []
+
+-- a call whose results are to go elsewhere isn't supported, and names an import
+abbrev tail_call : Message
+tail_call =
+    messages.Call (
+    record {
+      question_id = 0;
+      method_id = 4;
+      send_results_to = results_to.Yourself;
+      interface_id = 9;
+      target = on_import 0;
+      params = record { content = one_object; cap_table = descriptors.SenderHosted 7 ∷ [] };
+    }
+    )
+
+abbrev pub call_sent_back : List Moment
+call_sent_back = comes tail_call (sends (messages.Unimplemented (message_made tail_call)) ∷ []) ∷ []
+
+-- an import is taken in twice, and given back with its whole count
+abbrev pub import_taken : List Moment
+import_taken =
+    bootstrap_does
+    ∷ comes
+    (return_message 0 (results (cap 0) (descriptors.SenderHosted 7 ∷ descriptors.SenderHosted 7 ∷ [])))
+    (effects.Settled 0 (outcomes.Results (cap 0) (caps.Import 7 ∷ caps.Import 7 ∷ [])) ∷ [])
+    ∷ []
+
+abbrev pub import_given_back : List Moment
+import_given_back =
+    import_taken
+    ++ does (events.Finish 0) values.Nothing (sends (finish_message 0 false) ∷ [])
+    ∷ does (events.Release 7) values.Nothing (sends (release_message 7 2) ∷ [])
+    ∷ []
