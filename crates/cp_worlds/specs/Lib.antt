@@ -15,5 +15,4 @@ pub mod Numbers
 pub mod Expected
 pub mod Spared
 pub mod Tickets
-pub mod Keeping
 pub mod LaneKept
