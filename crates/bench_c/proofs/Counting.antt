@@ -42,6 +42,20 @@ goes_on limits mode kind bytes old new number next taken S left back h g of_kind
       number_is = omega (arith, n, h.number_is, length-append h.given one);
     }
 
+-- what is kept for later frames changes no count
+pub with_spare : (limits : Bounds) (mode : Mode) (kind : ℕ) (bytes : List ℕ) (reader : Reader) (number : ℕ) (left : List ℕ) (spare : ℕ) → IsCounted limits mode kind bytes reader number left → IsCounted limits mode kind bytes (record reader { spare = spare }) number left
+with_spare limits mode kind bytes reader number left spare h = record {
+  fed = h.fed;
+  given = h.given;
+  splits = h.splits;
+  frames = h.frames;
+  stands = h.stands;
+  same_mode = h.same_mode;
+  same_limits = h.same_limits;
+  each = h.each;
+  number_is = h.number_is;
+}
+
 pub ends : (limits : Bounds) (mode : Mode) (kind : ℕ) (bytes : List ℕ) (reader : Reader) (number : ℕ) (left : List ℕ) → IsCounted limits mode kind bytes reader number left → length left ≡ 0 → CountsWithin limits mode kind bytes number
 ends limits mode kind bytes reader number left h none =
     let all : bytes ≡ h.fed = h.splits ∙ ap (λ (x : List ℕ). h.fed ++ x) (nil_from_length left none) ∙ append-nil h.fed in

@@ -124,17 +124,20 @@ keeps_little modes.Plain limits statuses.Reading r h = record {
   bytes = part_short modes.Plain limits statuses.Reading r h;
   laid = λ b l k m. omega (arith, length_rest r.frame, ap (λ (x : List ℕ). length x) (m ∙ sym k.0));
   named = λ b l k m. subst (λ (x : List ℕ). kept_words r.frame ≤ 257 + sum (named_sizes (numbers x))) (k.0 ∙ sym m) (words_kept limits r.frame h.0);
+  spare = r.frame.spare.little;
 }
 keeps_little modes.Packed limits statuses.Reading r h = record {
   bytes = part_short modes.Packed limits statuses.Reading r h;
   laid = λ b l k m. omega (arith, length_rest r.frame, ap (λ (x : List ℕ). length x) (laid_kept limits r b l h k m), length-append (rest_of r.frame) (laid (pending_of r.group)));
   named = λ b l k m. subst (λ (x : List ℕ). kept_words r.frame ≤ 257 + sum (named_sizes (numbers x))) (sym (laid_kept limits r b l h k m)) (packed_named limits r h);
+  spare = r.frame.spare.little;
 }
-keeps_little mode limits statuses.Failed r h = record { bytes = part_short mode limits statuses.Failed r h; laid = λ b l k m. absurd k; named = λ b l k m. absurd k }
+keeps_little mode limits statuses.Failed r h = record { bytes = part_short mode limits statuses.Failed r h; laid = λ b l k m. absurd k; named = λ b l k m. absurd k; spare = r.frame.spare.little }
 keeps_little mode limits (statuses.Refusing fault) r h = record {
   bytes = part_short mode limits (statuses.Refusing fault) r h;
   laid = λ b l k m. omega (arith, empty_words r.frame h.frame);
   named = λ b l k m. omega (arith, empty_words r.frame h.frame);
+  spare = r.frame.spare.little;
 }
 
 -- no bytes have come where neither a word of the table nor a part of one has

@@ -1,5 +1,5 @@
 -- What a reader keeps, and what its callers see of it. No public clause names these.
-use Rattle.std.specs.Prelude.{◌≡◌, ℕ, ◌+◌, List, length}
+use Rattle.std.specs.Prelude.{◌≡◌, ℕ, ◌+◌, List, length, vec_capacity}
 use Rattle.cp_words.specs.Limits.{Bounds}
 use Rattle.cp_frame.specs.declared.fault.FrameFault.{FrameFault}
 use Rattle.cp_frame.specs.declared.fault.FrameFault.TheVariants as faults
@@ -25,6 +25,7 @@ seen mode limits status r = record {
   state = state_of status (bytes_for mode r) (count_for mode r);
   bytes = length r.frame.part.items + length r.group.part.items;
   words = kept_words r.frame;
+  spare = vec_capacity r.frame.spare.words;
 }
 
 -- what has come of a frame is kept while the stream is read, and nothing afterwards

@@ -15,13 +15,19 @@ pub data State : Type 0 where
   refusing : FrameFault → State
   reading : List ℕ → ℕ → State
 
--- The form and the limits that it was made for, its state, and how many bytes and words its vectors hold together.
+-- The form and the limits that it was made for, its state, how many bytes and words its vectors hold together, and how many
+-- words the buffer has room for that it keeps for later frames.
 pub record Reader : Type 0 where
   pub mode : Mode
   pub limits : Bounds
   pub state : State
   pub bytes : ℕ
   pub words : ℕ
+  pub spare : ℕ
+
+-- the most that a buffer has room for that is kept for later frames: 1 MiB
+abbrev pub most_spare : ℕ
+most_spare = 131072
 
 -- the rests of two streams go on alike: they are the same, or unpack to the same whatever follows
 abbrev pub GoesOnAs : Mode → List ℕ → List ℕ → Type 0
@@ -106,7 +112,7 @@ pub record ReportsAtEnd (old new : Reader) (fault : FrameFault) : Type 0 where
 
 -- a reader of which nothing has come
 abbrev pub new_reader : Mode → Bounds → Reader
-new_reader mode limits = record { mode = mode; limits = limits; state = reading [] 0; bytes = 0; words = 0 }
+new_reader mode limits = record { mode = mode; limits = limits; state = reading [] 0; bytes = 0; words = 0; spare = 0 }
 
 -- these are all bytes to come before the rest is a frame, in the plain form once the segment table has come
 abbrev pub AreAllToCome : Mode → Bounds → List ℕ → ℕ → Type 0
@@ -125,8 +131,14 @@ Needs r failed n = n ≡ 0
 Needs r (refusing fault) n = n ≡ 0
 Needs r (reading rest taken) n = (b : List ℕ) → StandsFor r b → IsNeeded r.mode r.limits b n
 
--- The words kept are no more than the rest lays, whole, and no more than the segment table and the sizes that it names.
+-- The words kept are no more than the rest lays, whole, and no more than the segment table and the sizes that it names. The
+-- buffer that is kept for later frames is small, whatever frames came.
 pub record KeepsLittle (r : Reader) : Type 0 where
   pub bytes : r.bytes ≤ 9
   pub laid : (b l : List ℕ) → StandsFor r b → Laid r.mode b l → 8 * r.words ≤ length l
   pub named : (b l : List ℕ) → StandsFor r b → Laid r.mode b l → r.words ≤ 257 + sum (named_sizes (numbers l))
+  pub spare : r.spare ≤ most_spare
+
+-- the reader as it was, but for the buffer that it keeps for later frames
+abbrev pub IsAsBefore : Reader → Reader → Type 0
+IsAsBefore old new = new ≡ record old { spare = new.spare }

@@ -42,7 +42,8 @@ pub struct OpenFrame {
 impl OpenFrame {
     /// Nothing of a frame.
     pub fn new(alloc: Global) -> OpenFrame
-        ensures { IsEmpty result }
+        ensures empty { IsEmpty result }
+        ensures no_spare { vec_capacity result.spare.words ≡ 0 }
     {
         OpenFrame {
             table: Vec::new(alloc),
@@ -186,7 +187,6 @@ impl OpenFrame {
         ensures { IfOk result (λ back. TakesPart limits self.old run.old left.now self.new run.new back.now) }
     {
         let most = table::size(&self.table, self.segments.len());
-        self.spare.settle(&mut self.words, most)?;
         let back = take_groups(&mut self.words, run, most, left)?;
         if self.words.len() == most {
             close(alloc, &self.table, &mut self.segments, &mut self.words)?;
@@ -208,8 +208,6 @@ impl OpenFrame {
         ensures begun { OnOk result (IsBegun limits self.new) }
     {
         if self.part.is_empty() && 8 <= left.len() {
-            let size = table::size(&self.table, self.segments.len());
-            self.spare.settle(&mut self.words, size)?;
             return take_words(
                 alloc,
                 &self.table,

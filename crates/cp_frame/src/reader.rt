@@ -35,8 +35,8 @@ impl Model for FrameReader {
 }
 
 impl FrameReader {
-    ghost use Rattle.std.specs.Prelude.{◌≡◌, ◌<◌, ◌^◌, [], OnOk, IfErr, IfNone, IfOk, IfSome};
-    ghost use Rattle.cp_frame.specs.Reader.{taken_of, StandsFor, Gives, GivesNext, Reports, EndsWell, ReportsAtEnd, KeepsLittle, Needs, new_reader, failed};
+    ghost use Rattle.std.specs.Prelude.{◌≡◌, ◌<◌, ◌≤◌, ◌^◌, [], OnOk, IfErr, IfNone, IfOk, IfSome};
+    ghost use Rattle.cp_frame.specs.Reader.{taken_of, StandsFor, Gives, GivesNext, Reports, EndsWell, ReportsAtEnd, KeepsLittle, Needs, IsAsBefore, most_spare, new_reader, failed};
 
     /// A reader of a stream in this form, of which nothing has come.
     fn new(alloc: Global, mode: Mode, limits: Limits) -> FrameReader
@@ -124,10 +124,11 @@ impl FrameReader {
     }
 
     /// Takes back a message that isn't needed any more, for the buffer of its first segment, in which the reader
-    /// may make a later frame. It keeps one such buffer, the largest, and none of its words. What has come of the
-    /// stream stays as it is.
+    /// may make a later frame. It keeps one such buffer, the largest of those of at most 1 MiB, and none of its
+    /// words. What has come of the stream stays as it is.
     pub fn reuse(&mut self, segments: Segments)
-        ensures { self.new ≡ self.old }
+        ensures stays { IsAsBefore self.old self.new }
+        ensures little { self.new.spare ≤ most_spare }
     {
         self.stream.rest.frame.spare.keep(segments.into_first());
     }
@@ -176,7 +177,7 @@ impl FrameReader {
 
     /// How many bytes that aren't whole words, and how many words of the open frame, its segment
     /// table included, the reader keeps: at most 9 bytes, and no more words than have come whole. That is all that it
-    /// keeps: a buffer that was given back holds no words.
+    /// keeps of the stream. Beside it there is the buffer for later frames (`spare`), of at most 1 MiB, without words.
     pub fn held(&self) -> (usize, usize)
         ensures bytes { result.0 ≡ self.now.bytes }
         ensures words { result.1 ≡ self.now.words }
@@ -187,5 +188,14 @@ impl FrameReader {
             self.stream.rest.frame.part.len() + self.stream.rest.group.part.len(),
             self.stream.rest.frame.kept_words(),
         )
+    }
+
+    /// How many words the buffer has room for that the reader keeps for later frames: at most 131,072, which take
+    /// 1 MiB, however large the frames were that were given back.
+    pub fn spare(&self) -> usize
+        ensures spare { result ≡ self.now.spare }
+        ensures little { result ≤ most_spare }
+    {
+        self.stream.rest.frame.spare.capacity()
     }
 }

@@ -1,6 +1,6 @@
 //! The rest of a stream: what has come of the frame after those that were given.
 
-ghost use Rattle.std.specs.Prelude.{◌≡◌, ◌⊎◌, ◌+◌, ◌<◌, ◌^◌, ◌++◌, ◌∷◌, ◌↔◌, [], IfOk, IsTrue, OnOk, IfErr, length, sum};
+ghost use Rattle.std.specs.Prelude.{vec_capacity, ◌≡◌, ◌⊎◌, ◌+◌, ◌<◌, ◌^◌, ◌++◌, ◌∷◌, ◌↔◌, [], IfOk, IsTrue, OnOk, IfErr, length, sum};
 ghost use Rattle.cp_frame.specs.Framed.{sizes_of};
 ghost use Rattle.cp_packed.specs.Words.{bytes_of};
 ghost use Rattle.cp_frame.specs.Stream.{numbers, NamesFault, HasFault};
@@ -34,7 +34,8 @@ pub struct Rest {
 impl Rest {
     /// Nothing.
     pub fn new(alloc: Global) -> Rest
-        ensures { IsBlank result }
+        ensures blank { IsBlank result }
+        ensures no_spare { vec_capacity result.frame.spare.words ≡ 0 }
     {
         Rest {
             frame: OpenFrame::new(alloc),

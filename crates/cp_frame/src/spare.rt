@@ -1,6 +1,7 @@
 //! A buffer that was given back.
 
-ghost use Rattle.std.specs.Prelude.{◌≡◌, ◌⊎◌, ◌≤◌, [], IfOk, OnOk, vec_capacity};
+ghost use Rattle.std.specs.Prelude.{◌≡◌, ◌⊎◌, ◌≤◌, [], IfOk, vec_capacity};
+ghost use Rattle.cp_frame.specs.Reader.{most_spare};
 
 use std::alloc::{AllocError, Global};
 use std::mem;
@@ -8,27 +9,37 @@ use std::mem;
 /// How many times the words of a segment the capacity of its buffer may be.
 const MOST_SPARE: usize = 8;
 
-/// How many words are moved at the most.
-const LITTLE: usize = 8_192;
+/// How many words a buffer that is kept has room for at the most: 1 MiB.
+const MOST_KEPT: usize = 131_072;
 
 /// A buffer that was given back, for the words of a later segment. It holds none.
 #[derive(Drop)]
 pub struct Spare {
     words: Vec<u64>,
     ghost empty: { words.items ≡ [] },
+    ghost little: { vec_capacity words ≤ most_spare },
 }
 
 impl Spare {
     /// A buffer without capacity.
-    pub fn new(alloc: Global) -> Spare {
+    pub fn new(alloc: Global) -> Spare
+        ensures { vec_capacity result.words ≡ 0 }
+    {
         Spare {
             words: Vec::new(alloc),
         }
     }
 
-    /// Keeps a list's buffer, without its words, if it has more capacity than what is kept.
+    /// How many words it has room for.
+    pub fn capacity(&self) -> usize
+        ensures { result ≡ vec_capacity self.now.words }
+    {
+        self.words.capacity()
+    }
+
+    /// Keeps a list's buffer, without its words, if it has more capacity than what is kept, and no more than may be.
     pub fn keep(&mut self, mut list: Vec<u64>) {
-        if self.words.capacity() < list.capacity() {
+        if self.words.capacity() < list.capacity() && list.capacity() <= MOST_KEPT {
             list.clear();
             self.words = list;
         }
@@ -49,19 +60,5 @@ impl Spare {
             return Vec::with_capacity(alloc, capacity);
         }
         Ok(mem::replace(&mut self.words, Vec::new(alloc)))
-    }
-
-    /// Moves a segment that will have this many words, and of which little has come, into this buffer, where
-    /// it would have to grow in its own. Its own is kept.
-    pub fn settle(&mut self, segment: &mut Vec<u64>, size: usize) -> Result<(), AllocError>
-        ensures { OnOk result (segment.new.items ≡ segment.old.items) }
-    {
-        if size <= segment.capacity() || self.words.capacity() < size || LITTLE < segment.len() {
-            return Ok(());
-        }
-        self.words.extend_from_slice(segment)?;
-        mem::swap(segment, &mut self.words);
-        self.words.clear();
-        Ok(())
     }
 }

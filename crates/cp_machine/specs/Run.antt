@@ -1,15 +1,11 @@
 -- Runs of a vat.
-use Rattle.std.specs.Prelude.{◌≡◌, ℕ, List, [], ◌∷◌, Option, Result, Err}
-use Rattle.std.specs.List.{AllByRecursion}
+use Rattle.std.specs.Prelude.{◌≡◌, ℕ, List, [], ◌∷◌, Option, Result}
 use Rattle.cp_machine.specs.State.{State, new_state}
 use Rattle.cp_machine.specs.Step.{Step}
 use Rattle.cp_machine.specs.declared.effect.Effect.{Effect}
-use Rattle.cp_machine.specs.declared.effect.Effect.TheVariants as effects
-use Rattle.cp_machine.specs.declared.effect.Reason.TheVariants as reasons
 use Rattle.cp_machine.specs.declared.event.Event.{Event}
 use Rattle.cp_machine.specs.declared.event.Value.{Value}
 use Rattle.cp_machine.specs.declared.fault.VatFault.{VatFault}
-use Rattle.cp_machine.specs.declared.fault.VatFault.TheVariants as refusals
 
 -- an event, what it was answered with, and its effects in order
 pub record Moment : Type 0 where
@@ -25,16 +21,3 @@ Steps old (moment ∷ more) new = (mid : State) × Step old moment.event moment.
 -- A run of a new vat: the events, each with its answer and its effects.
 abbrev pub Run : Option ℕ → List Moment → Type 0
 Run bootstrap history = (last : State) × Steps (new_state bootstrap) history last
-
--- an effect that isn't a fault of the peer, and an answer that isn't an allocation failure
-abbrev pub IsNoFault : Effect → Type 0
-IsNoFault (effects.Closed (reasons.Fault fault)) = ⊥
-IsNoFault other = Unit {0}
-
-abbrev pub IsNoAllocationFailure : Result Value VatFault → Type 0
-IsNoAllocationFailure (Err refusals.OutOfMemory) = ⊥
-IsNoAllocationFailure other = Unit {0}
-
--- A run is accepted if the peer was at no fault and memory didn't run out.
-abbrev pub IsAccepted : List Moment → Type 0
-IsAccepted history = AllByRecursion (λ moment. IsNoAllocationFailure moment.result × AllByRecursion IsNoFault moment.effects) history

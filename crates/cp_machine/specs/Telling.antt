@@ -71,9 +71,20 @@ TakenAs turn (descriptors.ReceiverAnswer answer) cap =
 TakenAs turn (descriptors.ThirdPartyHosted t) cap = ⊥
 TakenAs turn (descriptors.Unknown n) cap = ⊥
 
+-- the descriptor is a receiverAnswer of an answer that wasn't given, and is taken in as this promise
+abbrev pub IsTiedAs : Turn → Descriptor → Cap → ℕ → Type 0
+IsTiedAs turn (descriptors.ReceiverAnswer answer) cap p = (answer_of turn.before answer.question_id ≡ Some None) × (cap ≡ caps.Promise p)
+IsTiedAs turn other cap p = ⊥
+
+-- Each receiverAnswer of an answer that wasn't given has a promise of its own: no later one is taken in as the same.
+abbrev pub EachHasItsOwn : Turn → List Descriptor → List Cap → Type 0
+EachHasItsOwn turn (d ∷ table) (cap ∷ taken) = ((p : ℕ) → IsTiedAs turn d cap p → AllZip (λ later c. ¬ (IsTiedAs turn later c p)) table taken) × EachHasItsOwn turn table taken
+EachHasItsOwn turn table taken = Unit {0}
+
 -- the outcome that a Return of the peer's bears
 abbrev pub Brings : Turn → Returned → Outcome → Type 0
-Brings turn (returns.Results p) outcome = (table : List Cap) × (outcome ≡ outcomes.Results p.content table) × AllZip (TakenAs turn) p.cap_table table
+Brings turn (returns.Results p) outcome =
+    (table : List Cap) × (outcome ≡ outcomes.Results p.content table) × AllZip (TakenAs turn) p.cap_table table × EachHasItsOwn turn p.cap_table table
 Brings turn (returns.Exception x) outcome = outcome ≡ outcomes.Failed x
 Brings turn returns.Canceled outcome = outcome ≡ outcomes.Canceled
 Brings turn other outcome = ⊥

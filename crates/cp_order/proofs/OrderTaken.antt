@@ -22,7 +22,7 @@ use Rattle.cp_machine.specs.Say.{IsExport}
 use Rattle.cp_machine.specs.Take.{path_of, held_once_more, held_import, unfinished, answer_by, answer_of, tie, tied, TakeAnswer, taken_export, Take, TakeAll}
 use Rattle.cp_machine.specs.Asking.{TakeReturned}
 use Rattle.cp_machine.specs.Trace.{Turn}
-use Rattle.cp_machine.specs.Telling.{is_finished, was_finished, IsNewPromise, TakenAnswer, TakenAs, Brings}
+use Rattle.cp_machine.specs.Telling.{is_finished, was_finished, IsNewPromise, IsTiedAs, EachHasItsOwn, TakenAnswer, TakenAs, Brings}
 use Rattle.cp_machine.specs.declared.entry.AnswerEntry.{AnswerEntry}
 use Rattle.cp_machine.specs.declared.entry.ImportKind.{ImportKind}
 use Rattle.cp_machine.specs.declared.entry.ImportKind.TheVariants as kinds
@@ -255,15 +255,63 @@ module _ (turn : Turn) where
   take_taken s (descriptors.ThirdPartyHosted t) taken since is = absurd is
   take_taken s (descriptors.Unknown n) taken since is = absurd is
 
+-- every state is since itself
+since_self : (s : State) → IsSince s s
+since_self s = record { exports = λ e entry at. (entry.count, at); promises = λ p x at. at; settled = λ p v at. at; answers = refl; questions = refl; stages = λ a. refl }
+
+-- a promise stays as it is while a descriptor is taken in
+promises_stay : (turn : Turn) (s : State) (d : Descriptor) (taken : Cap × State) → Take s d (Ok taken) → (p : ℕ) (x : Option Cap) → get s.values.promises p ≡ Some x → get taken.1.values.promises p ≡ Some x
+promises_stay turn s d taken is = (take_taken (record turn { before = s }) s d taken (since_self s) is).0.promises
+
+module _ (turn : Turn) where
+  -- A receiverAnswer of an answer that wasn't given is taken in as a promise that was free, and is open then.
+  tied_new : (s : State) (d : Descriptor) (taken : Cap × State) (p : ℕ) → IsSince turn.before s → Take s d (Ok taken) → IsTiedAs turn d taken.0 p
+      → (get s.values.promises p ≡ None) × (get taken.1.values.promises p ≡ Some None)
+  tied_new s (descriptors.ReceiverAnswer answer) taken p since is tie =
+      let a = answer.question_id in
+      let path = path_of answer.transform in
+      let there = subst (λ o. TakeAnswer s a path o (Ok taken)) (sym (answer_since turn.before s a since) ∙ tie.0) is in
+      let parts = then_out {A = ℕ} {B = Cap × State} (Fresh s.values.promises) (λ q out. out ≡ Ok (caps.Promise q, tied s a path q)) taken there in
+      let made : taken ≡ (caps.Promise parts.0, tied s a path parts.0) = ok_in _ _ parts.2 in
+      let same_cap : ◌≡◌ {A = Cap} (caps.Promise parts.0) (caps.Promise p) = sym (ap (λ (x : Cap × State). x.0) made) ∙ tie.1 in
+      let same : parts.0 ≡ p = cc in (
+        subst (λ q. get s.values.promises q ≡ None) same (free_at s.values.promises parts.0 parts.1),
+        ap (λ (x : Cap × State). get x.1.values.promises p) made
+            ∙ subst (λ q. get (insert s.values.promises parts.0 None) q ≡ Some None) same (put_at s.values.promises parts.0 parts.0 None true (is_itself parts.0)),
+      )
+  tied_new s descriptors.None taken p since is tie = absurd tie
+  tied_new s (descriptors.SenderHosted i) taken p since is tie = absurd tie
+  tied_new s (descriptors.SenderPromise i) taken p since is tie = absurd tie
+  tied_new s (descriptors.ReceiverHosted e) taken p since is tie = absurd tie
+  tied_new s (descriptors.ThirdPartyHosted t) taken p since is tie = absurd tie
+  tied_new s (descriptors.Unknown n) taken p since is tie = absurd tie
+
+  -- none is taken in as a promise that exists
+  none_tied : (table : List Descriptor) (s : State) (taken : List Cap × State) (p : ℕ) → IsSince turn.before s → get s.values.promises p ≡ Some None → TakeAll s table (Ok taken)
+      → AllZip (λ d cap. ¬ (IsTiedAs turn d cap p)) table taken.0
+  none_tied [] s taken p since there is = rw (ok_in _ _ is) tt
+  none_tied (d ∷ table) s taken p since there is =
+      let first = then_out {A = Cap × State} {B = List Cap × State} (Take s d) _ taken is in
+      let rest = then_out {A = List Cap × State} {B = List Cap × State} (TakeAll first.0.1 table) _ taken first.2 in
+      let here = take_taken turn s d first.0 since first.1 in
+      let more = none_tied table first.0.1 rest.0 p here.0 (promises_stay turn s d first.0 first.1 p None there) rest.1 in
+      rw (ok_in _ _ rest.2) (λ tie. none_out (sym (tied_new s d first.0 p since first.1 tie).0 ∙ there), more)
+
   pub all_taken : (table : List Descriptor) (s : State) (taken : List Cap × State) → IsSince turn.before s → TakeAll s table (Ok taken)
-      → IsSince turn.before taken.1 × TiedStay s taken.1 × (TiedLast taken.1 turn.after → AllZip (TakenAs turn) table taken.0)
-  all_taken [] s taken since is = rw (ok_in _ _ is) (since, tied_not s, λ last. tt)
+      → IsSince turn.before taken.1 × TiedStay s taken.1 × (TiedLast taken.1 turn.after → AllZip (TakenAs turn) table taken.0) × EachHasItsOwn turn table taken.0
+  all_taken [] s taken since is = rw (ok_in _ _ is) (since, tied_not s, λ last. tt, tt)
   all_taken (d ∷ table) s taken since is =
       let first = then_out {A = Cap × State} {B = List Cap × State} (Take s d) _ taken is in
       let rest = then_out {A = List Cap × State} {B = List Cap × State} (TakeAll first.0.1 table) _ taken first.2 in
-      let here = take_taken s d first.0 since first.1 in
+      let here = take_taken turn s d first.0 since first.1 in
       let more = all_taken table first.0.1 rest.0 here.0 rest.1 in
-      rw (ok_in _ _ rest.2) (more.0, tied_both s first.0.1 rest.0.1 here.1 more.1, λ last. (here.2 (last_then first.0.1 rest.0.1 turn.after more.1 last), more.2 last))
+      let alone = λ (p : ℕ) (tie : IsTiedAs turn d first.0.0 p). none_tied table first.0.1 rest.0 p here.0 (tied_new s d first.0 p since first.1 tie).1 rest.1 in
+      rw (ok_in _ _ rest.2) (
+        more.0,
+        tied_both s first.0.1 rest.0.1 here.1 more.1,
+        λ last. (here.2 (last_then first.0.1 rest.0.1 turn.after more.1 last), more.2 last),
+        (alone, more.3),
+      )
 
   -- So what a Return bears is brought.
   pub returned_taken : (returned : Returned) (s : State) (taken : Outcome × State) → IsSince turn.before s → TakeReturned s returned (Ok taken)
@@ -271,7 +319,7 @@ module _ (turn : Turn) where
   returned_taken (returns.Results p) s taken since is =
       let parts = then_out {A = List Cap × State} {B = Outcome × State} (TakeAll s p.cap_table) _ taken is in
       let all = all_taken p.cap_table s parts.0 since parts.1 in
-      rw (ok_in _ _ parts.2) (all.0, λ last. (parts.0.0, refl, all.2 last))
+      rw (ok_in _ _ parts.2) (all.0, λ last. (parts.0.0, refl, all.2 last, all.3))
   returned_taken (returns.Exception x) s taken since is = rw (ok_in _ _ is) (since, λ last. refl)
   returned_taken returns.Canceled s taken since is = rw (ok_in _ _ is) (since, λ last. refl)
   returned_taken returns.ResultsSentElsewhere s taken since is = absurd is

@@ -54,7 +54,7 @@ says_kind s p pointers.Null offset k start h b = absurd h
 says_kind s p (pointers.Cap i) offset k start h b = absurd h
 says_kind s p (pointers.Far double place other) offset k start h b = absurd h
 
-says_tag : (r : Pointer) (k : Kind) → IsLandingPadTag r k → tag_kind_of (Some r) ≡ Some k
+pub says_tag : (r : Pointer) (k : Kind) → IsLandingPadTag r k → tag_kind_of (Some r) ≡ Some k
 says_tag pointers.Null k h = rw h
 says_tag (pointers.Struct o d n) k h = rw (h.0, h.1)
 says_tag (pointers.List o size n) k h = rw (h.0, h.1)

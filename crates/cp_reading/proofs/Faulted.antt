@@ -8,7 +8,8 @@ use Rattle.cp_words.specs.declared.pointer.ElementSize.TheVariants as sizes
 use Rattle.cp_tree.specs.Node.{Node, struct, ptrs, structs, Nodes, node, Bodies, body, count, number_of, depth, greatest_depth, deepest_body, cost, total_cost, body_cost}
 use Rattle.cp_words.specs.Targets.{segment, Holds, words_at}
 use Rattle.cp_reading.specs.Locates.{Locates}
-use Rattle.cp_reading.specs.Faults.{FaultBy}
+use Rattle.cp_reading.specs.Faults.{FaultBy, IsOutOfBounds, NamesNoSegment, HasBadPad, HasBadTag, HasBadCapability}
+use Rattle.cp_reading.specs.FirstFault.{HasWordFault}
 use Rattle.cp_reading.specs.Pruned.{Prunes, EachPrunes, EachPrunesBody, IsPointerOf, IsReachable, below}
 use Rattle.cp_reading.specs.Reading.{◌>>=◌, Read, Kids, row_by, bodies_by, target_by, area_by, charged, filled, price, body_words, IsWhole, body_by, pointer_by, word_by, kids_at, tree_at, rows_at}
 use Rattle.cp_reading.specs.declared.target.Target.{Target}
@@ -36,6 +37,19 @@ FaultBy-map S (faults.BadCapability at) f g h = h
 FaultBy-map S (faults.NestingLimit at) f g h = (h.0, f h.1)
 FaultBy-map S (faults.TraversalLimit at) f g h = (h.0, g h.1)
 FaultBy-map S faults.OutOfMemory f g h = h
+
+-- a word's own fault, as one of a reachable word
+pub by_word : (S : List (List ℕ)) (s p : ℕ) (D C : Type 0) → IsReachable S s p → (e : TreeFault) → HasWordFault S s p e → FaultBy S D C e
+by_word S s p D C reach (faults.NoRoot at) h = absurd h
+by_word S s p D C reach (faults.RootKind at) h = absurd h
+by_word S s p D C reach (faults.OutOfBounds at) h = subst (λ (a : Place). IsReachable S a.segment a.word × IsOutOfBounds S a.segment a.word) h.0 (reach, h.1)
+by_word S s p D C reach (faults.NoSegment at) h = subst (λ (a : Place). IsReachable S a.segment a.word × NamesNoSegment S a.segment a.word) h.0 (reach, h.1)
+by_word S s p D C reach (faults.BadPad at) h = subst (λ (a : Place). IsReachable S a.segment a.word × HasBadPad S a.segment a.word) h.0 (reach, h.1)
+by_word S s p D C reach (faults.BadTag at) h = subst (λ (a : Place). IsReachable S a.segment a.word × HasBadTag S a.segment a.word) h.0 (reach, h.1)
+by_word S s p D C reach (faults.BadCapability at) h = subst (λ (a : Place). IsReachable S a.segment a.word × HasBadCapability S a.segment a.word) h.0 (reach, h.1)
+by_word S s p D C reach (faults.NestingLimit at) h = absurd h
+by_word S s p D C reach (faults.TraversalLimit at) h = absurd h
+by_word S s p D C reach faults.OutOfMemory h = absurd h
 
 -- A pruned tree of a word is too deep, or too dear; so is a row of words, and a row of bodies.
 unfoldable pub Deep : List (List ℕ) → ℕ → ℕ → ℕ → Type 0
@@ -231,8 +245,8 @@ module _ (S : List (List ℕ)) (s p n budget : ℕ) (kids : Option Kids) (fails 
   pointer_faulted r e h kind f = go (bind_err (target_by here S r >>= area_by here S) _ e f)
     where
       led : (target_by here S r ≡ Err e) ⊎ ((x : Target) × (target_by here S r ≡ Ok x) × (area_by here S x ≡ Err e)) → FaultBy S (Deep S s p n) (Dear S s p budget) e
-      led (inl g) = target_fails S s p _ _ reach r e h g kind
-      led (inr g) = area_fails S s p _ _ reach r g.0 e h g.1 g.2
+      led (inl g) = by_word S s p _ _ reach e (target_fails S s p r e h g kind)
+      led (inr g) = by_word S s p _ _ reach e (area_fails S s p r g.0 e h g.1 g.2)
 
       go : ((target_by here S r >>= area_by here S) ≡ Err e) ⊎ ((x : Area) × ((target_by here S r >>= area_by here S) ≡ Ok x) × (body_by here kids S budget x ≡ Err e)) → FaultBy S (Deep S s p n) (Dear S s p budget) e
       go (inl g) = led (bind_err (target_by here S r) _ e g)

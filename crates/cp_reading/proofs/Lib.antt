@@ -16,3 +16,6 @@ pub mod Blank
 pub mod Faulted
 pub mod WrongTargets
 pub mod RootFaults
+pub mod FirstMet
+pub mod FirstRead
+pub mod FirstRoots

@@ -17,7 +17,7 @@ use Rattle.cp_words.specs.declared.kind.Kind.TheVariants as kinds
 use Rattle.cp_reading.specs.declared.fault.TreeFault.{TreeFault}
 use Rattle.cp_reading.specs.declared.fault.TreeFault.TheVariants as faults
 use Rattle.cp_reading.proofs.Checks.{target_found}
-use Rattle.cp_reading.proofs.Faulted.{Deep, Dear, FaultBy-map, faulted}
+use Rattle.cp_reading.proofs.Faulted.{Deep, Dear, FaultBy-map, by_word, faulted}
 use Rattle.cp_reading.proofs.WrongTargets.{bind_err, err_is, target_fails}
 use Rattle.cp_reading.proofs.Sound.{ok_is, passed}
 use Rattle.cp_reading.proofs.Views.{some_is}
@@ -64,7 +64,7 @@ module _ (S : List (List ℕ)) (limits : Bounds) where
       let is : kinds.List z m ≡ kinds.List size n = ap (λ (a : Target). a.kind) (some_is e) ∙ k in
       let a : z ≡ size = cc in let b : m ≡ n = cc in (o, rw (a, b) refl)
 
-  tag_list : (o : Option Pointer) (size : ElementSize) (n : ℕ) → tag_kind_of o ≡ Some (kinds.List size n) → (i : ℤ) × (o ≡ Some (pointers.List i size n))
+  tag_list : (o : Option Pointer) (size : ElementSize) (n : ℕ) → tag_kind_of o ≡ Some (kinds.List size n) → o ≡ Some (pointers.List (pos 0) size n)
   tag_list None size n e = cc
   tag_list (Some pointers.Null) size n e = let wrong : kinds.Struct 0 0 ≡ kinds.List size n = some_is e in cc
   tag_list (Some (pointers.Cap i)) size n e = cc
@@ -74,11 +74,11 @@ module _ (S : List (List ℕ)) (limits : Bounds) where
   tag_list (Some (pointers.Struct (negsuc x) d m)) size n e = cc
   tag_list (Some (pointers.List (pos zero) z m)) size n e =
       let is : kinds.List z m ≡ kinds.List size n = some_is e in
-      let a : z ≡ size = cc in let b : m ≡ n = cc in (pos 0, rw (a, b) refl)
+      let a : z ≡ size = cc in let b : m ≡ n = cc in rw (a, b) refl
   tag_list (Some (pointers.List (pos (suc x)) z m)) size n e = cc
   tag_list (Some (pointers.List (negsuc x) z m)) size n e = cc
 
-  root_list : (r : Pointer) (target : Target) (size : ElementSize) (n : ℕ) → Holds S 0 0 r → target_by top S r ≡ Ok target → target.kind ≡ kinds.List size n → RootIsNoStruct S
+  pub root_list : (r : Pointer) (target : Target) (size : ElementSize) (n : ℕ) → Holds S 0 0 r → target_by top S r ≡ Ok target → target.kind ≡ kinds.List size n → RootIsNoStruct S
   root_list pointers.Null target size n h e k = cc
   root_list (pointers.Cap i) target size n h e k = cc
   root_list (pointers.Struct o d m) target size n h e k = let r = here_list 0 0 (pointers.Struct o d m) target size n (ap (λ x. Some x) (ok_is e)) k in let wrong = r.1 in cc
@@ -102,24 +102,24 @@ module _ (S : List (List ℕ)) (limits : Bounds) where
   root_list (pointers.Far true place other) target size n h e k =
       let i = passed (nat_lt other (length S)) _ _ target e in
       let j = passed (nat_lt (place + 1) (length (segment S other))) _ _ target i.1 in
-      two (grind (arith, nat_tests, j.0)) (pointer_of (slice_index (segment S other) place)) j.1
+      two (grind (arith, nat_tests, j.0)) (pointer_of (slice_index (segment S other) place)) refl j.1
     where
-      second : place + 1 < length (segment S other) → (start s' : ℕ) (o : Option Kind) → tag_kind_of (pointer_of (slice_index (segment S other) (place + 1))) ≡ o → target_second top S start s' o ≡ Ok target → RootIsNoStruct S
-      second within start s' None t f = cc
-      second within start s' (Some q) t f =
+      second : (start s' : ℕ) → place + 1 < length (segment S other) → Holds S other place (pointers.Far false start s') → (o : Option Kind) → tag_kind_of (pointer_of (slice_index (segment S other) (place + 1))) ≡ o → target_second top S start s' o ≡ Ok target → RootIsNoStruct S
+      second start s' within one None t f = cc
+      second start s' within one (Some q) t f =
           let j = passed (nat_lt s' (length S)) _ _ target f in
           let is : q ≡ kinds.List size n = ap (λ (a : Target). a.kind) (ok_is j.1) ∙ k in
           let l = tag_list (pointer_of (slice_index (segment S other) (place + 1))) size n (t ∙ ap (λ x. Some x) is) in
-          inr (l.0, size, n, inr (inr (place, other, h, (within, l.1))))
+          inr (pos 0, size, n, inr (inr (place, other, start, s', h, one, grind (arith, nat_tests, j.0), (within, l), refl)))
 
-      two : place + 1 < length (segment S other) → (one : Option Pointer) → target_by_two top S one (pointer_of (slice_index (segment S other) (place + 1))) ≡ Ok target → RootIsNoStruct S
-      two within None f = cc
-      two within (Some pointers.Null) f = cc
-      two within (Some (pointers.Cap i)) f = cc
-      two within (Some (pointers.Struct a d m)) f = cc
-      two within (Some (pointers.List a z m)) f = cc
-      two within (Some (pointers.Far true x y)) f = cc
-      two within (Some (pointers.Far false start s')) f = second within start s' (tag_kind_of (pointer_of (slice_index (segment S other) (place + 1)))) refl f
+      two : place + 1 < length (segment S other) → (one : Option Pointer) → pointer_of (slice_index (segment S other) place) ≡ one → target_by_two top S one (pointer_of (slice_index (segment S other) (place + 1))) ≡ Ok target → RootIsNoStruct S
+      two within None says f = cc
+      two within (Some pointers.Null) says f = cc
+      two within (Some (pointers.Cap i)) says f = cc
+      two within (Some (pointers.Struct a d m)) says f = cc
+      two within (Some (pointers.List a z m)) says f = cc
+      two within (Some (pointers.Far true x y)) says f = cc
+      two within (Some (pointers.Far false start s')) says f = second start s' within (omega (arith, within), says) (tag_kind_of (pointer_of (slice_index (segment S other) (place + 1)))) refl f
 
   -- what the root's body is read as
   abbrev read_of : Target → Read Node
@@ -144,7 +144,7 @@ module _ (S : List (List ℕ)) (limits : Bounds) where
       has_target within r says kind f = go (bind_err (target_by top S r) _ e f)
         where
           go : (target_by top S r ≡ Err e) ⊎ ((x : Target) × (target_by top S r ≡ Ok x) × (rooted x.kind (read_of x) ≡ Err e)) → IsFaultOf S limits e
-          go (inl g) = is_fault e (target_fails S 0 0 _ _ root r e (within, says) g kind)
+          go (inl g) = is_fault e (by_word S 0 0 _ _ root e (target_fails S 0 0 r e (within, says) g kind))
           go (inr g) = of_kind within r says g.0 g.1 g.0.kind refl g.2
 
       kinds : 0 < length (segment S 0) → (o : Option Pointer) → pointer_of (slice_index (segment S 0) 0) ≡ o → root_by (kids_at limits.nesting S) S limits.traversal o ≡ Err e → IsFaultOf S limits e

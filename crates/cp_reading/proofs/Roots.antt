@@ -77,7 +77,7 @@ module _ (n b : ℕ) (S : List (List ℕ)) where
       kinds within (Some (pointers.Far double place other)) is e = has_target within (pointers.Far double place other) is e
 
   -- the root word's pointer leads to its body
-  root_led : (r : Pointer) (target : Target) → target_by top S r ≡ Ok target → root_by (kids_at n S) S b (Some r) ≡ rooted target.kind (area_by top S target >>= body_by top (kids_at n S) S b)
+  pub root_led : (r : Pointer) (target : Target) → target_by top S r ≡ Ok target → root_by (kids_at n S) S b (Some r) ≡ rooted target.kind (area_by top S target >>= body_by top (kids_at n S) S b)
   root_led pointers.Null target h = cc
   root_led (pointers.Cap i) target h = cc
   root_led (pointers.Struct o d c) target h = ap (λ q. q >>= λ a. rooted a.kind (area_by top S a >>= body_by top (kids_at n S) S b)) h

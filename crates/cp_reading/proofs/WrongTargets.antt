@@ -1,5 +1,5 @@
 -- What a fault of a far pointer, or of a body's place, says.
-use Rattle.std.proofs.Common.{◌≡◌, ℕ, ◌+◌, ◌-◌, ◌*◌, ◌<◌, ℤ, pos, negsuc, ◌+ℤ◌, ◌<ℤ◌, List, length, Option, Some, None, Result, Ok, Err, Bool, true, false, nat_lt, nat_le, cond, slice_index, refl, sym, ap, subst, inl, inr, ◌⊎◌, ◌∙◌, arith}
+use Rattle.std.proofs.Common.{◌≡◌, ℕ, ◌+◌, ◌-◌, ◌*◌, ◌<◌, ◌≤◌, ℤ, pos, negsuc, ◌+ℤ◌, ◌<ℤ◌, List, length, Option, Some, None, Result, Ok, Err, Bool, true, false, nat_lt, nat_le, cond, slice_index, refl, sym, ap, subst, inl, inr, ◌⊎◌, ◌∙◌, arith}
 use Rattle.std.proofs.lemmas.Bool.Decides.{nat_tests}
 use Rattle.std.proofs.lemmas.Int.{ints}
 use Rattle.cp_words.specs.Word.{pointer_of, tag_of, words_for}
@@ -8,8 +8,8 @@ use Rattle.cp_words.specs.declared.pointer.Pointer.TheVariants as pointers
 use Rattle.cp_words.specs.declared.pointer.Tag.{Tag}
 use Rattle.cp_words.specs.declared.pointer.ElementSize.TheVariants as sizes
 use Rattle.cp_words.specs.Targets.{segment, Holds, IsBodyPointer, IsLandingPadTag, HasTarget}
-use Rattle.cp_reading.specs.Faults.{kind_words, StartsBefore, IsOutOfBounds, FaultBy}
-use Rattle.cp_reading.specs.Pruned.{IsReachable}
+use Rattle.cp_reading.specs.Faults.{kind_words, StartsBefore, IsOutOfBounds}
+use Rattle.cp_reading.specs.FirstFault.{HasWordFault}
 use Rattle.cp_reading.specs.Reading.{◌>>=◌, start_of, in_segment, placed, tagged, target_here, tag_kind_of, target_second, target_by_two, or_bad_pad, target_by_one, target_by_far, target_by, area_by_kind, area_by}
 use Rattle.cp_reading.specs.declared.target.Target.{Target}
 use Rattle.cp_words.specs.declared.kind.Kind.{Kind}
@@ -42,16 +42,16 @@ start_none p (negsuc n) e = go (nat_le n p) refl e
     go true t e = cc
     go false t e = let past : p < n = grind (arith, nat_tests) in omega (arith, ints)
 
-module _ (S : List (List ℕ)) (s p : ℕ) (deep dear : Type 0) (reach : IsReachable S s p) where
+module _ (S : List (List ℕ)) (s p : ℕ) where
   abbrev at : Place
   at = record { segment = s; word = p }
 
   abbrev Faulty : TreeFault → Type 0
-  Faulty = FaultBy S deep dear
+  Faulty = HasWordFault S s p
 
   -- the pad of one word
   one_fails : (place s' : ℕ) (e : TreeFault) → Holds S s p (pointers.Far false place s') → place < length (segment S s') → (o : Option Pointer) → pointer_of (slice_index (segment S s') place) ≡ o → target_by_one at s' place o ≡ Err e → Faulty e
-  one_fails place s' e h within o is f = subst Faulty (pad_is o f) (reach, inl (place, s', h, (within, no_body o is f)))
+  one_fails place s' e h within o is f = subst Faulty (pad_is o f) (refl, inl (place, s', h, (within, no_body o is f)))
     where
       pad_is : (o : Option Pointer) → target_by_one at s' place o ≡ Err e → faults.BadPad at ≡ e
       pad_is None f = err_is f
@@ -85,7 +85,7 @@ module _ (S : List (List ℕ)) (s p : ℕ) (deep dear : Type 0) (reach : IsReach
     NoPad = (start s' : ℕ) (r : Pointer) (k : Kind) → word_at place ≡ Some (pointers.Far false start s') → word_at (place + 1) ≡ Some r → IsLandingPadTag r k → ⊥
 
     bad : (e : TreeFault) → faults.BadPad at ≡ e → NoPad → Faulty e
-    bad e is none = subst Faulty is (reach, inr (place, other, h, room, none))
+    bad e is none = subst Faulty is (refl, inr (place, other, h, room, none))
 
     second_fails : (start s' : ℕ) (e : TreeFault) → word_at place ≡ Some (pointers.Far false start s') → (o : Option Kind) → tag_kind_of (word_at (place + 1)) ≡ o → target_second at S start s' o ≡ Err e → Faulty e
     second_fails start s' e f None t g = bad e (err_is g) (λ begin s'' r k first second tag. no_tag (word_at (place + 1)) r k t second tag)
@@ -95,7 +95,7 @@ module _ (S : List (List ℕ)) (s p : ℕ) (deep dear : Type 0) (reach : IsReach
         go (inl x) = let wrong = x.1 in cc
         go (inr x) =
             let tag = tag_sound (word_at (place + 1)) k t in
-            subst Faulty x.1 (reach, inr (place, other, start, s', tag.0, k, h, (omega (arith, room), f), (room, tag.1), tag.2, grind (arith, nat_tests, x.0)))
+            subst Faulty x.1 (refl, inr (place, other, start, s', tag.0, k, h, (omega (arith, room), f), (room, tag.1), tag.2, grind (arith, nat_tests, x.0)))
 
     two_fails : (one : Option Pointer) (e : TreeFault) → word_at place ≡ one → target_by_two at S one (word_at (place + 1)) ≡ Err e → Faulty e
     two_fails None e f g = bad e (err_is g) (λ start s' r k first second tag. let wrong : ◌≡◌ {A = Option Pointer} None (Some (pointers.Far false start s')) = sym f ∙ first in cc)
@@ -112,20 +112,20 @@ module _ (S : List (List ℕ)) (s p : ℕ) (deep dear : Type 0) (reach : IsReach
     where
       inside : other < length S → ((nat_lt place (length (segment S other)) ≡ true) × (target_by_one at other place (pointer_of (slice_index (segment S other) place)) ≡ Err e)) ⊎ ((nat_lt place (length (segment S other)) ≡ false) × (faults.OutOfBounds at ≡ e)) → Faulty e
       inside exists (inl x) = one_fails place other e h (grind (arith, nat_tests, x.0)) _ refl x.1
-      inside exists (inr x) = subst Faulty x.1 (reach, inl (place, other, h, exists, grind (arith, nat_tests, x.0)))
+      inside exists (inr x) = subst Faulty x.1 (refl, inl (place, other, h, exists, grind (arith, nat_tests, x.0)))
 
       go : ((nat_lt other (length S) ≡ true) × (cond (nat_lt place (length (segment S other))) (target_by_one at other place (pointer_of (slice_index (segment S other) place))) (Err (faults.OutOfBounds at)) ≡ Err e)) ⊎ ((nat_lt other (length S) ≡ false) × (faults.NoSegment at ≡ e)) → Faulty e
       go (inl x) = inside (grind (arith, nat_tests, x.0)) (tested (nat_lt place (length (segment S other))) _ _ e x.1)
-      go (inr x) = subst Faulty x.1 (reach, inl (false, place, other, h, grind (arith, nat_tests, x.0)))
+      go (inr x) = subst Faulty x.1 (refl, inl (false, place, other, h, grind (arith, nat_tests, x.0)))
   far_fails true place other e h f = go (tested (nat_lt other (length S)) _ _ e f)
     where
       inside : other < length S → ((nat_lt (place + 1) (length (segment S other)) ≡ true) × (target_by_two at S (pointer_of (slice_index (segment S other) place)) (pointer_of (slice_index (segment S other) (place + 1))) ≡ Err e)) ⊎ ((nat_lt (place + 1) (length (segment S other)) ≡ false) × (faults.OutOfBounds at ≡ e)) → Faulty e
       inside exists (inl x) = two_fails place other h (grind (arith, nat_tests, x.0)) _ e refl x.1
-      inside exists (inr x) = subst Faulty x.1 (reach, inr (inl (place, other, h, exists, grind (arith, nat_tests, x.0))))
+      inside exists (inr x) = subst Faulty x.1 (refl, inr (inl (place, other, h, exists, grind (arith, nat_tests, x.0))))
 
       go : ((nat_lt other (length S) ≡ true) × (cond (nat_lt (place + 1) (length (segment S other))) (target_by_two at S (pointer_of (slice_index (segment S other) place)) (pointer_of (slice_index (segment S other) (place + 1)))) (Err (faults.OutOfBounds at)) ≡ Err e)) ⊎ ((nat_lt other (length S) ≡ false) × (faults.NoSegment at ≡ e)) → Faulty e
       go (inl x) = inside (grind (arith, nat_tests, x.0)) (tested (nat_lt (place + 1) (length (segment S other))) _ _ e x.1)
-      go (inr x) = subst Faulty x.1 (reach, inl (true, place, other, h, grind (arith, nat_tests, x.0)))
+      go (inr x) = subst Faulty x.1 (refl, inl (true, place, other, h, grind (arith, nat_tests, x.0)))
 
   -- what the way to a body says
   pub target_fails : (r : Pointer) (e : TreeFault) → Holds S s p r → target_by at S r ≡ Err e → (((x : ℕ) → r ≡ pointers.Cap x → ⊥) × (r ≡ pointers.Null → ⊥)) → Faulty e
@@ -195,7 +195,7 @@ module _ (S : List (List ℕ)) (s p : ℕ) (deep dear : Type 0) (reach : IsReach
 
   -- what a body that isn't inside says
   no_room : (e : TreeFault) → faults.OutOfBounds at ≡ e → IsOutOfBounds S s p → Faulty e
-  no_room e is room = subst Faulty is (reach, room)
+  no_room e is room = subst Faulty is (refl, room)
 
   -- where a body begins, or the fault
   placed_fails : (k : Kind) (s' size : ℕ) (o : Option ℕ) (e : TreeFault) → size ≡ kind_words k → (o ≡ None → Before) → ((start : ℕ) → o ≡ Some start → HasTarget S s p k s' start) → placed at (in_segment (segment S s') size o) ≡ Err e → Faulty e
@@ -208,9 +208,9 @@ module _ (S : List (List ℕ)) (s p : ℕ) (deep dear : Type 0) (reach : IsReach
           let past : length (segment S s') < start + size = grind (arith, nat_tests) in
           no_room e (err_is f) (inr (inr (inr (inl (k, s', start, has_target start refl, omega (arith, past, same))))))
 
-  tagged_fails : (s' size tag : ℕ) (e : TreeFault) → HasTarget S s p (kinds.List sizes.Composite size) s' tag → (o : Option Tag) → tag_of (slice_index (segment S s') tag) ≡ o → tagged at s' size tag o ≡ Err e → Faulty e
-  tagged_fails s' size tag e has_target None is f = subst Faulty (err_is f) (reach, (size, s', tag, has_target, is))
-  tagged_fails s' size tag e has_target (Some g) is f = go (nat_lt size (g.count * (g.words + g.ptrs))) refl f
+  tagged_fails : (s' size tag : ℕ) (e : TreeFault) → HasTarget S s p (kinds.List sizes.Composite size) s' tag → tag + (size + 1) ≤ length (segment S s') → (o : Option Tag) → tag_of (slice_index (segment S s') tag) ≡ o → tagged at s' size tag o ≡ Err e → Faulty e
+  tagged_fails s' size tag e has_target inside None is f = subst Faulty (err_is f) (refl, (size, s', tag, record { has_target = has_target; inside = inside }, is))
+  tagged_fails s' size tag e has_target inside (Some g) is f = go (nat_lt size (g.count * (g.words + g.ptrs))) refl f
     where
       go : (b : Bool) → nat_lt size (g.count * (g.words + g.ptrs)) ≡ b
           → ◌≡◌ {A = Result Area TreeFault} (cond b (Err (faults.OutOfBounds at)) (Ok (record { form = forms.Structs g.words g.ptrs g.count; segment = s'; start = tag + 1 }))) (Err e) → Faulty e
@@ -227,7 +227,7 @@ module _ (S : List (List ℕ)) (s p : ℕ) (deep dear : Type 0) (reach : IsReach
     where
       go : (placed at (in_segment (segment S s') (n + 1) o) ≡ Err e) ⊎ ((q : ℕ) × (placed at (in_segment (segment S s') (n + 1) o) ≡ Ok q) × (tagged at s' n q (tag_of (slice_index (segment S s') q)) ≡ Err e)) → Faulty e
       go (inl g) = placed_fails (kinds.List sizes.Composite n) s' (n + 1) o e refl before has_target g
-      go (inr g) = tagged_fails s' n g.0 e (has_target g.0 (inside_is (segment S s') (n + 1) o g.0 (placed_is at _ g.0 g.1)).0) _ refl g.2
+      go (inr g) = let i = inside_is (segment S s') (n + 1) o g.0 (placed_is at _ g.0 g.1) in tagged_fails s' n g.0 e (has_target g.0 i.0) i.1 _ refl g.2
   kind_fails s' o (kinds.List size n) e before has_target f = go (bind_err (placed at (in_segment (segment S s') (words_for size n) o)) _ e f)
     where
       go : (placed at (in_segment (segment S s') (words_for size n) o) ≡ Err e) ⊎ ((q : ℕ) × (placed at (in_segment (segment S s') (words_for size n) o) ≡ Ok q) × (◌≡◌ {A = Result Area TreeFault} (Ok (record { form = forms.List size n; segment = s'; start = q })) (Err e))) → Faulty e

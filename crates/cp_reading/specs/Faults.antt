@@ -13,7 +13,7 @@ use Rattle.cp_words.specs.declared.place.Place.{Place}
 use Rattle.cp_reading.specs.declared.fault.TreeFault.{TreeFault}
 use Rattle.cp_reading.specs.declared.fault.TreeFault.TheVariants as faults
 use Rattle.cp_tree.specs.Node.{Node, depth, cost}
-use Rattle.cp_words.specs.Targets.{segment, Holds, IsBodyPointer, IsLandingPadTag, HasTarget}
+use Rattle.cp_words.specs.Targets.{segment, Holds, IsBodyPointer, IsLandingPadTag, HasTarget, HasBody}
 use Rattle.cp_reading.specs.Pruned.{Pruned, IsReachable}
 
 -- the words that a body of this kind takes, a composite list's tag included
@@ -58,9 +58,9 @@ IsOutOfBounds S s p =
     ⊎ ((size : ℕ) × (s' : ℕ) × (tag : ℕ) × (g : Tag) × HasTarget S s p (kinds.List sizes.Composite size) s' tag
     × (tag_of (slice_index (segment S s') tag) ≡ Some g) × (size < g.count * (g.words + g.ptrs))))))
 
--- G6: the word has a composite list whose tag isn't laid out as a struct pointer
+-- G6: the word has a composite list, wholly inside its segment, whose tag isn't laid out as a struct pointer
 abbrev pub HasBadTag : List (List ℕ) → ℕ → ℕ → Type 0
-HasBadTag S s p = (size : ℕ) × (s' : ℕ) × (tag : ℕ) × HasTarget S s p (kinds.List sizes.Composite size) s' tag × (tag_of (slice_index (segment S s') tag) ≡ None)
+HasBadTag S s p = (size : ℕ) × (s' : ℕ) × (tag : ℕ) × HasBody S s p (kinds.List sizes.Composite size) (size + 1) s' tag × (tag_of (slice_index (segment S s') tag) ≡ None)
 
 -- A fault with a place names a reachable word that has it. One of a limit says that something is too deep, or too dear.
 abbrev pub FaultBy : List (List ℕ) → Type 0 → Type 0 → TreeFault → Type 0
@@ -87,7 +87,8 @@ RootIsNoStruct S =
     ((i : ℕ) × Holds S 0 0 (pointers.Cap i))
     ⊎ ((o : ℤ) × (size : ElementSize) × (n : ℕ) × (Holds S 0 0 (pointers.List o size n)
     ⊎ (((place : ℕ) × (other : ℕ) × Holds S 0 0 (pointers.Far false place other) × Holds S other place (pointers.List o size n))
-    ⊎ ((place : ℕ) × (other : ℕ) × Holds S 0 0 (pointers.Far true place other) × Holds S other (place + 1) (pointers.List o size n)))))
+    ⊎ ((place : ℕ) × (other : ℕ) × (start : ℕ) × (s' : ℕ) × Holds S 0 0 (pointers.Far true place other) × Holds S other place (pointers.Far false start s') × (s' < length S)
+    × Holds S other (place + 1) (pointers.List o size n) × (o ≡ pos 0)))))
 
 -- What a fault of reading a message says: G1 and G2 of its root, whose place is named, G3 to G7 of a reachable word, G8
 -- that a pruned tree is deeper than the limit, G9 that one costs more.

@@ -9,3 +9,4 @@ pub mod Faults
 pub mod Fills
 pub mod Answers
 pub mod Rows
+pub mod FirstFault

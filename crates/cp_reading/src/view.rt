@@ -1,11 +1,12 @@
 //! Trees that are read in place.
 
-ghost use Rattle.std.specs.Prelude.{◌≡◌, ◌<◌, ◌≤◌, ◌+◌, ◌*◌, ◌^◌, length, true, is_ok, IfOk, IfErr, Ok};
+ghost use Rattle.std.specs.Prelude.{◌≡◌, ◌<◌, ◌≤◌, ◌+◌, ◌*◌, ◌^◌, length, true, is_ok, IfOk, IfErr, Ok, Err};
 ghost use Rattle.cp_words.specs.Targets.{segment, words_at};
 ghost use Rattle.cp_reading.specs.Denotes.{Root};
 ghost use Rattle.cp_reading.specs.Faults.{IsFaultOf};
+ghost use Rattle.cp_reading.specs.FirstFault.{IsFirstFault};
+ghost use Rattle.cp_reading.specs.declared.fault.TreeFault.{TreeFault};
 ghost use Rattle.cp_tree.specs.Node.{Node};
-ghost use Rattle.cp_reading.specs.Visited.{pointers};
 ghost use Rattle.cp_words.specs.Segments.{words_of};
 ghost use Rattle.cp_reading.specs.Reading.{tree_read, pointer_read, node_in};
 ghost use Rattle.cp_reading.specs.Viewed.{form_shape_of, viewed_node, IsViewed};
@@ -58,9 +59,12 @@ impl<'a> Model for View<'a> {
 }
 
 impl<'a> View<'a> {
-    ghost use Rattle.std.specs.Prelude.{◌≡◌, IfOk, IfErr, Ok};
+    ghost use Rattle.std.specs.Prelude.{◌≡◌, ◌+◌, ◌≤◌, IfOk, IfErr, Ok, Err};
     ghost use Rattle.cp_reading.specs.Denotes.{Root};
     ghost use Rattle.cp_reading.specs.Faults.{IsFaultOf};
+    ghost use Rattle.cp_reading.specs.FirstFault.{IsFirstFault};
+    ghost use Rattle.cp_reading.specs.Visited.{pointers};
+    ghost use Rattle.cp_reading.specs.declared.fault.TreeFault.{TreeFault};
     ghost use Rattle.cp_tree.specs.Node.{Node};
     ghost use Rattle.cp_words.specs.Segments.{words_of};
     ghost use Rattle.cp_reading.specs.Viewed.{viewed_node, IsViewed};
@@ -69,7 +73,8 @@ impl<'a> View<'a> {
 
     /// The message's tree: what word 0 of segment 0 stands for (encoding specification,
     /// "Messages"). All that is reachable is gone over once and checked against the limits, without
-    /// taking memory. Each fault from G1 to G9 names the pointer word where it was met first.
+    /// taking memory. The fault is the first in reading order: the root's word comes first, each word
+    /// before what hangs on it, and a body's pointers from the left. It names its pointer word.
     pub fn root(segments: &'a Segments, limits: Limits) -> Result<View<'a>, TreeFault>
         // What is viewed is the message's tree.
         ensures found { IfOk result (λ t. Root segments.now limits t) }
@@ -77,8 +82,43 @@ impl<'a> View<'a> {
         ensures only { (t : Node) → Root segments.now limits t → result ≡ Ok t }
         // A fault is one that the message has: of its root, of a reachable word, or of a limit.
         ensures fault { IfErr result (IsFaultOf segments.now limits) }
+        // It is the message's first in reading order.
+        ensures first { IfErr result (IsFirstFault segments.now limits) }
+        // The message's first fault is reported.
+        ensures reported { (fault : TreeFault) → IsFirstFault segments.now limits fault → result ≡ Err fault }
     {
         root_uncounted::<Brand>(segments, limits, Blank::new(1))
+    }
+
+    /// As `root`, and counts each pointer word that it visits. Words of landing pads aren't counted; a
+    /// far pointer has at most two.
+    pub fn root_counted<L: Ledger>(
+        segments: &'a Segments,
+        limits: Limits,
+        visits: &mut Visits<L>,
+    ) -> Result<View<'a>, TreeFault>
+        ensures found { IfOk result (λ t. Root segments.now limits t) }
+        ensures only { (t : Node) → Root segments.now limits t → result ≡ Ok t }
+        ensures fault { IfErr result (IsFaultOf segments.now limits) }
+        ensures first { IfErr result (IsFirstFault segments.now limits) }
+        ensures reported { (fault : TreeFault) → IsFirstFault segments.now limits fault → result ≡ Err fault }
+        // The root's word and each pointer word below it are visited once.
+        ensures exact { IfOk result (λ t. visits.new ≡ visits.old + 1 + pointers t) }
+        // No more is visited than one word beyond the traversal limit, whatever the message is.
+        ensures few { visits.new ≤ visits.old + 1 + limits.traversal }
+    {
+        let segments = segments.lists();
+        segments_fit(segments);
+        let mut checker = Checker {
+            segments,
+            budget: limits.traversal() as u64,
+            visits,
+        };
+        let area = checker.check_root(limits.nesting())?;
+        Ok(View {
+            segments,
+            part: Viewed::Body(area),
+        })
     }
 
     /// The same view once more.
@@ -153,32 +193,6 @@ impl<'a> View<'a> {
     }
 }
 
-/// The message's tree, with each visited pointer word counted.
-pub(crate) fn root_counted<'a, L: Ledger>(
-    segments: &'a Segments,
-    limits: Limits,
-    visits: &mut Visits<L>,
-) -> Result<View<'a>, TreeFault>
-    ensures found { IfOk result (λ t. Root segments.now limits t) }
-    ensures only { (t : Node) → Root segments.now limits t → result ≡ Ok t }
-    ensures fault { IfErr result (IsFaultOf segments.now limits) }
-    ensures exact { IfOk result (λ t. visits.new ≡ visits.old + 1 + pointers t) }
-    ensures few { visits.new ≤ visits.old + 1 + limits.traversal }
-{
-    let segments = segments.lists();
-    segments_fit(segments);
-    let mut checker = Checker {
-        segments,
-        budget: limits.traversal() as u64,
-        visits,
-    };
-    let area = checker.check_root(limits.nesting())?;
-    Ok(View {
-        segments,
-        part: Viewed::Body(area),
-    })
-}
-
 /// This many words of a segment.
 pub(crate) fn words_at(segments: &[Vec<u64>], index: usize, start: usize, count: usize) -> &[u64]
     requires exists { index < length segments.now }
@@ -216,8 +230,10 @@ fn root_uncounted<'a, L: Ledger>(
     ensures found { IfOk result (λ t. Root segments.now limits t) }
     ensures only { (t : Node) → Root segments.now limits t → result ≡ Ok t }
     ensures fault { IfErr result (IsFaultOf segments.now limits) }
+    ensures first { IfErr result (IsFirstFault segments.now limits) }
+    ensures reported { (fault : TreeFault) → IsFirstFault segments.now limits fault → result ≡ Err fault }
 {
-    root_counted(segments, limits, &mut Visits::<L>::new(blank))
+    View::root_counted(segments, limits, &mut Visits::<L>::new(blank))
 }
 
 /// The kind and sizes of a tree that has a body.

@@ -3,7 +3,7 @@
 ghost use Rattle.std.specs.Prelude.{◌≡◌, MatchOption, IfOk};
 ghost use Rattle.cp_tree.specs.Node.{null};
 ghost use Rattle.cp_tree.specs.NodeOf.{node_of};
-ghost use Rattle.cp_refs.specs.At.{failed, null_capability, node_along, cap_in};
+ghost use Rattle.cp_refs.specs.At.{failed, null_capability, node_along, cap_in, cap_at};
 ghost use Rattle.cp_refs.specs.declared.cap.Cap.TheVariants.{None};
 
 use crate::cap::{Cap, Caps};
@@ -35,6 +35,21 @@ impl Outcome {
             Outcome::Failed(exception) => Outcome::Failed(exception.copy(alloc)?),
             Outcome::Canceled => Outcome::Canceled,
         })
+    }
+
+    /// What it gives at a path of pointer fields (rpc.capnp, `PromisedAnswer.transform`): of results the
+    /// capability there, of an exception one that fails with it.
+    pub fn at(&self, alloc: Global, path: &[u16]) -> Result<Cap, AllocError>
+        ensures { IfOk result (λ c. c ≡ cap_at self.now path.now) }
+    {
+        match self {
+            Outcome::Results { content, caps } => match cap_along(content.tree(), caps, path) {
+                Some(cap) => cap.copy(alloc),
+                None => Ok(Cap::None),
+            },
+            Outcome::Failed(exception) => Ok(Cap::Broken(exception.copy(alloc)?)),
+            Outcome::Canceled => Ok(Cap::Broken(failed(alloc, "canceled")?)),
+        }
     }
 }
 

@@ -254,7 +254,7 @@ reading_on mode limits (frames.reading rest taken) h still = tt
 
 -- a frame was read, and its message taken
 pub takes_next : (s : Server) (rest piece : List ℕ) (taken : ℕ) (S : List (List ℕ)) (read : frames.Reader) (back : List ℕ) (m : Message) (session : Session) (at messages : ℕ) {objects others : List Seen} → ReadsOn rest s
-    → (gives : frames.GivesNext s.frames piece taken S read back) → Holds standard S m → (now : frames.Reader) → now ≡ read → CountsOn s.at taken at → CountsOn s.messages 1 messages
+    → (gives : frames.GivesNext s.frames piece taken S read back) → Holds standard S m → (now : frames.Reader) → frames.IsAsBefore read now → CountsOn s.at taken at → CountsOn s.messages 1 messages
     → TakesMessage (work_of s.session) objects m (work_of session) others
     → TakesNext rest s piece objects (record s { frames = now; at = at; session = session; messages = messages }) back others
 takes_next s rest piece taken S read back m session at messages {objects = objects} {others = others} on gives holds now same counts counted takes =

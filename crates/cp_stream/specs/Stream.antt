@@ -4,7 +4,7 @@ use Rattle.std.specs.Prelude.{◌≡◌, ℕ, List, [], ◌∷◌, ◌++◌, len
 use Rattle.cp_words.specs.Limits.{Bounds}
 use Rattle.cp_tree.specs.Node.{Node}
 use Rattle.cp_reading.specs.Denotes.{Root}
-use Rattle.cp_reading.specs.Faults.{IsFaultOf}
+use Rattle.cp_reading.specs.FirstFault.{IsFirstFault}
 use Rattle.cp_frame.specs.declared.mode.Mode.{Mode}
 use Rattle.cp_frame.specs.Frame.{Frame}
 use Rattle.cp_frame.specs.Stream as frames
@@ -21,9 +21,10 @@ pub record Holds (limits : Bounds) (S : List (List ℕ)) (m : Message) : Type 0 
   pub root : Root S limits tree
   pub says : Says tree m
 
--- why segments hold no message: they have no root, and a fault that says so; or the root says none, and the fault is its first
+-- why segments hold no message: they have no root, and the fault is their first in reading order; or the root says none, and
+-- the fault is its first
 abbrev pub HoldsNone : Bounds → List (List ℕ) → Refusal → Type 0
-HoldsNone limits S (refusals.Tree fault) = ((t : Node) → Root S limits t → ⊥) × IsFaultOf S limits fault
+HoldsNone limits S (refusals.Tree fault) = ((t : Node) → Root S limits t → ⊥) × IsFirstFault S limits fault
 HoldsNone limits S (refusals.Schema fault) = (t : Node) × Root S limits t × (first_of (message_faults t) ≡ Some fault)
 HoldsNone limits S (refusals.Frame fault) = ⊥
 HoldsNone limits S (refusals.Write fault) = ⊥

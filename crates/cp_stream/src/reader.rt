@@ -1,6 +1,7 @@
 //! Reading the messages of a stream.
 
 ghost use Rattle.std.specs.Prelude.{◌≡◌, ◌⊎◌, [], OnOk, IfErr, IfOk};
+ghost use Rattle.cp_frame.specs.Reader.{IsAsBefore};
 ghost use Rattle.cp_stream.specs.Stream.{HasFault};
 ghost use Rattle.cp_stream.specs.Reader.{IsMemory, Gives, Reports};
 ghost use Rattle.cp_stream.specs.Kept.{seen, KeepsUp, ReadsOf, RefusesOf, ReadsPiece, RefusesPiece};
@@ -204,7 +205,7 @@ fn read_messages(
 
 /// Gives the last of the frames back to their reader, for its buffer.
 fn give_back(frames: &mut FrameReader, mut given: Vec<(u64, Segments)>)
-    ensures { frames.new ≡ frames.old }
+    ensures { IsAsBefore frames.old frames.new }
 {
     if let Some((_, segments)) = given.pop() {
         frames.reuse(segments);

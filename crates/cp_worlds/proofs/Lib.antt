@@ -15,7 +15,6 @@ pub mod Releasing
 pub mod Moving
 pub mod Settling
 pub mod Failing
-pub mod Leaving
 pub mod Tying
 pub mod Mailing
 pub mod Holding
@@ -33,7 +32,6 @@ pub mod Wholly
 pub mod Expecting
 pub mod Sparing
 pub mod Faultless
-pub mod Exporting
 pub mod Changing
 pub mod Acting
 pub mod Changed

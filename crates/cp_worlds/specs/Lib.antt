@@ -16,5 +16,4 @@ pub mod Numbers
 pub mod Expected
 pub mod Spared
 pub mod Tickets
-pub mod Keeping
 pub mod LaneKept

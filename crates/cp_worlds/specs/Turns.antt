@@ -1,6 +1,5 @@
 -- How calls wait on after a promise that is settled, and after one turn of waiting calls. (rpc.capnp: "Call", "Disembargo".)
 use Rattle.std.specs.Prelude.{◌≡◌, ℕ, false, List, [], ◌∷◌, Option, Some, None, IfSome, Ok}
-use Rattle.std.specs.Option.{option_map}
 use Rattle.std.specs.FinMap.{get}
 use Rattle.cp_tables.specs.Table.{Table}
 use Rattle.cp_tables.specs.declared.exchange.Exchange.{Exchange}
@@ -19,11 +18,11 @@ use Rattle.cp_refs.specs.declared.route.Gate.TheVariants as gates
 use Rattle.cp_refs.specs.declared.route.Route.{Route}
 use Rattle.cp_refs.specs.declared.route.Route.TheVariants as routes
 use Rattle.cp_refs.specs.declared.values.Question.{Question}
-use Rattle.cp_machine.specs.State.{State, Over, gave, none_over, with_over}
+use Rattle.cp_machine.specs.State.{State, gave}
 use Rattle.cp_machine.specs.Then.{Done}
 use Rattle.cp_machine.specs.Give.{Settle}
-use Rattle.cp_machine.specs.Go.{IsNext, Go, GoTo, NoneOver, Leave, without_call, underway}
-use Rattle.cp_machine.specs.Waits.{Port, on, on_answer, WaitRightly}
+use Rattle.cp_machine.specs.Go.{IsNext, Go, without_call, underway}
+use Rattle.cp_machine.specs.Waits.{Port, on, WaitRightly}
 use Rattle.cp_machine.specs.Local.{tied_to, IsTiedRightly}
 use Rattle.cp_machine.specs.InUse.{is_pipelined_of, is_at_question}
 use Rattle.cp_machine.specs.declared.effect.Effect.{Effect}
@@ -87,34 +86,3 @@ pub record TurnKeeps : Type 0 where
       → Go (without_call old call) (underway call) route (Ok (first, mid)) → WaitRightly mid ports
   pub over : (old mid : State) (ports : Table Port) (call : Held) (cap : Cap) (route : Route) (first : List Effect) → NoneLeadsToOver old
       → MayGo old ports call.origin route → Go (without_call old call) (underway call) route (Ok (first, mid)) → NoneLeadsToOver mid
-
--- A state comes to another by turns of waiting calls.
-pub data Comes : State → State → Type 0 where
-  stands : {s : State} → Comes s s
-  turns : {old mid last : State} {first : List Effect} (call : Held) (cap : Cap) → IsNext old call cap
-      → GoTo (without_call old call) (underway call) cap (Ok (first, mid)) → Comes mid last → Comes old last
-
--- each call that fails in one of these turns has no outcome yet
-abbrev pub AllMayGo : State → Table Port → Type 0
-AllMayGo old ports =
-    (s : State) (call : Held) (cap : Cap) (route : Route) → Comes old s → IsNext s call cap → Routes s.values cap route → MayGo s ports call.origin route
-
--- The port of a call where the gates that are over are forgotten: what an answer gave is the port from then on.
-abbrev pub given_port : ℕ → List ℕ → Option Cap → Port
-given_port a path None = on_answer a path
-given_port a path (Some cap) = on cap
-
-abbrev pub port_then : Over → Port → Port
-port_then over (on cap) = on cap
-port_then over (on_answer a path) = given_port a path (gave over (gates.Answer a path))
-
-abbrev pub ArePortsThen : Over → Table Port → Table Port → Type 0
-ArePortsThen over ports later = (ticket : ℕ) → get later ticket ≡ option_map (port_then over) (get ports ticket)
-
--- Waiting calls that leave come by turns to where no call's gate is over; there the gates are forgotten, and the calls that are left wait on rightly.
-pub record LeaveKeeps : Type 0 where
-  pub rightly : (old last : State) (ports : Table Port) (all : List Effect) → WaitRightly old ports → NoneLeadsToOver old → AllMayGo old ports
-      → Leave old all (Ok last)
-      → (rest : State) × Comes old rest × NoneOver rest × (last ≡ with_over rest none_over)
-      × ((later : Table Port) → ArePortsThen rest.waiting.over ports later → WaitRightly last later)
-  pub over : (old last : State) (all : List Effect) → Leave old all (Ok last) → NoneLeadsToOver last

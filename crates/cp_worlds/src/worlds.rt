@@ -14,7 +14,7 @@ ghost use Rattle.cp_worlds.specs.Laws.{CountsAgree, LaneOrder};
 ghost use Rattle.cp_worlds.specs.Spared.{AreSpared};
 ghost use Rattle.cp_worlds.specs.Expected.{AllIsExpected, HeldIsAll, HeldIsThere, HoldsAlways, LowersFit, StagesMatch};
 ghost use Rattle.cp_worlds.specs.Numbers.{AreCounted, ChangesKeep, ExportedIsHeld, FreeIsFree, LeftIsNamed, NothingIsLeft, NumbersStay, RulesChange};
-ghost use Rattle.cp_worlds.specs.Turns.{LeaveKeeps, SettlingKeeps, TiedAreOpen, TurnKeeps};
+ghost use Rattle.cp_worlds.specs.Turns.{SettlingKeeps, TiedAreOpen, TurnKeeps};
 ghost use Rattle.cp_worlds.specs.Naming.{AreLooped};
 ghost use Rattle.cp_worlds.specs.Phases.{LaneHolds, IsQuiet};
 ghost use Rattle.cp_worlds.specs.Tickets.{TicketsHold};
@@ -55,12 +55,6 @@ pub fn turns_keep()
     ensures settling { SettlingKeeps }
     ensures tied { TiedAreOpen }
     ensures turns { TurnKeeps }
-{}
-
-/// So do waiting calls that leave: where they rest no gate is over, and each call that is left waits for
-/// what its port leads to.
-pub fn leave_keeps()
-    ensures { LeaveKeeps }
 {}
 
 /// Calls on a reference come in order over both vats: where it came to an object of the vat that holds it,

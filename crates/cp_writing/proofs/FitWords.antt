@@ -81,7 +81,7 @@ far_fits place s a b = omega (arith, a, b)
 pub record Bounded (F : Written) : Type 0 where
   pub counts : (b : ℕ) → end_of F b ≤ F.words
   pub few : length F.full < 512
-  pub fit : F.words ≤ 67108864 → (b r : ℕ) → at F b r < 2 ^ 64
+  pub fit : F.words ≤ 134217728 → (b r : ℕ) → at F b r < 2 ^ 64
 
 -- a word that was set, or that isn't there
 set_fits : (xs : List ℕ) (p w r : ℕ) → w < 2 ^ 64 → r ≡ p → get_or (set xs p w) r 0 < 2 ^ 64
@@ -90,12 +90,12 @@ set_fits xs p w r small e = ⊎_elim
     (λ past. omega (arith, get_or_past (set xs p w) r 0 (omega (arith, past, e, length-set xs p w))))
     (cases_lt p (length xs))
 
-pub bounded_put : (F : Written) (s p w : ℕ) → s ≤ length F.full → (F.words ≤ 67108864 → w < 2 ^ 64) → Bounded F → Bounded (put s p w F)
+pub bounded_put : (F : Written) (s p w : ℕ) → s ≤ length F.full → (F.words ≤ 134217728 → w < 2 ^ 64) → Bounded F → Bounded (put s p w F)
 bounded_put F s p w le small h = record {
   counts = λ b. omega (arith, h.counts b, end-put F s p w b le, words-put F s p w);
   few = omega (arith, h.few, full-put F s p w);
   fit = λ within b r.
-      let capacity : F.words ≤ 67108864 = omega (arith, within, words-put F s p w) in
+      let capacity : F.words ≤ 134217728 = omega (arith, within, words-put F s p w) in
       ⊎_elim
       (λ e. subst (λ t. at (put s p w F) t r < 2 ^ 64) (sym e) (subst (λ xs. slice_index xs r < 2 ^ 64) (sym (seg-put_same F s p w le)) (⊎_elim
       (λ q. set_fits (seg F s) p w r (small capacity) q)
@@ -113,7 +113,7 @@ bounded_append F ws fits h = record {
       (cases_eq b (length F.full));
   few = h.few;
   fit = λ within b r.
-      let capacity : F.words ≤ 67108864 = omega (arith, within) in
+      let capacity : F.words ≤ 134217728 = omega (arith, within) in
       ⊎_elim
       (λ e. subst (λ t. at (append ws F) t r < 2 ^ 64) (sym e) (subst (λ xs. slice_index xs r < 2 ^ 64) (sym (seg-append_last F ws))
       (append_fit F.last ws (λ i. subst (λ xs. slice_index xs i < 2 ^ 64) (seg-last F) (h.fit capacity (length F.full) i)) fits r)))

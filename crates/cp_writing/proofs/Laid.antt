@@ -41,7 +41,7 @@ stand_after F s q ws xs h i less = ap (at F s) (omega arith) ∙ h (length ws + 
 pub not_none : (n : ℕ) (F G : Written) → 0 < n → (if n == 0 then F else G) ≡ G
 not_none n F G some = rw (ne_eqb n 0 (λ z. omega (arith, z, some))) refl
 
-module _ (capacity : Capacity) (S : List (List ℕ)) (small : (b : ℕ) → length (segment S b) ≤ 67108864) where
+module _ (capacity : Capacity) (S : List (List ℕ)) (small : (b : ℕ) → length (segment S b) ≤ 134217728) where
   holds_put : (F : Written) (s p w : ℕ) (r : Pointer) → s ≤ length F.full → p < end_of F s → pointer_of w ≡ Some r → Later F s p 1 (put s p w F) S → Holds S s p r
   holds_put F s p w r le lt says l =
       let inside : p < end_of (put s p w F) s = omega (arith, lt, end-put F s p w s le) in

@@ -34,7 +34,7 @@ bounded_first = record { counts = λ b. one_blank [] (0 ∷ []) 1 b refl refl; f
 pub laid_bounded : (capacity : Capacity) (t : Node) → capacity.segments ≤ 512 → Shaped t → Bounded (laid_out capacity t)
 laid_bounded capacity t few shaped = bounded_tree capacity few t 0 0 first shaped (omega arith) bounded_first
 
-module _ (capacity : Capacity) (t : Node) (bounded : Bounded (laid_out capacity t)) (within : (laid_out capacity t).words ≤ 67108864) where
+module _ (capacity : Capacity) (t : Node) (bounded : Bounded (laid_out capacity t)) (within : (laid_out capacity t).words ≤ 134217728) where
   all_fit : All (AllFit 64) (segments_of (laid_out capacity t))
   all_fit = All-from_get_or (AllFit 64) (segments_of (laid_out capacity t)) [] (λ b lt. All-from_get_or (λ n. n < 2 ^ 64) (segment (segments_of (laid_out capacity t)) b) 0 (λ r inside. bounded.fit within b r))
 
@@ -43,7 +43,7 @@ module _ (capacity : Capacity) (t : Node) (bounded : Bounded (laid_out capacity 
 
 -- The layout has the capacity that the tree is written into. A segment of no words counts as one of one word.
 pub bounded_is_layout : (words segments whole : ℕ) (t : Node) → Shaped t → Bounded (laid_out (record { words = max 1 words; segments = segments; whole = whole }) t)
-    → (laid_out (record { words = max 1 words; segments = segments; whole = whole }) t).words ≤ 67108864
+    → (laid_out (record { words = max 1 words; segments = segments; whole = whole }) t).words ≤ 134217728
     → Layout (segments_of (laid_out (record { words = max 1 words; segments = segments; whole = whole }) t)) (record { words = words; segments = segments }) t
 bounded_is_layout words segments whole t shaped h within =
     let capacity : Capacity = record { words = max 1 words; segments = segments; whole = whole } in
@@ -56,7 +56,7 @@ bounded_is_layout words segments whole t shaped h within =
       fit = all_fit capacity t h within;
     }
 
-laid_out_is_layout : (words segments whole : ℕ) (t : Node) → segments ≤ 512 → Shaped t → (laid_out (record { words = max 1 words; segments = segments; whole = whole }) t).words ≤ 67108864
+laid_out_is_layout : (words segments whole : ℕ) (t : Node) → segments ≤ 512 → Shaped t → (laid_out (record { words = max 1 words; segments = segments; whole = whole }) t).words ≤ 134217728
     → Layout (segments_of (laid_out (record { words = max 1 words; segments = segments; whole = whole }) t)) (record { words = words; segments = segments }) t
 laid_out_is_layout words segments whole t few shaped within = bounded_is_layout words segments whole t shaped (laid_bounded (record { words = max 1 words; segments = segments; whole = whole }) t few shaped) within
 

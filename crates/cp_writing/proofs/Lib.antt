@@ -20,3 +20,4 @@ pub mod OneWord
 pub mod OneLayout
 pub mod LayoutWords
 pub mod CostWords
+pub mod MostWords

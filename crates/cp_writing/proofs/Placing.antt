@@ -54,7 +54,7 @@ module _ (capacity : Capacity) (s size : ℕ) (F : Written) where
   pub segment_for_begun : 0 < size → capacity.words < length F.last + landing_pad_for s F + size → length F.full + 1 < capacity.segments → with_segment_for capacity s size F ≡ begin F
   segment_for_begun some past more = rw (ne_eqb size 0 (λ z. omega (arith, z, some)), lt-leb (length F.last + landing_pad_for s F + size) capacity.words past, lt-leb capacity.segments (length F.full + 1) more) refl
 
-module _ (capacity : Capacity) (S : List (List ℕ)) (small : (b : ℕ) → length (segment S b) ≤ 67108864) where
+module _ (capacity : Capacity) (S : List (List ℕ)) (small : (b : ℕ) → length (segment S b) ≤ 134217728) where
   -- directly
   target_here : (F : Written) (s p : ℕ) (k : Kind) → s ≤ length F.full → p < end_of F s → IsNamed k → Later F s p 1 (here s p k F).sheet S → HasTargetHere S s p k (end_of F s)
   target_here F s p k le lt named l =

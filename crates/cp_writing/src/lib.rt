@@ -8,5 +8,5 @@ mod pack;
 mod sheet;
 mod write;
 
-pub use laws::one_layout;
+pub use laws::{layout_exists, one_layout};
 pub use write::{write_draft, write_root, write_segments};

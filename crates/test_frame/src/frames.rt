@@ -468,15 +468,29 @@ fn a_large_segment_grows_with_its_bytes(rt: HostRuntime) {
     drop(piece);
 }
 
+/// A buffer of this capacity is given back, and then the reader keeps one of another.
+fn expect_spare(
+    rt: &impl Abort,
+    alloc: Global,
+    reader: &mut FrameReader,
+    given: usize,
+    kept: usize,
+) {
+    let buffer = Vec::with_capacity(alloc, given).expect(rt, "memory");
+    reader.reuse(Segments::one(buffer));
+    expect_number(rt, reader.spare(), kept);
+}
+
 #[test]
-fn a_large_segment_moves_into_a_room_that_is_given_back(rt: HostRuntime) {
+fn a_large_buffer_is_not_kept_for_later_frames(rt: HostRuntime) {
     let piece = vec![in rt.alloc(); 0x8au8; 64_000].expect(&rt, "memory");
     let mut reader = new_reader(rt.alloc());
+    expect_spare(&rt, rt.alloc(), &mut reader, 131_073, 0);
+    expect_spare(&rt, rt.alloc(), &mut reader, 1_000, 1_000);
+    expect_spare(&rt, rt.alloc(), &mut reader, 131_072, 131_072);
+    expect_spare(&rt, rt.alloc(), &mut reader, 8_388_608, 131_072);
     expect_fed(&rt, &mut reader, &LARGE_TABLE, Ok(0));
-    expect_fed(&rt, &mut reader, &piece, Ok(0));
-    let buffer = Vec::with_capacity(rt.alloc(), 200_000).expect(&rt, "memory");
-    reader.reuse(Segments::one(buffer));
-    expect_large_after(&rt, reader, &piece, 24);
+    expect_large_after(&rt, reader, &piece, 25);
     drop(piece);
 }
 

@@ -39,19 +39,24 @@ fn at(rt: &impl Abort, alloc: Global, outcome: &Outcome, path: &[u16]) -> Cap {
     kept.at(alloc, path).expect(rt, "memory")
 }
 
-/// The number of the object or the import at a path, and 0 for null.
-fn number_at(rt: &impl Abort, alloc: Global, outcome: &Outcome, path: &[u16]) -> Option<u32> {
-    match at(rt, alloc, outcome, path) {
+/// The number of an object or an import, and 0 for null.
+fn number_of(cap: &Cap) -> Option<u32> {
+    match cap {
         Cap::None => Some(0),
-        Cap::Object(id) => Some(id),
-        Cap::Import(id) => Some(id),
+        Cap::Object(id) => Some(*id),
+        Cap::Import(id) => Some(*id),
         _ => None,
     }
 }
 
-/// A path gives an object or an import of this number, or null for 0.
+/// A path gives an object or an import of this number, or null for 0; so it does of what is kept.
 fn expect_at(rt: &impl Abort, alloc: Global, outcome: &Outcome, path: &[u16], number: u32) {
-    assert_eq!(rt; number_at(rt, alloc, outcome, path), Some(number));
+    let cap = outcome.at(alloc, path).expect(rt, "memory");
+    assert_eq!(rt; number_of(&cap), Some(number));
+    drop(cap);
+    let kept = at(rt, alloc, outcome, path);
+    assert_eq!(rt; number_of(&kept), Some(number));
+    drop(kept);
 }
 
 #[test]
@@ -91,9 +96,12 @@ fn exception(rt: &impl Abort, alloc: Global, reason: &str) -> Exception {
 
 /// A path gives a capability that is broken for this reason.
 fn expect_broken(rt: &impl Abort, alloc: Global, outcome: &Outcome, path: &[u16], wanted: &str) {
-    let cap = at(rt, alloc, outcome, path);
+    let cap = outcome.at(alloc, path).expect(rt, "memory");
     assert!(rt; reason(&cap) == wanted);
     drop(cap);
+    let kept = at(rt, alloc, outcome, path);
+    assert!(rt; reason(&kept) == wanted);
+    drop(kept);
 }
 
 #[test]

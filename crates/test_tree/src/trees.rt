@@ -341,6 +341,59 @@ fn faults_have_their_places(rt: HostRuntime) {
     }
 }
 
+#[test]
+fn the_first_fault_in_reading_order_is_reported(rt: HostRuntime) {
+    let wide = (64, 8_388_608);
+    let narrow = (1, 2);
+    let rows = [
+        // Of two pointers the left one's.
+        (
+            "0000000000000200 0700000005000000 0200000001000000",
+            wide,
+            TreeFault::BadCapability(at(0, 1)),
+        ),
+        (
+            "0000000000000200 0200000001000000 0700000005000000",
+            wide,
+            TreeFault::NoSegment(at(0, 1)),
+        ),
+        // What hangs on the left pointer comes before the right one.
+        (
+            "0000000000000200 0400000000000100 0700000005000000 0200000001000000",
+            wide,
+            TreeFault::NoSegment(at(0, 3)),
+        ),
+        // The root's kind, and then its bounds.
+        ("010000000a000000", wide, TreeFault::RootKind(at(0, 0))),
+        // A composite list's bounds, and then its tag.
+        (
+            "0000000000000100 010000000f000000 0100000000000000",
+            narrow,
+            TreeFault::OutOfBounds(at(0, 1)),
+        ),
+        // Its tag, and then its level.
+        (
+            "0000000000000100 010000000f000000 0100000000000000 0000000000000000",
+            narrow,
+            TreeFault::BadTag(at(0, 1)),
+        ),
+        // A body's bounds, then its level, then its cost.
+        (
+            "0000000000000100 0000000001000000",
+            narrow,
+            TreeFault::OutOfBounds(at(0, 1)),
+        ),
+        (
+            "0000000000000100 0000000001000000 0000000000000000",
+            narrow,
+            TreeFault::NestingLimit(at(0, 1)),
+        ),
+    ];
+    for (text, limits, fault) in rows {
+        expect_fault(&rt, rt.alloc(), text, limits, Some(fault));
+    }
+}
+
 /// This many nested structs of one pointer, then a null pointer.
 fn nested_text(alloc: Global, depth: usize) -> Result<String, AllocError> {
     let mut text = String::with_capacity(alloc, 2_048)?;

@@ -2,7 +2,6 @@ use Rattle.std.proofs.Common.{◌≡◌, ◌<◌, ◌⊎◌, ℕ, List, length, 
 use Rattle.cp_frame.specs.Parts.{halves, count_of, Fills}
 use Rattle.cp_words.specs.Segments.{words_of}
 use Rattle.cp_frame.specs.Stream.{named_sizes}
-use Rattle.cp_packed.specs.Groups.{TakesGroups}
 use Rattle.cp_frame.proofs.Parted.{part_open, part_full}
 use Rattle.cp_frame.proofs.frame.OpenFrame.take_segment_groups.Goals as goal
 use Rattle.cp_frame.proofs.frame.OpenFrame.take_segment_groups.Goals.{then-len-most+in_ok-close, else-len-most}
@@ -14,8 +13,8 @@ returns c =
     let new = c.take_groups.new.words in
     let size : c.size-most.result ≡ get_or (named_sizes (halves f.table.items)) (length f.segments.items) 0 =
     c.size-most.ensures.value ∙ ap (λ (T : List ℕ). get_or (named_sizes (halves T)) c.len.result 0) table ∙ ap (λ (n : ℕ). get_or (named_sizes (halves f.table.items)) n 0) (let n : c.len.result ≡ length f.segments.items = omega (arith, c.len.ensures) in n) in
-    let spare = c.settle.new.self in
-    let taken = subst (λ (ws : List ℕ). TakesGroups c.size-most.result ws c.args.run.now c.args.left.now new.items c.take_groups.new.run c.in_ok-back.back.now) c.in_ok-settle.ensures c.in_ok-back.ensures.takes in
+    let spare = f.spare in
+    let taken = c.in_ok-back.ensures.takes in
     elim c.if-len-most.branch [
       | then-len-most+in_ok-close w ↦
           (let full : length new.items ≡ c.size-most.result = omega (arith, w.if-len-most.true, c.len-2.ensures) in

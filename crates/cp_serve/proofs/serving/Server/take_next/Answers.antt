@@ -14,4 +14,4 @@ returns-clause-next g c =
     let gives = rw c.in-Ok-Some.field-0-is at c.in-Ok-Some.ensures.given in
     λ rest on.
     takes_next c.args.self.now rest c.args.piece.now c.in-Ok-Some.next.0 c.in-Ok-Some.next.1 c.next.new.self c.in-Ok-Some.next.2.now _ c.take.new.self c.saturating_add-self.result c.saturating_add-self-2.result on gives
-    c.in_ok-message.ensures.found c.reuse.new.self c.reuse.ensures c.saturating_add-self.ensures c.saturating_add-self-2.ensures c.in_ok-take.ensures
+    c.in_ok-message.ensures.found c.reuse.new.self c.reuse.ensures.stays c.saturating_add-self.ensures c.saturating_add-self-2.ensures c.in_ok-take.ensures

@@ -10,7 +10,8 @@ use Rattle.cp_reading.proofs.Roots.{root_found, root_given}
 use Rattle.cp_reading.proofs.RootFaults.{root_faulted}
 use Rattle.cp_reading.proofs.Sound.{ok_is}
 use Rattle.cp_reading.proofs.Views.{root_again, ok_is_ok, read-node}
-use Rattle.cp_reading.proofs.view.root_counted.Goals as goal
+use Rattle.cp_reading.proofs.FirstRoots.{first_is_met, met_is_first}
+use Rattle.cp_reading.proofs.view.View.root_counted.Goals as goal
 
 pub returns-in_err-area-clause-only : goal.returns-in_err-area-clause-only
 returns-in_err-area-clause-only g c t r =
@@ -23,6 +24,25 @@ returns-in_err-area-clause-fault g c =
     let p = err_from_is_err_and c.from_residual.result c.from_residual.ensures.1 in
     let fault : root_of c.args.limits.nesting c.args.limits.traversal c.args.segments.now ≡ Err c.in_err-area.field-0.0 = rw (← c.lists-segments.ensures.all, ← c.nesting.ensures.value, ← c.traversal.ensures.value) c.in_err-area.ensures.fault in
     rw (p.1, p.2) (root_faulted c.args.segments.now c.args.limits _ fault)
+
+pub returns-in_err-area-clause-first : goal.returns-in_err-area-clause-first
+returns-in_err-area-clause-first g c =
+    let p = err_from_is_err_and c.from_residual.result c.from_residual.ensures.1 in
+    let fault : root_of c.args.limits.nesting c.args.limits.traversal c.args.segments.now ≡ Err c.in_err-area.field-0.0 = rw (← c.lists-segments.ensures.all, ← c.nesting.ensures.value, ← c.traversal.ensures.value) c.in_err-area.ensures.fault in
+    rw (p.1, p.2) (met_is_first c.args.segments.now c.args.limits _ fault)
+
+pub returns-in_err-area-clause-reported : goal.returns-in_err-area-clause-reported
+returns-in_err-area-clause-reported g c f h =
+    let p = err_from_is_err_and c.from_residual.result c.from_residual.ensures.1 in
+    let fault : root_of c.args.limits.nesting c.args.limits.traversal c.args.segments.now ≡ Err c.in_err-area.field-0.0 = rw (← c.lists-segments.ensures.all, ← c.nesting.ensures.value, ← c.traversal.ensures.value) c.in_err-area.ensures.fault in
+    let met = first_is_met c.args.segments.now c.args.limits f h in
+    cc (p.1, p.2, fault, met)
+
+pub returns-clause-reported : goal.returns-clause-reported
+returns-clause-reported g c f h =
+    let read = c.in_ok-area.ensures.read in
+    let met : root_of c.nesting.result c.traversal.result (words_of c.lists-segments.result.now) ≡ Err f = rw (c.nesting.ensures.value, c.traversal.ensures.value, c.lists-segments.ensures.all) (first_is_met c.args.segments.now c.args.limits f h) in
+    cc (read.root, met)
 
 pub invariant_of-result : goal.invariant_of-result
 invariant_of-result g c =

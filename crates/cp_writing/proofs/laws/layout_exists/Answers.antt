@@ -1,0 +1,5 @@
+use Rattle.cp_writing.proofs.MostWords.{has_layout}
+use Rattle.cp_writing.proofs.laws.layout_exists.Goals as goal
+
+pub returns : goal.returns
+returns c = has_layout
