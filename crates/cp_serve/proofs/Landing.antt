@@ -6,7 +6,6 @@ use Rattle.std.specs.Io.KnownBytes.{Appends, append_known}
 use Rattle.cp_words.specs.Limits.{standard}
 use Rattle.cp_frame.specs.declared.mode.Mode.{Mode}
 use Rattle.cp_rpc.specs.declared.message.Message.{Message}
-use Rattle.cp_stream.specs.declared.fault.Refusal.{Refusal}
 use Rattle.cp_stream.specs.declared.fault.StreamFault.TheVariants as streams
 use Rattle.cp_stream.specs.Read.{FailedOnce}
 use Rattle.cp_stream.specs.Write.{IsWrittenAs}
@@ -16,7 +15,7 @@ use Rattle.cp_serve.specs.declared.serving.Server.{Server}
 use Rattle.cp_serve.specs.Servant.{Seen}
 use Rattle.cp_serve.specs.WorkOf.{work_of}
 use Rattle.cp_serve.specs.Output.{Device, AreWrittenAs, Begin, Writes, WritesPart, IsCutOff, StopsFor}
-use Rattle.cp_serve.specs.Reached.{Reached, ReadsOn, Serves, GoesOn, Fills, IsUnput, IsUnwritten, ahead}
+use Rattle.cp_serve.specs.Reached.{Reached, Serves, GoesOn, Fills, IsUnput, IsUnwritten, ahead}
 use Rattle.cp_serve.proofs.Written.{writes_none, writes_all}
 use Rattle.cp_serve.proofs.Reaching.{cut_there, reached_none}
 
@@ -223,14 +222,16 @@ module _ (mode : Mode) (start : List Seen) (held to new : Device) (block : List 
   pub lands_stops : (bytes : List ℕ) (from left : Device) (objects : List Seen) (fault : ServeFault) → StopsFor mode start bytes from left held (ahead to block) objects fault
       → StopsFor mode start bytes from left held new objects fault
   lands_stops bytes from left objects (faults.Stream (streams.Refused at refusal)) (inl h) = inl (record {
-    taken = h.taken;
-    rest = h.rest;
-    messages = h.messages;
-    sent = h.sent;
-    last = h.last;
-    takes = h.takes;
-    is_open = h.is_open;
-    writes = lands_writes to new block moved same h.writes;
+    before = record {
+      taken = h.before.taken;
+      rest = h.before.rest;
+      messages = h.before.messages;
+      sent = h.before.sent;
+      last = h.before.last;
+      takes = h.before.takes;
+      is_open = h.before.is_open;
+      writes = lands_writes to new block moved same h.before.writes;
+    };
     fault = h.fault;
     place = h.place;
   })
@@ -281,12 +282,12 @@ module _ {mode : Mode} {start : List Seen} {held : Device} where
   cut_of_stops : (bytes : List ℕ) (from left : Device) {to : Device} (objects : List Seen) (fault : ServeFault) → StopsFor mode start bytes from left held to objects fault
       → IsCutOff mode start bytes left.bytes held to
   cut_of_stops bytes from left {to = to} objects (faults.Stream (streams.Refused at refusal)) (inl h) = record {
-    taken = h.taken;
-    rest = h.rest;
-    messages = h.messages;
-    sent = h.sent;
-    starts = inl (h.last, objects, h.takes);
-    writes = writes_all held to h.writes;
+    taken = h.before.taken;
+    rest = h.before.rest;
+    messages = h.before.messages;
+    sent = h.before.sent;
+    starts = inl (h.before.last, objects, h.before.takes);
+    writes = writes_all held to h.before.writes;
   }
   cut_of_stops bytes from left objects (faults.Stream (streams.Refused at refusal)) (inr h) = h.0
   cut_of_stops bytes from left objects (faults.Stream streams.Device) h = h.1

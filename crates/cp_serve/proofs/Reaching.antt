@@ -1,5 +1,5 @@
 -- How what a server has come to goes on.
-use Rattle.std.proofs.Common.{◌≡◌, ◌≢◌, ◌⊎◌, inl, inr, ℕ, ◌+◌, ◌-◌, ◌^◌, ◌≤◌, min, IsSome, List, [], ◌∷◌, ◌++◌, Option, Some, None, refl, sym, ap, ◌∙◌, subst, length, append-nil, append_assoc, length-append, add_assoc, Bool, true, take, arith}
+use Rattle.std.proofs.Common.{◌≡◌, ◌≢◌, inl, inr, ℕ, ◌+◌, ◌-◌, ◌^◌, ◌≤◌, min, IsSome, List, [], ◌∷◌, ◌++◌, Option, Some, None, Result, Ok, Err, IfErr, OnOk, refl, sym, ap, ◌∙◌, subst, length, append-nil, append_assoc, length-append, add_assoc, Bool, true, take, arith}
 use Rattle.std.proofs.lemmas.List.{length_push}
 use Rattle.std.specs.Io.KnownBytes.{Consumes}
 use Rattle.std.proofs.KnownBytes.{Consumes-trans}
@@ -15,7 +15,7 @@ use Rattle.cp_stream.specs.declared.fault.StreamFault.TheVariants as streams
 use Rattle.cp_frame.specs.Frame.{Frame}
 use Rattle.cp_stream.specs.Stream.{Messages, IsFrameOf, Holds, HoldsNone}
 use Rattle.cp_machine.specs.declared.effect.Reason.{Reason}
-use Rattle.cp_stream.specs.Reader.{CountsOn, IsAt, IsMemory}
+use Rattle.cp_stream.specs.Reader.{CountsOn, IsAt}
 use Rattle.cp_stream.specs.Read.{FailedOnce}
 use Rattle.cp_stream.proofs.Reading.{messages_push}
 use Rattle.cp_serve.specs.declared.fault.ServeFault.{ServeFault}
@@ -27,7 +27,7 @@ use Rattle.cp_serve.specs.Servant.{Seen}
 use Rattle.cp_serve.specs.Work.{Work}
 use Rattle.cp_serve.specs.WorkOf.{work_of}
 use Rattle.cp_serve.specs.Service.{TakesAll, none_taken, takes_more, TakesMessage, none_yet, one_more, Rounds, written, new_work}
-use Rattle.cp_serve.specs.Output.{Device, Writes, WritesPart, IsPlace, IsFaultOfRest, IsOver, IsServed, IsCutOff, StopsFor, IsStopped}
+use Rattle.cp_serve.specs.Output.{Device, Writes, WritesPart, IsPlace, IsFaultOfRest, IsOver, HasTaken, IsServed, IsCutOff, StopsFor, IsStopped, ReadsTo}
 use Rattle.cp_serve.specs.Reached.{CountsMore, Reached, ReadsOn, Serves, GoesOn, Fills, OnlyWrites, TakesNext, TakesNone, IsRefusedAt, IsUntaken, IsUnput, IsUnwritten, IsUnended, EndsInside, EndsSo, EndsPart, Closes}
 use Rattle.cp_serve.proofs.Running.{none_some, ran_takes, ran_closes, run_of}
 use Rattle.cp_serve.proofs.Writable.{only_memory}
@@ -110,12 +110,10 @@ module _ {mode : Mode} {start : List Seen} {held : Device} where
     writes = writes_all held to r.writes;
   }
 
-  -- the rest is refused
-  pub stops_reading : (bytes rest more : List ℕ) (from left : Device) {s : Server} {objects : List Seen} {to : Device} → Reached mode start held bytes rest s objects to
-      → (work_of s.session).closed ≡ None → (fault : StreamFault) → IsRefusedAt s.mode (rest ++ more) s.at fault → StopsFor mode start (bytes ++ more) from left held to objects (faults.Stream fault)
-  stops_reading bytes rest more from left {s = s} r is_open (streams.Refused at refusal) (e, inl memory) =
-      inr (cut_there bytes rest more left.bytes r, inl memory, e ∙ place_stays bytes rest more s.at r.place)
-  stops_reading bytes rest more from left {s = s} r is_open (streams.Refused at refusal) (e, inr fault) = inl (record {
+  -- what was reached, with bytes after it that end no frame
+  abbrev pub has_taken : (bytes rest more : List ℕ) {s : Server} {objects : List Seen} {to : Device} → Reached mode start held bytes rest s objects to → (work_of s.session).closed ≡ None
+      → HasTaken mode start (bytes ++ more) held to objects
+  has_taken bytes rest more {s = s} r is_open = record {
     taken = r.taken;
     rest = rest ++ more;
     messages = messages_grow mode standard bytes r.taken rest more r.messages;
@@ -124,6 +122,15 @@ module _ {mode : Mode} {start : List Seen} {held : Device} where
     takes = r.takes;
     is_open = is_open;
     writes = r.writes;
+  }
+
+  -- the rest is refused
+  pub stops_reading : (bytes rest more : List ℕ) (from left : Device) {s : Server} {objects : List Seen} {to : Device} → Reached mode start held bytes rest s objects to
+      → (work_of s.session).closed ≡ None → (fault : StreamFault) → IsRefusedAt s.mode (rest ++ more) s.at fault → StopsFor mode start (bytes ++ more) from left held to objects (faults.Stream fault)
+  stops_reading bytes rest more from left {s = s} r is_open (streams.Refused at refusal) (e, inl memory) =
+      inr (cut_there bytes rest more left.bytes r, inl memory, e ∙ place_stays bytes rest more s.at r.place)
+  stops_reading bytes rest more from left {s = s} r is_open (streams.Refused at refusal) (e, inr fault) = inl (record {
+    before = has_taken bytes rest more r is_open;
     fault = subst (λ (x : Mode). IsFaultOfRest x (rest ++ more) left.bytes refusal) r.same_mode (fault left.bytes);
     place = e ∙ place_stays bytes rest more s.at r.place;
   })
@@ -175,18 +182,17 @@ module _ {mode : Mode} {start : List Seen} {held : Device} where
       (subst (λ (x : List ℕ). StopsFor mode start x from upto held to objects (faults.Stream fault)) (whole_piece bytes fed left piece e) (stops_reading (bytes ++ fed) rest left from upto r is_open fault why.0))
   piece_untaken bytes fed rest left piece from upto others e r is_open faults.OutOfMemory why = piece_full bytes fed rest left piece from upto others e r
 
+  -- what was reached
+  abbrev pub taken_there : (bytes rest : List ℕ) {s : Server} {objects : List Seen} {to : Device} → Reached mode start held bytes rest s objects to → (work_of s.session).closed ≡ None
+      → HasTaken mode start bytes held to objects
+  taken_there bytes rest {s = s} r is_open =
+      record { taken = r.taken; rest = rest; messages = r.messages; sent = r.sent; last = work_of s.session; takes = r.takes; is_open = is_open; writes = r.writes }
+
   -- the stream ends inside a frame
   pub stops_inside : (bytes rest : List ℕ) (from left : Device) {s : Server} {objects : List Seen} {to : Device} → Reached mode start held bytes rest s objects to → (work_of s.session).closed ≡ None
       → (fault : ServeFault) → EndsInside s.mode rest left.bytes s.at fault → StopsFor mode start bytes from left held to objects fault
   stops_inside bytes rest from left {s = s} r is_open (faults.Stream (streams.Refused at refusal)) h = inl (record {
-    taken = r.taken;
-    rest = rest;
-    messages = r.messages;
-    sent = r.sent;
-    last = work_of s.session;
-    takes = r.takes;
-    is_open = is_open;
-    writes = r.writes;
+    before = taken_there bytes rest r is_open;
     fault = subst (λ (x : Mode). IsFaultOfRest x rest left.bytes refusal) r.same_mode h.1;
     place = h.0 ∙ r.place;
   })
@@ -200,6 +206,22 @@ module _ {mode : Mode} {start : List Seen} {held : Device} where
     inl failed,
     record { taken = r.taken; rest = rest; messages = r.messages; sent = r.sent; starts = inl (_, _, r.takes); writes = writes_all held to r.writes },
   )
+
+-- no call of the reader failed
+pub reads_well : (mode : Mode) (start : List Seen) (from left held to : Device) (others : List Seen) (fault : ServeFault) → left.failures ≡ from.failures → ReadsTo mode start from left held to others fault
+reads_well mode start from left held to others (faults.Stream (streams.Refused at refusal)) same = same
+reads_well mode start from left held to others (faults.Stream streams.Device) same = inl same
+reads_well mode start from left held to others faults.OutOfMemory same = same
+
+-- whatever fault it is
+pub any_fault : {T E : Type 0} {P : E → Type 0} (r : Result T E) → ((e : E) → P e) → IfErr r P
+any_fault (Ok x) h = tt
+any_fault (Err e) h = h e
+
+-- whatever the answer is
+pub on_any : {T E : Type 0} {P : Type 0} (r : Result T E) → P → OnOk r P
+on_any (Ok x) h = h
+on_any (Err e) h = tt
 
 -- a server to which nothing has come
 pub fresh : (s : Server) (mode : Mode) → s.mode ≡ mode → s.frames ≡ frames.new_reader mode standard → frames.StandsFor s.frames [] → s.at ≡ 0 → s.messages ≡ 0 → s.sent ≡ 0 → work_of s.session ≡ new_work

@@ -10,7 +10,6 @@ use Rattle.cp_stream.specs.declared.tap.Tap.{Tap}
 use Rattle.cp_stream.specs.declared.fault.Refusal.{Refusal}
 use Rattle.cp_stream.specs.declared.fault.StreamFault.{StreamFault}
 use Rattle.cp_stream.specs.declared.fault.StreamFault.TheVariants as faults
-use Rattle.cp_stream.specs.Read.{FailedOnce}
 use Rattle.cp_stream.specs.Tap.{inner_of}
 use Rattle.cp_stream.specs.Write.{IsWrittenAs, IsSent, IsCutShort, IsUnwrittenFor}
 use Rattle.cp_serve.specs.declared.fault.ServeFault.{ServeFault}

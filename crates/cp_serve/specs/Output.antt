@@ -113,9 +113,9 @@ abbrev pub IsFaultOfRest : Mode → List ℕ → Option (List ℕ) → Refusal �
 IsFaultOfRest mode rest left (refusals.Frame frames.Truncated) = (rest ≢ []) × Open mode standard rest × IsAtEnd left
 IsFaultOfRest mode rest left refusal = HasFault mode standard rest refusal
 
--- A fault of reading: of the bytes that were read messages were taken, and the rest has the fault. What the messages lead to was written, and nothing
--- else; no closing rounds follow.
-pub record IsRefused (mode : Mode) (objects : List Seen) (bytes : List ℕ) (left : Option (List ℕ)) (old new : Device) (at : ℕ) (refusal : Refusal) (others : List Seen) : Type 0 where
+-- Of these bytes messages were taken, and there is a rest. What the messages lead to was written, and nothing else; no closing rounds follow. The vat is
+-- open.
+pub record HasTaken (mode : Mode) (objects : List Seen) (bytes : List ℕ) (old new : Device) (others : List Seen) : Type 0 where
   pub taken : List Message
   pub rest : List ℕ
   pub messages : Messages mode standard bytes taken rest
@@ -124,8 +124,12 @@ pub record IsRefused (mode : Mode) (objects : List Seen) (bytes : List ℕ) (lef
   pub takes : TakesAll new_work objects taken sent last others
   pub is_open : last.closed ≡ None
   pub writes : Writes mode sent old new
-  pub fault : IsFaultOfRest mode rest left refusal
-  pub place : IsPlace bytes rest at
+
+-- A fault of reading: after the messages that were taken of the bytes read, the rest has the fault.
+pub record IsRefused (mode : Mode) (objects : List Seen) (bytes : List ℕ) (left : Option (List ℕ)) (old new : Device) (at : ℕ) (refusal : Refusal) (others : List Seen) : Type 0 where
+  pub before : HasTaken mode objects bytes old new others
+  pub fault : IsFaultOfRest mode before.rest left refusal
+  pub place : IsPlace bytes before.rest at
 
 -- messages were taken and sent what they lead to; or all were, and rounds followed
 abbrev pub Starts : List Seen → List Message → List Message → (Work → Type 0) → Type 0
@@ -159,3 +163,13 @@ StopsFor mode objects bytes from left old new others faults.OutOfMemory = IsCutO
 -- bytes were read, and the run stopped
 abbrev pub IsStopped : Mode → List Seen → Device → Device → Device → Device → List Seen → ServeFault → Type 0
 IsStopped mode objects from left old new others fault = (bytes : List ℕ) × Consumes from.bytes left.bytes bytes × StopsFor mode objects bytes from left old new others fault
+
+-- One call of the reader failed, after bytes of which messages were taken: what these lead to was written.
+abbrev pub IsUnread : Mode → List Seen → Device → Device → Device → Device → List Seen → Type 0
+IsUnread mode objects from left old new others =
+    FailedOnce from.failures left.failures × (bytes : List ℕ) × Consumes from.bytes left.bytes bytes × HasTaken mode objects bytes old new others
+
+-- no call of the reader failed; or the fault is that one did
+abbrev pub ReadsTo : Mode → List Seen → Device → Device → Device → Device → List Seen → ServeFault → Type 0
+ReadsTo mode objects from left old new others (faults.Stream streams.Device) = (left.failures ≡ from.failures) ⊎ IsUnread mode objects from left old new others
+ReadsTo mode objects from left old new others fault = left.failures ≡ from.failures

@@ -12,7 +12,9 @@ use Rattle.cp_stream.specs.declared.fault.StreamFault.TheVariants as streams
 use Rattle.cp_stream.specs.Stream.{Messages, IsFrameOf}
 use Rattle.cp_stream.specs.Reader.{CountsOn, IsMemory}
 use Rattle.cp_stream.specs.Read.{FailedOnce}
-use Rattle.cp_stream.specs.Write.{IsUnwrittenFor}
+use Rattle.cp_stream.specs.Write.{IsUnwrittenFor, Passes}
+use Rattle.cp_stream.specs.Tap.{failures_of}
+use Rattle.cp_stream.specs.declared.tap.Tap.{Tap}
 use Rattle.cp_serve.specs.declared.fault.ServeFault.{ServeFault}
 use Rattle.cp_serve.specs.declared.fault.ServeFault.TheVariants as faults
 use Rattle.cp_serve.specs.declared.report.Report.{Report}
@@ -26,6 +28,14 @@ use Rattle.cp_serve.specs.Output.{Device, Writes, WritesPart, IsPlace, IsFaultOf
 -- the device, as if these bytes had gone out to it
 abbrev pub ahead : Device → List ℕ → Device
 ahead to block = record { bytes = append_known to.bytes block; failures = to.failures }
+
+-- One call of the writer failed, and what went out of these bytes is a beginning of them, or all.
+pub record BreaksOff {T : Type 0} (contents : T → Option (List ℕ)) (old new : Tap T) (b : List ℕ) : Type 0 where
+  pub sent : List ℕ
+  pub left : List ℕ
+  pub splits : b ≡ sent ++ left
+  pub passes : Passes contents old new sent
+  pub failed : FailedOnce (failures_of old) (failures_of new)
 
 -- what a server reports
 abbrev pub report_of : Server → Report

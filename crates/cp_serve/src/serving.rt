@@ -6,14 +6,16 @@ ghost use Rattle.cp_words.specs.Limits.{standard};
 ghost use Rattle.cp_rpc.specs.Told.{told};
 ghost use Rattle.cp_frame.specs.declared.mode.Mode.{Mode};
 ghost use Rattle.cp_stream.specs.declared.fault.StreamFault.TheVariants.{Refused};
-ghost use Rattle.cp_stream.specs.Tap.{inner_of};
+ghost use Rattle.cp_stream.specs.declared.fault.StreamFault.TheVariants as faults;
+ghost use Rattle.cp_stream.specs.Tap.{inner_of, failures_of};
+ghost use Rattle.cp_stream.specs.Write.{Sends};
 ghost use Rattle.cp_stream.specs.Stream.{Holds, HoldsNone};
 ghost use Rattle.cp_frame.specs.Reader.{StandsFor, new_reader};
 ghost use Rattle.cp_stream.specs.Reader.{IsAt};
 ghost use Rattle.cp_serve.specs.Servant.{Seen};
 ghost use Rattle.cp_serve.specs.Service.{written};
-ghost use Rattle.cp_serve.specs.Output.{Device, device, Writes, WritesPart, IsOver, IsServed, StopsFor, IsStopped};
-ghost use Rattle.cp_serve.specs.Reached.{Reached, Serves, ReadsOn, Fills, OnlyWrites, TakesNext, TakesNone, GoesOn, IsUntaken, IsUnput, IsUnwritten, IsUnended, EndsInside, EndsSo, EndsPart, CountsMore, ahead, placed, unput, report_of};
+ghost use Rattle.cp_serve.specs.Output.{Device, device, Writes, WritesPart, IsOver, IsServed, StopsFor, IsStopped, ReadsTo};
+ghost use Rattle.cp_serve.specs.Reached.{Reached, Serves, ReadsOn, Fills, OnlyWrites, TakesNext, TakesNone, GoesOn, IsUntaken, IsUnput, IsUnwritten, IsUnended, EndsInside, EndsSo, EndsPart, CountsMore, BreaksOff, ahead, placed, unput, report_of};
 ghost use Rattle.cp_serve.specs.WorkOf.{work_of};
 
 use crate::fault::ServeFault;
@@ -52,6 +54,10 @@ pub fn serve<R: Read, W: Write>(
 ) -> Result<Report, ServeFault>
     // What is served to its end is an output of the bytes that were read, and is reported.
     ensures served { IfOk result (λ report. IsServed mode (map (λ o. seen o) objects.old.items) (device R.remaining from.old) (device R.remaining from.new) (device W.contents to.old) (device W.contents to.new) report (map (λ o. seen o) objects.new.items)) }
+    // No call of the reader failed.
+    ensures read { OnOk result (failures_of from.new ≡ failures_of from.old) }
+    // Or one did, and then all that the messages before it lead to was written.
+    ensures unread { IfErr result (λ fault. ReadsTo mode (map (λ o. seen o) objects.old.items) (device R.remaining from.old) (device R.remaining from.new) (device W.contents to.old) (device W.contents to.new) (map (λ o. seen o) objects.new.items) fault) }
     // A fault says why it was cut off, and what was written is a beginning of one.
     ensures stopped { IfErr result (λ fault. IsStopped mode (map (λ o. seen o) objects.old.items) (device R.remaining from.old) (device R.remaining from.new) (device W.contents to.old) (device W.contents to.new) (map (λ o. seen o) objects.new.items) fault) }
 {
@@ -100,6 +106,8 @@ impl Server {
         objects: &mut [Box<dyn Servant>],
     ) -> Result<Report, ServeFault>
         ensures served { IfOk result (λ report. (mode : Mode) → Serves mode (map (λ o. seen o) objects.old) (device W.contents to.old) [] self (map (λ o. seen o) objects.old) (device W.contents to.old) → IsServed mode (map (λ o. seen o) objects.old) (device R.remaining from.old) (device R.remaining from.new) (device W.contents to.old) (device W.contents to.new) report (map (λ o. seen o) objects.new)) }
+        ensures read { OnOk result (failures_of from.new ≡ failures_of from.old) }
+        ensures unread { IfErr result (λ fault. (mode : Mode) → Serves mode (map (λ o. seen o) objects.old) (device W.contents to.old) [] self (map (λ o. seen o) objects.old) (device W.contents to.old) → ReadsTo mode (map (λ o. seen o) objects.old) (device R.remaining from.old) (device R.remaining from.new) (device W.contents to.old) (device W.contents to.new) (map (λ o. seen o) objects.new) fault) }
         ensures stopped { IfErr result (λ fault. (mode : Mode) → Serves mode (map (λ o. seen o) objects.old) (device W.contents to.old) [] self (map (λ o. seen o) objects.old) (device W.contents to.old) → IsStopped mode (map (λ o. seen o) objects.old) (device R.remaining from.old) (device R.remaining from.new) (device W.contents to.old) (device W.contents to.new) (map (λ o. seen o) objects.new) fault) }
     {
         // The server goes before the answer is looked at, so that it is dropped in one place.
@@ -117,6 +125,8 @@ impl Server {
         objects: &mut [Box<dyn Servant>],
     ) -> Result<(), ServeFault>
         ensures served { IfOk result (λ _. (mode : Mode) → Serves mode (map (λ o. seen o) objects.old) (device W.contents to.old) [] self.old (map (λ o. seen o) objects.old) (device W.contents to.old) → IsServed mode (map (λ o. seen o) objects.old) (device R.remaining from.old) (device R.remaining from.new) (device W.contents to.old) (device W.contents to.new) (report_of self.new) (map (λ o. seen o) objects.new)) }
+        ensures read { OnOk result (failures_of from.new ≡ failures_of from.old) }
+        ensures unread { IfErr result (λ fault. (mode : Mode) → Serves mode (map (λ o. seen o) objects.old) (device W.contents to.old) [] self.old (map (λ o. seen o) objects.old) (device W.contents to.old) → ReadsTo mode (map (λ o. seen o) objects.old) (device R.remaining from.old) (device R.remaining from.new) (device W.contents to.old) (device W.contents to.new) (map (λ o. seen o) objects.new) fault) }
         ensures stopped { IfErr result (λ fault. (mode : Mode) → Serves mode (map (λ o. seen o) objects.old) (device W.contents to.old) [] self.old (map (λ o. seen o) objects.old) (device W.contents to.old) → IsStopped mode (map (λ o. seen o) objects.old) (device R.remaining from.old) (device R.remaining from.new) (device W.contents to.old) (device W.contents to.new) (map (λ o. seen o) objects.new) fault) }
     {
         self.take_all(from, to, objects)?;
@@ -143,6 +153,8 @@ impl Server {
         objects: &mut [Box<dyn Servant>],
     ) -> Result<(), ServeFault>
         ensures taken { OnOk result ((mode : Mode) (start : List Seen) (held : Device) → Serves mode start held [] self.old (map (λ o. seen o) objects.old) (device W.contents to.old) → (bytes : List ℕ) × Consumes (R.remaining (inner_of from.old)) (R.remaining (inner_of from.new)) bytes × (rest : List ℕ) × Reached mode start held bytes rest self.new (map (λ o. seen o) objects.new) (device W.contents to.new) × IsOver bytes rest (R.remaining (inner_of from.new)) (work_of self.new.session)) }
+        ensures read { OnOk result (failures_of from.new ≡ failures_of from.old) }
+        ensures unread { IfErr result (λ fault. (mode : Mode) (start : List Seen) (held : Device) → Serves mode start held [] self.old (map (λ o. seen o) objects.old) (device W.contents to.old) → ReadsTo mode start (device R.remaining from.old) (device R.remaining from.new) held (device W.contents to.new) (map (λ o. seen o) objects.new) fault) }
         ensures stopped { IfErr result (λ fault. (mode : Mode) (start : List Seen) (held : Device) → Serves mode start held [] self.old (map (λ o. seen o) objects.old) (device W.contents to.old) → IsStopped mode start (device R.remaining from.old) (device R.remaining from.new) held (device W.contents to.new) (map (λ o. seen o) objects.new) fault) }
     {
         let mut storage = vec![in self.alloc; 0u8; PIECE]?;
@@ -177,7 +189,7 @@ impl Server {
         'taking: while !left.is_empty() {
             self.block.clear();
             let filled = self.fill_block(left, objects);
-            write_whole(to, &self.block)?;
+            write_out(to, &self.block)?;
             left = filled?;
             if self.session.is_closed() {
                 return Ok(());
@@ -304,7 +316,7 @@ impl Server {
     {
         self.block.clear();
         let put = self.put();
-        write_whole(to, &self.block)?;
+        write_out(to, &self.block)?;
         put
     }
 
@@ -378,6 +390,19 @@ impl Server {
             StreamFault::Device => StreamFault::Device,
         }
     }
+}
+
+/// Writes all of the bytes, and has a writer that keeps bytes let them go out.
+fn write_out<W: Write>(to: &mut Tap<W>, bytes: &[u8]) -> Result<(), StreamFault>
+    ensures sent { OnOk result (Sends W.contents to.old to.new bytes.now) }
+    ensures device { IfErr result (λ fault. fault ≡ faults.Device) }
+    ensures broken { IfErr result (λ _. BreaksOff W.contents to.old to.new bytes.now) }
+{
+    write_whole(to, bytes)?;
+    if bytes.is_empty() {
+        return Ok(());
+    }
+    to.flush().map_err(|_| StreamFault::Device)
 }
 
 /// A reader of frames to which nothing has come.

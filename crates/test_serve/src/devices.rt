@@ -208,6 +208,41 @@ fn a_piece_is_answered_in_one_write(rt: HostRuntime) {
     assert!(rt; writes_of(&rt, alloc, &bytes, 40, &whole) == 2);
 }
 
+/// A writer that keeps what is written until it is flushed.
+#[derive(Drop)]
+struct Keeping {
+    kept: Vec<u8>,
+    out: Vec<u8>,
+}
+
+impl Write for Keeping {
+    fn write(&mut self, buf: &[u8]) -> io::Result<usize> {
+        self.kept.extend_from_slice(buf)?;
+        Ok(buf.len())
+    }
+
+    fn flush(&mut self) -> io::Result<()> {
+        self.out.extend_from_slice(&self.kept)?;
+        self.kept.clear();
+        Ok(())
+    }
+}
+
+#[test]
+fn a_writer_that_keeps_bytes_is_flushed(rt: HostRuntime) {
+    let alloc = rt.alloc();
+    let bytes = bytes_of(&rt, alloc, &[BOOTSTRAP, LATER, ADD_FIVE]);
+    let mut from = Tap::new(bytes.as_slice());
+    let mut to = Tap::new(Keeping {
+        kept: Vec::new(alloc),
+        out: Vec::new(alloc),
+    });
+    let first = boxed(&rt, alloc, Desk::new(alloc));
+    let mut objects = pair(&rt, alloc, first, boxed(&rt, alloc, Cell::new(alloc)));
+    assert!(rt; serve(alloc, &mut from, &mut to, &mut objects, Mode::Plain).is_ok());
+    assert!(rt; to.into_inner().out.as_slice() == decoded(&rt, alloc, ANSWERS).as_slice());
+}
+
 /// A writer that takes all, keeps none of it, and compares it with what is wanted.
 #[derive(Drop)]
 struct Compared<'a> {

@@ -3,7 +3,7 @@ use Rattle.std.proofs.lemmas.Result.{err_from_is_err_and, IfErr-weaker}
 use Rattle.std.proofs.KnownBytes.{Consumes-nil, Consumes-trans, Consumes-kept}
 use Rattle.cp_serve.specs.Output.{device}
 use Rattle.cp_serve.proofs.Working.{after_both, not_some}
-use Rattle.cp_serve.proofs.Reaching.{one_more_piece, stops_full, stops_device, stops_inside, same_server, reads_nothing, goes_over, goes_still}
+use Rattle.cp_serve.proofs.Reaching.{one_more_piece, stops_full, stops_device, stops_inside, same_server, reads_nothing, goes_over, goes_still, taken_there, reads_well, any_fault, on_any}
 use Rattle.cp_serve.proofs.serving.Server.take_all.Goals as goal
 
 pub loop-pieces-init : goal.loop-pieces-init
@@ -88,3 +88,35 @@ returns-clause-taken g c =
     let now = c.loop-pieces.invariant.1 mode start held serves in
     let many : 2 ^ 64 - 1 ≤ length now.0 = omega (arith, now.2, c.loop-pieces-test.false) in
     (now.0, now.1, now.3.0, now.3.1, inr (inr many))
+
+pub returns-in_err-storage-clause-unread : goal.returns-in_err-storage-clause-unread
+returns-in_err-storage-clause-unread g c =
+    let p = err_from_is_err_and c.from_residual.result c.from_residual.ensures.1 in
+    rw (p.1, p.2) (λ mode start held serves. refl)
+
+pub returns-in_default-clause-unread : goal.returns-in_default-clause-unread
+returns-in_default-clause-unread g c =
+    let failed = c.in_default.ensures.counts.failures ∙ ap (λ (n : ℕ). (n + 1) % 2 ^ 64) c.loop-pieces.invariant.0 in
+    λ mode start held serves.
+    let now = c.loop-pieces.invariant.1 mode start held serves in
+    inr (failed, now.0, Consumes-kept _ _ _ now.0 now.1 c.in_default.ensures.bytes, taken_there now.0 now.3.0 now.3.1 now.3.2.is_open)
+
+pub returns-then-length-eq0-clause-unread : goal.returns-then-length-eq0-clause-unread
+returns-then-length-eq0-clause-unread g c =
+    let same = c.in-Ok.ensures.counts.failures ∙ c.loop-pieces.invariant.0 in
+    any_fault c.end_of_messages.result (λ fault. λ mode start held serves. reads_well mode start (device g.R.Read.remaining c.args.from.now) (device g.R.Read.remaining c.read.new.self) held _ _ fault same)
+
+pub returns-in_err-take_piece-clause-unread : goal.returns-in_err-take_piece-clause-unread
+returns-in_err-take_piece-clause-unread g c =
+    let p = err_from_is_err_and c.from_residual-in_err-take_piece.result c.from_residual-in_err-take_piece.ensures.1 in
+    let same = c.in-Ok.ensures.counts.failures ∙ c.loop-pieces.invariant.0 in
+    rw (p.1, p.2) (λ mode start held serves. reads_well mode start (device g.R.Read.remaining c.args.from.now) (device g.R.Read.remaining c.read.new.self) held _ _ c.in_err-take_piece.field-0.0 same)
+
+pub returns-then-length-eq0-clause-read : goal.returns-then-length-eq0-clause-read
+returns-then-length-eq0-clause-read g c = on_any c.end_of_messages.result (c.in-Ok.ensures.counts.failures ∙ c.loop-pieces.invariant.0)
+
+pub returns-then-is_closed-clause-read : goal.returns-then-is_closed-clause-read
+returns-then-is_closed-clause-read g c = c.in-Ok.ensures.counts.failures ∙ c.loop-pieces.invariant.0
+
+pub returns-clause-read : goal.returns-clause-read
+returns-clause-read g c = c.loop-pieces.invariant.0

@@ -1,4 +1,4 @@
-use Rattle.std.proofs.Common.{ℕ, List, [], ◌++◌, false, refl, sym, ◌∙◌, subst, inl, inr}
+use Rattle.std.proofs.Common.{ℕ, List, [], ◌++◌, false, refl, sym, ◌∙◌, subst, inl}
 use Rattle.std.proofs.lemmas.Result.{err_from_is_err_and}
 use Rattle.std.specs.Io.KnownBytes.{Appends}
 use Rattle.cp_serve.specs.Output.{device}
@@ -11,14 +11,14 @@ use Rattle.cp_serve.proofs.serving.Server.take_piece.Goals as goal
 pub taking-init : goal.taking-init
 taking-init g c = λ mode start held bytes serves. ([], refl, serves_none bytes serves)
 
-pub returns-in_err-write_whole-clause-stopped : goal.returns-in_err-write_whole-clause-stopped
-returns-in_err-write_whole-clause-stopped g c =
+pub returns-in_err-write_out-clause-stopped : goal.returns-in_err-write_out-clause-stopped
+returns-in_err-write_out-clause-stopped g c =
     let p = err_from_is_err_and c.from_residual.result c.from_residual.ensures.1 in
     let old = device g.W.Write.contents c.taking.to in
-    let new = device g.W.Write.contents c.write_whole.new.to in
+    let new = device g.W.Write.contents c.write_out.new.to in
     let block = c.fill_block-filled.new.self.block.items in
-    let broken = c.in_err-write_whole.ensures.broken in
-    rw (p.1, p.2, c.in_err-write_whole.ensures.device) (λ mode start held from left bytes serves.
+    let broken = c.in_err-write_out.ensures.broken in
+    rw (p.1, p.2, c.in_err-write_out.ensures.device) (λ mode start held from left bytes serves.
     let now = c.taking.invariant mode start held bytes serves in
     let anew = begun mode start held (bytes ++ now.0) c.taking.self c.clear.new.self c.clear.ensures.items now.2 in
     stops_broken old new block broken.sent broken.left (sym c.deref.ensures.value ∙ broken.splits) broken.passes.appends (bytes ++ c.args.piece.now) from left [] now.2.1.writes
@@ -31,10 +31,10 @@ pub returns-in_err-left-clause-stopped : goal.returns-in_err-left-clause-stopped
 returns-in_err-left-clause-stopped g c =
     let p = err_from_is_err_and c.from_residual-in_err-left.result c.from_residual-in_err-left.ensures.1 in
     let old = device g.W.Write.contents c.taking.to in
-    let new = device g.W.Write.contents c.write_whole.new.to in
+    let new = device g.W.Write.contents c.write_out.new.to in
     let block = c.fill_block-filled.new.self.block.items in
-    let moved = subst (λ (x : List ℕ). Appends old.bytes new.bytes x) c.deref.ensures.value c.in_ok-write_whole.ensures.sent.0.appends in
-    let same = c.in_ok-write_whole.ensures.sent.1 in
+    let moved = subst (λ (x : List ℕ). Appends old.bytes new.bytes x) c.deref.ensures.value c.in_ok-write_out.ensures.sent.0.appends in
+    let same = c.in_ok-write_out.ensures.sent.1 in
     rw (p.1, p.2) (λ mode start held from left bytes serves.
     let now = c.taking.invariant mode start held bytes serves in
     let anew = begun mode start held (bytes ++ now.0) c.taking.self c.clear.new.self c.clear.ensures.items now.2 in
@@ -44,10 +44,10 @@ returns-in_err-left-clause-stopped g c =
 pub returns-then-is_closed-clause-taken : goal.returns-then-is_closed-clause-taken
 returns-then-is_closed-clause-taken g c =
     let old = device g.W.Write.contents c.taking.to in
-    let new = device g.W.Write.contents c.write_whole.new.to in
+    let new = device g.W.Write.contents c.write_out.new.to in
     let block = c.fill_block-filled.new.self.block.items in
-    let moved = subst (λ (x : List ℕ). Appends old.bytes new.bytes x) c.deref.ensures.value c.in_ok-write_whole.ensures.sent.0.appends in
-    let same = c.in_ok-write_whole.ensures.sent.1 in
+    let moved = subst (λ (x : List ℕ). Appends old.bytes new.bytes x) c.deref.ensures.value c.in_ok-write_out.ensures.sent.0.appends in
+    let same = c.in_ok-write_out.ensures.sent.1 in
     λ mode start held bytes serves.
     let now = c.taking.invariant mode start held bytes serves in
     let anew = begun mode start held (bytes ++ now.0) c.taking.self c.clear.new.self c.clear.ensures.items now.2 in
@@ -58,10 +58,10 @@ pub taking-preserved : goal.taking-preserved
 taking-preserved g c =
     let is_open = not_some _ false c.if-is_closed.ensures refl in
     let old = device g.W.Write.contents c.taking.to in
-    let new = device g.W.Write.contents c.write_whole.new.to in
+    let new = device g.W.Write.contents c.write_out.new.to in
     let block = c.fill_block-filled.new.self.block.items in
-    let moved = subst (λ (x : List ℕ). Appends old.bytes new.bytes x) c.deref.ensures.value c.in_ok-write_whole.ensures.sent.0.appends in
-    let same = c.in_ok-write_whole.ensures.sent.1 in
+    let moved = subst (λ (x : List ℕ). Appends old.bytes new.bytes x) c.deref.ensures.value c.in_ok-write_out.ensures.sent.0.appends in
+    let same = c.in_ok-write_out.ensures.sent.1 in
     λ mode start held bytes serves.
     let now = c.taking.invariant mode start held bytes serves in
     let anew = begun mode start held (bytes ++ now.0) c.taking.self c.clear.new.self c.clear.ensures.items now.2 in
