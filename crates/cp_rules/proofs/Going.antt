@@ -5,8 +5,8 @@ use Rattle.cp_refs.specs.declared.cap.Cap.{Cap}
 use Rattle.cp_refs.specs.declared.call.Held.{Held}
 use Rattle.std.specs.FinMap.{remove}
 use Rattle.cp_order.specs.Within.{Within}
-use Rattle.cp_order.proofs.Falling.{turns_left, turn_falls}
-use Rattle.cp_order.proofs.Leaving.{in_hand_within, is_in_hand_now, turn_within}
+use Rattle.cp_order.proofs.within.Turns.{turns_left, turn_falls}
+use Rattle.cp_order.proofs.within.Leave.{in_hand_within, is_in_hand_now, turn_within}
 use Rattle.cp_state.specs.Halts.{Acts}
 use Rattle.cp_rules.specs.Going.{AllLeave, MayGo}
 use Rattle.cp_rules.proofs.Ready.{may_go}

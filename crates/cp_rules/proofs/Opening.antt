@@ -16,9 +16,9 @@ use Rattle.cp_machine.specs.Local.{one_if, tied_to}
 use Rattle.cp_machine.specs.Say.{ComesTo}
 use Rattle.cp_machine.specs.declared.entry.Tied.{Tied}
 use Rattle.cp_machine.proofs.Basics.{is_itself, is_equal, put_at}
-use Rattle.cp_order.proofs.Kept.{at_path}
+use Rattle.cp_order.proofs.within.AllKept.{at_path}
 use Rattle.cp_order.proofs.Tables.{all_of}
-use Rattle.cp_order.proofs.Settling.{routes_on, settled_route}
+use Rattle.cp_order.proofs.within.Settle.{routes_on, settled_route}
 use Rattle.cp_rules.specs.Ungiven.{AllEnd, AreOpenOnce}
 
 unsettled_is : (o : Option (Option Cap)) (n : ℕ) → 1 + n ≤ one_if (is_unsettled o) → (o ≡ Some None) × (n ≡ 0)

@@ -9,7 +9,7 @@ use Rattle.cp_machine.specs.declared.event.Event.{Event}
 use Rattle.cp_machine.specs.declared.event.Value.{Value}
 use Rattle.cp_machine.specs.declared.fault.VatFault.{VatFault}
 use Rattle.cp_machine.specs.declared.fault.VatFault.TheVariants as refusals
-use Rattle.cp_order.proofs.OrderTelling.{runs_are_in_order}
+use Rattle.cp_order.proofs.telling.Runs.{runs_are_in_order}
 use Rattle.cp_vat.specs.Running.{moment_of, moments, EndsBy, Continues, Runs}
 
 -- one more step

@@ -46,14 +46,14 @@ use Rattle.cp_machine.specs.declared.fault.VatFault.TheVariants as refusals
 use Rattle.cp_machine.proofs.Basics.{not_false, put_at}
 use Rattle.cp_order.specs.Within.{Within, IsFit, IsInHand}
 use Rattle.cp_order.proofs.Tables.{there_of, all_of, front_empty, back_empty, not_met}
-use Rattle.cp_order.proofs.Between.{local_is_within}
-use Rattle.cp_order.proofs.Parts.{there_ends, forwards_open}
-use Rattle.cp_order.proofs.Exporting.{fewer_exports, lower_if}
-use Rattle.cp_order.proofs.Taking.{Grows, export_fit, fit_at, fit_table, answer_given, take_all_keeps, get_put}
-use Rattle.cp_order.proofs.Answering.{next_free, entered_within, peer_in_hand}
-use Rattle.cp_order.proofs.Returning.{returned_keeps, back_in_hand, back_fit}
-use Rattle.cp_order.proofs.Opening.{own_asked_ends, own_stays}
-use Rattle.cp_order.proofs.Calling.{all_pass, all_named, came_fit, named_there}
+use Rattle.cp_order.proofs.within.Between.{local_is_within}
+use Rattle.cp_order.proofs.within.Follows.{there_ends, forwards_open}
+use Rattle.cp_order.proofs.within.Exports.{fewer_exports, lower_if}
+use Rattle.cp_order.proofs.within.Take.{Grows, export_fit, fit_at, fit_table, answer_given, take_all_keeps, get_put}
+use Rattle.cp_order.proofs.within.CallComes.{next_free, entered_within, peer_in_hand}
+use Rattle.cp_order.proofs.within.ReturnComes.{returned_keeps, back_in_hand, back_fit}
+use Rattle.cp_order.proofs.within.Asks.{own_asked_ends, own_stays}
+use Rattle.cp_order.proofs.within.Call.{all_pass, all_named, came_fit, named_there}
 use Rattle.cp_rules.specs.Going.{MayGo}
 use Rattle.cp_rules.specs.Ungiven.{AllEnd, IsUngiven}
 use Rattle.cp_rules.proofs.Ready.{is_ungiven, tied_once}

@@ -12,7 +12,7 @@ use Rattle.cp_machine.specs.declared.event.Value.TheVariants as values
 use Rattle.cp_machine.specs.declared.fault.VatFault.{VatFault}
 use Rattle.cp_machine.specs.declared.fault.VatFault.TheVariants as refusals
 use Rattle.cp_order.specs.Within.{Within}
-use Rattle.cp_order.proofs.Stepping.{does_within, receives_within, step_keeps}
+use Rattle.cp_order.proofs.within.Step.{does_within, receives_within, step_keeps}
 use Rattle.cp_state.specs.Halts.{Acts}
 use Rattle.cp_state.specs.declared.halt.Halt.{Halt}
 use Rattle.cp_state.specs.declared.halt.Halt.TheVariants as halts

@@ -23,7 +23,7 @@ use Rattle.cp_worlds.specs.World.{at_second, World}
 use Rattle.cp_worlds.specs.Orderly.{IsHeldBack, IsPlainValue, IsPlainAnswer, IsPlainExport, IsOrderly}
 use Rattle.cp_worlds.specs.Numbers.{IsHeldThere}
 use Rattle.cp_worlds.specs.Expected.{stage_of, IsAwaited, IsKept}
-use Rattle.cp_worlds.proofs.Wholly.{holds_of}
+use Rattle.cp_worlds.proofs.counts.Moves.{holds_of}
 use Rattle.test_vat.specs.CountWorlds.{crossing, IsOwedByFinish, IsNextExpected, with_more, IsTooMuch, Crossing, ignored, IgnoredIsOwed, answered_with_own, IsLeftForAnswer, AnswerKeepsExport, sent_for_ignored, waiting_call, IsOrderlyAsItIs, WaitingIsOrderly}
 use Rattle.test_vat.specs.RowWords.{release_message, small_request}
 use Rattle.test_vat.proofs.Known.{get_is, entries_is}

@@ -1,4 +1,4 @@
-use Rattle.cp_order.proofs.Stepping.{does_within, receives_within}
+use Rattle.cp_order.proofs.within.Step.{does_within, receives_within}
 use Rattle.cp_order.proofs.keeping.events_keep.Goals as goal
 
 pub returns-clause-does : goal.returns-clause-does

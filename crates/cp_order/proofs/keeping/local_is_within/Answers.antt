@@ -1,4 +1,4 @@
-use Rattle.cp_order.proofs.Between.{local_is_within, within_is_local}
+use Rattle.cp_order.proofs.within.Between.{local_is_within, within_is_local}
 use Rattle.cp_order.proofs.keeping.local_is_within.Goals as goal
 
 pub returns-clause-within : goal.returns-clause-within

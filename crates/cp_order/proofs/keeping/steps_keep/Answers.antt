@@ -1,4 +1,4 @@
-use Rattle.cp_order.proofs.Stepping.{step_keeps, runs_keep}
+use Rattle.cp_order.proofs.within.Step.{step_keeps, runs_keep}
 use Rattle.cp_order.proofs.keeping.steps_keep.Goals as goal
 
 pub returns-clause-steps : goal.returns-clause-steps

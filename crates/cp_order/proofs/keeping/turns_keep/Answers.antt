@@ -1,4 +1,4 @@
-use Rattle.cp_order.proofs.Leaving.{turn_keeps, leaves_local}
+use Rattle.cp_order.proofs.within.Leave.{turn_keeps, leaves_local}
 use Rattle.cp_order.proofs.keeping.turns_keep.Goals as goal
 
 pub returns-clause-turns : goal.returns-clause-turns

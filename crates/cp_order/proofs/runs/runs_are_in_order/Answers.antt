@@ -1,4 +1,4 @@
-use Rattle.cp_order.proofs.OrderTelling.{runs_are_in_order}
+use Rattle.cp_order.proofs.telling.Runs.{runs_are_in_order}
 use Rattle.cp_order.proofs.runs.runs_are_in_order.Goals as goal
 
 pub returns : goal.returns

@@ -1,7 +1,7 @@
 use Rattle.std.proofs.Common.{◌≡◌, [], ◌++◌, List, None}
 use Rattle.cp_machine.specs.declared.effect.Effect.{Effect}
 use Rattle.cp_order.specs.Within.{Within}
-use Rattle.cp_order.proofs.Falling.{turns_left}
+use Rattle.cp_order.proofs.within.Turns.{turns_left}
 use Rattle.cp_state.specs.StateOf.{state_of}
 use Rattle.cp_rules.proofs.Going.{LeavesFrom}
 use Rattle.cp_rules.proofs.leave.leave.Given as goal

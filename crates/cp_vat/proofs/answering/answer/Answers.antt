@@ -8,7 +8,7 @@ use Rattle.cp_state.specs.StateOf.{state_of}
 use Rattle.cp_vat.proofs.Judged.{unless_passed, unless_failed}
 use Rattle.cp_vat.proofs.Faulting.{acts_refused}
 use Rattle.cp_vat.proofs.Refusing.{calls_refused}
-use Rattle.cp_order.proofs.Between.{local_is_within}
+use Rattle.cp_order.proofs.within.Between.{local_is_within}
 use Rattle.cp_vat.proofs.Ready.{answer_ungiven, answer_ends}
 use Rattle.cp_vat.proofs.answering.answer.Goals as goal
 

@@ -10,7 +10,7 @@ use Rattle.cp_state.specs.StateOf.{state_of}
 use Rattle.cp_vat.proofs.Judged.{unless_passed, unless_failed}
 use Rattle.cp_vat.proofs.Faulting.{acts_refused, refused_on}
 use Rattle.cp_vat.proofs.Refusing.{calls_refused, comes_once}
-use Rattle.cp_order.proofs.Between.{local_is_within}
+use Rattle.cp_order.proofs.within.Between.{local_is_within}
 use Rattle.cp_vat.proofs.Ready.{resolve_ends, resolve_unsettled}
 use Rattle.cp_vat.proofs.answering.resolve.Goals as goal
 

@@ -1,6 +1,6 @@
 use Rattle.std.proofs.Common.{rules, sym, ◌∙◌}
-use Rattle.cp_order.proofs.Between.{local_is_within}
-use Rattle.cp_order.proofs.Parts.{none_valued}
+use Rattle.cp_order.proofs.within.Between.{local_is_within}
+use Rattle.cp_order.proofs.within.Follows.{none_valued}
 use Rattle.cp_state.proofs.Numbering.{is_fresh, none_fresh}
 use Rattle.cp_vat.proofs.asking.ask.Goals as goal
 

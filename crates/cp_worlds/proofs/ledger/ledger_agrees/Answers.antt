@@ -1,4 +1,4 @@
-use Rattle.cp_worlds.proofs.Tallying.{ledger_agrees}
+use Rattle.cp_worlds.proofs.counts.LedgerAgrees.{ledger_agrees}
 use Rattle.cp_worlds.proofs.ledger.ledger_agrees.Goals as goal
 
 pub returns : goal.returns

@@ -1,4 +1,4 @@
-use Rattle.cp_worlds.proofs.Telling.{keeps_by}
+use Rattle.cp_worlds.proofs.counts.AgreeAll.{keeps_by}
 use Rattle.cp_worlds.proofs.worlds.agreement_follows.Goals as goal
 
 pub returns : goal.returns

@@ -1,4 +1,4 @@
-use Rattle.cp_worlds.proofs.Agreeing.{keeps}
+use Rattle.cp_worlds.proofs.counts.Agree.{keeps}
 use Rattle.cp_worlds.proofs.worlds.agreement_is_kept.Goals as goal
 
 pub returns : goal.returns

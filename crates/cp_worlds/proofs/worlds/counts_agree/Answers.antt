@@ -1,4 +1,4 @@
-use Rattle.cp_worlds.proofs.Wholly.{counts_agree}
+use Rattle.cp_worlds.proofs.counts.Moves.{counts_agree}
 use Rattle.cp_worlds.proofs.worlds.counts_agree.Goals as goal
 
 pub returns : goal.returns

@@ -1,5 +1,5 @@
-use Rattle.cp_worlds.proofs.Numbers.{changes_keep}
-use Rattle.cp_worlds.proofs.Changed.{rules_change}
+use Rattle.cp_worlds.proofs.numbers.Changes.{changes_keep}
+use Rattle.cp_worlds.proofs.numbers.Receives.{rules_change}
 use Rattle.cp_worlds.proofs.worlds.counts_change.Goals as goal
 
 pub returns-clause-rules : goal.returns-clause-rules

@@ -1,4 +1,4 @@
-use Rattle.cp_worlds.proofs.Expecting.{lowers_fit, held_is_there, held_is_all}
+use Rattle.cp_worlds.proofs.counts.Expected.{lowers_fit, held_is_there, held_is_all}
 use Rattle.cp_worlds.proofs.worlds.counts_hold.Goals as goal
 
 pub returns-clause-lowers : goal.returns-clause-lowers

@@ -1,4 +1,4 @@
-use Rattle.cp_worlds.proofs.Expecting.{all_is_expected, stages_match}
+use Rattle.cp_worlds.proofs.counts.Expected.{all_is_expected, stages_match}
 use Rattle.cp_worlds.proofs.worlds.messages_are_expected.Goals as goal
 
 pub returns-clause-next : goal.returns-clause-next

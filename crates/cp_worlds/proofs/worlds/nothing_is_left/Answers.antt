@@ -1,4 +1,4 @@
-use Rattle.cp_worlds.proofs.Left.{exported_is_held, nothing_is_left, left_is_named}
+use Rattle.cp_worlds.proofs.numbers.Left.{exported_is_held, nothing_is_left, left_is_named}
 use Rattle.cp_worlds.proofs.worlds.nothing_is_left.Goals as goal
 
 pub returns-clause-held : goal.returns-clause-held

@@ -1,4 +1,4 @@
-use Rattle.cp_worlds.proofs.Numbered.{numbers_stay, free_is_free}
+use Rattle.cp_worlds.proofs.numbers.Moves.{numbers_stay, free_is_free}
 use Rattle.cp_worlds.proofs.worlds.numbers_stay.Goals as goal
 
 pub returns-clause-stay : goal.returns-clause-stay

@@ -1,4 +1,4 @@
-use Rattle.cp_worlds.proofs.Stepping.{rules_post}
+use Rattle.cp_worlds.proofs.counts.rules.Receives.{rules_post}
 use Rattle.cp_worlds.proofs.worlds.rules_post.Goals as goal
 
 pub returns : goal.returns

@@ -1,6 +1,6 @@
-use Rattle.cp_worlds.proofs.Settling.{settling_keeps}
-use Rattle.cp_worlds.proofs.Tying.{tied_are_open}
-use Rattle.cp_worlds.proofs.Turning.{turn_keeps}
+use Rattle.cp_worlds.proofs.waiting.Settle.{settling_keeps}
+use Rattle.cp_worlds.proofs.waiting.Tied.{tied_are_open}
+use Rattle.cp_worlds.proofs.waiting.Turn.{turn_keeps}
 use Rattle.cp_worlds.proofs.worlds.turns_keep.Goals as goal
 
 pub returns-clause-settling : goal.returns-clause-settling

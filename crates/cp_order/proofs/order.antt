@@ -1,0 +1,32 @@
+-- Every run's turns are orderly (RunsAreOrderly): calls of one port leave in the order in which they came. First what a turn does to
+-- values and gates, then the turns, then the events.
+pub mod Basics
+pub mod Routes
+pub mod Passes
+pub mod Grows
+pub mod Same
+pub mod Names
+pub mod Closes
+pub mod Settle
+pub mod Give
+pub mod Removes
+pub mod Waits
+pub mod Turn
+pub mod Sound
+pub mod Rest
+pub mod Quiet
+pub mod WaitingGoes
+pub mod WaitingStays
+pub mod Exits
+pub mod Leave
+pub mod Enters
+pub mod EntersThen
+pub mod Mark
+pub mod NewCall
+pub mod Call
+pub mod CallComes
+pub mod ReturnComes
+pub mod OtherComes
+pub mod Does
+pub mod Step
+pub mod Runs

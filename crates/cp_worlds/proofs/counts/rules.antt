@@ -1,0 +1,19 @@
+-- What each rule sends, and what comes to it, is as the vat's accounts see it (RulesPost).
+pub mod Same
+pub mod Accounts
+pub mod Counted
+pub mod TwoParts
+pub mod Say
+pub mod Plain
+pub mod GoOut
+pub mod Waits
+pub mod Settle
+pub mod Give
+pub mod Go
+pub mod Call
+pub mod Release
+pub mod Does
+pub mod Take
+pub mod CallComes
+pub mod ReturnComes
+pub mod Receives
