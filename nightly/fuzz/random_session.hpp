@@ -1,6 +1,6 @@
 // Sessions that are served in memory, over the static library bench_c.
 #pragma once
-#include "../bench_c.h"
+#include "../../bench/bench_c.h"
 #include "messages.hpp"
 #include <chrono>
 

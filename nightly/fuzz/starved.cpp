@@ -3,7 +3,7 @@
 //
 // A session is made as for `served`. Then it is served once for each of its allocations, which fails. The server must end by a refusal
 // or for lack of memory, what it wrote must be a beginning of the whole, and all memory must come back. malloc and its like are wrapped (Makefile).
-#include "session.hpp"
+#include "random_session.hpp"
 #include <cstdio>
 #include <cstdlib>
 

@@ -5,7 +5,7 @@
 // then has frames dropped, repeated or swapped, and one of eight bytes changed. It is served whole, by pieces of random sizes, and
 // packed by pieces: the bytes that come back must be the same each time, and be messages that answer those that were sent. A
 // session that takes longer than its limit, breaks one of these or leaks memory is reported with its number.
-#include "session.hpp"
+#include "random_session.hpp"
 #include <malloc.h>
 #include <cstdio>
 #include <cstdlib>

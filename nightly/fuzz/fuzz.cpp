@@ -4,7 +4,7 @@
 // which limits it is read, and in segments of how many words it is written again. Besides cutting and joining, as
 // libFuzzer does, inputs are changed by words: a pointer's offset, size or kind, a table's number, a bit. Packed inputs
 // are unpacked for that and packed again, so that the change arrives at the reader.
-#include "../bench_c.h"
+#include "../../bench/bench_c.h"
 #include <chrono>
 #include <cstddef>
 #include <cstdint>
