@@ -1,11 +1,5 @@
 pub mod RowWords
 pub mod Rows
-pub mod EmbargoRows
-pub mod CountRows
-pub mod PromiseRows
-pub mod ReferenceRows
-pub mod FaultRows
-pub mod RefusalRows
 pub mod OrderRows
 pub mod WorldRows
 pub mod CountWorlds
