@@ -8,7 +8,7 @@
 //   raw-window   as window, by such frames
 //   raw-full     as raw-seq, after 60,000 calls that were answered and not finished, so that the server's tables are nearly full
 // The status is 0 if the Cell's number is right in the end.
-#include "../connect.hpp"
+#include "../../nightly/connect.hpp"
 #include "desk.capnp.h"
 #include <capnp/rpc-twoparty.h>
 #include <capnp/rpc.capnp.h>

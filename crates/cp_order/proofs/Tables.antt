@@ -9,22 +9,14 @@ use Rattle.std.specs.FinMap.Entries.{find, put, is_sorted, below_all}
 use Rattle.std.proofs.Common.{Ordering, Less, Equal, Greater, inl, inr, arith, sym, ◌∙◌, true≢false}
 use Rattle.std.proofs.lemmas.Bool.Decides.{nat_tests}
 use Rattle.std.proofs.lemmas.List.Sums.{sum_by-cons}
-use Rattle.cp_tables.specs.Table.{Table, with_change}
-use Rattle.cp_tables.proofs.TableLemmas.{same_table, get-remove_same, is_remove}
+use Rattle.cp_tables.specs.Table.{Table}
+use Rattle.cp_tables.proofs.TableLemmas.{same_table, get-remove_same}
 use Rattle.cp_machine.specs.Then.{Unless, fault_if}
 use Rattle.cp_machine.proofs.Basics.{some_out, none_out, is_equal, ok_out, put_at, gone_at, all_front, all_back, all_both}
 
 module _ {X : Type 0} where
-  -- the change of an entry that is there
-  pub changed_is : (table : Table X) (k : ℕ) (v : X) (f : X → X) → get table k ≡ Some v → with_change table k f ≡ insert table k (f v)
-  changed_is table k v f h = rw h refl
-
   -- what holds of each entry, by its number, and of the new one
   module _ (P Q : ℕ → X → Type 0) (table : Table X) (k : ℕ) where
-    pub if_some : (o : Option X) (q : ℕ) → ((v : X) → P q v → Q q v) → IfSome o (P q) → IfSome o (Q q)
-    if_some None q f h = tt
-    if_some (Some v) q f h = f v h
-
     pub each_put : (new : X) → ((q : ℕ) → IfSome (get table q) (P q)) → Q k new → ((q : ℕ) (v : X) → (k == q) ≡ false → get table q ≡ Some v → P q v → Q q v)
         → (q : ℕ) → IfSome (get (insert table k new) q) (Q q)
     each_put new all here others q = by (k == q) refl
@@ -90,14 +82,14 @@ first_below k m (e ∷ es) is h = by (nat_cmp m e.0) refl (first_below k m es is
     by Greater at more h = absurd (rw at at h)
 
 module _ {X : Type 0} where
-  sorted_first : (e : ℕ × X) (es : List (ℕ × X)) → T (is_sorted nat_cmp (e ∷ es)) → T (below_all nat_cmp e.0 es)
+  pub sorted_first : (e : ℕ × X) (es : List (ℕ × X)) → T (is_sorted nat_cmp (e ∷ es)) → T (below_all nat_cmp e.0 es)
   sorted_first e es h = by (below_all nat_cmp e.0 es) refl h
     where
       by : (b : Bool) → below_all nat_cmp e.0 es ≡ b → T (is_sorted nat_cmp (e ∷ es)) → T (below_all nat_cmp e.0 es)
       by true is h = rw (is) tt
       by false is h = absurd (rw is at h)
 
-  sorted_rest : (e : ℕ × X) (es : List (ℕ × X)) → T (is_sorted nat_cmp (e ∷ es)) → T (is_sorted nat_cmp es)
+  pub sorted_rest : (e : ℕ × X) (es : List (ℕ × X)) → T (is_sorted nat_cmp (e ∷ es)) → T (is_sorted nat_cmp es)
   sorted_rest e es h = by (below_all nat_cmp e.0 es) refl h
     where
       by : (b : Bool) → below_all nat_cmp e.0 es ≡ b → T (is_sorted nat_cmp (e ∷ es)) → T (is_sorted nat_cmp es)
@@ -133,9 +125,6 @@ module _ {X : Type 0} where
         at : (q : ℕ) (b : Bool) → (k == q) ≡ b → get (insert (remove m k) k v) q ≡ get m q
         at q true t = put_at (remove m k) k q v true t ∙ sym (rw (← is_equal k q t) is)
         at q false t = put_at (remove m k) k q v false t ∙ gone_at m k q false t
-
-    pub none_gone : (m : Table X) (k : ℕ) → get m k ≡ None → remove m k ≡ m
-    none_gone m k is = sym (is_remove m m k is (λ q other. refl))
 
     pub within_sum : (m : Table X) (k : ℕ) (v : X) → get m k ≡ Some v → f v ≤ sum_by f (values m)
     within_sum m k v is = omega (arith, gone_sum m k v is)

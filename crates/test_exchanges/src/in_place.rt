@@ -124,7 +124,7 @@ fn expect_nothing(rt: &impl Abort, alloc: Global, segments: &Segments) {
     }
 }
 
-// This test and the next take as much memory: bench/memory/sweep.sh counts the allocations of each.
+// This test and the next take as much memory: nightly/memory/sweep.sh counts the allocations of each.
 #[test]
 fn allocation_failure_at_faults_without_a_content(rt: HostRuntime) {
     let alloc = rt.alloc();

@@ -1,7 +1,7 @@
 //! What is at a limit, and what is past it.
 
 use crate::beginnings::{ANSWERED, ASKED, CALLED};
-use crate::playing::{expect, expect_next, prepare};
+use crate::playing::{Exchange, expect, expect_next, prepare};
 use cp_refs::{Cap, Caps, Request};
 use cp_rpc::{Bootstrap, Message};
 use cp_tree::Whole;
@@ -38,11 +38,22 @@ fn filled(rt: &impl Abort, alloc: Global, script: &str, filling: &str) -> String
     text
 }
 
-/// A vat with the bootstrap object 0 does what the script says, with this text in the place of each
-/// `%`.
-fn expect_filled(rt: &impl Abort, alloc: Global, before: &str, script: &str, filling: &String) {
+/// A vat with the bootstrap object 0 does what the script says, with this text in the place of each `%`.
+fn expect_filled(
+    rt: &impl Abort,
+    alloc: Global,
+    name: &str,
+    before: &str,
+    script: &str,
+    filling: &String,
+) {
     let script = filled(rt, alloc, script, filling.as_str());
-    expect(rt, alloc, Some(0), &[before, script.as_str()]);
+    let exchange = Exchange {
+        name,
+        bootstrap: Some(0),
+        script: &[before, script.as_str()],
+    };
+    expect(rt, alloc, &exchange);
 }
 
 /// The peer calls the bootstrap object with this content and table.
@@ -83,17 +94,45 @@ fn table(rt: &impl Abort, alloc: Global, length: usize) -> String {
 #[test]
 fn a_table_that_comes(rt: HostRuntime) {
     let largest = table(&rt, rt.alloc(), 1024);
-    expect_filled(&rt, rt.alloc(), ANSWERED, CALL_COMES, &largest);
+    expect_filled(
+        &rt,
+        rt.alloc(),
+        "a table that comes, at the limit",
+        ANSWERED,
+        CALL_COMES,
+        &largest,
+    );
     let larger = table(&rt, rt.alloc(), 1025);
-    expect_filled(&rt, rt.alloc(), ANSWERED, LARGER_CALL_COMES, &larger);
+    expect_filled(
+        &rt,
+        rt.alloc(),
+        "a table that comes, past it",
+        ANSWERED,
+        LARGER_CALL_COMES,
+        &larger,
+    );
 }
 
 #[test]
 fn a_table_of_the_application(rt: HostRuntime) {
     let largest = table(&rt, rt.alloc(), 1024);
-    expect_filled(&rt, rt.alloc(), "", CALL_IS_MADE, &largest);
+    expect_filled(
+        &rt,
+        rt.alloc(),
+        "a table of the application, at the limit",
+        "",
+        CALL_IS_MADE,
+        &largest,
+    );
     let larger = table(&rt, rt.alloc(), 1025);
-    expect_filled(&rt, rt.alloc(), "", LARGER_CALL_IS_MADE, &larger);
+    expect_filled(
+        &rt,
+        rt.alloc(),
+        "a table of the application, past it",
+        "",
+        LARGER_CALL_IS_MADE,
+        &larger,
+    );
 }
 
 /// A content so deep, with an empty table.
@@ -106,17 +145,45 @@ fn content(rt: &impl Abort, alloc: Global, depth: usize) -> String {
 #[test]
 fn a_content_that_comes(rt: HostRuntime) {
     let deepest = content(&rt, rt.alloc(), 60);
-    expect_filled(&rt, rt.alloc(), ANSWERED, CALL_COMES, &deepest);
+    expect_filled(
+        &rt,
+        rt.alloc(),
+        "a content that comes, at the limit",
+        ANSWERED,
+        CALL_COMES,
+        &deepest,
+    );
     let deeper = content(&rt, rt.alloc(), 61);
-    expect_filled(&rt, rt.alloc(), ANSWERED, LARGER_CALL_COMES, &deeper);
+    expect_filled(
+        &rt,
+        rt.alloc(),
+        "a content that comes, past it",
+        ANSWERED,
+        LARGER_CALL_COMES,
+        &deeper,
+    );
 }
 
 #[test]
 fn a_content_of_the_application(rt: HostRuntime) {
     let deepest = content(&rt, rt.alloc(), 60);
-    expect_filled(&rt, rt.alloc(), "", CALL_IS_MADE, &deepest);
+    expect_filled(
+        &rt,
+        rt.alloc(),
+        "a content of the application, at the limit",
+        "",
+        CALL_IS_MADE,
+        &deepest,
+    );
     let deeper = content(&rt, rt.alloc(), 61);
-    expect_filled(&rt, rt.alloc(), "", LARGER_CALL_IS_MADE, &deeper);
+    expect_filled(
+        &rt,
+        rt.alloc(),
+        "a content of the application, past it",
+        "",
+        LARGER_CALL_IS_MADE,
+        &deeper,
+    );
 }
 
 #[test]
@@ -126,7 +193,14 @@ fn a_content_of_results(rt: HostRuntime) {
         answer answer:1 {%}
         > return a=1 releaseParamCaps=false results {%}
     ";
-    expect_filled(&rt, rt.alloc(), CALLED, script, &deepest);
+    expect_filled(
+        &rt,
+        rt.alloc(),
+        "a content of results, at the limit",
+        CALLED,
+        script,
+        &deepest,
+    );
     let deeper = content(&rt, rt.alloc(), 61);
     let script = "
         answer answer:1 {%}
@@ -134,7 +208,14 @@ fn a_content_of_results(rt: HostRuntime) {
         answer answer:1 canceled
         > return a=1 releaseParamCaps=false canceled
     ";
-    expect_filled(&rt, rt.alloc(), CALLED, script, &deeper);
+    expect_filled(
+        &rt,
+        rt.alloc(),
+        "a content of results, past it",
+        CALLED,
+        script,
+        &deeper,
+    );
 }
 
 #[test]
@@ -143,14 +224,28 @@ fn a_transform_that_comes(rt: HostRuntime) {
     let script = "
         < call q=2 to=answer:1[noop%] i=0000000000000009 m=4 results=caller params={(;) caps[]}
     ";
-    expect_filled(&rt, rt.alloc(), CALLED, script, &longest);
+    expect_filled(
+        &rt,
+        rt.alloc(),
+        "a transform that comes, at the limit",
+        CALLED,
+        script,
+        &longest,
+    );
     let longer = repeated(&rt, rt.alloc(), ",noop", 16);
     let script = "
         < call q=2 to=answer:1[noop%] i=0000000000000009 m=4 results=caller params={(;) caps[]}
         > abort failed \"P9 payload too large\"
         ! closed P9 payload too large
     ";
-    expect_filled(&rt, rt.alloc(), CALLED, script, &longer);
+    expect_filled(
+        &rt,
+        rt.alloc(),
+        "a transform that comes, past it",
+        CALLED,
+        script,
+        &longer,
+    );
 }
 
 #[test]
@@ -161,7 +256,14 @@ fn a_path_of_the_application(rt: HostRuntime) {
         = question:1
         > call q=1 to=answer:0[0%] i=0000000000000009 m=4 results=caller params={(;) caps[]}
     ";
-    expect_filled(&rt, rt.alloc(), ASKED, script, &longest);
+    expect_filled(
+        &rt,
+        rt.alloc(),
+        "a path of the application, at the limit",
+        ASKED,
+        script,
+        &longest,
+    );
     let longer = repeated(&rt, rt.alloc(), ",0", 16);
     let script = "
         call question:0[0%] {(;) caps[]}
@@ -169,7 +271,14 @@ fn a_path_of_the_application(rt: HostRuntime) {
         call object:3 {(;) caps[question:0[0%]]}
         = refused TooLarge
     ";
-    expect_filled(&rt, rt.alloc(), ASKED, script, &longer);
+    expect_filled(
+        &rt,
+        rt.alloc(),
+        "a path of the application, past it",
+        ASKED,
+        script,
+        &longer,
+    );
 }
 
 #[test]
@@ -179,14 +288,28 @@ fn a_reason_that_comes(rt: HostRuntime) {
         < abort failed \"%\"
         ! closed by the peer, failed \"%\"
     ";
-    expect_filled(&rt, rt.alloc(), "", script, &longest);
+    expect_filled(
+        &rt,
+        rt.alloc(),
+        "a reason that comes, at the limit",
+        "",
+        script,
+        &longest,
+    );
     let longer = repeated(&rt, rt.alloc(), "x", 65_537);
     let script = "
         < abort failed \"%\"
         > abort failed \"P9 payload too large\"
         ! closed P9 payload too large
     ";
-    expect_filled(&rt, rt.alloc(), "", script, &longer);
+    expect_filled(
+        &rt,
+        rt.alloc(),
+        "a reason that comes, past it",
+        "",
+        script,
+        &longer,
+    );
 }
 
 #[test]
@@ -197,7 +320,14 @@ fn a_reason_of_the_application(rt: HostRuntime) {
         = question:0
         ! settled question:0 exception failed \"%\"
     ";
-    expect_filled(&rt, rt.alloc(), "", script, &longest);
+    expect_filled(
+        &rt,
+        rt.alloc(),
+        "a reason of the application, at the limit",
+        "",
+        script,
+        &longest,
+    );
     let longer = repeated(&rt, rt.alloc(), "x", 65_537);
     let script = "
         call broken:failed \"%\" {(;) caps[]}
@@ -207,7 +337,14 @@ fn a_reason_of_the_application(rt: HostRuntime) {
         call object:3 {(;) caps[broken:failed \"%\"]}
         = refused TooLarge
     ";
-    expect_filled(&rt, rt.alloc(), "", script, &longer);
+    expect_filled(
+        &rt,
+        rt.alloc(),
+        "a reason of the application, past it",
+        "",
+        script,
+        &longer,
+    );
 }
 
 #[test]
@@ -217,14 +354,28 @@ fn what_is_sent_back(rt: HostRuntime) {
         < other 10 %
         > unimplemented (0a00000000000000;%)
     ";
-    expect_filled(&rt, rt.alloc(), "", script, &deepest);
+    expect_filled(
+        &rt,
+        rt.alloc(),
+        "what is sent back, at the limit",
+        "",
+        script,
+        &deepest,
+    );
     let deeper = nested(&rt, rt.alloc(), 63);
     let script = "
         < other 10 %
         > abort failed \"P11 echo too large\"
         ! closed P11 echo too large
     ";
-    expect_filled(&rt, rt.alloc(), "", script, &deeper);
+    expect_filled(
+        &rt,
+        rt.alloc(),
+        "what is sent back, past it",
+        "",
+        script,
+        &deeper,
+    );
 }
 
 #[test]
@@ -239,7 +390,7 @@ fn many_answers(rt: HostRuntime) {
         > abort failed \"P10 table full\"
         ! closed P10 table full
     ";
-    expect_next(&rt, rt.alloc(), vat, &[script]);
+    expect_next(&rt, rt.alloc(), "many answers", vat, &[script]);
 }
 
 #[test]
@@ -262,7 +413,7 @@ fn many_questions(rt: HostRuntime) {
         = question:65535
         > bootstrap q=65535
     ";
-    expect_next(&rt, rt.alloc(), vat, &[script]);
+    expect_next(&rt, rt.alloc(), "many questions", vat, &[script]);
 }
 
 #[test]
@@ -283,7 +434,13 @@ fn a_call_to_forward_with_many_questions(rt: HostRuntime) {
         > abort failed \"P10 table full\"
         ! closed P10 table full
     ";
-    expect_next(&rt, rt.alloc(), vat, &[before, CALLED, after]);
+    expect_next(
+        &rt,
+        rt.alloc(),
+        "a call to forward with many questions",
+        vat,
+        &[before, CALLED, after],
+    );
 }
 
 #[test]
@@ -300,7 +457,7 @@ fn many_promises(rt: HostRuntime) {
         promise
         = promise:7
     ";
-    expect_next(&rt, rt.alloc(), vat, &[script]);
+    expect_next(&rt, rt.alloc(), "many promises", vat, &[script]);
 }
 
 /// A request of method 4 of interface 9, with a table of this many objects, from this one on.
@@ -334,43 +491,46 @@ fn export(rt: &impl Abort, alloc: Global, vat: &mut Vat, count: u32) {
 #[test]
 fn many_exports(rt: HostRuntime) {
     let mut vat = Vat::new(rt.alloc(), Some(0));
-    let before = "
-        bootstrap
-        < return a=0 releaseParamCaps=false results {cap:0 caps[senderPromise:7]}
-        < bootstrap q=0
-        < call q=1 to=import:0 i=0000000000000009 m=4 results=caller params={(;) caps[senderPromise:8]}
-        promise
-        call import:7 {(;) caps[promise:0]}
-    ";
-    prepare(&rt, rt.alloc(), &mut vat, before);
+    prepare(&rt, rt.alloc(), &mut vat, TWO_EXPORTS);
     export(&rt, rt.alloc(), &mut vat, 65_534);
-    // What is refused leaves no question, no mark, no export and no ticket.
-    let script = "
-        call import:8 {(;) caps[object:1000,object:999]}
-        = refused Full
-        < resolve p=8 cap receiverHosted:0
-        call import:8 {(;) caps[object:999]}
-        = question:66
-        ! deliver object:0 for question:66 ticket 66 i=0000000000000009 m=4 {(;) caps[object:999]}
-        call import:7 {(;) caps[object:999]}
-        = refused Full
-        answer answer:1 {(;) caps[object:1000,object:999]}
-        = refused Full
-        resolve promise:0 object:999
-        = refused Full
-        < release id=2 count=1
-        answer answer:1 {(;) caps[object:999,object:1001]}
-        > return a=1 releaseParamCaps=false results {(;) caps[senderHosted:2,senderHosted:3]}
-        resolve promise:0 object:1000
-        = refused Full
-        resolve promise:0 object:999
-        > resolve p=1 cap senderHosted:2
-        call import:7 {(;) caps[]}
-        = question:67
-        > call q=67 to=import:7 i=0000000000000009 m=4 results=caller params={(;) caps[]}
-    ";
-    expect_next(&rt, rt.alloc(), vat, &[script]);
+    expect_next(&rt, rt.alloc(), "many exports", vat, &[NO_MORE_EXPORTS]);
 }
+
+/// The bootstrap object and a promise are exported.
+const TWO_EXPORTS: &str = "
+    bootstrap
+    < return a=0 releaseParamCaps=false results {cap:0 caps[senderPromise:7]}
+    < bootstrap q=0
+    < call q=1 to=import:0 i=0000000000000009 m=4 results=caller params={(;) caps[senderPromise:8]}
+    promise
+    call import:7 {(;) caps[promise:0]}
+";
+
+/// What is refused leaves no question, no mark, no export and no ticket.
+const NO_MORE_EXPORTS: &str = "
+    call import:8 {(;) caps[object:1000,object:999]}
+    = refused Full
+    < resolve p=8 cap receiverHosted:0
+    call import:8 {(;) caps[object:999]}
+    = question:66
+    ! deliver object:0 for question:66 ticket 66 i=0000000000000009 m=4 {(;) caps[object:999]}
+    call import:7 {(;) caps[object:999]}
+    = refused Full
+    answer answer:1 {(;) caps[object:1000,object:999]}
+    = refused Full
+    resolve promise:0 object:999
+    = refused Full
+    < release id=2 count=1
+    answer answer:1 {(;) caps[object:999,object:1001]}
+    > return a=1 releaseParamCaps=false results {(;) caps[senderHosted:2,senderHosted:3]}
+    resolve promise:0 object:1000
+    = refused Full
+    resolve promise:0 object:999
+    > resolve p=1 cap senderHosted:2
+    call import:7 {(;) caps[]}
+    = question:67
+    > call q=67 to=import:7 i=0000000000000009 m=4 results=caller params={(;) caps[]}
+";
 
 #[test]
 fn tied_promises_with_many_exports(rt: HostRuntime) {
@@ -396,5 +556,11 @@ fn tied_promises_with_many_exports(rt: HostRuntime) {
         > resolve p=1 cap senderHosted:3
         > resolve p=2 cap senderHosted:65535
     ";
-    expect_next(&rt, rt.alloc(), vat, &[script]);
+    expect_next(
+        &rt,
+        rt.alloc(),
+        "tied promises with many exports",
+        vat,
+        &[script],
+    );
 }

@@ -1,4 +1,4 @@
-//! Allocation failures. With ample memory there are none: bench/memory/sweep.sh fails each allocation of
+//! Allocation failures. With ample memory there are none: nightly/memory/sweep.sh fails each allocation of
 //! the test.
 
 use cp_machine::{Event, VatFault};

@@ -69,24 +69,29 @@ fn turn(rt: &impl Abort, near: &mut End, far: &mut End, line: &str, lines: &mut 
     }
 }
 
-/// Two vats with these bootstrap objects do what the script says, however they take in messages.
-pub fn expect_pair(
-    rt: &impl Abort,
-    alloc: Global,
-    bootstraps: (Option<u32>, Option<u32>),
-    script: &[&str],
-) {
-    for taken in [Taken::Owned, Taken::InPlace] {
-        let first = End::new(alloc, bootstraps.0, taken);
-        let second = End::new(alloc, bootstraps.1, taken);
-        expect_ends(rt, first, second, script);
+/// An exchange of two vats: what it shows, what Bootstraps of the one and of the other get, and its script.
+#[derive(Clone, Copy)]
+pub struct Pair<'a> {
+    pub name: &'a str,
+    pub bootstraps: (Option<u32>, Option<u32>),
+    pub script: &'a [&'a str],
+}
+
+/// Two vats do what each script says, however they take in messages.
+pub fn expect_pairs(rt: &impl Abort, alloc: Global, pairs: &[Pair]) {
+    for pair in pairs {
+        for taken in [Taken::Owned, Taken::InPlace] {
+            let first = End::new(alloc, pair.bootstraps.0, taken);
+            let second = End::new(alloc, pair.bootstraps.1, taken);
+            expect_ends(rt, first, second, pair);
+        }
     }
 }
 
-fn expect_ends(rt: &impl Abort, mut first: End, mut second: End, script: &[&str]) {
+fn expect_ends(rt: &impl Abort, mut first: End, mut second: End, pair: &Pair) {
     let mut lines = Lines::new(first.alloc);
     let mut wanted = Lines::new(first.alloc);
-    for part in script {
+    for part in pair.script {
         for line in part.lines() {
             let line = line.trim();
             wanted.push_line(line);
@@ -101,5 +106,5 @@ fn expect_ends(rt: &impl Abort, mut first: End, mut second: End, script: &[&str]
     }
     drop(first);
     drop(second);
-    expect_lines(rt, &lines, &wanted);
+    expect_lines(rt, pair.name, &lines, &wanted);
 }

@@ -1,6 +1,6 @@
 //! Scripts, played by `run` as one list of events.
 
-use crate::playing::{expect_lines, is_reported, read};
+use crate::playing::{Exchange, expect_lines, is_reported, read};
 use cp_machine::{Event, Ran};
 use cp_scripts::Lines;
 use cp_vat::run;
@@ -55,11 +55,11 @@ fn given(rt: &impl Abort, alloc: Global, lines: &[&str], ran: &Ran) -> Lines {
     given
 }
 
-/// All events of a script are run on a new vat, which does what the script says up to the first refusal.
-pub fn expect_run(rt: &impl Abort, alloc: Global, bootstrap: Option<u32>, parts: &[&str]) {
-    let script = read_all(rt, alloc, parts);
-    let ran = run(alloc, bootstrap, script.events);
+/// All events of an exchange are run on a new vat, which does what the script says up to the first refusal.
+pub fn expect_run(rt: &impl Abort, alloc: Global, exchange: &Exchange) {
+    let script = read_all(rt, alloc, exchange.script);
+    let ran = run(alloc, exchange.bootstrap, script.events);
     let given = given(rt, alloc, &script.lines, &ran);
     drop(ran);
-    expect_lines(rt, &given, &script.wanted);
+    expect_lines(rt, exchange.name, &given, &script.wanted);
 }

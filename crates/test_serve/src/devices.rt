@@ -320,7 +320,7 @@ fn expect_whole_or_memory(rt: &impl Abort, alloc: Global, bytes: &[u8], answers:
     }
 }
 
-// With ample memory no allocation fails. bench/memory/sweep.sh makes each fail in turn.
+// With ample memory no allocation fails. nightly/memory/sweep.sh makes each fail in turn.
 #[test]
 fn allocation_failure_is_reported(rt: HostRuntime) {
     let alloc = rt.alloc();

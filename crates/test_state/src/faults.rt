@@ -2,75 +2,55 @@
 
 use cp_machine::{PeerFault, VatFault};
 use cp_tables::TableFault;
+use std::alloc::Global;
 use std::fmt::Display;
 use std::process::Abort;
 
-/// Appends what each fault prints, a line each.
-fn append<F: Display>(rt: &impl Abort, text: &mut String, faults: &[F]) {
-    for fault in faults {
-        writeln!(text, "{fault}").expect(rt, "memory");
+/// Each fault prints its text.
+fn expect_texts<F: Display>(rt: &impl Abort, alloc: Global, rows: &[(F, &str)]) {
+    for row in rows {
+        let fault = &row.0;
+        let text = format!(in alloc; "{fault}").expect(rt, "memory");
+        assert_eq!(rt; text.as_str(), row.1);
     }
 }
 
 #[test]
 fn texts(rt: HostRuntime) {
-    let mut text = String::new(rt.alloc());
-    append(
-        &rt,
-        &mut text,
-        &[
-            TableFault::Taken,
-            TableFault::Unknown,
-            TableFault::TooMany,
-            TableFault::Full,
-            TableFault::OutOfMemory,
-        ],
-    );
-    append(
-        &rt,
-        &mut text,
-        &[
-            VatFault::UnknownQuestion,
-            VatFault::UnknownPromise,
-            VatFault::AlreadyResolved,
-            VatFault::PromiseCycle,
-            VatFault::Unsettled,
-            VatFault::InUse,
-            VatFault::TooLarge,
-            VatFault::Full,
-            VatFault::Closed,
-            VatFault::OutOfMemory,
-            VatFault::UnknownImport,
-        ],
-    );
-    append(
-        &rt,
-        &mut text,
-        &[PeerFault::QuestionInUse, PeerFault::PeerLacksLevelOne],
-    );
-    writeln!(text, "{:#}", VatFault::InUse).expect(&rt, "memory");
+    expect_texts(&rt, rt.alloc(), OF_TABLES);
+    expect_texts(&rt, rt.alloc(), OF_VATS);
+    expect_texts(&rt, rt.alloc(), OF_PEERS);
+    let fault = VatFault::InUse;
+    let long = format!(in rt.alloc(); "{fault:#}").expect(&rt, "memory");
     assert_eq!(rt;
-        text.as_str(),
-        "\
-number or note taken
-unknown number
-lowered past the count
-table or count full
-out of memory
-V1 UnknownQuestion
-V2 UnknownPromise
-V3 AlreadyResolved
-V4 PromiseCycle
-V5 Unsettled
-V6 InUse
-V7 TooLarge
-V8 Full
-V9 Closed
-V10 OutOfMemory
-V11 UnknownImport
-P1 question in use
-P12 peer lacks level 1
-V6 InUse: the question, import or promise is in use
-"
+        long.as_str(),
+        "V6 InUse: the question, import or promise is in use"
     );
 }
+
+const OF_TABLES: &[(TableFault, &str)] = &[
+    (TableFault::Taken, "number or note taken"),
+    (TableFault::Unknown, "unknown number"),
+    (TableFault::TooMany, "lowered past the count"),
+    (TableFault::Full, "table or count full"),
+    (TableFault::OutOfMemory, "out of memory"),
+];
+
+const OF_VATS: &[(VatFault, &str)] = &[
+    (VatFault::UnknownQuestion, "V1 UnknownQuestion"),
+    (VatFault::UnknownPromise, "V2 UnknownPromise"),
+    (VatFault::AlreadyResolved, "V3 AlreadyResolved"),
+    (VatFault::PromiseCycle, "V4 PromiseCycle"),
+    (VatFault::Unsettled, "V5 Unsettled"),
+    (VatFault::InUse, "V6 InUse"),
+    (VatFault::TooLarge, "V7 TooLarge"),
+    (VatFault::Full, "V8 Full"),
+    (VatFault::Closed, "V9 Closed"),
+    (VatFault::OutOfMemory, "V10 OutOfMemory"),
+    (VatFault::UnknownImport, "V11 UnknownImport"),
+];
+
+const OF_PEERS: &[(PeerFault, &str)] = &[
+    (PeerFault::QuestionInUse, "P1 question in use"),
+    (PeerFault::PeerLacksLevelOne, "P12 peer lacks level 1"),
+];

@@ -10,72 +10,73 @@ fn expect_read(rt: &impl Abort, word: u64, says: Result<Pointer, BadCapability>)
 
 #[test]
 fn words_are_read(rt: HostRuntime) {
-    let rows = [
-        (0x0000_0000_0000_0000, Ok(Pointer::Null)),
-        (
-            0x0000_0000_ffff_fffc,
-            Ok(Pointer::Struct {
-                offset: -1,
-                words: 0,
-                ptrs: 0,
-            }),
-        ),
-        (
-            0x0001_0002_0000_0010,
-            Ok(Pointer::Struct {
-                offset: 4,
-                words: 2,
-                ptrs: 1,
-            }),
-        ),
-        (
-            0x0001_0000_8000_0000,
-            Ok(Pointer::Struct {
-                offset: -536_870_912,
-                words: 0,
-                ptrs: 1,
-            }),
-        ),
-        (
-            0x0000_001a_0000_0001,
-            Ok(Pointer::List {
-                offset: 0,
-                size: ElementSize::Byte,
-                count: 3,
-            }),
-        ),
-        (
-            0x0000_0017_ffff_fffd,
-            Ok(Pointer::List {
-                offset: -1,
-                size: ElementSize::Composite,
-                count: 2,
-            }),
-        ),
-        (
-            0x0000_0001_0000_0012,
-            Ok(Pointer::Far {
-                double: false,
-                place: 2,
-                segment: 1,
-            }),
-        ),
-        (
-            0x0000_0001_0000_0006,
-            Ok(Pointer::Far {
-                double: true,
-                place: 0,
-                segment: 1,
-            }),
-        ),
-        (0x0000_0005_0000_0003, Ok(Pointer::Cap(5))),
-        (0x0000_0005_0000_0007, Err(BadCapability)),
-        (0x0000_0005_8000_0003, Err(BadCapability)),
-    ];
-    for (word, says) in rows {
-        expect_read(&rt, word, says);
+    for row in WORDS {
+        expect_read(&rt, row.0, row.1);
     }
 }
+
+const WORDS: &[(u64, Result<Pointer, BadCapability>)] = &[
+    (0x0000_0000_0000_0000, Ok(Pointer::Null)),
+    (
+        0x0000_0000_ffff_fffc,
+        Ok(Pointer::Struct {
+            offset: -1,
+            words: 0,
+            ptrs: 0,
+        }),
+    ),
+    (
+        0x0001_0002_0000_0010,
+        Ok(Pointer::Struct {
+            offset: 4,
+            words: 2,
+            ptrs: 1,
+        }),
+    ),
+    (
+        0x0001_0000_8000_0000,
+        Ok(Pointer::Struct {
+            offset: -536_870_912,
+            words: 0,
+            ptrs: 1,
+        }),
+    ),
+    (
+        0x0000_001a_0000_0001,
+        Ok(Pointer::List {
+            offset: 0,
+            size: ElementSize::Byte,
+            count: 3,
+        }),
+    ),
+    (
+        0x0000_0017_ffff_fffd,
+        Ok(Pointer::List {
+            offset: -1,
+            size: ElementSize::Composite,
+            count: 2,
+        }),
+    ),
+    (
+        0x0000_0001_0000_0012,
+        Ok(Pointer::Far {
+            double: false,
+            place: 2,
+            segment: 1,
+        }),
+    ),
+    (
+        0x0000_0001_0000_0006,
+        Ok(Pointer::Far {
+            double: true,
+            place: 0,
+            segment: 1,
+        }),
+    ),
+    (0x0000_0005_0000_0003, Ok(Pointer::Cap(5))),
+    (0x0000_0005_0000_0007, Err(BadCapability)),
+    (0x0000_0005_8000_0003, Err(BadCapability)),
+];
 
 /// A word is the wanted one.
 fn expect_word(rt: &impl Abort, word: u64, wanted: u64) {

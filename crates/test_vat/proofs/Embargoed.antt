@@ -158,9 +158,6 @@ return_0 =
 asked_0 : (exports : Table (Counted Cap)) (named : List Descriptor) → get (s_b exports named).entries.questions 0 ≡ Some (new_exchange kept_0)
 asked_0 exports named = simp (get-insert {X = Exchange QuestionEntry} nat_cmp_total) refl
 
-question_0 : (exports : Table (Counted Cap)) (named : List Descriptor) → get (s_b exports named).values.questions 0 ≡ Some (record { kind = kinds.Wire; outcome = None })
-question_0 exports named = simp (get-insert {X = Question} nat_cmp_total) refl
-
 -- what names an export changes nothing
 export_keeps : (s : State) (o : Option (Counted Cap)) (taken : Cap × State) → ◌≡◌ {A = Result (Cap × State) PeerFault} (Ok taken) (taken_export s o) → taken.1 ≡ s
 export_keeps s None taken is = absurd (err_not_ok (sym is))

@@ -5,7 +5,7 @@ use Rattle.std.proofs.lemmas.Bool.Decides.{nat_tests}
 use Rattle.std.specs.List.{list_all}
 use Rattle.std.specs.Option.{option_map}
 use Rattle.std.specs.Ordering.{nat_cmp, eq_by_cmp}
-use Rattle.std.specs.FinMap.{get, empty, get-empty}
+use Rattle.std.specs.FinMap.{get}
 use Rattle.cp_tables.specs.Exchange.{new_exchange}
 use Rattle.cp_tables.specs.declared.exchange.Exchange.{Exchange}
 use Rattle.cp_rpc.specs.declared.descriptor.Descriptor.{Descriptor}
@@ -21,7 +21,7 @@ use Rattle.cp_refs.specs.declared.route.Gate.{Gate}
 use Rattle.cp_refs.specs.declared.route.Gate.TheVariants as gates
 use Rattle.cp_refs.specs.declared.route.Route.{Route}
 use Rattle.cp_refs.specs.declared.route.Route.TheVariants as routes
-use Rattle.cp_machine.specs.State.{State, gave}
+use Rattle.cp_machine.specs.State.{gave}
 use Rattle.cp_machine.specs.Say.{promised}
 use Rattle.cp_machine.specs.Say.{mentions_of}
 use Rattle.cp_machine.specs.Go.{Underway, delivered, call_of, forwarding, sent, finish_after, GoOut, Go, GoTo, NoneOver, IsNext, without_call, underway, Leave, stays, leaves, finds_table_full}
@@ -120,10 +120,6 @@ module _ {X : Type 0} (test : ℕ → X → Bool) where
   each_passes [] all q = tt
   each_passes (e ∷ es) all q =
       passes q e.0 e.1 (left_of (test e.0 e.1) _ all) (eq_by_cmp nat_cmp q e.0) refl (at es q) (each_passes es (right_of (test e.0 e.1) _ all) q)
-
--- where no call waits, none leaves
-pub none_waiting : (s : State) → s.waiting.calls ≡ empty → NoneOver s
-none_waiting s e ticket = rw (e, get-empty nat_cmp ticket) tt
 
 -- the call that leaves next
 pub data Next (k : Known) : Type 0 where

@@ -10,8 +10,6 @@ pub mod Uses
 pub mod Owning
 pub mod Acting
 pub mod Playing
-pub mod Filling
-pub mod Wordy
 pub mod OneWaits
 pub mod Ordered
 pub mod Inverts

@@ -25,7 +25,7 @@ use Rattle.cp_machine.specs.Give.{return_of}
 use Rattle.cp_machine.specs.State.{State, new_state, with_over, none_over}
 use Rattle.cp_machine.specs.Trace.{Turn, own_part, goes, rests}
 use Rattle.cp_machine.specs.Ports.{Port, answer_path, capability, absences, calls_of, PortRoute}
-use Rattle.cp_machine.specs.Exits.{exits_in, exits_of}
+use Rattle.cp_machine.specs.Exits.{exits_of}
 use Rattle.cp_machine.specs.Telling.{TellsItsGift}
 use Rattle.cp_machine.specs.InOrder.{EachPair, EachTurn, ExitsByPorts, AtRest, InOrder, RunsInOrder}
 use Rattle.test_vat.specs.Rows.{bootstrap_answered, pipelined_waits, small_call, on_answer, small_request}
@@ -96,14 +96,8 @@ port_2 = record { name = answer_path 1 (0 ∷ []); life = 2 }
 pub life_2 : absences (answer_path 1 (0 ∷ [])) past_1 ≡ 2
 life_2 = simp (get-insert {X = Option Outcome} nat_cmp_total, get-empty {X = Option Outcome} nat_cmp) refl
 
-calls_1 : calls_of past_1 ≡ record { ticket = 0; port = port_1 } ∷ []
-calls_1 = rw (export_0) refl
-
 pub calls_2 : calls_of past_2 ≡ record { ticket = 1; port = port_2 } ∷ record { ticket = 0; port = port_1 } ∷ []
 calls_2 = rw (export_0, life_2) refl
-
-none_fails : exits_in wait_turn ≡ []
-none_fails = rw (get-empty {X = Outcome} nat_cmp 2) refl
 
 pub exits_2 : exits_of past_2 ≡ record { ticket = 0; route = routes.Deliver 0 } ∷ []
 exits_2 = rw (get-empty {X = Outcome} nat_cmp 2) refl

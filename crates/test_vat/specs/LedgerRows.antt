@@ -17,8 +17,29 @@ use Rattle.cp_machine.specs.declared.effect.Effect.TheVariants as effects
 use Rattle.cp_machine.specs.declared.event.Event.TheVariants as events
 use Rattle.cp_machine.specs.declared.event.Value.TheVariants as values
 use Rattle.cp_worlds.specs.Ledger.{past_of, export_count, import_count, question_stage, answer_stage}
-use Rattle.test_vat.specs.RowWords.{comes, does, bootstrap_message, call_message, return_message, finish_message, resolve_message, release_message, sends, on_import, results, no_content, one_object, request, bootstrap_comes, bootstrap_does}
-use Rattle.test_vat.specs.PromiseRows.{promise_exported}
+use Rattle.test_vat.specs.RowWords.{comes, does, bootstrap_message, call_message, return_message, finish_message, resolve_message, release_message, sends, on_import, on_answer, small_call, small_request, results, no_content, one_object, request, bootstrap_comes, bootstrap_does}
+use Rattle.test_vat.specs.Rows.{call_comes}
+
+-- a promise of the application is exported, calls wait at it, and they go when it is resolved, after the Resolve
+abbrev pub promise_exported : List Moment
+promise_exported =
+    does events.Promise (values.Promise 0) []
+    ∷ bootstrap_comes
+    ∷ call_comes
+    ∷ does
+    (events.Answer (origins.Answer 1) (outcomes.Results one_object (caps.Promise 0 ∷ [])))
+    values.Nothing
+    (sends (return_message 1 (results one_object (descriptors.SenderPromise 1 ∷ []))) ∷ [])
+    ∷ comes (small_call 2 (on_import 1)) []
+    ∷ comes (small_call 3 (on_answer 1 0)) []
+    ∷ does
+    (events.Resolve 0 (caps.Object 5))
+    values.Nothing
+    (sends (resolve_message 1 (resolutions.Cap (descriptors.SenderHosted 2)))
+    ∷ effects.Deliver 5 (origins.Answer 2) 1 small_request
+    ∷ effects.Deliver 5 (origins.Answer 3) 2 small_request
+    ∷ [])
+    ∷ []
 
 -- what the Ledger says of an exchange's messages
 abbrev pub exported : List Moment → ℕ → ℕ

@@ -1,12 +1,6 @@
 pub mod RowWords
 pub mod Rows
-pub mod EmbargoRows
-pub mod CountRows
-pub mod PromiseRows
-pub mod ReferenceRows
-pub mod FaultRows
 pub mod LedgerRows
-pub mod RefusalRows
 pub mod OrderRows
 pub mod WorldRows
 pub mod CountWorlds

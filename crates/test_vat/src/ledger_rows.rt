@@ -4,8 +4,7 @@ ghost use Rattle.std.specs.Prelude.{◌≡◌, Some, None};
 ghost use Rattle.cp_tables.specs.declared.exchange.Stage.TheVariants as stages;
 ghost use Rattle.cp_machine.specs.Run.{Run};
 ghost use Rattle.test_vat.specs.LedgerRows as rows;
-ghost use Rattle.test_vat.specs.PromiseRows.{promise_exported};
-ghost use Rattle.test_vat.specs.LedgerRows.{exported, imported, asked, answered};
+ghost use Rattle.test_vat.specs.LedgerRows.{exported, imported, asked, answered, promise_exported};
 
 /// A Return gives back the exports that the params named, where it asks for it.
 pub fn params_given_back()

@@ -236,10 +236,6 @@ module _ (old : State) (q : ℕ) (request : Request) (cap : Cap) (within : Withi
           (rw (reference) refl, rw (Rattle.cp_order.proofs.order.Same.mark_same between (held_at between call (gates.Embargo n)) cap refl, mark) (refl, over))
           (λ gate m fits at. up gate m fits.1 at) (λ gate m fits at. down gate m fits.1 at)
 
-      go_on : (f : List Effect) (s : State) → ((x : List Effect) (m : State) → Sound m → ◌≡◌ {A = List Effect × State} (x, m) (f, s) → OrderHolds (owning (events.Call cap request) (values.Question q) old x m ∷ past) m)
-          → ◌≡◌ {A = List Effect × State} (first, mid) (f, s) → Holds
-      go_on f s holds e = holds first mid later e
-
       -- one that is marked already, with its embargo
       next_holds : (n : ℕ) → mark_of old cap ≡ Some (Some n) → Go (called old q kinds.Local) call (routes.Wait (gates.Embargo n)) (Ok (first, mid)) → Holds
       next_holds n mark goes = by first mid later (ok_in _ _ goes)

@@ -128,11 +128,11 @@ awaited_question old q w (Some entry) is e =
     let value = question_open old None [] w q entry is by.0 own (get old.values.questions q) refl (w.questions_valued q) in
     (value.0, value.1, value.2, (sound_within old None [] w).opens.open_questions q value.0 value.1 value.2)
 
-awaited : (old : State) (origin : Origin) → Within old None [] → awaits old origin ≡ true → IsUngiven old origin
+pub awaited : (old : State) (origin : Origin) → Within old None [] → awaits old origin ≡ true → IsUngiven old origin
 awaited old (origins.Answer a) w e = awaited_answer old a w (get old.entries.answers a) refl e
 awaited old (origins.Own q) w e = awaited_question old q w (get old.entries.questions q) refl e
 
-both_of : (a b : Bool) → not (a && b) ≡ false → a ≡ true
+pub both_of : (a b : Bool) → not (a && b) ≡ false → a ≡ true
 both_of true b e = refl
 both_of false b e = absurd (true≢false e)
 

@@ -111,10 +111,6 @@ pub record IsDone (s : State) (origin : Origin) (outcome : Outcome) (done : Done
   pub over : given_to done.1.waiting.over origin ≡ Some outcome
   pub quiet : (t : State) → flat_map (exit_by t) done.0 ≡ []
 
-answer_over_is : (s : State) (a : ℕ) (outcome : Outcome) (answers : Table (Option Outcome)) (entries : Entries)
-    → get (insert s.waiting.over.answers a outcome) a ≡ Some outcome
-answer_over_is s a outcome answers entries = put_at s.waiting.over.answers a a outcome true (is_itself a)
-
 answer_by : (s : State) (a : ℕ) (outcome : Outcome) (kept : AnswerEntry) (stage : Stage) (done : Done) → GiveBy s a outcome kept stage (Ok done)
     → get s.values.answers a ≡ Some None → get s.waiting.over.answers a ≡ None → AreOpen s kept.tied → IsDone s (origins.Answer a) outcome done
 answer_by s a outcome kept stages.Open done gives open_ ungiven are =

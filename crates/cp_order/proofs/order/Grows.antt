@@ -27,18 +27,6 @@ pub record GrowsTo (values new : ValueMaps) : Type 0 where
   pub answers : (a : ℕ) (x : Option Outcome) → get values.answers a ≡ Some x → get new.answers a ≡ Some x
   pub questions : (q : ℕ) (x : Question) → get values.questions q ≡ Some x → get new.questions q ≡ Some x
 
-pub grows_both : (values between new : ValueMaps) → GrowsTo values between → GrowsTo between new → GrowsTo values new
-grows_both values between new one more =
-    record {
-      promises = λ p x is. more.promises p x (one.promises p x is);
-      imports = λ i x is. more.imports i x (one.imports i x is);
-      answers = λ a x is. more.answers a x (one.answers a x is);
-      questions = λ q x is. more.questions q x (one.questions q x is);
-    }
-
-pub grows_not : (values : ValueMaps) → GrowsTo values values
-grows_not values = record { promises = λ p x is. is; imports = λ i x is. is; answers = λ a x is. is; questions = λ q x is. is }
-
 -- a free number is taken
 pub put_grows : {X : Type 0} (table : Table X) (k : ℕ) (v : X) → get table k ≡ None → (q : ℕ) (x : X) → get table q ≡ Some x → get (insert table k v) q ≡ Some x
 put_grows table k v free q x is = by (k == q) refl

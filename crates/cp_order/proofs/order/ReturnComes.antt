@@ -36,7 +36,7 @@ use Rattle.cp_order.proofs.order.Grows.{grows_passes}
 use Rattle.cp_order.proofs.order.Removes.{question_goes}
 use Rattle.cp_order.proofs.order.Quiet.{closes_quietly}
 use Rattle.cp_order.proofs.order.OtherComes.{DoesQuietly, then_closes, exports_closes}
-use Rattle.cp_order.proofs.within.Take.{Grows, take_all_keeps}
+use Rattle.cp_order.proofs.within.Take.{Grows, take_all_keeps, grows_not}
 use Rattle.cp_order.proofs.within.Exports.{fewer_exports, lower_if}
 
 -- what is taken in grows, whatever became of the exports
@@ -57,29 +57,13 @@ pub record IsTakenIn (s : State) (taken : State) : Type 0 where
   pub within : Within taken None []
   pub grows : Grows s taken
 
-not_grown : (s : State) → Grows s s
-not_grown s =
-    record {
-      promises = λ p o is. is;
-      imports = λ i o is. is;
-      counted = λ i is. is;
-      answering = λ a is. is;
-      questions = refl;
-      answers = refl;
-      asked = refl;
-      exports = refl;
-      waiting = refl;
-      marks = refl;
-      tickets = refl;
-    }
-
 pub taken_in : (s : State) (returned : Returned) (taken : Outcome × State) → Within s None [] → s.waiting.over ≡ none_over → TakeReturned s returned (Ok taken) → IsTakenIn s taken.1
 taken_in s (returns.Results p) taken w none does =
     let parts = then_out {A = List Cap × State} {B = Outcome × State} (TakeAll s p.cap_table) _ taken does in
     let well = take_all_keeps None [] p.cap_table s parts.0 w none parts.1 in
     rw (ok_in _ _ parts.2) (record { within = well.0; grows = well.1 })
-taken_in s (returns.Exception x) taken w none does = rw (ok_in _ _ does) (record { within = w; grows = not_grown s })
-taken_in s returns.Canceled taken w none does = rw (ok_in _ _ does) (record { within = w; grows = not_grown s })
+taken_in s (returns.Exception x) taken w none does = rw (ok_in _ _ does) (record { within = w; grows = grows_not s })
+taken_in s returns.Canceled taken w none does = rw (ok_in _ _ does) (record { within = w; grows = grows_not s })
 taken_in s returns.ResultsSentElsewhere taken w none does = absurd does
 taken_in s other taken w none does = absurd does
 

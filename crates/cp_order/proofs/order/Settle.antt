@@ -146,7 +146,7 @@ AreOpen s (tied ∷ more) =
 pub one_more : (p : ℕ) (tied : Tied) (more : List Tied) → tied_to p (tied ∷ more) ≡ cond (tied.promise == p) 1 0 + tied_to p more
 one_more p tied more = sum_by-cons (λ t. cond (t.promise == p) 1 0) tied more
 
-not_tied : (p : ℕ) (tied : Tied) (more : List Tied) (b : Bool) → (tied.promise == p) ≡ b → tied_to p (tied ∷ more) ≡ 0 → ((tied.promise == p) ≡ false) × (tied_to p more ≡ 0)
+pub not_tied : (p : ℕ) (tied : Tied) (more : List Tied) (b : Bool) → (tied.promise == p) ≡ b → tied_to p (tied ∷ more) ≡ 0 → ((tied.promise == p) ≡ false) × (tied_to p more ≡ 0)
 not_tied p tied more true t e =
     let all : tied_to p (tied ∷ more) ≡ 1 + tied_to p more = one_more p tied more ∙ ap (λ c. cond c 1 0 + tied_to p more) t in
     absurd (none_is (tied_to p more) (sym all ∙ e))

@@ -130,16 +130,16 @@ module _ {X : Type 0} (f : X → ℕ) (q : ℕ) (x : X) where
   within_all [] is = none_out is
   within_all (e ∷ es) is = omega (arith, within_by e es (eq_by_cmp nat_cmp q e.0) (within_all es) is, sum_by-cons f e.1 (map (λ e. e.1) es))
 
-  within_table : (table : Table X) → get table q ≡ Some x → f x ≤ sum_by f (map (λ e. e.1) (entries table))
+  pub within_table : (table : Table X) → get table q ≡ Some x → f x ≤ sum_by f (map (λ e. e.1) (entries table))
   within_table table is = within_all (entries table) (sym (get-entries table q) ∙ is)
 
 -- a promise that is tied once, and once at most
-is_open : (o : Option (Option Cap)) → is_unsettled o ≡ true → o ≡ Some None
+pub is_open : (o : Option (Option Cap)) → is_unsettled o ≡ true → o ≡ Some None
 is_open None h = absurd (true≢false (sym h))
 is_open (Some None) h = refl
 is_open (Some (Some value)) h = absurd (true≢false (sym h))
 
-tied_once : (unsettled own : Bool) (n : ℕ) → 1 + n ≤ one_if (unsettled && own) → (unsettled ≡ true) × (n ≡ 0)
+pub tied_once : (unsettled own : Bool) (n : ℕ) → 1 + n ≤ one_if (unsettled && own) → (unsettled ≡ true) × (n ≡ 0)
 tied_once true true n h = (refl, omega (arith, h))
 tied_once true false n h = absurd (never n h)
   where

@@ -102,11 +102,11 @@ pub record VatKeeps : Type 0 where
   pub goes : GoesWithin
 
 -- where waiting calls have left, it holds between events
-abbrev LeftLocal : Result State PeerFault → Type 0
+abbrev pub LeftLocal : Result State PeerFault → Type 0
 LeftLocal (Ok last) = Local last
 LeftLocal (Err fault) = Unit {0}
 
-leave_local : GoesWithin → {old : State} {all : List Effect} {out : Result State PeerFault} → Leave old all out → Within old None [] → LeftLocal out
+pub leave_local : GoesWithin → {old : State} {all : List Effect} {out : Result State PeerFault} → Leave old all out → Within old None [] → LeftLocal out
 leave_local keeps {old = old} (stays none) within = within_is_local old within none
 leave_local keeps {old = old} (leaves {mid = mid} {first = first} call cap next goes rest is) within = leave_local keeps rest (keeps old mid call cap first within next goes)
 leave_local keeps (finds_table_full call cap next goes) within = tt

@@ -8,7 +8,6 @@ use Rattle.cp_refs.specs.declared.call.Held.{Held}
 use Rattle.cp_refs.specs.declared.route.Gate.{Gate}
 use Rattle.cp_refs.specs.declared.route.Gate.TheVariants as gates
 use Rattle.cp_refs.specs.declared.route.Route.{Route}
-use Rattle.cp_refs.specs.declared.route.Route.TheVariants as routes
 use Rattle.cp_machine.specs.State.{State, gave}
 use Rattle.cp_machine.specs.Go.{IsNext}
 use Rattle.cp_machine.specs.Trace.{Turn, goes}
@@ -16,7 +15,7 @@ use Rattle.cp_machine.specs.Ports.{Name, Port, calls_of, port_of, PortRoute, abs
 use Rattle.cp_machine.specs.Exits.{exits_in}
 use Rattle.cp_machine.specs.InOrder.{has_left}
 use Rattle.cp_machine.specs.declared.effect.Effect.{Effect}
-use Rattle.cp_order.specs.OrderKept.{Stands, LeadsBy, Leads, WaitsFor, AreOfOne, OrderHolds}
+use Rattle.cp_order.specs.OrderKept.{LeadsBy, Leads, WaitsFor, AreOfOne, OrderHolds}
 use Rattle.cp_machine.proofs.Basics.{some_out, none_out, is_itself, gone_at}
 use Rattle.cp_order.proofs.order.Basics.{there_is}
 use Rattle.cp_order.proofs.order.Passes.{Sound, Passes}
@@ -29,13 +28,6 @@ use Rattle.cp_order.proofs.order.Turn.{ExitsNow, Turned}
 -- the turn of a call that goes
 abbrev pub going : State → Held → List Effect → State → Turn
 going old call first mid = record { cause = goes call; before = old; effects = first; after = mid }
-
--- a gate that is over isn't one that stands
-over_stands : (s : State) (g : Gate) (r : Route) → Stands s g r → ((n : ℕ) → g ≡ gates.Embargo n → ⊥) → r ≡ routes.Wait g
-over_stands s (gates.Answer a path) r h never = h
-over_stands s (gates.Promise p) r h never = h
-over_stands s (gates.Question q path) r h never = h
-over_stands s (gates.Embargo n) r h never = absurd (never n refl)
 
 module _ (past : List Turn) (old : State) (call : Held) (cap : Cap) (route : Route) (first : List Effect) (mid : State) (sound : Sound old) (later : Sound mid)
     (passes : Passes old mid) (h : OrderHolds past old) (next : IsNext old call cap) (way : Routes old.values cap route) where

@@ -65,10 +65,7 @@ raised_is old cap out (opened e none (free n unused small room)) =
     ((1, Rattle.cp_tables.proofs.TableLemmas.get-insert_same old.counts.exports e (new_counted cap)), λ f c here. opened_stays old e cap unused f (e == f) refl c here)
 raised_is old cap out (has_no_capacity none is) = tt
 
--- What a way comes to, it leads to; a promise that it comes to is open.
-abbrev Comes : ValueMaps → Cap → Cap → Type 0
-Comes values c last = LeadsTo values c last
-
+-- what a way comes to, it leads to
 comes_by : (values : ValueMaps) (n : ℕ) (c last : Cap) (w : Way) → ((next : Cap) → end_within n values next ≡ Some last → LeadsTo values next last) → way values c ≡ w
     → end_by (λ next. end_within n values next) c w ≡ Some last → LeadsTo values c last
 comes_by values n c last (ends r) more is e = (0, some_out e)

@@ -36,11 +36,11 @@ use Rattle.cp_order.proofs.telling.Silent.{IsSilent, bootstrap_silent, promise_s
 use Rattle.cp_order.proofs.telling.Told.{TellsFailure, going_tells, resting_tells, silent_fails, given_tells}
 use Rattle.cp_order.proofs.telling.Enters.{call_tells, on_call_tells}
 use Rattle.cp_order.proofs.telling.ReturnComes.{bootstrap_tells, return_tells}
-use Rattle.cp_order.proofs.order.Step.{VatKeeps}
+use Rattle.cp_order.proofs.order.Step.{VatKeeps, leave_local}
 use Rattle.cp_order.proofs.order.Leave.{GoesWithin}
 use Rattle.cp_machine.proofs.NewVats.{new_local}
 use Rattle.cp_order.proofs.order.Runs.{vat_keeps, runs_are_orderly}
-use Rattle.cp_order.proofs.within.Between.{local_is_within, within_is_local}
+use Rattle.cp_order.proofs.within.Between.{local_is_within}
 use Rattle.cp_machine.specs.Give.{Give}
 use Rattle.cp_machine.specs.Doing.{answer_refusals}
 
@@ -115,15 +115,6 @@ leave_tells keeps {old = old} (stays none) past within h = (resting_tells old, h
 leave_tells keeps {old = old} (leaves {mid = mid} {first = first} call cap next goes rest is) past within h =
     leave_tells keeps rest (going old call first mid ∷ past) (keeps old mid call cap first within next goes) (going_tells old call cap first mid within next goes, h)
 leave_tells keeps (finds_table_full call cap next goes) past within h = h
-
-abbrev LeftLocal : Result State PeerFault → Type 0
-LeftLocal (Ok last) = Local last
-LeftLocal (Err fault) = Unit {0}
-
-leave_local : GoesWithin → {old : State} {all : List Effect} {out : Result State PeerFault} → Leave old all out → Within old None [] → LeftLocal out
-leave_local keeps {old = old} (stays none) within = within_is_local old within none
-leave_local keeps {old = old} (leaves {mid = mid} {first = first} call cap next goes rest is) within = leave_local keeps rest (keeps old mid call cap first within next goes)
-leave_local keeps (finds_table_full call cap next goes) within = tt
 
 -- the turns of events tell, and the vat is closed or it holds between them
 abbrev TellOrClosed : List Turn → State → Type 0

@@ -1,7 +1,7 @@
 -- What holds of all capabilities that a vat keeps, where one of its parts changes.
-use Rattle.std.specs.Prelude.{◌≡◌, ℕ, zero, suc, List, [], ◌∷◌, slice_index_or, Option, Some, None, IfSome}
+use Rattle.std.specs.Prelude.{◌≡◌, ℕ, zero, suc, List, [], ◌∷◌, slice_index_or, Option, Some}
 use Rattle.std.specs.List.{AllByRecursion}
-use Rattle.std.specs.FinMap.{get, insert, remove}
+use Rattle.std.specs.FinMap.{insert, remove}
 use Rattle.std.proofs.Common.{inl, inr, ap, ◌∙◌}
 use Rattle.cp_tree.specs.Node.{Node}
 use Rattle.cp_tree.specs.Node as nodes
@@ -36,10 +36,6 @@ module _ (P : Cap → Type 0) where
   at_path (outcomes.Results content table) path none broken all = in_table table (node_along content path) none all
   at_path (outcomes.Failed x) path none broken all = broken x
   at_path outcomes.Canceled path none broken all = broken _
-
-  some_outcome : (a : ℕ) (given : Option Outcome) (outcome : Outcome) → ((o : Outcome) → given ≡ Some o → AllByRecursion P (caps_of o)) → given ≡ Some outcome
-      → AllByRecursion P (caps_of outcome)
-  some_outcome a given outcome here is = here outcome is
 
   -- values where one is new, or gone
   module _ (values : ValueMaps) (h : AreValues P values) where
@@ -154,22 +150,4 @@ module _ (P Q : Cap → Type 0) (values : ValueMaps) (calls : Table Held) (embar
             (λ t call is. all_of P Q call.request.caps f);
         embargoes_ = each_kept (λ n. P) (λ n. Q) embargoes 0 h.embargoes_ (λ n c is. f c);
         exports_ = each_kept (λ e entry. P entry.kept) (λ e entry. Q entry.kept) exports 0 h.exports_ (λ e entry is. f entry.kept);
-      }
-
-  if_both : {X : Type 0} (A B : X → Type 0) (o : Option X) → IfSome o A → IfSome o B → IfSome o (λ x. A x × B x)
-  if_both A B None h k = tt
-  if_both A B (Some x) h k = (h, k)
-
-  if_all : (o : Option Held) → IfSome o (λ call. AllByRecursion P call.request.caps) → IfSome o (λ call. AllByRecursion Q call.request.caps)
-      → IfSome o (λ call. AllByRecursion (λ c. P c × Q c) call.request.caps)
-  if_all None h k = tt
-  if_all (Some call) h k = both_all P Q call.request.caps h k
-
-  pub kept_both : AreKept P values calls embargoes exports → AreKept Q values calls embargoes exports → AreKept (λ c. P c × Q c) values calls embargoes exports
-  kept_both h k =
-      record {
-        values_ = values_both P Q values h.values_ k.values_;
-        calls_ = λ t. if_all (get calls t) (h.calls_ t) (k.calls_ t);
-        embargoes_ = λ n. if_both P Q (get embargoes n) (h.embargoes_ n) (k.embargoes_ n);
-        exports_ = λ e. if_both (λ entry. P entry.kept) (λ entry. Q entry.kept) (get exports e) (h.exports_ e) (k.exports_ e);
       }

@@ -48,9 +48,6 @@ forwards_one a (Some b) is = by (b == a) refl is
     by true t is = ap (λ n. Some n) (is_equal b a t)
     by false t is = absurd (true≢false (sym (rw t at is)))
 
-pub forwards_it : (a : ℕ) (entry : Exchange QuestionEntry) → entry.kept.forwards ≡ Some a → is_forwarding a entry ≡ true
-forwards_it a entry is = rw (is, is_itself a) refl
-
 module _ {s : State} {hand : Option Origin} {next : List Tied} (h : Within s hand next) where
   -- no call waits of an origin that isn't open, and none is forwarded
   pub none_waits : (origin : Origin) → ((ticket : ℕ) → IsTicketOf s origin ticket → ⊥) → waiting_of s origin ≡ 0

@@ -320,9 +320,6 @@ returns_keeps s hand (outcomes.Results content table) said h is =
 returns_keeps s hand (outcomes.Failed x) said h is = rw (ok_in _ _ is) (h, refl)
 returns_keeps s hand outcomes.Canceled said h is = rw (ok_in _ _ is) (h, refl)
 
-pub fit_exports : (s : State) (exports : Table (Counted Cap)) (c : Cap) → IsFit s c → IsFit (with_exports s exports) c
-fit_exports s exports c f = f
-
 pub to_give_exports : (s : State) (exports : Table (Counted Cap)) (hand : Option Origin) (a : ℕ) → IsToGive s hand a → IsToGive (with_exports s exports) hand a
 to_give_exports s exports hand a to = record { alone = to.alone; waits = to.waits; forwarded = to.forwarded }
 

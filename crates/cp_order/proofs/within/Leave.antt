@@ -1,5 +1,5 @@
 -- How waiting calls leave.
-use Rattle.std.specs.Prelude.{◌≡◌, refl, ℕ, ◌+◌, ◌==◌, cond, Bool, true, false, List, [], Option, Some, None, is_some, Result, Ok, Err}
+use Rattle.std.specs.Prelude.{◌≡◌, refl, ℕ, ◌+◌, ◌==◌, cond, Bool, true, false, List, [], Some, None, Result, Ok, Err}
 use Rattle.std.specs.List.{AllByRecursion}
 use Rattle.std.specs.FinMap.{get}
 use Rattle.std.proofs.Common.{arith, ap, sym, ◌∙◌}
@@ -26,9 +26,6 @@ use Rattle.cp_order.proofs.within.Between.{within_is_local}
 use Rattle.cp_order.proofs.within.Follows.{all_end}
 use Rattle.cp_order.proofs.within.Rest.{IsHere, hand_is}
 use Rattle.cp_order.proofs.within.Go.{plain_target, go_to_keeps}
-
-embargo_over : (o : Option Cap) (cap : Cap) → o ≡ Some cap → is_some o ≡ true
-embargo_over o cap is = ap is_some is
 
 -- A call whose gate is over is in hand.
 module _ {s : State} (h : Within s None []) (call : Held) (given : Cap) (next : IsNext s call given) where

@@ -1,10 +1,10 @@
 -- How descriptors are taken in.
-use Rattle.std.specs.Prelude.{◌≡◌, refl, ℕ, ◌+◌, ◌<◌, ◌^◌, ◌==◌, not, cond, ltb, ◌⊎◌, if◌then◌else◌, Bool, true, false, List, [], ◌∷◌, Option, Some, None, is_some, IsTrue, Result, Ok, Err}
+use Rattle.std.specs.Prelude.{◌≡◌, refl, ℕ, ◌+◌, ◌<◌, ◌^◌, ◌==◌, not, cond, ltb, if◌then◌else◌, Bool, true, false, List, [], ◌∷◌, Option, Some, None, is_some, Result, Ok, Err}
 use Rattle.std.specs.List.{AllByRecursion}
 use Rattle.std.specs.FinMap.{get, insert, values, get-empty}
 use Rattle.std.specs.Ordering.{nat_cmp}
 use Rattle.std.specs.FinSet as set
-use Rattle.std.proofs.Common.{inl, inr, arith, ap, sym, ◌∙◌, true≢false}
+use Rattle.std.proofs.Common.{arith, ap, sym, ◌∙◌, true≢false}
 use Rattle.std.proofs.lemmas.Bool.Decides.{nat_tests}
 use Rattle.std.proofs.lemmas.List.Sums.{sum_by_push}
 use Rattle.cp_tables.specs.Table.{Table}
@@ -377,11 +377,6 @@ given_answer (Some entry) v outcome is = by entry.stage is
 
 pub answer_given : (s : State) (a : ℕ) (outcome : Option Outcome) → answer_of s a ≡ Some outcome → get s.values.answers a ≡ Some outcome
 answer_given s a outcome is = given_answer (get s.entries.answers a) (get s.values.answers a) outcome is
-
-open_by : (stage : Stage) (o : Option (Option Outcome)) → unfinished stage o ≡ Some None → IsTrue (is_open_stage stage) ⊎ (o ≡ Some None)
-open_by stages.Open o is = inl refl
-open_by stages.Returned o is = inr is
-open_by stages.Finished o is = none_out is
 
 not_given : (entry : Exchange AnswerEntry) (o : Option (Option Outcome)) → AnswerIs (Some entry) o → o ≡ Some None → is_open_stage entry.stage ≡ true
 not_given entry o valued is = by (is_open_stage entry.stage) (rw is at valued)

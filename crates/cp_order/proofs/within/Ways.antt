@@ -1,14 +1,13 @@
 -- Ways of capabilities, where values change.
-use Rattle.std.specs.Prelude.{◌≡◌, refl, ℕ, zero, suc, ◌⊎◌, List, Option, Some, None, IsSome, is_some}
+use Rattle.std.specs.Prelude.{◌≡◌, refl, ℕ, zero, suc, ◌⊎◌, List, Option, Some, None, IsSome}
 use Rattle.std.specs.FinMap.{get}
-use Rattle.std.proofs.Common.{inl, inr, ap, sym, true≢false}
+use Rattle.std.proofs.Common.{inl, inr, sym, true≢false}
 use Rattle.cp_refs.specs.At.{cap_at}
-use Rattle.cp_refs.specs.Route.{Way, ends, leads, missing, promise_way, outcome_way, question_way, way, route_by, route_within, Routes, HasRoute}
+use Rattle.cp_refs.specs.Route.{Way, ends, leads, missing, promise_way, outcome_way, question_way, way, route_by, route_within, HasRoute}
 use Rattle.cp_refs.specs.Values.{ValueMaps}
 use Rattle.cp_refs.specs.declared.cap.Cap.{Cap}
 use Rattle.cp_refs.specs.declared.cap.Cap.TheVariants as caps
 use Rattle.cp_refs.specs.declared.outcome.Outcome.{Outcome}
-use Rattle.cp_refs.specs.declared.route.Route.{Route}
 use Rattle.cp_refs.specs.declared.values.Question.{Question}
 use Rattle.cp_refs.specs.declared.values.QuestionKind.{QuestionKind}
 use Rattle.cp_machine.specs.Say.{ComesTo, end_by, end_within}
@@ -20,27 +19,6 @@ HasEnd values w = (n : ℕ) × IsSome (route_by (λ next. route_within n values 
 
 pub route_of_end : (values : ValueMaps) (c : Cap) → HasEnd values (way values c) → HasRoute values c
 route_of_end values c h = (suc h.0, h.1)
-
-pub end_of_route : (values : ValueMaps) (c : Cap) → HasRoute values c → HasEnd values (leads c)
-end_of_route values c h = h
-
-by_end : (values : ValueMaps) (c : Cap) (n : ℕ) → IsSome (route_within n values c) → HasEnd values (way values c)
-by_end values c zero h = absurd (true≢false (sym h))
-by_end values c (suc n) h = (n, h)
-
-pub end_at : (values : ValueMaps) (c : Cap) → HasRoute values c → HasEnd values (way values c)
-end_at values c h = by_end values c h.0 h.1
-
--- a route and that there is one
-pub route_there : (values : ValueMaps) (c : Cap) (r : Route) → Routes values c r → HasRoute values c
-route_there values c r h = (h.0, ap is_some h.1)
-
-there_by : (values : ValueMaps) (c : Cap) (n : ℕ) (o : Option Route) → route_within n values c ≡ o → IsSome o → (r : Route) × Routes values c r
-there_by values c n None is h = absurd (true≢false (sym h))
-there_by values c n (Some r) is h = (r, (n, is))
-
-pub route_of : (values : ValueMaps) (c : Cap) → HasRoute values c → (r : Route) × Routes values c r
-route_of values c h = there_by values c h.0 (route_within h.0 values c) refl h.1
 
 -- A way is kept: where it ended it ends, and where it led on it ends, or leads on to the same.
 abbrev pub IsWayKept : ValueMaps → (Cap → Type 0) → Way → Way → Type 0

@@ -43,14 +43,6 @@ never_fits None [] h = h
 never_fits None (n ∷ rs) h = h
 never_fits (Some account) returns h = mistaken_at account.stage returns h
 
--- standings are told apart by their number
-abbrev pub number : Standing → ℕ
-number absent = 0
-number ungiven = 1
-number left_ungiven = 2
-number (given mentions) = 3
-number mistaken = 4
-
 -- no message opens or finishes an answer of this number
 abbrev pub NoneAbout : ℕ → List Message → Type 0
 NoneAbout q ms = AllByRecursion (λ m. (opens q m ≡ false) × (finishes q m ≡ false)) ms

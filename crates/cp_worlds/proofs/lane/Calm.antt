@@ -1,4 +1,4 @@
--- What keeps a lane: a part of an event, at the one end or the other, that has nothing to do with it.
+-- What keeps a lane: a part of an event, at its own end or at the other, that has nothing to do with it.
 use Rattle.std.specs.Prelude.{◌≡◌, ◌⊎◌, refl, ◌||◌, Bool, true, false, List, [], ◌∷◌, ◌++◌}
 use Rattle.std.specs.List.{list_any}
 use Rattle.std.proofs.Common.{ap, sym, ◌∙◌, true≢false}

@@ -79,9 +79,6 @@ module _ {X : Type 0} (made : List ℕ) (f : X → List ℕ) (xs ys : List X) (n
   pub lane_front : of_lane made (flat_map f xs) ≡ []
   lane_front = front_none made f (of_lane made (flat_map f xs)) (of_lane made (flat_map f ys)) (sym (lane_flat made f xs ys) ∙ none)
 
-  pub lane_back : of_lane made (flat_map f ys) ≡ []
-  lane_back = back_none made f (of_lane made (flat_map f xs)) (of_lane made (flat_map f ys)) (sym (lane_flat made f xs ys) ∙ none)
-
 -- of lists that are joined
 pub joined_back : (d b w y h ts ws ys : List ℕ) → w ++ y ≡ ts ++ (ws ++ ys) → d ++ b ++ w ++ y ++ h ≡ d ++ (b ++ ts) ++ ws ++ ys ++ h
 joined_back d b w y h ts ws ys is =

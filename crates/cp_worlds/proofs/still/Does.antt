@@ -338,11 +338,6 @@ asked_wired s q kind ticket is_sent =
     by r question o given_ (inl new) = none_out (ap (λ (x : Question). x.outcome) new.1 ∙ given_)
     by r question o given_ (inr old) = old.1
 
-pub called_refs : (s : State) (q : ℕ) (kind : QuestionKind) → RefsStay s (called s q kind)
-called_refs s q kind =
-    let h = asked_wired s q kind (Some s.next_ticket) false in
-    record { imports = h.imports; unresolved = h.unresolved; wired = h.wired }
-
 bootstrap_grows : (s : State) (done : OwnDone) → Within s None [] → DoBootstrap s (Ok done) → Grown s done.1 done.2
 bootstrap_grows s done h does =
     let parts = then_out {A = ℕ} {B = OwnDone} (Fresh s.entries.questions) _ done (or_full_out _ _ does) in

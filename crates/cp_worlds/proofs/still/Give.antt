@@ -36,7 +36,7 @@ use Rattle.cp_worlds.specs.Accounts.{is_finish_noted}
 use Rattle.cp_worlds.specs.Places.{NoneFinished}
 use Rattle.cp_worlds.specs.Tickets.{BearsTicket}
 use Rattle.cp_worlds.specs.Turns.{AreOpen}
-use Rattle.cp_worlds.proofs.waiting.Settle.{one_more}
+use Rattle.cp_order.proofs.order.Settle.{one_more}
 use Rattle.cp_worlds.proofs.still.Grows.{PlacesStay, Mails, TicketsStay, Grown, grown_both, ways_same, refs_same, tickets_same, no_mail, no_loop, silent, grown_none}
 use Rattle.cp_worlds.proofs.still.Say.{IsOpenCap, SaidAs, said_none, said_end, said_all, open_end, said_not, said_places, said_refs, said_tickets}
 

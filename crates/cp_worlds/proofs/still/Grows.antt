@@ -106,9 +106,6 @@ module _ (old new : ValueMaps) (h : WaysStay old new) where
   pub comes_import : (c : Cap) (i : ℕ) → ComesTo old c (caps.Import i) → ComesTo new c (caps.Import i)
   comes_import c i comes = (comes.0, end_on (caps.Import i) (λ f. refl) comes.0 c comes.1)
 
-  pub comes_object : (c : Cap) (k : ℕ) → ComesTo old c (caps.Object k) → ComesTo new c (caps.Object k)
-  comes_object c k comes = (comes.0, end_on (caps.Object k) (λ f. refl) comes.0 c comes.1)
-
 -- One after another.
 pub ways_both : {old mid new : ValueMaps} → WaysStay old mid → WaysStay mid new → WaysStay old new
 ways_both one more =

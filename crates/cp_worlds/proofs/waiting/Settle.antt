@@ -1,9 +1,8 @@
 -- Calls wait on rightly after a promise that is settled.
-use Rattle.std.specs.Prelude.{◌≡◌, refl, ℕ, zero, suc, ◌+◌, ◌==◌, cond, Bool, true, false, List, [], ◌∷◌, Some, None, Ok}
+use Rattle.std.specs.Prelude.{◌≡◌, refl, ℕ, zero, suc, ◌==◌, Bool, true, false, List, [], ◌∷◌, Some, None, Ok}
 use Rattle.std.specs.FinMap.{get, insert}
 use Rattle.std.proofs.Common.{arith, inl, inr, ap, subst, sym, ◌∙◌, true≢false}
 use Rattle.std.proofs.lemmas.Bool.Decides.{nat_tests}
-use Rattle.std.proofs.lemmas.List.Sums.{sum_by-cons}
 use Rattle.cp_rpc.specs.declared.descriptor.Descriptor.{Descriptor}
 use Rattle.cp_rpc.specs.declared.resolve.Resolution.{Resolution}
 use Rattle.cp_refs.specs.At.{cap_at}
@@ -27,6 +26,7 @@ use Rattle.cp_machine.proofs.Basics.{some_out, none_out, is_equal, other_number,
 use Rattle.cp_worlds.specs.Turns.{AreOpen, SettlingKeeps}
 use Rattle.cp_worlds.proofs.counts.rules.Say.{said_end}
 use Rattle.cp_worlds.proofs.waiting.Routes.{Moves, moved_rightly, moves_both, same_moves, Any, WayMoves, all_move, each_way, move_where, EndsOff, way_off, off_promise, off_question, NoOpenOver, no_open, none_leads}
+use Rattle.cp_order.proofs.order.Settle.{not_tied}
 
 pub same_back : (a b : ℕ) → (a == b) ≡ true → (b == a) ≡ true
 same_back a b e = grind (arith, nat_tests)
@@ -205,20 +205,6 @@ settle_keeps s p value done (last, comes, tells) open_ over =
     )
 
 -- the promises tied to an answer, one after another
-pub one_more : (p : ℕ) (tied : Tied) (more : List Tied) → tied_to p (tied ∷ more) ≡ cond (tied.promise == p) 1 0 + tied_to p more
-one_more p tied more = sum_by-cons (λ t. cond (t.promise == p) 1 0) tied more
-
-not_tied : (p : ℕ) (tied : Tied) (more : List Tied) (b : Bool) → (tied.promise == p) ≡ b → tied_to p (tied ∷ more) ≡ 0 → ((tied.promise == p) ≡ false) × (tied_to p more ≡ 0)
-not_tied p tied more true t e =
-    let all : tied_to p (tied ∷ more) ≡ 1 + tied_to p more = one_more p tied more ∙ ap (λ c. cond c 1 0 + tied_to p more) t in
-    absurd (none_is (tied_to p more) (sym all ∙ e))
-  where
-    none_is : (n : ℕ) → 1 + n ≡ 0 → ⊥
-    none_is n e = omega (arith, e)
-not_tied p tied more false t e =
-    let all : tied_to p (tied ∷ more) ≡ 0 + tied_to p more = one_more p tied more ∙ ap (λ c. cond c 1 0 + tied_to p more) t in
-    (t, omega (arith, all, e))
-
 still_open : (old mid : State) (p : ℕ) (tied : List Tied) → Beside old mid p → tied_to p tied ≡ 0 → AreOpen old.values tied → AreOpen mid.values tied
 still_open old mid p [] beside none are = tt
 still_open old mid p (tied ∷ more) beside none are =

@@ -1,13 +1,12 @@
--- Calls wait on rightly after one turn.
-use Rattle.std.specs.Prelude.{◌≡◌, refl, ℕ, zero, suc, ◌==◌, Bool, true, false, List, Option, Some, None, IfSome, Ok}
+-- Calls wait on rightly after one turn of waiting calls.
+use Rattle.std.specs.Prelude.{◌≡◌, refl, ℕ, ◌==◌, Bool, true, false, List, Option, Some, None, IfSome, Ok}
 use Rattle.std.specs.FinMap.{get, remove}
 use Rattle.std.proofs.Common.{ap, sym, ◌∙◌}
 use Rattle.cp_tables.specs.Table.{Table}
 use Rattle.cp_rpc.specs.declared.descriptor.Descriptor.{Descriptor}
 use Rattle.cp_rpc.specs.declared.target.Target.{Target}
 use Rattle.cp_rpc.specs.declared.target.Target.TheVariants as targets
-use Rattle.cp_refs.specs.Route.{Way, ends, leads, missing, way, route_by, route_within, Routes}
-use Rattle.cp_refs.specs.Values.{ValueMaps}
+use Rattle.cp_refs.specs.Route.{way, Routes}
 use Rattle.cp_refs.specs.declared.cap.Cap.{Cap}
 use Rattle.cp_refs.specs.declared.call.Held.{Held}
 use Rattle.cp_refs.specs.declared.call.Origin.{Origin}
@@ -28,21 +27,7 @@ use Rattle.cp_worlds.specs.Turns.{NoneLeadsToOver, MayGo, TurnKeeps}
 use Rattle.cp_worlds.proofs.counts.rules.Say.{said_all}
 use Rattle.cp_worlds.proofs.waiting.Routes.{open_gate, no_open, none_leads}
 use Rattle.cp_worlds.proofs.waiting.Fail.{given_keeps, left_ungiven}
-
--- a capability has one route
-one_by : (f g : Cap → Option Route) (w : Way) (r s : Route) → ((c : Cap) (r s : Route) → f c ≡ Some r → g c ≡ Some s → r ≡ s) → route_by f w ≡ Some r → route_by g w ≡ Some s → r ≡ s
-one_by f g (ends route) r s same e h = sym (some_out e) ∙ some_out h
-one_by f g (leads c) r s same e h = same c r s e h
-one_by f g missing r s same e h = none_out e
-
-one_within : (m n : ℕ) (values : ValueMaps) (c : Cap) (r s : Route) → route_within m values c ≡ Some r → route_within n values c ≡ Some s → r ≡ s
-one_within zero n values c r s e h = none_out e
-one_within (suc m) zero values c r s e h = none_out h
-one_within (suc m) (suc n) values c r s e h =
-    one_by (λ next. route_within m values next) (λ next. route_within n values next) (way values c) r s (λ next. one_within m n values next) e h
-
-one_route : (values : ValueMaps) (c : Cap) (r s : Route) → Routes values c r → Routes values c s → r ≡ s
-one_route values c r s one other = one_within one.0 other.0 values c r s one.1 other.1
+use Rattle.cp_order.proofs.order.Routes.{one_route}
 
 -- what waiting rightly looks at: values, gates that are over, embargoes and the calls
 pub record SameBut (old mid : State) : Type 0 where

@@ -1,4 +1,4 @@
--- Rules taken apart, and tables with one entry changed.
+-- Accounts that differ in nothing are the same.
 use Rattle.std.specs.Prelude.{◌≡◌, ℕ}
 use Rattle.cp_worlds.specs.Accounts.{Accounts}
 

@@ -1,13 +1,11 @@
 -- What the application does at the other end keeps a lane.
-use Rattle.std.specs.Prelude.{◌≡◌, refl, ℕ, ◌+◌, ◌<◌, ◌==◌, not, ◌&&◌, cond, Bool, true, false, List, [], ◌∷◌, ◌++◌, flat_map, Option, Some, None, is_some, Ok, Err}
+use Rattle.std.specs.Prelude.{◌≡◌, refl, ℕ, ◌+◌, ◌<◌, ◌==◌, cond, Bool, true, false, List, [], ◌∷◌, ◌++◌, flat_map, Option, Some, None, is_some, Ok, Err}
 use Rattle.std.specs.List.{list_any}
 use Rattle.std.specs.FinMap.{get, insert, values, get-empty}
 use Rattle.std.specs.Ordering.{nat_cmp}
 use Rattle.std.proofs.Common.{arith, inl, inr, ap, sym, ◌∙◌, true≢false}
 use Rattle.cp_tables.specs.Exchange.{new_exchange}
 use Rattle.cp_tables.specs.declared.exchange.Exchange.{Exchange}
-use Rattle.cp_tables.specs.declared.exchange.Stage.{Stage}
-use Rattle.cp_tables.specs.declared.exchange.Stage.TheVariants as stages
 use Rattle.cp_rpc.specs.declared.message.Message.{Message}
 use Rattle.cp_rpc.specs.declared.message.Message.TheVariants as messages
 use Rattle.cp_refs.specs.declared.cap.Cap.{Cap}
@@ -29,15 +27,14 @@ use Rattle.cp_machine.specs.Then.{Done}
 use Rattle.cp_machine.specs.Capacity.{Fresh}
 use Rattle.cp_machine.specs.Calling.{asked, called, own_call, mark_of, with_mark, marked, has_mark_capacity, disembargo_of, FirstEmbargoed, GoBack, GoByValue, GoFrom, plain, on_wire, came_to, reference_of, OwnDone, Opens, call_refusals, DoCall}
 use Rattle.cp_machine.specs.Calling as calling
-use Rattle.cp_machine.specs.Doing.{is_ungiven, is_ungiven_answer, is_ungiven_question, awaits, answer_refusals, promise_made, is_made, is_settled, resolve_refusals, value_refusals, Resolves}
+use Rattle.cp_machine.specs.Doing.{awaits, answer_refusals, promise_made, is_made, is_settled, resolve_refusals, value_refusals, Resolves}
 use Rattle.cp_machine.specs.Give.{Settle, Give}
 use Rattle.cp_machine.specs.InUse.{has_promise}
 use Rattle.cp_machine.specs.Step.{Does}
 use Rattle.cp_machine.specs.Go.{Underway, held_at, Go, GoTo}
-use Rattle.cp_machine.specs.Local.{AreOne, Local, is_open_stage, one_if, waiting_of, IsOpenIf}
+use Rattle.cp_machine.specs.Local.{AreOne, Local}
 use Rattle.cp_machine.specs.declared.effect.Effect.{Effect}
 use Rattle.cp_machine.specs.declared.effect.Effect.TheVariants as effects
-use Rattle.cp_machine.specs.declared.entry.AnswerEntry.{AnswerEntry}
 use Rattle.cp_machine.specs.declared.entry.QuestionEntry.{QuestionEntry}
 use Rattle.cp_machine.specs.declared.event.Event.{Event}
 use Rattle.cp_machine.specs.declared.event.Event.TheVariants as events
@@ -45,10 +42,8 @@ use Rattle.cp_machine.specs.declared.fault.PeerFault.TheVariants as peer_faults
 use Rattle.cp_machine.specs.declared.fault.VatFault.{VatFault}
 use Rattle.cp_machine.proofs.Basics.{none_out, ok_in, ok_out, then_out, unless_out, or_full_out, is_equal, is_itself, put_at}
 use Rattle.cp_order.specs.Within.{Within, WaitsFor}
-use Rattle.cp_order.specs.Within as within_specs
 use Rattle.cp_order.proofs.within.Between.{local_is_within}
-use Rattle.cp_order.proofs.order.Does.{quietly_out}
-use Rattle.cp_order.proofs.order.Sound.{answer_open, question_open, tied_open, sound_within}
+use Rattle.cp_order.proofs.order.Does.{quietly_out, awaited, both_of}
 use Rattle.cp_order.proofs.Tables.{there_of, put_cases, each_put, no_faults, front_empty, back_empty, not_met}
 use Rattle.cp_order.proofs.within.Follows.{none_valued}
 use Rattle.cp_order.proofs.order.Give.{IsUngiven}
@@ -362,47 +357,6 @@ module _ (s : State) (w : Within s None []) (none_over_ : s.waiting.over ≡ non
   from_chain cap on_wire done goes =
       let parts = then_out {A = State} {B = Done} (λ mid. mid ≡ marked (called s q kinds.Wire) cap (mark_of s cap)) _ done goes in wired_at kinds.Wire cap parts.0 done parts.1 parts.2
   from_chain cap (came_to value) done goes = by_value cap value done goes
-
--- What is awaited wasn't given.
-ungiven_by : (is_delivered : Bool) (stage : Stage) → is_ungiven is_delivered stage ≡ true → (is_open_stage stage ≡ true) × (is_delivered ≡ true)
-ungiven_by d stages.Open e = (refl, e)
-ungiven_by d stages.Finished e = (refl, e)
-ungiven_by d stages.Returned e = absurd (true≢false (sym e))
-
-awaited_answer : (old : State) (a : ℕ) → Within old None [] → (o : Option (Exchange AnswerEntry)) → get old.entries.answers a ≡ o → is_ungiven_answer o ≡ true
-    → IsUngiven old (origins.Answer a)
-awaited_answer old a w None is e = absurd (true≢false (sym e))
-awaited_answer old a w (Some entry) is e =
-    let by = ungiven_by entry.kept.is_delivered entry.stage e in
-    let value = answer_open old None [] w a entry is by.0 (get old.values.answers a) refl (w.answers_valued a) in
-    (value, (sound_within old None [] w).opens.open_answers a value, rw (is) (tied_open old None w a entry is))
-
-own_by : (forwards : Option ℕ) (entry : Exchange QuestionEntry) → IsOpenIf forwards entry → (n : ℕ) → n + one_if entry.kept.is_delivered + one_if entry.kept.is_sent ≡ 1
-    → entry.kept.is_delivered ≡ true → forwards ≡ None
-own_by None entry h n place delivered = refl
-own_by (Some a) entry h n place delivered = absurd (never (rw (delivered, h.1) at place))
-  where
-    never : n + one_if true + one_if true ≡ 1 → ⊥
-    never e = omega (arith, e)
-
-awaited_question : (old : State) (q : ℕ) → Within old None [] → (o : Option (Exchange QuestionEntry)) → get old.entries.questions q ≡ o → is_ungiven_question o ≡ true
-    → IsUngiven old (origins.Own q)
-awaited_question old q w None is e = absurd (true≢false (sym e))
-awaited_question old q w (Some entry) is e =
-    let by = ungiven_by entry.kept.is_delivered entry.stage e in
-    let forwards = there_of (λ (x : Exchange QuestionEntry). IsOpenIf x.kept.forwards x) (get old.entries.questions q) entry is (w.forwarding q) in
-    let place = there_of (within_specs.HasQuestionPlace old None q) (get old.entries.questions q) entry is (w.questions q) in
-    let own = own_by entry.kept.forwards entry forwards (one_if (within_specs.is_in_hand None (origins.Own q)) + waiting_of old (origins.Own q)) (place by.0) by.1 in
-    let value = question_open old None [] w q entry is by.0 own (get old.values.questions q) refl (w.questions_valued q) in
-    (value.0, value.1, value.2, (sound_within old None [] w).opens.open_questions q value.0 value.1 value.2)
-
-awaited : (old : State) (origin : Origin) → Within old None [] → awaits old origin ≡ true → IsUngiven old origin
-awaited old (origins.Answer a) w e = awaited_answer old a w (get old.entries.answers a) refl e
-awaited old (origins.Own q) w e = awaited_question old q w (get old.entries.questions q) refl e
-
-both_of : (a b : Bool) → not (a && b) ≡ false → a ≡ true
-both_of true b e = refl
-both_of false b e = absurd (true≢false e)
 
 first_empty : {X : Type 0} (a b c d e : List X) → a ++ b ++ c ++ d ++ e ≡ [] → a ≡ []
 first_empty a b c d e is = front_empty a b (front_empty (a ++ b) c (front_empty (a ++ b ++ c) d (front_empty (a ++ b ++ c ++ d) e is)))

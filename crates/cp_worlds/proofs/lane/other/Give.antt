@@ -38,8 +38,7 @@ use Rattle.cp_worlds.specs.World.{messages_sent}
 use Rattle.cp_worlds.specs.Accounts.{is_finish_noted}
 use Rattle.cp_worlds.specs.Places.{NoneFinished}
 use Rattle.cp_worlds.specs.Naming.{is_echo}
-use Rattle.cp_worlds.specs.Lane.{Reference, import_, own_ticket, answer_forwarded}
-use Rattle.cp_worlds.specs.Phases.{tells}
+use Rattle.cp_worlds.specs.Lane.{import_, own_ticket, answer_forwarded}
 use Rattle.cp_worlds.proofs.still.Grows.{PlacesStay, places_both}
 use Rattle.cp_worlds.proofs.still.Say.{IsOpenCap, SaidAs, open_end, said_end, said_all, said_places}
 use Rattle.cp_worlds.proofs.still.Give.{SettledAs, settle_grows, returned_said, given_grows, open_last}
@@ -376,9 +375,6 @@ module _ (old : State) (q : ℕ) (outcome : Outcome) (question : Question) (is :
   own_over (gates.Promise r) cap at = at
   own_over (gates.Question r path) cap at = question_on r path cap (get old.waiting.over.questions r) refl at
   own_over (gates.Embargo n) cap at = at
-
-  no_tells : (ref : Reference) → list_any (tells ref) (messages_sent (effects.Settled q outcome ∷ [])) ≡ false
-  no_tells ref = refl
 
   pub own_kept : Silent old (effects.Settled q outcome ∷ []) own_then → KeptThere old (effects.Settled q outcome ∷ []) own_then
   own_kept silent =

@@ -1,4 +1,4 @@
--- Parts of an event at the other end in which no call of a lane moves: silent ones, and turns of calls that aren't of the lane.
+-- A turn at the other end of a call that isn't of the lane moves none of it.
 use Rattle.std.specs.Prelude.{◌≡◌, ◌⊎◌, refl, ℕ, ◌==◌, Bool, true, false, List, [], ◌∷◌, flat_map, Some, None}
 use Rattle.std.specs.List.{list_any, AllByRecursion}
 use Rattle.std.specs.FinMap.{get, insert, values}
@@ -17,8 +17,7 @@ use Rattle.cp_order.proofs.Tables.{every_of, put_cases, gone_cases}
 use Rattle.cp_worlds.specs.Ledger.{opens}
 use Rattle.cp_worlds.specs.World.{End, messages_sent}
 use Rattle.cp_worlds.specs.Lane.{own_ticket, answer_forwarded, stands_for}
-use Rattle.cp_worlds.specs.Phases.{of_lane, sent_for, forwarded_for, waits_for, stands_as, waits}
-use Rattle.cp_worlds.proofs.lane.Calm.{IsFront}
+use Rattle.cp_worlds.specs.Phases.{of_lane, forwarded_for, waits_for, stands_as, waits}
 use Rattle.cp_worlds.proofs.lane.other.Calm.{LevelThere}
 use Rattle.cp_worlds.proofs.lane.parts.Tables.{put_placed, gone_placed, lane_without}
 use Rattle.cp_worlds.proofs.lane.parts.Silent.{is_call, Silent}
@@ -48,24 +47,6 @@ none_forwarded here mid made (m ∷ ms) none = (by m (or_first (is_call m) (list
     by (messages.Call c) not_ = absurd (true≢false not_)
     by m not_ = refl
 
--- a silent part
-module _ (here there : End) (made : List ℕ) (mid : State) (inbox : List Message) (taken : IsFront (λ m. of_lane made (sent_for here.vat m) ≡ []) there.inbox inbox) where
-  calls_as_were : mid.waiting.calls ≡ there.vat.waiting.calls → (ticket : ℕ) (call : Held) → get mid.waiting.calls ticket ≡ Some call
-      → of_lane made (waits_for here.vat call.origin) ≡ [] ⊎ (get there.vat.waiting.calls ticket ≡ Some call)
-  calls_as_were same ticket call is = inr (sym (ap (λ m. get m ticket) same) ∙ is)
-
-  pub silent_there : (effects : List Effect) → Silent there.vat effects mid → LevelThere here there made mid inbox (messages_sent effects)
-  silent_there effects silent =
-      record {
-        waiting = ap (λ calls. of_lane made (flat_map (λ call. waits_for here.vat call.origin) (values calls))) silent.calls;
-        calls = calls_as_were silent.calls;
-        forwards = every_of (λ m. of_lane made (forwarded_for here.vat mid m) ≡ of_lane made (forwarded_for here.vat there.vat m)) here.inbox
-            (λ m. ap (of_lane made) (forwarded_same here.vat there.vat mid silent.bearing.forwards m));
-        held = λ ticket call is none. ap (of_lane made) (stands_as_same here.vat there.vat mid silent.bearing.forwards call.origin) ∙ none;
-        sends = none_forwarded here.vat mid made (messages_sent effects) silent.no_call;
-        taken = taken;
-      }
-
 -- A turn of a call that isn't of the lane. What is new under a question's number is none of the calls that the other end has, on the way or waiting.
 pub record IsFreshThere (here : End) (q : ℕ) : Type 0 where
   pub on_way : list_any (opens q) here.inbox ≡ false
@@ -76,9 +57,6 @@ module _ (here there : End) (made : List ℕ) (call : Held) (is : get there.vat.
     (own : (q : ℕ) → call.origin ≡ origins.Own q → answer_forwarded (get there.vat.entries.questions q) ≡ []) where
   abbrev left : State
   left = without_call there.vat call
-
-  wait_of : Held → List ℕ
-  wait_of held = waits_for here.vat held.origin
 
   gone_list : of_lane made (flat_map (λ held. waits_for here.vat held.origin) (values left.waiting.calls)) ≡ waits here there made
   gone_list = sym (lane_without made (λ held. waits_for here.vat held.origin) (gone_placed there.vat.waiting.calls call.ticket call is) none)
@@ -104,10 +82,6 @@ module _ (here there : End) (made : List ℕ) (call : Held) (is : get there.vat.
         | inl new ↦ inl (ap (λ (h : Held). of_lane made (waits_for here.vat h.origin)) (sym new.1) ∙ none)
         | inr old ↦ inr (gone_calls ticket held old.1)
       ]
-
-  -- what is sent for it
-  abbrev SentThere : Origin → ℕ → State → Type 0
-  SentThere origin q mid = SentFor origin left q mid
 
   forward_not : (mid : State) (q : ℕ) → ((r : ℕ) → (q == r) ≡ false → get mid.entries.questions r ≡ get left.entries.questions r) → list_any (opens q) here.inbox ≡ false
       → (xs : List Message) → list_any (opens q) xs ≡ false

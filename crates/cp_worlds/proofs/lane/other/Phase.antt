@@ -129,11 +129,6 @@ module _ (here there : End) (ref : Reference) (made : List ℕ) (mid : State) (i
       is_other closed says p =
           record { yet = p.yet; closed = closed; before = here.inbox ++ before; telling = telling; after = after; only = only_later here.inbox p.untold only; says = says }
 
-      -- So it may just when it is opened.
-      pub is_other_at_once : IsClosedPlace mid ref → IsOther here.vat (told_by ref telling) → Unopened here there ref made → ToldOther here_then there_then ref made
-      is_other_at_once closed says p =
-          record { yet = inl p.open_; closed = closed; before = here.inbox ++ before; telling = telling; after = after; only = only_later here.inbox p.untold only; says = says }
-
     -- Its Disembargo comes there and is echoed: no call is on the way there any more.
     pub is_echoed : (x echo : Message) → there.inbox ≡ x ∷ inbox → ms ≡ echo ∷ [] → ((e : ℕ) → EndsAt there.vat (place_of there.vat ref) e → EndsAt mid (place_of mid ref) e)
         → (p : Embargoed here there ref made) → is_loop p.embargo x ≡ true → is_echo p.embargo echo ≡ true → Echoed here_then there_then ref made

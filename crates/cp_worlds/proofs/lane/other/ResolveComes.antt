@@ -1,4 +1,4 @@
--- A Resolve, a Disembargo and a Return that the other end takes keep each lane.
+-- A Resolve and a Disembargo that the other end takes keep each lane.
 use Rattle.std.specs.Prelude.{◌≡◌, refl, ℕ, ◌==◌, not, Bool, true, false, List, [], ◌∷◌, Option, Some, None, is_some, Ok}
 use Rattle.std.specs.List.{list_any}
 use Rattle.std.specs.FinMap.{get, get-empty}

@@ -74,9 +74,6 @@ module _ (here : End) (s final : State) (rest : List Message) (known : IsThere h
   abbrev gone : State
   gone = without_question s q
 
-  abbrev told_it : Done
-  told_it = (finish_of q false ∷ [], gone)
-
   other_stands : (r : ℕ) → (q == r) ≡ false → stands_for here.vat gone r ≡ stands_for here.vat s r
   other_stands r other =
       ap (λ o. flat_map (λ question. own_ticket (get here.vat.entries.questions question)) (answer_forwarded o)) (gone_at s.entries.questions q r false other)

@@ -81,12 +81,6 @@ module _ (here : End) (s final : State) (m : Message) (rest : List Message) (kno
       })
       delivered lane)
 
-  pub take_elsewhere : (ref : Reference) (made : List ℕ) → IsElsewhere here with_it ref made → IsElsewhere here without_it ref made
-  take_elsewhere ref made (came_to_other p) = came_to_other p
-  take_elsewhere ref made (told_other p) =
-      told_other (record { yet = p.yet; closed = p.closed; before = p.before; telling = p.telling; after = p.after; only = p.only; says = p.says })
-  take_elsewhere ref made (hosted_there p) = hosted_there (record { yet = p.yet; hosted = p.hosted; untold = p.untold })
-
 -- What descriptors name is taken in.
 pub grows_kept : (s new : State) → Grows s new → KeptThere s [] new
 grows_kept s new h =

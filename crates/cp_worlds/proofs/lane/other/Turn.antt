@@ -193,15 +193,6 @@ go_steady old call (routes.Wait gate) done one fine goes =
     rw (ok_in _ _ goes) (record { values_ = refl; over = refl; exports = λ e c is. is; fresh = λ i none. inl none; untold = λ ref. refl; no_echo = λ n. refl })
 go_steady old call (routes.Fail x) done one fine goes = absurd fine
 
-steady_stays : (old : State) (done : Done) → Steady old done → AreOne old → (AreOne old → AreOne done.1) → PlacesStay old done.1
-steady_stays old done h one ones =
-    record {
-      ways = record { promises = λ p v is. ap (λ x. get x.promises p) h.values_ ∙ is; questions = λ q question o is given_. ap (λ x. get x.questions q) h.values_ ∙ is };
-      answers = λ a o is. ap (λ x. get x.answers a) h.values_ ∙ is;
-      exports = h.exports;
-      one_export = ones;
-    }
-
 over_same : (old new : State) → new.waiting.over ≡ old.waiting.over → OverStays old new
 over_same old new same gate cap is = rw (same) is
 

@@ -34,7 +34,6 @@ use Rattle.cp_worlds.specs.Naming.{is_loop, is_echo, AreLooped}
 use Rattle.cp_worlds.specs.Phases.{of_lane, sent_for, forwarded_for, waits_for, waits_as, stands_as, waits_here, sent_in, NoneHeld, AllWaitHere, HasTarget, opens_place, IsMarkedIf, IsUnheld, IsLocalOpen, Free, Marked, Embargoed, Echoed, LocalOpen, Phase, absent, unopened, unsettled, told, free, marked, embargoed, echoed, local_open, InLane, LaneHolds}
 use Rattle.cp_worlds.specs.Phases as phases
 use Rattle.cp_worlds.specs.Tickets.{TicketsHold}
-use Rattle.cp_worlds.proofs.still.Does.{fresh_value}
 use Rattle.cp_worlds.proofs.lane.parts.Tables.{put_placed, all_entries, lane_last}
 use Rattle.cp_worlds.proofs.lane.parts.Midway.{Midway, fresh_there}
 use Rattle.cp_worlds.proofs.lane.other.NotOfLane.{IsFreshThere}
@@ -85,9 +84,6 @@ module _ (s : State) (inbox : List Message) (there : End) (local_ : Local s) (th
 
   abbrev cap : Cap
   cap = cap_of ref
-
-  unvalued : get s.values.questions q ≡ None
-  unvalued = fresh_value midway.within q fresh
 
   -- What was under way is of the lane as before.
   module _ (done : List Effect) (new : State) (c : Called s q cap done new) (exports : (e : ℕ) (x : Cap) → IsExport s e x → IsExport new e x)

@@ -1,4 +1,4 @@
--- A part of an event at the one end that has nothing to do with a lane keeps it.
+-- A part of an event at its own end that has nothing to do with a lane keeps it.
 use Rattle.std.specs.Prelude.{◌≡◌, ◌⊎◌, refl, ℕ, Bool, false, List, [], ◌∷◌, ◌++◌, flat_map, Option, Some, None}
 use Rattle.std.specs.List.{list_any, AllByRecursion}
 use Rattle.std.specs.FinMap.{get}

@@ -90,9 +90,6 @@ module _ (here there : End) (ref : Reference) (made : List ℕ) (none : NoneOver
   forgotten_lane delivered holds = calm_here here there ref made later here.inbox [] calm delivered (absent_on delivered) holds
 
 -- one turn after another
-with_none : (there : End) → with_mail there [] ≡ there
-with_none there = ap (λ inbox. record there { inbox = inbox }) (append-nil there.inbox)
-
 with_both : (there : End) (first more : List Effect)
     → with_mail (with_mail there (messages_sent first)) (messages_sent more) ≡ with_mail there (messages_sent (first ++ more))
 with_both there first more =

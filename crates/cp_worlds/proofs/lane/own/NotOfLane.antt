@@ -1,4 +1,4 @@
--- Parts of an event at the one end in which no call of a lane moves: silent ones, and turns of calls that aren't of the lane.
+-- Parts of an event at its own end in which no call of a lane moves: silent ones, and turns of calls that aren't of the lane.
 use Rattle.std.specs.Prelude.{◌≡◌, ◌⊎◌, refl, ℕ, ◌==◌, Bool, true, false, List, [], ◌∷◌, ◌++◌, flat_map, Some, None}
 use Rattle.std.specs.List.{list_any, AllByRecursion}
 use Rattle.std.specs.FinMap.{get, insert, values}

@@ -6,8 +6,8 @@ use Rattle.cp_tables.specs.declared.exchange.Stage.TheVariants as stages
 use Rattle.cp_rpc.specs.declared.message.Message.{Message}
 use Rattle.cp_worlds.specs.Ledger.{opens, finishes}
 use Rattle.cp_worlds.specs.Accounts.{is_releasing}
-use Rattle.cp_worlds.specs.Lives.{Standing, absent, ungiven, left_ungiven, given, mistaken, opened, finished, stands_after, will_stand, FitsOpen, FitsReturned, FitsNone, Fits}
-use Rattle.cp_worlds.proofs.counts.Standing.{after_by, stays_mistaken}
+use Rattle.cp_worlds.specs.Lives.{Standing, absent, ungiven, left_ungiven, given, mistaken, opened, finished, stands_after, will_stand, FitsOpen, FitsNone, Fits}
+use Rattle.cp_worlds.proofs.counts.Standing.{after_by}
 
 -- How an answer may stand for good: where it was opened on the way, it won't be absent, nor will it be given.
 abbrev pub IsOpened : Standing → Type 0
@@ -64,14 +64,6 @@ none_fits (r ∷ rs) left_ungiven fits is = fits
 none_fits (r ∷ rs) (given mentions) fits is = fits
 none_fits (r ∷ rs) mistaken fits is = fits
 
-returned_fits : (returns : List (List ℕ)) (st : Standing) → FitsReturned returns st → IsOpened st → ⊥
-returned_fits [] absent fits is = fits
-returned_fits [] ungiven fits is = fits
-returned_fits [] left_ungiven fits is = fits
-returned_fits [] (given mentions) fits is = is
-returned_fits [] mistaken fits is = fits
-returned_fits (r ∷ rs) st fits is = fits
-
 by_any : (p : Message → Bool) (ms : List Message) → (list_any p ms ≡ true → ⊥) → list_any p ms ≡ false
 by_any p ms not_ = by (list_any p ms) refl
   where
@@ -81,10 +73,6 @@ by_any p ms not_ = by (list_any p ms) refl
 
 pub fresh_unopened : (q : ℕ) (returns : List (List ℕ)) (ms : List Message) (st : Standing) → Fits None returns (will_stand q ms st) → list_any (opens q) ms ≡ false
 fresh_unopened q returns ms st fits = by_any (opens q) ms (λ is. none_fits returns (will_stand q ms st) fits (will_open q ms st is))
-
-pub returned_unopened : (q : ℕ) (mentions : List ℕ) (returns : List (List ℕ)) (ms : List Message) (st : Standing)
-    → Fits (Some (record { stage = stages.Returned; kept = mentions })) returns (will_stand q ms st) → list_any (opens q) ms ≡ false
-returned_unopened q mentions returns ms st fits = by_any (opens q) ms (λ is. returned_fits returns (will_stand q ms st) fits (will_open q ms st is))
 
 -- Nor is one of which a Return is on the way, where it wasn't finished.
 pub open_fits : (r : List ℕ) (rs : List (List ℕ)) (st : Standing) → FitsOpen (r ∷ rs) st → IsOpened st → ⊥
@@ -102,14 +90,3 @@ open_fits r (s ∷ rs) mistaken fits is = fits
 pub returning_unopened : (q : ℕ) (mentions r : List ℕ) (rs : List (List ℕ)) (ms : List Message) (st : Standing)
     → Fits (Some (record { stage = stages.Open; kept = mentions })) (r ∷ rs) (will_stand q ms st) → list_any (opens q) ms ≡ false
 returning_unopened q mentions r rs ms st fits = by_any (opens q) ms (λ is. open_fits r rs (will_stand q ms st) fits (will_open q ms st is))
-
--- An answer that is there now isn't opened on the way, where its question fits: it would be mistaken.
-opened_wrong : (q : ℕ) (m : Message) (ms : List Message) (st : Standing) → opens q m ≡ true → (st ≡ absent → ⊥) → will_stand q (m ∷ ms) st ≡ mistaken
-opened_wrong q m ms st is not_ = rw (is, wrong st not_) (stays_mistaken q ms)
-  where
-    wrong : (st : Standing) → (st ≡ absent → ⊥) → opened st ≡ mistaken
-    wrong absent not_ = absurd (not_ refl)
-    wrong ungiven not_ = refl
-    wrong left_ungiven not_ = refl
-    wrong (given mentions) not_ = refl
-    wrong mistaken not_ = refl

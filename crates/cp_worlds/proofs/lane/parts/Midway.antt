@@ -23,7 +23,7 @@ use Rattle.cp_order.proofs.within.Between.{local_is_within}
 use Rattle.cp_order.proofs.within.Step.{does_within, receives_within}
 use Rattle.cp_worlds.specs.Accounts.{accounts_of}
 use Rattle.cp_worlds.specs.World.{End, messages_sent, with_mail}
-use Rattle.cp_worlds.specs.Lane.{own_ticket, answer_forwarded, IsStill}
+use Rattle.cp_worlds.specs.Lane.{own_ticket, IsStill}
 use Rattle.cp_worlds.specs.Lives.{standing_at, standing_of, will_stand, returns_of, Fits, Agree}
 use Rattle.cp_worlds.specs.Orderly.{IsOrderly}
 use Rattle.cp_worlds.specs.Phases.{gives_up}
@@ -102,14 +102,6 @@ fresh_there {s = s} {inbox = inbox} {other = other} h local_ q none =
         let stands : IsOpened (standing_of ((accounts_of other.vat).answers q)) = rw (whose.1) (open_standing whose.0.stage whose.0.kept.mentions whose.2) in
         none_fits (returns_of q inbox) (will_stand q other.inbox (standing_of ((accounts_of other.vat).answers q))) fits
         (will_stay q other.inbox (standing_of ((accounts_of other.vat).answers q)) stands)
-
--- the question of an own call that waits forwards nothing
-pub own_forwards_none : {s : State} → Within s None [] → (call : Held) (cap : Cap) → IsNext s call cap → (q : ℕ) → call.origin ≡ origins.Own q
-    → answer_forwarded (get s.entries.questions q) ≡ []
-own_forwards_none {s = s} h call cap next q from =
-    let waits = there_of (WaitsFor s call.ticket) (get s.waiting.calls call.ticket) call next.waits (h.waiting call.ticket) in
-    let whose : IsTicketOf s (origins.Own q) call.ticket = rw from at waits.2 in
-    rw (whose.1, whose.4) refl
 
 -- and bears its ticket
 pub own_ticket_is : {s : State} → Within s None [] → (call : Held) (cap : Cap) → IsNext s call cap → (q : ℕ) → call.origin ≡ origins.Own q

@@ -13,6 +13,7 @@ use Rattle.cp_tables.proofs.TableLemmas.{same_table, get-remove_same}
 use Rattle.cp_machine.proofs.Basics.{none_out, is_equal, put_at, gone_at}
 use Rattle.cp_worlds.specs.Phases.{of_lane}
 use Rattle.cp_worlds.proofs.lane.Lists.{lane_flat, lane_cons}
+use Rattle.cp_order.proofs.Tables.{sorted_first, sorted_rest}
 
 -- what stands before an entry, and after it
 pub record PlacedIn {X : Type 0} (es all : List (ℕ × X)) (k : ℕ) (v : X) : Type 0 where
@@ -33,20 +34,6 @@ module _ {X : Type 0} where
       by Less is more h = (rw is at (ranks k e.0), more (rw is at h))
       by Equal is more h = absurd (rw is at h)
       by Greater is more h = absurd (rw is at h)
-
-  sorted_first : (e : ℕ × X) (es : List (ℕ × X)) → T (is_sorted nat_cmp (e ∷ es)) → T (below_all nat_cmp e.0 es)
-  sorted_first e es h = by (below_all nat_cmp e.0 es) refl h
-    where
-      by : (b : Bool) → below_all nat_cmp e.0 es ≡ b → T (is_sorted nat_cmp (e ∷ es)) → T (below_all nat_cmp e.0 es)
-      by true is h = rw (is) tt
-      by false is h = absurd (rw is at h)
-
-  sorted_rest : (e : ℕ × X) (es : List (ℕ × X)) → T (is_sorted nat_cmp (e ∷ es)) → T (is_sorted nat_cmp es)
-  sorted_rest e es h = by (below_all nat_cmp e.0 es) refl h
-    where
-      by : (b : Bool) → below_all nat_cmp e.0 es ≡ b → T (is_sorted nat_cmp (e ∷ es)) → T (is_sorted nat_cmp es)
-      by true is h = rw is at h
-      by false is h = absurd (rw is at h)
 
   all_higher : (k n : ℕ) (es : List (ℕ × X)) → k < n → AllByRecursion (λ e. n < e.0) es → AllByRecursion (λ e. k < e.0) es
   all_higher k n [] less all = tt

@@ -1,0 +1,106 @@
+#!/usr/bin/env bash
+# nightly/run.sh FOLDER [PART..]    runs what the gate doesn't: all parts, or these, one after another. FOLDER, outside the
+#                                   repository, gets the programs that are built and a log of each part. A line for each part says how
+#                                   it ended, how long it took, its processor time, and the last line that it printed.
+#
+#   part      what it runs                                                     what it takes
+#   look      the first look, in a clean copy                                  half a minute
+#   memory    each test of allocation failures, once for each allocation       the proofs of seven crates with their tests, and minutes
+#   moves     100 seeds of 120 random moves of two vats                        a minute
+#   peers     sessions of C++ clients, and of peers at fault                   15 seconds
+#   sessions  15,000 random sessions with two servers                          ten minutes
+#   served    20 million messages of random sessions, served in memory         a minute, and half of one with the address sanitizer
+#   starved   1,000 random sessions, once for each of their allocations        five minutes
+#   fuzz      10 million frames by libFuzzer, and 600,000 with the sanitizer   two minutes on four processors
+#   edits     the edits of each must-fail-more/                                a proof of each of these crates, and hours
+#   plants    wrong bodies that rt makes up, in ten crates                     hours; wants a quiet machine, and its lines want reading
+#
+# Debian packages: g++ clang libclang-rt-14-dev make libcapnp-dev capnproto. Rattle's rt is in PATH.
+set -u
+here=$(cd "$(dirname "${BASH_SOURCE[0]}")" && pwd)
+root=$(dirname "$here")
+all=(look memory moves peers sessions served starved fuzz edits plants)
+planted=(cp_words cp_tables cp_writing cp_packed cp_frame cp_rpc cp_stream cp_refs cp_vat cp_serve)
+
+[ $# -ge 1 ] || { sed -n '2,/^# Debian/s/^# \{0,1\}//p' "$0" >&2; exit 2; }
+mkdir -p "$1" && folder=$(cd "$1" && pwd)
+shift
+kit=$(dirname "$(rt doc)")
+server=$root/crates/cp_cli/out/cp_cli
+
+crates_with() { (cd "$root/crates" && grep -rl "$1" -- */src | cut -d/ -f1 | sort -u); } # TEXT
+
+library() { "$root/tools/build.sh" bench_c; }
+
+built() { "$root/tools/build.sh" cp_cli; }
+
+fuzzers() { library && make -s -C "$here/fuzz" B="$folder" KIT="$kit" "${@/#/$folder/}"; } # PROGRAM..
+
+look() { "$root/tools/test_first_look.sh"; }
+
+memory() {
+    local crate
+    for crate in $(crates_with allocation_failure); do
+        (cd "$root/crates/$crate" && rt test) && "$here/memory/sweep.sh" "$root/crates/$crate/out/${crate}_tests" || return 1
+    done
+}
+
+moves() {
+    library && make -s -C "$here/moves" BUILD="$folder" KIT="$kit" "$folder/play" && "$here/moves/moves.py" "$folder/play" --seeds 100 --moves 120
+}
+
+peers() { built && "$here/peers/run.sh" "$server" "$folder"; }
+
+sessions() { built && "$here/fuzz/sessions.sh" "$server" "$folder" 15000 7; }
+
+served() { fuzzers served served-asan && "$folder/served" 11 20000000 && "$folder/served-asan" 21 1000000; }
+
+starved() { fuzzers starved && "$folder/starved" 3 1000; }
+
+one_fuzzer() { # PROGRAM NUMBER RUNS
+    mkdir -p "$folder/$1.$2/kept" && cd "$folder/$1.$2" || return 1
+    nice -n 10 "../$1" -seed="$2" -runs="$3" -max_len=2048 -timeout=300 -keep_seed=1 -reduce_inputs=0 kept ../seeds >log 2>&1
+}
+
+fuzz() {
+    local number program processors runs failed=0
+    fuzzers fuzz fuzz-asan seeds || return 1
+    processors=$(nproc)
+    for program in fuzz fuzz-asan; do
+        [ "$program" = fuzz ] && runs=10000000 || runs=600000
+        for number in $(seq "$processors"); do
+            (one_fuzzer "$program" "$number" "$((runs / processors))") &
+        done
+        for number in $(jobs -p); do wait "$number" || failed=1; done
+        tail -n 2 "$folder/$program".*/log
+    done
+    return "$failed"
+}
+
+edits() {
+    local it failed=0
+    for it in "$root"/crates/*/must-fail-more; do
+        "$root/tools/edits.sh" "$(basename "$(dirname "$it")")" || failed=1
+    done
+    return "$failed"
+}
+
+plants() {
+    local crate
+    for crate in "${planted[@]}"; do
+        (cd "$root/crates/$crate" && rt plant --minutes 60) || return 1
+    done
+}
+
+failed=0
+TIMEFORMAT='%R %U %S'
+[ $# -gt 0 ] || set -- "${all[@]}"
+for part; do
+    [[ " ${all[*]} " == *" $part "* ]] || { echo "no part $part: ${all[*]}" >&2; exit 2; }
+done
+for part; do
+    read -r seconds user system < <({ time { "$part" >"$folder/$part.log" 2>&1; echo "$?" >"$folder/$part.status"; }; } 2>&1 | tail -n 1)
+    [ "$(cat "$folder/$part.status")" = 0 ] && how=passed || how=FAILED failed=1
+    printf '%-9s %s in %.0f s, %.0f s of processors: %s\n' "$part" "$how" "$seconds" "$(echo "$user + $system" | bc)" "$(tail -n 1 "$folder/$part.log")"
+done
+exit "$failed"
