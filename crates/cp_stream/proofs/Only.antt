@@ -62,7 +62,7 @@ no_fault_nil limits frames.RunPastFrame h = h
 no_fault_nil limits frames.Failed h = h
 no_fault_nil limits frames.OutOfMemory h = h
 
-open_nil : (mode : Mode) (limits : Bounds) → streams.Open mode limits []
+pub open_nil : (mode : Mode) (limits : Bounds) → streams.Open mode limits []
 open_nil modes.Plain limits = record { no_front = no_front_nil limits; no_fault = λ fault h. no_fault_nil limits fault (plain_fault limits [] fault h) }
 open_nil modes.Packed limits = open_packed limits [] [] nothing tt (record { words = refl; open_then = refl }) pending_nothing (no_front_nil limits) tt
 

@@ -1,0 +1,57 @@
+-- What a call of the application, or a message of the peer, does to a connection.
+use Rattle.std.specs.Prelude.{◌≡◌, ◌≢◌, ◌⊎◌, ℕ, if◌then◌else◌, List, ◌++◌, Option, Some, None, Result, Ok, Err, length}
+use Rattle.cp_machine.specs.Step.{Step}
+use Rattle.cp_machine.specs.declared.effect.Effect.{Effect}
+use Rattle.cp_machine.specs.declared.event.Event.{Event}
+use Rattle.cp_machine.specs.declared.event.Value.{Value}
+use Rattle.cp_machine.specs.declared.fault.VatFault.{VatFault}
+use Rattle.cp_machine.specs.declared.fault.VatFault.TheVariants as refusals
+use Rattle.cp_connection.specs.declared.fault.ConnectionFault.{ConnectionFault}
+use Rattle.cp_connection.specs.declared.fault.ConnectionFault.TheVariants as faults
+use Rattle.cp_connection.specs.Refusing.{refusal_of}
+use Rattle.cp_connection.specs.Counting.{CountsMore}
+use Rattle.cp_connection.specs.Effects.{sent_by, happening_by, closes, AreFramesOf}
+use Rattle.cp_connection.specs.Link.{Link}
+
+-- why a connection ends by an event: memory ran out, or the vat closed
+abbrev pub ended_by : Result Value VatFault → List Effect → Option ConnectionFault
+ended_by (Err refusals.OutOfMemory) effects = Some faults.OutOfMemory
+ended_by (Err refusal) effects = None
+ended_by (Ok value) effects = if closes effects then Some faults.Closed else None
+
+-- The vat of an open connection did one event. The frames of what it sends come after the bytes that weren't written, and what happens after what wasn't
+-- taken.
+pub record Does (old : Link) (event : Event) (result : Result Value VatFault) (new : Link) : Type 0 where
+  pub was_open : old.fault ≡ None
+  pub effects : List Effect
+  pub step : Step old.vat event result effects new.vat
+  pub bytes : List ℕ
+  pub are_frames : AreFramesOf old.mode (sent_by effects) bytes
+  pub goes_out : new.unwritten ≡ old.unwritten ++ bytes
+  pub happens : new.happened ≡ old.happened ++ happening_by effects
+  pub counts : CountsMore old.tally.sent (length (sent_by effects)) new.tally.sent
+  pub same_tally : new.tally ≡ record old.tally { sent = new.tally.sent }
+  pub ends : new.fault ≡ ended_by result effects
+  pub same_mode : new.mode ≡ old.mode
+  pub same_limits : new.limits ≡ old.limits
+  pub same_reading : new.reading ≡ old.reading
+
+-- the connection had ended for this fault, and nothing changes
+abbrev pub HadEnded : Link → ConnectionFault → Link → Type 0
+HadEnded old fault new = (old.fault ≡ Some fault) × (new ≡ old)
+
+-- The vat refuses the event. Only an allocation failure changes anything.
+abbrev pub Refuses : Link → Event → ConnectionFault → Link → Type 0
+Refuses old event fault new =
+    (refusal : VatFault) × (fault ≡ refusal_of refusal) × Does old event (Err refusal) new × (refusal ≢ refusals.OutOfMemory → new ≡ old)
+
+-- What a call of the application gives: the value of what the vat did, or why it didn't.
+abbrev pub Acts : Link → Event → Result Value ConnectionFault → Link → Type 0
+Acts old event (Ok value) new = Does old event (Ok value) new
+Acts old event (Err fault) new = HadEnded old fault new ⊎ Refuses old event fault new
+
+module _ {A : Type 0} where
+  -- the value, or the fault
+  abbrev pub answered : (A → Value) → Result A ConnectionFault → Result Value ConnectionFault
+  answered value (Ok x) = Ok (value x)
+  answered value (Err fault) = Err fault

@@ -1,0 +1,12 @@
+pub mod Refusing
+pub mod Counting
+pub mod Effects
+pub mod Noting
+pub mod Link
+pub mod Doing
+pub mod Receiving
+pub mod Moves
+pub mod LinkOf
+pub mod Lives
+pub mod LinkCode
+pub mod Valued

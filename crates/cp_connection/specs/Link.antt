@@ -1,0 +1,38 @@
+-- A connection, as its users see it.
+use Rattle.std.specs.Prelude.{ℕ, List, [], Option, None}
+use Rattle.cp_words.specs.Limits.{Bounds}
+use Rattle.cp_frame.specs.declared.mode.Mode.{Mode}
+use Rattle.cp_frame.specs.Reader as frames
+use Rattle.cp_machine.specs.State.{State, new_state}
+use Rattle.cp_connection.specs.declared.fault.ConnectionFault.{ConnectionFault}
+use Rattle.cp_connection.specs.declared.happening.Happening.{Happening}
+use Rattle.cp_connection.specs.declared.happening.Tally.{Tally}
+
+-- The form and the limits of its frames, how they are read, its vat, the bytes that weren't written, what happened and wasn't taken, what was counted,
+-- and why it ended.
+pub record Link : Type 0 where
+  pub mode : Mode
+  pub limits : Bounds
+  pub reading : frames.State
+  pub vat : State
+  pub unwritten : List ℕ
+  pub happened : List Happening
+  pub tally : Tally
+  pub fault : Option ConnectionFault
+
+-- these bytes of the open frame came
+abbrev pub HasCome : Link → List ℕ → Type 0
+HasCome link rest = frames.IsReading link.reading × frames.Stands link.mode link.limits link.reading rest
+
+-- a connection to which nothing came, whose peer gets this object for a Bootstrap
+abbrev pub new_link : Mode → Bounds → Option ℕ → Link
+new_link mode limits bootstrap = record {
+  mode = mode;
+  limits = limits;
+  reading = frames.reading [] 0;
+  vat = new_state bootstrap;
+  unwritten = [];
+  happened = [];
+  tally = record { bytes = 0; messages = 0; sent = 0 };
+  fault = None;
+}

@@ -1,0 +1,63 @@
+-- A connection by its parts. No public clause names these.
+use Rattle.std.specs.Prelude.{◌≡◌, ℕ, Bool, true, false, List, Option, Some, None, Result}
+use Rattle.cp_frame.specs.declared.fault.FrameFault.{FrameFault}
+use Rattle.cp_frame.specs.declared.fault.FrameFault.TheVariants as frames
+use Rattle.cp_stream.specs.declared.fault.Refusal.TheVariants as refusals
+use Rattle.cp_machine.specs.State.{State}
+use Rattle.cp_machine.specs.Step.{Step}
+use Rattle.cp_machine.specs.declared.acted.Acted.{Acted}
+use Rattle.cp_machine.specs.declared.event.Event.{Event}
+use Rattle.cp_machine.specs.declared.event.Value.{Value}
+use Rattle.cp_machine.specs.declared.fault.VatFault.{VatFault}
+use Rattle.cp_machine.specs.declared.fault.VatFault.TheVariants as vat_refusals
+use Rattle.cp_vat.specs.Stepping as vat
+use Rattle.cp_connection.specs.declared.fault.ConnectionFault.{ConnectionFault}
+use Rattle.cp_connection.specs.declared.fault.ConnectionFault.TheVariants as faults
+use Rattle.cp_connection.specs.Doing.{Acts, answered}
+use Rattle.cp_connection.specs.Link.{Link, HasCome}
+use Rattle.cp_connection.specs.declared.parts.Parts.{Parts}
+
+-- the vat, which counts as closed once its effects were lost
+abbrev pub closed_if : Bool → State → State
+closed_if true s = record s { is_closed = true }
+closed_if false s = s
+
+abbrev pub link_of : Parts → Link
+link_of p = record {
+  mode = p.agenda.mode;
+  limits = p.limits;
+  reading = p.frames.state;
+  vat = closed_if p.is_lost p.vat;
+  unwritten = p.agenda.outgoing;
+  happened = p.agenda.happened.items;
+  tally = record { bytes = p.bytes; messages = p.messages; sent = p.agenda.sent };
+  fault = p.fault;
+}
+
+-- Frames are read on, in the form and within the limits of the connection, of which these bytes came of the open one; and no effects were lost.
+pub record GoesOn (p : Parts) : Type 0 where
+  pub same_mode : p.frames.mode ≡ p.agenda.mode
+  pub same_limits : p.frames.limits ≡ p.limits
+  pub rest : List ℕ
+  pub came : HasCome (link_of p) rest
+  pub kept : p.is_lost ≡ false
+
+-- a connection that didn't end goes on
+abbrev pub KeepsUp : Parts → Type 0
+KeepsUp p = p.fault ≡ None → GoesOn p
+
+-- the fault of a frame, after this many bytes
+abbrev pub unread_at : ℕ → FrameFault → ConnectionFault
+unread_at at frames.OutOfMemory = faults.OutOfMemory
+unread_at at fault = faults.Unreadable at (refusals.Frame fault)
+
+-- why a connection ends by a refusal of its vat, or ended before
+abbrev pub refused_by : VatFault → Option ConnectionFault → Option ConnectionFault
+refused_by vat_refusals.OutOfMemory before = Some faults.OutOfMemory
+refused_by fault before = before
+
+-- Whatever event the vat did to give this, the connection did it, from the state that the vat was in before.
+abbrev pub Concludes : {A : Type 0} → Parts → Result (Acted A) VatFault → Result A ConnectionFault → Parts → Type 0
+Concludes {A} old acted result new =
+    (before : State) (event : Event) (value : A → Value) → Step before event (vat.answered value acted) (vat.effects_of acted) old.vat
+    → Acts (record (link_of old) { vat = before }) event (answered value result) (link_of new)

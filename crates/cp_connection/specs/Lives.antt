@@ -1,0 +1,67 @@
+-- What holds of a connection, whatever was done with it.
+use Rattle.std.specs.Prelude.{◌≡◌, ℕ, List, [], ◌++◌, Option, Result, take, option_to_list}
+use Rattle.cp_words.specs.Limits.{Bounds}
+use Rattle.cp_frame.specs.declared.mode.Mode.{Mode}
+use Rattle.cp_frame.specs.Stream.{Open}
+use Rattle.cp_stream.specs.Stream.{Messages}
+use Rattle.cp_machine.specs.Run.{Moment, Steps}
+use Rattle.cp_machine.specs.State.{new_state}
+use Rattle.cp_machine.specs.declared.event.Event.{Event}
+use Rattle.cp_machine.specs.declared.event.Event.TheVariants as events
+use Rattle.cp_machine.specs.declared.event.Value.{Value}
+use Rattle.cp_sizes.specs.Sizes.{AllWritable}
+use Rattle.cp_connection.specs.declared.fault.ConnectionFault.{ConnectionFault}
+use Rattle.cp_connection.specs.declared.happening.Happening.{Happening}
+use Rattle.cp_connection.specs.Effects.{AreFramesOf, received, sent, happened}
+use Rattle.cp_connection.specs.Link.{Link, new_link}
+use Rattle.cp_connection.specs.Doing.{Acts}
+use Rattle.cp_connection.specs.Receiving.{Receives, IsUnreceived, EndsWell, EndsBadly, Wrote, HandsOut}
+
+-- the event is a call of the application
+abbrev pub IsCall : Event → Type 0
+IsCall (events.Receive m) = ⊥
+IsCall call = Unit {0}
+
+-- One call of a connection, which takes these bytes of the peer, is told that those were written, and hands these happenings out.
+pub data Calls (old : Link) : List ℕ → List ℕ → List Happening → Link → Type 0 where
+  receives : {taken : List ℕ} {new : Link} (piece : List ℕ) (count : ℕ) → Receives old piece count new → taken ≡ take count piece → Calls old taken [] [] new
+  receives_none : {taken : List ℕ} {new : Link} (piece : List ℕ) (fault : ConnectionFault) → IsUnreceived old piece taken fault new → Calls old taken [] [] new
+  ends : {new : Link} → EndsWell old new → Calls old [] [] [] new
+  ends_inside : {new : Link} (fault : ConnectionFault) → EndsBadly old fault new → Calls old [] [] [] new
+  acts : {new : Link} (event : Event) (result : Result Value ConnectionFault) → IsCall event → Acts old event result new → Calls old [] [] [] new
+  writes : {written : List ℕ} {new : Link} (count : ℕ) → Wrote old count new → written ≡ take count old.unwritten → Calls old [] written [] new
+  hands : {out : List Happening} {new : Link} (first : Option Happening) → HandsOut old first new → out ≡ option_to_list first → Calls old [] [] out new
+
+-- Calls of a connection, one after another, which together take these bytes, are told that those were written, and hand these happenings out.
+pub data Life (first : Link) : List ℕ → List ℕ → List Happening → Link → Type 0 where
+  begins : Life first [] [] [] first
+  goes_on : {taken more all written further gone : List ℕ} {handed others out : List Happening} {mid new : Link} → Life first taken written handed mid
+      → Calls mid more further others new → all ≡ taken ++ more → gone ≡ written ++ further → out ≡ handed ++ others → Life first all gone out new
+
+-- A new vat did this history, and it is a run of it. Of these bytes, which were taken, it received the messages; a rest of them is an open frame. The frames
+-- of what it sent are the bytes that were written and then those that weren't, and nothing else; each can be written. What happened by it was handed out,
+-- or is still to be, in order, and nothing else.
+pub record IsRunOf (mode : Mode) (limits : Bounds) (bootstrap : Option ℕ) (taken written : List ℕ) (handed : List Happening) (last : Link) : Type 0 where
+  pub history : List Moment
+  pub steps : Steps (new_state bootstrap) history last.vat
+  pub rest : List ℕ
+  pub messages : Messages mode limits taken (received history) rest
+  pub is_open : Open mode limits rest
+  pub bytes : List ℕ
+  pub are_frames : AreFramesOf mode (sent history) bytes
+  pub goes_out : bytes ≡ written ++ last.unwritten
+  pub writable : AllWritable history
+  pub happens : happened history ≡ handed ++ last.happened
+
+-- whatever is done with a connection
+abbrev pub LivesRun : Type 0
+LivesRun =
+    (mode : Mode) (limits : Bounds) (bootstrap : Option ℕ) (taken written : List ℕ) (handed : List Happening) (last : Link)
+    → Life (new_link mode limits bootstrap) taken written handed last → IsRunOf mode limits bootstrap taken written handed last
+
+-- however the bytes come in pieces, and whatever else is done, the messages that the vat received are the same, and so is what came of the open frame
+abbrev pub AnyCut : Type 0
+AnyCut =
+    (mode : Mode) (limits : Bounds) (bootstrap other : Option ℕ) (taken written gone : List ℕ) (handed out : List Happening) (last end : Link)
+    (one : IsRunOf mode limits bootstrap taken written handed last) (two : IsRunOf mode limits other taken gone out end)
+    → (received one.history ≡ received two.history) × (one.rest ≡ two.rest)

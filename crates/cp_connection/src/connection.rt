@@ -1,0 +1,274 @@
+//! A connection without devices.
+
+ghost use Rattle.std.specs.Prelude.{◌≡◌, IfOk};
+ghost use Rattle.cp_machine.specs.declared.event.Value.TheVariants as values;
+ghost use Rattle.cp_connection.specs.Doing.{answered};
+ghost use Rattle.cp_connection.specs.Valued.{IsQuestion, IsPromise, IsIdle, IsNothing};
+
+use crate::fault::ConnectionFault;
+use crate::happening::{Happening, Held, Tally};
+use crate::parts::Parts;
+use cp_frame::Mode;
+use cp_machine::{Event, Idle, Value};
+use cp_refs::{Cap, Origin, Outcome, PromiseId, Request};
+use cp_words::Limits;
+use std::alloc::Global;
+use std::marker::Model;
+
+/// One end of a connection of two parties (rpc.capnp, levels 0 and 1), without its devices: bytes of the peer come
+/// in, bytes for the peer go out, and what happens is handed out.
+///
+/// # In which order calls are made
+///
+/// 1. `new` makes a connection, in the plain form or the packed one, with the object that the peer's Bootstrap gets.
+/// 2. Give `receive` the bytes of the peer as they come, in any pieces. It takes them up to the end of the next
+///    message and says how many; give it the rest then. Where they end, call `end`.
+/// 3. After each call take what happened, by `next` until it gives none, and do what each asks.
+/// 4. Write the bytes of `outgoing` to the peer, before you wait for more of its own, and say by `wrote` how many the
+///    device took.
+/// 5. `call` and the other calls of the application may come between any two of these.
+///
+/// # What each happening asks
+///
+/// - `Delivered`: hand this call to the object, and `answer` it by its origin, once, now or later.
+/// - `Settled`: a question came to this outcome. `finish` it when none of its paths is needed any more.
+/// - `Closed`: write what is left of `outgoing`, and close. Nothing happens after it.
+///
+/// # Errors, and what each leaves
+///
+/// - `Refused` refuses a call of the application, which changes nothing.
+/// - Each other fault ends the connection: every later call that can fail gives this fault and changes nothing. What
+///   happened before can be taken, and what was to go out before can be written. The call that met it did nothing
+///   that is handed out or goes out.
+///
+/// # Memory
+///
+/// A connection keeps what came of the open frame, what is to go out, what happened and wasn't taken, and what its
+/// vat keeps. `held` says how much that is. One that is emptied after each message keeps no more of these than one
+/// message leads to.
+#[derive(Drop)]
+pub struct Connection {
+    parts: Parts,
+}
+
+impl Model for Connection {
+    ghost use Rattle.cp_connection.specs.Link.{Link};
+
+    ghost Value = { Link };
+
+    ghost use Rattle.cp_connection.specs.LinkCode.{link_code};
+
+    ghost coded = { link_code };
+
+    ghost use Rattle.cp_connection.specs.LinkOf.{link_of, KeepsUp};
+
+    ghost view = { λ c. link_of c.parts };
+
+    ghost invariant = { λ c. KeepsUp c.parts };
+}
+
+impl Connection {
+    ghost use Rattle.std.specs.Prelude.{◌≡◌, [], ℕ, List, OnOk, IfOk, IfErr, length};
+    ghost use Rattle.cp_frame.specs.Reader.{taken_of};
+    ghost use Rattle.cp_machine.specs.declared.event.Event.TheVariants as events;
+    ghost use Rattle.cp_machine.specs.declared.event.Value.TheVariants as values;
+    ghost use Rattle.cp_connection.specs.Link.{HasCome, new_link};
+    ghost use Rattle.cp_connection.specs.Doing.{Acts, answered};
+    ghost use Rattle.cp_connection.specs.Receiving.{Receives, IsUnreceived, EndsWell, EndsBadly, Wrote, HandsOut};
+
+    /// A connection to which nothing came, which gives this object to a Bootstrap. What comes is read within these
+    /// limits; what goes out keeps to the standard ones.
+    pub fn new(alloc: Global, mode: Mode, limits: Limits, bootstrap: Option<u32>) -> Connection
+        ensures fresh { result ≡ new_link mode limits bootstrap }
+        ensures came { HasCome result [] }
+    {
+        Connection {
+            parts: Parts::new(alloc, mode, limits, bootstrap),
+        }
+    }
+
+    /// Takes bytes of the peer, up to the end of the next message, and says how many. The vat receives the message.
+    ///
+    /// # Errors
+    ///
+    /// `Unreadable` where the bytes after the messages that were taken have a fault (F1, F2, F4, G1 to G9, S1, S2),
+    /// whatever follows them.
+    pub fn receive(&mut self, piece: &[u8]) -> Result<usize, ConnectionFault>
+        ensures received { IfOk result (λ count. Receives self.old piece.now count self.new) }
+        ensures unreceived { IfErr result (λ fault. (taken : List ℕ) × IsUnreceived self.old piece.now taken fault self.new) }
+    {
+        self.parts.receive(piece)
+    }
+
+    /// Ends the bytes of the peer, after a message. The application may still make its calls.
+    ///
+    /// # Errors
+    ///
+    /// `Unreadable` where they end inside a frame (F3).
+    pub fn end(&mut self) -> Result<(), ConnectionFault>
+        ensures ended { OnOk result (EndsWell self.old self.new) }
+        ensures cut { IfErr result (λ fault. EndsBadly self.old fault self.new) }
+    {
+        self.parts.end()
+    }
+
+    /// The bytes that are to be written to the peer, in order: frames of messages, each of one segment.
+    pub fn outgoing(&self) -> &[u8]
+        ensures { result.now ≡ self.now.unwritten }
+    {
+        self.parts.agenda.outgoing.bytes()
+    }
+
+    /// Notes that the first bytes of `outgoing` were written, this many, or all where there are fewer.
+    pub fn wrote(&mut self, count: usize)
+        ensures { Wrote self.old count self.new }
+    {
+        self.parts.agenda.outgoing.wrote(count);
+    }
+
+    /// Hands out what happened first of what wasn't taken.
+    pub fn next(&mut self) -> Option<Happening>
+        ensures { HandsOut self.old result self.new }
+    {
+        self.parts.agenda.happened.pop_front()
+    }
+
+    /// Asks for the peer's bootstrap capability, and gives the question's number. Refused as `Vat::bootstrap`.
+    pub fn bootstrap(&mut self) -> Result<u32, ConnectionFault>
+        ensures { Acts self.old events.Bootstrap (answered (λ q. values.Question q) result) self.new }
+    {
+        question(self.parts.act(Event::Bootstrap))
+    }
+
+    /// Calls a capability, and gives the question's number. Refused as `Vat::call`.
+    pub fn call(&mut self, cap: Cap, request: Request) -> Result<u32, ConnectionFault>
+        ensures { Acts self.old (events.Call cap request) (answered (λ q. values.Question q) result) self.new }
+    {
+        question(self.parts.act(Event::Call(cap, request)))
+    }
+
+    /// Answers a call that was delivered. Refused as `Vat::answer`.
+    pub fn answer(&mut self, origin: Origin, outcome: Outcome) -> Result<(), ConnectionFault>
+        ensures { Acts self.old (events.Answer origin outcome) (answered (λ _. values.Nothing) result) self.new }
+    {
+        nothing(self.parts.act(Event::Answer(origin, outcome)))
+    }
+
+    /// Makes an open promise. Refused as `Vat::promise`.
+    pub fn promise(&mut self) -> Result<PromiseId, ConnectionFault>
+        ensures { Acts self.old events.Promise (answered (λ p. values.Promise p) result) self.new }
+    {
+        promise(self.parts.act(Event::Promise))
+    }
+
+    /// Settles a promise that the application made. Refused as `Vat::resolve`.
+    pub fn resolve(&mut self, promise: PromiseId, value: Cap) -> Result<(), ConnectionFault>
+        ensures { Acts self.old (events.Resolve promise value) (answered (λ _. values.Nothing) result) self.new }
+    {
+        nothing(self.parts.act(Event::Resolve(promise, value)))
+    }
+
+    /// Gives a question up. Refused as `Vat::finish`.
+    pub fn finish(&mut self, question: u32) -> Result<(), ConnectionFault>
+        ensures { Acts self.old (events.Finish question) (answered (λ _. values.Nothing) result) self.new }
+    {
+        nothing(self.parts.act(Event::Finish(question)))
+    }
+
+    /// Gives an import back, with its whole count. Refused as `Vat::release`.
+    pub fn release(&mut self, import: u32) -> Result<(), ConnectionFault>
+        ensures { Acts self.old (events.Release import) (answered (λ _. values.Nothing) result) self.new }
+    {
+        nothing(self.parts.act(Event::Release(import)))
+    }
+
+    /// Drops a settled promise. Refused as `Vat::forget`.
+    pub fn forget(&mut self, promise: PromiseId) -> Result<(), ConnectionFault>
+        ensures { Acts self.old (events.Forget promise) (answered (λ _. values.Nothing) result) self.new }
+    {
+        nothing(self.parts.act(Event::Forget(promise)))
+    }
+
+    /// The imports and the promises that aren't in use.
+    pub fn idle(&mut self) -> Result<Idle, ConnectionFault>
+        ensures { Acts self.old events.Idle (answered (λ idle. values.Idle idle.imports idle.promises) result) self.new }
+    {
+        idle(self.parts.act(Event::Idle))
+    }
+
+    /// Why the connection ended, if it did.
+    pub fn fault(&self) -> Option<ConnectionFault>
+        ensures { result ≡ self.now.fault }
+    {
+        self.parts.fault
+    }
+
+    /// How many bytes and messages were taken, and how many messages were sent.
+    pub fn tally(&self) -> Tally
+        ensures { result ≡ self.now.tally }
+    {
+        Tally {
+            bytes: self.parts.bytes,
+            messages: self.parts.messages,
+            sent: self.parts.agenda.sent,
+        }
+    }
+
+    /// How much the connection holds, beside what its vat keeps. Of the open frame it keeps no more words than came
+    /// whole.
+    pub fn held(&self) -> Held
+        ensures came { result.came ≡ taken_of self.now.reading }
+        ensures unwritten { result.unwritten ≡ length self.now.unwritten }
+        ensures happenings { result.happenings ≡ length self.now.happened }
+    {
+        Held {
+            came: self.parts.frames.taken(),
+            unwritten: self.parts.agenda.outgoing.len(),
+            happenings: self.parts.agenda.happened.len(),
+        }
+    }
+}
+
+/// The value of a call that gives a question.
+fn question(given: Result<Value, ConnectionFault>) -> Result<u32, ConnectionFault>
+    requires { IfOk given IsQuestion }
+    ensures { answered (λ q. values.Question q) result ≡ given }
+{
+    match given? {
+        Value::Question(question) => Ok(question),
+        _ => unreachable!(),
+    }
+}
+
+/// The value of a call that makes a promise.
+fn promise(given: Result<Value, ConnectionFault>) -> Result<PromiseId, ConnectionFault>
+    requires { IfOk given IsPromise }
+    ensures { answered (λ p. values.Promise p) result ≡ given }
+{
+    match given? {
+        Value::Promise(promise) => Ok(promise),
+        _ => unreachable!(),
+    }
+}
+
+/// The value of a call that gives what isn't in use.
+fn idle(given: Result<Value, ConnectionFault>) -> Result<Idle, ConnectionFault>
+    requires { IfOk given IsIdle }
+    ensures { answered (λ idle. values.Idle idle.imports idle.promises) result ≡ given }
+{
+    match given? {
+        Value::Idle { imports, promises } => Ok(Idle { imports, promises }),
+        _ => unreachable!(),
+    }
+}
+
+/// The value of a call that gives none.
+fn nothing(given: Result<Value, ConnectionFault>) -> Result<(), ConnectionFault>
+    requires { IfOk given IsNothing }
+    ensures { answered (λ _. values.Nothing) result ≡ given }
+{
+    match given? {
+        Value::Nothing => Ok(()),
+        _ => unreachable!(),
+    }
+}

@@ -1,0 +1,60 @@
+//! Why a call of a connection gives nothing.
+
+ghost use Rattle.std.specs.Prelude.{◌≡◌};
+ghost use Rattle.cp_connection.specs.declared.fault.ConnectionFault.TheVariants.{OutOfMemory};
+ghost use Rattle.cp_connection.specs.Refusing.{refusal_of};
+
+use cp_machine::VatFault;
+use cp_stream::Refusal;
+use std::alloc::AllocError;
+use std::error::Error;
+use std::fmt;
+
+/// Why a call of a connection gives nothing. All but `Refused` end the connection.
+#[derive(Clone, Copy, PartialEq, Eq, Debug)]
+pub enum ConnectionFault {
+    /// The peer's bytes can't be read on: what is wrong with them, and how many bytes the frames of the
+    /// messages before them took, at most `u64::MAX`.
+    Unreadable { at: u64, refusal: Refusal },
+    /// The vat closed, as `Happening::Closed` says.
+    Closed,
+    /// V10: memory ran out.
+    OutOfMemory,
+    /// V1 to V9, V11: the vat refuses this call, which changes nothing.
+    Refused(VatFault),
+}
+
+impl fmt::Display for ConnectionFault {
+    fn fmt<W: fmt::Write>(&self, f: &mut fmt::Formatter<W>) -> fmt::Result {
+        match self {
+            ConnectionFault::Unreadable { at, refusal } => {
+                write!(f, "refused at byte {at}: ")?;
+                refusal.fmt(f)
+            }
+            ConnectionFault::Closed => f.write_str("the connection is closed"),
+            ConnectionFault::OutOfMemory => VatFault::OutOfMemory.fmt(f),
+            ConnectionFault::Refused(fault) => fault.fmt(f),
+        }
+    }
+}
+
+impl Error for ConnectionFault {}
+
+impl From<VatFault> for ConnectionFault {
+    ghost from_gives = { λ fault r. r ≡ refusal_of fault };
+
+    fn from(fault: VatFault) -> ConnectionFault {
+        match fault {
+            VatFault::OutOfMemory => ConnectionFault::OutOfMemory,
+            other => ConnectionFault::Refused(other),
+        }
+    }
+}
+
+impl From<AllocError> for ConnectionFault {
+    ghost from_gives = { λ _ r. r ≡ OutOfMemory };
+
+    fn from(_: AllocError) -> ConnectionFault {
+        ConnectionFault::OutOfMemory
+    }
+}

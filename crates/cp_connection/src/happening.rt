@@ -1,0 +1,48 @@
+//! What happened on a connection.
+
+use cp_machine::Reason;
+use cp_refs::{Origin, Outcome, Request};
+
+/// What the user of a connection is told, in the order in which it happened.
+#[derive(Drop)]
+pub enum Happening {
+    /// The peer calls this object: answer it by its origin, once, now or later. The imports in its table stay
+    /// until they are released.
+    Delivered {
+        object: u32,
+        origin: Origin,
+        /// Its place in the order in which calls came, from 0.
+        ticket: u64,
+        call: Request,
+    },
+    /// A question came to this outcome. `finish` it when none of its paths is needed any more.
+    Settled {
+        question: u32,
+        outcome: Outcome,
+    },
+    /// The vat closed, for this reason. It is the last that happens. Write what is left of `outgoing`, an Abort
+    /// among it where the peer was at fault, and close.
+    Closed(Reason),
+}
+
+/// What a connection took and sent, each number at most `u64::MAX`, where it stays.
+#[derive(Clone, Copy, PartialEq, Eq, Debug)]
+pub struct Tally {
+    /// The bytes of the frames whose messages were taken.
+    pub bytes: u64,
+    /// The messages that were taken.
+    pub messages: u64,
+    /// The messages that were sent, written or not.
+    pub sent: u64,
+}
+
+/// What a connection holds, beside what its vat does.
+#[derive(Clone, Copy, PartialEq, Eq, Debug)]
+pub struct Held {
+    /// The bytes of the open frame that came.
+    pub came: u64,
+    /// The bytes that weren't written.
+    pub unwritten: usize,
+    /// The happenings that weren't taken.
+    pub happenings: usize,
+}

@@ -1,0 +1,132 @@
+//! The bytes that are to be written.
+
+ghost use Rattle.std.specs.Prelude.{◌≡◌, [], OnOk, OnErr, length, take, drop};
+ghost use Rattle.cp_connection.specs.Effects.{Puts};
+
+use cp_frame::Mode;
+use cp_rpc::Message;
+use cp_stream::{Tap, write_message};
+use cp_words::Limits;
+use std::alloc::{AllocError, Global};
+use std::marker::Model;
+use std::mem;
+
+/// The most bytes for which an empty block keeps its memory.
+const KEPT: usize = 1_048_576;
+
+/// Frames that are to be written, of which a front may have been.
+#[derive(Drop)]
+pub(crate) struct Outgoing {
+    alloc: Global,
+    block: Vec<u8>,
+    /// The bytes of the block that were written.
+    written: usize,
+}
+
+impl Model for Outgoing {
+    ghost use Rattle.std.specs.Prelude.{List, ℕ, ◌≤◌, drop, length};
+
+    ghost Value = { List ℕ };
+
+    ghost view = { λ o. drop o.written o.block.items };
+
+    ghost invariant = { λ o. o.written ≤ length o.block.items };
+}
+
+impl Outgoing {
+    /// Nothing is to be written.
+    pub(crate) fn new(alloc: Global) -> Outgoing
+        ensures { result ≡ [] }
+    {
+        Outgoing {
+            alloc,
+            block: Vec::new(alloc),
+            written: 0,
+        }
+    }
+
+    /// The bytes that weren't written, in order.
+    pub(crate) fn bytes(&self) -> &[u8]
+        ensures { result.now ≡ self.now }
+    {
+        &self.block[self.written..]
+    }
+
+    /// How many there are.
+    pub(crate) fn len(&self) -> usize
+        ensures { result ≡ length self.now }
+    {
+        self.block.len() - self.written
+    }
+
+    /// Notes that the first of them were written.
+    pub(crate) fn wrote(&mut self, count: usize)
+        ensures { self.new ≡ drop count self.old }
+    {
+        if count < self.len() {
+            self.written += count;
+            return;
+        }
+        self.written = 0;
+        if self.block.capacity() > KEPT {
+            self.block = Vec::new(self.alloc);
+        } else {
+            self.block.clear();
+        }
+    }
+
+    /// Puts the frame of a message after them, in one segment within the standard limits. Where it can't be made,
+    /// they stay as they were.
+    pub(crate) fn put(&mut self, message: &Message, mode: Mode) -> Result<(), AllocError>
+        ensures put { OnOk result (Puts mode message.now self.old self.new) }
+        ensures same { OnErr result (self.new ≡ self.old) }
+    {
+        self.move_up();
+        put_after(self.alloc, &mut self.block, message, mode)
+    }
+
+    /// Takes back what was put after the first of them.
+    pub(crate) fn truncate(&mut self, length: usize)
+        ensures { self.new ≡ take length self.old }
+    {
+        if length < self.len() {
+            self.block.truncate(self.written + length);
+        }
+    }
+
+    /// Moves them to the block's front, once more of it was written than is left.
+    fn move_up(&mut self)
+        ensures { self.new ≡ self.old }
+    {
+        let left = self.len();
+        if left <= self.written {
+            self.block.copy_within(self.written.., 0);
+            self.block.truncate(left);
+            self.written = 0;
+        }
+    }
+}
+
+/// Puts the frame of a message after a block. Where it can't be made, the block stays as it was.
+fn put_after(
+    alloc: Global,
+    block: &mut Vec<u8>,
+    message: &Message,
+    mode: Mode,
+) -> Result<(), AllocError>
+    ensures put { OnOk result (Puts mode message.now block.old.items block.new.items) }
+    ensures same { OnErr result (block.new.items ≡ block.old.items) }
+{
+    let length = block.len();
+    let mut after = Tap::new(mem::replace(block, Vec::new(alloc)));
+    let written = write_message(alloc, &mut after, message, mode, Limits::standard());
+    *block = after.into_inner();
+    match written {
+        Ok(()) => Ok(()),
+        // Each message that a vat sends can be written, and the block takes all bytes for which there is memory.
+        Err(_) => {
+            block.truncate(length);
+            Err(AllocError)
+        }
+    }
+}

@@ -1,0 +1,214 @@
+//! What a connection is made of.
+
+ghost use Rattle.std.specs.Prelude.{◌≡◌, [], ℕ, List, Some, None, IfOk, IfErr, OnOk};
+ghost use Rattle.cp_frame.specs.Reader.{new_reader};
+ghost use Rattle.cp_rpc.specs.Told.{told};
+ghost use Rattle.cp_stream.specs.Stream.{Holds, HoldsNone};
+ghost use Rattle.cp_machine.specs.declared.event.Event.TheVariants as events;
+ghost use Rattle.cp_machine.specs.declared.event.Value.TheVariants as values;
+ghost use Rattle.cp_connection.specs.Refusing.{refusal_of};
+ghost use Rattle.cp_connection.specs.Link.{new_link, HasCome};
+ghost use Rattle.cp_connection.specs.Doing.{Acts, answered};
+ghost use Rattle.cp_connection.specs.Receiving.{Receives, IsUnreceived, EndsWell, EndsBadly};
+ghost use Rattle.cp_connection.specs.LinkOf.{link_of, KeepsUp, Concludes, unread_at, refused_by};
+ghost use Rattle.cp_connection.specs.declared.fault.ConnectionFault.TheVariants.{Unreadable};
+
+use crate::agenda::Agenda;
+use crate::fault::ConnectionFault;
+use cp_frame::{FrameFault, FrameReader, Mode};
+use cp_machine::{Acted, Event, Value, VatFault};
+use cp_rpc::MessageView;
+use cp_stream::{Refusal, StreamFault, view_of};
+use cp_vat::Vat;
+use cp_words::{Limits, Segments};
+use std::alloc::Global;
+
+/// What a connection is made of.
+#[derive(Drop)]
+pub(crate) struct Parts {
+    pub limits: Limits,
+    pub frames: FrameReader,
+    pub vat: Vat,
+    /// Whether effects of the vat were lost, as memory ran out.
+    pub is_lost: bool,
+    pub agenda: Agenda,
+    /// The bytes of the frames whose messages were taken, at most `u64::MAX`.
+    pub bytes: u64,
+    /// The messages that were taken, at most `u64::MAX`.
+    pub messages: u64,
+    /// Why the connection ended.
+    pub fault: Option<ConnectionFault>,
+}
+
+impl Parts {
+    /// A connection to which nothing came.
+    pub fn new(alloc: Global, mode: Mode, limits: Limits, bootstrap: Option<u32>) -> Parts
+        ensures link { link_of result ≡ new_link mode limits bootstrap }
+        ensures keeps { KeepsUp result }
+        ensures came { HasCome (link_of result) [] }
+    {
+        Parts {
+            limits,
+            frames: reader_of(alloc, mode, limits),
+            vat: Vat::new(alloc, bootstrap),
+            is_lost: false,
+            agenda: Agenda::new(alloc, mode),
+            bytes: 0,
+            messages: 0,
+            fault: None,
+        }
+    }
+
+    /// Reads a piece up to the end of a frame, and takes its message in. Says how many bytes were taken.
+    pub fn receive(&mut self, piece: &[u8]) -> Result<usize, ConnectionFault>
+        requires keeps { KeepsUp self.old }
+        ensures keeps { KeepsUp self.new }
+        ensures received { IfOk result (λ count. Receives (link_of self.old) piece.now count (link_of self.new)) }
+        ensures unreceived { IfErr result (λ fault. (taken : List ℕ) × IsUnreceived (link_of self.old) piece.now taken fault (link_of self.new)) }
+    {
+        if let Some(fault) = self.fault {
+            return Err(fault);
+        }
+        let (taken, segments, back) = match self.frames.next(piece) {
+            Ok(Some(next)) => next,
+            Ok(None) => return Ok(piece.len()),
+            Err(fault) => return Err(self.fail(self.unread(fault))),
+        };
+        let message = match self.message_in(&segments) {
+            Ok(message) => message,
+            Err(refusal) => return Err(self.fail(self.unreadable(refusal))),
+        };
+        self.bytes = self.bytes.saturating_add(taken);
+        self.messages = self.messages.saturating_add(1);
+        self.take_in(message)?;
+        self.frames.reuse(segments);
+        Ok(piece.len() - back.len())
+    }
+
+    /// Ends the bytes of the peer.
+    pub fn end(&mut self) -> Result<(), ConnectionFault>
+        requires keeps { KeepsUp self.old }
+        ensures keeps { KeepsUp self.new }
+        ensures ended { OnOk result (EndsWell (link_of self.old) (link_of self.new)) }
+        ensures cut { IfErr result (λ fault. EndsBadly (link_of self.old) fault (link_of self.new)) }
+    {
+        if let Some(fault) = self.fault {
+            return Err(fault);
+        }
+        match self.frames.finish() {
+            Ok(()) => Ok(()),
+            Err(fault) => Err(self.fail(self.unreadable(Refusal::Frame(fault)))),
+        }
+    }
+
+    /// Does a call of the application.
+    pub fn act(&mut self, event: Event) -> Result<Value, ConnectionFault>
+        requires keeps { KeepsUp self.old }
+        ensures keeps { KeepsUp self.new }
+        ensures acts { Acts (link_of self.old) event result (link_of self.new) }
+    {
+        if let Some(fault) = self.fault {
+            return Err(fault);
+        }
+        let acted = self.vat.act(event);
+        self.conclude(acted)
+    }
+
+    /// Takes in a message of the peer's.
+    fn take_in(&mut self, message: MessageView) -> Result<(), ConnectionFault>
+        requires is_open { self.old.fault ≡ None }
+        requires keeps { KeepsUp self.old }
+        ensures keeps { KeepsUp self.new }
+        ensures acts { Acts (link_of self.old) (events.Receive (told message.entry)) (answered (λ _. values.Nothing) result) (link_of self.new) }
+    {
+        let acted = self.vat.receive_view(message);
+        self.conclude(acted)
+    }
+
+    /// Notes what the vat's effects ask for, and gives its value. Where memory ran out, for the vat or for these, the
+    /// connection ends, and where the vat closed.
+    fn conclude<V: Drop>(&mut self, acted: Result<Acted<V>, VatFault>) -> Result<V, ConnectionFault>
+        requires is_open { self.old.fault ≡ None }
+        requires keeps { KeepsUp self.old }
+        ensures keeps { KeepsUp self.new }
+        ensures acts { Concludes self.old acted result self.new }
+    {
+        let acted = match acted {
+            Ok(acted) => acted,
+            Err(fault) => return Err(self.refuse(fault)),
+        };
+        match self.agenda.note(acted.effects) {
+            Ok(true) => {
+                self.fault = Some(ConnectionFault::Closed);
+                Ok(acted.value)
+            }
+            Ok(false) => Ok(acted.value),
+            Err(_) => {
+                self.is_lost = true;
+                Err(self.fail(ConnectionFault::OutOfMemory))
+            }
+        }
+    }
+
+    /// A refusal of the vat's. Where memory ran out, the connection ends.
+    fn refuse(&mut self, fault: VatFault) -> ConnectionFault
+        ensures same { result ≡ refusal_of fault }
+        ensures ends { self.new ≡ record self.old { fault = refused_by fault self.old.fault } }
+    {
+        match fault {
+            VatFault::OutOfMemory => self.fail(ConnectionFault::OutOfMemory),
+            other => ConnectionFault::Refused(other),
+        }
+    }
+
+    /// The message that a frame holds, in place.
+    fn message_in<'a>(&self, segments: &'a Segments) -> Result<MessageView<'a>, Refusal>
+        ensures found { IfOk result (λ view. Holds self.now.limits segments.now (told view)) }
+        ensures refused { IfErr result (HoldsNone self.now.limits segments.now) }
+    {
+        match view_of(segments, self.limits) {
+            Ok(view) => Ok(view),
+            Err(StreamFault::Refused { refusal, .. }) => Err(refusal),
+            Err(StreamFault::Device) => unreachable!(),
+        }
+    }
+
+    /// Ends the connection for this fault.
+    fn fail(&mut self, fault: ConnectionFault) -> ConnectionFault
+        ensures same { result ≡ fault }
+        ensures fails { self.new ≡ record self.old { fault = Some fault } }
+    {
+        self.fault = Some(fault);
+        fault
+    }
+
+    /// A fault of a frame, after the messages that were taken.
+    fn unread(&self, fault: FrameFault) -> ConnectionFault
+        ensures { result ≡ unread_at self.now.bytes fault }
+    {
+        match fault {
+            FrameFault::OutOfMemory => ConnectionFault::OutOfMemory,
+            other => self.unreadable(Refusal::Frame(other)),
+        }
+    }
+
+    /// A refusal, after the messages that were taken.
+    fn unreadable(&self, refusal: Refusal) -> ConnectionFault
+        ensures { result ≡ Unreadable self.now.bytes refusal }
+    {
+        ConnectionFault::Unreadable {
+            at: self.bytes,
+            refusal,
+        }
+    }
+}
+
+/// A reader of frames to which nothing came.
+fn reader_of(alloc: Global, mode: Mode, limits: Limits) -> FrameReader
+    ensures { result ≡ new_reader mode limits }
+{
+    match mode {
+        Mode::Plain => FrameReader::plain(alloc, limits),
+        Mode::Packed => FrameReader::packed(alloc, limits),
+    }
+}
