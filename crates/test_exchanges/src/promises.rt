@@ -17,7 +17,7 @@ fn promises_of_the_peer(rt: HostRuntime) {
 
 #[test]
 fn forwarded_calls(rt: HostRuntime) {
-    expect_all(&rt, rt.alloc(), FORWARDED);
+    expect_all(&rt, rt.alloc(), CALLS_FORWARDED);
 }
 
 const OF_THE_APPLICATION: &[Exchange] = &[
@@ -383,7 +383,7 @@ const OF_THE_PEER: &[Exchange] = &[
     },
 ];
 
-const FORWARDED: &[Exchange] = &[
+const CALLS_FORWARDED: &[Exchange] = &[
     Exchange {
         name: "forwarded calls are answered in any order",
         bootstrap: Some(0),
