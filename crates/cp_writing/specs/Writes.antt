@@ -2,6 +2,7 @@
 use Rattle.std.specs.Prelude.{ℕ, ◌<◌, ◌≤◌, List, length, map, sum}
 use Rattle.cp_words.specs.Limits.{Bounds}
 use Rattle.cp_tree.specs.Node.{Node, depth, cost}
+use Rattle.cp_tree.specs.Shaped.{Shaped}
 use Rattle.cp_tree.specs.declared.fault.WriteFault.{WriteFault}
 use Rattle.cp_tree.specs.declared.fault.WriteFault.TheVariants as faults
 use Rattle.cp_writing.specs.Layout.{Capacity, Layout}
@@ -21,3 +22,7 @@ abbrev pub IsWriteFaultOf : Bounds → Capacity → Node → WriteFault → Type
 IsWriteFaultOf limits capacity t faults.TooManyWords = FitsIn limits t × ((S : List (List ℕ)) → Layout S capacity t → limits.frame_words < sum (map length S))
 IsWriteFaultOf limits capacity t faults.OutOfMemory = Unit {0}
 IsWriteFaultOf limits capacity t fault = IsCostFaultOf limits t fault
+
+-- each tree within the limits that a message can hold has a layout in segments of this size and number
+abbrev pub EachHasLayout : Bounds → Capacity → Type 0
+EachHasLayout limits capacity = (t : Node) → Shaped t → FitsIn limits t → (S : List (List ℕ)) × Layout S capacity t

@@ -5,7 +5,7 @@ ghost use Rattle.cp_words.specs.Limits.{Bounds, IsAllowed};
 ghost use Rattle.cp_tree.specs.Node.{Node};
 ghost use Rattle.cp_tree.specs.Shaped.{Shaped};
 ghost use Rattle.cp_writing.specs.Layout.{Layout, Capacity};
-ghost use Rattle.cp_writing.specs.Writes.{FitsIn};
+ghost use Rattle.cp_writing.specs.Writes.{EachHasLayout};
 
 /// A tree has one layout in segments of this many words and in this many segments.
 pub fn one_layout()
@@ -15,5 +15,5 @@ pub fn one_layout()
 /// A tree within the limits on nesting and cost has a layout, in segments of any size. So B4 says of this one that it has
 /// too many words.
 pub fn layout_exists()
-    ensures { (limits : Bounds) (capacity : Capacity) (t : Node) → IsAllowed limits → capacity.segments ≤ limits.segments → Shaped t → FitsIn limits t → (S : List (List ℕ)) × Layout S capacity t }
+    ensures { (limits : Bounds) (capacity : Capacity) → IsAllowed limits → capacity.segments ≤ limits.segments → EachHasLayout limits capacity }
 {}

@@ -1,7 +1,8 @@
 -- Exchanges that a vat is never to make, and some that it is, for the order of calls.
-use Rattle.std.specs.Prelude.{ℕ, zero, suc, false, List, [], ◌∷◌, ◌++◌, Some, Ok, swap}
+use Rattle.std.specs.Prelude.{◌≡◌, ℕ, zero, suc, false, List, [], ◌∷◌, ◌++◌, Some, None, Ok, swap}
 use Rattle.cp_tree.specs.Node.{cap}
 use Rattle.cp_rpc.specs.declared.message.Message.TheVariants as messages
+use Rattle.cp_rpc.specs.declared.promised_answer.PromisedAnswer.{PromisedAnswer}
 use Rattle.cp_rpc.specs.declared.returned.Returned.TheVariants as returns
 use Rattle.cp_rpc.specs.declared.descriptor.Descriptor.TheVariants as descriptors
 use Rattle.cp_rpc.specs.declared.target.Target.TheVariants as targets
@@ -13,6 +14,8 @@ use Rattle.cp_refs.specs.declared.outcome.Outcome.{Outcome}
 use Rattle.cp_refs.specs.declared.call.Origin.TheVariants as origins
 use Rattle.cp_refs.specs.declared.outcome.Outcome.TheVariants as outcomes
 use Rattle.cp_machine.specs.Say.{promised}
+use Rattle.cp_machine.specs.Take.{answer_of}
+use Rattle.cp_machine.specs.Telling.{EachHasItsOwn}
 use Rattle.cp_machine.specs.Give.{return_of}
 use Rattle.cp_machine.specs.Go.{call_of}
 use Rattle.cp_machine.specs.Run.{Moment, Run}
@@ -31,6 +34,12 @@ IsNoRun history = Run (Some 0) history → ⊥
 -- these moments are a run, and its turns, changed so, aren't in order
 abbrev pub IsOrderedUnless : List Moment → (List Turn → List Turn) → Type 0
 IsOrderedUnless history change = (run : Run (Some 0) history) × (InOrder (change (trace_of (Some 0) history run)) → ⊥)
+
+-- Two receiverAnswers of one answer that wasn't given aren't taken in as one promise.
+abbrev pub TwoAreNotOne : Type 0
+TwoAreNotOne =
+    (turn : Turn) (answer : PromisedAnswer) (p : ℕ) → answer_of turn.before answer.question_id ≡ Some None
+    → ¬ (EachHasItsOwn turn (descriptors.ReceiverAnswer answer ∷ descriptors.ReceiverAnswer answer ∷ []) (caps.Promise p ∷ caps.Promise p ∷ []))
 
 -- other turns for the one at this place, where the latest is the first
 abbrev pub change_at : ℕ → (Turn → List Turn) → List Turn → List Turn

@@ -4,7 +4,7 @@ ghost use Rattle.std.specs.Prelude.{Some};
 ghost use Rattle.cp_machine.specs.InOrder.{RunsInOrder};
 ghost use Rattle.test_vat.specs.Rows as rows;
 ghost use Rattle.test_vat.specs.OrderRows as order_rows;
-ghost use Rattle.test_vat.specs.OrderRows.{IsOrderedUnless};
+ghost use Rattle.test_vat.specs.OrderRows.{IsOrderedUnless, TwoAreNotOne};
 
 /// A Bootstrap's answer is reported once.
 pub fn bootstrap_in_order()
@@ -31,4 +31,9 @@ pub fn pipelined_leaves_in_order()
 pub fn two_leave_in_order()
     ensures in_order { RunsInOrder (Some 0) order_rows.two_in_order }
     ensures rising { IsOrderedUnless order_rows.two_in_order order_rows.other_way }
+{}
+
+/// Two receiverAnswers of one answer that wasn't given aren't taken in as one promise.
+pub fn each_has_its_own_promise()
+    ensures { TwoAreNotOne }
 {}
