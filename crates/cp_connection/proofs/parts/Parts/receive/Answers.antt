@@ -41,7 +41,9 @@ returns-in_err-take_in-clause-unreceived c =
     rw (p.1, p.2) (gives.front, inr (inr (next.2.now, _, _, gives.whole, reads, still_refuses _ _ _ _ c.in_default.is c.in_err-take_in.ensures.acts)))
 
 pub returns-clause-keeps : goal.returns-clause-keeps
-returns-clause-keeps c = rw c.reuse.ensures c.in_ok-take_in.ensures.keeps
+returns-clause-keeps c = rw c.reuse.ensures.stays (λ is.
+    let on = c.in_ok-take_in.ensures.keeps is in
+    record { same_mode = on.same_mode; same_limits = on.same_limits; rest = on.rest; came = on.came; kept = on.kept })
 
 pub returns-clause-received : goal.returns-clause-received
 returns-clause-received c =
@@ -50,4 +52,4 @@ returns-clause-received c =
     let gives = rw c.in-Ok-Some.field-0-is at c.in-Ok-Some.ensures.given in
     let reads = reads_one c.args.self.now on c.next.new.self c.saturating_add-self.result c.saturating_add-self-2.result c.args.piece.now next.2.now next.0 next.1 _ c.in_default.is gives c.in-Ok.ensures.found c.saturating_add-self.ensures c.saturating_add-self-2.ensures in
     let count : length c.args.piece.now - length next.2.now ≡ length gives.front = omega (arith, ap (λ (b : List ℕ). length b) gives.whole, length-append gives.front next.2.now) in
-    rw c.reuse.ensures (inr (gives.front, next.2.now, _, _, gives.whole, count, reads, c.in_ok-take_in.ensures.acts))
+    rw c.reuse.ensures.stays (inr (gives.front, next.2.now, _, _, gives.whole, count, reads, c.in_ok-take_in.ensures.acts))
