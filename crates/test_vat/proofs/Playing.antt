@@ -1,8 +1,10 @@
 -- The steps and runs of a vat, found by computing.
-use Rattle.std.specs.Prelude.{◌≡◌, refl, Bool, true, false, List, [], ◌++◌, Result, Ok, Err}
+use Rattle.std.specs.Prelude.{◌≡◌, refl, ℕ, Bool, true, false, List, [], ◌∷◌, ◌++◌, map, is_some, Option, Some, None, Result, Ok, Err}
+use Rattle.std.proofs.Common.{sym, ap, subst, unwrap_or, true≢false}
 use Rattle.cp_rpc.specs.declared.message.Message.{Message}
 use Rattle.cp_machine.specs.State.{State}
 use Rattle.cp_machine.specs.Step.{Receives, Does, aborts, Follows, all_left, found_full, Step, was_closed, refused, did, received, faulted}
+use Rattle.cp_machine.specs.Run.{Moment, Steps, Run}
 use Rattle.cp_machine.specs.declared.effect.Effect.{Effect}
 use Rattle.cp_machine.specs.declared.event.Event.{Event}
 use Rattle.cp_machine.specs.declared.event.Event.TheVariants as events
@@ -10,7 +12,7 @@ use Rattle.cp_machine.specs.declared.event.Value.{Value}
 use Rattle.cp_machine.specs.declared.event.Value.TheVariants as values
 use Rattle.cp_machine.specs.declared.fault.VatFault.{VatFault}
 use Rattle.cp_machine.specs.declared.fault.VatFault.TheVariants as refusals
-use Rattle.test_vat.proofs.Known.{Known, state}
+use Rattle.test_vat.proofs.Known.{Known, state, new_known}
 use Rattle.test_vat.proofs.Found.{Finds, lacks, found, beside}
 use Rattle.test_vat.proofs.Going.{Left, left, stuck, find_left}
 use Rattle.test_vat.proofs.Hearing.{find_received}
@@ -74,3 +76,32 @@ module _ (k : Known) where
   abbrev pub step_if : (event : Event) (b : Bool) → k.is_closed ≡ b → Stepped k event
   step_if event true is = stepped (Err refusals.Closed) [] k (was_closed event is)
   step_if event false is = open_step event is
+
+-- the moments of these events, if they make a run
+pub data Played (k : Known) : Type 0 where
+  played : (history : List Moment) (last : Known) → Steps (state k) history (state last) → Played k
+  unplayed : Played k
+
+abbrev pub played_on : (k : Known) (event : Event) (result : Result Value VatFault) (effects : List Effect) (mid : Known) → Step (state k) event result effects (state mid) → Played mid → Played k
+played_on k event result effects mid step (played history last steps) = played (record { event = event; result = result; effects = effects } ∷ history) last (state mid, step, steps)
+played_on k event result effects mid step unplayed = unplayed
+
+abbrev pub played_by : (k : Known) (event : Event) → Stepped k event → ((mid : Known) → Played mid) → Played k
+played_by k event (stepped result effects mid step) rest = played_on k event result effects mid step (rest mid)
+played_by k event unstepped rest = unplayed
+
+abbrev pub play : (k : Known) → List Event → Played k
+play k [] = played [] k refl
+play k (event ∷ more) = played_by k event (step_if k event k.is_closed refl) (λ mid. play mid more)
+
+abbrev pub history_of : {k : Known} → Played k → Option (List Moment)
+history_of (played history last steps) = Some history
+history_of unplayed = None
+
+-- What the events of a history make is a run, if it is that history.
+run_by : (b : Option ℕ) (history : List Moment) (p : Played (new_known b)) → history_of p ≡ Some history → Run b history
+run_by b history (played made last steps) e = subst (Run b) (ap (λ o. unwrap_or o history) e) (state last, steps)
+run_by b history unplayed e = absurd (true≢false (sym (ap is_some e)))
+
+pub is_run : (b : Option ℕ) (history : List Moment) → history_of (play (new_known b) (map (λ moment. moment.event) history)) ≡ Some history → Run b history
+is_run b history e = run_by b history _ e
