@@ -1,5 +1,5 @@
 -- One frame, read without a byte more.
-use Rattle.std.proofs.Common.{◌≡◌, ◌≢◌, ◌⊎◌, inl, inr, ℕ, ◌+◌, ◌<◌, ◌≤◌, List, [], ◌∷◌, ◌++◌, Option, Some, None, length, drop, slice_index_or, Result, Ok, Err, IfErr, OnOk, refl, sym, ◌∙◌, ap, subst, length-append, arith}
+use Rattle.std.proofs.Common.{◌≡◌, ◌≢◌, ◌⊎◌, inl, inr, ℕ, ◌+◌, ◌<◌, ◌≤◌, List, [], ◌∷◌, ◌++◌, Option, Some, None, length, drop, slice_index_or, Result, Ok, Err, IfOk, IfErr, OnOk, refl, sym, ◌∙◌, ap, subst, length-append, arith}
 use Rattle.std.proofs.lemmas.List.{append_assoc, append-nil, nil_from_length}
 use Rattle.std.specs.Io.KnownBytes.{Consumes, IsAtEnd}
 use Rattle.cp_words.specs.Limits.{Bounds}
@@ -154,6 +154,10 @@ told_frame r r' piece b new fault h k t = told_by r piece b new r.state fault re
 pub map_err : {X E : Type 0} (r : Result X E) (P Q : E → Type 0) → ((e : E) → P e → Q e) → IfErr r P → IfErr r Q
 map_err (Ok x) P Q h k = tt
 map_err (Err e) P Q h k = h e k
+
+pub map_if_ok : {X E : Type 0} (r : Result X E) (P Q : X → Type 0) → ((x : X) → P x → Q x) → IfOk r P → IfOk r Q
+map_if_ok (Ok x) P Q h k = h x k
+map_if_ok (Err e) P Q h k = tt
 
 pub map_ok : {X E : Type 0} (r : Result X E) (P Q : Type 0) → (P → Q) → OnOk r P → OnOk r Q
 map_ok (Ok x) P Q h k = h k

@@ -1,13 +1,15 @@
 //! Writing messages, each as one frame.
 
-ghost use Rattle.std.specs.Prelude.{◌≡◌, IfOk, IfErr, OnOk};
+ghost use Rattle.std.specs.Prelude.{◌≡◌, ◌⊎◌, IfOk, IfErr, OnOk};
+ghost use Rattle.cp_rpc.specs.Told.{told};
+ghost use Rattle.cp_stream.specs.Reader.{IsMemory};
 ghost use Rattle.cp_stream.specs.declared.fault.StreamFault.TheVariants.{Device};
 ghost use Rattle.cp_stream.specs.Write.{IsLaidOutAs, IsNotLaidOut, IsWrittenAs, IsUnwrittenFor, IsSent, IsCutShort, Sends, Breaks};
 
 use crate::fault::{Refusal, StreamFault, refused};
 use crate::tap::Tap;
 use cp_frame::{Mode, write_frame};
-use cp_rpc::{Message, draft_of};
+use cp_rpc::{Message, MessageView, SchemaFault, draft_of};
 use cp_tree::WriteFault;
 use cp_words::{Limits, Segments};
 use cp_writing::write_draft;
@@ -68,6 +70,25 @@ pub fn write_message<W: Write>(
     ensures stopped { IfErr result (IsCutShort W.contents mode limits limits.frame_words 1 message.now to.old to.new) }
 {
     write_message_in(alloc, to, message, mode, limits.frame_words(), limits)
+}
+
+/// The bytes of the frame that `write_message` writes the message of a view as. Faults are those, without a place, and S3 if
+/// memory runs out for the message.
+pub fn frame_of_view(
+    alloc: Global,
+    view: &MessageView,
+    mode: Mode,
+    limits: Limits,
+) -> Result<Vec<u8>, Refusal>
+    ensures written { IfOk result (λ b. IsWrittenAs mode limits limits.frame_words 1 (told view.now) b.items) }
+    ensures refused { IfErr result (λ r. IsMemory r ⊎ IsUnwrittenFor limits limits.frame_words 1 (told view.now) r) }
+{
+    let Ok(message) = view.message(alloc) else {
+        return Err(Refusal::Schema(SchemaFault::OutOfMemory));
+    };
+    let frame = frame_of(alloc, &message, mode, limits.frame_words(), limits);
+    drop(message);
+    frame
 }
 
 /// The frame that a message is written as.
