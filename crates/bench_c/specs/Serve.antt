@@ -10,9 +10,9 @@ use Rattle.cp_stream.specs.declared.fault.StreamFault.TheVariants as streams
 use Rattle.cp_serve.specs.declared.fault.ServeFault.{ServeFault}
 use Rattle.cp_serve.specs.declared.fault.ServeFault.TheVariants as faults
 use Rattle.cp_serve.specs.declared.report.Report.{Report}
-use Rattle.cp_serve.specs.declared.servant.Reply.{Reply}
-use Rattle.cp_serve.specs.declared.servant.Reply.TheVariants as replies
-use Rattle.cp_serve.specs.Servant.{Seen}
+use Rattle.cp_servants.specs.declared.servant.Reply.{Reply}
+use Rattle.cp_servants.specs.declared.servant.Reply.TheVariants as replies
+use Rattle.cp_servants.specs.Servant.{Seen}
 use Rattle.cp_serve.specs.Output.{Device, IsServed, IsStopped}
 use Rattle.bench_c.specs.declared.serve.Served.{Served}
 use Rattle.bench_c.specs.Given.{Gives, GivesNone}

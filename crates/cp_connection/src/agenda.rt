@@ -5,6 +5,7 @@ ghost use Rattle.cp_connection.specs.Effects.{closes};
 ghost use Rattle.cp_connection.specs.Noting.{Notes, IsTold, Grows, Stays, IsNew};
 ghost use Rattle.cp_machine.specs.declared.effect.Effect.{Effect};
 ghost use Rattle.cp_machine.specs.declared.effect.Effect.TheVariants.{Send};
+ghost use Rattle.cp_sizes.specs.Sizes.{AreWritable, IsWritable, IsWritten};
 
 use crate::happening::Happening;
 use crate::outgoing::Outgoing;
@@ -41,6 +42,7 @@ impl Agenda {
     /// Notes what effects ask for, in order, up to the vat's closing. Says whether it closed. Where memory runs
     /// out, nothing is noted.
     pub fn note(&mut self, effects: Effects) -> Result<bool, AllocError>
+        requires writable { AreWritable effects }
         ensures closed { IfOk result (λ closed. closed ≡ closes effects) }
         ensures noted { OnOk result (Notes self.old effects self.new) }
         ensures same { OnErr result (Stays self.old self.new) }
@@ -60,6 +62,7 @@ impl Agenda {
     /// Notes effects, in order, up to the vat's closing. Says whether it closed. Where memory runs out, the first
     /// of them were noted.
     fn note_each(&mut self, effects: Effects) -> Result<bool, AllocError>
+        requires writable { AreWritable effects }
         ensures closed { IfOk result (λ closed. closed ≡ closes effects) }
         ensures noted { OnOk result (Notes self.old effects self.new) }
         ensures grown { OnErr result (Grows self.old self.new) }
@@ -76,6 +79,7 @@ impl Agenda {
 
     /// Notes an effect.
     fn note_one(&mut self, effect: Effect) -> Result<(), AllocError>
+        requires writable { IsWritten effect }
         ensures noted { OnOk result (Notes self.old (effect ∷ []) self.new) }
         ensures same { OnErr result (Stays self.old self.new) }
     {
@@ -101,6 +105,7 @@ impl Agenda {
 
     /// Puts a message's frame after what is to go out.
     fn send(&mut self, message: &Message) -> Result<(), AllocError>
+        requires writable { IsWritable message.now }
         ensures noted { OnOk result (Notes self.old (Send message.now ∷ []) self.new) }
         ensures same { OnErr result (Stays self.old self.new) }
     {

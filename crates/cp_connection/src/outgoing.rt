@@ -1,11 +1,16 @@
 //! The bytes that are to be written.
 
 ghost use Rattle.std.specs.Prelude.{◌≡◌, [], OnOk, OnErr, length, take, drop};
+ghost use Rattle.cp_words.specs.Limits.{standard};
+ghost use Rattle.cp_stream.specs.Write.{IsNotLaidOut, IsUnwrittenFor};
+ghost use Rattle.cp_sizes.specs.Sizes.{IsWritable};
 ghost use Rattle.cp_connection.specs.Effects.{Puts};
+ghost use Rattle.cp_connection.specs.Noting.{IsUnput};
 
 use cp_frame::Mode;
 use cp_rpc::Message;
-use cp_stream::{Tap, write_message};
+use cp_stream::{Refusal, StreamFault, Tap, write_message};
+use cp_tree::WriteFault;
 use cp_words::Limits;
 use std::alloc::{AllocError, Global};
 use std::marker::Model;
@@ -78,6 +83,7 @@ impl Outgoing {
     /// Puts the frame of a message after them, in one segment within the standard limits. Where it can't be made,
     /// they stay as they were.
     pub(crate) fn put(&mut self, message: &Message, mode: Mode) -> Result<(), AllocError>
+        requires writable { IsWritable message.now }
         ensures put { OnOk result (Puts mode message.now self.old self.new) }
         ensures same { OnErr result (self.new ≡ self.old) }
     {
@@ -114,6 +120,7 @@ fn put_after(
     message: &Message,
     mode: Mode,
 ) -> Result<(), AllocError>
+    requires writable { IsWritable message.now }
     ensures put { OnOk result (Puts mode message.now block.old.items block.new.items) }
     ensures same { OnErr result (block.new.items ≡ block.old.items) }
 {
@@ -123,10 +130,43 @@ fn put_after(
     *block = after.into_inner();
     match written {
         Ok(()) => Ok(()),
-        // Each message that a vat sends can be written, and the block takes all bytes for which there is memory.
-        Err(_) => {
+        Err(fault) => {
             block.truncate(length);
-            Err(AllocError)
+            Err(memory_fault(fault, message))
         }
+    }
+}
+
+/// Why a message's frame isn't put after a block: memory ran out, for the frame or for the block.
+fn memory_fault(fault: StreamFault, message: &Message) -> AllocError
+    requires writable { IsWritable message.now }
+    requires fault { IsUnput message.now fault }
+{
+    match fault {
+        StreamFault::Refused { refusal, .. } => refusal_fault(refusal, message),
+        StreamFault::Device => AllocError,
+    }
+}
+
+/// Why a message's frame isn't made: memory ran out.
+fn refusal_fault(refusal: Refusal, message: &Message) -> AllocError
+    requires writable { IsWritable message.now }
+    requires refusal { IsUnwrittenFor standard standard.frame_words 1 message.now refusal }
+{
+    match refusal {
+        Refusal::Frame(_) => AllocError,
+        Refusal::Write(fault) => write_fault(fault, message),
+        Refusal::Tree(_) | Refusal::Schema(_) => unreachable!(),
+    }
+}
+
+/// Why a message isn't laid out: memory ran out.
+fn write_fault(fault: WriteFault, message: &Message) -> AllocError
+    requires writable { IsWritable message.now }
+    requires fault { IsNotLaidOut standard standard.frame_words 1 message.now fault }
+{
+    match fault {
+        WriteFault::OutOfMemory => AllocError,
+        _ => unreachable!(),
     }
 }

@@ -6,6 +6,8 @@ ghost use Rattle.cp_rpc.specs.Told.{told};
 ghost use Rattle.cp_stream.specs.Stream.{Holds, HoldsNone};
 ghost use Rattle.cp_machine.specs.declared.event.Event.TheVariants as events;
 ghost use Rattle.cp_machine.specs.declared.event.Value.TheVariants as values;
+ghost use Rattle.cp_sizes.specs.Sizes.{AreWritable};
+ghost use Rattle.cp_vat.specs.Stepping.{effects_of};
 ghost use Rattle.cp_connection.specs.Refusing.{refusal_of};
 ghost use Rattle.cp_connection.specs.Link.{new_link, HasCome};
 ghost use Rattle.cp_connection.specs.Doing.{Acts, answered};
@@ -130,6 +132,7 @@ impl Parts {
     fn conclude<V: Drop>(&mut self, acted: Result<Acted<V>, VatFault>) -> Result<V, ConnectionFault>
         requires is_open { self.old.fault ≡ None }
         requires keeps { KeepsUp self.old }
+        requires writable { AreWritable (effects_of acted) }
         ensures keeps { KeepsUp self.new }
         ensures acts { Concludes self.old acted result self.new }
     {

@@ -1,14 +1,20 @@
 -- Promises that are settled, and what is taken back where a table is full.
-use Rattle.std.specs.Prelude.{◌≡◌, ℕ, List, [], ◌∷◌, ◌++◌, Option, None, option_to_list, Result, Ok, Err}
-use Rattle.std.specs.FinMap.{insert}
+use Rattle.std.specs.Prelude.{◌≡◌, ℕ, List, [], ◌∷◌, ◌++◌, Option, Some, None, option_to_list, Result, Ok, Err}
+use Rattle.std.specs.FinMap.{get, insert}
 use Rattle.cp_tables.specs.Table.{Table, with_change}
 use Rattle.cp_tables.specs.declared.counted.Counted.{Counted}
+use Rattle.cp_tables.specs.declared.exchange.Exchange.{Exchange}
+use Rattle.cp_refs.specs.Values.{ValueMaps}
 use Rattle.cp_refs.specs.declared.cap.Cap.{Cap}
+use Rattle.cp_refs.specs.declared.outcome.Outcome.{Outcome}
+use Rattle.cp_machine.specs.Give.{SettleTied}
 use Rattle.cp_machine.specs.State.{State, Over}
 use Rattle.cp_machine.specs.Take.{lowered_by}
 use Rattle.cp_machine.specs.Then.{Done}
 use Rattle.cp_machine.specs.declared.effect.Effect.{Effect}
+use Rattle.cp_machine.specs.declared.entry.AnswerEntry.{AnswerEntry}
 use Rattle.cp_machine.specs.declared.fault.PeerFault.{PeerFault}
+use Rattle.cp_state.specs.declared.parts.Core.{Core}
 use Rattle.cp_state.specs.declared.halt.Halt.{Halt}
 use Rattle.cp_state.specs.declared.halt.Halt.TheVariants as halts
 use Rattle.cp_rules.specs.declared.settle.Settled.{Settled}
@@ -47,3 +53,19 @@ abbrev pub Settles : {A : Type 0} → (Result Done PeerFault → Type 0) → Res
 Settles Rule (Ok x) before after new = (first : List Effect) × (after ≡ before ++ first) × Rule (Ok (first, new x))
 Settles Rule (Err (halts.Fault fault)) before after new = Rule (Err fault)
 Settles Rule (Err halts.OutOfMemory) before after new = Unit {0}
+
+-- In any state with these questions promises are settled by a rule: their values and the exports become these, with its effects after those before it. The gates of what it settled are still to be ended.
+abbrev pub SettlesBy : {A : Type 0} → (State → Result Done PeerFault → Type 0) → ValueMaps → Table (Counted Cap) → Result A Halt → List Effect → List Effect → ValueMaps → Table (Counted Cap) → (A → List Settled) → Type 0
+SettlesBy Rule old exports result before after new raised settled =
+    (s : State) → s.values.questions ≡ old.questions
+    → Settles (Rule (settling s old.promises exports [])) result before after (λ x. settling s new.promises raised (settled x))
+
+-- so the promises that are tied to an answer
+abbrev pub SettlesTiedTo : {A : Type 0} → Core → ℕ → Outcome → Result A Halt → List Effect → List Effect → Core → (A → List Settled) → Type 0
+SettlesTiedTo old id outcome result before after new settled =
+    (entry : Exchange AnswerEntry) → get old.answers id ≡ Some entry
+    → SettlesBy (λ s. SettleTied s outcome entry.kept.tied) old.values old.exports result before after new.values new.exports settled
+
+-- nothing but promises and exports changed
+abbrev pub OnlySettles : Core → Core → Type 0
+OnlySettles old new = new ≡ record old { values = record old.values { promises = new.values.promises }; exports = new.exports }

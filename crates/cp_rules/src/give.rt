@@ -1,18 +1,17 @@
 //! How outcomes are given to answers.
 
-ghost use Rattle.std.specs.Prelude.{◌≡◌, [], Some, IfOk};
+ghost use Rattle.std.specs.Prelude.{◌≡◌, [], Some, IfOk, OnOk};
 ghost use Rattle.std.specs.FinMap as map;
-ghost use Rattle.cp_tables.specs.declared.exchange.Exchange.{Exchange};
 ghost use Rattle.cp_tables.specs.declared.exchange.Stage.TheVariants as stages;
 ghost use Rattle.cp_machine.specs.State.{State};
-ghost use Rattle.cp_machine.specs.Give.{Give, GiveAnswer, GiveBy, Returns, SettleTied, return_of, returned_mentions};
+ghost use Rattle.cp_machine.specs.Give.{Give, GiveAnswer, GiveBy, Returns, return_of, returned_mentions};
 ghost use Rattle.cp_machine.specs.InUse.{caps_of};
 ghost use Rattle.cp_machine.specs.declared.entry.AnswerEntry.{AnswerEntry};
 ghost use Rattle.cp_state.specs.Halts.{Acts, IfFault, Leaves};
 ghost use Rattle.cp_state.specs.StateOf.{state_of};
 ghost use Rattle.cp_rules.specs.Leading.{with_parts};
 ghost use Rattle.cp_rules.specs.Ungiven.{AllEnd, IsUngiven};
-ghost use Rattle.cp_rules.specs.Settling.{Settles, lowered_back, settling};
+ghost use Rattle.cp_rules.specs.Settling.{OnlySettles, SettlesTiedTo, lowered_back};
 
 use crate::entry::{note_given, remove_answer};
 use crate::give_own::give_own;
@@ -129,8 +128,8 @@ fn settle_promises(
 ) -> Result<Vec<Settled>, Halt>
     requires ungiven { IsUngiven (state_of core.old) (Origin.Answer id) }
     requires ends { AllEnd core.old.values (caps_of outcome.now) }
-    ensures settled { (entry : Exchange AnswerEntry) → map.get core.old.answers id ≡ Some entry → (s : State) → s.values.questions ≡ core.old.values.questions → Settles (SettleTied (settling s core.old.values.promises core.old.exports []) outcome.now entry.kept.tied) result effects.old.items effects.new.items (λ settled. settling s core.new.values.promises core.new.exports settled.items) }
-    ensures promises { IfOk result (λ _. core.new ≡ record core.old { values = record core.old.values { promises = core.new.values.promises }; exports = core.new.exports }) }
+    ensures settled { SettlesTiedTo core.old id outcome.now result effects.old.items effects.new.items core.new (λ v. v.items) }
+    ensures promises { OnOk result (OnlySettles core.old core.new) }
     ensures unchanged { IfFault result (core.new ≡ core.old) }
 {
     let Some(answer) = core.answers.get(id) else {

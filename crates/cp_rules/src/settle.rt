@@ -13,7 +13,7 @@ ghost use Rattle.cp_state.specs.Halts.{Acts, IfFault, Leaves};
 ghost use Rattle.cp_state.specs.Queue.{with_over};
 ghost use Rattle.cp_state.specs.StateOf.{state_of};
 ghost use Rattle.cp_rules.specs.Ungiven.{AllEnd, AreOpenOnce};
-ghost use Rattle.cp_rules.specs.Settling.{Settles, lowered_back, over_settled, raised_by, reopened, settling};
+ghost use Rattle.cp_rules.specs.Settling.{Settles, SettlesBy, lowered_back, over_settled, raised_by, reopened};
 
 use crate::come_to::come_to;
 use crate::say::{mention, say_end};
@@ -69,7 +69,7 @@ pub(crate) fn settle_tied(
 ) -> Result<Vec<Settled>, Halt>
     requires unsettled { AreOpenOnce values.old.promises tied.now }
     requires ends { AllEnd values.old (caps_of outcome.now) }
-    ensures settled { (s : State) → s.values.questions ≡ values.old.questions → Settles (SettleTied (settling s values.old.promises exports.old []) outcome.now tied.now) result effects.old.items effects.new.items (λ settled. settling s values.new.promises exports.new settled.items) }
+    ensures settled { SettlesBy (λ s. SettleTied s outcome.now tied.now) values.old exports.old result effects.old.items effects.new.items values.new exports.new (λ v. v.items) }
     ensures promises { IfOk result (λ _. values.new ≡ record values.old { promises = values.new.promises }) }
     ensures unchanged { IfFault result ((values.new ≡ values.old) × (exports.new ≡ exports.old)) }
 {
@@ -124,7 +124,7 @@ fn settle_value(
 ) -> Result<Settled, Halt>
     requires unsettled { map.get values.old.promises promise ≡ Some None }
     requires ends { HasRoute values.old value }
-    ensures settled { (s : State) → s.values.questions ≡ values.old.questions → Settles (Settle (settling s values.old.promises exports.old []) promise value) result effects.old.items effects.new.items (λ one. settling s values.new.promises exports.new (one ∷ [])) }
+    ensures settled { SettlesBy (λ s. Settle s promise value) values.old exports.old result effects.old.items effects.new.items values.new exports.new (λ one. one ∷ []) }
     ensures put { IfOk result (λ one. values.new ≡ record values.old { promises = map.insert values.old.promises promise (Some one.value) }) }
     ensures back { IfOk result (λ one. lowered_back exports.new (option_to_list one.raised) ≡ exports.old) }
     ensures named { IfOk result (λ one. one.promise ≡ promise) }

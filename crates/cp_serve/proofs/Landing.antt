@@ -12,7 +12,7 @@ use Rattle.cp_stream.specs.Write.{IsWrittenAs}
 use Rattle.cp_serve.specs.declared.fault.ServeFault.{ServeFault}
 use Rattle.cp_serve.specs.declared.fault.ServeFault.TheVariants as faults
 use Rattle.cp_serve.specs.declared.serving.Server.{Server}
-use Rattle.cp_serve.specs.Servant.{Seen}
+use Rattle.cp_servants.specs.Servant.{Seen}
 use Rattle.cp_serve.specs.WorkOf.{work_of}
 use Rattle.cp_serve.specs.Output.{Device, AreWrittenAs, Begin, Writes, WritesPart, IsCutOff, StopsFor}
 use Rattle.cp_serve.specs.Reached.{Reached, Serves, GoesOn, Fills, IsUnput, IsUnwritten, ahead}
@@ -345,10 +345,10 @@ either_way (Ok x) h k f g = f x h
 either_way (Err e) h k f g = g e k
 
 -- why messages weren't put is why they aren't written
-pub unput_unwritten : (place : ℕ) (sent : List Message) (old new : Device) (fault : ServeFault) → IsUnput place sent fault → IsUnwritten place sent old new fault
-unput_unwritten place sent old new (faults.Stream (streams.Refused at refusal)) h = h
-unput_unwritten place sent old new (faults.Stream streams.Device) h = absurd h
-unput_unwritten place sent old new faults.OutOfMemory h = tt
+pub unput_unwritten : (place : ℕ) (old new : Device) (fault : ServeFault) → IsUnput place fault → IsUnwritten place old new fault
+unput_unwritten place old new (faults.Stream (streams.Refused at refusal)) h = h
+unput_unwritten place old new (faults.Stream streams.Device) h = absurd h
+unput_unwritten place old new faults.OutOfMemory h = tt
 
 pub after_err : {T E : Type 0} {P Q : Type 0} (r : Result T E) → OnErr r P → (P → Q) → OnErr r Q
 after_err (Ok x) h f = h

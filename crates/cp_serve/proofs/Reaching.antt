@@ -23,15 +23,14 @@ use Rattle.cp_serve.specs.declared.fault.ServeFault.TheVariants as faults
 use Rattle.cp_serve.specs.declared.report.Report.{Report}
 use Rattle.cp_serve.specs.declared.serving.Server.{Server}
 use Rattle.cp_serve.specs.declared.session.Session.{Session}
-use Rattle.cp_serve.specs.Servant.{Seen}
+use Rattle.cp_servants.specs.Servant.{Seen}
 use Rattle.cp_serve.specs.Work.{Work}
 use Rattle.cp_serve.specs.WorkOf.{work_of}
 use Rattle.cp_serve.specs.Service.{TakesAll, none_taken, takes_more, TakesMessage, none_yet, one_more, Rounds, written, new_work}
 use Rattle.cp_serve.specs.Output.{Device, Writes, WritesPart, IsPlace, IsFaultOfRest, IsOver, HasTaken, IsServed, IsCutOff, StopsFor, IsStopped, ReadsTo}
 use Rattle.cp_serve.specs.Reached.{CountsMore, Reached, ReadsOn, Serves, GoesOn, Fills, OnlyWrites, TakesNext, TakesNone, IsRefusedAt, IsUntaken, IsUnput, IsUnwritten, IsUnended, EndsInside, EndsSo, EndsPart, Closes}
 use Rattle.cp_serve.proofs.Running.{none_some, ran_takes, ran_closes, run_of}
-use Rattle.cp_serve.proofs.Writable.{only_memory}
-use Rattle.cp_serve.proofs.Written.{writes_none, writes_both, writes_all, part_later, own_after}
+use Rattle.cp_serve.proofs.Written.{writes_none, writes_both, writes_all, part_later}
 
 -- more bytes follow
 pub messages_grow : (mode : Mode) (limits : Bounds) (b : List ℕ) (ms : List Message) (rest more : List ℕ) → Messages mode limits b ms rest → Messages mode limits (b ++ more) ms (rest ++ more)
@@ -159,12 +158,12 @@ module _ {mode : Mode} {start : List Seen} {held : Device} where
   -- and so the run stops
   pub stops_putting : (bytes rest piece back : List ℕ) (from left : Device) (s s2 : Server) {objects others : List Seen} (to to' : Device) → Reached mode start held bytes rest s objects to
       → (work_of s.session).closed ≡ None → (next : TakesNext rest s piece objects s2 back others) → WritesPart s2.mode (work_of s2.session).sent to to'
-      → (fault : ServeFault) → IsUnput s2.at (work_of s2.session).sent fault → StopsFor mode start ((bytes ++ next.front) ++ back) from left held to' others fault
+      → (fault : ServeFault) → IsUnput s2.at fault → StopsFor mode start ((bytes ++ next.front) ++ back) from left held to' others fault
   stops_putting bytes rest piece back from left s s2 to to' r is_open next part (faults.Stream (streams.Refused at refusal)) h =
       let place : IsPlace ((bytes ++ next.front) ++ back) back s2.at =
       place_stays (bytes ++ next.front) [] back s2.at (place_more bytes rest next.front s.at s2.at (rest_fits mode standard bytes r.taken rest r.messages) r.place next.place) in
       let cut = cut_writing bytes rest piece back left.bytes s s2 to to' r is_open next part in
-      inr (cut, only_memory (IsOver ((bytes ++ next.front) ++ back) cut.rest left.bytes) cut.starts refusal (own_after r.sent (work_of s2.session).sent refusal h.1), h.0 ∙ place)
+      inr (cut, h.1, h.0 ∙ place)
   stops_putting bytes rest piece back from left s s2 to to' r is_open next part (faults.Stream streams.Device) h = absurd h
   stops_putting bytes rest piece back from left s s2 to to' r is_open next part faults.OutOfMemory h = cut_writing bytes rest piece back left.bytes s s2 to to' r is_open next part
 
@@ -364,8 +363,8 @@ module _ (old : Server) (objects : List Seen) (before : Device) where
   }
 
   pub why_unended : (mid s2 : Server) {between : List Seen} (to to' : Device) → (h : Closes old objects before true mid between to) → OnlyWrites mid s2 → (fault : ServeFault)
-      → IsUnwritten s2.at (work_of s2.session).sent to to' fault → IsUnended old.at (h.sent ++ (work_of s2.session).sent) before to' fault
-  why_unended mid s2 to to' h did (faults.Stream (streams.Refused at refusal)) why = (why.0 ∙ did.at ∙ h.only.at, own_after h.sent (work_of s2.session).sent refusal why.1)
+      → IsUnwritten s2.at to to' fault → IsUnended old.at before to' fault
+  why_unended mid s2 to to' h did (faults.Stream (streams.Refused at refusal)) why = (why.0 ∙ did.at ∙ h.only.at, why.1)
   why_unended mid s2 to to' h did (faults.Stream streams.Device) why = subst (λ (n : ℕ). FailedOnce n to'.failures) h.writes.counted why
   why_unended mid s2 to to' h did faults.OutOfMemory why = tt
 
@@ -383,11 +382,11 @@ module _ {mode : Mode} {start : List Seen} {held : Device} where
 
   -- the rounds stopped
   pub ends_short : (bytes rest : List ℕ) (from left : Device) (others : List Seen) {s : Server} {objects : List Seen} (mid to : Device) → Reached mode start held bytes rest s objects mid
-      → Consumes from.bytes left.bytes bytes → IsOver bytes rest left.bytes (work_of s.session) → (p : EndsPart s objects mid to) → (fault : ServeFault) → IsUnended s.at p.sent mid to fault
+      → Consumes from.bytes left.bytes bytes → IsOver bytes rest left.bytes (work_of s.session) → (p : EndsPart s objects mid to) → (fault : ServeFault) → IsUnended s.at mid to fault
       → IsStopped mode start from left held to others fault
   ends_short bytes rest from left others mid to r consumed over p (faults.Stream (streams.Refused at refusal)) h =
       let cut = cut_closing bytes rest left.bytes mid to r over p in
-      (bytes, consumed, inr (cut, only_memory (IsOver bytes rest left.bytes) cut.starts refusal (own_after r.sent p.sent refusal h.1), h.0 ∙ r.place))
+      (bytes, consumed, inr (cut, h.1, h.0 ∙ r.place))
   ends_short bytes rest from left others mid to r consumed over p (faults.Stream streams.Device) h =
       (bytes, consumed, (inr (subst (λ (n : ℕ). FailedOnce n to.failures) r.writes.counted h), cut_closing bytes rest left.bytes mid to r over p))
   ends_short bytes rest from left others mid to r consumed over p faults.OutOfMemory h = (bytes, consumed, cut_closing bytes rest left.bytes mid to r over p)
@@ -484,7 +483,7 @@ module _ {mode : Mode} {start : List Seen} {held : Device} where
   -- the whole piece was read, and what a message that it ends leads to wasn't all put after the block
   pub stops_after : (bytes fed rest left piece back : List ℕ) (from upto : Device) (s s2 : Server) {objects others : List Seen} (to to' : Device) → piece ≡ fed ++ left
       → Reached mode start held (bytes ++ fed) rest s objects to → (work_of s.session).closed ≡ None → (next : TakesNext rest s left objects s2 back others)
-      → WritesPart s2.mode (work_of s2.session).sent to to' → (fault : ServeFault) → IsUnput s2.at (work_of s2.session).sent fault
+      → WritesPart s2.mode (work_of s2.session).sent to to' → (fault : ServeFault) → IsUnput s2.at fault
       → StopsFor mode start (bytes ++ piece) from upto held to' others fault
   stops_after bytes fed rest left piece back from upto s s2 {others = others} to to' e r is_open next part fault why =
       let whole : ((bytes ++ fed) ++ next.front) ++ back ≡ bytes ++ piece =

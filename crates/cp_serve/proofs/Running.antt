@@ -15,10 +15,10 @@ use Rattle.cp_machine.specs.declared.event.Event.{Event}
 use Rattle.cp_machine.specs.declared.event.Event.TheVariants as events
 use Rattle.cp_machine.specs.declared.event.Value.TheVariants as values
 use Rattle.cp_machine.specs.declared.fault.VatFault.TheVariants as refusals
-use Rattle.cp_serve.specs.declared.servant.Reply.{Reply}
-use Rattle.cp_serve.specs.declared.servant.Reply.TheVariants as replies
-use Rattle.cp_serve.specs.declared.servant.Settled.{Settled}
-use Rattle.cp_serve.specs.Servant.{Seen}
+use Rattle.cp_servants.specs.declared.servant.Reply.{Reply}
+use Rattle.cp_servants.specs.declared.servant.Reply.TheVariants as replies
+use Rattle.cp_servants.specs.declared.servant.Settled.{Settled}
+use Rattle.cp_servants.specs.Servant.{Seen}
 use Rattle.cp_serve.specs.Work.{Work, IsDone, Answers, is_taken, was_closed, is_replaced, Replies, Tries, is_released, is_used, is_dropped, TriesEach, Releases}
 use Rattle.cp_serve.specs.Service.{Delivers, to_object, to_none, WorksOff, none_left, acts, Settles, gives_none, is_stranger, is_awaited, PollsFrom, is_closed, polls, Rounds, releases, TakesMessage, takes, TakesAll, none_taken, takes_more, ClosesAll, none_yet, one_more, written, new_work}
 use Rattle.cp_serve.specs.History.{received_by, received, effects_of, sent_by, closed_by, IsRunOf}

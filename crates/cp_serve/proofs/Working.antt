@@ -1,5 +1,5 @@
 -- How work goes on.
-use Rattle.std.proofs.Common.{◌==◌, ◌≡◌, ◌↔◌, ◌<◌, ◌+◌, ℕ, drop, get_or, add-one, List, [], ◌∷◌, ◌++◌, Option, Some, None, IsSome, Bool, true, false, IsTrue, ◌||◌, Result, Ok, Err, OnOk, refl, sym, ap, ◌∙◌, subst, length, arith, append-nil}
+use Rattle.std.proofs.Common.{◌==◌, ◌≡◌, ◌↔◌, ◌<◌, ◌+◌, ℕ, drop, get_or, add-one, List, [], ◌++◌, Option, Some, None, IsSome, Bool, true, false, IsTrue, ◌||◌, Result, Ok, Err, OnOk, refl, sym, ap, ◌∙◌, subst, length, arith, append-nil}
 use Rattle.std.proofs.lemmas.Bool.{false≢true}
 use Rattle.std.proofs.lemmas.Bool.Decides.{nat_tests}
 use Rattle.std.proofs.lemmas.List.{nil_from_length}
@@ -9,8 +9,8 @@ use Rattle.cp_tables.specs.Table.{Table}
 use Rattle.cp_tables.proofs.TableLemmas.{is_remove}
 use Rattle.cp_refs.specs.declared.call.Origin.{Origin}
 use Rattle.cp_machine.specs.State.{State}
-use Rattle.cp_serve.specs.declared.servant.Settled.{Settled}
-use Rattle.cp_serve.specs.Servant.{Seen}
+use Rattle.cp_servants.specs.declared.servant.Settled.{Settled}
+use Rattle.cp_servants.specs.Servant.{Seen}
 use Rattle.cp_serve.specs.Work.{Work, Did, Answers, Tries, TriesEach}
 use Rattle.cp_serve.specs.Service.{Settles, is_stranger, is_awaited, WorksOff, none_left, PollsFrom}
 
@@ -40,10 +40,6 @@ settles_awaited old mid w settled origin a {new = new} e got r p answers =
 
 pub works_off_none : (old new : Work) (objects : List Seen) → new ≡ old → old.effects ≡ [] → WorksOff old objects new objects
 works_off_none old new objects e none = rw e (none_left none)
-
-pub no_items : {X : Type 0} (xs : List X) → length xs ≡ 0 → xs ≡ []
-no_items [] e = refl
-no_items (x ∷ xs) e = absurd (omega arith)
 
 -- nothing more was given
 pub so_far : {place : ℕ} {old new : Work} {objects others : List Seen} (gave : Bool) → PollsFrom place old objects (gave || false) new others → PollsFrom place old objects gave new others

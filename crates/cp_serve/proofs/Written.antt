@@ -7,15 +7,15 @@ use Rattle.cp_words.specs.Limits.{Bounds, standard}
 use Rattle.cp_frame.specs.declared.mode.Mode.{Mode}
 use Rattle.cp_rpc.specs.declared.message.Message.{Message}
 use Rattle.cp_stream.specs.declared.tap.Tap.{Tap}
-use Rattle.cp_stream.specs.declared.fault.Refusal.{Refusal}
 use Rattle.cp_stream.specs.declared.fault.StreamFault.{StreamFault}
 use Rattle.cp_stream.specs.declared.fault.StreamFault.TheVariants as faults
 use Rattle.cp_stream.specs.Tap.{inner_of}
 use Rattle.cp_stream.specs.Write.{IsWrittenAs, IsSent, IsCutShort, IsUnwrittenFor}
 use Rattle.cp_serve.specs.declared.fault.ServeFault.{ServeFault}
-use Rattle.cp_serve.specs.declared.fault.ServeFault.TheVariants as serving
-use Rattle.cp_serve.specs.Reached.{ahead, unput, IsOwnFault, IsUnput}
+use Rattle.cp_serve.specs.Reached.{ahead, unput, IsUnput}
 use Rattle.cp_serve.specs.Output.{Device, AreWrittenAs, Writes, Begin, WritesPart}
+use Rattle.cp_sizes.specs.Sizes.{IsWritable}
+use Rattle.cp_serve.proofs.Writable.{for_memory}
 
 are_both : (mode : Mode) (a b : List Message) (x y : List ℕ) → AreWrittenAs mode a x → AreWrittenAs mode b y → AreWrittenAs mode (a ++ b) (x ++ y)
 are_both mode [] b x y h k = subst (λ (z : List ℕ). AreWrittenAs mode b (z ++ y)) (sym h) k
@@ -27,7 +27,7 @@ begin_more mode [] (m ∷ more) b h = inl h
 begin_more mode (x ∷ a) more b h = h
 
 -- a list at one of its elements
-split_at : (items : List Message) (i : ℕ) (m : Message) → i < length items → m ≡ get_or items i m → items ≡ take i items ++ ((m ∷ []) ++ drop (i + 1) items)
+pub split_at : (items : List Message) (i : ℕ) (m : Message) → i < length items → m ≡ get_or items i m → items ≡ take i items ++ ((m ∷ []) ++ drop (i + 1) items)
 split_at items i m h e =
     sym (take-append-drop i items) ∙ ap (λ (x : List Message). take i items ++ x) (drop_more items i m h ∙ ap (λ (x : Message). x ∷ drop (i + 1) items) (sym e))
 
@@ -89,30 +89,6 @@ module _ {mode : Mode} where
   part_next items i m old mid new h e a b =
       subst (λ (x : List Message). WritesPart mode x old new) (sym (split_at items i m h e)) (part_after (take i items) (m ∷ []) (drop (i + 1) items) old mid new a b)
 
--- a fault of one of some messages is one of more
-own_within : (a b c : List Message) (refusal : Refusal) → IsOwnFault b refusal → IsOwnFault (a ++ (b ++ c)) refusal
-own_within a b c refusal h = record {
-  message = h.message;
-  among = (
-    a ++ h.among.0,
-    h.among.1 ++ c,
-    ap (λ (x : List Message). a ++ (x ++ c)) h.among.2 ∙ ap (λ (x : List Message). a ++ x) (append_assoc h.among.0 (h.message ∷ h.among.1) c)
-        ∙ sym (append_assoc a h.among.0 (h.message ∷ (h.among.1 ++ c))),
-  );
-  unwritten = h.unwritten;
-}
-
-pub own_after : (a b : List Message) (refusal : Refusal) → IsOwnFault b refusal → IsOwnFault (a ++ b) refusal
-own_after a b refusal h = subst (λ (x : List Message). IsOwnFault (a ++ x) refusal) (append-nil b) (own_within a b [] refusal h)
-
--- the first messages were put after a block, and the next wasn't
-pub unput_next : (items : List Message) (i : ℕ) (m : Message) (place before : ℕ) → i < length items → m ≡ get_or items i m → before ≡ place → (fault : ServeFault) → IsUnput before (m ∷ []) fault
-    → IsUnput place items fault
-unput_next items i m place before h e p (serving.Stream (faults.Refused at refusal)) why =
-    (why.0 ∙ p, subst (λ (x : List Message). IsOwnFault x refusal) (sym (split_at items i m h e)) (own_within (take i items) (m ∷ []) (drop (i + 1) items) refusal why.1))
-unput_next items i m place before h e p (serving.Stream faults.Device) why = absurd why
-unput_next items i m place before h e p serving.OutOfMemory why = tt
-
 -- the bytes that a block holds
 abbrev pub held_by : Vec ℕ Global → Option (List ℕ)
 held_by block = Some block.items
@@ -160,9 +136,9 @@ module _ (mode : Mode) (limits : Bounds) (m : Message) (old new : Tap (Vec ℕ G
       appends = grows to h.2.sent h.2.passes.appends;
     }
 
-  -- and the fault says why
-  pub cut_why : (place : ℕ) (fault : StreamFault) (told : ServeFault) → told ≡ unput place fault → IsCutShort held_by mode limits limits.frame_words 1 m old new fault → IsUnput place (m ∷ []) told
-  cut_why place (faults.Refused at refusal) told e h =
-      subst (λ (f : ServeFault). IsUnput place (m ∷ []) f) (sym e)
-      (refl, record { message = m; among = ([], [], refl); unwritten = subst (λ (l : Bounds). IsUnwrittenFor l l.frame_words 1 m refusal) is_standard h.2 })
-  cut_why place faults.Device told e h = subst (λ (f : ServeFault). IsUnput place (m ∷ []) f) (sym e) tt
+  -- and the fault says why: memory ran out
+  pub cut_why : IsWritable m → (place : ℕ) (fault : StreamFault) (told : ServeFault) → told ≡ unput place fault → IsCutShort held_by mode limits limits.frame_words 1 m old new fault → IsUnput place told
+  cut_why writes place (faults.Refused at refusal) told e h =
+      subst (λ (f : ServeFault). IsUnput place f) (sym e)
+      (refl, for_memory m writes refusal (subst (λ (l : Bounds). IsUnwrittenFor l l.frame_words 1 m refusal) is_standard h.2))
+  cut_why writes place faults.Device told e h = subst (λ (f : ServeFault). IsUnput place f) (sym e) tt

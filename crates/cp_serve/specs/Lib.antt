@@ -1,5 +1,3 @@
-pub mod Outcomes
-pub mod Servant
 pub mod Work
 pub mod Service
 pub mod History

@@ -1,5 +1,5 @@
 -- What a server reads and writes.
-use Rattle.std.specs.Prelude.{◌≡◌, ◌≢◌, ◌⊎◌, ℕ, ◌-◌, ◌^◌, ◌≤◌, min, Bool, false, IsSome, List, [], ◌∷◌, ◌++◌, Option, None, length}
+use Rattle.std.specs.Prelude.{◌≡◌, ◌≢◌, ◌⊎◌, ℕ, ◌-◌, ◌^◌, ◌≤◌, min, Bool, false, IsSome, List, [], ◌∷◌, ◌++◌, Option, None, length, map}
 use Rattle.std.specs.Io.KnownBytes.{Appends, Consumes, IsAtEnd}
 use Rattle.cp_words.specs.Limits.{standard}
 use Rattle.cp_frame.specs.declared.mode.Mode.{Mode}
@@ -19,7 +19,7 @@ use Rattle.cp_stream.specs.Write.{IsWrittenAs}
 use Rattle.cp_serve.specs.declared.fault.ServeFault.{ServeFault}
 use Rattle.cp_serve.specs.declared.fault.ServeFault.TheVariants as faults
 use Rattle.cp_serve.specs.declared.report.Report.{Report}
-use Rattle.cp_serve.specs.Servant.{Seen}
+use Rattle.cp_servants.specs.Servant.{Seen}
 use Rattle.cp_serve.specs.Work.{Work}
 use Rattle.cp_serve.specs.Service.{TakesAll, ClosesAll, new_work}
 use Rattle.cp_serve.specs.History.{IsRunOf}
@@ -32,6 +32,26 @@ pub record Device : Type 0 where
 -- the device after a tap
 abbrev pub device : {T : Type 0} → (T → Option (List ℕ)) → Tap T → Device
 device known tap = record { bytes = known (inner_of tap); failures = failures_of tap }
+
+-- What a run was given, and what it left: the objects, as they are seen, the reader and the writer.
+pub record Ends : Type 0 where
+  pub objects : List Seen
+  pub others : List Seen
+  pub from : Device
+  pub left : Device
+  pub old : Device
+  pub new : Device
+
+-- these of a call, by how its objects are seen and by what its reader and its writer tell of their bytes
+abbrev pub ends : {O R W : Type 0} → (O → Seen) → List O → List O → (R → Option (List ℕ)) → Tap R → Tap R → (W → Option (List ℕ)) → Tap W → Tap W → Ends
+ends seen objects others remaining from left contents old new = record {
+  objects = map seen objects;
+  others = map seen others;
+  from = device remaining from;
+  left = device remaining left;
+  old = device contents old;
+  new = device contents new;
+}
 
 -- the bytes are the frames of these messages, each of one segment, one after another
 abbrev pub AreWrittenAs : Mode → List Message → List ℕ → Type 0
@@ -173,3 +193,13 @@ IsUnread mode objects from left old new others =
 abbrev pub ReadsTo : Mode → List Seen → Device → Device → Device → Device → List Seen → ServeFault → Type 0
 ReadsTo mode objects from left old new others (faults.Stream streams.Device) = (left.failures ≡ from.failures) ⊎ IsUnread mode objects from left old new others
 ReadsTo mode objects from left old new others fault = left.failures ≡ from.failures
+
+-- the same of what a run was given and left
+abbrev pub IsServedAt : Mode → Ends → Report → Type 0
+IsServedAt mode e report = IsServed mode e.objects e.from e.left e.old e.new report e.others
+
+abbrev pub IsStoppedAt : Mode → Ends → ServeFault → Type 0
+IsStoppedAt mode e fault = IsStopped mode e.objects e.from e.left e.old e.new e.others fault
+
+abbrev pub ReadsUpTo : Mode → Ends → ServeFault → Type 0
+ReadsUpTo mode e fault = ReadsTo mode e.objects e.from e.left e.old e.new e.others fault

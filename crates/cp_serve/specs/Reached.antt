@@ -1,29 +1,28 @@
 -- What a server has come to. No public clause names these.
-use Rattle.std.specs.Prelude.{◌≡◌, ◌⊎◌, ℕ, ◌+◌, ◌-◌, ◌^◌, min, Bool, false, IsSome, List, [], ◌∷◌, ◌++◌, Option, None, length}
-use Rattle.std.specs.Io.KnownBytes.{append_known}
+use Rattle.std.specs.Prelude.{◌≡◌, ◌⊎◌, ℕ, ◌+◌, ◌-◌, ◌^◌, min, Bool, false, IsSome, List, [], ◌++◌, Option, None, length, map}
+use Rattle.std.specs.Io.KnownBytes.{append_known, Consumes, IsAtEnd}
 use Rattle.cp_words.specs.Limits.{standard}
 use Rattle.cp_frame.specs.declared.mode.Mode.{Mode}
 use Rattle.cp_frame.specs.Reader.{StandsFor, IsReading}
 use Rattle.cp_frame.specs.Stream.{Open}
 use Rattle.cp_rpc.specs.declared.message.Message.{Message}
-use Rattle.cp_stream.specs.declared.fault.Refusal.{Refusal}
 use Rattle.cp_stream.specs.declared.fault.StreamFault.{StreamFault}
 use Rattle.cp_stream.specs.declared.fault.StreamFault.TheVariants as streams
 use Rattle.cp_stream.specs.Stream.{Messages, IsFrameOf}
 use Rattle.cp_stream.specs.Reader.{CountsOn, IsMemory}
 use Rattle.cp_stream.specs.Read.{FailedOnce}
-use Rattle.cp_stream.specs.Write.{IsUnwrittenFor, Passes}
+use Rattle.cp_stream.specs.Write.{Passes}
 use Rattle.cp_stream.specs.Tap.{failures_of}
 use Rattle.cp_stream.specs.declared.tap.Tap.{Tap}
 use Rattle.cp_serve.specs.declared.fault.ServeFault.{ServeFault}
 use Rattle.cp_serve.specs.declared.fault.ServeFault.TheVariants as faults
 use Rattle.cp_serve.specs.declared.report.Report.{Report}
 use Rattle.cp_serve.specs.declared.serving.Server.{Server}
-use Rattle.cp_serve.specs.Servant.{Seen}
+use Rattle.cp_servants.specs.Servant.{Seen}
 use Rattle.cp_serve.specs.Work.{Work}
 use Rattle.cp_serve.specs.WorkOf.{work_of}
 use Rattle.cp_serve.specs.Service.{TakesAll, TakesMessage, ClosesAll, new_work}
-use Rattle.cp_serve.specs.Output.{Device, Writes, WritesPart, IsPlace, IsFaultOfRest}
+use Rattle.cp_serve.specs.Output.{Device, device, Ends, Writes, WritesPart, IsPlace, IsFaultOfRest, IsOver, IsAllocationFailure, IsServedAt, IsStopped, IsStoppedAt, ReadsTo, ReadsUpTo, StopsFor}
 
 -- the device, as if these bytes had gone out to it
 abbrev pub ahead : Device → List ℕ → Device
@@ -123,32 +122,22 @@ abbrev pub placed : ℕ → StreamFault → StreamFault
 placed at (streams.Refused place refusal) = streams.Refused at refusal
 placed at streams.Device = streams.Device
 
--- the message is one of these
-abbrev pub IsAmong : Message → List Message → Type 0
-IsAmong m ms = (front : List Message) × (back : List Message) × (ms ≡ front ++ m ∷ back)
-
--- one of these messages isn't written: memory ran out for its frame, or its tree isn't one that can be
-pub record IsOwnFault (sent : List Message) (refusal : Refusal) : Type 0 where
-  pub message : Message
-  pub among : IsAmong message sent
-  pub unwritten : IsUnwrittenFor standard standard.frame_words 1 message refusal
-
 -- the fault of a block, which takes all bytes for which there is memory
 abbrev pub unput : ℕ → StreamFault → ServeFault
 unput at (streams.Refused place refusal) = faults.Stream (streams.Refused at refusal)
 unput at streams.Device = faults.OutOfMemory
 
--- why these messages aren't all put after a block: one isn't laid out, or memory ran out
-abbrev pub IsUnput : ℕ → List Message → ServeFault → Type 0
-IsUnput place sent (faults.Stream (streams.Refused at refusal)) = (at ≡ place) × IsOwnFault sent refusal
-IsUnput place sent (faults.Stream streams.Device) = ⊥
-IsUnput place sent faults.OutOfMemory = Unit {0}
+-- why messages aren't all put after a block: memory ran out
+abbrev pub IsUnput : ℕ → ServeFault → Type 0
+IsUnput place (faults.Stream (streams.Refused at refusal)) = (at ≡ place) × IsAllocationFailure refusal
+IsUnput place (faults.Stream streams.Device) = ⊥
+IsUnput place faults.OutOfMemory = Unit {0}
 
--- why these messages aren't all written: one isn't laid out, or a call of the writer failed, or memory ran out
-abbrev pub IsUnwritten : ℕ → List Message → Device → Device → ServeFault → Type 0
-IsUnwritten place sent old new (faults.Stream (streams.Refused at refusal)) = (at ≡ place) × IsOwnFault sent refusal
-IsUnwritten place sent old new (faults.Stream streams.Device) = FailedOnce old.failures new.failures
-IsUnwritten place sent old new faults.OutOfMemory = Unit {0}
+-- why messages aren't all written: memory ran out, or a call of the writer failed
+abbrev pub IsUnwritten : ℕ → Device → Device → ServeFault → Type 0
+IsUnwritten place old new (faults.Stream (streams.Refused at refusal)) = (at ≡ place) × IsAllocationFailure refusal
+IsUnwritten place old new (faults.Stream streams.Device) = FailedOnce old.failures new.failures
+IsUnwritten place old new faults.OutOfMemory = Unit {0}
 
 -- the stream ends inside a frame, after the messages that were taken
 abbrev pub EndsInside : Mode → List ℕ → Option (List ℕ) → ℕ → ServeFault → Type 0
@@ -178,6 +167,114 @@ pub record EndsPart (old : Server) (objects : List Seen) (before after : Device)
   pub writes : WritesPart old.mode sent before after
 
 -- why rounds aren't ended: what they lead to isn't all written; or memory ran out
-abbrev pub IsUnended : ℕ → List Message → Device → Device → ServeFault → Type 0
-IsUnended place sent old new faults.OutOfMemory = Unit {0}
-IsUnended place sent old new fault = IsUnwritten place sent old new fault
+abbrev pub IsUnended : ℕ → Device → Device → ServeFault → Type 0
+IsUnended place old new faults.OutOfMemory = Unit {0}
+IsUnended place old new fault = IsUnwritten place old new fault
+
+-- ---- the same, as clauses of functions
+
+-- the messages that a session has to write
+abbrev pub sent_in : Server → List Message
+sent_in s = (work_of s.session).sent
+
+-- The objects, as they are seen, and the writer, before and after.
+pub record Out : Type 0 where
+  pub objects : List Seen
+  pub others : List Seen
+  pub old : Device
+  pub new : Device
+
+abbrev pub out : {O W : Type 0} → (O → Seen) → List O → List O → (W → Option (List ℕ)) → Tap W → Tap W → Out
+out seen objects others contents old new = record { objects = map seen objects; others = map seen others; old = device contents old; new = device contents new }
+
+-- what holds of a run of a server to which nothing has come
+abbrev pub FromNew : Server → Ends → (Mode → Type 0) → Type 0
+FromNew s e holds = (mode : Mode) → Serves mode e.objects e.old [] s e.objects e.old → holds mode
+
+-- it was served to its end
+abbrev pub Runs : Server → Ends → Report → Type 0
+Runs s e report = FromNew s e (λ mode. IsServedAt mode e report)
+
+abbrev pub RunsTo : Server → Ends → Server → Type 0
+RunsTo s e new = Runs s e (report_of new)
+
+-- it stopped at a call of the reader, if one failed
+abbrev pub RunsUnread : Server → Ends → ServeFault → Type 0
+RunsUnread s e fault = FromNew s e (λ mode. ReadsUpTo mode e fault)
+
+-- it stopped
+abbrev pub RunStops : Server → Ends → ServeFault → Type 0
+RunStops s e fault = FromNew s e (λ mode. IsStoppedAt mode e fault)
+
+-- all messages of the reader were taken, or the vat closed
+abbrev pub TakesToEnd : Server → Ends → Server → Type 0
+TakesToEnd old e new =
+    (mode : Mode) (start : List Seen) (held : Device) → Serves mode start held [] old e.objects e.old
+    → (bytes : List ℕ) × Consumes e.from.bytes e.left.bytes bytes
+    × (rest : List ℕ) × Reached mode start held bytes rest new e.others e.new × IsOver bytes rest e.left.bytes (work_of new.session)
+
+-- a call of the reader failed, if one did
+abbrev pub TakesUnread : Server → Ends → ServeFault → Type 0
+TakesUnread old e fault =
+    (mode : Mode) (start : List Seen) (held : Device) → Serves mode start held [] old e.objects e.old → ReadsTo mode start e.from e.left held e.new e.others fault
+
+-- taking the messages stopped
+abbrev pub TakingStops : Server → Ends → ServeFault → Type 0
+TakingStops old e fault =
+    (mode : Mode) (start : List Seen) (held : Device) → Serves mode start held [] old e.objects e.old → IsStopped mode start e.from e.left held e.new e.others fault
+
+-- the messages of a piece were taken
+abbrev pub TakesPiece : Server → List ℕ → Out → Server → Type 0
+TakesPiece old piece o new =
+    (mode : Mode) (start : List Seen) (held : Device) (bytes : List ℕ) → Serves mode start held bytes old o.objects o.old
+    → GoesOn mode start held (bytes ++ piece) new o.others o.new
+
+-- taking a piece stopped
+abbrev pub PieceStops : Server → List ℕ → Out → ServeFault → Type 0
+PieceStops old piece o fault =
+    (mode : Mode) (start : List Seen) (held from left : Device) (bytes : List ℕ) → Serves mode start held bytes old o.objects o.old
+    → StopsFor mode start (bytes ++ piece) from left held o.new o.others fault
+
+-- a front of a piece was taken, and what its messages lead to was put after the block
+abbrev pub FillsBlock : Server → List ℕ → List ℕ → Server → List Seen → List Seen → Type 0
+FillsBlock old piece back new objects others =
+    (mode : Mode) (start : List Seen) (held to : Device) (bytes : List ℕ) → Serves mode start held bytes old objects (ahead to old.block.items)
+    → Fills mode start held bytes piece back new others (ahead to new.block.items)
+
+-- filling the block stopped
+abbrev pub BlockStops : Server → List ℕ → Server → ServeFault → List Seen → List Seen → Type 0
+BlockStops old piece new fault objects others =
+    (mode : Mode) (start : List Seen) (held from left to : Device) (bytes : List ℕ) → Serves mode start held bytes old objects (ahead to old.block.items)
+    → StopsFor mode start (bytes ++ piece) from left held (ahead to new.block.items) others fault
+
+-- a message of a piece was taken
+abbrev pub HasNext : Server → List ℕ → List ℕ → Server → List Seen → List Seen → Type 0
+HasNext old piece back new objects others = (rest : List ℕ) → ReadsOn rest old → TakesNext rest old piece objects new back others
+
+-- no frame ends in a piece
+abbrev pub HasNone : Server → List ℕ → Server → List Seen → List Seen → Type 0
+HasNone old piece new objects others = (rest : List ℕ) → ReadsOn rest old → TakesNone rest old piece new × (others ≡ objects)
+
+-- why no message of a piece is taken
+abbrev pub LeavesNext : Server → List ℕ → ServeFault → List Seen → List Seen → Type 0
+LeavesNext old piece fault objects others = (rest : List ℕ) → ReadsOn rest old → IsUntaken old.mode (rest ++ piece) old.at objects others fault
+
+-- the reader's bytes end inside a frame
+abbrev pub EndsInsideAt : Server → ServeFault → Type 0
+EndsInsideAt old fault = (rest : List ℕ) (left : Option (List ℕ)) → ReadsOn rest old → IsAtEnd left → EndsInside old.mode rest left old.at fault
+
+-- rounds followed to their end
+abbrev pub EndsAll : Server → Out → Server → Type 0
+EndsAll old o new = EndsSo old o.objects o.old new o.others o.new
+
+-- rounds weren't ended
+abbrev pub EndingStops : Server → Out → ServeFault → Type 0
+EndingStops old o fault = EndsPart old o.objects o.old o.new × IsUnended old.at o.old o.new fault
+
+-- these messages were put after the block
+abbrev pub Puts : List Message → Server → Server → Type 0
+Puts sent old new = (to : Device) → Writes old.mode sent (ahead to old.block.items) (ahead to new.block.items)
+
+-- of these a beginning was
+abbrev pub PutsPart : List Message → Server → Server → Type 0
+PutsPart sent old new = (to : Device) → WritesPart old.mode sent (ahead to old.block.items) (ahead to new.block.items)

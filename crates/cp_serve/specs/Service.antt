@@ -8,10 +8,10 @@ use Rattle.cp_machine.specs.State.{new_state}
 use Rattle.cp_machine.specs.declared.effect.Effect.{Effect}
 use Rattle.cp_machine.specs.declared.effect.Effect.TheVariants as effects
 use Rattle.cp_machine.specs.declared.event.Event.TheVariants as events
-use Rattle.cp_serve.specs.declared.servant.Reply.{Reply}
-use Rattle.cp_serve.specs.declared.servant.Settled.{Settled}
-use Rattle.cp_serve.specs.Outcomes.{no_such_object}
-use Rattle.cp_serve.specs.Servant.{Seen, Takes, Polls, ChangesAt}
+use Rattle.cp_servants.specs.declared.servant.Reply.{Reply}
+use Rattle.cp_servants.specs.declared.servant.Settled.{Settled}
+use Rattle.cp_servants.specs.Outcomes.{no_such_object}
+use Rattle.cp_servants.specs.Servant.{Seen, Takes, Polls, ChangesAt}
 use Rattle.cp_serve.specs.Work.{Work, Answers, Replies, Releases, IsDone}
 
 -- A call is delivered: to its object, whose reply counts; or, past the objects, it fails.

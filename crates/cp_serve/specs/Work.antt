@@ -15,9 +15,9 @@ use Rattle.cp_machine.specs.declared.event.Value.{Value}
 use Rattle.cp_machine.specs.declared.event.Value.TheVariants as values
 use Rattle.cp_machine.specs.declared.fault.VatFault.{VatFault}
 use Rattle.cp_machine.specs.declared.fault.VatFault.TheVariants as refusals
-use Rattle.cp_serve.specs.declared.servant.Reply.{Reply}
-use Rattle.cp_serve.specs.declared.servant.Reply.TheVariants as replies
-use Rattle.cp_serve.specs.Outcomes.{bad_outcome}
+use Rattle.cp_servants.specs.declared.servant.Reply.{Reply}
+use Rattle.cp_servants.specs.declared.servant.Reply.TheVariants as replies
+use Rattle.cp_servants.specs.Outcomes.{bad_outcome}
 
 -- The vat, its effects that are still to be worked off, the calls whose objects answer later, by their tickets, the imports that objects gave up, the
 -- messages that are still to be written, and why the vat closed.

@@ -2,21 +2,12 @@
 //! vat sends goes to a writer.
 #![tactic(auto)]
 
-mod awaited;
-mod cell;
-mod desk;
 mod fault;
-mod outcomes;
+mod queues;
 mod report;
-mod script;
-mod servant;
 mod serving;
 mod session;
 
-pub use cell::Cell;
-pub use desk::Desk;
 pub use fault::ServeFault;
 pub use report::Report;
-pub use script::Script;
-pub use servant::{Reply, Servant, Settled};
 pub use serving::serve;

@@ -12,18 +12,19 @@ ghost use Rattle.cp_stream.specs.Write.{Sends};
 ghost use Rattle.cp_stream.specs.Stream.{Holds, HoldsNone};
 ghost use Rattle.cp_frame.specs.Reader.{StandsFor, new_reader};
 ghost use Rattle.cp_stream.specs.Reader.{IsAt};
-ghost use Rattle.cp_serve.specs.Servant.{Seen};
+ghost use Rattle.cp_sizes.specs.Sizes.{IsWritable};
+ghost use Rattle.cp_servants.specs.Servant.{On, Seen};
 ghost use Rattle.cp_serve.specs.Service.{written};
-ghost use Rattle.cp_serve.specs.Output.{Device, device, Writes, WritesPart, IsOver, IsServed, StopsFor, IsStopped, ReadsTo};
-ghost use Rattle.cp_serve.specs.Reached.{Reached, Serves, ReadsOn, Fills, OnlyWrites, TakesNext, TakesNone, GoesOn, IsUntaken, IsUnput, IsUnwritten, IsUnended, EndsInside, EndsSo, EndsPart, CountsMore, BreaksOff, ahead, placed, unput, report_of};
+ghost use Rattle.cp_serve.specs.Output.{Device, device, Writes, WritesPart, IsServedAt, IsStoppedAt, ReadsUpTo, ends};
+ghost use Rattle.cp_serve.specs.Reached.{BlockStops, BreaksOff, CountsMore, EndingStops, EndsAll, EndsInsideAt, FillsBlock, HasNext, HasNone, IsUnput, IsUnwritten, LeavesNext, OnlyWrites, PieceStops, Puts, PutsPart, ReadsOn, Runs, RunStops, RunsTo, RunsUnread, Serves, TakesPiece, TakesToEnd, TakesUnread, TakingStops, out, placed, report_of, sent_in, unput};
 ghost use Rattle.cp_serve.specs.WorkOf.{work_of};
 
 use crate::fault::ServeFault;
 use crate::report::Report;
-use crate::servant::Servant;
 use crate::session::Session;
 use cp_frame::{FrameReader, Mode};
 use cp_rpc::{Message, MessageView};
+use cp_servants::Servant;
 use cp_stream::{Refusal, StreamFault, Tap, view_of, write_message, write_whole};
 use cp_words::{Limits, Segments};
 use std::alloc::Global;
@@ -53,13 +54,13 @@ pub fn serve<R: Read, W: Write>(
     mode: Mode,
 ) -> Result<Report, ServeFault>
     // What is served to its end is an output of the bytes that were read, and is reported.
-    ensures served { IfOk result (λ report. IsServed mode (map (λ o. seen o) objects.old.items) (device R.remaining from.old) (device R.remaining from.new) (device W.contents to.old) (device W.contents to.new) report (map (λ o. seen o) objects.new.items)) }
+    ensures served { IfOk result (IsServedAt mode (ends (λ o. seen o) objects.old.items objects.new.items R.remaining from.old from.new W.contents to.old to.new)) }
     // No call of the reader failed.
     ensures read { OnOk result (failures_of from.new ≡ failures_of from.old) }
     // Or one did, and then all that the messages before it lead to was written.
-    ensures unread { IfErr result (λ fault. ReadsTo mode (map (λ o. seen o) objects.old.items) (device R.remaining from.old) (device R.remaining from.new) (device W.contents to.old) (device W.contents to.new) (map (λ o. seen o) objects.new.items) fault) }
+    ensures unread { IfErr result (ReadsUpTo mode (ends (λ o. seen o) objects.old.items objects.new.items R.remaining from.old from.new W.contents to.old to.new)) }
     // A fault says why it was cut off, and what was written is a beginning of one.
-    ensures stopped { IfErr result (λ fault. IsStopped mode (map (λ o. seen o) objects.old.items) (device R.remaining from.old) (device R.remaining from.new) (device W.contents to.old) (device W.contents to.new) (map (λ o. seen o) objects.new.items) fault) }
+    ensures stopped { IfErr result (IsStoppedAt mode (ends (λ o. seen o) objects.old.items objects.new.items R.remaining from.old from.new W.contents to.old to.new)) }
 {
     Server::new(alloc, mode).serve(from, to, objects.as_mut_slice())
 }
@@ -105,10 +106,10 @@ impl Server {
         to: &mut Tap<W>,
         objects: &mut [Box<dyn Servant>],
     ) -> Result<Report, ServeFault>
-        ensures served { IfOk result (λ report. (mode : Mode) → Serves mode (map (λ o. seen o) objects.old) (device W.contents to.old) [] self (map (λ o. seen o) objects.old) (device W.contents to.old) → IsServed mode (map (λ o. seen o) objects.old) (device R.remaining from.old) (device R.remaining from.new) (device W.contents to.old) (device W.contents to.new) report (map (λ o. seen o) objects.new)) }
+        ensures served { IfOk result (Runs self (ends (λ o. seen o) objects.old objects.new R.remaining from.old from.new W.contents to.old to.new)) }
         ensures read { OnOk result (failures_of from.new ≡ failures_of from.old) }
-        ensures unread { IfErr result (λ fault. (mode : Mode) → Serves mode (map (λ o. seen o) objects.old) (device W.contents to.old) [] self (map (λ o. seen o) objects.old) (device W.contents to.old) → ReadsTo mode (map (λ o. seen o) objects.old) (device R.remaining from.old) (device R.remaining from.new) (device W.contents to.old) (device W.contents to.new) (map (λ o. seen o) objects.new) fault) }
-        ensures stopped { IfErr result (λ fault. (mode : Mode) → Serves mode (map (λ o. seen o) objects.old) (device W.contents to.old) [] self (map (λ o. seen o) objects.old) (device W.contents to.old) → IsStopped mode (map (λ o. seen o) objects.old) (device R.remaining from.old) (device R.remaining from.new) (device W.contents to.old) (device W.contents to.new) (map (λ o. seen o) objects.new) fault) }
+        ensures unread { IfErr result (RunsUnread self (ends (λ o. seen o) objects.old objects.new R.remaining from.old from.new W.contents to.old to.new)) }
+        ensures stopped { IfErr result (RunStops self (ends (λ o. seen o) objects.old objects.new R.remaining from.old from.new W.contents to.old to.new)) }
     {
         // The server goes before the answer is looked at, so that it is dropped in one place.
         let ended = self.run(from, to, objects);
@@ -124,10 +125,10 @@ impl Server {
         to: &mut Tap<W>,
         objects: &mut [Box<dyn Servant>],
     ) -> Result<(), ServeFault>
-        ensures served { IfOk result (λ _. (mode : Mode) → Serves mode (map (λ o. seen o) objects.old) (device W.contents to.old) [] self.old (map (λ o. seen o) objects.old) (device W.contents to.old) → IsServed mode (map (λ o. seen o) objects.old) (device R.remaining from.old) (device R.remaining from.new) (device W.contents to.old) (device W.contents to.new) (report_of self.new) (map (λ o. seen o) objects.new)) }
+        ensures served { IfOk result (λ _. RunsTo self.old (ends (λ o. seen o) objects.old objects.new R.remaining from.old from.new W.contents to.old to.new) self.new) }
         ensures read { OnOk result (failures_of from.new ≡ failures_of from.old) }
-        ensures unread { IfErr result (λ fault. (mode : Mode) → Serves mode (map (λ o. seen o) objects.old) (device W.contents to.old) [] self.old (map (λ o. seen o) objects.old) (device W.contents to.old) → ReadsTo mode (map (λ o. seen o) objects.old) (device R.remaining from.old) (device R.remaining from.new) (device W.contents to.old) (device W.contents to.new) (map (λ o. seen o) objects.new) fault) }
-        ensures stopped { IfErr result (λ fault. (mode : Mode) → Serves mode (map (λ o. seen o) objects.old) (device W.contents to.old) [] self.old (map (λ o. seen o) objects.old) (device W.contents to.old) → IsStopped mode (map (λ o. seen o) objects.old) (device R.remaining from.old) (device R.remaining from.new) (device W.contents to.old) (device W.contents to.new) (map (λ o. seen o) objects.new) fault) }
+        ensures unread { IfErr result (RunsUnread self.old (ends (λ o. seen o) objects.old objects.new R.remaining from.old from.new W.contents to.old to.new)) }
+        ensures stopped { IfErr result (RunStops self.old (ends (λ o. seen o) objects.old objects.new R.remaining from.old from.new W.contents to.old to.new)) }
     {
         self.take_all(from, to, objects)?;
         self.end_all(to, objects)?;
@@ -152,10 +153,10 @@ impl Server {
         to: &mut Tap<W>,
         objects: &mut [Box<dyn Servant>],
     ) -> Result<(), ServeFault>
-        ensures taken { OnOk result ((mode : Mode) (start : List Seen) (held : Device) → Serves mode start held [] self.old (map (λ o. seen o) objects.old) (device W.contents to.old) → (bytes : List ℕ) × Consumes (R.remaining (inner_of from.old)) (R.remaining (inner_of from.new)) bytes × (rest : List ℕ) × Reached mode start held bytes rest self.new (map (λ o. seen o) objects.new) (device W.contents to.new) × IsOver bytes rest (R.remaining (inner_of from.new)) (work_of self.new.session)) }
+        ensures taken { OnOk result (TakesToEnd self.old (ends (λ o. seen o) objects.old objects.new R.remaining from.old from.new W.contents to.old to.new) self.new) }
         ensures read { OnOk result (failures_of from.new ≡ failures_of from.old) }
-        ensures unread { IfErr result (λ fault. (mode : Mode) (start : List Seen) (held : Device) → Serves mode start held [] self.old (map (λ o. seen o) objects.old) (device W.contents to.old) → ReadsTo mode start (device R.remaining from.old) (device R.remaining from.new) held (device W.contents to.new) (map (λ o. seen o) objects.new) fault) }
-        ensures stopped { IfErr result (λ fault. (mode : Mode) (start : List Seen) (held : Device) → Serves mode start held [] self.old (map (λ o. seen o) objects.old) (device W.contents to.old) → IsStopped mode start (device R.remaining from.old) (device R.remaining from.new) held (device W.contents to.new) (map (λ o. seen o) objects.new) fault) }
+        ensures unread { IfErr result (TakesUnread self.old (ends (λ o. seen o) objects.old objects.new R.remaining from.old from.new W.contents to.old to.new)) }
+        ensures stopped { IfErr result (TakingStops self.old (ends (λ o. seen o) objects.old objects.new R.remaining from.old from.new W.contents to.old to.new)) }
     {
         let mut storage = vec![in self.alloc; 0u8; PIECE]?;
         let buffer = storage.as_mut_slice();
@@ -182,8 +183,8 @@ impl Server {
         to: &mut Tap<W>,
         objects: &mut [Box<dyn Servant>],
     ) -> Result<(), ServeFault>
-        ensures taken { OnOk result ((mode : Mode) (start : List Seen) (held : Device) (bytes : List ℕ) → Serves mode start held bytes self.old (map (λ o. seen o) objects.old) (device W.contents to.old) → GoesOn mode start held (bytes ++ piece.now) self.new (map (λ o. seen o) objects.new) (device W.contents to.new)) }
-        ensures stopped { IfErr result (λ fault. (mode : Mode) (start : List Seen) (held from left : Device) (bytes : List ℕ) → Serves mode start held bytes self.old (map (λ o. seen o) objects.old) (device W.contents to.old) → StopsFor mode start (bytes ++ piece.now) from left held (device W.contents to.new) (map (λ o. seen o) objects.new) fault) }
+        ensures taken { OnOk result (TakesPiece self.old piece.now (out (λ o. seen o) objects.old objects.new W.contents to.old to.new) self.new) }
+        ensures stopped { IfErr result (PieceStops self.old piece.now (out (λ o. seen o) objects.old objects.new W.contents to.old to.new)) }
     {
         let mut left = piece;
         'taking: while !left.is_empty() {
@@ -207,8 +208,8 @@ impl Server {
     ) -> Result<&'a [u8], ServeFault>
         requires { 0 < length piece.now }
         ensures shorter { IfOk result (λ left. length left.now < length piece.now) }
-        ensures taken { IfOk result (λ left. (mode : Mode) (start : List Seen) (held to : Device) (bytes : List ℕ) → Serves mode start held bytes self.old (map (λ o. seen o) objects.old) (ahead to self.old.block.items) → Fills mode start held bytes piece.now left.now self.new (map (λ o. seen o) objects.new) (ahead to self.new.block.items)) }
-        ensures stopped { IfErr result (λ fault. (mode : Mode) (start : List Seen) (held from left to : Device) (bytes : List ℕ) → Serves mode start held bytes self.old (map (λ o. seen o) objects.old) (ahead to self.old.block.items) → StopsFor mode start (bytes ++ piece.now) from left held (ahead to self.new.block.items) (map (λ o. seen o) objects.new) fault) }
+        ensures taken { IfOk result (λ left. On (λ o. seen o) objects.old objects.new (FillsBlock self.old piece.now left.now self.new)) }
+        ensures stopped { IfErr result (λ fault. On (λ o. seen o) objects.old objects.new (BlockStops self.old piece.now self.new fault)) }
     {
         let mut left = piece;
         'filling: while !left.is_empty() {
@@ -242,9 +243,9 @@ impl Server {
     ) -> Result<Option<&'a [u8]>, ServeFault>
         ensures shorter { IfOk result (λ next. IfSome next (λ back. length back.now < length piece.now)) }
         ensures same { self.new.block ≡ self.old.block }
-        ensures next { IfOk result (λ next. IfSome next (λ back. (rest : List ℕ) → ReadsOn rest self.old → TakesNext rest self.old piece.now (map (λ o. seen o) objects.old) self.new back.now (map (λ o. seen o) objects.new))) }
-        ensures none { IfOk result (λ next. IfNone next ((rest : List ℕ) → ReadsOn rest self.old → TakesNone rest self.old piece.now self.new × (map (λ o. seen o) objects.new ≡ map (λ o. seen o) objects.old))) }
-        ensures refused { IfErr result (λ fault. (rest : List ℕ) → ReadsOn rest self.old → IsUntaken self.old.mode (rest ++ piece.now) self.old.at (map (λ o. seen o) objects.old) (map (λ o. seen o) objects.new) fault) }
+        ensures next { IfOk result (λ next. IfSome next (λ back. On (λ o. seen o) objects.old objects.new (HasNext self.old piece.now back.now self.new))) }
+        ensures none { IfOk result (λ next. IfNone next (On (λ o. seen o) objects.old objects.new (HasNone self.old piece.now self.new))) }
+        ensures refused { IfErr result (λ fault. On (λ o. seen o) objects.old objects.new (LeavesNext self.old piece.now fault)) }
     {
         let (taken, segments, back) = match self.frames.next(piece) {
             Ok(Some(next)) => next,
@@ -274,7 +275,7 @@ impl Server {
     fn end_of_messages(&mut self) -> Result<(), ServeFault>
         ensures same { OnOk result (self.new ≡ self.old) }
         ensures nothing { OnOk result ((rest : List ℕ) → ReadsOn rest self.old → rest ≡ []) }
-        ensures inside { IfErr result (λ fault. (rest : List ℕ) (left : Option (List ℕ)) → ReadsOn rest self.old → IsAtEnd left → EndsInside self.old.mode rest left self.old.at fault) }
+        ensures inside { IfErr result (EndsInsideAt self.old) }
     {
         match self.frames.finish() {
             Ok(()) => Ok(()),
@@ -289,8 +290,8 @@ impl Server {
         objects: &mut [Box<dyn Servant>],
     ) -> Result<(), ServeFault>
         ensures same { OnOk result (self.new.messages ≡ self.old.messages) }
-        ensures ends { OnOk result (EndsSo self.old (map (λ o. seen o) objects.old) (device W.contents to.old) self.new (map (λ o. seen o) objects.new) (device W.contents to.new)) }
-        ensures stopped { IfErr result (λ fault. (p : EndsPart self.old (map (λ o. seen o) objects.old) (device W.contents to.old) (device W.contents to.new)) × IsUnended self.old.at p.sent (device W.contents to.old) (device W.contents to.new) fault) }
+        ensures ends { OnOk result (EndsAll self.old (out (λ o. seen o) objects.old objects.new W.contents to.old to.new) self.new) }
+        ensures stopped { IfErr result (EndingStops self.old (out (λ o. seen o) objects.old objects.new W.contents to.old to.new)) }
     {
         for _ in 0..u64::MAX {
             if self.session.is_closed() {
@@ -309,10 +310,10 @@ impl Server {
     fn write<W: Write>(&mut self, to: &mut Tap<W>) -> Result<(), ServeFault>
         ensures only { OnOk result (OnlyWrites self.old self.new) }
         ensures session { OnOk result (work_of self.new.session ≡ written (work_of self.old.session)) }
-        ensures counts { OnOk result (CountsMore self.old.sent (length (work_of self.old.session).sent) self.new.sent) }
-        ensures writes { OnOk result (Writes self.old.mode (work_of self.old.session).sent (device W.contents to.old) (device W.contents to.new)) }
-        ensures part { OnErr result (WritesPart self.old.mode (work_of self.old.session).sent (device W.contents to.old) (device W.contents to.new)) }
-        ensures stopped { IfErr result (IsUnwritten self.old.at (work_of self.old.session).sent (device W.contents to.old) (device W.contents to.new)) }
+        ensures counts { OnOk result (CountsMore self.old.sent (length (sent_in self.old)) self.new.sent) }
+        ensures writes { OnOk result (Writes self.old.mode (sent_in self.old) (device W.contents to.old) (device W.contents to.new)) }
+        ensures part { OnErr result (WritesPart self.old.mode (sent_in self.old) (device W.contents to.old) (device W.contents to.new)) }
+        ensures stopped { IfErr result (IsUnwritten self.old.at (device W.contents to.old) (device W.contents to.new)) }
     {
         self.block.clear();
         let put = self.put();
@@ -324,10 +325,10 @@ impl Server {
     fn put(&mut self) -> Result<(), ServeFault>
         ensures only { OnOk result (OnlyWrites self.old self.new) }
         ensures session { OnOk result (work_of self.new.session ≡ written (work_of self.old.session)) }
-        ensures counts { OnOk result (CountsMore self.old.sent (length (work_of self.old.session).sent) self.new.sent) }
-        ensures puts { OnOk result ((to : Device) → Writes self.old.mode (work_of self.old.session).sent (ahead to self.old.block.items) (ahead to self.new.block.items)) }
-        ensures part { OnErr result ((to : Device) → WritesPart self.old.mode (work_of self.old.session).sent (ahead to self.old.block.items) (ahead to self.new.block.items)) }
-        ensures stopped { IfErr result (IsUnput self.old.at (work_of self.old.session).sent) }
+        ensures counts { OnOk result (CountsMore self.old.sent (length (sent_in self.old)) self.new.sent) }
+        ensures puts { OnOk result (Puts (sent_in self.old) self.old self.new) }
+        ensures part { OnErr result (PutsPart (sent_in self.old) self.old self.new) }
+        ensures stopped { IfErr result (IsUnput self.old.at) }
     {
         let messages = self.session.take_sent();
         for message in &messages {
@@ -338,10 +339,11 @@ impl Server {
 
     /// Puts a message after the block.
     fn put_one(&mut self, message: &Message) -> Result<(), ServeFault>
+        requires { IsWritable message.now }
         ensures same { OnOk result (self.new ≡ record self.old { sent = min (self.old.sent + 1) (2 ^ 64 - 1); block = self.new.block }) }
-        ensures puts { OnOk result ((to : Device) → Writes self.old.mode (message.now ∷ []) (ahead to self.old.block.items) (ahead to self.new.block.items)) }
-        ensures part { OnErr result ((to : Device) → WritesPart self.old.mode (message.now ∷ []) (ahead to self.old.block.items) (ahead to self.new.block.items)) }
-        ensures stopped { IfErr result (IsUnput self.old.at (message.now ∷ [])) }
+        ensures puts { OnOk result (Puts (message.now ∷ []) self.old self.new) }
+        ensures part { OnErr result (PutsPart (message.now ∷ []) self.old self.new) }
+        ensures stopped { IfErr result (IsUnput self.old.at) }
     {
         let mut after = Tap::new(mem::replace(&mut self.block, Vec::new(self.alloc)));
         let written = write_message(

@@ -1,23 +1,25 @@
 //! One end of a connection whose calls go to objects.
 
 ghost use Rattle.std.specs.Prelude.{◌≡◌, ◌<◌, ◌++◌, ◌∷◌, [], Some, None, Ok, IfOk, IfSome, OnOk, IsTrue, IsSome, ◌↔◌, length, map};
+ghost use Rattle.std.specs.List.{AllByRecursion};
 ghost use Rattle.cp_rpc.specs.Told.{told};
 ghost use Rattle.cp_machine.specs.declared.event.Event.TheVariants as events;
-ghost use Rattle.cp_serve.specs.Outcomes.{bad_outcome};
-ghost use Rattle.cp_serve.specs.Servant.{Takes, Polls, ChangesAt, IsCalled, IsPolled};
+ghost use Rattle.cp_sizes.specs.Sizes.{AreWritable, IsWritable, IsWritten};
+ghost use Rattle.cp_servants.specs.Outcomes.{bad_outcome};
+ghost use Rattle.cp_servants.specs.Servant.{On};
 ghost use Rattle.cp_serve.specs.Work.{Answers, IsDone, Replies, Tries, Releases};
-ghost use Rattle.cp_serve.specs.Service.{Acts, Delivers, WorksOff, Settles, PollsFrom, Rounds, TakesMessage, new_work, written};
-ghost use Rattle.cp_serve.specs.WorkOf.{work_of};
+ghost use Rattle.cp_serve.specs.Service.{Settles, new_work, written};
+ghost use Rattle.cp_serve.specs.WorkOf.{work_of, Acted, Delivered, Polled, Rounded, Took, WorkedOff};
 
-use crate::awaited::Awaited;
-use crate::outcomes::{bad_outcome, no_such_object};
-use crate::servant::{Reply, Servant, Settled};
+use crate::queues::{Outbox, Queue};
 use cp_machine::{Effect, Effects, Ids, Reason, VatFault};
 use cp_refs::{Origin, Outcome, Request};
 use cp_rpc::{Message, MessageView};
+use cp_servants::{
+    Awaited, Reply, Servant, Settled, bad_outcome, call_at, no_such_object, poll_at,
+};
 use cp_vat::Vat;
 use std::alloc::{AllocError, Global};
-use std::collections::VecDeque;
 use std::mem;
 
 /// A vat, with what is still to be done for it. Object 0 is its bootstrap object.
@@ -26,12 +28,12 @@ pub(crate) struct Session {
     alloc: Global,
     vat: Vat,
     /// The effects that are still to be worked off, in order.
-    effects: VecDeque<Effect>,
+    effects: Queue,
     awaited: Awaited,
     /// The imports that objects gave up, until they are released.
     given_up: Vec<u32>,
     /// The messages that are still to be written, in order.
-    sent: Vec<Message>,
+    sent: Outbox,
     /// Why the vat closed, once that was worked off.
     closed: Option<Reason>,
 }
@@ -44,10 +46,10 @@ impl Session {
         Session {
             alloc,
             vat: Vat::new(alloc, Some(0)),
-            effects: VecDeque::new(alloc),
+            effects: Queue::new(alloc),
             awaited: Awaited::new(alloc),
             given_up: Vec::new(alloc),
-            sent: Vec::new(alloc),
+            sent: Outbox::new(alloc),
             closed: None,
         }
     }
@@ -69,10 +71,10 @@ impl Session {
     /// The messages that are still to be written, in order.
     pub(crate) fn take_sent(&mut self) -> Vec<Message>
         ensures sent { result.items ≡ (work_of self.old).sent }
+        ensures writable { AllByRecursion IsWritable result.items }
         ensures none_left { work_of self.new ≡ written (work_of self.old) }
     {
-        let none = Vec::new(self.alloc);
-        mem::replace(&mut self.sent, none)
+        self.sent.take(self.alloc)
     }
 
     /// Takes a message of the peer's, in place: what it leads to is worked off, and a round follows.
@@ -81,7 +83,7 @@ impl Session {
         message: MessageView,
         objects: &mut [Box<dyn Servant>],
     ) -> Result<(), AllocError>
-        ensures { OnOk result (TakesMessage (work_of self.old) (map (λ o. seen o) objects.old) (told message.entry) (work_of self.new) (map (λ o. seen o) objects.new)) }
+        ensures { OnOk result (On (λ o. seen o) objects.old objects.new (Took self.old (told message.entry) self.new)) }
     {
         self.receive(message)?;
         self.work_off(objects)?;
@@ -92,7 +94,7 @@ impl Session {
     /// Polls each object once, in order, and tries to release the imports that were given up. Says
     /// whether an outcome was given that was awaited.
     pub(crate) fn round(&mut self, objects: &mut [Box<dyn Servant>]) -> Result<bool, AllocError>
-        ensures { IfOk result (λ gave. Rounds (work_of self.old) (map (λ o. seen o) objects.old) gave (work_of self.new) (map (λ o. seen o) objects.new)) }
+        ensures { IfOk result (λ gave. On (λ o. seen o) objects.old objects.new (Rounded self.old gave self.new)) }
     {
         let gave = self.poll_each(objects)?;
         if self.is_closed() {
@@ -120,7 +122,7 @@ impl Session {
     /// Polls each object once, in order, until the vat closed. Says whether an outcome was given that
     /// was awaited.
     fn poll_each(&mut self, objects: &mut [Box<dyn Servant>]) -> Result<bool, AllocError>
-        ensures { IfOk result (λ gave. PollsFrom 0 (work_of self.old) (map (λ o. seen o) objects.old) gave (work_of self.new) (map (λ o. seen o) objects.new)) }
+        ensures { IfOk result (λ gave. On (λ o. seen o) objects.old objects.new (Polled self.old gave self.new)) }
     {
         let mut gave = false;
         for place in 0..objects.len() {
@@ -136,18 +138,18 @@ impl Session {
 
     /// Puts effects after those that are still to be worked off.
     fn add(&mut self, effects: Effects) -> Result<(), AllocError>
+        requires { AreWritable effects }
         ensures { OnOk result (work_of self.new ≡ record (work_of self.old) { effects = (work_of self.old).effects ++ effects }) }
     {
-        let mut more = VecDeque::from_vec(effects.into_effects());
-        self.effects.append(&mut more)
+        self.effects.add(effects)
     }
 
     /// Works the effects off, from the front, until none is left or the vat closed.
     fn work_off(&mut self, objects: &mut [Box<dyn Servant>]) -> Result<(), AllocError>
-        ensures { OnOk result (WorksOff (work_of self.old) (map (λ o. seen o) objects.old) (work_of self.new) (map (λ o. seen o) objects.new)) }
+        ensures { OnOk result (On (λ o. seen o) objects.old objects.new (WorkedOff self.old self.new)) }
     {
         for _ in 0..u64::MAX {
-            let Some(effect) = self.effects.pop_front() else {
+            let Some(effect) = self.effects.pop() else {
                 return Ok(());
             };
             self.act(effect, objects)?;
@@ -157,7 +159,8 @@ impl Session {
 
     /// Does what an effect asks for.
     fn act(&mut self, effect: Effect, objects: &mut [Box<dyn Servant>]) -> Result<(), AllocError>
-        ensures { OnOk result (Acts effect (work_of self.old) (map (λ o. seen o) objects.old) (work_of self.new) (map (λ o. seen o) objects.new)) }
+        requires { IsWritten effect }
+        ensures { OnOk result (On (λ o. seen o) objects.old objects.new (Acted effect self.old self.new)) }
     {
         match effect {
             Effect::Send(message) => self.send(message),
@@ -178,10 +181,10 @@ impl Session {
 
     /// Puts a message after those that are still to be written.
     fn send(&mut self, message: Message) -> Result<(), AllocError>
+        requires { IsWritable message }
         ensures { OnOk result (work_of self.new ≡ record (work_of self.old) { sent = (work_of self.old).sent ++ message ∷ [] }) }
     {
-        self.sent.push(message)?;
-        Ok(())
+        self.sent.push(message)
     }
 
     /// Notes why the vat closed. Nothing more is worked off.
@@ -201,7 +204,7 @@ impl Session {
         ticket: u64,
         request: Request,
     ) -> Result<(), AllocError>
-        ensures { OnOk result (Delivers (work_of self.old) (map (λ o. seen o) objects.old) place origin ticket request (work_of self.new) (map (λ o. seen o) objects.new)) }
+        ensures { OnOk result (On (λ o. seen o) objects.old objects.new (Delivered self.old place origin ticket request self.new)) }
     {
         if place < objects.len() {
             let reply = call_at(objects, place, ticket, request)?;
@@ -310,41 +313,4 @@ impl Session {
         self.given_up.push(import)?;
         Ok(())
     }
-}
-
-/// Polls the object at a place.
-fn poll_at(objects: &mut [Box<dyn Servant>], place: usize) -> Result<Option<Settled>, AllocError>
-    requires { place < length objects.old }
-    ensures { IfOk result (λ settled. ChangesAt (λ before after. Polls before (Ok settled) after) (map (λ o. seen o) objects.old) place (map (λ o. seen o) objects.new)) }
-{
-    let settled = poll(&mut objects[place])?;
-    Ok(settled)
-}
-
-/// Polls an object.
-fn poll(object: &mut Box<dyn Servant>) -> Result<Option<Settled>, AllocError>
-    ensures { IsPolled (λ o. seen o) object.old result object.new }
-{
-    object.poll()
-}
-
-/// Calls an object.
-fn call(object: &mut Box<dyn Servant>, ticket: u64, request: Request) -> Result<Reply, AllocError>
-    ensures { IsCalled (λ o. seen o) object.old ticket request result object.new }
-{
-    object.call(ticket, request)
-}
-
-/// Calls the object at a place.
-fn call_at(
-    objects: &mut [Box<dyn Servant>],
-    place: usize,
-    ticket: u64,
-    request: Request,
-) -> Result<Reply, AllocError>
-    requires { place < length objects.old }
-    ensures { IfOk result (λ reply. ChangesAt (λ before after. Takes before ticket request (Ok reply) after) (map (λ o. seen o) objects.old) place (map (λ o. seen o) objects.new)) }
-{
-    let reply = call(&mut objects[place], ticket, request)?;
-    Ok(reply)
 }

@@ -56,7 +56,8 @@ step_sends old new event result all f (faulted {fault = fault} m was does closed
 pub steps_write : StepsWrite
 steps_write old new event result all f step = let sends = step_sends old new event result all f step in (are_written all sends.0, sends.1)
 
-new_fits : (bootstrap : Option ℕ) → Fits (new_state bootstrap)
+-- a new vat keeps nothing
+pub new_fits : (bootstrap : Option ℕ) → Fits (new_state bootstrap)
 new_fits bootstrap =
     record {
       values_fit =

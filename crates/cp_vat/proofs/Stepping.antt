@@ -12,11 +12,13 @@ use Rattle.cp_machine.specs.declared.event.Value.TheVariants as values
 use Rattle.cp_machine.specs.declared.fault.VatFault.{VatFault}
 use Rattle.cp_machine.specs.declared.fault.VatFault.TheVariants as refusals
 use Rattle.cp_order.specs.Within.{Within}
+use Rattle.cp_sizes.specs.Sizes.{AreWritable, FitsOpen}
+use Rattle.cp_sizes.proofs.Stepping.{steps_write}
 use Rattle.cp_order.proofs.within.Step.{does_within, receives_within, step_keeps}
 use Rattle.cp_state.specs.Halts.{Acts}
 use Rattle.cp_state.specs.declared.halt.Halt.{Halt}
 use Rattle.cp_state.specs.declared.halt.Halt.TheVariants as halts
-use Rattle.cp_vat.specs.Stepping.{answered, effects_of, Calls, Ends, CallEnds, MessageEnds, Rests}
+use Rattle.cp_vat.specs.Stepping.{answered, effects_of, Calls, Ends, CallEnds, MessageEnds, Rests, Stays}
 
 module _ {A : Type 0} (value : A → Value) (event : Event) (old : State) where
   -- A call that an allocation failure refuses says nothing; any other refusal is the rule's, and changes nothing.
@@ -53,10 +55,25 @@ module _ {A : Type 0} (value : A → Value) (event : Event) (old : State) where
   call_steps mid new (Err fault) none after result nothing still done ended = was_refused mid new fault after result still (refusal_of mid fault none after done) ended
 
   -- after it the vat rests, if it did before
-  pub call_rests : (mid new : State) (done : Result A VatFault) (none after : List Effect) (result : Result (Acted A) VatFault) → none ≡ [] → Rests old → old.is_closed ≡ false
+  call_rests : (mid new : State) (done : Result A VatFault) (none after : List Effect) (result : Result (Acted A) VatFault) → none ≡ [] → Rests old → old.is_closed ≡ false
       → Calls (Does old event) value old done none after mid → CallEnds mid done after result new → Rests new
   call_rests mid new done none after result nothing rested still acts ended open_ =
       step_keeps old new event (answered value result) (effects_of result) (rested still) open_ (call_steps mid new done none after result nothing still acts ended)
+
+  -- each message that it sent can be written, and what the vat keeps is within the sizes, if it was before
+  call_sends : (mid new : State) (done : Result A VatFault) (none after : List Effect) (result : Result (Acted A) VatFault) → none ≡ [] → FitsOpen old → old.is_closed ≡ false
+      → Calls (Does old event) value old done none after mid → CallEnds mid done after result new → AreWritable (effects_of result) × FitsOpen new
+  call_sends mid new done none after result nothing fits still acts ended =
+      steps_write old new event (answered value result) (effects_of result) fits (call_steps mid new done none after result nothing still acts ended)
+
+  pub call_writes : (mid new : State) (done : Result A VatFault) (none after : List Effect) (result : Result (Acted A) VatFault) → none ≡ [] → Stays old → old.is_closed ≡ false
+      → Calls (Does old event) value old done none after mid → CallEnds mid done after result new → AreWritable (effects_of result)
+  call_writes mid new done none after result nothing stayed still acts ended = (call_sends mid new done none after result nothing stayed.1 still acts ended).0
+
+  pub call_stays : (mid new : State) (done : Result A VatFault) (none after : List Effect) (result : Result (Acted A) VatFault) → none ≡ [] → Stays old → old.is_closed ≡ false
+      → Calls (Does old event) value old done none after mid → CallEnds mid done after result new → Stays new
+  call_stays mid new done none after result nothing stayed still acts ended =
+      (call_rests mid new done none after result nothing stayed.0 still acts ended, (call_sends mid new done none after result nothing stayed.1 still acts ended).1)
 
   -- after its own part it holds within the event
   pub call_within : (mid : State) (done : Result A VatFault) (none after : List Effect) → Rests old → old.is_closed ≡ false → Calls (Does old event) value old done none after mid
@@ -81,10 +98,25 @@ module _ (m : Message) (old : State) where
   message_steps mid new (Err halts.OutOfMemory) none after result nothing still done ended = rw ended.0 (ran_out (events.Receive m) still ended.1)
 
   -- after it the vat rests, if it did before
-  pub message_rests : (mid new : State) (done : Result (Unit {0}) Halt) (none after : List Effect) (result : Result (Acted (Unit {0})) VatFault) → none ≡ [] → Rests old → old.is_closed ≡ false
+  message_rests : (mid new : State) (done : Result (Unit {0}) Halt) (none after : List Effect) (result : Result (Acted (Unit {0})) VatFault) → none ≡ [] → Rests old → old.is_closed ≡ false
       → Acts (Receives old m) done none after mid → MessageEnds mid done after result new → Rests new
   message_rests mid new done none after result nothing rested still acts ended open_ =
       step_keeps old new (events.Receive m) (answered (λ _. values.Nothing) result) (effects_of result) (rested still) open_ (message_steps mid new done none after result nothing still acts ended)
+
+  -- each message that it sent can be written, and what the vat keeps is within the sizes, if it was before
+  message_sends : (mid new : State) (done : Result (Unit {0}) Halt) (none after : List Effect) (result : Result (Acted (Unit {0})) VatFault) → none ≡ [] → FitsOpen old → old.is_closed ≡ false
+      → Acts (Receives old m) done none after mid → MessageEnds mid done after result new → AreWritable (effects_of result) × FitsOpen new
+  message_sends mid new done none after result nothing fits still acts ended =
+      steps_write old new (events.Receive m) (answered (λ _. values.Nothing) result) (effects_of result) fits (message_steps mid new done none after result nothing still acts ended)
+
+  pub message_writes : (mid new : State) (done : Result (Unit {0}) Halt) (none after : List Effect) (result : Result (Acted (Unit {0})) VatFault) → none ≡ [] → Stays old → old.is_closed ≡ false
+      → Acts (Receives old m) done none after mid → MessageEnds mid done after result new → AreWritable (effects_of result)
+  message_writes mid new done none after result nothing stayed still acts ended = (message_sends mid new done none after result nothing stayed.1 still acts ended).0
+
+  pub message_stays : (mid new : State) (done : Result (Unit {0}) Halt) (none after : List Effect) (result : Result (Acted (Unit {0})) VatFault) → none ≡ [] → Stays old → old.is_closed ≡ false
+      → Acts (Receives old m) done none after mid → MessageEnds mid done after result new → Stays new
+  message_stays mid new done none after result nothing stayed still acts ended =
+      (message_rests mid new done none after result nothing stayed.0 still acts ended, (message_sends mid new done none after result nothing stayed.1 still acts ended).1)
 
   -- after its own part it holds within the event
   pub message_within : (mid : State) (done : Result (Unit {0}) Halt) (none after : List Effect) → Rests old → old.is_closed ≡ false → Acts (Receives old m) done none after mid

@@ -1,8 +1,9 @@
 -- Calls of the application on their way.
-use Rattle.std.specs.Prelude.{◌≡◌, ℕ, ◌-◌, Result}
+use Rattle.std.specs.Prelude.{◌≡◌, ℕ, ◌-◌, List, Result}
 use Rattle.std.specs.FinMap.{remove}
 use Rattle.cp_refs.specs.Route.{HasRoute}
 use Rattle.cp_refs.specs.Values.{ValueMaps}
+use Rattle.cp_refs.specs.declared.call.Request.{Request}
 use Rattle.cp_refs.specs.declared.cap.Cap.{Cap}
 use Rattle.cp_refs.specs.declared.cap.Cap.TheVariants as caps
 use Rattle.cp_refs.specs.declared.values.QuestionKind.{QuestionKind}
@@ -10,9 +11,16 @@ use Rattle.cp_refs.specs.declared.values.QuestionKind.TheVariants as kinds
 use Rattle.cp_machine.specs.State.{State}
 use Rattle.cp_machine.specs.Then.{Done, Then}
 use Rattle.cp_machine.specs.Go.{GoTo, Underway}
-use Rattle.cp_machine.specs.Calling.{mark_of, marked}
+use Rattle.cp_machine.specs.Calling.{called, mark_of, marked, own_call}
 use Rattle.cp_machine.specs.Calling as machine
+use Rattle.cp_machine.specs.declared.effect.Effect.{Effect}
 use Rattle.cp_machine.specs.declared.fault.PeerFault.{PeerFault}
+use Rattle.cp_state.specs.Halts.{Acts}
+use Rattle.cp_state.specs.StateOf.{state_of}
+use Rattle.cp_state.specs.declared.halt.Halt.{Halt}
+use Rattle.cp_state.specs.declared.parts.Core.{Core}
+use Rattle.cp_rules.specs.Going.{underway_of}
+use Rattle.cp_rules.specs.declared.go.Underway as rules
 use Rattle.cp_vat.specs.declared.going.Reference.{Reference}
 use Rattle.cp_vat.specs.declared.going.Reference.TheVariants as references
 
@@ -50,3 +58,9 @@ taken_back s q =
       entries = record s.entries { questions = remove s.entries.questions q };
       next_ticket = s.next_ticket - 1;
     }
+
+-- If a question of this kind was opened last by the application, and this is its call, then what is done is what the rule says of it.
+abbrev pub GoesBy : (State → ℕ → Request → Result Done PeerFault → Type 0) → QuestionKind → Core → rules.Underway → Result (Unit {0}) Halt → List Effect → List Effect → Core → Type 0
+GoesBy Rule kind now call result before after new =
+    (old : State) (q : ℕ) (request : Request) → state_of now ≡ called old q kind → underway_of call ≡ own_call old q request
+    → Acts (Rule old q request) result before after (state_of new)

@@ -1,16 +1,15 @@
 //! Where a call of the application goes that opened a question.
 
-ghost use Rattle.std.specs.Prelude.{◌≡◌, ℕ, Some, None, IfOk, option_copied};
+ghost use Rattle.std.specs.Prelude.{◌≡◌, Some, None, IfOk, option_copied};
 ghost use Rattle.cp_refs.specs.Route.{HasRoute};
-ghost use Rattle.cp_machine.specs.State.{State};
-ghost use Rattle.cp_machine.specs.Calling.{FirstEmbargoed, GoBack, GoByValue, GoFrom, called, mark_of, old_target, own_call, question_reference, reference_of};
+ghost use Rattle.cp_machine.specs.Calling.{FirstEmbargoed, GoBack, GoByValue, GoFrom, mark_of, old_target, question_reference, reference_of};
 ghost use Rattle.cp_state.specs.Halts.{Acts, IfFault};
 ghost use Rattle.cp_state.specs.StateOf.{state_of};
 ghost use Rattle.cp_rules.specs.Going.{MayGo, underway_of};
-ghost use Rattle.cp_vat.specs.Ways.{GoMarked, WayEnds, kind_of, seen, value_kind};
+ghost use Rattle.cp_vat.specs.Ways.{GoMarked, GoesBy, WayEnds, kind_of, seen, value_kind};
 
 use cp_machine::Effect;
-use cp_refs::{Cap, Gate, Path, Question, QuestionKind, Request, Route, Values};
+use cp_refs::{Cap, Gate, Path, Question, QuestionKind, Route, Values};
 use cp_rpc::{Context, Disembargo, Message, Target};
 use cp_rules::go::{Underway, go, go_to};
 use cp_rules::promised::promised_answer;
@@ -66,7 +65,7 @@ pub(crate) fn go_from(
 ) -> Result<(), Halt>
     requires may { MayGo (state_of core.old) (underway_of call) }
     requires ends { WayEnds core.old.values cap.now reference }
-    ensures acts { (old : State) (q : ℕ) (request : Request) → state_of core.old ≡ called old q (kind_of reference) → underway_of call ≡ own_call old q request → Acts (GoFrom old q request cap.now (seen reference)) result effects.old.items effects.new.items (state_of core.new) }
+    ensures acts { GoesBy (λ s q r. GoFrom s q r cap.now (seen reference)) (kind_of reference) core.old call result effects.old.items effects.new.items core.new }
     ensures unchanged { IfFault result (core.new ≡ core.old) }
 {
     match reference {
@@ -132,7 +131,7 @@ fn go_by_value(
 ) -> Result<(), Halt>
     requires may { MayGo (state_of core.old) (underway_of call) }
     requires ends { HasRoute core.old.values value }
-    ensures acts { (old : State) (q : ℕ) (request : Request) → state_of core.old ≡ called old q (value_kind value) → underway_of call ≡ own_call old q request → Acts (GoByValue old q request cap.now value) result effects.old.items effects.new.items (state_of core.new) }
+    ensures acts { GoesBy (λ s q r. GoByValue s q r cap.now value) (value_kind value) core.old call result effects.old.items effects.new.items core.new }
     ensures unchanged { IfFault result (core.new ≡ core.old) }
 {
     match value {

@@ -3,6 +3,7 @@
 ghost use Rattle.std.specs.Prelude.{◌≡◌, ◌≤◌, [], vec_len, vec_capacity};
 ghost use Rattle.cp_machine.specs.Step.{Step};
 ghost use Rattle.cp_machine.specs.declared.event.Value.TheVariants as values;
+ghost use Rattle.cp_sizes.specs.Sizes.{AreWritable};
 ghost use Rattle.cp_vat.specs.Running.{Continues, Restates, Runs};
 ghost use Rattle.cp_vat.specs.Stepping.{answered, effects_of};
 
@@ -36,7 +37,8 @@ impl Vat {
     ///
     /// Those of the call that the event is.
     pub fn act(&mut self, event: Event) -> Result<Acted<Value>, VatFault>
-        ensures { Step self.old event (answered (λ value. value) result) (effects_of result) self.new }
+        ensures step { Step self.old event (answered (λ value. value) result) (effects_of result) self.new }
+        ensures writable { AreWritable (effects_of result) }
     {
         match event {
             Event::Receive(message) => nothing(self.receive(message)),

@@ -6,6 +6,7 @@ ghost use Rattle.cp_machine.specs.State.{new_state};
 ghost use Rattle.cp_machine.specs.Step.{Step};
 ghost use Rattle.cp_machine.specs.declared.event.Event.TheVariants as events;
 ghost use Rattle.cp_machine.specs.declared.event.Value.TheVariants as values;
+ghost use Rattle.cp_sizes.specs.Sizes.{AreWritable};
 ghost use Rattle.cp_vat.specs.Stepping.{answered, effects_of};
 
 use crate::ending::{end_call, end_message};
@@ -53,6 +54,10 @@ use std::marker::Model;
 ///
 /// A call that is refused changes nothing and has no effects. But at V10 memory ran out, and the vat is closed
 /// without an Abort.
+///
+/// # Sizes
+///
+/// Each message that a vat sends can be written: it nests 64 deep at most, and costs 8,388,608 words at most.
 #[derive(Drop)]
 pub struct Vat {
     core: Core,
@@ -70,9 +75,9 @@ impl Model for Vat {
 
     ghost view = { λ v. state_of v.core };
 
-    ghost use Rattle.cp_vat.specs.Stepping.{Rests};
+    ghost use Rattle.cp_vat.specs.Stepping.{Stays};
 
-    ghost invariant = { λ v. Rests (state_of v.core) };
+    ghost invariant = { λ v. Stays (state_of v.core) };
 }
 
 impl Vat {
@@ -87,7 +92,8 @@ impl Vat {
 
     /// Takes in a message of the peer's.
     pub fn receive(&mut self, message: Message) -> Result<Acted<()>, VatFault>
-        ensures { Step self.old (events.Receive message) (answered (λ _. values.Nothing) result) (effects_of result) self.new }
+        ensures step { Step self.old (events.Receive message) (answered (λ _. values.Nothing) result) (effects_of result) self.new }
+        ensures writable { AreWritable (effects_of result) }
     {
         if self.core.is_closed {
             return Err(VatFault::Closed);
@@ -100,7 +106,8 @@ impl Vat {
     /// Takes in a message of the peer's that is read in place. A tree or a text of it is made only for an
     /// effect, a waiting call or a kept outcome, and after the message was checked.
     pub fn receive_view(&mut self, message: MessageView) -> Result<Acted<()>, VatFault>
-        ensures { Step self.old (events.Receive (told message.entry)) (answered (λ _. values.Nothing) result) (effects_of result) self.new }
+        ensures step { Step self.old (events.Receive (told message.entry)) (answered (λ _. values.Nothing) result) (effects_of result) self.new }
+        ensures writable { AreWritable (effects_of result) }
     {
         if self.core.is_closed {
             return Err(VatFault::Closed);
@@ -116,7 +123,8 @@ impl Vat {
     ///
     /// V8 where the table of questions is full.
     pub fn bootstrap(&mut self) -> Result<Acted<u32>, VatFault>
-        ensures { Step self.old events.Bootstrap (answered (λ q. values.Question q) result) (effects_of result) self.new }
+        ensures step { Step self.old events.Bootstrap (answered (λ q. values.Question q) result) (effects_of result) self.new }
+        ensures writable { AreWritable (effects_of result) }
     {
         if self.core.is_closed {
             return Err(VatFault::Closed);
@@ -134,7 +142,8 @@ impl Vat {
     /// path of an open local question, V7 past the sizes, V8 where a table is full, V11 where an import
     /// isn't held.
     pub fn call(&mut self, cap: Cap, request: Request) -> Result<Acted<u32>, VatFault>
-        ensures { Step self.old (events.Call cap request) (answered (λ q. values.Question q) result) (effects_of result) self.new }
+        ensures step { Step self.old (events.Call cap request) (answered (λ q. values.Question q) result) (effects_of result) self.new }
+        ensures writable { AreWritable (effects_of result) }
     {
         if self.core.is_closed {
             return Err(VatFault::Closed);
@@ -152,7 +161,8 @@ impl Vat {
     /// where a promise isn't, V5 where a path of a question is named, V7 past the sizes, V8 where a
     /// table is full, V11 where an import isn't held.
     pub fn answer(&mut self, origin: Origin, outcome: Outcome) -> Result<Acted<()>, VatFault>
-        ensures { Step self.old (events.Answer origin outcome) (answered (λ _. values.Nothing) result) (effects_of result) self.new }
+        ensures step { Step self.old (events.Answer origin outcome) (answered (λ _. values.Nothing) result) (effects_of result) self.new }
+        ensures writable { AreWritable (effects_of result) }
     {
         if self.core.is_closed {
             return Err(VatFault::Closed);
@@ -168,7 +178,8 @@ impl Vat {
     ///
     /// V8 where there are 65,536.
     pub fn promise(&mut self) -> Result<Acted<PromiseId>, VatFault>
-        ensures { Step self.old events.Promise (answered (λ p. values.Promise p) result) (effects_of result) self.new }
+        ensures step { Step self.old events.Promise (answered (λ p. values.Promise p) result) (effects_of result) self.new }
+        ensures writable { AreWritable (effects_of result) }
     {
         if self.core.is_closed {
             return Err(VatFault::Closed);
@@ -187,7 +198,8 @@ impl Vat {
     /// to it, V5 where the value is a path of a question, V7 past the sizes, V8 where a table is full,
     /// V11 where the value's import isn't held.
     pub fn resolve(&mut self, promise: PromiseId, value: Cap) -> Result<Acted<()>, VatFault>
-        ensures { Step self.old (events.Resolve promise value) (answered (λ _. values.Nothing) result) (effects_of result) self.new }
+        ensures step { Step self.old (events.Resolve promise value) (answered (λ _. values.Nothing) result) (effects_of result) self.new }
+        ensures writable { AreWritable (effects_of result) }
     {
         if self.core.is_closed {
             return Err(VatFault::Closed);
@@ -203,7 +215,8 @@ impl Vat {
     ///
     /// V1 where it isn't the application's or was finished, V6 where it is in use.
     pub fn finish(&mut self, question: u32) -> Result<Acted<()>, VatFault>
-        ensures { Step self.old (events.Finish question) (answered (λ _. values.Nothing) result) (effects_of result) self.new }
+        ensures step { Step self.old (events.Finish question) (answered (λ _. values.Nothing) result) (effects_of result) self.new }
+        ensures writable { AreWritable (effects_of result) }
     {
         if self.core.is_closed {
             return Err(VatFault::Closed);
@@ -219,7 +232,8 @@ impl Vat {
     ///
     /// V6 where it is in use, V11 where it isn't held.
     pub fn release(&mut self, import: u32) -> Result<Acted<()>, VatFault>
-        ensures { Step self.old (events.Release import) (answered (λ _. values.Nothing) result) (effects_of result) self.new }
+        ensures step { Step self.old (events.Release import) (answered (λ _. values.Nothing) result) (effects_of result) self.new }
+        ensures writable { AreWritable (effects_of result) }
     {
         if self.core.is_closed {
             return Err(VatFault::Closed);
@@ -235,7 +249,8 @@ impl Vat {
     ///
     /// V2 where it doesn't exist, V5 where it is open, V6 where it is in use.
     pub fn forget(&mut self, promise: PromiseId) -> Result<Acted<()>, VatFault>
-        ensures { Step self.old (events.Forget promise) (answered (λ _. values.Nothing) result) (effects_of result) self.new }
+        ensures step { Step self.old (events.Forget promise) (answered (λ _. values.Nothing) result) (effects_of result) self.new }
+        ensures writable { AreWritable (effects_of result) }
     {
         if self.core.is_closed {
             return Err(VatFault::Closed);
@@ -247,7 +262,8 @@ impl Vat {
 
     /// The imports and the promises that aren't in use.
     pub fn idle(&mut self) -> Result<Acted<Idle>, VatFault>
-        ensures { Step self.old events.Idle (answered (λ idle. values.Idle idle.imports idle.promises) result) (effects_of result) self.new }
+        ensures step { Step self.old events.Idle (answered (λ idle. values.Idle idle.imports idle.promises) result) (effects_of result) self.new }
+        ensures writable { AreWritable (effects_of result) }
     {
         if self.core.is_closed {
             return Err(VatFault::Closed);

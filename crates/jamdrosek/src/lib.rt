@@ -204,9 +204,10 @@
 //! - `message`: the messages of rpc.capnp, owned or read in place.
 //! - `stream`: messages read from and written to streams.
 //! - `vat`: one end of a connection, with the capabilities, events and effects that it takes and gives.
+//! - `connection`: that end with its frames: bytes come in, bytes go out.
 //! - `server`: objects served to the peer of one connection.
 //!
-//! Each module but `vat` and `server` is one crate, whole: `words` is cp_words, `message` is cp_rpc, and any other
+//! Each module but `vat`, `connection` and `server` is one crate, whole: `words` is cp_words, `message` is cp_rpc, and any other
 //! has its crate's name. The names that most programs need are here too. `docs/PROVED.md` says what is proved of each.
 //!
 //! Each fault is an `Error`, whose text names it, and its place where it has one; `docs/PROFILE.md` has them all, with
@@ -216,6 +217,7 @@
 //! `Rattle.cp_stream.specs.Stream`, needs that crate listed as well.
 #![tactic(auto)]
 
+pub mod connection;
 pub mod server;
 pub mod vat;
 

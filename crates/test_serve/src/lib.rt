@@ -1,6 +1,8 @@
-//! Tests of cp_serve: whole sessions over readers and writers in memory.
+//! Tests of cp_serve and cp_objects: whole sessions over readers and writers in memory, and by a connection.
 #![tactic(auto)]
 
+#[cfg(test)]
+mod connected;
 #[cfg(test)]
 mod devices;
 #[cfg(test)]

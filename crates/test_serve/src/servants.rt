@@ -2,7 +2,7 @@
 
 use cp_machine::Ids;
 use cp_refs::{Cap, Caps, Outcome, Request};
-use cp_serve::{Reply, Servant, Settled};
+use cp_servants::{Reply, Servant, Settled};
 use cp_tree::Whole;
 use std::alloc::{AllocError, Global};
 
@@ -32,7 +32,7 @@ pub struct Echo {
 }
 
 impl Servant for Echo {
-    ghost use Rattle.cp_serve.specs.Servant.{other};
+    ghost use Rattle.cp_servants.specs.Servant.{other};
 
     ghost seen = { λ _. other };
 
@@ -56,7 +56,7 @@ pub struct Late {
 }
 
 impl Servant for Late {
-    ghost use Rattle.cp_serve.specs.Servant.{other};
+    ghost use Rattle.cp_servants.specs.Servant.{other};
 
     ghost seen = { λ _. other };
 
@@ -82,7 +82,7 @@ impl Servant for Late {
 pub struct Starved;
 
 impl Servant for Starved {
-    ghost use Rattle.cp_serve.specs.Servant.{other};
+    ghost use Rattle.cp_servants.specs.Servant.{other};
 
     ghost seen = { λ _. other };
 

@@ -3,7 +3,8 @@
 use crate::frames::Frame;
 use cp_frame::{FrameReader, Mode};
 use cp_lines::push_line;
-use cp_serve::{Report, Servant, ServeFault, serve};
+use cp_servants::Servant;
+use cp_serve::{Report, ServeFault, serve};
 use cp_stream::{Tap, view_of};
 use cp_words::Limits;
 use std::alloc::Global;

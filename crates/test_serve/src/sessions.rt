@@ -6,7 +6,7 @@ use crate::serving::{boxed, bytes_of, decoded, expect, expect_lines, pair, serve
 use cp_frame::Mode;
 use cp_machine::Ids;
 use cp_refs::{Cap, Caps, Outcome};
-use cp_serve::{Cell, Desk, Reply, Script, Settled};
+use cp_servants::{Cell, Desk, Reply, Script, Settled};
 use cp_tree::{Body, Tree, Whole};
 use std::alloc::Global;
 use std::process::Abort;
@@ -45,14 +45,14 @@ fn frames_are_of_their_lines(rt: HostRuntime) {
 }
 
 /// A call waits for the Cell that the Desk gives later.
-const ADDED: &str = "\
+pub const ADDED: &str = "\
 return a=0 releaseParamCaps=false results {cap:0 caps[senderHosted:0]}
 return a=1 releaseParamCaps=false results {(;cap:0) caps[senderHosted:1]}
 return a=2 releaseParamCaps=false results {(0500000000000000;) caps[]}
 ";
 
 /// Two calls are answered by the polls where the messages end, one each.
-const POLLED: &str = "\
+pub const POLLED: &str = "\
 return a=0 releaseParamCaps=false results {cap:0 caps[senderHosted:0]}
 return a=1 releaseParamCaps=false results {(;cap:0) caps[senderHosted:1]}
 return a=3 releaseParamCaps=false results {(;cap:0) caps[senderHosted:1]}
@@ -60,7 +60,7 @@ return a=2 releaseParamCaps=false results {(;cap:0) caps[senderHosted:1]}
 ";
 
 /// The Cell adds, and wraps.
-const COUNTED: &str = "\
+pub const COUNTED: &str = "\
 return a=0 releaseParamCaps=false results {cap:0 caps[senderHosted:0]}
 return a=1 releaseParamCaps=false results {(;cap:0) caps[senderHosted:1]}
 return a=2 releaseParamCaps=false results {(0500000000000000;) caps[]}
@@ -72,7 +72,7 @@ return a=7 releaseParamCaps=false exception unimplemented \"no such method\"
 ";
 
 /// The Desk and the Cell give up what they were given.
-const GIVEN_UP: &str = "\
+pub const GIVEN_UP: &str = "\
 return a=0 releaseParamCaps=false results {cap:0 caps[senderHosted:0]}
 return a=1 releaseParamCaps=false results {(;cap:0) caps[senderHosted:1]}
 return a=2 releaseParamCaps=false results {(0500000000000000;) caps[]}
@@ -155,18 +155,18 @@ fn an_object_answers_later(rt: HostRuntime) {
 }
 
 /// A call that isn't answered.
-const WAITING: &str = "\
+pub const WAITING: &str = "\
 return a=0 releaseParamCaps=false results {cap:0 caps[senderHosted:0]}
 ";
 
 /// A call that is.
-const SETTLED: &str = "\
+pub const SETTLED: &str = "\
 return a=0 releaseParamCaps=false results {cap:0 caps[senderHosted:0]}
 return a=1 releaseParamCaps=false results {null caps[]}
 ";
 
 /// A Script that settles calls under these tickets, one a poll.
-fn settling(rt: &impl Abort, alloc: Global, tickets: &[u64]) -> Script {
+pub fn settling(rt: &impl Abort, alloc: Global, tickets: &[u64]) -> Script {
     let mut settled = Vec::new(alloc);
     for ticket in tickets {
         let call = Settled {
@@ -197,7 +197,7 @@ fn a_strangers_ticket_is_dropped(rt: HostRuntime) {
 }
 
 /// Results of one pointer, to this capability.
-fn one(rt: &impl Abort, alloc: Global, cap: Cap) -> Outcome {
+pub fn one(rt: &impl Abort, alloc: Global, cap: Cap) -> Outcome {
     let words = Vec::new(alloc);
     let ptrs = vec![in alloc; Tree::Cap(0)].ok().expect(rt, "memory");
     let content = Whole::new(Tree::Struct(Body { words, ptrs }));
@@ -209,7 +209,7 @@ fn one(rt: &impl Abort, alloc: Global, cap: Cap) -> Outcome {
 }
 
 /// A Script of one reply, at once.
-fn replying(rt: &impl Abort, alloc: Global, outcome: Outcome, imports: &[u32]) -> Script {
+pub fn replying(rt: &impl Abort, alloc: Global, outcome: Outcome, imports: &[u32]) -> Script {
     let gives_up = Ids::new(imports.to_vec(alloc).ok().expect(rt, "memory"));
     let reply = Reply::Now { outcome, gives_up };
     let replies = vec![in alloc; reply].ok().expect(rt, "memory");
@@ -217,7 +217,7 @@ fn replying(rt: &impl Abort, alloc: Global, outcome: Outcome, imports: &[u32]) -
 }
 
 /// Imports that are given up are released once, and only those that exist.
-const RELEASED: &str = "\
+pub const RELEASED: &str = "\
 return a=0 releaseParamCaps=false results {cap:0 caps[senderHosted:0]}
 return a=1 releaseParamCaps=false results {null caps[]}
 release id=4 count=2
@@ -234,14 +234,14 @@ fn an_object_gives_up_imports(rt: HostRuntime) {
 }
 
 /// Results that name an object past the list, and a call on it.
-const NO_OBJECT: &str = "\
+pub const NO_OBJECT: &str = "\
 return a=0 releaseParamCaps=false results {cap:0 caps[senderHosted:0]}
 return a=1 releaseParamCaps=false results {(;cap:0) caps[senderHosted:1]}
 return a=2 releaseParamCaps=false exception failed \"no such object\"
 ";
 
 /// Results that name a promise which doesn't exist.
-const BAD: &str = "\
+pub const BAD: &str = "\
 return a=0 releaseParamCaps=false results {cap:0 caps[senderHosted:0]}
 return a=1 releaseParamCaps=false exception failed \"bad outcome\"
 ";

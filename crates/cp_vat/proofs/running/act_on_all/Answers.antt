@@ -13,7 +13,7 @@ loop-event-preserved c =
       splits_more c.args.events.items l.yielded l.event-iterator.rest.items c.next.new.self.rest.items c.in-Some.event i.0 c.in-Some.ensures.steps.0,
       omega (arith, i.1, ap length pushed, length_push l.done.items c.in-Ok.acted, length_push l.yielded c.in-Some.event),
       subst (λ items. Steps c.args.vat.now (moments (l.yielded ++ c.in-Some.event ∷ []) items) c.act.new.self) (sym pushed)
-          (one_more c.args.vat.now l.vat c.act.new.self l.yielded c.in-Some.event l.done.items c.in-Ok.acted i.1 i.2 c.in-Ok.ensures),
+          (one_more c.args.vat.now l.vat c.act.new.self l.yielded c.in-Some.event l.done.items c.in-Ok.acted i.1 i.2 c.in-Ok.ensures.step),
       omega (arith, i.3, c.push.ensures.capacity),
     )
 
@@ -35,4 +35,4 @@ returns-in-Err c =
     let l = c.loop-event in
     let i = l.invariant in
     ended c.args.vat.now l.vat c.args.events.items l.yielded l.event-iterator.rest.items l.done.items _ i.0 i.1 i.2
-    (omega (arith, c.len.ensures), inl (rw (c.in-Some.ensures.steps.0) (c.act.new.self, c.in-Err.ensures)))
+    (omega (arith, c.len.ensures), inl (rw (c.in-Some.ensures.steps.0) (c.act.new.self, c.in-Err.ensures.step)))

@@ -1,4 +1,5 @@
 use Rattle.std.proofs.Common.{◌≡◌}
+use Rattle.cp_sizes.specs.Sizes.{AreWritable}
 use Rattle.cp_connection.specs.declared.agenda.Agenda.{Agenda}
 use Rattle.cp_connection.specs.Effects.{closes}
 use Rattle.cp_connection.specs.Noting.{Notes, Grows}
@@ -10,4 +11,5 @@ invariant-loop-effect l = record {
   noted : (new : Agenda) → Notes l.self l.effect-iterator.rest.items new → Notes l.fn.self l.fn.effects new;
   closed : closes l.effect-iterator.rest.items ≡ closes l.fn.effects;
   grown : Grows l.fn.self l.self;
+  writable : AreWritable l.effect-iterator.rest.items;
 }

@@ -1,7 +1,7 @@
 use Rattle.std.proofs.Common.{◌≡◌, ◌≤◌, ℕ, List, ◌++◌, map, length}
 use Rattle.cp_frame.specs.declared.mode.Mode.{Mode}
 use Rattle.cp_serve.specs.contracts.serving.Server.fill_block.{dyn-1-ghosts}
-use Rattle.cp_serve.specs.Servant.{Seen}
+use Rattle.cp_servants.specs.Servant.{Seen}
 use Rattle.cp_serve.specs.Output.{Device}
 use Rattle.cp_serve.specs.Reached.{Serves, ahead}
 use Rattle.cp_serve.proofs.serving.Server.fill_block.Given as goal

@@ -1,12 +1,15 @@
-use Rattle.std.proofs.Common.{List, [], ◌∷◌, ap, ◌∙◌, subst, arith}
+use Rattle.std.proofs.Common.{ℕ, ◌+◌, List, [], ◌∷◌, take, drop, sym, ap, ◌∙◌, subst, arith}
+use Rattle.std.specs.List.{AllByRecursion}
 use Rattle.std.proofs.lemmas.Result.{err_from_is_err_and}
 use Rattle.cp_frame.specs.declared.mode.Mode.{Mode}
 use Rattle.cp_rpc.specs.declared.message.Message.{Message}
+use Rattle.cp_sizes.specs.Sizes.{IsWritable}
 use Rattle.cp_serve.specs.declared.serving.Server.{Server}
 use Rattle.cp_serve.specs.Output.{Writes, WritesPart}
 use Rattle.cp_serve.specs.Reached.{IsUnput, ahead}
 use Rattle.cp_serve.specs.WorkOf.{work_of}
-use Rattle.cp_serve.proofs.Written.{writes_next, part_next, unput_next}
+use Rattle.cp_serve.proofs.Written.{split_at, writes_next, part_next}
+use Rattle.cp_serve.proofs.Writable.{writes_at}
 use Rattle.cp_serve.proofs.serving.Server.put.Goals as goal
 
 pub returns-in_err-put_one-clause-part : goal.returns-in_err-put_one-clause-part
@@ -24,12 +27,15 @@ returns-in_err-put_one-clause-part c =
 
 pub returns-in_err-put_one-clause-stopped : goal.returns-in_err-put_one-clause-stopped
 returns-in_err-put_one-clause-stopped c =
-    let l = c.loop-message in
     let p = err_from_is_err_and c.from_residual.result c.from_residual.ensures.1 in
-    let items = c.deref-message-items.ensures.value ∙ c.take_sent-messages.ensures.sent in
-    let fault = c.in_err-put_one.field-0.0 in
-    rw (p.1, p.2) (subst (λ (x : List Message). IsUnput c.args.self.now.at x fault) items
-    (unput_next c.deref-message-items.result.now l.message-index c.message-item.result c.args.self.now.at l.self.at c.loop-message-test.true c.message-item.is l.invariant.only.at fault c.in_err-put_one.ensures.stopped))
+    rw (p.1, p.2) (subst (λ (place : ℕ). IsUnput place c.in_err-put_one.field-0.0) c.loop-message.invariant.only.at c.in_err-put_one.ensures.stopped)
+
+pub put_one-requires : goal.put_one-requires
+put_one-requires c =
+    let items = c.deref-message-items.result.now in
+    let at = c.loop-message.message-index in
+    writes_at items (take at items) (drop (at + 1) items) c.message-item.result (split_at items at c.message-item.result c.loop-message-test.true c.message-item.is)
+    (subst (AllByRecursion IsWritable) (sym c.deref-message-items.ensures.value) c.take_sent-messages.ensures.writable)
 
 pub loop-message-preserved : goal.loop-message-preserved
 loop-message-preserved c =

@@ -14,4 +14,4 @@ returns-in-Err-clause-part c =
 
 pub returns-in-Err-clause-stopped : goal.returns-in-Err-clause-stopped
 returns-in-Err-clause-stopped c =
-    cut_why c.args.self.now.mode c.standard.result c.args.message.now c.new-after.result c.write_message-written.new.to c.standard.ensures c.args.self.now.at c.in-Err.fault c.unput.result c.unput.ensures c.in-Err.ensures.stopped
+    cut_why c.args.self.now.mode c.standard.result c.args.message.now c.new-after.result c.write_message-written.new.to c.standard.ensures c.requires c.args.self.now.at c.in-Err.fault c.unput.result c.unput.ensures c.in-Err.ensures.stopped

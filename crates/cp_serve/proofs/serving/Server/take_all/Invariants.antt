@@ -3,7 +3,7 @@ use Rattle.std.specs.Io.KnownBytes.{Consumes}
 use Rattle.cp_stream.specs.Tap.{inner_of, failures_of}
 use Rattle.cp_frame.specs.declared.mode.Mode.{Mode}
 use Rattle.cp_serve.specs.contracts.serving.Server.take_all.{dyn-1-ghosts}
-use Rattle.cp_serve.specs.Servant.{Seen}
+use Rattle.cp_servants.specs.Servant.{Seen}
 use Rattle.cp_serve.specs.Output.{Device, device}
 use Rattle.cp_serve.specs.Reached.{Serves}
 use Rattle.cp_serve.proofs.serving.Server.take_all.Given as goal

@@ -1,7 +1,7 @@
 use Rattle.std.proofs.Common.{◌≡◌, ℕ, List, ◌++◌, map, length}
 use Rattle.cp_frame.specs.declared.mode.Mode.{Mode}
 use Rattle.cp_serve.specs.contracts.serving.Server.take_piece.{dyn-1-ghosts}
-use Rattle.cp_serve.specs.Servant.{Seen}
+use Rattle.cp_servants.specs.Servant.{Seen}
 use Rattle.cp_serve.specs.Output.{Device, device}
 use Rattle.cp_serve.specs.Reached.{Serves}
 use Rattle.cp_serve.proofs.serving.Server.take_piece.Given as goal

@@ -54,4 +54,4 @@ returns-clause-part g c =
 
 pub returns-clause-stopped : goal.returns-clause-stopped
 returns-clause-stopped g c =
-    IfErr-weaker c.put-put.result _ _ (λ fault h. unput_unwritten c.args.self.now.at (work_of c.args.self.now.session).sent (device g.W.Write.contents c.args.to.now) (device g.W.Write.contents c.write_out.new.to) fault h) c.put-put.ensures.stopped
+    IfErr-weaker c.put-put.result _ _ (λ fault h. unput_unwritten c.args.self.now.at (device g.W.Write.contents c.args.to.now) (device g.W.Write.contents c.write_out.new.to) fault h) c.put-put.ensures.stopped

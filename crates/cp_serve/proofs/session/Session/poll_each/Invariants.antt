@@ -1,6 +1,6 @@
 use Rattle.std.proofs.Common.{List, map, Bool, ◌||◌}
 use Rattle.cp_serve.specs.contracts.session.Session.poll_each.{dyn-1-ghosts}
-use Rattle.cp_serve.specs.Servant.{Seen}
+use Rattle.cp_servants.specs.Servant.{Seen}
 use Rattle.cp_serve.specs.Work.{Work}
 use Rattle.cp_serve.specs.Service.{PollsFrom}
 use Rattle.cp_serve.specs.WorkOf.{work_of}

@@ -1,6 +1,6 @@
 use Rattle.std.proofs.Common.{List, map}
 use Rattle.cp_serve.specs.contracts.session.Session.work_off.{dyn-1-ghosts}
-use Rattle.cp_serve.specs.Servant.{Seen}
+use Rattle.cp_servants.specs.Servant.{Seen}
 use Rattle.cp_serve.specs.Work.{Work}
 use Rattle.cp_serve.specs.Service.{WorksOff}
 use Rattle.cp_serve.specs.WorkOf.{work_of}

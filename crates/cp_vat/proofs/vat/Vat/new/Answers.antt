@@ -1,5 +1,8 @@
+use Rattle.std.proofs.Common.{sym, subst}
 use Rattle.cp_machine.proofs.NewVats.{new_local}
+use Rattle.cp_sizes.proofs.Stepping.{new_fits}
+use Rattle.cp_vat.specs.Stepping.{Stays}
 use Rattle.cp_vat.proofs.vat.Vat.new.Goals as goal
 
 pub invariant_of-result : goal.invariant_of-result
-invariant_of-result c = λ still. rw c.new.ensures (new_local c.args.bootstrap)
+invariant_of-result c = subst Stays (sym c.new.ensures) ((λ still. new_local c.args.bootstrap), (λ still. new_fits c.args.bootstrap))

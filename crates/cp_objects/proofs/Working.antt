@@ -1,0 +1,47 @@
+-- How work goes on.
+use Rattle.std.proofs.Common.{◌≡◌, ◌↔◌, ◌<◌, ◌+◌, ℕ, drop, get_or, add-one, List, [], ◌++◌, Option, Some, None, IsSome, Bool, true, false, IsTrue, ◌||◌, Result, Ok, Err, OnOk, refl, sym, ap, ◌∙◌, length}
+use Rattle.std.proofs.lemmas.Bool.{false≢true}
+use Rattle.std.proofs.Math.Seq.{drop-cons}
+use Rattle.std.specs.FinMap.{get, remove}
+use Rattle.cp_tables.specs.Table.{Table}
+use Rattle.cp_tables.proofs.TableLemmas.{is_remove}
+use Rattle.cp_refs.specs.declared.call.Origin.{Origin}
+use Rattle.cp_connection.specs.Link.{Link}
+use Rattle.cp_servants.specs.declared.servant.Settled.{Settled}
+use Rattle.cp_servants.specs.Servant.{Seen}
+use Rattle.cp_objects.specs.Work.{Work, Answers, Tries, TriesEach}
+use Rattle.cp_objects.specs.Rounds.{Settles, is_stranger, is_awaited, PollsFrom, WorksOff, none_left}
+
+-- what follows from a fact of a success
+pub after_ok : {T E : Type 0} {P Q : Type 0} (r : Result T E) → OnOk r P → (P → Q) → OnOk r Q
+after_ok (Ok x) h f = f h
+after_ok (Err e) h f = h
+
+-- what isn't there by a test is none
+pub not_some : {X : Type 0} (o : Option X) (b : Bool) → (IsTrue b ↔ IsSome o) → b ≡ false → o ≡ None
+not_some None b h e = refl
+not_some (Some x) b h e = absurd (false≢true (sym e ∙ h.1 refl))
+
+pub settles_stranger : (old : Work) (w : Option Settled) (settled : Settled) (a : Table Origin) → w ≡ Some settled → get old.awaited settled.ticket ≡ None
+    → a ≡ remove old.awaited settled.ticket → Settles old w false (record old { awaited = a })
+settles_stranger old w settled a e none r =
+    rw (e, r, ← is_remove old.awaited old.awaited settled.ticket none (λ q h. refl)) (is_stranger settled none)
+
+pub settles_awaited : (old : Work) (w : Option Settled) (settled : Settled) (origin : Origin) (link : Link) (a : Table Origin) {new : Work} → w ≡ Some settled
+    → get old.awaited settled.ticket ≡ Some origin → a ≡ remove old.awaited settled.ticket → Answers old.link origin settled.outcome link
+    → new ≡ record old { link = link; awaited = a; given_up = old.given_up ++ settled.gives_up } → Settles old w true new
+settles_awaited old w settled origin link a e got r answers p =
+    rw e (is_awaited settled origin link got answers (p ∙ ap (λ (t : Table Origin). record old { link = link; awaited = t; given_up = old.given_up ++ settled.gives_up }) r))
+
+-- nothing more was given
+pub so_far : {place : ℕ} {old new : Work} {objects others : List Seen} (gave : Bool) → PollsFrom place old (gave || false) new objects others → PollsFrom place old gave new objects others
+so_far true h = h
+so_far false h = h
+
+-- one is tried, and then the others
+pub tries_next : (items : List ℕ) (i d : ℕ) {old mid : Work} (last : Work) → i < length items → Tries old (get_or items i d) mid → TriesEach mid (drop (i + 1) items) last
+    → TriesEach old (drop i items) last
+tries_next items i d {mid = mid} last h tried rest = rw (drop-cons items i d h) (mid, tried, rw add-one at rest)
+
+pub works_off_none : (old : Work) (link : Link) (objects : List Seen) → link ≡ old.link → old.link.happened ≡ [] → WorksOff old (record old { link = link }) objects objects
+works_off_none old link objects e none = rw e (none_left none)

@@ -1,0 +1,40 @@
+use Rattle.std.proofs.Common.{refl, false, ◌||◌, arith}
+use Rattle.std.proofs.Math.Bool.{or_assoc}
+use Rattle.std.proofs.lemmas.List.{length-map}
+use Rattle.cp_objects.specs.Rounds.{none_left, has_ended, polls}
+use Rattle.cp_objects.proofs.Living.{lives_none, lives_both}
+use Rattle.cp_objects.proofs.Working.{so_far, not_some}
+use Rattle.cp_objects.proofs.objects.Objects.poll_each.Goals as goal
+
+pub loop-place-init : goal.loop-place-init
+loop-place-init g c = (λ more last others rest. rest, lives_none c.args.connection.now)
+
+pub returns-then-has_ended-clause-done : goal.returns-then-has_ended-clause-done
+returns-then-has_ended-clause-done g c = so_far c.loop-place.gave (c.loop-place.invariant.0 false _ _ (has_ended (c.if-has_ended.ensures.0 refl)))
+
+pub returns-then-has_ended-clause-lives : goal.returns-then-has_ended-clause-lives
+returns-then-has_ended-clause-lives g c = c.loop-place.invariant.1
+
+pub returns-in_err-settled-clause-lives : goal.returns-in_err-settled-clause-lives
+returns-in_err-settled-clause-lives g c = c.loop-place.invariant.1
+
+pub returns-in_err-gave-clause-lives : goal.returns-in_err-gave-clause-lives
+returns-in_err-gave-clause-lives g c = lives_both c.loop-place.invariant.1 c.settle.ensures.lives
+
+pub returns-in_err-work_off-clause-lives : goal.returns-in_err-work_off-clause-lives
+returns-in_err-work_off-clause-lives g c = lives_both (lives_both c.loop-place.invariant.1 c.settle.ensures.lives) c.work_off.ensures.lives
+
+pub returns-clause-done : goal.returns-clause-done
+returns-clause-done g c = so_far c.loop-place.gave (c.loop-place.invariant.0 false _ _ (none_left (simp length-map (omega (arith, c.loop-place-test.false)))))
+
+pub returns-clause-lives : goal.returns-clause-lives
+returns-clause-lives g c = c.loop-place.invariant.1
+
+pub loop-place-preserved : goal.loop-place-preserved
+loop-place-preserved g c =
+    let first = c.in_ok-gave.field-0 in
+    let open_yet = not_some _ false c.if-has_ended.ensures refl in (
+      λ more last others rest.
+          rw (or_assoc c.loop-place.gave first more) (c.loop-place.invariant.0 (first || more) last others (polls c.in_ok-settled.settled first more open_yet c.in_ok-settled.ensures c.in_ok-gave.ensures.done c.in_ok-work_off.ensures.done rest refl)),
+      lives_both (lives_both c.loop-place.invariant.1 c.in_ok-gave.ensures.lives) c.in_ok-work_off.ensures.lives,
+    )

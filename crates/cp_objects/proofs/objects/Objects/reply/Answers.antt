@@ -1,0 +1,16 @@
+use Rattle.std.proofs.Common.{refl}
+use Rattle.cp_objects.proofs.Living.{lives_none}
+use Rattle.cp_objects.proofs.Working.{after_ok}
+use Rattle.cp_objects.proofs.objects.Objects.reply.Goals as goal
+
+pub returns-in_err-give_up-in-Now-clause-lives : goal.returns-in_err-give_up-in-Now-clause-lives
+returns-in_err-give_up-in-Now-clause-lives c = lives_none c.args.connection.now
+
+pub returns-in_ok-give_up-in-Now-clause-done : goal.returns-in_ok-give_up-in-Now-clause-done
+returns-in_ok-give_up-in-Now-clause-done c = after_ok c.answer.result c.answer.ensures.done (λ answers. rw c.in-Now.is (_, answers, c.in_ok-give_up-in-Now.ensures _))
+
+pub returns-in-Later-clause-done : goal.returns-in-Later-clause-done
+returns-in-Later-clause-done c = after_ok c.put.result c.put.ensures (λ put. rw (c.in-Later.is, put) refl)
+
+pub returns-in-Later-clause-lives : goal.returns-in-Later-clause-lives
+returns-in-Later-clause-lives c = lives_none c.args.connection.now

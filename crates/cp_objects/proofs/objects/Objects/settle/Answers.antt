@@ -1,0 +1,27 @@
+use Rattle.std.proofs.Common.{sym, ◌∙◌}
+use Rattle.cp_objects.specs.Rounds.{gives_none}
+use Rattle.cp_objects.specs.WorkOf.{work_of}
+use Rattle.cp_objects.proofs.Living.{lives_none}
+use Rattle.cp_objects.proofs.Working.{settles_stranger, settles_awaited}
+use Rattle.cp_objects.proofs.objects.Objects.settle.Goals as goal
+
+pub returns-in_default-clause-done : goal.returns-in_default-clause-done
+returns-in_default-clause-done c = rw c.in_default.is gives_none
+
+pub returns-in_default-clause-lives : goal.returns-in_default-clause-lives
+returns-in_default-clause-lives c = lives_none c.args.connection.now
+
+pub returns-in_default-take-clause-done : goal.returns-in_default-take-clause-done
+returns-in_default-take-clause-done c =
+    settles_stranger (work_of c.args.self.now c.args.connection.now) c.args.settled c.in-Some.settled c.take.new.self c.in-Some.is (sym c.take.ensures.value ∙ c.in_default-take.is) c.take.ensures.removed
+
+pub returns-in_default-take-clause-lives : goal.returns-in_default-take-clause-lives
+returns-in_default-take-clause-lives c = lives_none c.args.connection.now
+
+pub returns-in_err-give_up-clause-lives : goal.returns-in_err-give_up-clause-lives
+returns-in_err-give_up-clause-lives c = lives_none c.args.connection.now
+
+pub returns-clause-done : goal.returns-clause-done
+returns-clause-done c =
+    settles_awaited (work_of c.args.self.now c.args.connection.now) c.args.settled c.in-Some.settled c.in-Some-take.origin c.answer.new.connection c.take.new.self
+    c.in-Some.is (sym c.in-Some-take.ensures.value) c.take.ensures.removed c.in_ok-answer.ensures.done (c.in_ok-give_up.ensures _)

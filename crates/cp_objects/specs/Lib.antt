@@ -1,0 +1,3 @@
+pub mod Work
+pub mod Rounds
+pub mod WorkOf

@@ -1,0 +1,66 @@
+-- What a connection asks of its objects, and what they give.
+use Rattle.std.specs.Prelude.{◌≡◌, ℕ, ◌+◌, ◌≤◌, Bool, true, false, ◌||◌, IsSome, List, [], ◌∷◌, ◌++◌, Option, Some, None, length}
+use Rattle.std.specs.FinMap.{get, remove}
+use Rattle.cp_refs.specs.declared.call.Origin.{Origin}
+use Rattle.cp_refs.specs.declared.call.Request.{Request}
+use Rattle.cp_connection.specs.declared.happening.Happening.{Happening}
+use Rattle.cp_connection.specs.declared.happening.Happening.TheVariants as happenings
+use Rattle.cp_connection.specs.Link.{Link}
+use Rattle.cp_connection.specs.Receiving.{HandsOut}
+use Rattle.cp_objects.specs.declared.notice.Notice.{Notice}
+use Rattle.cp_objects.specs.declared.notice.Notice.TheVariants as notices
+use Rattle.cp_servants.specs.declared.servant.Reply.{Reply}
+use Rattle.cp_servants.specs.declared.servant.Reply.TheVariants as replies
+use Rattle.cp_servants.specs.declared.servant.Settled.{Settled}
+use Rattle.cp_servants.specs.Outcomes.{no_such_object}
+use Rattle.cp_servants.specs.Servant.{Seen, CallsAt, PollsAt}
+use Rattle.cp_objects.specs.Work.{Work, Answers, Replies, Releases}
+
+-- The object at this place is called, and replies this; past the objects the call fails.
+pub data Gives (k ticket : ℕ) (call : Request) (reply : Reply) (objects others : List Seen) : Type 0 where
+  by_object : CallsAt k ticket call reply objects others → Gives k ticket call reply objects others
+  by_none : length objects ≤ k → reply ≡ replies.Now no_such_object [] → others ≡ objects → Gives k ticket call reply objects others
+
+-- a notice more wasn't taken
+abbrev pub Notes : Notice → Work → Work → Type 0
+Notes notice old new = new ≡ record old { notices = old.notices ++ notice ∷ [] }
+
+-- What a happening asks is done: a call goes to its object, whose reply counts; and all else is noted.
+abbrev pub Handles : Happening → Work → Work → List Seen → List Seen → Type 0
+Handles (happenings.Delivered k origin ticket call) old new objects others =
+    (reply : Reply) × Gives k ticket call reply objects others × Replies old origin ticket reply new
+Handles (happenings.Settled question outcome) old new objects others = Notes (notices.Settled question outcome) old new × (others ≡ objects)
+Handles (happenings.Closed reason) old new objects others = Notes (notices.Closed reason) old new × (others ≡ objects)
+
+-- What happened is worked off, in order, until nothing is left.
+pub data WorksOff : Work → Work → List Seen → List Seen → Type 0 where
+  none_left : {old : Work} {objects : List Seen} → old.link.happened ≡ [] → WorksOff old old objects objects
+  handles : {old mid new : Work} {objects between others : List Seen} (first : Happening) (link : Link) → HandsOut old.link (Some first) link
+      → Handles first (record old { link = link }) mid objects between → WorksOff mid new between others → WorksOff old new objects others
+
+-- What a poll gave settles a call that is awaited, and the imports that the object gives up are noted. A ticket that isn't awaited is dropped.
+pub data Settles (old : Work) : Option Settled → Bool → Work → Type 0 where
+  gives_none : Settles old None false old
+  is_stranger : (settled : Settled) → get old.awaited settled.ticket ≡ None → Settles old (Some settled) false old
+  is_awaited : (settled : Settled) (origin : Origin) (link : Link) {new : Work} → get old.awaited settled.ticket ≡ Some origin → Answers old.link origin settled.outcome link
+      → new ≡ record old { link = link; awaited = remove old.awaited settled.ticket; given_up = old.given_up ++ settled.gives_up } → Settles old (Some settled) true new
+
+-- The objects from this place on are polled, one after another, and what each poll leads to is worked off before the next. It is noted whether one gave
+-- an outcome that was awaited. Once the connection ended, no more is polled.
+pub data PollsFrom : ℕ → Work → Bool → Work → List Seen → List Seen → Type 0 where
+  none_left : {place : ℕ} {old : Work} {objects : List Seen} → length objects ≤ place → PollsFrom place old false old objects objects
+  has_ended : {place : ℕ} {old : Work} {objects : List Seen} → IsSome old.link.fault → PollsFrom place old false old objects objects
+  polls : {place : ℕ} {old mid done new : Work} {objects between last others : List Seen} {gave : Bool} (settled : Option Settled) (first more : Bool)
+      → old.link.fault ≡ None → PollsAt place settled objects between → Settles old settled first mid
+      → WorksOff mid done between last → PollsFrom (place + 1) done more new last others → gave ≡ (first || more) → PollsFrom place old gave new objects others
+
+-- A round: each object is polled once, in order; then the imports that were given up are tried, and what that leads to is worked off.
+pub data Rounds (old : Work) (gave : Bool) (new : Work) (objects others : List Seen) : Type 0 where
+  has_ended : PollsFrom 0 old gave new objects others → IsSome new.link.fault → Rounds old gave new objects others
+  releases : (mid released : Work) (between : List Seen) → PollsFrom 0 old gave mid objects between → mid.link.fault ≡ None → Releases mid released
+      → WorksOff released new between others → Rounds old gave new objects others
+
+-- the first notice that wasn't taken is handed out, if there is one
+abbrev pub HandsOver : Work → Option Notice → Work → Type 0
+HandsOver old (Some first) new = (old.notices ≡ first ∷ new.notices) × (new ≡ record old { notices = new.notices })
+HandsOver old None new = (old.notices ≡ []) × (new ≡ old)

@@ -1,0 +1,7 @@
+-- Objects and their connection, as their work.
+use Rattle.cp_connection.specs.Link.{Link}
+use Rattle.cp_objects.specs.declared.objects.Objects.{Objects}
+use Rattle.cp_objects.specs.Work.{Work}
+
+abbrev pub work_of : Objects → Link → Work
+work_of o link = record { link = link; awaited = o.awaited; given_up = o.given_up.items; notices = o.notices.items }

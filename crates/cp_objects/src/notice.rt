@@ -1,0 +1,13 @@
+//! What happens on a connection that is no object's business.
+
+use cp_machine::Reason;
+use cp_refs::Outcome;
+
+/// What the user of a connection is told beside its objects, in the order in which it happened.
+#[derive(Drop)]
+pub enum Notice {
+    /// A question of the user's came to this outcome. `finish` it when none of its paths is needed any more.
+    Settled { question: u32, outcome: Outcome },
+    /// The vat closed, for this reason. It is the last notice.
+    Closed(Reason),
+}

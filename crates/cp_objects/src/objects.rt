@@ -1,0 +1,335 @@
+//! What is done for the objects of a connection.
+
+ghost use Rattle.std.specs.Prelude.{◌≡◌, ◌∷◌, ◌↔◌, [], IfOk, IsSome, IsTrue, OnOk};
+ghost use Rattle.cp_machine.specs.declared.event.Event.TheVariants as events;
+ghost use Rattle.cp_connection.specs.Link.{Link};
+ghost use Rattle.cp_servants.specs.Outcomes.{bad_outcome};
+ghost use Rattle.cp_servants.specs.Servant.{On};
+ghost use Rattle.cp_objects.specs.Work.{begun, Answers, GivesUp, IsDone, Lives, Releases, Replies, Stays, Tries};
+ghost use Rattle.cp_objects.specs.Rounds.{Gives, Handles, HandsOver, Notes, PollsFrom, Rounds, Settles, WorksOff};
+ghost use Rattle.cp_objects.specs.WorkOf.{work_of};
+
+use crate::notice::Notice;
+use cp_connection::{Connection, ConnectionFault, Happening};
+use cp_machine::{Ids, VatFault};
+use cp_refs::{Origin, Outcome, Request};
+use cp_servants::{
+    Awaited, Reply, Servant, Settled, bad_outcome, call_at, no_such_object, poll_at,
+};
+use std::alloc::{AllocError, Global};
+use std::collections::VecDeque;
+use std::mem;
+
+/// What a connection's objects owe its peer, and what happened that is no object's business. The objects themselves,
+/// a slice in which the object of number k is at place k, are kept beside the connection.
+///
+/// # In which order calls are made
+///
+/// 1. `new` makes it, for one new connection.
+/// 2. After each call of the connection by which something may happen (`receive`, `end`, and the application's calls),
+///    call `work_off`: it takes what happened, in order, hands each call to its object, and answers at once where
+///    the object does.
+/// 3. Take what is for you by `next`, until it gives none.
+/// 4. After each message, and where nothing comes, call `round`: it polls each object once, answers what is settled
+///    by then, and gives back imports that objects gave up.
+/// 5. Before you wait for the peer, go on with rounds while `any_again` says that an object may give more, and write
+///    what is to go out.
+///
+/// # What becomes of a call
+///
+/// Its object answers at once, or says `Later` and settles it at a poll. A call of an object that doesn't exist fails
+/// with `no such object`, and where the vat refuses an outcome the call fails with `bad outcome`. Once the connection
+/// ended no call is answered any more, and no object is polled.
+///
+/// # Errors, and what each leaves
+///
+/// `AllocError` says that memory ran out: for the connection, which ended then; for an object; or here. A call may be
+/// lost by it, so close the connection. What was done with the connection before is what its contract says (Lives).
+#[derive(Drop)]
+pub struct Objects {
+    alloc: Global,
+    awaited: Awaited,
+    /// The imports that objects gave up, until they are released.
+    given_up: Vec<u32>,
+    /// What is no object's business, in order.
+    notices: VecDeque<Notice>,
+}
+
+impl Objects {
+    /// Nothing is owed yet.
+    pub fn new(alloc: Global) -> Objects
+        ensures { (link : Link) → work_of result link ≡ begun link }
+    {
+        Objects {
+            alloc,
+            awaited: Awaited::new(alloc),
+            given_up: Vec::new(alloc),
+            notices: VecDeque::new(alloc),
+        }
+    }
+
+    /// Does what happened on a connection asks of its objects, in order, until nothing is left.
+    pub fn work_off(
+        &mut self,
+        connection: &mut Connection,
+        objects: &mut [Box<dyn Servant>],
+    ) -> Result<(), AllocError>
+        ensures done { OnOk result (On (λ o. seen o) objects.old objects.new (WorksOff (work_of self.old connection.old) (work_of self.new connection.new))) }
+        ensures lives { Lives connection.old connection.new }
+    {
+        for _ in 0..u64::MAX {
+            let Some(happening) = connection.next() else {
+                return Ok(());
+            };
+            self.handle(connection, objects, happening)?;
+        }
+        Err(AllocError)
+    }
+
+    /// Polls each object once, in order, and tries to release the imports that were given up; what each poll and the
+    /// releases lead to is worked off. Says whether an object gave an outcome that was awaited.
+    pub fn round(
+        &mut self,
+        connection: &mut Connection,
+        objects: &mut [Box<dyn Servant>],
+    ) -> Result<bool, AllocError>
+        ensures done { IfOk result (λ gave. On (λ o. seen o) objects.old objects.new (Rounds (work_of self.old connection.old) gave (work_of self.new connection.new))) }
+        ensures lives { Lives connection.old connection.new }
+    {
+        let gave = self.poll_each(connection, objects)?;
+        if has_ended(connection) {
+            return Ok(gave);
+        }
+        self.release_all(connection)?;
+        self.work_off(connection, objects)?;
+        Ok(gave)
+    }
+
+    /// Hands out the first notice that wasn't taken.
+    pub fn next(&mut self) -> Option<Notice>
+        ensures { (link : Link) → HandsOver (work_of self.old link) result (work_of self.new link) }
+    {
+        self.notices.pop_front()
+    }
+
+    /// Does what one happening asks.
+    fn handle(
+        &mut self,
+        connection: &mut Connection,
+        objects: &mut [Box<dyn Servant>],
+        happening: Happening,
+    ) -> Result<(), AllocError>
+        ensures done { OnOk result (On (λ o. seen o) objects.old objects.new (Handles happening (work_of self.old connection.old) (work_of self.new connection.new))) }
+        ensures lives { Lives connection.old connection.new }
+    {
+        match happening {
+            Happening::Delivered {
+                object,
+                origin,
+                ticket,
+                call,
+            } => {
+                let reply = reply_of(self.alloc, objects, object as usize, ticket, call)?;
+                self.reply(connection, origin, ticket, reply)
+            }
+            Happening::Settled { question, outcome } => {
+                self.note(Notice::Settled { question, outcome })
+            }
+            Happening::Closed(reason) => self.note(Notice::Closed(reason)),
+        }
+    }
+
+    /// Adds a notice.
+    fn note(&mut self, notice: Notice) -> Result<(), AllocError>
+        ensures { OnOk result ((link : Link) → Notes notice (work_of self.old link) (work_of self.new link)) }
+    {
+        self.notices.push_back(notice)?;
+        Ok(())
+    }
+
+    /// Answers a call with what its object replied, or awaits that.
+    fn reply(
+        &mut self,
+        connection: &mut Connection,
+        origin: Origin,
+        ticket: u64,
+        reply: Reply,
+    ) -> Result<(), AllocError>
+        ensures done { OnOk result (Replies (work_of self.old connection.old) origin ticket reply (work_of self.new connection.new)) }
+        ensures lives { Lives connection.old connection.new }
+    {
+        match reply {
+            Reply::Now { outcome, gives_up } => {
+                self.give_up(&gives_up)?;
+                answer(self.alloc, connection, origin, outcome)
+            }
+            Reply::Later => self.awaited.put(ticket, origin),
+        }
+    }
+
+    /// Notes imports that were given up.
+    fn give_up(&mut self, imports: &Ids) -> Result<(), AllocError>
+        ensures { OnOk result ((link : Link) → GivesUp imports.now (work_of self.old link) (work_of self.new link)) }
+    {
+        self.given_up.extend_from_slice(imports.ids())
+    }
+
+    /// Polls each object once, in order, until the connection ended. Says whether an outcome was given that was awaited.
+    fn poll_each(
+        &mut self,
+        connection: &mut Connection,
+        objects: &mut [Box<dyn Servant>],
+    ) -> Result<bool, AllocError>
+        ensures done { IfOk result (λ gave. On (λ o. seen o) objects.old objects.new (PollsFrom 0 (work_of self.old connection.old) gave (work_of self.new connection.new))) }
+        ensures lives { Lives connection.old connection.new }
+    {
+        let mut gave = false;
+        for place in 0..objects.len() {
+            if has_ended(connection) {
+                return Ok(gave);
+            }
+            let settled = poll_at(objects, place)?;
+            gave |= self.settle(connection, settled)?;
+            self.work_off(connection, objects)?;
+        }
+        Ok(gave)
+    }
+
+    /// Answers a call with what an object settled it with, if it did. Says whether it was awaited: if not, what the
+    /// object gave is dropped.
+    fn settle(
+        &mut self,
+        connection: &mut Connection,
+        settled: Option<Settled>,
+    ) -> Result<bool, AllocError>
+        ensures done { IfOk result (λ gave. Settles (work_of self.old connection.old) settled gave (work_of self.new connection.new)) }
+        ensures lives { Lives connection.old connection.new }
+    {
+        let Some(settled) = settled else {
+            return Ok(false);
+        };
+        let Some(origin) = self.awaited.take(settled.ticket) else {
+            return Ok(false);
+        };
+        self.give_up(&settled.gives_up)?;
+        answer(self.alloc, connection, origin, settled.outcome)?;
+        Ok(true)
+    }
+
+    /// Tries to release each import that was given up. One that is still in use stays.
+    fn release_all(&mut self, connection: &mut Connection) -> Result<(), AllocError>
+        ensures done { OnOk result (Releases (work_of self.old connection.old) (work_of self.new connection.new)) }
+        ensures lives { Lives connection.old connection.new }
+    {
+        let imports = mem::replace(&mut self.given_up, Vec::new(self.alloc));
+        for import in &imports {
+            self.release(connection, *import)?;
+        }
+        Ok(())
+    }
+
+    /// Tries to release an import that was given up.
+    fn release(&mut self, connection: &mut Connection, import: u32) -> Result<(), AllocError>
+        ensures done { OnOk result (Tries (work_of self.old connection.old) import (work_of self.new connection.new)) }
+        ensures lives { Lives connection.old connection.new }
+    {
+        let fault = match connection.release(import) {
+            Ok(()) => return Ok(()),
+            Err(fault) => fault,
+        };
+        match fault {
+            ConnectionFault::OutOfMemory => Err(AllocError),
+            ConnectionFault::Refused(refusal) => self.stay(import, refusal),
+            ConnectionFault::Closed => Ok(()),
+            ConnectionFault::Unreadable { .. } => Ok(()),
+        }
+    }
+
+    /// Keeps an import whose release was refused, if it is still in use.
+    fn stay(&mut self, import: u32, refusal: VatFault) -> Result<(), AllocError>
+        ensures { OnOk result ((link : Link) → Stays import refusal (work_of self.old link) (work_of self.new link)) }
+    {
+        match refusal {
+            VatFault::InUse => self.keep(import),
+            _ => Ok(()),
+        }
+    }
+
+    /// Keeps an import that is still in use, so that it is tried again.
+    fn keep(&mut self, import: u32) -> Result<(), AllocError>
+        ensures { OnOk result ((link : Link) → GivesUp (import ∷ []) (work_of self.old link) (work_of self.new link)) }
+    {
+        self.given_up.push(import)?;
+        Ok(())
+    }
+}
+
+/// What the object at a place replies to a call; past the objects the call fails.
+fn reply_of(
+    alloc: Global,
+    objects: &mut [Box<dyn Servant>],
+    place: usize,
+    ticket: u64,
+    request: Request,
+) -> Result<Reply, AllocError>
+    ensures { IfOk result (λ reply. On (λ o. seen o) objects.old objects.new (Gives place ticket request reply)) }
+{
+    if place < objects.len() {
+        let reply = call_at(objects, place, ticket, request)?;
+        return Ok(reply);
+    }
+    Ok(Reply::Now {
+        outcome: no_such_object(alloc)?,
+        gives_up: Ids::new(Vec::new(alloc)),
+    })
+}
+
+/// Whether a connection ended.
+fn has_ended(connection: &Connection) -> bool
+    ensures { IsTrue result ↔ IsSome connection.now.fault }
+{
+    connection.fault().is_some()
+}
+
+/// Answers a call with its outcome, or with an exception where the vat refuses that. Nothing is answered once the
+/// connection ended.
+fn answer(
+    alloc: Global,
+    connection: &mut Connection,
+    origin: Origin,
+    outcome: Outcome,
+) -> Result<(), AllocError>
+    ensures done { OnOk result (Answers connection.old origin outcome connection.new) }
+    ensures lives { Lives connection.old connection.new }
+{
+    let fault = match connection.answer(origin, outcome) {
+        Ok(()) => return Ok(()),
+        Err(fault) => fault,
+    };
+    match fault {
+        ConnectionFault::OutOfMemory => Err(AllocError),
+        ConnectionFault::Refused(_) => answer_badly(alloc, connection, origin),
+        ConnectionFault::Closed => Ok(()),
+        ConnectionFault::Unreadable { .. } => Ok(()),
+    }
+}
+
+/// Answers a call with the exception in place of an outcome that the vat refused.
+fn answer_badly(
+    alloc: Global,
+    connection: &mut Connection,
+    origin: Origin,
+) -> Result<(), AllocError>
+    ensures done { OnOk result (IsDone connection.old (events.Answer origin bad_outcome) connection.new) }
+    ensures lives { Lives connection.old connection.new }
+{
+    let outcome = bad_outcome(alloc)?;
+    let fault = match connection.answer(origin, outcome) {
+        Ok(()) => return Ok(()),
+        Err(fault) => fault,
+    };
+    match fault {
+        ConnectionFault::OutOfMemory => Err(AllocError),
+        _ => Ok(()),
+    }
+}

@@ -1,0 +1,18 @@
+//! Objects that answer calls, and what stands in for one that can't.
+#![tactic(auto)]
+
+mod awaited;
+mod cell;
+mod desk;
+mod outcomes;
+mod placed;
+mod script;
+mod servant;
+
+pub use awaited::Awaited;
+pub use cell::Cell;
+pub use desk::Desk;
+pub use outcomes::{bad_outcome, no_such_object};
+pub use placed::{any_again, call_at, poll_at};
+pub use script::Script;
+pub use servant::{Reply, Servant, Settled};

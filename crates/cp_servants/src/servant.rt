@@ -1,0 +1,49 @@
+//! Objects that answer calls.
+
+ghost use Rattle.cp_servants.specs.Servant.{Seen, other, Takes, Polls, MayGoOn};
+ghost use Rattle.std.specs.Prelude.{◌≡◌, true};
+
+use cp_machine::Ids;
+use cp_refs::{Outcome, Request};
+use std::alloc::AllocError;
+
+/// What an object answers to a call.
+#[derive(Drop)]
+pub enum Reply {
+    /// This is what the call came to, and these imports aren't needed any more.
+    Now { outcome: Outcome, gives_up: Ids },
+    /// A poll will say what it came to.
+    Later,
+}
+
+/// What a call came to that was to be answered later.
+#[derive(Drop)]
+pub struct Settled {
+    /// The ticket of the call.
+    pub ticket: u64,
+    pub outcome: Outcome,
+    /// Imports that aren't needed any more.
+    pub gives_up: Ids,
+}
+
+/// An object that answers calls, at once or when it is polled. `Err` ends the serving.
+pub trait Servant: Drop {
+    /// The object as it is seen. Of most objects nothing is said.
+    ghost seen: { Self → Seen } = { λ _. other };
+
+    /// Takes a call. No other call of the connection has its ticket.
+    fn call(&mut self, ticket: u64, request: Request) -> Result<Reply, AllocError>
+        ensures { Takes (seen self.old) ticket request result (seen self.new) };
+
+    /// Says what one of the calls came to that were to be answered later, if any did.
+    fn poll(&mut self) -> Result<Option<Settled>, AllocError>
+        ensures { Polls (seen self.old) result (seen self.new) };
+
+    /// Whether a further poll may give more, though nothing more comes to the object: then a driver that could wait
+    /// for its peer polls again first. `serve` asks no object for this, as its rounds follow the messages.
+    fn again(&self) -> bool
+        ensures { result ≡ true → MayGoOn (seen self.now) }
+    {
+        false
+    }
+}

@@ -1,7 +1,0 @@
-use Rattle.std.proofs.Common.{ap, get_or}
-use Rattle.cp_serve.proofs.Objects.{changes-called}
-use Rattle.cp_serve.proofs.session.call_at.Goals as goal
-
-pub returns : goal.returns
-returns g c =
-    changes-called c.args.objects.now c.args.place _ c.call.new.object c.in_ok-reply.ensures c.requires (ap (λ o. get_or c.args.objects.now c.args.place o) c.index-objects-place.is)

@@ -1,0 +1,12 @@
+//! One end of a connection with its frames, without devices (cp_connection).
+//!
+//! A `Connection` is a `Vat` with what comes and goes around it: `receive` takes the bytes of the peer in any
+//! pieces, `outgoing` has the bytes that are to be written, and `next` hands out what happened. So it stands
+//! over a socket, a pipe or a loop of events alike. The program example_connection joins two in memory.
+//!
+//! Where calls go to objects (`server::Servant`), `Objects` stands between: `work_off` hands what happened to them and
+//! answers, `round` polls them, and `Notice`s are what is left for you.
+
+pub use cp_connection::{Connection, ConnectionFault, Happening, Held, Tally};
+pub use cp_objects::{Notice, Objects};
+pub use cp_servants::any_again;
