@@ -1,0 +1,3 @@
+pub mod Relay
+pub mod Passage
+pub mod Runs

@@ -1,0 +1,13 @@
+//! What goes out for a message.
+
+use cp_frame::Mode;
+
+/// What goes out for a message that is accepted.
+#[derive(Clone, Copy, PartialEq, Eq, Debug)]
+pub enum Output {
+    /// The bytes of its frame, as they were read.
+    AsRead,
+    /// The frame of the same message in one segment, in this form. What no pointer leads to, and fields that
+    /// rpc.capnp doesn't have, stay behind.
+    Anew(Mode),
+}

@@ -1,0 +1,143 @@
+//! What a relay lets through, up to its first fault.
+
+ghost use Rattle.std.specs.Prelude.{◌≡◌, [], IfOk, IfErr, IfNone, IfSome, OnOk, None};
+ghost use Rattle.cp_rpc.specs.Told.{told};
+ghost use Rattle.cp_stream.specs.Stream.{Holds, HoldsNone};
+ghost use Rattle.cp_relay.specs.Relay.{GivesNext, GivesNone};
+ghost use Rattle.cp_relay.specs.Passage.{seen, kept_with, IsOpen, IsMemoryFor, OnlyKeeps, Refuses, PutsFrame, StopsAtFrame, Makes, IsUnmade};
+
+use crate::fault::{RelayFault, Why};
+use crate::output::Output;
+use crate::visitor::Visitor;
+use cp_frame::FrameReader;
+use cp_rpc::MessageView;
+use cp_stream::{Refusal, StreamFault, frame_of_view, view_of};
+use cp_words::{Limits, Segments};
+use std::alloc::Global;
+
+/// The most capacity that is left for the bytes of later frames.
+const SPARE: usize = 65_536;
+
+/// A stream of which a part has come, with no fault so far.
+#[derive(Drop)]
+pub struct Passage {
+    pub alloc: Global,
+    pub limits: Limits,
+    pub output: Output,
+    pub frames: FrameReader,
+    /// What goes out next: the bytes of the open frame, where they go out as they were read.
+    pub kept: Vec<u8>,
+    /// How many bytes the frames took that were let through.
+    pub at: u64,
+}
+
+impl Passage {
+    /// Takes the next piece of the stream up to the end of a frame, puts what goes out for it after `out`, and
+    /// gives what follows it.
+    pub fn next<'a, V: Visitor>(
+        &mut self,
+        visitor: &mut V,
+        piece: &'a [u8],
+        out: &mut Vec<u8>,
+    ) -> Result<Option<&'a [u8]>, Why>
+        requires { IsOpen self.old }
+        ensures open { OnOk result (IsOpen self.new) }
+        ensures given { IfOk result (λ next. IfSome next (λ back. GivesNext V.says (seen self.old None) piece.now (seen self.new None) visitor.old visitor.new out.old.items out.new.items back.now)) }
+        ensures none { IfOk result (λ next. IfNone next (GivesNone V.says (seen self.old None) piece.now (seen self.new None) visitor.old visitor.new out.old.items out.new.items)) }
+        ensures refused { IfErr result (Refuses V.says (seen self.old None) piece.now visitor.old visitor.new) }
+        ensures nothing { IfErr result (λ why. out.new.items ≡ out.old.items) }
+        ensures counts { IfErr result (λ why. self.new.at ≡ self.old.at) }
+    {
+        let Some((taken, segments, back)) = self.frames.next(piece)? else {
+            self.keep(piece)?;
+            return Ok(None);
+        };
+        let front = &piece[..piece.len() - back.len()];
+        self.put(visitor, &segments, front, out)?;
+        self.frames.reuse(segments);
+        self.at = self.at.saturating_add(taken);
+        Ok(Some(back))
+    }
+
+    /// Forgets what has come, and says why nothing more goes through.
+    pub fn stop(&mut self, why: Why) -> RelayFault
+        ensures place { result.at ≡ self.new.at }
+        ensures why { result.why ≡ why }
+        ensures none { self.new.kept.items ≡ [] }
+        ensures counts { self.new.at ≡ self.old.at }
+    {
+        self.kept = Vec::new(self.alloc);
+        RelayFault { at: self.at, why }
+    }
+
+    /// Keeps a piece in which no frame ends, where it is to go out as it was read.
+    fn keep(&mut self, piece: &[u8]) -> Result<(), Why>
+        ensures kept { OnOk result (OnlyKeeps self.old (kept_with self.old.output self.old.kept.items piece.now) self.new) }
+        ensures memory { IfErr result IsMemoryFor }
+        ensures counts { self.new.at ≡ self.old.at }
+    {
+        if self.output == Output::AsRead {
+            self.kept.extend_from_slice(piece)?;
+        }
+        Ok(())
+    }
+
+    /// Puts what goes out for a frame after `out`, if its message may go. The bytes of the frame are those that are kept
+    /// and `front`.
+    fn put<V: Visitor>(
+        &mut self,
+        visitor: &mut V,
+        segments: &Segments,
+        front: &[u8],
+        out: &mut Vec<u8>,
+    ) -> Result<(), Why>
+        ensures put { OnOk result (PutsFrame V.says self.old segments.now front.now self.new visitor.old visitor.new out.old.items out.new.items) }
+        ensures refused { IfErr result (StopsAtFrame V.says self.old segments.now visitor.old visitor.new) }
+        ensures nothing { IfErr result (λ why. out.new.items ≡ out.old.items) }
+        ensures counts { self.new.at ≡ self.old.at }
+    {
+        let view = view_in(segments, self.limits)?;
+        self.make(&view, front)?;
+        if !visitor.visit(&view)? {
+            return Err(Why::Forbidden);
+        }
+        out.extend_from_slice(&self.kept)?;
+        self.forget();
+        Ok(())
+    }
+
+    /// Makes what goes out for a frame.
+    fn make(&mut self, view: &MessageView, front: &[u8]) -> Result<(), Refusal>
+        ensures made { OnOk result (Makes self.old (told view.now) front.now self.new) }
+        ensures refused { IfErr result (IsUnmade self.old (told view.now)) }
+        ensures counts { self.new.at ≡ self.old.at }
+    {
+        match self.output {
+            Output::AsRead => self.kept.extend_from_slice(front)?,
+            Output::Anew(mode) => self.kept = frame_of_view(self.alloc, view, mode, self.limits)?,
+        }
+        Ok(())
+    }
+
+    /// Forgets what went out.
+    fn forget(&mut self)
+        ensures { OnlyKeeps self.old [] self.new }
+    {
+        if self.kept.capacity() > SPARE {
+            self.kept = Vec::new(self.alloc);
+        }
+        self.kept.clear();
+    }
+}
+
+/// The message that a frame's segments hold, read in place.
+fn view_in<'a>(segments: &'a Segments, limits: Limits) -> Result<MessageView<'a>, Refusal>
+    ensures found { IfOk result (λ v. Holds limits segments.now (told v)) }
+    ensures refused { IfErr result (HoldsNone limits segments.now) }
+{
+    match view_of(segments, limits) {
+        Ok(view) => Ok(view),
+        Err(StreamFault::Refused { refusal, .. }) => Err(refusal),
+        Err(StreamFault::Device) => unreachable!(),
+    }
+}
