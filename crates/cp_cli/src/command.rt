@@ -3,6 +3,7 @@
 use clap::{Arg, ArgAction, ArgMatches, Command, value_parser};
 use cp_commands::Plan;
 use cp_frame::Mode;
+use cp_guard::{Plan as Relaying, Route};
 use cp_words::Limits;
 use std::alloc::{AllocError, Global};
 
@@ -30,6 +31,8 @@ pub(crate) enum Task<'a> {
     Loop { mode: Mode, path: &'a str },
     /// This many connections on a port are served.
     Serve { mode: Mode, port: u16, count: u32 },
+    /// The connections of a route are relayed.
+    Relay { plan: Relaying, route: Route<'a> },
 }
 
 /// What `capnp_cli` understands.
@@ -49,7 +52,8 @@ pub(crate) fn command<'a>(alloc: Global) -> Result<Command<'a>, AllocError> {
     let command = and(command, unpack(alloc))?;
     let command = and(command, recut(alloc))?;
     let command = and(command, looped(alloc))?;
-    and(command, serve(alloc))
+    let command = and(command, serve(alloc))?;
+    and(command, relay(alloc))
 }
 
 /// The command with one more of its words, which no exit of `command` has to let go.
@@ -72,6 +76,14 @@ pub(crate) fn task_of<'a>(matches: &ArgMatches<'a>) -> Option<Task<'a>> {
             mode: mode(inner),
             port: inner.get_one::<u16>("PORT")?,
             count: inner.get_one::<u32>("COUNT")?,
+        },
+        "relay" => Task::Relay {
+            plan: relaying(inner)?,
+            route: Route {
+                port: inner.get_one::<u16>("PORT")?,
+                target: inner.get_str("HOST:PORT")?,
+                count: inner.get_one::<u32>("COUNT")?,
+            },
         },
         name => Task::OnFile {
             plan: plan(name, inner)?,
@@ -194,6 +206,64 @@ fn serve<'a>(alloc: Global) -> Result<Command<'a>, AllocError> {
         .arg(count(alloc))
 }
 
+/// The words of `relay`.
+fn relay<'a>(alloc: Global) -> Result<Command<'a>, AllocError> {
+    let command = Command::new(alloc, "relay")
+        .about("Relay COUNT connections on PORT to HOST:PORT, and let through what is accepted")
+        .after_help("Example: capnp_cli relay --show 7001 127.0.0.1:7000 1")
+        .arg(packed(alloc))?
+        .arg(target_form(alloc))?
+        .arg(anew(alloc))?
+        .arg(shows(alloc))?
+        .arg(nesting(alloc))?
+        .arg(traversal(alloc))?
+        .arg(frame_words(alloc))?;
+    command
+        .arg(port(alloc))?
+        .arg(target(alloc))?
+        .arg(count(alloc))
+}
+
+/// Whether the target's frames are packed.
+fn target_form<'a>(alloc: Global) -> Arg<'a> {
+    Arg::new(alloc, "other")
+        .long("other")
+        .action(ArgAction::SetTrue)
+        .help("The frames of HOST:PORT are in the other form, and messages are written anew")
+}
+
+/// Messages that are written anew.
+fn anew<'a>(alloc: Global) -> Arg<'a> {
+    Arg::new(alloc, "anew")
+        .long("anew")
+        .action(ArgAction::SetTrue)
+        .help("Write each message anew, in one segment")
+}
+
+/// Messages that are printed.
+fn shows<'a>(alloc: Global) -> Arg<'a> {
+    Arg::new(alloc, "show")
+        .long("show")
+        .action(ArgAction::SetTrue)
+        .help("Print each message that goes, after > to HOST:PORT, or < from it")
+}
+
+/// The limit on the words of a frame.
+fn frame_words<'a>(alloc: Global) -> Arg<'a> {
+    Arg::new(alloc, "words")
+        .long("words")
+        .value_name("N")
+        .value_parser(value_parser!(u32).range(1..=MOST_WORDS))
+        .help("A frame may have N words, 8388608 by default, and no more are gone over")
+}
+
+/// Where connections are relayed to.
+fn target<'a>(alloc: Global) -> Arg<'a> {
+    Arg::new(alloc, "HOST:PORT")
+        .help("A name or an address, and a port")
+        .required(true)
+}
+
 /// The port that is served.
 fn port<'a>(alloc: Global) -> Arg<'a> {
     Arg::new(alloc, "PORT")
@@ -205,7 +275,7 @@ fn port<'a>(alloc: Global) -> Arg<'a> {
 /// The number of connections.
 fn count<'a>(alloc: Global) -> Arg<'a> {
     Arg::new(alloc, "COUNT")
-        .help("The number of connections, one after the other")
+        .help("The number of connections")
         .required(true)
         .value_parser(value_parser!(u32))
 }
@@ -239,6 +309,32 @@ fn plan(name: &str, matches: &ArgMatches) -> Option<Plan> {
         _ => return None,
     };
     Some(plan)
+}
+
+/// How the words ask for a connection to be relayed.
+fn relaying(matches: &ArgMatches) -> Option<Relaying> {
+    let near = mode(matches);
+    let far = match (near, matches.get_flag("other")) {
+        (Mode::Plain, true) | (Mode::Packed, false) => Mode::Packed,
+        (Mode::Packed, true) | (Mode::Plain, false) => Mode::Plain,
+    };
+    let mut limits = limits(matches)?;
+    if let Some(words) = matches.get_one::<u32>("words") {
+        limits = of_frames(limits, words)?;
+    }
+    Some(Relaying {
+        near,
+        far,
+        anew: matches.get_flag("anew"),
+        limits,
+        shows: matches.get_flag("show"),
+    })
+}
+
+/// The limits for frames of this many words, of which no more than that is gone over.
+fn of_frames(limits: Limits, words: u32) -> Option<Limits> {
+    let traversal = limits.traversal().min(words);
+    Limits::new(limits.nesting(), traversal, limits.segments(), words)
 }
 
 /// The limits that the words ask for. A frame may have 8,388,608 words, or as many as may be gone

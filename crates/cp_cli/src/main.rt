@@ -1,4 +1,4 @@
-//! `capnp_cli`: shows the messages of Cap'n Proto streams, and serves connections.
+//! `capnp_cli`: shows the messages of Cap'n Proto streams, and serves and relays connections.
 #![tactic(auto)]
 
 mod command;
@@ -6,6 +6,7 @@ mod command;
 use command::Task;
 use cp_commands::{BROKEN, Plan, act};
 use cp_frame::Mode;
+use cp_guard::{Plan as Relaying, Route, relay_port};
 use cp_ports::{LONGEST_LOOP, loop_bytes, serve_port};
 use std::env;
 use std::fs::File;
@@ -53,6 +54,13 @@ fn on_loop(rt: &HostRuntime, mode: Mode, path: &str) -> io::Result<u8> {
     Ok(loop_bytes(rt, &bytes, mode, &mut out, &mut err))
 }
 
+/// Relays the connections of a route.
+fn on_relay(rt: &HostRuntime, plan: &Relaying, route: &Route) -> io::Result<u8> {
+    let mut out = BufWriter::with_capacity(rt.alloc(), BUFFER, io::writer(rt))?;
+    let mut err = rt.stderr();
+    Ok(relay_port(rt, route, plan, &mut out, &mut err))
+}
+
 /// The status after a device failed, which a line says.
 fn failed(rt: &HostRuntime, device: &str, error: io::Error) -> u8 {
     let _ = eprintln!(rt; "device: {device}: {error}");
@@ -69,6 +77,9 @@ fn act_on(rt: &HostRuntime, task: &Task) -> u8 {
             on_loop(rt, *mode, path).unwrap_or_else(|error| failed(rt, path, error))
         }
         Task::Serve { mode, port, count } => serve_port(rt, *port, *count, *mode, &mut rt.stderr()),
+        Task::Relay { plan, route } => {
+            on_relay(rt, plan, route).unwrap_or_else(|error| failed(rt, route.target, error))
+        }
     }
 }
 

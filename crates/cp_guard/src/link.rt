@@ -1,0 +1,173 @@
+//! A connection and the one that was made for it.
+
+use crate::plan::{ACCEPTED, BROKEN, Plan, REFUSED};
+use crate::watch::{Place, Watch};
+use crate::way::{End, Way};
+use mio::event::Event;
+use mio::net::TcpStream;
+use std::alloc::{AllocError, Global};
+use std::fmt;
+use std::io::Write;
+use std::net::Shutdown;
+
+/// How a connection ended.
+#[derive(Clone, Copy)]
+pub(crate) struct Ended {
+    pub end: End,
+    /// Of the two directions it is the one that comes from the target.
+    pub comes_back: bool,
+}
+
+impl Ended {
+    /// The status that it leads to.
+    pub(crate) fn status(&self) -> u8 {
+        match self.end {
+            End::Well => ACCEPTED,
+            End::Refused(_) => REFUSED,
+            End::Unread(_) | End::Unwritten(_) => BROKEN,
+        }
+    }
+
+    /// Whether the other direction isn't waited for. Where the target has failed, what had come from it still goes out.
+    fn ends_both(&self) -> bool {
+        match self.end {
+            End::Refused(_) | End::Unread(_) => true,
+            End::Well | End::Unwritten(_) => false,
+        }
+    }
+}
+
+impl fmt::Display for Ended {
+    fn fmt<W: fmt::Write>(&self, f: &mut fmt::Formatter<W>) -> fmt::Result {
+        match self.end {
+            End::Well => f.write_str("ended")?,
+            End::Refused(fault) => write!(f, "{fault}")?,
+            End::Unread(error) | End::Unwritten(error) => write!(f, "device: {error}")?,
+        }
+        write!(f, " ({})", arrow(self.comes_back))
+    }
+}
+
+/// The mark of a direction: to the target, or back.
+pub(crate) fn arrow(comes_back: bool) -> &'static str {
+    if comes_back { "<" } else { ">" }
+}
+
+/// What is left to do for a connection.
+#[derive(Clone, Copy)]
+pub(crate) enum Turn {
+    /// Something can be done at once.
+    More,
+    /// Nothing can be done before the next event.
+    Waits,
+    Ends(Ended),
+}
+
+/// A connection that was accepted, and the one to the target.
+#[derive(Drop)]
+pub(crate) struct Link {
+    near: TcpStream,
+    far: TcpStream,
+    there: Way,
+    back: Way,
+    /// The target was told that there is no more.
+    far_is_shut: bool,
+    near_is_shut: bool,
+    number: u64,
+    /// It is in the queue of those that can go on.
+    queued: bool,
+}
+
+impl Link {
+    /// A link of two streams, of which nothing was read.
+    pub(crate) fn new(
+        alloc: Global,
+        plan: &Plan,
+        near: TcpStream,
+        far: TcpStream,
+        number: u64,
+    ) -> Result<Link, AllocError> {
+        Ok(Link {
+            near,
+            far,
+            there: Way::new(alloc, plan.there(alloc))?,
+            back: Way::new(alloc, plan.back(alloc))?,
+            far_is_shut: false,
+            near_is_shut: false,
+            number,
+            queued: false,
+        })
+    }
+
+    /// Its number, from 1 on.
+    pub(crate) fn number(&self) -> u64 {
+        self.number
+    }
+
+    /// What an event says of one of the streams. Says whether the link comes into the queue.
+    pub(crate) fn mark(&mut self, is_far: bool, event: &Event) -> bool {
+        let closed = event.is_read_closed() || event.is_error();
+        let writable = event.is_writable() || event.is_write_closed() || event.is_error();
+        if is_far {
+            self.back.mark_source(event.is_readable(), closed);
+            self.there.mark_target(writable);
+        } else {
+            self.there.mark_source(event.is_readable(), closed);
+            self.back.mark_target(writable);
+        }
+        let enters = !self.queued;
+        self.queued = true;
+        enters
+    }
+
+    /// Moves one piece in each direction.
+    pub(crate) fn turn<W: Write + Drop>(&mut self, watch: &mut Watch<W>) -> Turn {
+        watch.turn_to(self.place(false));
+        self.there.turn(&mut self.near, &mut self.far, watch);
+        watch.turn_to(self.place(true));
+        self.back.turn(&mut self.far, &mut self.near, watch);
+        self.pass_ends_on();
+        if let Some(ended) = self.ended() {
+            return Turn::Ends(ended);
+        }
+        self.queued = self.there.goes_on() || self.back.goes_on();
+        if self.queued { Turn::More } else { Turn::Waits }
+    }
+
+    /// The place of the messages of a direction.
+    fn place(&self, comes_back: bool) -> Place {
+        Place {
+            number: self.number,
+            comes_back,
+        }
+    }
+
+    /// Tells each stream that there is no more, once its direction has ended.
+    fn pass_ends_on(&mut self) {
+        if self.there.end().is_some() && !self.far_is_shut {
+            self.far_is_shut = true;
+            let _ = self.far.shutdown(Shutdown::Write);
+        }
+        if self.back.end().is_some() && !self.near_is_shut {
+            self.near_is_shut = true;
+            let _ = self.near.shutdown(Shutdown::Write);
+        }
+    }
+
+    /// How the connection ended, once both directions did, or one in a way that ends both.
+    fn ended(&self) -> Option<Ended> {
+        let there = ended_in(&self.there, false);
+        let back = ended_in(&self.back, true);
+        if let (Some(one), Some(other)) = (there, back) {
+            return Some(if one.status() == ACCEPTED { other } else { one });
+        }
+        let one = there.or(back)?;
+        if one.ends_both() { Some(one) } else { None }
+    }
+}
+
+/// How a direction ended, if it did.
+fn ended_in(way: &Way, comes_back: bool) -> Option<Ended> {
+    let end = way.end()?;
+    Some(Ended { end, comes_back })
+}

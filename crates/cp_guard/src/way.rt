@@ -1,0 +1,202 @@
+//! One direction of a connection: what was read, and what is still to be written.
+
+use crate::piece::{PIECE, Piece};
+use cp_relay::{Relay, RelayFault, Visitor};
+use std::alloc::{AllocError, Global};
+use std::io::{self, ErrorKind, Read, Write};
+
+/// The most capacity that is kept for what goes out.
+const SPARE: usize = 65_536;
+
+/// How a direction ended.
+#[derive(Clone, Copy)]
+pub(crate) enum End {
+    /// The source ended after a message.
+    Well,
+    /// A message was refused, or the source ended inside one. What was accepted went out.
+    Refused(RelayFault),
+    /// The source failed. What was accepted went out.
+    Unread(io::Error),
+    /// The target failed.
+    Unwritten(io::Error),
+}
+
+/// What is known of the two streams of a direction. A wrong `true` costs one call.
+#[derive(Clone, Copy)]
+pub(crate) struct Readiness {
+    pub readable: bool,
+    /// The source sends no more, or failed: a short read needn't be the last one.
+    pub closed: bool,
+    pub writable: bool,
+}
+
+/// One direction. It reads only once all that goes out was written: what waits is the rest of a piece, what goes
+/// out of it, and the open frame.
+#[derive(Drop)]
+pub(crate) struct Way {
+    alloc: Global,
+    relay: Relay,
+    piece: Piece,
+    out: Vec<u8>,
+    /// How many bytes of `out` were written.
+    sent: usize,
+    ready: Readiness,
+    /// Why nothing more is read.
+    ended: Option<End>,
+}
+
+impl Way {
+    /// A direction of which nothing was read.
+    pub(crate) fn new(alloc: Global, relay: Relay) -> Result<Way, AllocError> {
+        Ok(Way {
+            alloc,
+            relay,
+            piece: Piece::new(alloc)?,
+            out: Vec::new(alloc),
+            sent: 0,
+            ready: Readiness {
+                readable: false,
+                closed: false,
+                writable: false,
+            },
+            ended: None,
+        })
+    }
+
+    /// What an event says of the source.
+    pub(crate) fn mark_source(&mut self, readable: bool, closed: bool) {
+        self.ready.readable = self.ready.readable || readable || closed;
+        self.ready.closed = self.ready.closed || closed;
+    }
+
+    /// What an event says of the target.
+    pub(crate) fn mark_target(&mut self, writable: bool) {
+        self.ready.writable = self.ready.writable || writable;
+    }
+
+    /// How it ended, once nothing more goes out.
+    pub(crate) fn end(&self) -> Option<End> {
+        if self.is_written() { self.ended } else { None }
+    }
+
+    /// Whether something can be done before the next event.
+    pub(crate) fn goes_on(&self) -> bool {
+        if self.is_written() {
+            self.ended.is_none() && (!self.piece.is_taken() || self.ready.readable)
+        } else {
+            self.ready.writable
+        }
+    }
+
+    /// Takes one piece of the source, lets through what is accepted of it, and writes as much as the target takes.
+    pub(crate) fn turn<R: Read, W: Write, V: Visitor>(
+        &mut self,
+        from: &mut R,
+        to: &mut W,
+        visitor: &mut V,
+    ) {
+        self.write(to);
+        if self.is_written() && self.ended.is_none() {
+            if self.piece.is_taken() {
+                self.read(from);
+            }
+            self.pass(visitor);
+            self.write(to);
+        }
+    }
+
+    /// Whether all that goes out was written.
+    fn is_written(&self) -> bool {
+        self.sent >= self.out.len()
+    }
+
+    /// Reads a piece.
+    fn read<R: Read>(&mut self, from: &mut R) {
+        if !self.ready.readable {
+            return;
+        }
+        match self.piece.read(from) {
+            Ok(0) => self.finish(),
+            // After a short read of a source that goes on, the next bytes come with an event.
+            Ok(count) => self.ready.readable = self.ready.closed || count == PIECE,
+            Err(error) => match error.kind() {
+                ErrorKind::WouldBlock => self.ready.readable = false,
+                ErrorKind::Interrupted => (),
+                _ => self.ended = Some(End::Unread(error)),
+            },
+        }
+    }
+
+    /// The source has ended.
+    fn finish(&mut self) {
+        self.ended = Some(match self.relay.finish() {
+            Ok(()) => End::Well,
+            Err(fault) => End::Refused(fault),
+        });
+    }
+
+    /// Gives the piece to the relay.
+    fn pass<V: Visitor>(&mut self, visitor: &mut V) {
+        let piece = self.piece.rest();
+        match let_through(&mut self.relay, visitor, piece, &mut self.out) {
+            Ok(left) => self.piece.leave(left),
+            Err(fault) => self.ended = Some(End::Refused(fault)),
+        }
+    }
+
+    /// Writes until the target takes no more, or all was written.
+    fn write<W: Write>(&mut self, to: &mut W) {
+        'writing: while self.ready.writable && self.sent < self.out.len() {
+            match to.write(&self.out[self.sent..]) {
+                Ok(0) => {
+                    self.fail(io::Error::from(ErrorKind::WriteZero));
+                    break;
+                }
+                Ok(count) => self.sent += count,
+                Err(error) => {
+                    match error.kind() {
+                        ErrorKind::WouldBlock => self.ready.writable = false,
+                        ErrorKind::Interrupted => (),
+                        _ => self.fail(error),
+                    }
+                    break;
+                }
+            }
+        }
+        if self.is_written() {
+            self.forget();
+        }
+    }
+
+    /// The target has failed: nothing more goes out.
+    fn fail(&mut self, error: io::Error) {
+        self.ended = Some(End::Unwritten(error));
+        self.forget();
+    }
+
+    /// Forgets what was to go out.
+    fn forget(&mut self) {
+        self.sent = 0;
+        self.out.clear();
+        if self.out.capacity() > SPARE {
+            self.out = Vec::new(self.alloc);
+        }
+    }
+}
+
+/// Lets a piece through, up to a frame after which much goes out, and gives how many bytes are left of it.
+fn let_through<V: Visitor>(
+    relay: &mut Relay,
+    visitor: &mut V,
+    piece: &[u8],
+    out: &mut Vec<u8>,
+) -> Result<usize, RelayFault> {
+    let mut left = piece;
+    'passing: while !left.is_empty() && out.len() < PIECE {
+        let Some(back) = relay.next(visitor, left, out)? else {
+            return Ok(0);
+        };
+        left = back;
+    }
+    Ok(left.len())
+}
