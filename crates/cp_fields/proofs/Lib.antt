@@ -1,0 +1,3 @@
+pub mod Pointed
+pub mod RowItems
+pub mod Owned

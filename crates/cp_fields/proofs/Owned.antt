@@ -1,0 +1,67 @@
+-- The elements of lists that are owned.
+use Rattle.std.proofs.Common.{◌≡◌, ℕ, ◌<◌, Bool, List, [], ◌∷◌, Vec, Global, length, map, get_or, replicate, refl, sym, ap, ◌∙◌, arith, rules}
+use Rattle.std.proofs.lemmas.List.{length-map, get_or-map}
+use Rattle.std.proofs.lemmas.Simd.{map-map}
+use Rattle.cp_tree.specs.Node.{Node, null, struct}
+use Rattle.cp_tree.specs.NodeOf.{node_of, nodes_of, body_of, bodies_of}
+use Rattle.cp_tree.specs.declared.tree.Tree.{Tree, Ptrs, Structs}
+use Rattle.cp_tree.specs.declared.tree.Tree.TheVariants as trees
+use Rattle.cp_tree.specs.declared.tree.Body.{Body, the_lemmas}
+use Rattle.cp_tree.proofs.Trees.{node-Ptrs, node-Structs}
+use Rattle.cp_fields.specs.Items.{number_item, pointer_item, bit_number, pointer_items, struct_items, items_of}
+
+abbrev pub bit_item : Bool → Node
+bit_item b = number_item (bit_number b)
+
+abbrev pub tree_item : Tree → Node
+tree_item t = pointer_item (node_of t)
+
+abbrev pub body_item : Body → Node
+body_item b = struct (body_of b).0 (body_of b).1
+
+pub items-Voids : (n : ℕ) → items_of (node_of (trees.Voids n)) ≡ map number_item (replicate n 0)
+items-Voids n = search (rules, the_lemmas)
+
+pub items-Bits : (v : Vec Bool Global) → items_of (node_of (trees.Bits v)) ≡ map bit_item v.items
+items-Bits v =
+    let is : items_of (node_of (trees.Bits v)) ≡ map number_item (map bit_number v.items) = search (rules, the_lemmas) in
+    is ∙ map-map number_item bit_number v.items
+
+pub items-Bytes : (v : Vec ℕ Global) → items_of (node_of (trees.Bytes v)) ≡ map number_item v.items
+items-Bytes v = search (rules, the_lemmas)
+
+pub items-Halves : (v : Vec ℕ Global) → items_of (node_of (trees.Halves v)) ≡ map number_item v.items
+items-Halves v = search (rules, the_lemmas)
+
+pub items-Quads : (v : Vec ℕ Global) → items_of (node_of (trees.Quads v)) ≡ map number_item v.items
+items-Quads v = search (rules, the_lemmas)
+
+pub items-Words : (v : Vec ℕ Global) → items_of (node_of (trees.Words v)) ≡ map number_item v.items
+items-Words v = search (rules, the_lemmas)
+
+pointer_items-map : (ts : List Tree) → pointer_items (nodes_of (map node_of ts)) ≡ map tree_item ts
+pointer_items-map [] = refl
+pointer_items-map (t ∷ ts) = ap (λ l. tree_item t ∷ l) (pointer_items-map ts)
+
+struct_items-map : (bs : List Body) → struct_items (bodies_of (map body_of bs)) ≡ map body_item bs
+struct_items-map [] = refl
+struct_items-map (b ∷ bs) = ap (λ l. body_item b ∷ l) (struct_items-map bs)
+
+pub items-Ptrs : (v : Vec Tree Global) → items_of (node_of (Ptrs v)) ≡ map tree_item v.items
+items-Ptrs v = ap items_of (node-Ptrs v) ∙ pointer_items-map v.items
+
+pub items-Structs : (d k : ℕ) (v : Vec Body Global) → items_of (node_of (Structs d k v)) ≡ map body_item v.items
+items-Structs d k v = ap items_of (node-Structs d k v) ∙ struct_items-map v.items
+
+-- what is within the elements is within those that they come from
+pub within : {X : Type 0} (f : X → Node) (xs : List X) (items : List Node) (i : ℕ) → items ≡ map f xs → i < length items → i < length xs
+within f xs items i same h = omega (arith, ap (λ (l : List Node). length l) same, length-map xs f)
+
+-- an element, by the one that it comes from
+pub read_at : {X : Type 0} (f : X → Node) (xs : List X) (items : List Node) (i : ℕ) (x : X) → items ≡ map f xs → i < length items → x ≡ get_or xs i x → f x ≡ get_or items i null
+read_at f xs items i x same h e =
+    ap f e ∙ sym (get_or-map f xs i x null (within f xs items i same h)) ∙ ap (λ (l : List Node). get_or l i null) (sym same)
+
+-- the number of elements, by those that they come from
+pub counted : {X : Type 0} (f : X → Node) (xs : List X) (items : List Node) → items ≡ map f xs → length xs ≡ length items
+counted f xs items same = sym (ap (λ (l : List Node). length l) same ∙ length-map xs f)

@@ -1,0 +1,6 @@
+pub mod Kinds
+pub mod Items
+pub mod Numbers
+pub mod Pointers
+pub mod Parts
+pub mod Rows

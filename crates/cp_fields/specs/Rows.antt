@@ -1,0 +1,36 @@
+-- The elements of lists that are looked at, in a message or owned.
+use Rattle.std.specs.Prelude.{◌≡◌, ℕ, ◌<◌, ◌≤◌, ◌^◌, List, map, replicate, length}
+use Rattle.cp_tree.specs.Elements.{numbers}
+use Rattle.cp_tree.specs.Node.{Node, ptrs, structs}
+use Rattle.cp_tree.specs.NodeOf.{node_of}
+use Rattle.cp_fields.specs.Items.{number_item, items_of}
+use Rattle.cp_fields.specs.declared.row.Row.{Row}
+use Rattle.cp_fields.specs.declared.row.Row.TheVariants as rows
+
+-- the elements of a row of n
+abbrev pub row_items : Row → ℕ → List Node
+row_items rows.Zeros n = map number_item (replicate n 0)
+row_items (rows.Packed ws w) n = map number_item (numbers ws.now w n)
+row_items (rows.Pointers v) n = items_of v
+row_items (rows.Structs v) n = items_of v
+row_items (rows.Owned t) n = items_of (node_of t.now)
+
+abbrev pub IsPointerList : Node → Type 0
+IsPointerList (ptrs ts) = Unit {0}
+IsPointerList other = ⊥
+
+abbrev pub IsStructList : Node → Type 0
+IsStructList (structs d n bs) = Unit {0}
+IsStructList other = ⊥
+
+-- its elements are read in place by their numbers
+abbrev pub IsLocated : Row → ℕ → Type 0
+IsLocated (rows.Packed ws w) n = (0 < w) × (w ≤ 64) × (n < 2 ^ 32)
+IsLocated (rows.Pointers v) n = IsPointerList v × (n < 2 ^ 32)
+IsLocated (rows.Structs v) n = IsStructList v × (n < 2 ^ 32)
+IsLocated other n = Unit {0}
+
+-- a row of n elements
+pub record IsRow (row : Row) (n : ℕ) : Type 0 where
+  pub counted : length (row_items row n) ≡ n
+  pub located : IsLocated row n

@@ -1,0 +1,200 @@
+//! Lists of bytes that are read where they lie.
+
+ghost use Rattle.std.specs.Prelude.{◌≡◌, ◌==◌, ◌<◌, ◌≤◌, ◌-◌, ◌^◌, if◌then◌else◌, Some, None, MatchOption, List, ℕ, length, take, slice_index, IfOk};
+ghost use Rattle.cp_tree.specs.Elements.{numbers};
+ghost use Rattle.cp_tree.specs.Node.{bytes, list};
+ghost use Rattle.cp_tree.specs.NodeOf.{node_of};
+ghost use Rattle.cp_fields.specs.Pointers.{data_field, ends_in_zero};
+
+use crate::data::number_at;
+use crate::kind::{Kind, WrongKind};
+use crate::pointee::{Part, Pointee};
+use cp_reading::View;
+use cp_tree::{Shape, Tree};
+use cp_words::ElementSize;
+use std::alloc::{AllocError, Global};
+use std::marker::Model;
+
+/// Bytes that are lent: the first of those that words hold, or a slice.
+#[derive(Clone, Copy)]
+pub(crate) enum Lent<'a> {
+    Words(&'a [u64], usize),
+    Slice(&'a [u8]),
+}
+
+/// The bytes of a field of the type Data, where they lie. Contracts see it as its bytes.
+#[derive(Drop)]
+pub struct DataView<'a> {
+    bytes: Lent<'a>,
+}
+
+impl<'a> Model for DataView<'a> {
+    ghost use Rattle.std.specs.Prelude.{ℕ, List};
+
+    ghost Value = { List ℕ };
+
+    ghost use Rattle.cp_fields.specs.Parts.{bytes_in, IsLent};
+
+    ghost view = { λ d. bytes_in d.bytes };
+
+    ghost invariant = { λ d. IsLent d.bytes };
+}
+
+impl<'a> DataView<'a> {
+    ghost use Rattle.std.specs.Prelude.{◌≡◌, ◌==◌, ◌<◌, ◌≤◌, ◌-◌, ◌^◌, if◌then◌else◌, Some, None, length, take, slice_index, IfOk};
+    ghost use Rattle.cp_tree.specs.Elements.{numbers};
+    ghost use Rattle.cp_fields.specs.Pointers.{data_field, ends_in_zero};
+
+    /// The bytes that a pointer stands for; null stands for the default.
+    #[tactic(auto, using(crate::proofs::Pointed::no_data))]
+    pub fn of(at: Pointee<'a>, default: &'a [u8]) -> Result<DataView<'a>, WrongKind>
+        ensures { result ≡ data_field default.now at.entry }
+    {
+        match bytes_at(&at) {
+            Some(bytes) => Ok(bytes),
+            None => {
+                if at.is_null() {
+                    Ok(DataView::of_slice(default))
+                } else {
+                    Err(at.wrong(Kind::Data))
+                }
+            }
+        }
+    }
+
+    /// Bytes that a program has.
+    pub fn of_slice(bytes: &'a [u8]) -> DataView<'a>
+        ensures { result ≡ bytes.now }
+    {
+        DataView {
+            bytes: Lent::Slice(bytes),
+        }
+    }
+
+    /// The number of bytes.
+    #[inline]
+    pub fn len(&self) -> usize
+        ensures { result ≡ length self.now }
+    {
+        match self.bytes {
+            Lent::Words(_, count) => count,
+            Lent::Slice(bytes) => bytes.len(),
+        }
+    }
+
+    /// Whether there are none.
+    pub fn is_empty(&self) -> bool
+        ensures { result ≡ (length self.now == 0) }
+    {
+        self.len() == 0
+    }
+
+    /// Byte `i`.
+    #[inline]
+    pub fn get(&self, i: usize) -> u8
+        requires { i < length self.now }
+        ensures { result ≡ slice_index self.now i }
+    {
+        match self.bytes {
+            Lent::Words(words, _) => number_at(words, 8, i) as u8,
+            Lent::Slice(bytes) => bytes[i],
+        }
+    }
+
+    /// The bytes, owned.
+    pub fn to_vec(&self, alloc: Global) -> Result<Vec<u8>, AllocError>
+        ensures { IfOk result (λ v. v.items ≡ self.now) }
+    {
+        match self.bytes {
+            Lent::Words(words, count) => copy_of(alloc, words, count),
+            Lent::Slice(bytes) => bytes.to_vec(alloc),
+        }
+    }
+
+    /// The same once more.
+    pub fn again(&self) -> DataView<'a>
+        ensures { result ≡ self.now }
+    {
+        DataView { bytes: self.bytes }
+    }
+
+    /// The bytes but for the last, if that is zero.
+    #[inline]
+    pub(crate) fn before_zero(&self) -> Option<DataView<'a>>
+        ensures { result ≡ (if ends_in_zero self.now then Some (take (length self.now - 1) self.now) else None) }
+    {
+        let count = self.len();
+        if count == 0 {
+            return None;
+        }
+        if self.get(count - 1) != 0 {
+            return None;
+        }
+        Some(self.front(count - 1))
+    }
+
+    /// The first bytes, this many.
+    #[inline]
+    fn front(&self, count: usize) -> DataView<'a>
+        requires { count ≤ length self.now }
+        ensures { result ≡ take count self.now }
+    {
+        match self.bytes {
+            Lent::Words(words, _) => DataView::of_words(words, count),
+            Lent::Slice(bytes) => DataView::of_slice(&bytes[..count]),
+        }
+    }
+
+    /// The first bytes that words hold, this many.
+    #[inline]
+    fn of_words(words: &'a [u64], count: usize) -> DataView<'a>
+        requires { count < 2 ^ 32 }
+        ensures { result ≡ numbers words.now 8 count }
+    {
+        DataView {
+            bytes: Lent::Words(words, count),
+        }
+    }
+}
+
+/// The bytes of a list of bytes. `None` is anything else.
+#[inline]
+pub(crate) fn bytes_at<'a>(at: &Pointee<'a>) -> Option<DataView<'a>>
+    ensures { MatchOption result ((bs : List ℕ) → at.now ≡ list (bytes bs) → ⊥) (λ d. at.now ≡ list (bytes d)) }
+{
+    match &at.part {
+        Part::Null => None,
+        Part::View(view) => bytes_in_place(view),
+        Part::Tree(tree) => match tree {
+            Tree::Bytes(bytes) => Some(DataView::of_slice(bytes)),
+            _ => None,
+        },
+    }
+}
+
+/// The bytes of a list of bytes that is read in place. `None` is anything else.
+#[inline]
+#[tactic(auto, using(crate::proofs::Pointed::bytes_read, crate::proofs::Pointed::bytes_shape))]
+fn bytes_in_place<'a>(view: &View<'a>) -> Option<DataView<'a>>
+    ensures { MatchOption result ((bs : List ℕ) → view.now ≡ list (bytes bs) → ⊥) (λ d. view.now ≡ list (bytes d)) }
+{
+    match view.shape() {
+        Shape::List { size, count } => match size {
+            ElementSize::Byte => Some(DataView::of_words(view.words(), count as usize)),
+            _ => None,
+        },
+        _ => None,
+    }
+}
+
+/// The first bytes that words hold, this many, owned.
+fn copy_of(alloc: Global, words: &[u64], count: usize) -> Result<Vec<u8>, AllocError>
+    requires { count < 2 ^ 32 }
+    ensures { IfOk result (λ v. v.items ≡ numbers words.now 8 count) }
+{
+    let mut bytes = Vec::with_capacity(alloc, count)?;
+    for i in 0..count {
+        bytes.push(number_at(words, 8, i) as u8)?;
+    }
+    Ok(bytes)
+}

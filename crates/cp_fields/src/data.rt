@@ -1,0 +1,47 @@
+//! Numbers of words.
+
+ghost use Rattle.std.specs.Prelude.{◌≡◌, ◌<◌, ◌≤◌, ◌^◌};
+ghost use Rattle.cp_tree.specs.Elements.{element};
+
+/// The `index`-th number of this many bits that words hold. What lies past their end is zero.
+#[inline(always)]
+pub(crate) fn number_at(words: &[u64], width: usize, index: usize) -> u64
+    requires some { 0 < width }
+    requires narrow { width < 64 }
+    requires small { index < 2 ^ 32 }
+    ensures value { result ≡ element words.now width index }
+    ensures fits { result < 2 ^ width }
+{
+    let bit = index * width;
+    match words.get(bit / 64) {
+        Some(word) => (*word >> (bit % 64)) % (1 << width),
+        None => 0,
+    }
+}
+
+/// The `index`-th number of 64 bits.
+#[inline(always)]
+pub(crate) fn word_at(words: &[u64], index: usize) -> u64
+    requires { index < 2 ^ 32 }
+    ensures { result ≡ element words.now 64 index }
+{
+    match words.get(index) {
+        Some(word) => *word,
+        None => 0,
+    }
+}
+
+/// The `index`-th number of at most 64 bits.
+#[inline(always)]
+pub(crate) fn packed_at(words: &[u64], width: usize, index: usize) -> u64
+    requires some { 0 < width }
+    requires narrow { width ≤ 64 }
+    requires small { index < 2 ^ 32 }
+    ensures { result ≡ element words.now width index }
+{
+    if width == 64 {
+        word_at(words, index)
+    } else {
+        number_at(words, width, index)
+    }
+}

@@ -1,0 +1,24 @@
+//! The fields of a struct by their places, read where they lie: in a message, or in an owned tree. This
+//! is what generated code stands on.
+#![tactic(auto)]
+
+mod bytes;
+mod data;
+mod item;
+mod kind;
+mod list;
+mod numbers;
+mod past;
+mod pointee;
+mod row;
+mod structure;
+mod text;
+
+pub use bytes::DataView;
+pub use item::Item;
+pub use kind::{Kind, WrongKind};
+pub use list::{Items, List};
+pub use past::Past;
+pub use pointee::Pointee;
+pub use structure::StructView;
+pub use text::{TextFault, TextView};

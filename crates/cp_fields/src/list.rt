@@ -1,0 +1,168 @@
+//! Lists that are read where they lie (encoding specification, "Lists").
+
+ghost use Rattle.std.specs.Prelude.{◌≡◌, ◌==◌, ◌<◌, length, drop, map, slice_index_or};
+ghost use Rattle.std.specs.Iterator.{YieldsFirst, item_count};
+ghost use Rattle.cp_tree.specs.Node.{null};
+ghost use Rattle.cp_tree.specs.NodeOf.{node_of};
+ghost use Rattle.cp_words.specs.declared.pointer.ElementSize.{ElementSize};
+ghost use Rattle.cp_fields.specs.Pointers.{list_field};
+
+use crate::item::Item;
+use crate::kind::{Kind, WrongKind, reads_from, reads_from_structs};
+use crate::pointee::{Part, Pointee};
+use crate::row::Elements;
+use cp_reading::View;
+use cp_tree::{Shape, Tree};
+use cp_words::ElementSize;
+use std::marker::{Model, PhantomData};
+
+/// A list, where it lies, whose elements are read as `T`. A list that an older or newer schema wrote is
+/// read as such a list is: elements that are numbers or pointers as structs with that one field, and
+/// structs as their first number or pointer. Contracts see it as its elements, each a struct.
+#[derive(Drop)]
+pub struct List<'a, T> {
+    elements: Elements<'a>,
+    of: PhantomData<T>,
+}
+
+impl<'a, T> Model for List<'a, T> {
+    ghost use Rattle.std.specs.Prelude.{List};
+    ghost use Rattle.std.specs.Coded.{coded_list};
+    ghost use Rattle.cp_tree.specs.Node.{Node};
+    ghost use Rattle.cp_tree.specs.Code.{tree_code};
+
+    ghost Value = { List Node };
+
+    ghost coded = { coded_list tree_code };
+
+    ghost view = { λ l. l.elements };
+}
+
+impl<'a, T> List<'a, T> {
+    ghost use Rattle.std.specs.Prelude.{◌≡◌, ◌==◌, length};
+
+    /// The number of elements.
+    #[inline]
+    pub fn len(&self) -> usize
+        ensures { result ≡ length self.now }
+    {
+        self.elements.len()
+    }
+
+    /// Whether there are none.
+    pub fn is_empty(&self) -> bool
+        ensures { result ≡ (length self.now == 0) }
+    {
+        self.len() == 0
+    }
+}
+
+impl<'a, T: Item<'a>> List<'a, T> {
+    ghost use Rattle.std.specs.Prelude.{◌≡◌, ◌<◌, length, slice_index_or};
+    ghost use Rattle.cp_tree.specs.Node.{null};
+    ghost use Rattle.cp_fields.specs.Pointers.{list_field};
+
+    /// The list that a pointer stands for; null stands for the empty list.
+    pub fn of(at: Pointee<'a>) -> Result<List<'a, T>, WrongKind>
+        ensures { result ≡ list_field T.SIZE at.entry }
+    {
+        Ok(List {
+            elements: elements_of(at, T::size())?,
+            of: PhantomData,
+        })
+    }
+
+    /// Element `i`.
+    #[inline]
+    pub fn get(&self, i: usize) -> T
+        requires { i < length self.now }
+        ensures { result ≡ T.read (slice_index_or self.now i null) }
+    {
+        T::of_item(self.elements.get(i))
+    }
+}
+
+impl<'a, T: Item<'a>> IntoIterator for List<'a, T> {
+    type Item = T;
+
+    type IntoIter = Items<'a, T>;
+
+    fn into_iter(self) -> Items<'a, T> {
+        Items {
+            list: self,
+            next: 0,
+        }
+    }
+}
+
+/// The elements of a list that are left, one after another.
+#[derive(Drop)]
+pub struct Items<'a, T> {
+    list: List<'a, T>,
+    next: usize,
+}
+
+impl<'a, T: Item<'a>> Iterator for Items<'a, T> {
+    type Item = T;
+
+    ghost next_gives = { YieldsFirst (λ it. map T.read (drop it.next it.list)) };
+
+    ghost remaining = { item_count (λ it. drop it.next it.list) };
+
+    fn next(&mut self) -> Option<T> {
+        if self.next >= self.list.len() {
+            return None;
+        }
+        let item = self.list.get(self.next);
+        self.next += 1;
+        Some(item)
+    }
+}
+
+/// The elements of a list, where elements of a size are wanted.
+fn elements_of(at: Pointee<'_>, wanted: ElementSize) -> Result<Elements<'_>, WrongKind>
+    ensures { result ≡ list_field wanted at.entry }
+{
+    match at.part {
+        Part::Null => Ok(Elements::empty()),
+        Part::View(view) => elements_in_place(view, wanted),
+        Part::Tree(tree) => elements_owned(tree, wanted),
+    }
+}
+
+/// The elements of a list that is read in place, where elements of a size are wanted.
+fn elements_in_place<'a>(view: View<'a>, wanted: ElementSize) -> Result<Elements<'a>, WrongKind>
+    ensures { result ≡ list_field wanted view.entry }
+{
+    let reads = match view.shape() {
+        Shape::Null => true,
+        Shape::List { size, .. } => reads_from(wanted, size),
+        Shape::Structs { words, ptrs, .. } => reads_from_structs(wanted, words, ptrs),
+        Shape::Cap(_) | Shape::Struct { .. } => false,
+    };
+    if reads {
+        Ok(Elements::of_view(view))
+    } else {
+        Err(Pointee::of_view(view).wrong(Kind::List(wanted)))
+    }
+}
+
+/// The elements of a list that is owned, where elements of a size are wanted.
+fn elements_owned(tree: &Tree, wanted: ElementSize) -> Result<Elements<'_>, WrongKind>
+    ensures { result ≡ list_field wanted (node_of tree.now) }
+{
+    let at = Pointee::of_tree(tree);
+    let reads = match tree {
+        Tree::Null => true,
+        Tree::Structs { words, ptrs, .. } => reads_from_structs(wanted, *words, *ptrs),
+        _ => match at.kind() {
+            Kind::List(size) => reads_from(wanted, size),
+            _ => false,
+        },
+    };
+    if reads {
+        Ok(Elements::of_tree(tree))
+    } else {
+        Err(at.wrong(Kind::List(wanted)))
+    }
+}

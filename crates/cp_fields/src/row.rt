@@ -1,0 +1,170 @@
+//! The elements of a list, where they lie.
+
+ghost use Rattle.std.specs.Prelude.{◌≡◌, ◌<◌, length, slice_index_or};
+ghost use Rattle.cp_tree.specs.Node.{null};
+ghost use Rattle.cp_tree.specs.NodeOf.{node_of};
+ghost use Rattle.cp_fields.specs.Items.{bit_number, items_of};
+
+use crate::data::packed_at;
+use crate::kind::element_bits;
+use crate::pointee::Pointee;
+use crate::structure::StructView;
+use cp_reading::View;
+use cp_tree::{Shape, Tree};
+use cp_words::ElementSize;
+use std::marker::Model;
+
+/// Where the elements of a list lie.
+#[derive(Drop)]
+pub(crate) enum Row<'a> {
+    /// Voids.
+    Zeros,
+    /// Numbers of this many bits, that words hold.
+    Packed(&'a [u64], usize),
+    /// A list of pointers or of structs that is read in place.
+    Pointers(View<'a>),
+    Structs(View<'a>),
+    /// A list that is owned.
+    Owned(&'a Tree),
+}
+
+/// The elements of a list, each seen as a struct. Contracts see it as these.
+#[derive(Drop)]
+pub(crate) struct Elements<'a> {
+    row: Row<'a>,
+    count: usize,
+}
+
+impl<'a> Model for Elements<'a> {
+    ghost use Rattle.std.specs.Prelude.{List};
+    ghost use Rattle.std.specs.Coded.{coded_list};
+    ghost use Rattle.cp_tree.specs.Node.{Node};
+    ghost use Rattle.cp_tree.specs.Code.{tree_code};
+
+    ghost Value = { List Node };
+
+    ghost coded = { coded_list tree_code };
+
+    ghost use Rattle.cp_fields.specs.Rows.{row_items, IsRow};
+
+    ghost view = { λ e. row_items e.row e.count };
+
+    ghost invariant = { λ e. IsRow e.row e.count };
+}
+
+impl<'a> Elements<'a> {
+    ghost use Rattle.std.specs.Prelude.{◌≡◌, ◌<◌, [], length, slice_index_or};
+    ghost use Rattle.cp_tree.specs.Node.{null};
+    ghost use Rattle.cp_tree.specs.NodeOf.{node_of};
+    ghost use Rattle.cp_fields.specs.Items.{items_of};
+    ghost use Rattle.cp_fields.specs.Rows.{row_items, IsRow};
+
+    /// None.
+    pub(crate) fn empty() -> Elements<'a>
+        ensures { result ≡ [] }
+    {
+        Elements {
+            row: Row::Zeros,
+            count: 0,
+        }
+    }
+
+    /// Those of a list that is read in place.
+    pub(crate) fn of_view(view: View<'a>) -> Elements<'a>
+        ensures { result ≡ items_of view.entry }
+    {
+        match view.shape() {
+            Shape::List { size, count } => match size {
+                ElementSize::Void => Elements::new(Row::Zeros, count as usize),
+                ElementSize::Pointer => Elements::new(Row::Pointers(view), count as usize),
+                ElementSize::Composite => Elements::empty(),
+                _ => {
+                    let row = Row::Packed(view.words(), element_bits(size) as usize);
+                    Elements::new(row, count as usize)
+                }
+            },
+            Shape::Structs { count, .. } => Elements::new(Row::Structs(view), count as usize),
+            _ => Elements::empty(),
+        }
+    }
+
+    /// Those of a list that is owned.
+    pub(crate) fn of_tree(tree: &'a Tree) -> Elements<'a>
+        ensures { result ≡ items_of (node_of tree.now) }
+    {
+        Elements::new(Row::Owned(tree), owned_count(tree))
+    }
+
+    /// A row of this many elements.
+    fn new(row: Row<'a>, count: usize) -> Elements<'a>
+        requires { IsRow row count }
+        ensures { result ≡ row_items row.entry count }
+    {
+        Elements { row, count }
+    }
+
+    /// The number of elements.
+    #[inline]
+    pub(crate) fn len(&self) -> usize
+        ensures { result ≡ length self.now }
+    {
+        self.count
+    }
+
+    /// Element `i`.
+    #[inline]
+    pub(crate) fn get(&self, i: usize) -> StructView<'a>
+        requires { i < length self.now }
+        ensures { result ≡ slice_index_or self.now i null }
+    {
+        match &self.row {
+            Row::Zeros => StructView::of_number(0),
+            Row::Packed(words, width) => StructView::of_number(packed_at(words, *width, i)),
+            Row::Pointers(view) => StructView::of_pointer(Pointee::of_view(view.child(i as u32))),
+            Row::Structs(view) => StructView::of_struct(view.child(i as u32)),
+            Row::Owned(tree) => owned_item(tree, i),
+        }
+    }
+}
+
+/// The number of elements of a list that is owned.
+fn owned_count(tree: &Tree) -> usize
+    ensures { result ≡ length (items_of (node_of tree.now)) }
+{
+    match tree {
+        Tree::Voids(count) => *count as usize,
+        Tree::Bits(items) => items.len(),
+        Tree::Bytes(items) => items.len(),
+        Tree::Halves(items) => items.len(),
+        Tree::Quads(items) => items.len(),
+        Tree::Words(items) => items.len(),
+        Tree::Ptrs(items) => items.len(),
+        Tree::Structs { items, .. } => items.len(),
+        Tree::Null | Tree::Cap(_) | Tree::Struct(_) => 0,
+    }
+}
+
+/// Element `i` of a list that is owned.
+fn owned_item(tree: &Tree, i: usize) -> StructView<'_>
+    requires { i < length (items_of (node_of tree.now)) }
+    ensures { result ≡ slice_index_or (items_of (node_of tree.now)) i null }
+{
+    match tree {
+        Tree::Voids(_) => StructView::of_number(0),
+        Tree::Bits(items) => StructView::of_number(bit_value(items[i])),
+        Tree::Bytes(items) => StructView::of_number(items[i] as u64),
+        Tree::Halves(items) => StructView::of_number(items[i] as u64),
+        Tree::Quads(items) => StructView::of_number(items[i] as u64),
+        Tree::Words(items) => StructView::of_number(items[i]),
+        Tree::Ptrs(items) => StructView::of_pointer(Pointee::of_tree(&items[i])),
+        Tree::Structs { items, .. } => StructView::of_body(&items[i]),
+        Tree::Null | Tree::Cap(_) | Tree::Struct(_) => unreachable!(),
+    }
+}
+
+/// A bit as a number.
+fn bit_value(set: bool) -> u64
+    ensures { result ≡ bit_number set }
+{
+    if set { 1 } else { 0 }
+}

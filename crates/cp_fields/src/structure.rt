@@ -1,0 +1,299 @@
+//! Structs that are looked at by the places of their fields (encoding specification, "Structs").
+
+ghost use Rattle.std.specs.Prelude.{◌≡◌, ◌<◌, ◌^◌, [], slice_index};
+ghost use Rattle.cp_tree.specs.Elements.{element};
+ghost use Rattle.cp_tree.specs.Node.{struct, data_of, no_nodes, IsStruct};
+ghost use Rattle.cp_tree.specs.NodeOf.{node_of, body_of};
+ghost use Rattle.cp_tree.specs.Seen.{pointee_of};
+ghost use Rattle.cp_fields.specs.Items.{number_item, pointer_item};
+ghost use Rattle.cp_fields.specs.Parts.{pointers_in, HaveStruct};
+ghost use Rattle.cp_fields.specs.Pointers.{pointers_of, struct_field, text_field, data_field, cap_field, list_field};
+
+use crate::bytes::DataView;
+use crate::item::Item;
+use crate::kind::{Kind, WrongKind};
+use crate::list::List;
+use crate::pointee::{Part, Pointee};
+use crate::text::TextView;
+use cp_reading::View;
+use cp_tree::{Body, Shape, Tree};
+use std::marker::Model;
+
+/// The data words of a struct: those of a body, or a number alone, as an element of a list of numbers has.
+#[derive(Clone, Copy)]
+pub(crate) enum Data<'a> {
+    Words(&'a [u64]),
+    Number(u64),
+}
+
+/// The pointers of a struct: those of a body, or a pointer alone, as an element of a list of pointers has.
+#[derive(Drop)]
+pub(crate) enum Pointers<'a> {
+    Nulls,
+    View(View<'a>),
+    Body(&'a Body),
+    Only(Pointee<'a>),
+}
+
+/// A struct, where it lies. Its fields are read by their places: number `i` of a width counts numbers of
+/// that width from the start of the data section, and what lies past the end is zero or null. Contracts
+/// see it as its tree.
+#[derive(Drop)]
+pub struct StructView<'a> {
+    data: Data<'a>,
+    pointers: Pointers<'a>,
+}
+
+impl<'a> Model for StructView<'a> {
+    ghost use Rattle.cp_tree.specs.Node.{Node, struct};
+    ghost use Rattle.cp_tree.specs.Code.{tree_code};
+
+    ghost Value = { Node };
+
+    ghost coded = { tree_code };
+
+    ghost use Rattle.cp_fields.specs.Parts.{data_in, pointers_in, HaveStruct};
+
+    ghost view = { λ s. struct (data_in s.data) (pointers_in s.pointers) };
+
+    ghost invariant = { λ s. HaveStruct s.pointers };
+}
+
+impl<'a> StructView<'a> {
+    ghost use Rattle.std.specs.Prelude.{◌≡◌, ◌<◌, ◌^◌, [], slice_index};
+    ghost use Rattle.cp_tree.specs.Elements.{element};
+    ghost use Rattle.cp_tree.specs.Node.{struct, data_of, no_nodes, IsStruct};
+    ghost use Rattle.cp_tree.specs.NodeOf.{node_of, body_of};
+    ghost use Rattle.cp_tree.specs.Seen.{pointee_of};
+    ghost use Rattle.cp_fields.specs.Items.{number_item, pointer_item};
+    ghost use Rattle.cp_fields.specs.Pointers.{pointers_of, struct_field, text_field, data_field, cap_field, list_field};
+
+    /// The struct that a pointer stands for. Null stands for the struct whose fields are all as by
+    /// default.
+    pub fn of(at: Pointee<'a>) -> Result<StructView<'a>, WrongKind>
+        ensures { result ≡ struct_field at.entry }
+    {
+        match at.part {
+            Part::Null => Ok(StructView::empty()),
+            Part::View(view) => of_view(view),
+            Part::Tree(tree) => of_tree(tree),
+        }
+    }
+
+    /// The struct whose fields are all as by default.
+    pub fn empty() -> StructView<'a>
+        ensures { result ≡ struct [] no_nodes }
+    {
+        StructView {
+            data: Data::Words(&[]),
+            pointers: Pointers::Nulls,
+        }
+    }
+
+    /// The same once more.
+    pub fn again(&self) -> StructView<'a>
+        ensures { result ≡ self.now }
+    {
+        let pointers = pointers_again(&self.pointers);
+        StructView {
+            data: self.data,
+            pointers,
+        }
+    }
+
+    /// What pointer `i` stands for.
+    #[inline]
+    pub fn pointer(&self, i: u32) -> Pointee<'a>
+        ensures { result ≡ pointee_of self.now i }
+    {
+        match &self.pointers {
+            Pointers::Nulls => Pointee::null(),
+            Pointers::View(view) => Pointee::of_view(view.child(i)),
+            Pointers::Body(body) => match body.pointer(i) {
+                Some(tree) => Pointee::of_tree(tree),
+                None => Pointee::null(),
+            },
+            Pointers::Only(only) => {
+                if i == 0 {
+                    only.again()
+                } else {
+                    Pointee::null()
+                }
+            }
+        }
+    }
+
+    /// The struct at pointer `i`.
+    #[inline]
+    pub fn structure(&self, i: u32) -> Result<StructView<'a>, WrongKind>
+        ensures { result ≡ struct_field (pointee_of self.now i) }
+    {
+        StructView::of(self.pointer(i))
+    }
+
+    /// The text at pointer `i`; null is the empty text.
+    #[inline]
+    pub fn text(&self, i: u32) -> Result<TextView<'a>, WrongKind>
+        ensures { result ≡ text_field [] (pointee_of self.now i) }
+    {
+        TextView::of(self.pointer(i), "")
+    }
+
+    /// The text at pointer `i`; null is the default.
+    #[inline]
+    pub fn text_or(&self, i: u32, default: &'a str) -> Result<TextView<'a>, WrongKind>
+        ensures { result ≡ text_field default.now (pointee_of self.now i) }
+    {
+        TextView::of(self.pointer(i), default)
+    }
+
+    /// The data at pointer `i`; null is no bytes.
+    #[inline]
+    pub fn data(&self, i: u32) -> Result<DataView<'a>, WrongKind>
+        ensures { result ≡ data_field [] (pointee_of self.now i) }
+    {
+        DataView::of(self.pointer(i), &[])
+    }
+
+    /// The data at pointer `i`; null is the default.
+    #[inline]
+    pub fn data_or(&self, i: u32, default: &'a [u8]) -> Result<DataView<'a>, WrongKind>
+        ensures { result ≡ data_field default.now (pointee_of self.now i) }
+    {
+        DataView::of(self.pointer(i), default)
+    }
+
+    /// The list at pointer `i`; null is the empty list.
+    #[inline]
+    pub fn list<T: Item<'a>>(&self, i: u32) -> Result<List<'a, T>, WrongKind>
+        ensures { result ≡ list_field T.SIZE (pointee_of self.now i) }
+    {
+        List::of(self.pointer(i))
+    }
+
+    /// The index of the capability at pointer `i` in the table that goes with the message; null is none.
+    #[inline]
+    pub fn cap(&self, i: u32) -> Result<Option<u32>, WrongKind>
+        ensures { result ≡ cap_field (pointee_of self.now i) }
+    {
+        self.pointer(i).cap()
+    }
+
+    /// Word `index` of the data section.
+    #[inline(always)]
+    pub(crate) fn word(&self, index: usize) -> u64
+        ensures { result ≡ slice_index (data_of self.now) index }
+    {
+        match &self.data {
+            Data::Words(words) => match words.get(index) {
+                Some(word) => *word,
+                None => 0,
+            },
+            Data::Number(number) => { if index == 0 { *number } else { 0 } }
+        }
+    }
+
+    /// Number `index` of this many bits.
+    #[inline(always)]
+    pub(crate) fn number(&self, width: usize, index: u32) -> u64
+        requires some { 0 < width }
+        requires narrow { width < 64 }
+        ensures value { result ≡ element (data_of self.now) width index }
+        ensures fits { result < 2 ^ width }
+    {
+        let bit = index as usize * width;
+        (self.word(bit / 64) >> (bit % 64)) % (1 << width)
+    }
+
+    /// An element of a list of numbers.
+    #[inline]
+    pub(crate) fn of_number(number: u64) -> StructView<'a>
+        ensures { result ≡ number_item number }
+    {
+        StructView {
+            data: Data::Number(number),
+            pointers: Pointers::Nulls,
+        }
+    }
+
+    /// An element of a list of pointers.
+    #[inline]
+    pub(crate) fn of_pointer(pointer: Pointee<'a>) -> StructView<'a>
+        ensures { result ≡ pointer_item pointer.entry }
+    {
+        StructView {
+            data: Data::Words(&[]),
+            pointers: Pointers::Only(pointer),
+        }
+    }
+
+    /// An owned struct.
+    #[inline]
+    pub(crate) fn of_body(body: &'a Body) -> StructView<'a>
+        ensures { result ≡ struct (body_of body.now).0 (body_of body.now).1 }
+    {
+        StructView {
+            data: Data::Words(&body.words),
+            pointers: Pointers::Body(body),
+        }
+    }
+
+    /// A struct that is read in place.
+    #[inline]
+    pub(crate) fn of_struct(view: View<'a>) -> StructView<'a>
+        requires { IsStruct view }
+        ensures { result ≡ view.entry }
+    {
+        StructView {
+            data: Data::Words(struct_words(&view)),
+            pointers: Pointers::View(view),
+        }
+    }
+}
+
+/// The same pointers once more.
+fn pointers_again<'a>(pointers: &Pointers<'a>) -> Pointers<'a>
+    ensures same { pointers_in result ≡ pointers_in pointers.now }
+    ensures kept { HaveStruct pointers.now → HaveStruct result }
+{
+    match pointers {
+        Pointers::Nulls => Pointers::Nulls,
+        Pointers::View(view) => Pointers::View(view.again()),
+        Pointers::Body(body) => Pointers::Body(body),
+        Pointers::Only(only) => Pointers::Only(only.again()),
+    }
+}
+
+/// The data words of a struct; any other tree has none.
+#[inline]
+fn struct_words<'a>(view: &View<'a>) -> &'a [u64]
+    ensures { result.now ≡ data_of view.now }
+{
+    match view.shape() {
+        Shape::Struct { .. } => view.words(),
+        _ => &[],
+    }
+}
+
+/// The struct that is read in place.
+#[inline]
+fn of_view<'a>(view: View<'a>) -> Result<StructView<'a>, WrongKind>
+    ensures { result ≡ struct_field view.entry }
+{
+    match view.shape() {
+        Shape::Null => Ok(StructView::empty()),
+        Shape::Struct { .. } => Ok(StructView::of_struct(view)),
+        _ => Err(Pointee::of_view(view).wrong(Kind::Struct)),
+    }
+}
+
+/// The struct that is owned.
+fn of_tree(tree: &Tree) -> Result<StructView<'_>, WrongKind>
+    ensures { result ≡ struct_field (node_of tree.now) }
+{
+    match tree {
+        Tree::Null => Ok(StructView::empty()),
+        Tree::Struct(body) => Ok(StructView::of_body(body)),
+        _ => Err(Pointee::of_tree(tree).wrong(Kind::Struct)),
+    }
+}
