@@ -5,23 +5,8 @@ set -eu
 server=$1 build=$2 count=${3:-10000}
 port=17101 relayed=17102
 here=$(cd "$(dirname "${BASH_SOURCE[0]}")" && pwd)
+. "$here/../begin.sh"
 make -s -C "$here" BUILD="$build"
-
-listens() { grep -q ":$(printf %04X "$1") 00000000:0000 0A" /proc/net/tcp; } # PORT
-
-begin() { # PORT COMMAND..    runs it as $pid, and waits until it listens on the port
-    local port=$1 pause
-    shift
-    "$@" & pid=$!
-    for pause in $(seq 100); do
-        ! listens "$port" || return 0
-        sleep 0.05
-    done
-    echo "nothing listens on port $port" >&2
-    exit 1
-}
-
-memory() { awk '/^VmRSS:/ { print $2 }' "/proc/$1/status"; } # PID
 
 begin "$port" "$server" serve "$port" 26
 "$build/hostile" "$port"

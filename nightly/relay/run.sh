@@ -5,24 +5,9 @@ set -eu
 command=$1 build=$2 count=${3:-10000}
 served=17111 relayed=17112
 here=$(cd "$(dirname "${BASH_SOURCE[0]}")" && pwd)
+. "$here/../begin.sh"
 make -s -C "$here/../peers" BUILD="$build/peers"
 make -s -C "$here/../../bench/rpc" BUILD="$build/rpc"
-
-listens() { grep -q ":$(printf %04X "$1") 00000000:0000 0A" /proc/net/tcp; } # PORT
-
-begin() { # PORT COMMAND..    runs it as $pid, and waits until it listens on the port
-    local port=$1 pause
-    shift
-    "$@" & pid=$!
-    for pause in $(seq 100); do
-        ! listens "$port" || return 0
-        sleep 0.05
-    done
-    echo "nothing listens on port $port" >&2
-    exit 1
-}
-
-memory() { awk '/^VmRSS:/ { print $2 }' "/proc/$1/status"; } # PID
 
 through() { # WORD.. -- SERVER.. -- CLIENT..    a session of the client with the server, through a relay with these words
     local words=() server=() client=()
