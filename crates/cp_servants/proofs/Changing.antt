@@ -1,10 +1,12 @@
 -- One object of a list changes.
 use Rattle.std.proofs.Common.{◌≡◌, ℕ, zero, suc, ◌<◌, List, [], ◌∷◌, ◌++◌, length, map, Ok, refl, sym, ap, arith, set, get_or, inl, inr, Bool, true, subst}
 use Rattle.cp_refs.specs.declared.call.Request.{Request}
+use Rattle.cp_refs.specs.declared.outcome.Outcome.{Outcome}
+use Rattle.cp_servants.specs.declared.servant.Ask.{Ask}
 use Rattle.cp_servants.specs.declared.servant.Reply.{Reply}
 use Rattle.cp_servants.specs.declared.servant.Settled.{Settled}
 use Rattle.std.proofs.Common.{Option}
-use Rattle.cp_servants.specs.Servant.{Seen, Takes, Polls, ChangesAt, IsCalled, IsPolled, MayGoOn, MaySayMore, SomeMaySayMore}
+use Rattle.cp_servants.specs.Servant.{Seen, Takes, Polls, Asks, IsTold, ChangesAt, HasAsked, HasHeard, IsCalled, IsPolled, MayGoOn, MaySayMore, SomeMaySayMore}
 
 changes_at : {A : Type 0} (f : A → Seen) (P : Seen → Seen → Type 0) (xs : List A) (k : ℕ) (was is : A) → P (f was) (f is) → k < length xs → get_or xs k was ≡ was
     → ChangesAt P (map f xs) k (map f (set xs k is))
@@ -26,6 +28,17 @@ pub changes-polled : {A : Type 0} {f : A → Seen} {settled : Option Settled} (x
     → ChangesAt (λ before after. Polls before (Ok settled) after) (map f xs) k (map f (set xs k is))
 changes-polled {f = f} {settled = settled} xs k was is polled h e =
     changes_at f (λ before after. Polls before (Ok settled) after) xs k was is polled.polls h (sym e)
+
+pub changes-asked : {A : Type 0} {f : A → Seen} {ask : Option Ask} (xs : List A) (k : ℕ) (was is : A)
+    → HasAsked f was (Ok ask) is → k < length xs → was ≡ get_or xs k was
+    → ChangesAt (λ before after. Asks before (Ok ask) after) (map f xs) k (map f (set xs k is))
+changes-asked {f = f} {ask = ask} xs k was is asked h e = changes_at f (λ before after. Asks before (Ok ask) after) xs k was is asked.asks h (sym e)
+
+pub changes-told : {A : Type 0} {f : A → Seen} {mark : ℕ} {outcome : Outcome} (xs : List A) (k : ℕ) (was is : A)
+    → HasHeard f was mark outcome (Ok tt) is → k < length xs → was ≡ get_or xs k was
+    → ChangesAt (λ before after. IsTold before mark outcome (Ok tt) after) (map f xs) k (map f (set xs k is))
+changes-told {f = f} {mark = mark} {outcome = outcome} xs k was is heard h e =
+    changes_at f (λ before after. IsTold before mark outcome (Ok tt) after) xs k was is heard.told h (sym e)
 
 -- one of these objects may give more
 pub some_says : {A : Type 0} (f : A → Seen) (xs : List A) (k : ℕ) (d : A) → k < length xs → MayGoOn (f (get_or xs k d)) → SomeMaySayMore (map f xs)

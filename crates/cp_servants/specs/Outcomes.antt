@@ -22,6 +22,10 @@ no_such_object = outcomes.Failed (exception_of kinds.Failed (codes "no such obje
 abbrev pub bad_outcome : Outcome
 bad_outcome = outcomes.Failed (exception_of kinds.Failed (codes "bad outcome"))
 
+-- what an object is told of a call that the vat refuses
+abbrev pub refused_call : Outcome
+refused_call = outcomes.Failed (exception_of kinds.Failed (codes "call refused"))
+
 -- what a call fails with of a method that the object doesn't have
 abbrev pub no_such_method : Outcome
 no_such_method = outcomes.Failed (exception_of kinds.Unimplemented (codes "no such method"))

@@ -4,6 +4,8 @@ use Rattle.std.specs.declared.alloc.AllocError.{AllocError}
 use Rattle.cp_tree.specs.Node.{Node, data_of}
 use Rattle.cp_refs.specs.declared.call.Request.{Request}
 use Rattle.cp_servants.specs.declared.desk.Due.{Due}
+use Rattle.cp_refs.specs.declared.outcome.Outcome.{Outcome}
+use Rattle.cp_servants.specs.declared.servant.Ask.{Ask}
 use Rattle.cp_servants.specs.declared.servant.Reply.{Reply}
 use Rattle.cp_servants.specs.declared.servant.Reply.TheVariants as replies
 use Rattle.cp_servants.specs.declared.servant.Settled.{Settled}
@@ -82,6 +84,16 @@ MayGoOn (script replies []) = ⊥
 MayGoOn (script replies (first ∷ more)) = Unit {0}
 MayGoOn other = Unit {0}
 
+-- The next call that an object makes: a Desk, a Cell and a Script make none, and are as they were. Of any other nothing is said.
+abbrev pub Asks : Seen → Result (Option Ask) AllocError → Seen → Type 0
+Asks old (Ok ask) new = (old ≡ other) ⊎ ((ask ≡ None) × (new ≡ old))
+Asks old (Err error) new = Unit {0}
+
+-- An object is told what a call of its own came to: a Desk, a Cell and a Script, which made none, are as they were.
+abbrev pub IsTold : Seen → ℕ → Outcome → Result Unit AllocError → Seen → Type 0
+IsTold old mark outcome (Ok done) new = (old ≡ other) ⊎ (new ≡ old)
+IsTold old mark outcome (Err error) new = Unit {0}
+
 -- one of these objects may
 abbrev pub SomeMaySayMore : List Seen → Type 0
 SomeMaySayMore [] = ⊥
@@ -94,6 +106,14 @@ pub record IsCalled {A : Type 0} (seen : A → Seen) (old : A) (ticket : ℕ) (r
 -- An object, as it is seen, was polled.
 pub record IsPolled {A : Type 0} (seen : A → Seen) (old : A) (settled : Result (Option Settled) AllocError) (new : A) : Type 0 where
   pub polls : Polls (seen old) settled (seen new)
+
+-- An object, as it is seen, said which call it makes next.
+pub record HasAsked {A : Type 0} (seen : A → Seen) (old : A) (ask : Result (Option Ask) AllocError) (new : A) : Type 0 where
+  pub asks : Asks (seen old) ask (seen new)
+
+-- An object, as it is seen, was told what a call of its own came to.
+pub record HasHeard {A : Type 0} (seen : A → Seen) (old : A) (mark : ℕ) (outcome : Outcome) (done : Result Unit AllocError) (new : A) : Type 0 where
+  pub told : IsTold (seen old) mark outcome done (seen new)
 
 -- An object, as it is seen, may give more, if this says so.
 pub record MaySayMore {A : Type 0} (seen : A → Seen) (object : A) (says : Bool) : Type 0 where
@@ -117,6 +137,14 @@ CallsAt place ticket request reply old new = ChangesAt (λ before after. Takes b
 -- the object at this place was polled, and gave this
 abbrev pub PollsAt : ℕ → Option Settled → List Seen → List Seen → Type 0
 PollsAt place settled old new = ChangesAt (λ before after. Polls before (Ok settled) after) old place new
+
+-- the object at this place said that this is the call that it makes next
+abbrev pub AsksAt : ℕ → Option Ask → List Seen → List Seen → Type 0
+AsksAt place ask old new = ChangesAt (λ before after. Asks before (Ok ask) after) old place new
+
+-- the object at this place was told that its call of this mark came to this
+abbrev pub TellsAt : ℕ → ℕ → Outcome → List Seen → List Seen → Type 0
+TellsAt place mark outcome old new = ChangesAt (λ before after. IsTold before mark outcome (Ok tt) after) old place new
 
 -- what holds of objects before and after, as they are seen
 abbrev pub On : {A : Type 0} → (A → Seen) → List A → List A → (List Seen → List Seen → Type 0) → Type 0

@@ -3,7 +3,7 @@
 ghost use Rattle.std.specs.Prelude.{◌≡◌, IfOk, OnOk, map};
 ghost use Rattle.cp_tree.specs.Node.{struct};
 ghost use Rattle.cp_tree.specs.NodeOf.{node_of, nodes_of};
-ghost use Rattle.cp_servants.specs.Outcomes.{exception_of, no_such_object, bad_outcome, no_such_method, word_results, object_results, named_imports, noted_with};
+ghost use Rattle.cp_servants.specs.Outcomes.{exception_of, no_such_object, bad_outcome, no_such_method, word_results, object_results, named_imports, noted_with, refused_call};
 
 use cp_machine::Ids;
 use cp_refs::{Cap, Caps, Outcome};
@@ -25,6 +25,14 @@ pub fn bad_outcome(alloc: Global) -> Result<Outcome, AllocError>
 {
     let kind = ExceptionKind::Failed;
     Ok(Outcome::Failed(exception(alloc, kind, "bad outcome")?))
+}
+
+/// What an object is told of a call that the vat refuses: failed, `call refused`.
+pub fn refused_call(alloc: Global) -> Result<Outcome, AllocError>
+    ensures { IfOk result (λ o. o ≡ refused_call) }
+{
+    let kind = ExceptionKind::Failed;
+    Ok(Outcome::Failed(exception(alloc, kind, "call refused")?))
 }
 
 /// The exception of a call of a method that the object doesn't have.

@@ -1,10 +1,10 @@
 //! Objects that answer calls.
 
-ghost use Rattle.cp_servants.specs.Servant.{Seen, other, Takes, Polls, MayGoOn};
+ghost use Rattle.cp_servants.specs.Servant.{Seen, other, Takes, Polls, MayGoOn, Asks, IsTold};
 ghost use Rattle.std.specs.Prelude.{◌≡◌, true};
 
 use cp_machine::Ids;
-use cp_refs::{Outcome, Request};
+use cp_refs::{Cap, Outcome, Request};
 use std::alloc::AllocError;
 
 /// What an object answers to a call.
@@ -26,6 +26,16 @@ pub struct Settled {
     pub gives_up: Ids,
 }
 
+/// A call that an object makes.
+#[derive(Drop)]
+pub struct Ask {
+    /// An import that the object was given, or an object or a promise of this end.
+    pub cap: Cap,
+    pub request: Request,
+    /// With it the object is told what the call came to.
+    pub mark: u64,
+}
+
 /// An object that answers calls, at once or when it is polled. `Err` ends the serving.
 pub trait Servant: Drop {
     /// The object as it is seen. Of most objects nothing is said.
@@ -45,5 +55,22 @@ pub trait Servant: Drop {
         ensures { result ≡ true → MayGoOn (seen self.now) }
     {
         false
+    }
+
+    /// The next call that the object makes, if it makes one more. A driver that lets objects call asks for these after
+    /// each call, poll and outcome that the object got, until there is none. `serve` lets none call.
+    fn ask(&mut self) -> Result<Option<Ask>, AllocError>
+        ensures { Asks (seen self.old) result (seen self.new) }
+    {
+        Ok(None)
+    }
+
+    /// What a call of the object's came to, with the call's mark. The question is finished then: its imports stay until
+    /// the object gives them up.
+    fn told(&mut self, mark: u64, outcome: Outcome) -> Result<(), AllocError>
+        ensures { IsTold (seen self.old) mark outcome result (seen self.new) }
+    {
+        let _ = (mark, outcome);
+        Ok(())
     }
 }
