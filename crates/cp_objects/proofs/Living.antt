@@ -1,6 +1,8 @@
 -- What is done with a connection, one after another.
 use Rattle.std.proofs.Common.{◌≡◌, ℕ, List, [], ◌++◌, Option, Result, refl, sym, ap, ◌∙◌, append-nil, append_assoc}
 use Rattle.cp_refs.specs.declared.call.Origin.{Origin}
+use Rattle.cp_refs.specs.declared.call.Request.{Request}
+use Rattle.cp_refs.specs.declared.cap.Cap.{Cap}
 use Rattle.cp_refs.specs.declared.outcome.Outcome.{Outcome}
 use Rattle.cp_machine.specs.declared.event.Event.{Event}
 use Rattle.cp_machine.specs.declared.event.Event.TheVariants as events
@@ -38,10 +40,16 @@ lives_act event result call h = ([], goes_on begins (acts event result call h) r
 pub lives_next : {old new : Link} (first : Option Happening) → HandsOut old first new → Lives old new
 lives_next first h = (_, goes_on begins (hands first h refl) refl refl refl)
 
--- what came of an answer, and of giving an import back
+-- what came of an answer, of giving an import back, and of a call and its question's end
 pub lives_answer : {A : Type 0} (old new : Link) (origin : Origin) (outcome : Outcome) (result : Result A ConnectionFault) → Acts old (events.Answer origin outcome) (answered (λ _. values.Nothing) result) new
     → Lives old new
 lives_answer old new origin outcome result h = lives_act (events.Answer origin outcome) (answered (λ _. values.Nothing) result) tt h
 
 pub lives_release : {A : Type 0} (old new : Link) (i : ℕ) (result : Result A ConnectionFault) → Acts old (events.Release i) (answered (λ _. values.Nothing) result) new → Lives old new
 lives_release old new i result h = lives_act (events.Release i) (answered (λ _. values.Nothing) result) tt h
+
+pub lives_call : (old new : Link) (cap : Cap) (request : Request) (result : Result ℕ ConnectionFault) → Acts old (events.Call cap request) (answered (λ q. values.Question q) result) new → Lives old new
+lives_call old new cap request result h = lives_act (events.Call cap request) (answered (λ q. values.Question q) result) tt h
+
+pub lives_finish : {A : Type 0} (old new : Link) (question : ℕ) (result : Result A ConnectionFault) → Acts old (events.Finish question) (answered (λ _. values.Nothing) result) new → Lives old new
+lives_finish old new question result h = lives_act (events.Finish question) (answered (λ _. values.Nothing) result) tt h

@@ -6,10 +6,15 @@ use Rattle.std.specs.FinMap.{get, remove}
 use Rattle.cp_tables.specs.Table.{Table}
 use Rattle.cp_tables.proofs.TableLemmas.{is_remove}
 use Rattle.cp_refs.specs.declared.call.Origin.{Origin}
+use Rattle.cp_refs.specs.declared.outcome.Outcome.{Outcome}
+use Rattle.cp_machine.specs.declared.event.Event.TheVariants as events
 use Rattle.cp_connection.specs.Link.{Link}
 use Rattle.cp_servants.specs.declared.servant.Settled.{Settled}
 use Rattle.cp_servants.specs.Servant.{Seen}
-use Rattle.cp_objects.specs.Work.{Work, Answers, Tries, TriesEach}
+use Rattle.cp_objects.specs.declared.asker.Asker.{Asker}
+use Rattle.cp_objects.specs.declared.notice.Notice.TheVariants as notices
+use Rattle.cp_objects.specs.Work.{Work, Answers, IsDone, Notes, Tries, TriesEach}
+use Rattle.cp_objects.specs.Calling.{HandsBack, to_user, to_object, Hears, MakesCalls}
 use Rattle.cp_objects.specs.Rounds.{Settles, is_stranger, is_awaited, PollsFrom, WorksOff, none_left}
 
 -- what follows from a fact of a success
@@ -45,3 +50,14 @@ tries_next items i d {mid = mid} last h tried rest = rw (drop-cons items i d h) 
 
 pub works_off_none : (old : Work) (link : Link) (objects : List Seen) → link ≡ old.link → old.link.happened ≡ [] → WorksOff old (record old { link = link }) objects objects
 works_off_none old link objects e none = rw e (none_left none)
+
+pub hands_to_user : (old : Work) (asked : Table Asker) (question : ℕ) (outcome : Outcome) {new : Work} {objects : List Seen} → get old.asked question ≡ None
+    → asked ≡ remove old.asked question → Notes (notices.Settled question outcome) (record old { asked = asked }) new → HandsBack question outcome old new objects objects
+hands_to_user old asked question outcome none r noted =
+    to_user none (rw (r, ← is_remove old.asked old.asked question none (λ q h. refl)) at noted) refl
+
+pub hands_to_object : (old : Work) (asked : Table Asker) (question : ℕ) (outcome : Outcome) (asker : Asker) (link : Link) {new : Work} {objects between others : List Seen}
+    → get old.asked question ≡ Some asker → asked ≡ remove old.asked question → IsDone old.link (events.Finish question) link
+    → Hears asker.place asker.mark outcome objects between → MakesCalls asker.place (record old { link = link; asked = asked }) new between others
+    → HandsBack question outcome old new objects others
+hands_to_object old asked question outcome asker link got r done heard calls = to_object asker link got done heard (rw r at calls)

@@ -1,3 +1,4 @@
 pub mod Work
+pub mod Calling
 pub mod Rounds
 pub mod WorkOf

@@ -1,5 +1,5 @@
 -- A connection, with what is still to be done for its objects.
-use Rattle.std.specs.Prelude.{◌≡◌, ◌≢◌, ℕ, List, [], ◌∷◌, ◌++◌, Result, Ok, Err}
+use Rattle.std.specs.Prelude.{◌≡◌, ◌≢◌, ℕ, Bool, List, [], ◌∷◌, ◌++◌, Result, Ok, Err}
 use Rattle.std.specs.FinMap.{insert, empty}
 use Rattle.cp_tables.specs.Table.{Table}
 use Rattle.cp_refs.specs.declared.call.Origin.{Origin}
@@ -16,26 +16,33 @@ use Rattle.cp_connection.specs.declared.happening.Happening.{Happening}
 use Rattle.cp_connection.specs.Link.{Link}
 use Rattle.cp_connection.specs.Doing.{Acts}
 use Rattle.cp_connection.specs.Lives.{Life}
+use Rattle.cp_objects.specs.declared.asker.Asker.{Asker}
 use Rattle.cp_objects.specs.declared.notice.Notice.{Notice}
 use Rattle.cp_servants.specs.declared.servant.Reply.{Reply}
 use Rattle.cp_servants.specs.declared.servant.Reply.TheVariants as replies
 use Rattle.cp_servants.specs.Outcomes.{bad_outcome}
 
--- The connection, the calls whose objects answer later, by their tickets, the imports that objects gave up, and what is no object's business and wasn't
--- taken.
+-- The connection, whether objects may call, the calls whose objects answer later, by their tickets, the calls that objects made, by their questions, the
+-- imports that objects gave up, and what is no object's business and wasn't taken.
 pub record Work : Type 0 where
   pub link : Link
+  pub may_call : Bool
   pub awaited : Table Origin
+  pub asked : Table Asker
   pub given_up : List ℕ
   pub notices : List Notice
 
 -- nothing is owed yet
-abbrev pub begun : Link → Work
-begun link = record { link = link; awaited = empty; given_up = []; notices = [] }
+abbrev pub begun : Bool → Link → Work
+begun may_call link = record { link = link; may_call = may_call; awaited = empty; asked = empty; given_up = []; notices = [] }
 
 -- Of the connection nothing was done but calls of the application, and that it was asked what happened: no byte of the peer was taken, and none written.
 abbrev pub Lives : Link → Link → Type 0
 Lives old new = (handed : List Happening) × Life old [] [] handed new
+
+-- a notice more wasn't taken
+abbrev pub Notes : Notice → Work → Work → Type 0
+Notes notice old new = new ≡ record old { notices = old.notices ++ notice ∷ [] }
 
 -- imports more were given up
 abbrev pub GivesUp : List ℕ → Work → Work → Type 0

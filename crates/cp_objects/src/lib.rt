@@ -1,6 +1,7 @@
 //! What is done for the objects of a connection: its peer's calls go to them, and what they answer goes back.
 #![tactic(auto)]
 
+mod asker;
 mod notice;
 mod objects;
 

@@ -1,21 +1,25 @@
 //! What is done for the objects of a connection.
 
-ghost use Rattle.std.specs.Prelude.{◌≡◌, ◌∷◌, ◌↔◌, [], IfOk, IsSome, IsTrue, OnOk};
+ghost use Rattle.std.specs.Prelude.{◌≡◌, ◌∷◌, ◌↔◌, [], true, false, IfOk, IsSome, IsTrue, OnOk};
 ghost use Rattle.cp_machine.specs.declared.event.Event.TheVariants as events;
 ghost use Rattle.cp_connection.specs.Link.{Link};
 ghost use Rattle.cp_servants.specs.Outcomes.{bad_outcome};
 ghost use Rattle.cp_servants.specs.Servant.{On};
-ghost use Rattle.cp_objects.specs.Work.{begun, Answers, GivesUp, IsDone, Lives, Releases, Replies, Stays, Tries};
-ghost use Rattle.cp_objects.specs.Rounds.{Gives, Handles, HandsOver, Notes, PollsFrom, Rounds, Settles, WorksOff};
+ghost use Rattle.cp_objects.specs.Work.{begun, Answers, GivesUp, IsDone, Lives, Notes, Releases, Replies, Stays, Tries};
+ghost use Rattle.cp_objects.specs.Calling.{HandsBack, Hears, MakesCall, MakesCalls, NextCall};
+ghost use Rattle.cp_objects.specs.Rounds.{Gives, Handles, HandsOver, PollsFrom, Rounds, Settles, WorksOff};
 ghost use Rattle.cp_objects.specs.WorkOf.{work_of};
 
+use crate::asker::Asker;
 use crate::notice::Notice;
 use cp_connection::{Connection, ConnectionFault, Happening};
 use cp_machine::{Ids, VatFault};
 use cp_refs::{Origin, Outcome, Request};
 use cp_servants::{
-    Awaited, Reply, Servant, Settled, bad_outcome, call_at, no_such_object, poll_at,
+    Ask, Awaited, Reply, Servant, Settled, ask_at, bad_outcome, call_at, no_such_object, poll_at,
+    refused_call, tell_at,
 };
+use cp_tables::Entries;
 use std::alloc::{AllocError, Global};
 use std::collections::VecDeque;
 use std::mem;
@@ -41,6 +45,12 @@ use std::mem;
 /// with `no such object`, and where the vat refuses an outcome the call fails with `bad outcome`. Once the connection
 /// ended no call is answered any more, and no object is polled.
 ///
+/// # Objects that call
+///
+/// Made by `that_call`, it asks each object for the calls that it makes (`Servant::ask`) after each call, poll and outcome
+/// that the object got. What a call came to goes to its object (`Servant::told`), and the question is finished; it is no
+/// notice. Where the vat refuses the call, the object is told of the exception `call refused`.
+///
 /// # Errors, and what each leaves
 ///
 /// `AllocError` says that memory ran out: for the connection, which ended then; for an object; or here. A call may be
@@ -48,7 +58,11 @@ use std::mem;
 #[derive(Drop)]
 pub struct Objects {
     alloc: Global,
+    /// Whether objects may call.
+    may_call: bool,
     awaited: Awaited,
+    /// The calls that objects made, by their questions.
+    asked: Entries<Asker>,
     /// The imports that objects gave up, until they are released.
     given_up: Vec<u32>,
     /// What is no object's business, in order.
@@ -56,16 +70,18 @@ pub struct Objects {
 }
 
 impl Objects {
-    /// Nothing is owed yet.
+    /// Nothing is owed yet. The objects may not call: they aren't asked.
     pub fn new(alloc: Global) -> Objects
-        ensures { (link : Link) → work_of result link ≡ begun link }
+        ensures { (link : Link) → work_of result link ≡ begun false link }
     {
-        Objects {
-            alloc,
-            awaited: Awaited::new(alloc),
-            given_up: Vec::new(alloc),
-            notices: VecDeque::new(alloc),
-        }
+        Objects::made(alloc, false)
+    }
+
+    /// Nothing is owed yet. The objects may call what they were given.
+    pub fn that_call(alloc: Global) -> Objects
+        ensures { (link : Link) → work_of result link ≡ begun true link }
+    {
+        Objects::made(alloc, true)
     }
 
     /// Does what happened on a connection asks of its objects, in order, until nothing is left.
@@ -112,6 +128,20 @@ impl Objects {
         self.notices.pop_front()
     }
 
+    /// Nothing is owed yet.
+    fn made(alloc: Global, may_call: bool) -> Objects
+        ensures { (link : Link) → work_of result link ≡ begun may_call link }
+    {
+        Objects {
+            alloc,
+            may_call,
+            awaited: Awaited::new(alloc),
+            asked: Entries::new(alloc),
+            given_up: Vec::new(alloc),
+            notices: VecDeque::new(alloc),
+        }
+    }
+
     /// Does what one happening asks.
     fn handle(
         &mut self,
@@ -129,11 +159,13 @@ impl Objects {
                 ticket,
                 call,
             } => {
-                let reply = reply_of(self.alloc, objects, object as usize, ticket, call)?;
-                self.reply(connection, origin, ticket, reply)
+                let place = object as usize;
+                let reply = reply_of(self.alloc, objects, place, ticket, call)?;
+                self.reply(connection, origin, ticket, reply)?;
+                self.make_calls(connection, objects, place)
             }
             Happening::Settled { question, outcome } => {
-                self.note(Notice::Settled { question, outcome })
+                self.hand_back(connection, objects, question, outcome)
             }
             Happening::Closed(reason) => self.note(Notice::Closed(reason)),
         }
@@ -145,6 +177,84 @@ impl Objects {
     {
         self.notices.push_back(notice)?;
         Ok(())
+    }
+
+    /// Hands an outcome back to the object whose call it is of, which may make calls then, or notes it for the user.
+    fn hand_back(
+        &mut self,
+        connection: &mut Connection,
+        objects: &mut [Box<dyn Servant>],
+        question: u32,
+        outcome: Outcome,
+    ) -> Result<(), AllocError>
+        ensures done { OnOk result (On (λ o. seen o) objects.old objects.new (HandsBack question outcome (work_of self.old connection.old) (work_of self.new connection.new))) }
+        ensures lives { Lives connection.old connection.new }
+    {
+        let Some(asker) = self.asked.remove(question) else {
+            return self.note(Notice::Settled { question, outcome });
+        };
+        finish(connection, question)?;
+        tell(objects, asker.place, asker.mark, outcome)?;
+        self.make_calls(connection, objects, asker.place)
+    }
+
+    /// Makes the calls that the object at a place asks for, until it asks for no more.
+    fn make_calls(
+        &mut self,
+        connection: &mut Connection,
+        objects: &mut [Box<dyn Servant>],
+        place: usize,
+    ) -> Result<(), AllocError>
+        ensures done { OnOk result (On (λ o. seen o) objects.old objects.new (MakesCalls place (work_of self.old connection.old) (work_of self.new connection.new))) }
+        ensures lives { Lives connection.old connection.new }
+    {
+        for _ in 0..u64::MAX {
+            let Some(ask) = self.next_call(connection, objects, place)? else {
+                return Ok(());
+            };
+            self.make_call(connection, objects, place, ask)?;
+        }
+        Err(AllocError)
+    }
+
+    /// The next call of the object at a place: none where objects may not call, and once the connection ended.
+    fn next_call(
+        &self,
+        connection: &Connection,
+        objects: &mut [Box<dyn Servant>],
+        place: usize,
+    ) -> Result<Option<Ask>, AllocError>
+        ensures { IfOk result (λ ask. On (λ o. seen o) objects.old objects.new (NextCall place (work_of self.now connection.now) ask)) }
+    {
+        if !self.may_call || place >= objects.len() || has_ended(connection) {
+            return Ok(None);
+        }
+        let ask = ask_at(objects, place)?;
+        Ok(ask)
+    }
+
+    /// Makes a call of the object at a place. Where the vat refuses it the object is told so.
+    fn make_call(
+        &mut self,
+        connection: &mut Connection,
+        objects: &mut [Box<dyn Servant>],
+        place: usize,
+        ask: Ask,
+    ) -> Result<(), AllocError>
+        ensures done { OnOk result (On (λ o. seen o) objects.old objects.new (MakesCall place ask (work_of self.old connection.old) (work_of self.new connection.new))) }
+        ensures lives { Lives connection.old connection.new }
+    {
+        let mark = ask.mark;
+        let fault = match connection.call(ask.cap, ask.request) {
+            Ok(question) => return self.asked.put(question, Asker { place, mark }),
+            Err(fault) => fault,
+        };
+        match fault {
+            ConnectionFault::OutOfMemory => Err(AllocError),
+            ConnectionFault::Refused(_) => tell(objects, place, mark, refused_call(self.alloc)?),
+            ConnectionFault::Closed => Ok(()),
+            ConnectionFault::Unreadable { .. } => Ok(()),
+        }
     }
 
     /// Answers a call with what its object replied, or awaits that.
@@ -190,6 +300,7 @@ impl Objects {
             }
             let settled = poll_at(objects, place)?;
             gave |= self.settle(connection, settled)?;
+            self.make_calls(connection, objects, place)?;
             self.work_off(connection, objects)?;
         }
         Ok(gave)
@@ -282,6 +393,36 @@ fn reply_of(
         outcome: no_such_object(alloc)?,
         gives_up: Ids::new(Vec::new(alloc)),
     })
+}
+
+/// Tells the object at a place what a call of its own came to. Past the objects nobody is told.
+fn tell(
+    objects: &mut [Box<dyn Servant>],
+    place: usize,
+    mark: u64,
+    outcome: Outcome,
+) -> Result<(), AllocError>
+    ensures { OnOk result (On (λ o. seen o) objects.old objects.new (Hears place mark outcome)) }
+{
+    if place < objects.len() {
+        return tell_at(objects, place, mark, outcome);
+    }
+    Ok(())
+}
+
+/// Finishes the question of an object's call. Nothing is sent once the connection ended.
+fn finish(connection: &mut Connection, question: u32) -> Result<(), AllocError>
+    ensures done { OnOk result (IsDone connection.old (events.Finish question) connection.new) }
+    ensures lives { Lives connection.old connection.new }
+{
+    let fault = match connection.finish(question) {
+        Ok(()) => return Ok(()),
+        Err(fault) => fault,
+    };
+    match fault {
+        ConnectionFault::OutOfMemory => Err(AllocError),
+        _ => Ok(()),
+    }
 }
 
 /// Whether a connection ended.

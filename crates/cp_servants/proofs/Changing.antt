@@ -1,5 +1,5 @@
 -- One object of a list changes.
-use Rattle.std.proofs.Common.{◌≡◌, ℕ, zero, suc, ◌<◌, List, [], ◌∷◌, ◌++◌, length, map, Ok, refl, sym, ap, arith, set, get_or, inl, inr, Bool, true, subst}
+use Rattle.std.proofs.Common.{◌≡◌, ℕ, zero, suc, ◌<◌, List, [], ◌∷◌, length, map, Ok, refl, sym, ap, arith, set, get_or, inl, inr, Bool, true, subst}
 use Rattle.cp_refs.specs.declared.call.Request.{Request}
 use Rattle.cp_refs.specs.declared.outcome.Outcome.{Outcome}
 use Rattle.cp_servants.specs.declared.servant.Ask.{Ask}

@@ -1,22 +1,23 @@
-use Rattle.std.proofs.Common.{refl}
-use Rattle.cp_objects.proofs.Living.{lives_none}
+use Rattle.cp_objects.proofs.Living.{lives_none, lives_both}
 use Rattle.cp_objects.proofs.Working.{after_ok}
+use Rattle.std.proofs.Common.{refl}
 use Rattle.cp_objects.proofs.objects.Objects.handle.Goals as goal
 
 pub returns-in_err-reply-in-Delivered-clause-lives : goal.returns-in_err-reply-in-Delivered-clause-lives
 returns-in_err-reply-in-Delivered-clause-lives g c = lives_none c.args.connection.now
 
-pub returns-in_ok-reply-in-Delivered-clause-done : goal.returns-in_ok-reply-in-Delivered-clause-done
-returns-in_ok-reply-in-Delivered-clause-done g c = after_ok c.reply.result c.reply.ensures.done (λ replies. rw c.in-Delivered.is (_, c.in_ok-reply-in-Delivered.ensures, replies))
+pub returns-in_ok-reply-in-Delivered-2-clause-done : goal.returns-in_ok-reply-in-Delivered-2-clause-done
+returns-in_ok-reply-in-Delivered-2-clause-done g c =
+    after_ok c.make_calls.result c.make_calls.ensures.done (λ calls. rw c.in-Delivered.is (_, _, _, c.in_ok-reply-in-Delivered.ensures, c.in_ok-reply-in-Delivered-2.ensures.done, calls))
+
+pub returns-in_ok-reply-in-Delivered-2-clause-lives : goal.returns-in_ok-reply-in-Delivered-2-clause-lives
+returns-in_ok-reply-in-Delivered-2-clause-lives g c = lives_both c.reply.ensures.lives c.make_calls.ensures.lives
 
 pub returns-in-Settled-clause-done : goal.returns-in-Settled-clause-done
-returns-in-Settled-clause-done g c = after_ok c.note.result c.note.ensures (λ noted. rw c.in-Settled.is (noted _, refl))
-
-pub returns-in-Settled-clause-lives : goal.returns-in-Settled-clause-lives
-returns-in-Settled-clause-lives g c = lives_none c.args.connection.now
+returns-in-Settled-clause-done g c = after_ok c.hand_back.result c.hand_back.ensures.done (λ back. rw c.in-Settled.is back)
 
 pub returns-in-Closed-clause-done : goal.returns-in-Closed-clause-done
-returns-in-Closed-clause-done g c = after_ok c.note-in-Closed.result c.note-in-Closed.ensures (λ noted. rw c.in-Closed.is (noted _, refl))
+returns-in-Closed-clause-done g c = after_ok c.note.result c.note.ensures (λ noted. rw c.in-Closed.is (noted _, refl))
 
 pub returns-in-Closed-clause-lives : goal.returns-in-Closed-clause-lives
 returns-in-Closed-clause-lives g c = lives_none c.args.connection.now

@@ -21,8 +21,11 @@ returns-in_err-settled-clause-lives g c = c.loop-place.invariant.1
 pub returns-in_err-gave-clause-lives : goal.returns-in_err-gave-clause-lives
 returns-in_err-gave-clause-lives g c = lives_both c.loop-place.invariant.1 c.settle.ensures.lives
 
+pub returns-in_err-make_calls-clause-lives : goal.returns-in_err-make_calls-clause-lives
+returns-in_err-make_calls-clause-lives g c = lives_both (lives_both c.loop-place.invariant.1 c.settle.ensures.lives) c.make_calls.ensures.lives
+
 pub returns-in_err-work_off-clause-lives : goal.returns-in_err-work_off-clause-lives
-returns-in_err-work_off-clause-lives g c = lives_both (lives_both c.loop-place.invariant.1 c.settle.ensures.lives) c.work_off.ensures.lives
+returns-in_err-work_off-clause-lives g c = lives_both (lives_both (lives_both c.loop-place.invariant.1 c.settle.ensures.lives) c.make_calls.ensures.lives) c.work_off.ensures.lives
 
 pub returns-clause-done : goal.returns-clause-done
 returns-clause-done g c = so_far c.loop-place.gave (c.loop-place.invariant.0 false _ _ (none_left (simp length-map (omega (arith, c.loop-place-test.false)))))
@@ -35,6 +38,6 @@ loop-place-preserved g c =
     let first = c.in_ok-gave.field-0 in
     let open_yet = not_some _ false c.if-has_ended.ensures refl in (
       λ more last others rest.
-          rw (or_assoc c.loop-place.gave first more) (c.loop-place.invariant.0 (first || more) last others (polls c.in_ok-settled.settled first more open_yet c.in_ok-settled.ensures c.in_ok-gave.ensures.done c.in_ok-work_off.ensures.done rest refl)),
-      lives_both (lives_both c.loop-place.invariant.1 c.in_ok-gave.ensures.lives) c.in_ok-work_off.ensures.lives,
+          rw (or_assoc c.loop-place.gave first more) (c.loop-place.invariant.0 (first || more) last others (polls c.in_ok-settled.settled first more open_yet c.in_ok-settled.ensures c.in_ok-gave.ensures.done c.in_ok-make_calls.ensures.done c.in_ok-work_off.ensures.done rest refl)),
+      lives_both (lives_both (lives_both c.loop-place.invariant.1 c.in_ok-gave.ensures.lives) c.in_ok-make_calls.ensures.lives) c.in_ok-work_off.ensures.lives,
     )

@@ -1,0 +1,21 @@
+use Rattle.cp_objects.specs.Calling.{makes_none, makes_one}
+use Rattle.cp_objects.proofs.Living.{lives_none, lives_both}
+use Rattle.cp_objects.proofs.objects.Objects.make_calls.Goals as goal
+
+pub loop-init : goal.loop-init
+loop-init g c = (λ last others rest. rest, lives_none c.args.connection.now)
+
+pub returns-in_err-ask-clause-lives : goal.returns-in_err-ask-clause-lives
+returns-in_err-ask-clause-lives g c = c.loop.invariant.1
+
+pub returns-in_default-clause-done : goal.returns-in_default-clause-done
+returns-in_default-clause-done g c = c.loop.invariant.0 _ _ (makes_none (rw c.in_default.is at c.in_ok-ask.ensures))
+
+pub returns-in_err-make_call-clause-lives : goal.returns-in_err-make_call-clause-lives
+returns-in_err-make_call-clause-lives g c = lives_both c.loop.invariant.1 c.make_call.ensures.lives
+
+pub loop-preserved : goal.loop-preserved
+loop-preserved g c = (
+  λ last others rest. c.loop.invariant.0 last others (makes_one c.in-Some.ask (rw c.in-Some.is at c.in_ok-ask.ensures) c.in_ok-make_call.ensures.done rest),
+  lives_both c.loop.invariant.1 c.make_call.ensures.lives,
+)
