@@ -25,5 +25,5 @@
 
 pub use cp_machine::{Ids, PeerFault, Reason};
 pub use cp_refs::{Cap, Caps, Outcome, Request};
-pub use cp_servants::{Cell, Desk, Reply, Script, Servant, Settled};
+pub use cp_servants::{Ask, Cell, Desk, Reply, Script, Servant, Settled};
 pub use cp_serve::{Report, ServeFault, serve};
