@@ -1,31 +1,67 @@
-// A bare TCP relay: what comes on one side goes out on the other, both ways at once, over readiness. It looks at nothing.
-// Usage: bare PORT TARGET_PORT COUNT    COUNT connections of 127.0.0.1, several at once
+// A bare TCP relay: what comes on one side goes out on the other, both ways at once, over readiness. It looks at nothing, or with
+// `whole` at the segment tables alone: then a frame is held until its last byte has come, as by a relay that checks it.
+// Usage: bare PORT TARGET_PORT COUNT [whole]    COUNT connections of 127.0.0.1, several at once
 #include "../../nightly/connect.hpp"
 #include <sys/epoll.h>
 #include <fcntl.h>
 #include <unistd.h>
+#include <algorithm>
 #include <cerrno>
 #include <cstdlib>
+#include <cstring>
 #include <unordered_set>
+#include <vector>
 
 constexpr size_t PIECE = 16384;
 
-// One direction: a piece that was read, and what of it is still to be written.
+static bool by_frames = false;
+
+// One direction: what was read and not written, of which the bytes before `end` may go, and the rest of it is the open frame.
 struct Way {
   int from, to;
-  char piece[PIECE];
-  size_t start = 0, end = 0;
+  std::vector<char> bytes = std::vector<char>(PIECE);
+  size_t start = 0, end = 0, read_end = 0;
   bool readable = true, writable = true, finished = false, shut = false;
 
   bool goes_on() const { return start < end ? writable : !finished && readable; }
 
+  // How many bytes the frame has that begins at `end`, as far as it is known.
+  size_t frame() const {
+    uint32_t last, size;
+    if (read_end - end < 4) return 8;
+    memcpy(&last, &bytes[end], 4);
+    size_t table = 8 + (last + 1) / 2 * 8, words = 0;
+    if (read_end - end < table) return table;
+    for (size_t i = 0; i <= last; i++) {
+      memcpy(&size, &bytes[end + 4 + 4 * i], 4);
+      words += size;
+    }
+    return table + 8 * words;
+  }
+
+  // Makes capacity for a piece, or for the rest of a longer frame.
+  void begin() {
+    memmove(bytes.data(), &bytes[start], read_end - start);
+    read_end -= start;
+    start = end = 0;
+    size_t wanted = std::max(read_end + PIECE, by_frames ? frame() : 0);
+    if (bytes.size() < wanted) bytes.resize(wanted);
+  }
+
+  // What was read may go, or the frames of it that are whole.
+  void let_go() {
+    if (!by_frames) end = read_end;
+    while (by_frames && end < read_end && frame() <= read_end - end) end += frame();
+  }
+
   // False where a stream failed.
   bool turn() {
     if (start == end && readable && !finished) {
-      ssize_t n = read(from, piece, PIECE);
+      if (start > 0 || bytes.size() < read_end + PIECE) begin();
+      ssize_t n = read(from, &bytes[read_end], PIECE);
       if (n > 0) {
-        start = 0;
-        end = n;
+        read_end += n;
+        let_go();
       } else if (n == 0) {
         finished = true;
       } else if (errno == EAGAIN) {
@@ -35,7 +71,7 @@ struct Way {
       }
     }
     while (start < end && writable) {
-      ssize_t n = write(to, piece + start, end - start);
+      ssize_t n = write(to, &bytes[start], end - start);
       if (n >= 0) {
         start += n;
       } else if (errno == EAGAIN) {
@@ -83,6 +119,7 @@ static void watch(int set, int fd, End* end) {
 
 int main(int argc, char** argv) {
   unsigned port = atoi(argv[1]), target = atoi(argv[2]), count = atoi(argv[3]), open = 0;
+  by_frames = argc > 4 && !strcmp(argv[4], "whole");
   int listener = socket(AF_INET, SOCK_STREAM, 0), one = 1, set = epoll_create1(0);
   KJ_SYSCALL(setsockopt(listener, SOL_SOCKET, SO_REUSEADDR, &one, sizeof one));
   sockaddr_in address{};

@@ -4,8 +4,8 @@
     compare.py --build FOLDER [--command PROGRAM] [--runs 7] [--calls 20000] [--cpus 1,2,3] [--enforce]
 
 The client of bench/rpc, a relay and the reference library's server run on a processor each, and a call's time is the client's
-by the clock. A ratio is ours over the bare relay's. `direct` is the time without a relay. With --enforce the status is 1
-where a ratio passes 1.5.
+by the clock. A ratio is ours over the bare relay's. `direct` is the time without a relay, `whole` that of the bare relay where
+it holds each frame until all of it has come. With --enforce the status is 1 where a ratio passes 1.5.
 """
 import argparse
 import pathlib
@@ -63,6 +63,7 @@ def main():
     relays = {
         "direct": None,
         "bare": lambda port, to: [str(args.build / "bare"), str(port), str(to), "1"],
+        "whole": lambda port, to: [str(args.build / "bare"), str(port), str(to), "1", "whole"],
         "ours": lambda port, to: [str(args.command), "relay", str(port), f"127.0.0.1:{to}", "1"],
         "anew": lambda port, to: [str(args.command), "relay", "--anew", str(port), f"127.0.0.1:{to}", "1"],
     }

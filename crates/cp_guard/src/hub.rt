@@ -22,6 +22,9 @@ const EVENTS: usize = 256;
 /// The most connections that are relayed at once: two descriptors each, below the 1,024 that most systems let a process have.
 const MOST_LINKS: usize = 480;
 
+/// The most capacity that is kept for the next long frame.
+const MOST_SPARE: usize = 4_194_304;
+
 /// The most connections that one round takes.
 const BURST: usize = 64;
 
@@ -38,6 +41,8 @@ pub(crate) struct Hub {
     listener: TcpListener,
     target: SocketAddr,
     links: Slab<Link>,
+    /// A buffer without bytes, for the next long frame.
+    spare: Vec<u8>,
     /// The keys of the links that can go on at once.
     queue: VecDeque<usize>,
     /// A connection may be waiting.
@@ -71,6 +76,7 @@ impl Hub {
             listener,
             target,
             links: Slab::new(alloc),
+            spare: Vec::new(alloc),
             queue: VecDeque::new(alloc),
             acceptable: true,
             starved: false,
@@ -203,13 +209,16 @@ impl Hub {
             return Ok(());
         };
         let number = link.number();
-        match link.turn(watch) {
+        match link.turn(watch, &mut self.spare) {
             Turn::More => self.queue.push_back(key)?,
             Turn::Waits => (),
             Turn::Ends(ended) => {
                 let _ = self.links.try_remove(key);
                 self.report(watch, err, number, ended);
             }
+        }
+        if self.spare.capacity() > MOST_SPARE {
+            self.spare = Vec::new(self.alloc);
         }
         Ok(())
     }

@@ -120,12 +120,16 @@ impl Link {
         enters
     }
 
-    /// Moves one piece in each direction.
-    pub(crate) fn turn<W: Write + Drop>(&mut self, watch: &mut Watch<W>) -> Turn {
+    /// Moves some pieces in each direction.
+    pub(crate) fn turn<W: Write + Drop>(
+        &mut self,
+        watch: &mut Watch<W>,
+        spare: &mut Vec<u8>,
+    ) -> Turn {
         watch.turn_to(self.place(false));
-        self.there.turn(&mut self.near, &mut self.far, watch);
+        self.there.turn(&mut self.near, &mut self.far, watch, spare);
         watch.turn_to(self.place(true));
-        self.back.turn(&mut self.far, &mut self.near, watch);
+        self.back.turn(&mut self.far, &mut self.near, watch, spare);
         self.pass_ends_on();
         if let Some(ended) = self.ended() {
             return Turn::Ends(ended);

@@ -4,6 +4,10 @@ use crate::piece::{PIECE, Piece};
 use cp_relay::{Relay, RelayFault, Visitor};
 use std::alloc::{AllocError, Global};
 use std::io::{self, ErrorKind, Read, Write};
+use std::mem;
+
+/// The most pieces of a long frame that one turn takes, so that other connections have theirs.
+const PIECES: usize = 32;
 
 /// The most capacity that is kept for what goes out.
 const SPARE: usize = 65_536;
@@ -88,21 +92,26 @@ impl Way {
         }
     }
 
-    /// Takes one piece of the source, lets through what is accepted of it, and writes as much as the target takes.
+    /// Takes pieces of the source until something goes out, lets through what is accepted of them, and writes as much as
+    /// the target takes. A long frame may take the spare buffer, which comes back once the frame was written.
     pub(crate) fn turn<R: Read, W: Write, V: Visitor>(
         &mut self,
         from: &mut R,
         to: &mut W,
         visitor: &mut V,
+        spare: &mut Vec<u8>,
     ) {
-        self.write(to);
-        if self.is_written() && self.ended.is_none() {
+        self.send(to, spare);
+        for _ in 0..PIECES {
+            if !self.is_written() || !self.goes_on() {
+                break;
+            }
             if self.piece.is_taken() {
                 self.read(from);
             }
-            self.pass(visitor);
-            self.write(to);
+            self.pass(visitor, spare);
         }
+        self.send(to, spare);
     }
 
     /// Whether all that goes out was written.
@@ -136,11 +145,28 @@ impl Way {
     }
 
     /// Gives the piece to the relay.
-    fn pass<V: Visitor>(&mut self, visitor: &mut V) {
+    fn pass<V: Visitor>(&mut self, visitor: &mut V, spare: &mut Vec<u8>) {
+        put_larger_first(&mut self.out, spare);
         let piece = self.piece.rest();
         match let_through(&mut self.relay, visitor, piece, &mut self.out) {
             Ok(left) => self.piece.leave(left),
             Err(fault) => self.ended = Some(End::Refused(fault)),
+        }
+        if self.out.is_empty() {
+            put_larger_first(spare, &mut self.out);
+        }
+    }
+
+    /// Writes, and gives up the buffer of what was written.
+    fn send<W: Write>(&mut self, to: &mut W, spare: &mut Vec<u8>) {
+        self.write(to);
+        if self.is_written() {
+            self.sent = 0;
+            self.out.clear();
+            put_larger_first(spare, &mut self.out);
+            if self.out.capacity() > SPARE {
+                self.out = Vec::new(self.alloc);
+            }
         }
     }
 
@@ -163,24 +189,19 @@ impl Way {
                 }
             }
         }
-        if self.is_written() {
-            self.forget();
-        }
     }
 
     /// The target has failed: nothing more goes out.
     fn fail(&mut self, error: io::Error) {
         self.ended = Some(End::Unwritten(error));
-        self.forget();
+        self.sent = self.out.len();
     }
+}
 
-    /// Forgets what was to go out.
-    fn forget(&mut self) {
-        self.sent = 0;
-        self.out.clear();
-        if self.out.capacity() > SPARE {
-            self.out = Vec::new(self.alloc);
-        }
+/// Puts the larger one of two buffers without bytes in the first place.
+fn put_larger_first(first: &mut Vec<u8>, second: &mut Vec<u8>) {
+    if first.capacity() < second.capacity() {
+        mem::swap(first, second);
     }
 }
 

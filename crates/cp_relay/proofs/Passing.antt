@@ -23,7 +23,7 @@ use Rattle.cp_relay.specs.declared.fault.RelayFault.{RelayFault}
 use Rattle.cp_relay.specs.declared.fault.Why.{Why}
 use Rattle.cp_relay.specs.declared.fault.Why.TheVariants as whys
 use Rattle.cp_relay.specs.declared.passage.Passage.{Passage}
-use Rattle.cp_relay.specs.Relay.{Relay, StandsFor, IsKept, IsSentFor, Passes, Lets, LetsThrough, IsSameStream, IsUnwritten, StopsFor, GivesNext, GivesNone, Gives, Stops}
+use Rattle.cp_relay.specs.Relay.{Relay, StandsFor, IsKept, IsSentFor, Passes, Lets, LetsThrough, IsSameStream, IsUnwritten, StopsFor, GivesNext, GivesNone, Stops}
 use Rattle.cp_relay.specs.Passage.{seen, IsOpen, kept_with, IsUnwrittenAnew, StopsAtFrame, Refuses, IsMemoryFor}
 
 -- nothing is kept once a frame has gone, in either form

@@ -127,6 +127,10 @@ pub record Stops {V : Type 0} (says : V → Message → Bool → V → Type 0) (
   pub stopped : HasStopped new fault
   pub gives : (b : List ℕ) → StandsFor old b → (rest : List ℕ) × (mid : V) × LetsThrough says old piece new before mid out now b rest × StopsFor says old.output old.frames.mode old.frames.limits rest mid after fault.why
 
+-- The relay stopped in the piece, or had stopped before and says so again.
+abbrev pub StopsAt : {V : Type 0} → (V → Message → Bool → V → Type 0) → Relay → List ℕ → Relay → V → V → List ℕ → List ℕ → RelayFault → Type 0
+StopsAt says old piece new before after out now fault = Stops says old piece new before after out now fault ⊎ Repeats old new before after out now fault
+
 -- The stream ended after a message, and the relay is as it was.
 pub record EndsWell (old new : Relay) : Type 0 where
   pub went_on : old.fault ≡ None

@@ -1,6 +1,6 @@
 //! What a relay lets through, up to its first fault.
 
-ghost use Rattle.std.specs.Prelude.{◌≡◌, [], IfOk, IfErr, IfNone, IfSome, OnOk, None};
+ghost use Rattle.std.specs.Prelude.{◌≡◌, ◌++◌, [], IfOk, IfErr, IfNone, IfSome, OnOk, None};
 ghost use Rattle.cp_rpc.specs.Told.{told};
 ghost use Rattle.cp_stream.specs.Stream.{Holds, HoldsNone};
 ghost use Rattle.cp_relay.specs.Relay.{GivesNext, GivesNone};
@@ -13,10 +13,14 @@ use cp_frame::FrameReader;
 use cp_rpc::MessageView;
 use cp_stream::{Refusal, StreamFault, frame_of_view, view_of};
 use cp_words::{Limits, Segments};
-use std::alloc::Global;
+use std::alloc::{AllocError, Global};
+use std::mem;
 
-/// The most capacity that is left for the bytes of later frames.
+/// The most capacity that is left for the bytes of later frames. A frame of more bytes is a long one.
 const SPARE: usize = 65_536;
+
+/// The bytes of a frame for which capacity is made before they come, where no more have come.
+const AHEAD: usize = 1_048_576;
 
 /// A stream of which a part has come, with no fault so far.
 #[derive(Drop)]
@@ -49,7 +53,7 @@ impl Passage {
         ensures counts { IfErr result (λ why. self.new.at ≡ self.old.at) }
     {
         let Some((taken, segments, back)) = self.frames.next(piece)? else {
-            self.keep(piece)?;
+            self.keep(piece, out)?;
             return Ok(None);
         };
         let front = &piece[..piece.len() - back.len()];
@@ -71,12 +75,14 @@ impl Passage {
     }
 
     /// Keeps a piece in which no frame ends, where it is to go out as it was read.
-    fn keep(&mut self, piece: &[u8]) -> Result<(), Why>
+    fn keep(&mut self, piece: &[u8], out: &mut Vec<u8>) -> Result<(), Why>
         ensures kept { OnOk result (OnlyKeeps self.old (kept_with self.old.output self.old.kept.items piece.now) self.new) }
         ensures memory { IfErr result IsMemoryFor }
+        ensures nothing { out.new.items ≡ out.old.items }
         ensures counts { self.new.at ≡ self.old.at }
     {
         if self.output == Output::AsRead {
+            make_capacity(&mut self.kept, out, piece.len(), self.frames.needs())?;
             self.kept.extend_from_slice(piece)?;
         }
         Ok(())
@@ -101,7 +107,22 @@ impl Passage {
         if !visitor.visit(&view)? {
             return Err(Why::Forbidden);
         }
-        out.extend_from_slice(&self.kept)?;
+        self.give(out)?;
+        Ok(())
+    }
+
+    /// Puts what was made after `out`. A long frame goes out in its own buffer, where `out` holds no bytes.
+    fn give(&mut self, out: &mut Vec<u8>) -> Result<(), AllocError>
+        ensures gives { OnOk result (out.new.items ≡ out.old.items ++ self.old.kept.items) }
+        ensures forgets { OnOk result (OnlyKeeps self.old [] self.new) }
+        ensures nothing { IfErr result (λ _. out.new.items ≡ out.old.items) }
+        ensures counts { self.new.at ≡ self.old.at }
+    {
+        if out.is_empty() && SPARE < self.kept.len() {
+            mem::swap(out, &mut self.kept);
+        } else {
+            out.extend_from_slice(&self.kept)?;
+        }
         self.forget();
         Ok(())
     }
@@ -128,6 +149,42 @@ impl Passage {
         }
         self.kept.clear();
     }
+}
+
+/// Makes capacity for a piece, and with it for what the frame still needs at the least. The bytes of a long frame move to the
+/// buffer of `out`, where that is larger and holds none; while it holds some, no more is made than the piece takes.
+fn make_capacity(
+    kept: &mut Vec<u8>,
+    out: &mut Vec<u8>,
+    piece: usize,
+    needs: usize,
+) -> Result<(), AllocError>
+    ensures kept { OnOk result (kept.new.items ≡ kept.old.items) }
+    ensures out { out.new.items ≡ out.old.items }
+{
+    if piece <= kept.capacity() - kept.len() {
+        return Ok(());
+    }
+    if !out.is_empty() {
+        return kept.reserve(piece);
+    }
+    if SPARE < needs && kept.capacity() < out.capacity() {
+        move_over(kept, out)?;
+    }
+    let ahead = needs.min(kept.len().max(AHEAD));
+    kept.reserve(piece.saturating_add(ahead))
+}
+
+/// Moves the bytes of the first buffer to the second one, which holds none, and then they change places.
+fn move_over(kept: &mut Vec<u8>, out: &mut Vec<u8>) -> Result<(), AllocError>
+    requires { out.old.items ≡ [] }
+    ensures kept { kept.new.items ≡ kept.old.items }
+    ensures out { out.new.items ≡ [] }
+{
+    out.extend_from_slice(kept)?;
+    mem::swap(kept, out);
+    out.clear();
+    Ok(())
 }
 
 /// The message that a frame's segments hold, read in place.

@@ -34,7 +34,7 @@ impl Model for Relay {
 
 impl Relay {
     ghost use Rattle.std.specs.Prelude.{◌≡◌, ◌⊎◌, ◌+◌, [], IfOk, IfErr, IfNone, IfSome, OnOk, Some, None, length};
-    ghost use Rattle.cp_relay.specs.Relay.{StandsFor, GivesNext, GivesNone, Gives, Stops, Repeats, EndsWell, EndsInside, HoldsLittle, new_relay};
+    ghost use Rattle.cp_relay.specs.Relay.{StandsFor, GivesNext, GivesNone, Gives, StopsAt, EndsWell, EndsInside, HoldsLittle, new_relay};
 
     /// A relay of a stream in this form, to which nothing has come.
     pub fn new(alloc: Global, mode: Mode, output: Output, limits: Limits) -> Relay
@@ -71,7 +71,7 @@ impl Relay {
         out: &mut Vec<u8>,
     ) -> Result<(), RelayFault>
         ensures given { OnOk result (Gives V.says self.old piece.now self.new visitor.old visitor.new out.old.items out.new.items) }
-        ensures stopped { IfErr result (λ fault. Stops V.says self.old piece.now self.new visitor.old visitor.new out.old.items out.new.items fault ⊎ Repeats self.old self.new visitor.old visitor.new out.old.items out.new.items fault) }
+        ensures stopped { IfErr result (StopsAt V.says self.old piece.now self.new visitor.old visitor.new out.old.items out.new.items) }
     {
         self.go_on()?;
         let mut left = piece;
@@ -99,7 +99,7 @@ impl Relay {
     ) -> Result<Option<&'a [u8]>, RelayFault>
         ensures given { IfOk result (λ next. IfSome next (λ back. GivesNext V.says self.old piece.now self.new visitor.old visitor.new out.old.items out.new.items back.now)) }
         ensures none { IfOk result (λ next. IfNone next (GivesNone V.says self.old piece.now self.new visitor.old visitor.new out.old.items out.new.items)) }
-        ensures stopped { IfErr result (λ fault. Stops V.says self.old piece.now self.new visitor.old visitor.new out.old.items out.new.items fault ⊎ Repeats self.old self.new visitor.old visitor.new out.old.items out.new.items fault) }
+        ensures stopped { IfErr result (StopsAt V.says self.old piece.now self.new visitor.old visitor.new out.old.items out.new.items) }
         ensures nothing { IfErr result (λ fault. out.new.items ≡ out.old.items) }
     {
         self.go_on()?;

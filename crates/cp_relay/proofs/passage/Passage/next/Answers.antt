@@ -1,7 +1,9 @@
-use Rattle.std.proofs.Common.{ℕ, ◌-◌, length, take, subst}
+use Rattle.std.proofs.Common.{ℕ, ◌-◌, List, None, length, take, sym, subst}
 use Rattle.std.proofs.lemmas.Result.{err_from_is_err_and}
 use Rattle.cp_stream.specs.Reader.{CountsOn}
 use Rattle.cp_relay.specs.declared.passage.Passage.{Passage}
+use Rattle.cp_relay.specs.Relay.{GivesNone}
+use Rattle.cp_relay.specs.Passage.{seen}
 use Rattle.cp_relay.proofs.Passing.{open_next, open_none, gives_next, gives_none, refuses_message, front_is, with_spare, next_with_spare, as_before}
 use Rattle.cp_relay.proofs.passage.Passage.next.Goals as goal
 
@@ -15,7 +17,9 @@ pub returns-in_default-clause-none : goal.returns-in_default-clause-none
 returns-in_default-clause-none g c =
     let none = rw c.in_default.is at c.in_ok-taken.ensures.none in
     let keeps = c.in_ok-keep.ensures.kept in
-    gives_none g.V.Visitor.says c.args.self.now c.requires c.next.new.self c.keep.new.self c.args.piece.now c.args.visitor.now c.args.out.now.items none keeps.output keeps.now keeps.frames keeps.at
+    let says = g.V.Visitor.says in
+    let given = gives_none says c.args.self.now c.requires c.next.new.self c.keep.new.self c.args.piece.now c.args.visitor.now c.args.out.now.items none keeps.output keeps.now keeps.frames keeps.at in
+    subst (λ (now : List ℕ). GivesNone says (seen c.args.self.now None) c.args.piece.now (seen c.keep.new.self None) c.args.visitor.now c.args.visitor.now c.args.out.now.items now) (sym c.keep.ensures.nothing) given
 
 pub returns-in_err-put-clause-refused : goal.returns-in_err-put-clause-refused
 returns-in_err-put-clause-refused g c =
