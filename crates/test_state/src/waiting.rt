@@ -65,7 +65,7 @@ fn end(rt: &impl Abort, waiting: &mut Waiting, gate: Gate) {
 
 /// The call that leaves is the wanted one.
 fn expect_next(rt: &impl Abort, waiting: &mut Waiting, wanted: Option<u64>) {
-    assert_eq!(rt; next(waiting), wanted);
+    check!(rt; next(waiting) == wanted);
 }
 
 /// Does a move, which gives what is wanted.

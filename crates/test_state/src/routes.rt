@@ -52,10 +52,10 @@ fn number_of(cap: &Cap) -> Option<u32> {
 /// A path gives an object or an import of this number, or null for 0; so it does of what is kept.
 fn expect_at(rt: &impl Abort, alloc: Global, outcome: &Outcome, path: &[u16], number: u32) {
     let cap = outcome.at(alloc, path).expect(rt, "memory");
-    assert_eq!(rt; number_of(&cap), Some(number));
+    check!(rt; number_of(&cap) == Some(number));
     drop(cap);
     let kept = at(rt, alloc, outcome, path);
-    assert_eq!(rt; number_of(&kept), Some(number));
+    check!(rt; number_of(&kept) == Some(number));
     drop(kept);
 }
 
@@ -97,10 +97,10 @@ fn exception(rt: &impl Abort, alloc: Global, reason: &str) -> Exception {
 /// A path gives a capability that is broken for this reason.
 fn expect_broken(rt: &impl Abort, alloc: Global, outcome: &Outcome, path: &[u16], wanted: &str) {
     let cap = outcome.at(alloc, path).expect(rt, "memory");
-    assert!(rt; reason(&cap) == wanted);
+    check!(rt; reason(&cap) == wanted);
     drop(cap);
     let kept = at(rt, alloc, outcome, path);
-    assert!(rt; reason(&kept) == wanted);
+    check!(rt; reason(&kept) == wanted);
     drop(kept);
 }
 
@@ -109,7 +109,9 @@ fn what_failed_gives_its_exception_at_every_path(rt: HostRuntime) {
     let failed = Outcome::Failed(exception(&rt, rt.alloc(), "no"));
     expect_broken(&rt, rt.alloc(), &failed, &[3], "no");
     drop(failed);
-    expect_broken(&rt, rt.alloc(), &Outcome::Canceled, &[0, 1], "canceled");
+    let canceled = Outcome::Canceled;
+    expect_broken(&rt, rt.alloc(), &canceled, &[0, 1], "canceled");
+    drop(canceled);
 }
 
 /// The route of a promise, if it came to one that came to an import.
@@ -139,10 +141,10 @@ fn promises(rt: &impl Abort, alloc: Global) -> Values {
 fn promises_lead_to_an_import_whatever_it_came_to(rt: HostRuntime) {
     let mut values = promises(&rt, rt.alloc());
     let route = route_by_promises(&rt, &values, 4);
-    assert!(rt; matches!(route, Some(Route::Import(7))));
+    check!(&rt; matches!(route, Some(Route::Import(7))));
     drop(route);
     drop(values.remove_promise(9));
-    assert!(rt; route_by_promises(&rt, &values, 4).is_none());
+    check!(&rt; route_by_promises(&rt, &values, 4).is_none());
     drop(values);
 }
 
@@ -172,10 +174,10 @@ fn open_route(rt: &impl Abort, alloc: Global, kind: QuestionKind) -> Option<Rout
 #[test]
 fn an_open_question_is_asked_or_waited_for(rt: HostRuntime) {
     let route = open_route(&rt, rt.alloc(), QuestionKind::Wire);
-    assert!(rt; matches!(route, Some(Route::Pipe(1, _))));
+    check!(&rt; matches!(route, Some(Route::Pipe(1, _))));
     drop(route);
     let route = open_route(&rt, rt.alloc(), QuestionKind::Local);
-    assert!(rt; matches!(route, Some(Route::Wait(Gate::Question(1, _)))));
+    check!(&rt; matches!(route, Some(Route::Wait(Gate::Question(1, _)))));
     drop(route);
 }
 
@@ -183,10 +185,10 @@ fn an_open_question_is_asked_or_waited_for(rt: HostRuntime) {
 fn a_path_and_a_table_give_back_their_vectors(rt: HostRuntime) {
     let fields = vec![in rt.alloc(); 3].expect(&rt, "memory");
     let fields = Path::new(fields).into_fields();
-    assert!(rt; fields.len() == 1 && fields[0] == 3);
+    check!(&rt; fields.len() == 1 && fields[0] == 3);
     drop(fields);
     let caps = vec![in rt.alloc(); Cap::Object(5)].expect(&rt, "memory");
     let caps = Caps::new(caps).into_caps();
-    assert!(rt; caps.len() == 1 && matches!(caps[0], Cap::Object(5)));
+    check!(&rt; caps.len() == 1 && matches!(caps[0], Cap::Object(5)));
     drop(caps);
 }

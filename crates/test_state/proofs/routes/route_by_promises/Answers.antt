@@ -1,6 +1,6 @@
 use Rattle.std.proofs.Common.{refl}
 use Rattle.cp_refs.proofs.Walks.{promise_routes}
-use Rattle.test_refs.proofs.routes.route_by_promises.Goals as goal
+use Rattle.test_state.proofs.routes.route_by_promises.Goals as goal
 
 pub route-requires : goal.route-requires
 route-requires g c =

@@ -16,24 +16,35 @@ fn request(rt: &impl Abort, alloc: Global) -> Request {
     }
 }
 
+/// The export has count 1 and this capability.
+fn expect_export(rt: &impl Abort, exports: &Exported, number: u32, hosted: Hosted) {
+    let export = exports.get(number).expect(rt, "an export");
+    check!(rt; export.count == 1);
+    check!(rt; Hosted::of(&export.kept) == Some(hosted));
+}
+
+/// An object and a promise of one number are two exports, of which the object's is released.
+fn expect_two_exports(rt: &impl Abort, exports: &mut Exported) {
+    let (object, promise) = (Hosted::Object(9), Hosted::Promise(9));
+    check!(rt; exports.number(object).is_none());
+    let first = exports.raise(object).expect(rt, "an export");
+    expect_export(rt, exports, first, object);
+    check!(rt; exports.raise(object) == Ok(first));
+    let second = exports.raise(promise).expect(rt, "an export");
+    check!(rt; exports.number(object) == Some(first));
+    check!(rt; exports.number(promise) == Some(second));
+    check!(rt; exports.release(first, 3) == Err(PeerFault::ReleaseTooLarge));
+    check!(rt; exports.release(first, 2) == Ok(()));
+    check!(rt; exports.release(first, 0) == Err(PeerFault::UnknownExport));
+    check!(rt; exports.number(object).is_none());
+    check!(rt; exports.number(promise) == Some(second));
+}
+
 #[test]
 fn exports_are_found_by_capability(rt: HostRuntime) {
     let mut exports = Exported::new(rt.alloc());
-    let object = Hosted::Object(9);
-    let promise = Hosted::Promise(9);
-    assert!(rt; exports.number(object).is_none());
-    let first = exports.raise(object).expect(&rt, "an export");
-    let export = exports.get(first).expect(&rt, "an export");
-    assert!(rt; export.count == 1 && Hosted::of(&export.kept) == Some(object));
-    assert!(rt; exports.raise(object) == Ok(first));
-    let second = exports.raise(promise).expect(&rt, "an export");
-    assert!(rt; exports.number(object) == Some(first));
-    assert!(rt; exports.number(promise) == Some(second));
-    assert!(rt; exports.release(first, 3) == Err(PeerFault::ReleaseTooLarge));
-    assert!(rt; exports.release(first, 2) == Ok(()));
-    assert!(rt; exports.release(first, 0) == Err(PeerFault::UnknownExport));
-    assert!(rt; exports.number(object).is_none());
-    assert!(rt; exports.number(promise) == Some(second));
+    expect_two_exports(&rt, &mut exports);
+    drop(exports);
 }
 
 /// A call waits for a promise.
@@ -54,14 +65,14 @@ fn hold(rt: &impl Abort, alloc: Global, gates: &mut Gates, promise: PromiseId) {
 /// The next call that leaves has this ticket, and goes to object 3.
 fn expect_next(rt: &impl Abort, gates: &mut Gates, ticket: u64) {
     let next = gates.next().expect(rt, "memory").expect(rt, "a call");
-    assert!(rt; next.call.ticket == ticket && matches!(next.cap, Cap::Object(3)));
+    check!(rt; next.call.ticket == ticket && matches!(next.cap, Cap::Object(3)));
     drop(next);
 }
 
 /// No call leaves any more, and what the gates gave is forgotten.
 fn forget(rt: &impl Abort, gates: &mut Gates) {
     let next = gates.next().expect(rt, "memory");
-    assert!(rt; next.is_none());
+    check!(rt; next.is_none());
     gates.forget();
 }
 
@@ -71,11 +82,12 @@ fn calls_leave_by_ticket(rt: HostRuntime) {
     hold(&rt, rt.alloc(), &mut gates, 5);
     hold(&rt, rt.alloc(), &mut gates, 4);
     hold(&rt, rt.alloc(), &mut gates, 5);
-    assert!(rt; gates.calls().count() == 3);
+    check!(&rt; gates.calls().count() == 3);
     let ended = gates.end(Gift::Promise(5, Cap::Object(3)));
     ended.expect(&rt, "memory");
     expect_next(&rt, &mut gates, 0);
     expect_next(&rt, &mut gates, 2);
     forget(&rt, &mut gates);
-    assert!(rt; gates.get(1).is_some());
+    check!(&rt; gates.get(1).is_some());
+    drop(gates);
 }
