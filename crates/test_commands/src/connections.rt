@@ -1,5 +1,6 @@
 //! Connections that are served.
 
+use crate::checks::{expect_status, expect_text};
 use cp_commands::{Plan, act};
 use cp_frame::Mode;
 use cp_ports::{LONGEST_LOOP, loop_bytes, serve_connections, serve_port};
@@ -55,12 +56,11 @@ fn bytes_of(rt: &impl Abort, alloc: Global, texts: &[&str]) -> Vec<u8> {
     hex::decode(alloc, joined.as_str()).expect(rt, "hexadecimal")
 }
 
-/// The text is the wanted one.
-fn expect_text(rt: &impl Abort, text: Vec<u8>, wanted: &str) {
-    let text = String::from_utf8(text).expect(rt, "UTF-8");
-    if text.as_str() != wanted {
-        panic!(rt; "{text}");
-    }
+/// The bytes are the wanted text.
+fn expect_said(rt: &impl Abort, bytes: Vec<u8>, wanted: &str) {
+    let text = String::from_utf8(bytes).expect(rt, "UTF-8");
+    expect_text(rt, text.as_str(), wanted);
+    drop(text);
 }
 
 /// What `loop_bytes` writes, says and ends with.
@@ -71,23 +71,30 @@ where
     let (mut out, mut err) = (Vec::new(rt.alloc()), Vec::new(rt.alloc()));
     let status = loop_bytes(rt, bytes, mode, &mut out, &mut err);
     let (lines, said, ends) = wanted;
-    expect_text(rt, out, lines);
-    expect_text(rt, err, said);
-    assert!(rt; status == ends);
+    expect_said(rt, out, lines);
+    expect_said(rt, err, said);
+    expect_status(rt, status, ends);
+}
+
+/// The same for these texts in hexadecimal.
+fn expect_loop_of<R>(rt: &R, texts: &[&str], mode: Mode, wanted: (&str, &str, u8))
+where
+    R: Net<Listener = TcpListener, Stream = TcpStream> + AllocGlobal + Abort,
+{
+    let bytes = bytes_of(rt, rt.alloc(), texts);
+    expect_loop(rt, &bytes, mode, wanted);
+    drop(bytes);
 }
 
 #[test]
 fn calls_are_answered(rt: HostRuntime) {
-    let alloc = rt.alloc();
-    let plain = bytes_of(&rt, alloc, &[BOOTSTRAP, CALLS]);
-    expect_loop(&rt, &plain, Mode::Plain, (ANSWERS, "", 0));
-    let packed = bytes_of(&rt, alloc, &[PACKED]);
-    expect_loop(&rt, &packed, Mode::Packed, (ANSWERS, "", 0));
-    expect_loop(&rt, &[], Mode::Plain, ("", "", 0));
+    let plain = Mode::Plain;
+    expect_loop_of(&rt, &[BOOTSTRAP, CALLS], plain, (ANSWERS, "", 0));
+    expect_loop_of(&rt, &[PACKED], Mode::Packed, (ANSWERS, "", 0));
+    expect_loop_of(&rt, &[], plain, ("", "", 0));
     // What was answered is shown after a fault, too.
-    let cut = bytes_of(&rt, alloc, &[BOOTSTRAP, "000000"]);
     let said = "refused at byte 48: F3 Truncated\n";
-    expect_loop(&rt, &cut, Mode::Plain, (FIRST_ANSWER, said, 1));
+    expect_loop_of(&rt, &[BOOTSTRAP, "000000"], plain, (FIRST_ANSWER, said, 1));
 }
 
 #[test]
@@ -97,6 +104,7 @@ fn a_loop_has_a_longest(rt: HostRuntime) {
     expect_loop(&rt, &bytes, Mode::Plain, ("", said, 1));
     bytes.push(0).expect(&rt, "memory");
     expect_loop(&rt, &bytes, Mode::Plain, ("", "too long\n", 2));
+    drop(bytes);
 }
 
 /// The bytes of bootstraps, whose questions are 0 and those that follow.
@@ -104,9 +112,10 @@ fn bootstraps(rt: &impl Abort, alloc: Global, count: u8) -> Vec<u8> {
     let mut bytes = Vec::new(alloc);
     for question in 0..count {
         let mut frame = bytes_of(rt, alloc, &[BOOTSTRAP]);
-        assert!(rt; frame.len() == 48);
+        check!(rt; frame.len() == 48);
         frame[32] = question;
         bytes.extend_from_slice(&frame).expect(rt, "memory");
+        drop(frame);
     }
     bytes
 }
@@ -117,10 +126,12 @@ fn answers_have_a_longest(rt: HostRuntime) {
     let alloc = rt.alloc();
     let bytes = bootstraps(&rt, alloc, 200);
     let (mut out, mut err) = (Vec::new(alloc), Vec::new(alloc));
-    assert!(rt; loop_bytes(&rt, &bytes, Mode::Plain, &mut out, &mut err) == 2);
-    expect_text(&rt, err, "device\n");
+    check!(&rt; loop_bytes(&rt, &bytes, Mode::Plain, &mut out, &mut err) == 2);
+    expect_said(&rt, err, "device\n");
     let lines = String::from_utf8(out).expect(&rt, "UTF-8");
-    assert!(rt; lines.lines().count() == 170);
+    check!(&rt; lines.lines().count() == 170);
+    drop(lines);
+    drop(bytes);
 }
 
 /// A port of 127.0.0.1, and its number.
@@ -138,12 +149,13 @@ where
 fn a_port_may_be_taken(rt: HostRuntime) {
     let (listener, port) = bound(&rt);
     let mut err = Vec::new(rt.alloc());
-    assert!(rt; serve_port(&rt, port, 0, Mode::Plain, &mut err) == 2);
-    assert!(rt; err.starts_with(b"device: 127.0.0.1:"));
+    check!(&rt; serve_port(&rt, port, 0, Mode::Plain, &mut err) == 2);
+    check!(&rt; err.starts_with(b"device: 127.0.0.1:"));
     drop(listener);
     err.clear();
-    assert!(rt; serve_port(&rt, port, 0, Mode::Plain, &mut err) == 0);
-    assert!(rt; err.is_empty());
+    check!(&rt; serve_port(&rt, port, 0, Mode::Plain, &mut err) == 0);
+    check!(&rt; err.is_empty());
+    drop(err);
 }
 
 /// A client that has sent these bytes, and sends no more.
@@ -155,6 +167,7 @@ where
     let mut stream = TcpStream::connect(rt, address).expect(rt, "a connection");
     let bytes = bytes_of(rt, rt.alloc(), texts);
     stream.write_all(&bytes).expect(rt, "a write");
+    drop(bytes);
     stream.shutdown(Shutdown::Write).expect(rt, "an end");
     stream
 }
@@ -165,26 +178,33 @@ fn expect_answers(rt: &impl Abort, alloc: Global, mut stream: TcpStream, wanted:
     let (mut out, mut err) = (Vec::new(alloc), Vec::new(alloc));
     let show = Plan::Show { mode, limits };
     let status = act(alloc, &show, &mut stream, &mut out, &mut err);
-    assert!(rt; status == 0);
-    expect_text(rt, out, wanted);
+    expect_status(rt, status, 0);
+    expect_said(rt, out, wanted);
     drop(err);
+}
+
+/// Three connections are served, of which this peer's is refused.
+fn expect_served(rt: &impl Abort, alloc: Global, listener: &TcpListener, peer: SocketAddr) {
+    let mut err = Vec::new(alloc);
+    let status = serve_connections(alloc, listener, 3, Mode::Plain, &mut err);
+    expect_status(rt, status, 1);
+    let said = format!(in alloc; "refused at byte 48: F3 Truncated (peer {peer})\n");
+    let said = said.expect(rt, "memory");
+    expect_said(rt, err, said.as_str());
+    drop(said);
 }
 
 // Each connection has a Desk and a Cell of its own, also after a fault.
 #[test]
 fn connections_are_served_in_turn(rt: HostRuntime) {
-    let alloc = rt.alloc();
     let (listener, port) = bound(&rt);
     let first = client(&rt, port, &[BOOTSTRAP, CALLS]);
     let cut = client(&rt, port, &[BOOTSTRAP, "000000"]);
     let last = client(&rt, port, &[BOOTSTRAP, CALLS]);
     let peer = cut.local_addr().expect(&rt, "an address");
-    let mut err = Vec::new(alloc);
-    let status = serve_connections(alloc, &listener, 3, Mode::Plain, &mut err);
-    assert!(rt; status == 1);
-    let said = format!(in alloc; "refused at byte 48: F3 Truncated (peer {peer})\n");
-    expect_text(&rt, err, said.expect(&rt, "memory").as_str());
-    expect_answers(&rt, alloc, first, ANSWERS);
-    expect_answers(&rt, alloc, cut, FIRST_ANSWER);
-    expect_answers(&rt, alloc, last, ANSWERS);
+    expect_served(&rt, rt.alloc(), &listener, peer);
+    drop(listener);
+    expect_answers(&rt, rt.alloc(), first, ANSWERS);
+    expect_answers(&rt, rt.alloc(), cut, FIRST_ANSWER);
+    expect_answers(&rt, rt.alloc(), last, ANSWERS);
 }

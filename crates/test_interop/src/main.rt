@@ -1,8 +1,9 @@
 //! Frames of the reference C++ writer and streams that real peers sent, which lie beside this
 //! program: each is read in every way, written again, and compared with the line that the reference
-//! reader confirmed.
+//! reader confirmed. Beside them are files, and what each command does with them.
 #![tactic(auto)]
 
+mod command;
 mod fault;
 mod frame;
 mod row;
@@ -21,25 +22,50 @@ const STREAMS: [(&str, &str); 3] = [
     ("rust.1.c2s", "rust.1.c2s.show"),
 ];
 
-/// Tries each row of the file of frames, and prints what was tried.
-fn rows(rt: &HostRuntime, alloc: Global) -> anyhow::Result<bool> {
-    let text = fs::read_to_string(rt, "frames.txt")?;
-    let (mut frames, mut cuts, mut failed) = (0u64, 0u64, 0u64);
-    for (i, line) in text.as_str().lines().enumerate() {
-        if line.starts_with('#') {
-            continue;
+/// The files of rows: `frames.txt`, and `commands.txt`.
+#[derive(Clone, Copy)]
+enum Rows {
+    Frames,
+    Commands,
+}
+
+impl Rows {
+    fn name(self) -> &'static str {
+        match self {
+            Rows::Frames => "frames.txt",
+            Rows::Commands => "commands.txt",
         }
-        match Row::parse(alloc, line).and_then(|row| row.try_all(alloc)) {
-            Ok(tried) => cuts = cuts.saturating_add(tried),
-            Err(fault) => {
-                println!(rt; "frames.txt line {}: {fault}", i.saturating_add(1))?;
-                failed = failed.saturating_add(1);
-            }
-        }
-        frames = frames.saturating_add(1);
     }
-    println!(rt; "frames {frames}, cuts {cuts}, failed {failed}")?;
-    Ok(failed == 0)
+
+    /// Tries a row, and answers how many trials it took.
+    fn try_line(self, alloc: Global, line: &str) -> Result<u64, Fault> {
+        match self {
+            Rows::Frames => Row::parse(alloc, line).and_then(|row| row.try_all(alloc)),
+            Rows::Commands => command::try_line(alloc, line),
+        }
+    }
+
+    /// Tries each row of the file, and prints what was tried.
+    fn try_all(self, rt: &HostRuntime, alloc: Global) -> anyhow::Result<bool> {
+        let name = self.name();
+        let text = fs::read_to_string(rt, name)?;
+        let (mut rows, mut trials, mut failed) = (0u64, 0u64, 0u64);
+        for (i, line) in text.as_str().lines().enumerate() {
+            if line.starts_with('#') {
+                continue;
+            }
+            match self.try_line(alloc, line) {
+                Ok(tried) => trials = trials.saturating_add(tried),
+                Err(fault) => {
+                    println!(rt; "{name} line {}: {fault}", i.saturating_add(1))?;
+                    failed = failed.saturating_add(1);
+                }
+            }
+            rows = rows.saturating_add(1);
+        }
+        println!(rt; "{name}: rows {rows}, trials {trials}, failed {failed}")?;
+        Ok(failed == 0)
+    }
 }
 
 /// Tries each stream, and prints how many messages it has.
@@ -61,7 +87,9 @@ fn streams(rt: &HostRuntime, alloc: Global) -> anyhow::Result<bool> {
 
 fn main(rt: HostRuntime) -> anyhow::Result<ExitCode> {
     let alloc = rt.alloc();
-    let good = rows(&rt, alloc)? & streams(&rt, alloc)?;
+    let good = Rows::Frames.try_all(&rt, alloc)?
+        & Rows::Commands.try_all(&rt, alloc)?
+        & streams(&rt, alloc)?;
     Ok(if good {
         ExitCode::SUCCESS
     } else {

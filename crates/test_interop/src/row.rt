@@ -14,7 +14,7 @@ pub struct Row {
 }
 
 /// The bytes of hexadecimal digits.
-fn decoded(alloc: Global, digits: &str) -> Result<Vec<u8>, Fault> {
+pub fn decoded(alloc: Global, digits: &str) -> Result<Vec<u8>, Fault> {
     hex::decode(alloc, digits).map_err(|_| Fault::Row)
 }
 

@@ -11,7 +11,7 @@ fn expect_texts<F: Display>(rt: &impl Abort, alloc: Global, rows: &[(F, &str)]) 
     for row in rows {
         let fault = &row.0;
         let text = format!(in alloc; "{fault}").expect(rt, "memory");
-        assert_eq!(rt; text.as_str(), row.1);
+        check!(rt; text.as_str() == row.1);
     }
 }
 
@@ -22,10 +22,7 @@ fn texts(rt: HostRuntime) {
     expect_texts(&rt, rt.alloc(), OF_PEERS);
     let fault = VatFault::InUse;
     let long = format!(in rt.alloc(); "{fault:#}").expect(&rt, "memory");
-    assert_eq!(rt;
-        long.as_str(),
-        "V6 InUse: the question, import or promise is in use"
-    );
+    check!(&rt; long.as_str() == "V6 InUse: the question, import or promise is in use");
 }
 
 const OF_TABLES: &[(TableFault, &str)] = &[

@@ -46,10 +46,10 @@ fn check_imports(rt: &impl Abort, core: &mut Core) {
     import(rt, core, 3, 3);
     import(rt, core, 4, 5);
     import(rt, core, 5, 4);
-    assert!(rt; !core.is_import_used(3));
-    assert!(rt; core.is_import_used(4));
+    check!(rt; !core.is_import_used(3));
+    check!(rt; core.is_import_used(4));
     let idle = core.idle_imports().expect(rt, "memory");
-    assert_eq!(rt; idle.ids(), [3].as_slice());
+    check!(rt; idle.ids() == [3].as_slice());
 }
 
 /// Settles a promise.
@@ -63,14 +63,14 @@ fn settle(rt: &impl Abort, core: &mut Core, id: PromiseId, value: Cap) {
 /// A promise is used while it is open, and while it is exported.
 fn check_promises(rt: &impl Abort, core: &mut Core) {
     let id = core.values.open_promise().expect(rt, "a promise");
-    assert!(rt; core.is_promise_used(id));
+    check!(rt; core.is_promise_used(id));
     settle(rt, core, id, Cap::Object(2));
     let idle = core.idle_promises().expect(rt, "memory");
-    assert_eq!(rt; idle.ids(), [id].as_slice());
+    check!(rt; idle.ids() == [id].as_slice());
     core.exports
         .raise(Hosted::Promise(id))
         .expect(rt, "an export");
-    assert!(rt; core.is_promise_used(id));
+    check!(rt; core.is_promise_used(id));
 }
 
 /// A question is used by calls that wait at it, and by those that name it.
@@ -78,9 +78,9 @@ fn check_questions(rt: &impl Abort, core: &mut Core) {
     let gate = Gate::Question(6, Path::new(Vec::new(core.alloc)));
     let cap = Cap::Pipelined(7, Path::new(Vec::new(core.alloc)));
     hold(rt, core, gate, cap);
-    assert!(rt; core.is_question_used(6));
-    assert!(rt; core.is_question_used(7));
-    assert!(rt; !core.is_question_used(8));
+    check!(rt; core.is_question_used(6));
+    check!(rt; core.is_question_used(7));
+    check!(rt; !core.is_question_used(8));
 }
 
 fn kept(rt: &impl Abort, alloc: Global, outcome: &Outcome) -> KeptOutcome {
@@ -93,8 +93,8 @@ fn check_calls_left(rt: &impl Abort, core: &mut Core) {
     let ended = core.gates.end(Gift::Question(6, canceled));
     ended.expect(rt, "memory");
     drop(core.gates.next().expect(rt, "memory"));
-    assert!(rt; !core.is_question_used(6));
-    assert!(rt; !core.is_question_used(7));
+    check!(rt; !core.is_question_used(6));
+    check!(rt; !core.is_question_used(7));
 }
 
 /// Puts an answer's results, with an import twice in their table.
@@ -114,11 +114,11 @@ fn check_answers(rt: &impl Abort, core: &mut Core) {
     answer(rt, core, 1, 6);
     answer(rt, core, 2, 6);
     core.values.remove_answer(1);
-    assert!(rt; core.is_import_used(6));
+    check!(rt; core.is_import_used(6));
     let canceled = kept(rt, core.alloc, &Outcome::Canceled);
     let put = core.values.put_answer(2, Some(canceled));
     put.expect(rt, "memory");
-    assert!(rt; !core.is_import_used(6));
+    check!(rt; !core.is_import_used(6));
 }
 
 /// A promise is used while another one came to it, and while an embargo leads to it.
@@ -127,14 +127,15 @@ fn check_leads(rt: &impl Abort, core: &mut Core) {
     let other = core.values.open_promise().expect(rt, "a promise");
     settle(rt, core, id, Cap::Object(2));
     settle(rt, core, other, Cap::Promise(id));
-    assert!(rt; core.is_promise_used(id));
+    check!(rt; core.is_promise_used(id));
     core.values.remove_promise(other);
-    assert!(rt; !core.is_promise_used(id));
-    let number = embargo(&mut core.marks, &Cap::Import(4), Cap::Promise(id));
-    let number = number.expect(rt, "an embargo");
-    assert!(rt; core.is_promise_used(id));
+    check!(rt; !core.is_promise_used(id));
+    let import = Cap::Import(4);
+    let number = embargo(&mut core.marks, &import, Cap::Promise(id)).expect(rt, "an embargo");
+    drop(import);
+    check!(rt; core.is_promise_used(id));
     drop(core.marks.end_embargo(number));
-    assert!(rt; !core.is_promise_used(id));
+    check!(rt; !core.is_promise_used(id));
 }
 
 /// One test, since each that holds a core is dear to prove.
@@ -147,4 +148,5 @@ fn what_is_in_use(rt: HostRuntime) {
     check_calls_left(&rt, &mut core);
     check_answers(&rt, &mut core);
     check_leads(&rt, &mut core);
+    drop(core);
 }

@@ -1,6 +1,17 @@
-//! Tests of cp_state.
+//! Tests of cp_refs and cp_state, over their libraries. They are one crate, since what std and these libraries say is read anew for
+//! each.
 #![tactic(auto)]
 
+/// Ends the test unless the condition holds, with the condition's text.
+#[cfg(test)]
+macro_rules! check {
+    ($rt:expr; $($condition:tt)*) => {
+        crate::checks::expect_right($rt, $($condition)*, stringify!($($condition)*))
+    };
+}
+
+#[cfg(test)]
+mod checks;
 #[cfg(test)]
 mod faults;
 #[cfg(test)]
@@ -8,6 +19,10 @@ mod in_use;
 #[cfg(test)]
 mod marks;
 #[cfg(test)]
-mod tests;
+mod parts;
+#[cfg(test)]
+mod routes;
 #[cfg(test)]
 mod values;
+#[cfg(test)]
+mod waiting;

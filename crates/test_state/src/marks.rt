@@ -19,24 +19,32 @@ fn pipelined(rt: &impl Abort, alloc: Global, question: u32, field: u16) -> Cap {
     Cap::Pipelined(question, Path::new(fields))
 }
 
+/// Whether it was a capability of object 9.
+fn was_object(cap: Option<Cap>) -> bool {
+    let was = matches!(&cap, Some(Cap::Object(9)));
+    drop(cap);
+    was
+}
+
 /// A reference is marked until its embargo ends.
-fn check_embargo(rt: &impl Abort, marks: &mut Marks, reference: &Cap) {
-    assert!(rt; marks.mark(reference).is_none());
-    let id = embargo(marks, reference, Cap::Object(9)).expect(rt, "an embargo");
-    assert!(rt; marks.mark(reference) == Some(Some(id)));
-    assert!(rt; matches!(marks.embargo(id), Some(Cap::Object(9))));
-    assert!(rt; marks.embargoes().count() == 1);
-    assert!(rt; matches!(marks.end_embargo(id), Some(Cap::Object(9))));
-    assert!(rt; marks.mark(reference).is_none());
-    assert!(rt; marks.end_embargo(id).is_none());
+fn check_embargo(rt: &impl Abort, marks: &mut Marks, reference: Cap) {
+    check!(rt; marks.mark(&reference).is_none());
+    let id = embargo(marks, &reference, Cap::Object(9)).expect(rt, "an embargo");
+    check!(rt; marks.mark(&reference) == Some(Some(id)));
+    check!(rt; matches!(marks.embargo(id), Some(Cap::Object(9))));
+    check!(rt; marks.embargoes().count() == 1);
+    check!(rt; was_object(marks.end_embargo(id)));
+    check!(rt; marks.mark(&reference).is_none());
+    drop(reference);
+    check!(rt; marks.end_embargo(id).is_none());
 }
 
 #[test]
 fn a_mark_goes_with_its_embargo(rt: HostRuntime) {
     let mut marks = Marks::new(rt.alloc());
-    check_embargo(&rt, &mut marks, &Cap::Import(4));
-    let path = pipelined(&rt, rt.alloc(), 4, 0);
-    check_embargo(&rt, &mut marks, &path);
+    check_embargo(&rt, &mut marks, Cap::Import(4));
+    check_embargo(&rt, &mut marks, pipelined(&rt, rt.alloc(), 4, 0));
+    drop(marks);
 }
 
 /// Marks a path of a question, takes the marks of another one out, and says whether the path is
@@ -51,17 +59,22 @@ fn stays(marks: &mut Marks, path: &Cap, removed: u32) -> Result<bool, Halt> {
 fn the_marks_of_a_question_go(rt: HostRuntime) {
     let mut marks = Marks::new(rt.alloc());
     let path = pipelined(&rt, rt.alloc(), 4, 1);
-    assert!(rt; stays(&mut marks, &path, 5) == Ok(true));
-    assert!(rt; stays(&mut marks, &path, 4) == Ok(false));
+    check!(&rt; stays(&mut marks, &path, 5) == Ok(true));
+    check!(&rt; stays(&mut marks, &path, 4) == Ok(false));
+    drop(path);
+    drop(marks);
 }
 
 #[test]
 fn the_mark_of_an_import_goes(rt: HostRuntime) {
     let mut marks = Marks::new(rt.alloc());
-    marks.put_mark(&Cap::Import(4)).expect(&rt, "memory");
-    assert!(rt; marks.mark(&Cap::Import(4)) == Some(None));
+    let import = Cap::Import(4);
+    marks.put_mark(&import).expect(&rt, "memory");
+    check!(&rt; marks.mark(&import) == Some(None));
     marks.remove_import(4);
-    assert!(rt; marks.mark(&Cap::Import(4)).is_none());
+    check!(&rt; marks.mark(&import).is_none());
+    drop(import);
+    drop(marks);
 }
 
 /// Marks a path that isn't marked.
@@ -80,19 +93,20 @@ fn check_paths(rt: &impl Abort, marks: &mut PathMarks) {
     if marks.get(7, &[1, 2]).is_some() {
         marks.set(7, &[1, 2], 3);
     }
-    assert!(rt; marks.get(7, &[1, 2]) == Some(Some(3)));
+    check!(rt; marks.get(7, &[1, 2]) == Some(Some(3)));
     if marks.get(7, &[]).is_some() {
         marks.remove(7, &[]);
     }
-    assert!(rt; marks.get(7, &[]).is_none());
-    assert!(rt; marks.len() == 2);
+    check!(rt; marks.get(7, &[]).is_none());
+    check!(rt; marks.len() == 2);
     marks.remove_question(7);
-    assert!(rt; marks.get(7, &[1, 2]).is_none());
-    assert!(rt; marks.get(8, &[1, 2]) == Some(None));
+    check!(rt; marks.get(7, &[1, 2]).is_none());
+    check!(rt; marks.get(8, &[1, 2]) == Some(None));
 }
 
 #[test]
 fn paths_are_marked(rt: HostRuntime) {
     let mut marks = PathMarks::new(rt.alloc());
     check_paths(&rt, &mut marks);
+    drop(marks);
 }

@@ -22,12 +22,12 @@ fn settle(rt: &impl Abort, values: &mut NumberedValues, id: PromiseId, object: u
 
 /// The promise is open.
 fn expect_open(rt: &impl Abort, values: &NumberedValues, id: PromiseId) {
-    assert!(rt; matches!(values.values().promise(id), Some(None)));
+    check!(rt; matches!(values.values().promise(id), Some(None)));
 }
 
 /// The promise came to this object.
 fn expect_object(rt: &impl Abort, values: &NumberedValues, id: PromiseId, object: u32) {
-    assert!(rt; matches!(values.values().promise(id), Some(Some(Cap::Object(k))) if *k == object));
+    check!(rt; matches!(values.values().promise(id), Some(Some(Cap::Object(k))) if *k == object));
 }
 
 #[test]
@@ -35,13 +35,14 @@ fn promises_are_numbered(rt: HostRuntime) {
     let mut values = NumberedValues::new(rt.alloc());
     let first = open(&rt, &mut values);
     let second = open(&rt, &mut values);
-    assert!(rt; first != second);
+    check!(&rt; first != second);
     expect_open(&rt, &values, first);
     settle(&rt, &mut values, first, 2);
     expect_object(&rt, &values, first, 2);
     values.remove_promise(first);
-    assert!(rt; values.values().promise(first).is_none());
-    assert!(rt; open(&rt, &mut values) == first);
+    check!(&rt; values.values().promise(first).is_none());
+    check!(&rt; open(&rt, &mut values) == first);
+    drop(values);
 }
 
 /// Puts what an import came to.
@@ -52,12 +53,12 @@ fn put_import(rt: &impl Abort, values: &mut NumberedValues, id: u32, value: Opti
 
 /// The import came to nothing yet.
 fn expect_no_value(rt: &impl Abort, values: &NumberedValues, id: u32) {
-    assert!(rt; matches!(values.values().import(id), Some(None)));
+    check!(rt; matches!(values.values().import(id), Some(None)));
 }
 
 /// The import came to another one.
 fn expect_import(rt: &impl Abort, values: &NumberedValues, id: u32, other: u32) {
-    assert!(rt; matches!(values.values().import(id), Some(Some(Cap::Import(k))) if *k == other));
+    check!(rt; matches!(values.values().import(id), Some(Some(Cap::Import(k))) if *k == other));
 }
 
 /// An import may be open, and come to something.
@@ -67,7 +68,7 @@ fn check_imports(rt: &impl Abort, values: &mut NumberedValues) {
     put_import(rt, values, 5, Some(Cap::Import(6)));
     expect_import(rt, values, 5, 6);
     values.remove_import(5);
-    assert!(rt; values.values().import(5).is_none());
+    check!(rt; values.values().import(5).is_none());
 }
 
 /// Nothing, kept.
@@ -79,9 +80,9 @@ fn canceled(rt: &impl Abort, alloc: Global) -> KeptOutcome {
 fn check_answers(rt: &impl Abort, alloc: Global, values: &mut NumberedValues) {
     let put = values.put_answer(5, Some(canceled(rt, alloc)));
     put.expect(rt, "memory");
-    assert!(rt; matches!(values.values().answer(5), Some(Some(_))));
+    check!(rt; matches!(values.values().answer(5), Some(Some(_))));
     values.remove_answer(5);
-    assert!(rt; values.values().answer(5).is_none());
+    check!(rt; values.values().answer(5).is_none());
 }
 
 #[test]
@@ -89,6 +90,7 @@ fn imports_and_answers_come_to_something(rt: HostRuntime) {
     let mut values = NumberedValues::new(rt.alloc());
     check_imports(&rt, &mut values);
     check_answers(&rt, rt.alloc(), &mut values);
+    drop(values);
 }
 
 /// Settles a question, if it exists.
@@ -100,7 +102,7 @@ fn cancel(rt: &impl Abort, alloc: Global, values: &mut NumberedValues, id: u32) 
 /// The question's messages are on the wire, and it is settled or not.
 fn expect_question(rt: &impl Abort, values: &NumberedValues, id: u32, is_settled: bool) {
     let question = values.values().question(id).expect(rt, "a question");
-    assert!(rt; question.kind == QuestionKind::Wire && question.outcome.is_some() == is_settled);
+    check!(rt; question.kind == QuestionKind::Wire && question.outcome.is_some() == is_settled);
 }
 
 #[test]
@@ -112,23 +114,25 @@ fn questions_come_to_something(rt: HostRuntime) {
     cancel(&rt, rt.alloc(), &mut values, 5);
     expect_question(&rt, &values, 5, true);
     cancel(&rt, rt.alloc(), &mut values, 6);
-    assert!(rt; values.values().question(6).is_none());
+    check!(&rt; values.values().question(6).is_none());
     values.remove_question(5);
-    assert!(rt; values.values().question(5).is_none());
+    check!(&rt; values.values().question(5).is_none());
+    drop(values);
 }
 
 #[test]
 fn own_promises_are_kept(rt: HostRuntime) {
     let mut own = OwnPromises::new(rt.alloc());
     own.insert(3).expect(&rt, "memory");
-    assert!(rt; own.contains(3));
-    assert!(rt; !own.contains(4));
+    check!(&rt; own.contains(3));
+    check!(&rt; !own.contains(4));
     own.remove(3);
-    assert!(rt; !own.contains(3));
+    check!(&rt; !own.contains(3));
+    drop(own);
 }
 
 #[test]
 fn a_full_table_is_a_fault(rt: HostRuntime) {
-    assert!(rt; Halt::from(TableFault::Full) == Halt::Fault(PeerFault::TableFull));
-    assert!(rt; Halt::from(TableFault::OutOfMemory) == Halt::OutOfMemory);
+    check!(&rt; Halt::from(TableFault::Full) == Halt::Fault(PeerFault::TableFull));
+    check!(&rt; Halt::from(TableFault::OutOfMemory) == Halt::OutOfMemory);
 }

@@ -1,0 +1,135 @@
+//! What each fault prints.
+
+use cp_frame::FrameFault;
+use cp_reading::TreeFault;
+use cp_rpc::{Field, SchemaFault};
+use cp_stream::{Refusal, StreamFault};
+use cp_tree::WriteFault;
+use cp_words::{BadCapability, Place};
+use std::alloc::Global;
+use std::fmt::Display;
+use std::process::Abort;
+
+/// Each fault prints its text.
+fn expect_texts<F: Display>(rt: &impl Abort, alloc: Global, rows: &[(F, &str)]) {
+    for row in rows {
+        let fault = &row.0;
+        let text = format!(in alloc; "{fault}").expect(rt, "memory");
+        check!(rt; text.as_str() == row.1);
+    }
+}
+
+#[test]
+fn texts(rt: HostRuntime) {
+    expect_texts(&rt, rt.alloc(), OF_FRAMES);
+    expect_texts(&rt, rt.alloc(), OF_TREES);
+    expect_texts(&rt, rt.alloc(), OF_WRITING);
+    expect_texts(&rt, rt.alloc(), OF_STREAMS);
+    let word = [(
+        BadCapability,
+        "a capability word with one of bits 2 to 31 set",
+    )];
+    expect_texts(&rt, rt.alloc(), &word);
+    let long = format!(in rt.alloc(); "{DEEP:#}").expect(&rt, "memory");
+    let wanted =
+        "refused at byte 8: G8 NestingLimit segment 2 word 30: structs and lists nest deeper than the limit, 64 levels by the standard limits";
+    check!(&rt; long.as_str() == wanted);
+    drop(long);
+}
+
+const AT: Place = Place {
+    segment: 2,
+    word: 30,
+};
+
+const OF_FRAMES: &[(FrameFault, &str)] = &[
+    (FrameFault::TooManySegments, "F1 TooManySegments"),
+    (FrameFault::FrameTooLarge, "F2 FrameTooLarge"),
+    (FrameFault::Truncated, "F3 Truncated"),
+    (FrameFault::RunPastFrame, "F4 RunPastFrame"),
+    (FrameFault::Failed, "F5 Failed"),
+    (FrameFault::OutOfMemory, "F6 OutOfMemory"),
+];
+
+const OF_TREES: &[(TreeFault, &str)] = &[
+    (TreeFault::NoRoot(AT), "G1 NoRoot segment 2 word 30"),
+    (TreeFault::RootKind(AT), "G2 RootKind segment 2 word 30"),
+    (
+        TreeFault::OutOfBounds(AT),
+        "G3 OutOfBounds segment 2 word 30",
+    ),
+    (TreeFault::NoSegment(AT), "G4 NoSegment segment 2 word 30"),
+    (TreeFault::BadPad(AT), "G5 BadPad segment 2 word 30"),
+    (TreeFault::BadTag(AT), "G6 BadTag segment 2 word 30"),
+    (
+        TreeFault::BadCapability(AT),
+        "G7 BadCapability segment 2 word 30",
+    ),
+    (
+        TreeFault::NestingLimit(AT),
+        "G8 NestingLimit segment 2 word 30",
+    ),
+    (
+        TreeFault::TraversalLimit(AT),
+        "G9 TraversalLimit segment 2 word 30",
+    ),
+    (TreeFault::OutOfMemory, "G10 OutOfMemory"),
+];
+
+const OF_WRITING: &[(WriteFault, &str)] = &[
+    (WriteFault::TooDeep, "B1 TooDeep"),
+    (WriteFault::TooCostly, "B2 TooCostly"),
+    (WriteFault::OutOfMemory, "B3 OutOfMemory"),
+    (WriteFault::TooManyWords, "B4 TooManyWords"),
+];
+
+const DEEP: StreamFault = StreamFault::Refused {
+    at: 8,
+    refusal: Refusal::Tree(TreeFault::NestingLimit(AT)),
+};
+
+const OF_STREAMS: &[(StreamFault, &str)] = &[
+    (
+        StreamFault::Refused {
+            at: 24,
+            refusal: Refusal::Schema(SchemaFault::Kind(Field::MessageFinish)),
+        },
+        "refused at byte 24: S1 Kind Message.finish",
+    ),
+    (
+        StreamFault::Refused {
+            at: 0,
+            refusal: Refusal::Schema(SchemaFault::Text(Field::ExceptionReason)),
+        },
+        "refused at byte 0: S2 Text Exception.reason",
+    ),
+    (
+        StreamFault::Refused {
+            at: u64::MAX,
+            refusal: Refusal::Schema(SchemaFault::OutOfMemory),
+        },
+        "refused at byte 18446744073709551615: S3 OutOfMemory",
+    ),
+    (
+        StreamFault::Refused {
+            at: 8,
+            refusal: Refusal::Frame(FrameFault::Truncated),
+        },
+        "refused at byte 8: F3 Truncated",
+    ),
+    (
+        StreamFault::Refused {
+            at: 8,
+            refusal: Refusal::Tree(TreeFault::NoSegment(AT)),
+        },
+        "refused at byte 8: G4 NoSegment segment 2 word 30",
+    ),
+    (
+        StreamFault::Refused {
+            at: 0,
+            refusal: Refusal::Write(WriteFault::TooDeep),
+        },
+        "refused at byte 0: B1 TooDeep",
+    ),
+    (StreamFault::Device, "device failed"),
+];

@@ -1,0 +1,123 @@
+//! Each kind of field, read by its place.
+
+use crate::look::is_text;
+use cp_fields::{DataView, Kind, StructView, WrongKind};
+use cp_words::ElementSize;
+use std::alloc::Global;
+use std::process::Abort;
+
+/// The numbers of the struct, at their edges.
+pub(crate) fn expect_numbers(rt: &impl Abort, root: &StructView) {
+    let bits = [root.bit(0), root.bit_or_true(1), root.bit(2), root.bit(3)];
+    check!(rt; bits == [true, false, true, false]);
+    let signed = [
+        root.i8(1) as i64,
+        root.i16_or(1, 0xfffb) as i64,
+        root.i32(1) as i64,
+        root.i64(1),
+    ];
+    let lowest = [-128, -32768, -2147483648, -9223372036854775808];
+    check!(rt; signed == lowest);
+    let unsigned = [
+        root.u8(16) as u64,
+        root.u16(9) as u64,
+        root.u32_or(5, 7) as u64,
+        root.u64(3),
+    ];
+    let highest = [255, 65535, 4294967295, 18446744073709551615];
+    check!(rt; unsigned == highest);
+    check!(rt; root.f32(8) == f32::NEG_INFINITY);
+    let double = 0x3ff8_0000_0000_0000;
+    check!(rt; root.f64_or(5, double).is_nan());
+    check!(rt; root.u64_or(5, double) == 0x7ff8_0000_0000_0000);
+    check!(rt; root.u16(18) == 2);
+}
+
+/// The texts, the data and the struct of the struct.
+pub(crate) fn expect_pointers(rt: &impl Abort, alloc: Global, root: &StructView) {
+    check!(rt; root.text(0).expect(rt, "a text").len() == 4);
+    check!(rt; is_text(rt, alloc, root.text(0), "text"));
+    check!(rt; is_text(rt, alloc, root.text_or(17, "none"), "x"));
+    expect_data(rt, alloc, root.data(1), &[0, 255]);
+    check!(rt; root.cap(3).expect(rt, "null") == None);
+    expect_small(rt, alloc, &root.structure(2).expect(rt, "a struct"));
+}
+
+/// Data that was read is this.
+pub(crate) fn expect_data(
+    rt: &impl Abort,
+    alloc: Global,
+    found: Result<DataView<'_>, WrongKind>,
+    wanted: &[u8],
+) {
+    let bytes = found.expect(rt, "data").to_vec(alloc).expect(rt, "memory");
+    check!(rt; bytes.as_slice() == wanted);
+    drop(bytes);
+}
+
+/// The struct of the struct.
+fn expect_small(rt: &impl Abort, alloc: Global, small: &StructView) {
+    check!(rt; small.u32(0) == 3);
+    check!(rt; is_text(rt, alloc, small.text(0), "in"));
+}
+
+/// Fields that are read as what they aren't: data whose last byte isn't zero is no text.
+pub(crate) fn expect_wrong_kinds(rt: &impl Abort, root: &StructView) {
+    let bytes = Kind::List(ElementSize::Byte);
+    let halves = Kind::List(ElementSize::TwoBytes);
+    let structs = Kind::List(ElementSize::Composite);
+    expect_wrong(rt, root.text(1).err(), Kind::Text, bytes);
+    expect_wrong(rt, root.data(2).err(), Kind::Data, Kind::Struct);
+    expect_wrong(rt, root.structure(0).err(), Kind::Struct, bytes);
+    expect_wrong(rt, root.cap(14).err(), Kind::Capability, structs);
+    expect_wrong(rt, root.list::<u16>(2).err(), halves, Kind::Struct);
+}
+
+/// A field is of another kind than the one wanted.
+pub(crate) fn expect_wrong(rt: &impl Abort, fault: Option<WrongKind>, wanted: Kind, found: Kind) {
+    check!(rt; fault == Some(WrongKind { wanted, found }));
+}
+
+#[test]
+fn fields_past_the_end_are_as_by_default(rt: HostRuntime) {
+    let root = StructView::empty();
+    expect_default_numbers(&rt, &root);
+    expect_default_pointers(&rt, rt.alloc(), &root);
+    let fault = WrongKind {
+        wanted: Kind::Text,
+        found: Kind::Struct,
+    };
+    let said = format!(in rt.alloc(); "{fault}").expect(&rt, "memory");
+    check!(&rt; said.as_str() == "a struct where a text is wanted");
+    drop(said);
+}
+
+/// The numbers of an empty struct.
+fn expect_default_numbers(rt: &impl Abort, root: &StructView) {
+    let bits = [root.bit(0), root.bit_or_true(4_294_967_295)];
+    check!(rt; bits == [false, true]);
+    let signed = [
+        root.i8_or(0, 0x80) as i64,
+        root.i16_or(1, 0xfffb) as i64,
+        root.i32_or(0, 0xffff_ffff) as i64,
+        root.i64_or(0, 1),
+    ];
+    check!(rt; signed == [-128, -5, -1, 1]);
+    let unsigned = [
+        root.u8_or(4_294_967_295, 3) as u32,
+        root.u16_or(0, 65535) as u32,
+        root.u32_or(5, 7),
+    ];
+    check!(rt; unsigned == [3, 65535, 7]);
+    check!(rt; root.f32_or(0, 0xff80_0000) == f32::NEG_INFINITY);
+    check!(rt; root.f64_or(5, 0x3ff8_0000_0000_0000) == 1.5);
+}
+
+/// The pointers of an empty struct.
+fn expect_default_pointers(rt: &impl Abort, alloc: Global, root: &StructView) {
+    check!(rt; root.pointer(0).is_null());
+    check!(rt; is_text(rt, alloc, root.text_or(17, "none"), "none"));
+    expect_data(rt, alloc, root.data_or(1, b"\x01"), &[1]);
+    check!(rt; root.list::<u32>(7).expect(rt, "a list").is_empty());
+    check!(rt; root.cap(0).expect(rt, "null") == None);
+}

@@ -1,0 +1,446 @@
+//! Messages of streams from outside, whole and in pieces.
+
+use crate::checks::expect_bytes;
+use crate::samples::{FINISH, FINISH_LIST, KEEPING, PACKED, SHORT_ROOT, TWO_SEGMENTS, joined};
+use cp_frame::{FrameFault, FrameReader, Mode};
+use cp_reading::TreeFault;
+use cp_rpc::{Field, Message, SchemaFault};
+use cp_stream::*;
+use cp_tree::WriteFault;
+use cp_words::{Limits, Place};
+use std::alloc::Global;
+use std::io::{Read, Write};
+use std::process::Abort;
+
+/// G3 at the root.
+const OUT_OF_BOUNDS: Refusal = Refusal::Tree(TreeFault::OutOfBounds(Place {
+    segment: 0,
+    word: 0,
+}));
+
+/// S1 of the member `finish`.
+const NO_STRUCT: Refusal = Refusal::Schema(SchemaFault::Kind(Field::MessageFinish));
+
+/// F5.
+const FAILED: Refusal = Refusal::Frame(FrameFault::Failed);
+
+/// Bytes that hold no message, and why.
+const FAULTS: [(&[u8], Refusal); 3] = [
+    (&[0xff; 4], Refusal::Frame(FrameFault::TooManySegments)),
+    (&SHORT_ROOT, OUT_OF_BOUNDS),
+    (&FINISH_LIST, NO_STRUCT),
+];
+
+/// A reader of plain frames within the standard limits.
+fn new_reader(alloc: Global) -> MessageReader {
+    MessageReader::plain(alloc, Limits::standard())
+}
+
+/// Whether a message is a `finish` of question 7, and whether it releases.
+fn finish_of(message: &Message) -> (bool, bool) {
+    match message {
+        Message::Finish(finish) => (finish.question_id == 7, finish.release_result_caps),
+        _ => (false, false),
+    }
+}
+
+/// Feeds a piece, and appends of each message that comes whether it is a `finish` of question 7, and
+/// releases.
+fn feed(rt: &impl Abort, reader: &mut MessageReader, piece: &[u8], found: &mut Vec<(bool, bool)>) {
+    let messages = reader.feed(piece).expect(rt, "messages");
+    for message in &messages {
+        found.push(finish_of(message)).expect(rt, "memory");
+    }
+    drop(messages);
+}
+
+/// A piece brings this many messages.
+fn expect_count(rt: &impl Abort, reader: &mut MessageReader, piece: &[u8], count: usize) {
+    let messages = reader.feed(piece).expect(rt, "messages");
+    check!(rt; messages.len() == count);
+    drop(messages);
+}
+
+/// The fault that is reported for a piece.
+fn reported(reader: &mut MessageReader, piece: &[u8]) -> Option<StreamFault> {
+    reader.feed(piece).err()
+}
+
+/// This fault, or none, is reported for a piece.
+fn expect_fed(
+    rt: &impl Abort,
+    reader: &mut MessageReader,
+    piece: &[u8],
+    fault: Option<StreamFault>,
+) {
+    check!(rt; reported(reader, piece) == fault);
+}
+
+/// This fault, or none, is reported at the end.
+pub(crate) fn expect_end(rt: &impl Abort, reader: &mut MessageReader, fault: Option<StreamFault>) {
+    check!(rt; reader.finish().err() == fault);
+}
+
+/// A refusal after this many bytes.
+pub(crate) fn at(at: u64, refusal: Refusal) -> StreamFault {
+    StreamFault::Refused { at, refusal }
+}
+
+/// The two messages come, of which this many come with the front.
+fn expect_both(rt: &impl Abort, alloc: Global, (front, back): (&[u8], &[u8]), early: usize) {
+    let mut reader = new_reader(alloc);
+    let mut found = Vec::new(alloc);
+    feed(rt, &mut reader, front, &mut found);
+    check!(rt; found.len() == early);
+    feed(rt, &mut reader, back, &mut found);
+    expect_end(rt, &mut reader, None);
+    drop(reader);
+    expect_found(rt, &found, &[(true, true), (true, false)]);
+    drop(found);
+}
+
+/// These were found.
+fn expect_found(rt: &impl Abort, found: &[(bool, bool)], wanted: &[(bool, bool)]) {
+    check!(rt; found == wanted);
+}
+
+#[test]
+fn messages_come_however_they_are_cut(rt: HostRuntime) {
+    let stream = joined(&rt, rt.alloc(), &[&FINISH, &KEEPING]);
+    for cut in 0..stream.len() + 1 {
+        expect_both(&rt, rt.alloc(), stream.split_at(cut), cut / 40);
+    }
+    drop(stream);
+}
+
+#[test]
+fn a_message_may_lie_in_two_segments(rt: HostRuntime) {
+    let mut reader = new_reader(rt.alloc());
+    let mut found = Vec::new(rt.alloc());
+    feed(&rt, &mut reader, &TWO_SEGMENTS, &mut found);
+    expect_end(&rt, &mut reader, None);
+    drop(reader);
+    expect_found(&rt, &found, &[(true, true)]);
+    drop(found);
+}
+
+/// A message comes with the stream, and the fault after it with the next piece.
+fn expect_kept(rt: &impl Abort, alloc: Global, stream: &[u8], refusal: Refusal) {
+    let mut reader = new_reader(alloc);
+    expect_count(rt, &mut reader, stream, 1);
+    expect_fed(rt, &mut reader, &[], Some(at(40, refusal)));
+    expect_fed(rt, &mut reader, &FINISH, Some(at(40, FAILED)));
+    drop(reader);
+}
+
+/// A message comes with the stream, and the fault after it at the end.
+fn expect_kept_to_the_end(rt: &impl Abort, alloc: Global, stream: &[u8], refusal: Refusal) {
+    let mut reader = new_reader(alloc);
+    expect_count(rt, &mut reader, stream, 1);
+    expect_end(rt, &mut reader, Some(at(40, refusal)));
+    expect_end(rt, &mut reader, Some(at(40, FAILED)));
+    drop(reader);
+}
+
+/// The fault is reported at once where no message comes.
+fn expect_reported(rt: &impl Abort, alloc: Global, bytes: &[u8], refusal: Refusal) {
+    let mut reader = new_reader(alloc);
+    expect_fed(rt, &mut reader, bytes, Some(at(0, refusal)));
+    expect_fed(rt, &mut reader, &[], Some(at(0, FAILED)));
+    drop(reader);
+}
+
+#[test]
+fn a_fault_after_a_message_is_kept(rt: HostRuntime) {
+    let alloc = rt.alloc();
+    for (bytes, refusal) in FAULTS {
+        let stream = joined(&rt, alloc, &[&FINISH, bytes]);
+        expect_kept(&rt, alloc, &stream, refusal);
+        expect_kept_to_the_end(&rt, alloc, &stream, refusal);
+        drop(stream);
+        expect_reported(&rt, alloc, bytes, refusal);
+    }
+}
+
+/// A stream that ends inside a message, after other bytes, is truncated there.
+fn expect_truncated(rt: &impl Abort, alloc: Global, before: &[u8], front: &[u8]) {
+    let mut reader = new_reader(alloc);
+    expect_fed(rt, &mut reader, before, None);
+    expect_fed(rt, &mut reader, front, None);
+    let after = before.len() as u64;
+    let truncated = at(after, Refusal::Frame(FrameFault::Truncated));
+    expect_end(rt, &mut reader, Some(truncated));
+    expect_end(rt, &mut reader, Some(at(after, FAILED)));
+    drop(reader);
+}
+
+#[test]
+fn a_stream_ends_after_a_message(rt: HostRuntime) {
+    for length in 1..40 {
+        expect_truncated(&rt, rt.alloc(), &[], &FINISH[..length]);
+        expect_truncated(&rt, rt.alloc(), &FINISH, &KEEPING[..length]);
+    }
+}
+
+/// Whether memory ran out.
+pub(crate) fn is_memory(fault: StreamFault) -> bool {
+    matches!(
+        fault,
+        StreamFault::Refused {
+            refusal: Refusal::Frame(FrameFault::OutOfMemory)
+                | Refusal::Schema(SchemaFault::OutOfMemory)
+                | Refusal::Write(WriteFault::OutOfMemory),
+            ..
+        }
+    )
+}
+
+/// A reader that met an allocation failure has failed after the same bytes.
+pub(crate) fn expect_failed(rt: &impl Abort, reader: &mut MessageReader, fault: StreamFault) {
+    check!(rt; is_memory(fault));
+    let StreamFault::Refused { at: after, .. } = fault else {
+        return;
+    };
+    expect_fed(rt, reader, &FINISH, Some(at(after, FAILED)));
+    expect_end(rt, reader, Some(at(after, FAILED)));
+}
+
+// With ample memory no allocation fails. `rt try --test --fail-alloc N` fails the Nth.
+#[test]
+fn allocation_failure_is_reported_and_then_failed(rt: HostRuntime) {
+    let mut reader = new_reader(rt.alloc());
+    for piece in [&FINISH[..], &TWO_SEGMENTS[..13], &TWO_SEGMENTS[13..]] {
+        if let Some(fault) = reported(&mut reader, piece) {
+            return expect_failed(&rt, &mut reader, fault);
+        }
+    }
+    expect_end(&rt, &mut reader, None);
+    drop(reader);
+}
+
+/// The bytes are one frame, of which a view and a check end in this way.
+fn expect_viewed(rt: &impl Abort, alloc: Global, bytes: &[u8], fault: Option<StreamFault>) {
+    let mut reader = FrameReader::plain(alloc, Limits::standard());
+    let frames = reader.feed(bytes).expect(rt, "frames");
+    drop(reader);
+    check!(rt; frames.len() == 1);
+    check!(rt; view_of(&frames[0].1, Limits::standard()).err() == fault);
+    check!(rt; check_of(&frames[0].1, Limits::standard()).err() == fault);
+    drop(frames);
+}
+
+#[test]
+fn a_view_is_of_one_frame(rt: HostRuntime) {
+    expect_viewed(&rt, rt.alloc(), &TWO_SEGMENTS, None);
+    let fault = Some(at(0, OUT_OF_BOUNDS));
+    expect_viewed(&rt, rt.alloc(), &SHORT_ROOT, fault)
+}
+
+/// A device that fails once, at one of its calls, and takes or gives one byte at each other.
+#[derive(Drop)]
+struct Failing {
+    call: u64,
+    fails_at: u64,
+}
+
+impl Failing {
+    /// Whether this call goes well.
+    fn goes_well(&mut self) -> bool {
+        self.call = self.call.wrapping_add(1);
+        self.call != self.fails_at
+    }
+}
+
+impl Read for Failing {
+    fn read(&mut self, buf: &mut [u8]) -> std::io::Result<usize> {
+        if self.goes_well() {
+            return Ok(buf.len().min(1));
+        }
+        Err(std::io::ErrorKind::Interrupted.into())
+    }
+}
+
+impl Write for Failing {
+    fn write(&mut self, buf: &[u8]) -> std::io::Result<usize> {
+        if self.goes_well() {
+            return Ok(buf.len().min(1));
+        }
+        Err(std::io::ErrorKind::Interrupted.into())
+    }
+
+    fn flush(&mut self) -> std::io::Result<()> {
+        if self.goes_well() {
+            return Ok(());
+        }
+        Err(std::io::ErrorKind::Interrupted.into())
+    }
+}
+
+/// This many calls failed, and this many bytes went through.
+fn expect_counts(rt: &impl Abort, tap: &Tap<Failing>, failures: u64, bytes: u64) {
+    check!(rt; tap.failures() == failures);
+    check!(rt; tap.bytes() == bytes);
+}
+
+/// Writes bytes, of which this many are taken, if any.
+fn expect_taken(rt: &impl Abort, tap: &mut Tap<Failing>, bytes: &[u8], taken: Option<usize>) {
+    check!(rt; tap.write(bytes).ok() == taken);
+}
+
+#[test]
+fn a_tap_counts(rt: HostRuntime) {
+    let mut tap = Tap::new(Failing {
+        call: 0,
+        fails_at: 2,
+    });
+    let mut buffer = [0; 4];
+    check!(&rt; tap.read(&mut buffer).ok() == Some(1));
+    expect_counts(&rt, &tap, 0, 1);
+    expect_taken(&rt, &mut tap, &buffer, None);
+    expect_counts(&rt, &tap, 1, 1);
+    expect_taken(&rt, &mut tap, &buffer, Some(1));
+    expect_counts(&rt, &tap, 1, 2);
+    expect_taken(&rt, &mut tap, &[], Some(0));
+    expect_counts(&rt, &tap, 2, 2);
+    check!(&rt; tap.flush().is_ok());
+    check!(&rt; tap.failures() == 2);
+    check!(&rt; tap.into_inner().call == 5);
+}
+
+#[test]
+fn packed_messages_come_byte_by_byte(rt: HostRuntime) {
+    let mut reader = MessageReader::packed(rt.alloc(), Limits::standard());
+    for i in 0..22 {
+        expect_count(&rt, &mut reader, &[PACKED[i % 11]], (i % 11) / 10);
+    }
+    expect_end(&rt, &mut reader, None);
+    let past = at(22, Refusal::Frame(FrameFault::RunPastFrame));
+    expect_fed(&rt, &mut reader, &[0, 3], Some(past));
+    drop(reader);
+}
+
+/// A device of known bytes that fails once, at one of its calls.
+#[derive(Drop)]
+pub(crate) struct Source<'a> {
+    bytes: &'a [u8],
+    pub(crate) call: u64,
+    fails_at: u64,
+}
+
+impl<'a> Read for Source<'a> {
+    fn read(&mut self, buf: &mut [u8]) -> std::io::Result<usize> {
+        self.call = self.call.wrapping_add(1);
+        if self.call == self.fails_at {
+            return Err(std::io::ErrorKind::Interrupted.into());
+        }
+        self.bytes.read(buf)
+    }
+}
+
+/// A tap of a device that fails at that call.
+pub(crate) fn tap_of(bytes: &[u8], fails_at: u64) -> Tap<Source<'_>> {
+    Tap::new(Source {
+        bytes,
+        call: 0,
+        fails_at,
+    })
+}
+
+/// Reads a message, and says whether there is one.
+pub(crate) fn read(alloc: Global, from: &mut Tap<Source>, mode: Mode) -> Result<bool, StreamFault> {
+    let found = read_message(alloc, from, mode, Limits::standard())?;
+    let is_there = found.is_some();
+    drop(found);
+    Ok(is_there)
+}
+
+/// A message is read, or there is none, or this fault is reported.
+pub(crate) fn expect_read(
+    rt: &impl Abort,
+    alloc: Global,
+    (from, mode): (&mut Tap<Source>, Mode),
+    reported: Result<bool, StreamFault>,
+) {
+    check!(rt; read(alloc, from, mode) == reported);
+}
+
+/// Of a frame that comes twice exactly one is read, then the other, and then none.
+fn expect_two(rt: &impl Abort, alloc: Global, mode: Mode, frame: &[u8]) {
+    let stream = joined(rt, alloc, &[frame, frame]);
+    let mut from = tap_of(&stream, 0);
+    expect_read(rt, alloc, (&mut from, mode), Ok(true));
+    let rest = from.into_inner().bytes;
+    expect_bytes(rt, rest, frame);
+    let mut from = tap_of(rest, 0);
+    expect_read(rt, alloc, (&mut from, mode), Ok(true));
+    expect_read(rt, alloc, (&mut from, mode), Ok(false));
+    drop(from);
+    drop(stream);
+}
+
+/// A device that ends with this front of a frame is refused after the front's bytes.
+fn expect_refused_after(rt: &impl Abort, alloc: Global, mode: Mode, front: &[u8]) {
+    let mut from = tap_of(front, 0);
+    let truncated = at(0, Refusal::Frame(FrameFault::Truncated));
+    expect_read(rt, alloc, (&mut from, mode), Err(truncated));
+    check!(rt; Tap::bytes(&from) == front.len() as u64);
+    drop(from);
+}
+
+/// A device that ends inside a frame is refused after the frame's bytes that it had.
+pub(crate) fn expect_cut_short(rt: &impl Abort, alloc: Global, mode: Mode, frame: &[u8]) {
+    for length in 1..frame.len() {
+        expect_refused_after(rt, alloc, mode, &frame[..length]);
+    }
+}
+
+#[test]
+fn exactly_one_frame_is_read(rt: HostRuntime) {
+    let alloc = rt.alloc();
+    for (mode, frame) in [
+        (Mode::Plain, FINISH.as_slice()),
+        (Mode::Packed, PACKED.as_slice()),
+        (Mode::Plain, TWO_SEGMENTS.as_slice()),
+    ] {
+        expect_two(&rt, alloc, mode, frame);
+        expect_cut_short(&rt, alloc, mode, frame);
+    }
+}
+
+/// A frame's message is read from a device that fails at that call, or the failure is reported.
+fn expect_read_or_device(rt: &impl Abort, alloc: Global, mode: Mode, frame: &[u8], call: u64) {
+    let mut from = tap_of(frame, call);
+    let found = read(alloc, &mut from, mode);
+    let failures = from.failures();
+    drop(from);
+    if failures == 0 {
+        check!(rt; found == Ok(true));
+    } else {
+        check!(rt; found == Err(StreamFault::Device));
+        check!(rt; failures == 1);
+    }
+}
+
+#[test]
+fn a_device_may_fail_at_each_call(rt: HostRuntime) {
+    for call in 1..100 {
+        expect_read_or_device(&rt, rt.alloc(), Mode::Plain, &FINISH, call);
+        expect_read_or_device(&rt, rt.alloc(), Mode::Packed, &PACKED, call);
+    }
+}
+
+/// What is read of these bytes is refused.
+fn expect_refused(rt: &impl Abort, alloc: Global, bytes: &[u8], refusal: Refusal) {
+    let stream = joined(rt, alloc, &[bytes, &[0; 8]]);
+    let mut from = tap_of(&stream, 0);
+    expect_read(rt, alloc, (&mut from, Mode::Plain), Err(at(0, refusal)));
+    check!(rt; from.into_inner().bytes.len() >= 4);
+    drop(stream);
+}
+
+#[test]
+fn what_is_read_is_refused_at_0(rt: HostRuntime) {
+    for (bytes, refusal) in FAULTS {
+        expect_refused(&rt, rt.alloc(), bytes, refusal);
+    }
+}

@@ -1,0 +1,420 @@
+//! Trees, written and read back.
+
+ghost use Rattle.std.specs.Prelude.{◌≡◌, ◌∷◌, [], map, IfOk};
+ghost use Rattle.cp_tree.specs.Node.{cap, struct, node, no_nodes, ptrs, structs, body, no_bodies};
+ghost use Rattle.cp_tree.specs.NodeOf.{node_of, nodes_of};
+ghost use Rattle.cp_tree.specs.DraftOf.{draft_of, draft_body_of};
+ghost use Rattle.cp_tree.specs.Shaped.{Shaped};
+
+use crate::checks::expect_right_of;
+use crate::trees::{are_words, body, finish, leaf, object_of, segments};
+use cp_reading::*;
+use cp_tree::*;
+use cp_words::{Limits, Segments};
+use cp_writing::*;
+use std::alloc::{AllocError, Global};
+use std::process::Abort;
+
+fn object(rt: &impl Abort, tree: Tree) -> Object {
+    Object::new(tree).ok().expect(rt, "an object")
+}
+
+/// Whether the segments are these, each by its words.
+fn are(lists: &[Vec<u64>], wanted: &[&str]) -> bool {
+    for (list, text) in lists.iter().zip(wanted) {
+        if !are_words(list, text) {
+            return false;
+        }
+    }
+    lists.len() == wanted.len()
+}
+
+/// Whether the second tree is written in one segment, as `write_root` writes the first.
+fn is_written_in_one(rt: &impl Abort, alloc: Global, first: &Object, second: &Object) -> bool {
+    let limits = Limits::standard();
+    let words = write_root(alloc, first, limits).expect(rt, "words");
+    let one = write_segments(alloc, second, 8_388_608, limits).expect(rt, "segments");
+    let is_one = one.lists().len() == 1 && one.lists()[0] == words;
+    drop(one);
+    drop(words);
+    is_one
+}
+
+/// Whether these segments are read as the tree, and written back in one segment, as `write_root`
+/// writes it.
+fn are_read_back(rt: &impl Abort, alloc: Global, segments: &Segments, object: &Object) -> bool {
+    let back = read_root(alloc, segments, Limits::standard()).expect(rt, "a tree");
+    let is_read = *back.tree() == *object.tree();
+    let is_written = is_written_in_one(rt, alloc, object, &back);
+    drop(back);
+    is_read && is_written
+}
+
+/// Whether the tree is written so, with at most this many words in a segment, and its segments are
+/// read back.
+fn writes(rt: &impl Abort, alloc: Global, tree: Tree, max_words: u32, wanted: &[&str]) -> bool {
+    let object = object(rt, tree);
+    let limits = Limits::standard();
+    let segments = write_segments(alloc, &object, max_words, limits).expect(rt, "segments");
+    let are_wanted = are(segments.lists(), wanted);
+    let are_read = are_read_back(rt, alloc, &segments, &object);
+    drop(segments);
+    drop(object);
+    are_wanted && are_read
+}
+
+#[test]
+fn bytes_are_written_as_their_words(rt: HostRuntime) {
+    let alloc = rt.alloc();
+    let bytes = Tree::Bytes(Vec::from_slice(alloc, &[0xab]).expect(&rt, "memory"));
+    let tree = Tree::Struct(body(&rt, alloc, &[], [bytes]));
+    let words = ["0000000000000100 010000000a000000 ab00000000000000"];
+    check!(&rt; writes(&rt, alloc, tree, 8_388_608, &words));
+}
+
+#[test]
+fn segments_of_three_words_and_of_four(rt: HostRuntime) {
+    let alloc = rt.alloc();
+    let by_three = [
+        "0000000001000100 0400000000000000 0200000001000000",
+        "0000000001000000 0700000000000000",
+    ];
+    check!(&rt; writes(&rt, alloc, finish(&rt, alloc), 3, &by_three));
+    let by_four = ["0000000001000100 0400000000000000 0000000001000000 0700000000000000"];
+    check!(&rt; writes(&rt, alloc, finish(&rt, alloc), 4, &by_four));
+    let by_none = [
+        "0200000001000000",
+        "0000000001000100 0400000000000000 0200000002000000",
+        "0000000001000000 0700000000000000",
+    ];
+    check!(&rt; writes(&rt, alloc, finish(&rt, alloc), 0, &by_none));
+}
+
+#[test]
+fn bodies_follow_pads_in_the_last_segment(rt: HostRuntime) {
+    let alloc = rt.alloc();
+    let ptrs = [leaf(&rt, alloc, 1), leaf(&rt, alloc, 2)];
+    let tree = Tree::Struct(body(&rt, alloc, &[9], ptrs));
+    let words = [
+        "0000000001000200 0900000000000000 0200000001000000 1200000001000000",
+        "0000000001000000 0100000000000000 0000000001000000 0200000000000000",
+    ];
+    check!(&rt; writes(&rt, alloc, tree, 4, &words));
+}
+
+/// A composite list of two structs of one data word and two pointers.
+fn structs(rt: &impl Abort, alloc: Global) -> Tree {
+    let first = body(rt, alloc, &[1], [Tree::Cap(9), leaf(rt, alloc, 11)]);
+    let second = body(rt, alloc, &[2], [leaf(rt, alloc, 12), Tree::Null]);
+    Tree::Structs {
+        words: 1,
+        ptrs: 2,
+        items: Vec::from_array(alloc, [first, second]).expect(rt, "memory"),
+    }
+}
+
+/// A struct with each kind of tree.
+fn all_kinds(rt: &impl Abort, alloc: Global) -> Tree {
+    let list = [leaf(rt, alloc, 13), Tree::Null];
+    let ptrs = [
+        Tree::Null,
+        Tree::Cap(3),
+        Tree::Struct(body(rt, alloc, &[], [])),
+        Tree::Voids(5),
+        Tree::Bits(Vec::from_slice(alloc, &[true, false, true]).expect(rt, "memory")),
+        Tree::Bytes(Vec::from_slice(alloc, b"nine byte").expect(rt, "memory")),
+        Tree::Halves(Vec::from_slice(alloc, &[1, 2, 3, 4, 5]).expect(rt, "memory")),
+        Tree::Quads(Vec::from_slice(alloc, &[6, 7, 8]).expect(rt, "memory")),
+        Tree::Words(Vec::from_slice(alloc, &[10]).expect(rt, "memory")),
+        Tree::Ptrs(Vec::from_array(alloc, list).expect(rt, "memory")),
+        structs(rt, alloc),
+    ];
+    Tree::Struct(body(rt, alloc, &[4], ptrs))
+}
+
+/// The words of that struct.
+const ALL_KINDS: &str =
+    "0000000001000b00 0400000000000000 0000000000000000 0300000003000000 fcffffff00000000 \
+    1d00000028000000 1900000019000000 190000004a000000 1d0000002b000000 210000001c000000 \
+    250000000d000000 2500000016000000 2d00000037000000 0500000000000000 6e696e6520627974 \
+    6500000000000000 0100020003000400 0500000000000000 0600000007000000 0800000000000000 \
+    0a00000000000000 0400000001000000 0000000000000000 0d00000000000000 0800000001000200 \
+    0100000000000000 0300000009000000 0c00000001000000 0200000000000000 0800000001000000 \
+    0000000000000000 0b00000000000000 0c00000000000000";
+
+#[test]
+fn each_kind_is_written(rt: HostRuntime) {
+    let tree = all_kinds(&rt, rt.alloc());
+    check!(&rt; writes(&rt, rt.alloc(), tree, 8_388_608, &[ALL_KINDS]));
+}
+
+/// An object with each kind of tree. An allocation that fails once is tried again.
+fn object_of_all_kinds(rt: &impl Abort, alloc: Global) -> Object {
+    let segments = segments(rt, alloc, &[ALL_KINDS]);
+    let object = object_of(rt, alloc, &segments);
+    drop(segments);
+    object
+}
+
+/// A list of two pointers: a lent tree, and a capability of its own.
+fn drafted_list<'a>(alloc: Global, lent: &'a Tree) -> Result<Draft<'a>, AllocError>
+    ensures { IfOk result (λ d. draft_of d ≡ ptrs (node (node_of lent.now) (node (cap 2) no_nodes))) }
+{
+    Ok(Draft::Ptrs(vec![in alloc; Draft::Lent(lent), Draft::Own(Tree::Cap(2))]?))
+}
+
+/// A struct of one data word and one pointer.
+fn drafted_body<'a>(alloc: Global, word: u64, part: Draft<'a>) -> Result<DraftBody<'a>, AllocError>
+    ensures { IfOk result (λ b. draft_body_of b ≡ (word ∷ [], node (draft_of part.entry) no_nodes)) }
+{
+    Ok(DraftBody {
+        words: Vec::from_slice(alloc, &[word])?,
+        ptrs: vec![in alloc; part]?,
+    })
+}
+
+/// A composite list of two such structs.
+fn drafted_structs<'a>(alloc: Global, lent: &'a Tree) -> Result<Draft<'a>, AllocError>
+    ensures { IfOk result (λ d. draft_of d ≡ structs 1 1 (body (5 ∷ []) (node (node_of lent.now) no_nodes) (body (6 ∷ []) (node (cap 1) no_nodes) no_bodies))) }
+{
+    let items = vec![in alloc;
+        drafted_body(alloc, 5, Draft::Lent(lent))?,
+        drafted_body(alloc, 6, Draft::Own(Tree::Cap(1)))?,
+    ]?;
+    Ok(Draft::Structs {
+        words: 1,
+        ptrs: 1,
+        items,
+    })
+}
+
+/// A struct of these data words and pointers.
+fn drafted_struct<'a>(words: Vec<u64>, ptrs: Vec<Draft<'a>>) -> Draft<'a>
+    ensures { draft_of result ≡ struct words.items (nodes_of (map draft_of ptrs.entry.items)) }
+{
+    Draft::Struct(DraftBody { words, ptrs })
+}
+
+/// A struct of one data word and of both lists.
+fn drafted<'a>(alloc: Global, lent: &'a Tree) -> Result<Draft<'a>, AllocError>
+    ensures { IfOk result (λ d. draft_of d ≡ struct (9 ∷ []) (node (ptrs (node (node_of lent.now) (node (cap 2) no_nodes))) (node (structs 1 1 (body (5 ∷ []) (node (node_of lent.now) no_nodes) (body (6 ∷ []) (node (cap 1) no_nodes) no_bodies))) no_nodes))) }
+{
+    let ptrs = vec![in alloc; drafted_list(alloc, lent)?, drafted_structs(alloc, lent)?]?;
+    Ok(drafted_struct(Vec::from_slice(alloc, &[9])?, ptrs))
+}
+
+/// Whether the draft is written as this copy of it is, and read as it.
+fn writes_as_its_copy(
+    rt: &impl Abort,
+    alloc: Global,
+    draft: &Draft,
+    copy: &Object,
+    max_words: u32,
+) -> bool
+    requires { Shaped (draft_of draft.now) }
+{
+    let limits = Limits::standard();
+    let written = write_draft(alloc, draft, max_words, limits).expect(rt, "segments");
+    let wanted = write_segments(alloc, copy, max_words, limits).expect(rt, "segments");
+    let are_wanted = written.lists() == wanted.lists();
+    drop(wanted);
+    let back = read_root(alloc, &written, limits).expect(rt, "a tree");
+    drop(written);
+    let is_copy = *back.tree() == *copy.tree();
+    drop(back);
+    are_wanted && is_copy
+}
+
+/// The same in segments of one word, of seven, and in one segment.
+fn writes_as_its_copies(rt: &impl Abort, alloc: Global, draft: &Draft, copy: &Object) -> bool
+    requires { Shaped (draft_of draft.now) }
+{
+    writes_as_its_copy(rt, alloc, draft, copy, 0)
+        && writes_as_its_copy(rt, alloc, draft, copy, 7)
+        && writes_as_its_copy(rt, alloc, draft, copy, 8_388_608)
+}
+
+/// The draft's copy, which is a struct.
+fn copy_of(rt: &impl Abort, alloc: Global, draft: &Draft) -> Object
+    requires { Shaped (draft_of draft.now) }
+{
+    let copy = draft.copy(alloc).expect(rt, "memory");
+    copy.into_object().ok().expect(rt, "a struct")
+}
+
+#[test]
+fn a_tree_with_lent_parts_is_written_as_its_copy(rt: HostRuntime) {
+    let alloc = rt.alloc();
+    let lent = object_of_all_kinds(&rt, alloc);
+    let draft = drafted(alloc, lent.tree()).expect(&rt, "memory");
+    let copy = copy_of(&rt, alloc, &draft);
+    check!(&rt; writes_as_its_copies(&rt, alloc, &draft, &copy));
+    drop(copy);
+    drop(draft);
+    drop(lent);
+}
+
+/// Why the tree isn't written in segments of one word within these limits, if it isn't.
+fn limited(
+    rt: &impl Abort,
+    alloc: Global,
+    object: &Object,
+    (nesting, traversal, frame_words): (u32, u32, u32),
+) -> Option<WriteFault> {
+    let limits = Limits::new(nesting, traversal, 512, frame_words).expect(rt, "limits");
+    write_segments(alloc, object, 1, limits).err()
+}
+
+#[test]
+fn depth_is_reported_before_cost_and_cost_before_words(rt: HostRuntime) {
+    let object = object(&rt, finish(&rt, rt.alloc()));
+    // Two levels, a cost of 5, and 6 words in segments of one word.
+    for (limits, wanted) in [
+        ((1, 4, 5), Some(WriteFault::TooDeep)),
+        ((2, 4, 5), Some(WriteFault::TooCostly)),
+        ((2, 5, 5), Some(WriteFault::TooManyWords)),
+        ((2, 5, 6), None),
+    ] {
+        check!(&rt; limited(&rt, rt.alloc(), &object, limits) == wanted);
+    }
+    drop(object);
+}
+
+/// Why the tree isn't written in one segment within this cost, if it isn't.
+fn fault_within(
+    rt: &impl Abort,
+    alloc: Global,
+    object: &Object,
+    traversal: u32,
+) -> Option<WriteFault> {
+    let limits = Limits::new(64, traversal, 512, 8_388_608).expect(rt, "limits");
+    write_root(alloc, object, limits).err()
+}
+
+#[test]
+fn cost_has_a_limit(rt: HostRuntime) {
+    let object = object(&rt, finish(&rt, rt.alloc()));
+    check!(&rt; fault_within(&rt, rt.alloc(), &object, 5).is_none());
+    check!(&rt; fault_within(&rt, rt.alloc(), &object, 4) == Some(WriteFault::TooCostly));
+    drop(object);
+}
+
+/// Whether both are the same segments, or memory ran out for one.
+fn are_same(first: &Result<Segments, WriteFault>, second: &Result<Segments, WriteFault>) -> bool {
+    match (first, second) {
+        (Ok(first), Ok(second)) => first.lists() == second.lists(),
+        (Err(fault), Ok(_)) | (Ok(_), Err(fault)) => *fault == WriteFault::OutOfMemory,
+        (Err(_), Err(_)) => false,
+    }
+}
+
+/// Whether the tree is written twice as the same, or once that memory ran out.
+fn writes_segments_again(alloc: Global, object: &Object, max_words: u32) -> bool {
+    let first = write_segments(alloc, object, max_words, Limits::standard());
+    let second = write_segments(alloc, object, max_words, Limits::standard());
+    let are_same = are_same(&first, &second);
+    drop(first);
+    drop(second);
+    are_same
+}
+
+// With ample memory no allocation fails. `rt try --test --fail-alloc N` fails the Nth of each
+// of the three tests below.
+#[test]
+fn allocation_failure_while_segments_are_written(rt: HostRuntime) {
+    let object = object_of_all_kinds(&rt, rt.alloc());
+    for max_words in [0, 4, 8_388_608] {
+        expect_right_of(
+            &rt,
+            writes_segments_again(rt.alloc(), &object, max_words),
+            max_words as u64,
+        );
+    }
+    drop(object);
+}
+
+/// Whether both are the same words, or memory ran out for one.
+fn are_same_words(
+    first: &Result<Vec<u64>, WriteFault>,
+    second: &Result<Vec<u64>, WriteFault>,
+) -> bool {
+    match (first, second) {
+        (Ok(first), Ok(second)) => first == second,
+        (Err(fault), Ok(_)) | (Ok(_), Err(fault)) => *fault == WriteFault::OutOfMemory,
+        (Err(_), Err(_)) => false,
+    }
+}
+
+/// The same of one segment.
+fn writes_words_again(alloc: Global, object: &Object) -> bool {
+    let first = write_root(alloc, object, Limits::standard());
+    let second = write_root(alloc, object, Limits::standard());
+    let are_same = are_same_words(&first, &second);
+    drop(first);
+    drop(second);
+    are_same
+}
+
+#[test]
+fn allocation_failure_while_one_segment_is_written(rt: HostRuntime) {
+    let object = object_of_all_kinds(&rt, rt.alloc());
+    check!(&rt; writes_words_again(rt.alloc(), &object));
+    drop(object);
+}
+
+/// A struct of more words than a segment's first capacity. An allocation that fails once is tried again.
+fn object_of_many_words(rt: &impl Abort, alloc: Global) -> Object {
+    let words = match Vec::from_slice(alloc, &[7; 300]) {
+        Ok(words) => words,
+        Err(_) => Vec::from_slice(alloc, &[7; 300]).expect(rt, "memory"),
+    };
+    let ptrs = Vec::new(alloc);
+    object(rt, Tree::Struct(Body { words, ptrs }))
+}
+
+#[test]
+fn allocation_failure_while_a_segment_grows(rt: HostRuntime) {
+    let object = object_of_many_words(&rt, rt.alloc());
+    check!(&rt; writes_words_again(rt.alloc(), &object));
+    drop(object);
+}
+
+/// Whether the draft is copied twice as the same, or once that memory ran out.
+fn copies_again(alloc: Global, draft: &Draft) -> bool
+    requires { Shaped (draft_of draft.now) }
+{
+    let first = draft.copy(alloc);
+    let second = draft.copy(alloc);
+    let is_same = match (&first, &second) {
+        (Ok(first), Ok(second)) => first.tree() == second.tree(),
+        (first, second) => first.is_ok() || second.is_ok(),
+    };
+    drop(first);
+    drop(second);
+    is_same
+}
+
+/// Whether the draft is written twice as the same, or once that memory ran out.
+fn writes_again(alloc: Global, draft: &Draft) -> bool
+    requires { Shaped (draft_of draft.now) }
+{
+    let limits = Limits::standard();
+    let first = write_draft(alloc, draft, 7, limits);
+    let second = write_draft(alloc, draft, 7, limits);
+    let are_same = are_same(&first, &second);
+    drop(first);
+    drop(second);
+    are_same
+}
+
+#[test]
+fn allocation_failure_while_a_draft_is_written(rt: HostRuntime) {
+    let alloc = rt.alloc();
+    let lent = object_of_all_kinds(&rt, alloc);
+    if let Ok(draft) = drafted(alloc, lent.tree()) {
+        check!(&rt; copies_again(alloc, &draft));
+        check!(&rt; writes_again(alloc, &draft));
+        drop(draft);
+    }
+    drop(lent);
+}
