@@ -1,0 +1,159 @@
+//! The types of a request with the names that they get.
+
+use crate::names::{is_ambiguous, is_taken};
+use crate::out::{Arg, Out};
+use cp_types::{Node, NodeKind, Schema};
+use std::alloc::Global;
+
+/// The deepest that types may lie within one another.
+const DEEPEST: u32 = 64;
+
+/// A type or a constant, by the names that it gets.
+#[derive(Drop)]
+pub struct Named {
+    pub id: u64,
+    /// Its name as a type.
+    pub name: Out,
+    /// Its name in definitions.
+    pub word: Out,
+    /// The module that it is in: that of the struct which a group is in.
+    pub module: Out,
+    /// The name of its file's crate.
+    pub krate: Out,
+    /// Whether it is a struct, an enum or a constant, which alone are written.
+    pub is_written: bool,
+}
+
+/// All types and constants of a request.
+#[derive(Drop)]
+pub struct Book<'s> {
+    pub alloc: Global,
+    pub schema: &'s Schema,
+    pub names: Vec<Named>,
+}
+
+impl<'s> Book<'s> {
+    /// The types and constants of a request. Those of the file of this number are in this crate, if one is named.
+    pub fn of(
+        alloc: Global,
+        schema: &'s Schema,
+        path: &str,
+        krate: &str,
+    ) -> anyhow::Result<Book<'s>> {
+        let mut names = Vec::new(alloc);
+        for node in &schema.nodes {
+            let krate = if node.path() == path { krate } else { "" };
+            names.push(names_of(alloc, schema, node, krate))?;
+        }
+        Ok(Book {
+            alloc,
+            schema,
+            names,
+        })
+    }
+
+    /// The names of the node of this number.
+    pub fn find(&self, id: u64) -> Option<&Named> {
+        for named in &self.names {
+            if named.id == id {
+                return Some(named);
+            }
+        }
+        None
+    }
+
+    /// The comment of a node, and that of a member of it.
+    pub fn about(&self, id: u64) -> &str {
+        for comments in &self.schema.comments {
+            if comments.id == id {
+                return comments.about.as_str();
+            }
+        }
+        ""
+    }
+
+    /// The comment of a member of a node.
+    pub fn about_member(&self, id: u64, i: usize) -> &str {
+        for comments in &self.schema.comments {
+            if comments.id == id {
+                return match comments.members.get(i) {
+                    Some(about) => about.as_str(),
+                    None => "",
+                };
+            }
+        }
+        ""
+    }
+}
+
+/// A node's names.
+fn names_of<'s>(alloc: Global, schema: &'s Schema, node: &'s Node, krate: &str) -> Named {
+    let name = type_name(alloc, node);
+    let word = Out::of(alloc, "$0", &[Arg::Snake(name.as_str())]);
+    let is_written = matches!(
+        node.kind,
+        NodeKind::Struct(_) | NodeKind::Enum(_) | NodeKind::Const(_)
+    );
+    Named {
+        id: node.id,
+        name,
+        word,
+        module: module_of(alloc, schema, node),
+        krate: crate_name(alloc, node.path(), krate),
+        is_written,
+    }
+}
+
+/// A type's name in upper camel case, which is none of those that generated code has from elsewhere. Those of structs
+/// and groups get an ending.
+fn type_name(alloc: Global, node: &Node) -> Out {
+    let mut name = Out::of(alloc, "$0", &[Arg::Camel(node.name())]);
+    let is_enum = matches!(node.kind, NodeKind::Enum(_));
+    if is_ambiguous(name.as_str()) || is_enum && is_taken(name.as_str()) {
+        name.push('_');
+    }
+    name
+}
+
+/// The module that a node is in: that of the struct which a group is in.
+fn module_of<'s>(alloc: Global, schema: &'s Schema, node: &'s Node) -> Out {
+    if matches!(node.kind, NodeKind::Const(_)) {
+        return Out::of(alloc, "constants", &[]);
+    }
+    let name = Out::of(alloc, "$0", &[Arg::Camel(owner_of(schema, node).name())]);
+    Out::of(alloc, "$0", &[Arg::Method(name.as_str())])
+}
+
+/// The struct that a group is in; another node is its own.
+fn owner_of<'s>(schema: &'s Schema, node: &'s Node) -> &'s Node {
+    let mut owner = node;
+    for _ in 0..DEEPEST {
+        match &owner.kind {
+            NodeKind::Struct(structure) if structure.is_group => {}
+            _ => return owner,
+        }
+        match schema.find(owner.scope) {
+            Some(outer) => owner = outer,
+            None => return owner,
+        }
+    }
+    owner
+}
+
+/// The name of a file's crate: this one, or else the file's own, without its folders and what follows its first dot.
+pub fn crate_name(alloc: Global, path: &str, krate: &str) -> Out {
+    let mut name = Out::new(alloc);
+    if !krate.is_empty() {
+        name.put(krate);
+        return name;
+    }
+    let file = path.rsplit('/').next().unwrap_or(path);
+    for c in file.split('.').next().unwrap_or(file).chars() {
+        name.push(if c.is_ascii_alphanumeric() {
+            c.to_ascii_lowercase()
+        } else {
+            '_'
+        });
+    }
+    name
+}

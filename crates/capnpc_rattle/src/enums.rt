@@ -1,0 +1,210 @@
+//! The code and the definitions of enums, and of the numbers of unions.
+
+use crate::book::{Book, Named};
+use crate::comments::about;
+use crate::out::{Arg, Out};
+use crate::sheet::Sheet;
+use cp_types::Node;
+
+/// An enum, or the members of a union.
+#[derive(Clone, Copy)]
+pub struct Values<'v> {
+    /// Its name as a type.
+    pub name: &'v str,
+    /// Its name in definitions.
+    pub word: &'v str,
+    /// The names of its values in the schema, in the order of their numbers.
+    pub items: &'v [&'v str],
+    /// The node that has comments on them.
+    pub about: u64,
+}
+
+const TYPE: &str = "\
+#[derive(Clone, Copy, PartialEq, Eq$3)]
+pub enum $0 {
+";
+
+const LAST: &str = "    /// A number that a newer schema has.
+    Unknown(Past<$2>),
+}
+";
+
+const OF: &str = "
+impl $0 {
+    /// The value of this number.
+    pub fn of(number: u16) -> $0
+        ensures { result ≡ $1_of number }
+    {
+        match number {
+";
+
+const OTHERS: &str = "            _ => match Past::new(number) {
+                Some(number) => $0::Unknown(number),
+                None => unreachable!(),
+            },
+        }
+    }
+";
+
+const NUMBER: &str = "
+    /// Its number.
+    pub fn number(self) -> u16
+        ensures { result ≡ $1_number self }
+    {
+        match self {
+";
+
+const NUMBERS: &str = "            $0::Unknown(number) => number.number(),
+        }
+    }
+";
+
+const VALUE_OF: &str = "
+-- the value of a number
+abbrev pub $1_of : ℕ → $0
+$1_of n =
+";
+
+const NUMBER_OF: &str = "
+abbrev pub $1_number : $0 → ℕ
+";
+
+const ITEM: &str = "
+impl<'a> Item<'a> for $0 {
+    ghost SIZE = { sizes.TwoBytes };
+
+    ghost read = { λ t. $1_of (plain t 16 0) };
+
+    fn size() -> cp_words::ElementSize {
+        cp_words::ElementSize::TwoBytes
+    }
+
+    fn of_item(item: StructView<'a>) -> $0 {
+        $0::of(item.u16(0))
+    }
+}
+";
+
+/// Writes an enum, and how it is read of a list.
+pub fn enum_code<'n>(
+    book: &Book<'_>,
+    sheet: &mut Sheet<'_>,
+    node: &'n Node,
+    named: &'n Named,
+    items: &'n [String],
+) {
+    if items.is_empty() {
+        sheet.refuse(node.name(), "", "an enum without values can't be written");
+    }
+    let mut names = Vec::new(sheet.alloc);
+    for item in items {
+        if names.push(item.as_str()).is_err() {
+            sheet.code.is_full = true;
+        }
+    }
+    let values = Values {
+        name: named.name.as_str(),
+        word: named.word.as_str(),
+        items: names.as_slice(),
+        about: node.id,
+    };
+    sheet.between();
+    let text = book.about(node.id);
+    about(
+        &mut sheet.code,
+        "",
+        text,
+        "`enum $0`.",
+        &[Arg::Text(node.name())],
+    );
+    enumeration(book, sheet, &values);
+    let args = [Arg::Text(values.name), Arg::Text(values.word)];
+    sheet.code.fill(ITEM, &args);
+}
+
+/// Writes an enum's code and its definitions.
+pub fn enumeration(book: &Book<'_>, sheet: &mut Sheet<'_>, values: &Values<'_>) {
+    let args = [
+        Arg::Text(values.name),
+        Arg::Text(values.word),
+        Arg::Number(values.items.len().saturating_sub(1) as u64),
+        Arg::Text(if values.about == 0 { "" } else { ", Debug" }),
+    ];
+    type_of(book, sheet, values, &args);
+    functions(sheet, values, &args);
+    sheet.declare(values.name, values.word);
+    sheet.export("$0", values.name);
+    sheet.cite_own("$0_of", values.word);
+    definitions(&mut sheet.specs, values, &args);
+    if values.about != 0 {
+        sheet.cite_own("$0_number", values.word);
+        numbers(sheet, values, &args);
+    }
+    sheet.code.put("}\n");
+}
+
+/// Writes the type.
+fn type_of(book: &Book<'_>, sheet: &mut Sheet<'_>, values: &Values<'_>, args: &[Arg<'_>]) {
+    let code = &mut sheet.code;
+    code.fill(TYPE, args);
+    for (i, item) in values.items.iter().enumerate() {
+        let text = book.about_member(values.about, i);
+        if !text.is_empty() {
+            about(code, "    ", text, "", &[]);
+        }
+        code.fill("    $0,\n", &[Arg::Variant(item)]);
+    }
+    code.fill(LAST, args);
+}
+
+/// Writes the function from numbers to values.
+fn functions(sheet: &mut Sheet<'_>, values: &Values<'_>, args: &[Arg<'_>]) {
+    let code = &mut sheet.code;
+    code.fill(OF, args);
+    for (i, item) in values.items.iter().enumerate() {
+        let args = [
+            Arg::Number(i as u64),
+            Arg::Text(values.name),
+            Arg::Variant(item),
+        ];
+        code.fill("            $0 => $1::$2,\n", &args);
+    }
+    code.fill(OTHERS, args);
+}
+
+/// Writes the function from values to numbers, and its definition.
+fn numbers(sheet: &mut Sheet<'_>, values: &Values<'_>, args: &[Arg<'_>]) {
+    sheet.code.fill(NUMBER, args);
+    sheet.specs.fill(NUMBER_OF, args);
+    for (i, item) in values.items.iter().enumerate() {
+        let args = [
+            Arg::Number(i as u64),
+            Arg::Text(values.name),
+            Arg::Variant(item),
+            Arg::Text(values.word),
+        ];
+        sheet.code.fill("            $1::$2 => $0,\n", &args);
+        sheet.specs.fill("$3_number $3s.$2 = $0\n", &args);
+    }
+    sheet.code.fill(NUMBERS, args);
+    sheet.specs.fill("$1_number ($1s.Unknown n) = n\n", args);
+}
+
+/// Writes the definition of a number's value.
+fn definitions(specs: &mut Out, values: &Values<'_>, args: &[Arg<'_>]) {
+    specs.fill(VALUE_OF, args);
+    for (i, item) in values.items.iter().enumerate() {
+        let args = [
+            Arg::Text(if i == 0 { "" } else { "(" }),
+            Arg::Number(i as u64),
+            Arg::Text(values.word),
+            Arg::Variant(item),
+        ];
+        specs.fill("    $0if n == $1 then $2s.$3 else\n", &args);
+    }
+    specs.fill("    $1s.Unknown n", args);
+    for _ in 1..values.items.len() {
+        specs.push(')');
+    }
+    specs.push('\n');
+}

@@ -1,0 +1,210 @@
+//! The plugin of `capnp compile` that writes Rattle: it reads a CodeGeneratorRequest from standard input, and
+//! writes a crate of views for each requested file into the current folder.
+//!
+//!     capnp compile -oFOLDER/capnpc_rattle:OUT X.capnp
+//!     capnp compile -o- X.capnp | capnpc_rattle [--crate=NAME] [--print]
+//!
+//! With `--crate=NAME` the crate has this name, and not the file's; with `--print` its files go to standard output.
+#![tactic(auto)]
+
+mod book;
+mod comments;
+mod constants;
+mod enums;
+mod getters;
+mod names;
+mod out;
+mod pages;
+mod sheet;
+mod structs;
+mod unions;
+mod uses;
+
+use anyhow::{anyhow, bail};
+use book::{Book, crate_name};
+use cp_types::{Node, Schema};
+use out::{Arg, Out};
+use pages::{line_of, name_twice, root_text, sheets, specs_root};
+use sheet::Sheet;
+use std::io::Read;
+use std::{env, fs};
+
+/// What the plugin is asked to do with what it makes.
+#[derive(Drop)]
+struct Task {
+    /// The crate's name; empty where it is the file's.
+    krate: String,
+    /// Whether the files are printed, and not written.
+    prints: bool,
+}
+
+impl Task {
+    /// What the arguments say.
+    fn new(rt: &HostRuntime) -> anyhow::Result<Task> {
+        let mut task = Task {
+            krate: String::new(rt.alloc()),
+            prints: false,
+        };
+        for word in env::args(rt)?.skip(1) {
+            let word = word.as_str();
+            if let Some(name) = word.strip_prefix("--crate=") {
+                task.krate.push_str(name)?;
+            } else if word == "--print" {
+                task.prints = true;
+            } else {
+                bail!("{word}: neither --crate=NAME nor --print");
+            }
+        }
+        Ok(task)
+    }
+
+    /// Writes or prints a file of a crate. Its path is a template of the crate's name and that of the module.
+    fn put(&self, rt: &HostRuntime, (krate, path): (&str, &str), text: &Out) -> anyhow::Result<()> {
+        if text.is_full {
+            bail!("memory ran out");
+        }
+        if self.prints {
+            print!(rt; "==> {krate}/{path}\n{}", text.as_str())?;
+        } else {
+            let path = format!(in rt.alloc(); "{krate}/{path}")?;
+            fs::write(rt, path.as_str(), text.as_str())?;
+        }
+        Ok(())
+    }
+
+    /// Writes or prints the code of a module.
+    fn put_code(&self, rt: &HostRuntime, of: &File<'_>, sheet: &Sheet<'_>) -> anyhow::Result<()> {
+        let path = Out::of(rt.alloc(), "src/$0.rt", &[Arg::Text(sheet.module)]);
+        self.put(rt, (of.krate, path.as_str()), &sheet.module_text(of.schema))
+    }
+
+    /// Writes or prints the definitions of a module, if it has some.
+    fn put_specs(&self, rt: &HostRuntime, of: &File<'_>, sheet: &Sheet<'_>) -> anyhow::Result<()> {
+        if sheet.specs.is_empty() {
+            return Ok(());
+        }
+        let path = Out::of(rt.alloc(), "specs/$0.antt", &[Arg::Module(sheet.module)]);
+        self.put(rt, (of.krate, path.as_str()), &sheet.specs_text(of.schema))
+    }
+
+    /// Makes a folder of the crate, unless its files are printed.
+    fn make_folder(&self, rt: &HostRuntime, krate: &str, name: &str) -> anyhow::Result<()> {
+        if self.prints {
+            return Ok(());
+        }
+        let path = format!(in rt.alloc(); "{krate}/{name}")?;
+        Ok(fs::create_dir_all(rt, path.as_str())?)
+    }
+
+    /// Writes or prints the files of the modules.
+    fn put_modules(
+        &self,
+        rt: &HostRuntime,
+        of: &File<'_>,
+        sheets: &[Sheet<'_>],
+    ) -> anyhow::Result<()> {
+        self.make_folder(rt, of.krate, "src")?;
+        self.make_folder(rt, of.krate, "specs")?;
+        for sheet in sheets {
+            self.put_code(rt, of, sheet)?;
+            self.put_specs(rt, of, sheet)?;
+        }
+        Ok(())
+    }
+
+    /// Writes or prints the roots of the crate, and prints its line where they are written.
+    fn put_roots(
+        &self,
+        rt: &HostRuntime,
+        of: &File<'_>,
+        book: &Book<'_>,
+        sheets: &[Sheet<'_>],
+    ) -> anyhow::Result<()> {
+        self.put(
+            rt,
+            (of.krate, "src/lib.rt"),
+            &root_text(book, sheets, of.schema),
+        )?;
+        self.put(rt, (of.krate, "specs/Lib.antt"), &specs_root(book, sheets))?;
+        if !self.prints {
+            print!(rt; "{}", line_of(book, sheets, of.krate).as_str())?;
+        }
+        Ok(())
+    }
+}
+
+/// What a crate is made of.
+#[derive(Clone, Copy)]
+struct File<'f> {
+    /// The crate's name.
+    krate: &'f str,
+    /// The name of its schema's file.
+    schema: &'f str,
+}
+
+/// Makes the crate of a file.
+fn make_crate(rt: &HostRuntime, task: &Task, schema: &Schema, file: &Node) -> anyhow::Result<()> {
+    let name = crate_name(rt.alloc(), file.path(), task.krate.as_str());
+    let book = Book::of(rt.alloc(), schema, file.path(), name.as_str())?;
+    put_crate(rt, task, &book, file.path(), name.as_str())
+}
+
+/// Writes or prints the crate of the file of this path.
+fn put_crate<'n>(
+    rt: &HostRuntime,
+    task: &Task,
+    book: &Book<'_>,
+    path: &'n str,
+    krate: &'n str,
+) -> anyhow::Result<()> {
+    let sheets = sheets(book, krate)?;
+    let schema = path.rsplit('/').next().unwrap_or(path);
+    put_sheets(rt, task, book, &File { krate, schema }, sheets.as_slice())
+}
+
+/// Writes or prints a crate of these modules.
+fn put_sheets(
+    rt: &HostRuntime,
+    task: &Task,
+    book: &Book<'_>,
+    of: &File<'_>,
+    sheets: &[Sheet<'_>],
+) -> anyhow::Result<()> {
+    check(sheets)?;
+    task.put_modules(rt, of, sheets)?;
+    task.put_roots(rt, of, book, sheets)
+}
+
+/// Refuses what can't be written.
+fn check(sheets: &[Sheet<'_>]) -> anyhow::Result<()> {
+    for sheet in sheets {
+        if !sheet.fault.is_empty() {
+            bail!("{}", sheet.fault.as_str());
+        }
+        if sheet.is_full() {
+            bail!("memory ran out");
+        }
+    }
+    match name_twice(sheets) {
+        Some(name) => Err(anyhow!("two types are called {name}")),
+        None => Ok(()),
+    }
+}
+
+/// Makes the crates of a request.
+fn answer(rt: &HostRuntime, task: &Task, schema: &Schema) -> anyhow::Result<()> {
+    for file in &schema.files {
+        match schema.find(file.id) {
+            Some(node) => make_crate(rt, task, schema, node)?,
+            None => bail!("the request has no file {}", file.id),
+        }
+    }
+    Ok(())
+}
+
+fn main(rt: HostRuntime) -> anyhow::Result<()> {
+    let task = Task::new(&rt)?;
+    let mut bytes = Vec::new(rt.alloc());
+    rt.stdin().read_to_end(&mut bytes)?;
+    answer(&rt, &task, &Schema::read(rt.alloc(), &bytes)?)
+}

@@ -1,0 +1,49 @@
+//! Names that generated code can't have.
+
+/// Types that generated code or definitions have from elsewhere.
+const TYPES: &str = "\
+    Bool Box DataView Drop Err Item List None Ok Option Past Pointee Reads Result Self \
+    Some String StructView TextView Tree Type Unit Vec WrongKind";
+
+/// Words of Rattle.
+const OF_RATTLE: &str = "\
+    abstract as async await become bool box break const continue crate do drop dyn else \
+    enum extern false final fn for gen if impl in let loop macro match mod move mut \
+    override priv pub ref return self static struct super trait true try type typeof \
+    union unsafe unsized use virtual where while yield";
+
+/// Words of clauses or proofs.
+const OF_PROOFS: &str = "\
+    abbrev assumption axiom coe com data deriving elim ensures entry exit fcoe ghost \
+    ground hcom infix infixl infixr module mutual new now old open package record \
+    requires result ruleset tcoe unfold unfoldable unfolding";
+
+/// Methods that each view has, and files of each crate, and libraries.
+const OF_CRATES: &str = "\
+    body clone member of of_item size which \
+    constants contracts core declared lib main specs std";
+
+/// Whether one of the words, with spaces between, is this.
+fn has_word(words: &str, name: &str) -> bool {
+    for word in words.split(' ') {
+        if word == name {
+            return true;
+        }
+    }
+    false
+}
+
+/// Whether a method's or a module's name is a word of Rattle or antt, or one that each view or crate has.
+pub fn is_reserved(name: &str) -> bool {
+    has_word(OF_RATTLE, name) || has_word(OF_PROOFS, name) || has_word(OF_CRATES, name)
+}
+
+/// Whether the name of a struct or a group is one that it can't begin with.
+pub fn is_ambiguous(name: &str) -> bool {
+    name == "Data" || name == "Struct" || name == "Text"
+}
+
+/// Whether an enum's name is one that generated code or definitions have from elsewhere.
+pub fn is_taken(name: &str) -> bool {
+    has_word(TYPES, name)
+}

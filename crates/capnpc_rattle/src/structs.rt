@@ -1,0 +1,279 @@
+//! The views of structs and groups.
+
+use crate::book::{Book, Named};
+use crate::comments::about;
+use crate::getters::{Getter, node_in, read_of};
+use crate::out::{Arg, Out};
+use crate::sheet::Sheet;
+use crate::unions::{union_code, union_method};
+use cp_types::{Base, Field, FieldKind, Node, Slot, Structure};
+
+const VIEW: &str = "\
+#[derive(Drop)]
+pub struct $0View<'a> {
+    /// The struct, by the places of its fields.
+    pub body: StructView<'a>,
+}
+";
+
+const ITEM: &str = "
+impl<'a> Item<'a> for $0View<'a> {
+    ghost SIZE = { sizes.Composite };
+
+    ghost read = { λ t. record { body = t } };
+
+    fn size() -> cp_words::ElementSize
+        ensures { result ≡ sizes.Composite }
+    {
+        cp_words::ElementSize::Composite
+    }
+
+    fn of_item(item: StructView<'a>) -> $0View<'a> {
+        $0View { body: item }
+    }
+}
+";
+
+const CONSTRUCTOR: &str =
+    "    /// The struct that a pointer stands for; null is the struct whose fields are all as by default.
+    pub fn of(at: Pointee<'a>) -> Result<$0View<'a>, WrongKind>
+        ensures { Reads result (λ x. x.body) (struct_field at.entry) }
+    {
+        Ok($0View {
+            body: StructView::of(at)?,
+        })
+    }
+";
+
+const WHICH: &str = "    /// Which member of the union is set.
+    pub fn which(&self) -> $0Which
+        ensures { result ≡ $1_which_of (plain self.now.body 16 $2) }
+    {
+        $0Which::of(self.body.u16($2))
+    }
+";
+
+const GROUP: &str = "
+        ensures { result.body ≡ self.now.body }
+    {
+        $0View {
+            body: self.body.again(),
+        }
+    }
+";
+
+/// Writes the view of a struct or of a group.
+pub fn structure<'b>(
+    book: &'b Book<'_>,
+    sheet: &mut Sheet<'b>,
+    node: &'b Node,
+    named: &'b Named,
+    of: &'b Structure,
+) {
+    declaration(book, sheet, node, named, of.is_group);
+    if has_methods(of) {
+        let name = named.name.as_str();
+        sheet
+            .code
+            .fill("\nimpl<'a> $0View<'a> {", &[Arg::Text(name)]);
+        methods(book, sheet, node, named, of);
+        sheet.code.put("}\n");
+    }
+    if of.tags > 0 {
+        union_code(book, sheet, node, named, of);
+    }
+}
+
+/// Writes the type of a view, and for a struct how it is read of a list.
+fn declaration<'n>(
+    book: &Book<'_>,
+    sheet: &mut Sheet<'_>,
+    node: &'n Node,
+    named: &'n Named,
+    is_group: bool,
+) {
+    let args = [
+        Arg::Text(named.name.as_str()),
+        Arg::Text(if is_group { "group" } else { "struct" }),
+        Arg::Text(node.name()),
+    ];
+    sheet.between();
+    let text = book.about(node.id);
+    about(&mut sheet.code, "", text, "`$1 $2`.", &args);
+    sheet.code.fill(VIEW, &args);
+    sheet.export("$0View", named.name.as_str());
+    if !is_group {
+        sheet.code.fill(ITEM, &args);
+    }
+}
+
+/// Whether a view has methods.
+fn has_methods(of: &Structure) -> bool {
+    if !of.is_group || of.tags > 0 {
+        return true;
+    }
+    for field in &of.fields {
+        if !is_void(&field.kind) {
+            return true;
+        }
+    }
+    false
+}
+
+/// Whether a field has no bits.
+pub fn is_void(kind: &FieldKind) -> bool {
+    match kind {
+        FieldKind::Slot(slot) => slot.of.lists == 0 && matches!(slot.of.of, Base::Void),
+        FieldKind::Group(_) | FieldKind::Unknown => false,
+    }
+}
+
+/// Writes the methods of a view.
+fn methods<'b>(
+    book: &'b Book<'_>,
+    sheet: &mut Sheet<'b>,
+    node: &'b Node,
+    named: &'b Named,
+    of: &'b Structure,
+) {
+    let args = [
+        Arg::Text(named.name.as_str()),
+        Arg::Text(named.word.as_str()),
+        Arg::Number(of.tag_place as u64),
+    ];
+    if !of.is_group {
+        sheet.method(CONSTRUCTOR, &args);
+    }
+    if of.tags > 0 {
+        sheet.method(WHICH, &args);
+    }
+    for (i, field) in of.fields.iter().enumerate() {
+        match &field.kind {
+            FieldKind::Group(id) => group_method(book, sheet, node, field, (i, *id)),
+            FieldKind::Slot(slot) => slot_method(book, sheet, node, field, (i, slot)),
+            FieldKind::Unknown => {
+                sheet.refuse(
+                    node.name(),
+                    field.name.as_str(),
+                    "it is no slot and no group",
+                )
+            }
+        }
+    }
+    if of.tags > 0 {
+        union_method(book, sheet, named, of);
+    }
+}
+
+/// Writes the signature of a method that takes the view alone.
+fn head<'n>(sheet: &mut Sheet<'_>, name: &'n str, of: &'n str) {
+    let args = [Arg::Method(name), Arg::Text(of)];
+    signature(
+        sheet,
+        "    pub fn $0(&self) -> $1",
+        "    pub fn $0(\n        &self,\n    ) -> $1",
+        &args,
+    );
+}
+
+/// Writes a signature, in its long form where the short one is too wide.
+pub fn signature(sheet: &mut Sheet<'_>, short: &str, long: &str, args: &[Arg<'_>]) {
+    if sheet.code.fits(short, args) {
+        sheet.code.fill(short, args);
+    } else {
+        sheet.code.fill(long, args);
+    }
+}
+
+/// Writes the method that reads a group.
+fn group_method(
+    book: &Book<'_>,
+    sheet: &mut Sheet<'_>,
+    node: &Node,
+    field: &Field,
+    (i, id): (usize, u64),
+) {
+    let name = field.name.as_str();
+    let Some(group) = book.find(id) else {
+        sheet.refuse(node.name(), name, "the request has no node of its type");
+        return;
+    };
+    sheet.begin_method();
+    let text = book.about_member(node.id, i);
+    about(
+        &mut sheet.code,
+        "    ",
+        text,
+        "Group `$0`.",
+        &[Arg::Text(name)],
+    );
+    let args = [Arg::Text(group.name.as_str())];
+    let view = Out::of(sheet.alloc, "$0View<'a>", &args);
+    head(sheet, name, view.as_str());
+    sheet.code.fill(GROUP, &args);
+}
+
+/// Writes the method that reads a field that isn't a group. One without bits has none.
+fn slot_method<'b>(
+    book: &'b Book<'_>,
+    sheet: &mut Sheet<'b>,
+    node: &Node,
+    field: &Field,
+    (i, slot): (usize, &Slot),
+) {
+    if is_void(&field.kind) {
+        return;
+    }
+    let name = field.name.as_str();
+    match read_of(book, slot) {
+        Ok(getter) => {
+            sheet.begin_method();
+            let args = [Arg::Text(name), Arg::Number(field.ordinal as u64)];
+            let text = book.about_member(node.id, i);
+            about(&mut sheet.code, "    ", text, "`$0 @$1`.", &args);
+            getter_method(sheet, name, &getter);
+            cite_type(book, sheet, slot);
+        }
+        Err(why) => sheet.refuse(node.name(), name, why),
+    }
+}
+
+/// Writes a method that reads a field, but its comment.
+fn getter_method<'b>(sheet: &mut Sheet<'b>, name: &str, getter: &Getter<'b>) {
+    let args = getter.args("self.now.body");
+    let mut of = Out::new(sheet.alloc);
+    of.put(if getter.fails { "Result<" } else { "" });
+    of.fill(getter.of, &args);
+    of.put(if getter.fails { ", WrongKind>" } else { "" });
+    head(sheet, name, of.as_str());
+    let code = &mut sheet.code;
+    code.put("\n        ensures { ");
+    code.put(if getter.is_struct {
+        "Reads result (λ x. x.body) ("
+    } else {
+        "result ≡ "
+    });
+    code.fill(getter.value, &args);
+    code.put(if getter.is_struct { ") }" } else { " }" });
+    code.put("\n    {\n        ");
+    code.fill(getter.code, &args);
+    code.put("\n    }\n");
+}
+
+/// Imports the type that a field names.
+fn cite_type(book: &Book<'_>, sheet: &mut Sheet<'_>, slot: &Slot) {
+    let Some(id) = node_in(slot.of.of) else {
+        return;
+    };
+    let Some(named) = book.find(id) else {
+        return;
+    };
+    if matches!(slot.of.of, Base::Struct(_)) {
+        sheet.cite(named, "View");
+        return;
+    }
+    sheet.cite(named, "");
+    if slot.of.lists == 0 {
+        sheet.cite_values(named);
+    }
+}

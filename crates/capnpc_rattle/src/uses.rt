@@ -1,0 +1,217 @@
+//! The imports of generated code and definitions: of each name that the text has, and of no other.
+
+use crate::out::{Arg, Out};
+use crate::sheet::Sheet;
+
+/// A module, and the words that it has for clauses or definitions.
+type Module = (&'static str, &'static [&'static str]);
+
+/// The words of the libraries that generated text cites.
+const LIBRARY: [Module; 6] = [
+    ("std.specs.Int", &["cast_signed", "w16", "w32", "w64", "w8"]),
+    ("std.specs.Float", &["binary32", "binary64"]),
+    ("cp_tree.specs.Seen", &["pointee_of"]),
+    ("cp_fields.specs.Numbers", &["flag", "plain", "uint"]),
+    (
+        "cp_fields.specs.Pointers",
+        &[
+            "Reads",
+            "cap_field",
+            "data_field",
+            "held",
+            "list_field",
+            "struct_field",
+            "text_field",
+        ],
+    ),
+    (WRONG_KIND, &["WrongKind"]),
+];
+
+/// Where definitions have the kinds that a pointer may be of from.
+const WRONG_KIND: &str = "cp_fields.specs.declared.kind.WrongKind";
+
+/// The types of cp_fields that generated code cites.
+const FIELDS: [&str; 8] = [
+    "DataView",
+    "Item",
+    "List",
+    "Past",
+    "Pointee",
+    "StructView",
+    "TextView",
+    "WrongKind",
+];
+
+/// Parts of a text, and the words of the prelude that it has where it has them.
+const PRELUDE: [(&str, &str); 9] = [
+    ("ℕ", "ℕ"),
+    (" ≡ ", "◌≡◌"),
+    (" == ", "◌==◌"),
+    ("if n", "if◌then◌else◌"),
+    ("Result ", "Result"),
+    ("= Ok", "Ok"),
+    ("not (", "not"),
+    ("from_bits", "from_bits"),
+    ("[]", "[]"),
+];
+
+/// The path of the sizes of elements.
+const SIZES: &str = "Rattle.cp_words.specs.declared.pointer.ElementSize.TheVariants as sizes";
+
+/// Whether a text has a word, comments aside.
+fn has_word(text: &str, word: &str) -> bool {
+    for line in text.lines() {
+        if !line.trim_start().starts_with("///") && line_has(line, word) {
+            return true;
+        }
+    }
+    false
+}
+
+/// Whether a text has a part, comments aside.
+fn has_part(text: &str, part: &str) -> bool {
+    for line in text.lines() {
+        if !line.trim_start().starts_with("///") && line.contains(part) {
+            return true;
+        }
+    }
+    false
+}
+
+/// Whether a line has a word: letters, digits and underscores, with none of these beside them.
+fn line_has(line: &str, word: &str) -> bool {
+    if !line.contains(word) {
+        return false;
+    }
+    for part in line.split(is_between) {
+        if part == word {
+            return true;
+        }
+    }
+    false
+}
+
+/// Whether a character is no part of a word.
+fn is_between(c: char) -> bool {
+    !c.is_ascii_alphanumeric() && c != '_'
+}
+
+/// Adds a word to a list with commas between.
+fn add(list: &mut Out, word: &str) {
+    if !list.is_empty() {
+        list.put(", ");
+    }
+    list.put(word);
+}
+
+/// Adds the words of a list that a text has, with commas between.
+fn found(list: &mut Out, text: &str, words: &[&str]) {
+    for word in words {
+        if has_word(text, word) {
+            add(list, word);
+        }
+    }
+}
+
+/// Adds the words of the prelude that a text has.
+fn prelude(list: &mut Out, text: &str) {
+    for (part, word) in &PRELUDE {
+        if has_part(text, part) {
+            add(list, word);
+        }
+    }
+}
+
+/// Adds what a text imports of the libraries, a line each, with this beginning and this end, but for one module.
+fn libraries<'n>(
+    sheet: &Sheet<'_>,
+    out: &mut Out,
+    text: &str,
+    ends: (&'n str, &'n str),
+    skipped: &str,
+) {
+    let mut words = Out::new(sheet.alloc);
+    prelude(&mut words, text);
+    line_of(out, "std.specs.Prelude", words.as_str(), ends);
+    if has_word(text, "sizes") {
+        out.fill(
+            "$0$1$2\n",
+            &[Arg::Text(ends.0), Arg::Text(SIZES), Arg::Text(ends.1)],
+        );
+    }
+    for (module, names) in &LIBRARY {
+        if *module != skipped {
+            let mut words = Out::new(sheet.alloc);
+            found(&mut words, text, names);
+            line_of(out, module, words.as_str(), ends);
+        }
+    }
+}
+
+/// Adds the import of these words, if there are some.
+fn line_of<'n>(out: &mut Out, module: &'n str, words: &'n str, ends: (&'n str, &'n str)) {
+    let args = [
+        Arg::Text(ends.0),
+        Arg::Text(module),
+        Arg::Text(words),
+        Arg::Text(ends.1),
+    ];
+    if !words.is_empty() {
+        out.fill("$0Rattle.$1.{$2}$3\n", &args);
+    }
+}
+
+/// Adds the imports of a module's definitions.
+pub fn of_specs(sheet: &Sheet<'_>, out: &mut Out) {
+    let text = sheet.specs.as_str();
+    libraries(sheet, out, text, ("use ", ""), "");
+    if has_word(text, "Tree") {
+        out.put("use Rattle.cp_tree.specs.Node.{Node as Tree}\n");
+    }
+    out.put_sorted(sheet.imports.as_str());
+}
+
+/// Adds the imports of a module's clauses.
+pub fn of_clauses(sheet: &Sheet<'_>, out: &mut Out) {
+    let mut uses = Out::new(sheet.alloc);
+    libraries(
+        sheet,
+        &mut uses,
+        sheet.code.as_str(),
+        ("ghost use ", ";"),
+        WRONG_KIND,
+    );
+    uses.put_sorted(sheet.cited.as_str());
+    if !sheet.words.is_empty() {
+        let args = [
+            Arg::Text(sheet.krate),
+            Arg::Module(sheet.module),
+            Arg::Text(sheet.words.as_str()),
+        ];
+        uses.fill("ghost use Rattle.$0.specs.$1.{$2};\n", &args);
+    }
+    block(out, &uses);
+}
+
+/// Adds the imports of a module's code.
+pub fn of_code(sheet: &Sheet<'_>, out: &mut Out) {
+    let mut paths = Out::new(sheet.alloc);
+    paths.put(sheet.libraries.as_str());
+    for name in &FIELDS {
+        if has_word(sheet.code.as_str(), name) {
+            paths.fill("cp_fields::$0\n", &[Arg::Text(name)]);
+        }
+    }
+    let mut uses = Out::new(sheet.alloc);
+    uses.put_imports("use", sheet.uses.as_str());
+    uses.put_imports("use", paths.as_str());
+    block(out, &uses);
+}
+
+/// Adds lines and an empty one, if there are some.
+fn block(out: &mut Out, lines: &Out) {
+    if !lines.is_empty() {
+        out.put(lines.as_str());
+        out.push('\n');
+    }
+}

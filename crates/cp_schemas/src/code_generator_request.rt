@@ -1,0 +1,85 @@
+//! `code_generator_request` of schema.capnp.
+
+ghost use Rattle.std.specs.Prelude.{◌≡◌};
+ghost use Rattle.cp_words.specs.declared.pointer.ElementSize.TheVariants as sizes;
+ghost use Rattle.cp_tree.specs.Seen.{pointee_of};
+ghost use Rattle.cp_fields.specs.Pointers.{Reads, list_field, struct_field};
+
+use crate::capnp_version::CapnpVersionView;
+use crate::code_generator_request_requested_file::CodeGeneratorRequestRequestedFileView;
+use crate::node::NodeView;
+use crate::node_source_info::NodeSourceInfoView;
+use cp_fields::{Item, List, Pointee, StructView, WrongKind};
+
+/// `struct CodeGeneratorRequest`.
+#[derive(Drop)]
+pub struct CodeGeneratorRequestView<'a> {
+    /// The struct, by the places of its fields.
+    pub body: StructView<'a>,
+}
+
+impl<'a> Item<'a> for CodeGeneratorRequestView<'a> {
+    ghost SIZE = { sizes.Composite };
+
+    ghost read = { λ t. record { body = t } };
+
+    fn size() -> cp_words::ElementSize
+        ensures { result ≡ sizes.Composite }
+    {
+        cp_words::ElementSize::Composite
+    }
+
+    fn of_item(item: StructView<'a>) -> CodeGeneratorRequestView<'a> {
+        CodeGeneratorRequestView { body: item }
+    }
+}
+
+impl<'a> CodeGeneratorRequestView<'a> {
+    /// The struct that a pointer stands for; null is the struct whose fields are all as by default.
+    pub fn of(at: Pointee<'a>) -> Result<CodeGeneratorRequestView<'a>, WrongKind>
+        ensures { Reads result (λ x. x.body) (struct_field at.entry) }
+    {
+        Ok(CodeGeneratorRequestView {
+            body: StructView::of(at)?,
+        })
+    }
+
+    /// All nodes parsed by the compiler, including for the files on the command line and their
+    /// imports.
+    pub fn nodes(&self) -> Result<List<'a, NodeView<'a>>, WrongKind>
+        ensures { result ≡ list_field sizes.Composite (pointee_of self.now.body 0) }
+    {
+        self.body.list(0)
+    }
+
+    /// Files which were listed on the command line.
+    pub fn requested_files(
+        &self,
+    ) -> Result<List<'a, CodeGeneratorRequestRequestedFileView<'a>>, WrongKind>
+        ensures { result ≡ list_field sizes.Composite (pointee_of self.now.body 1) }
+    {
+        self.body.list(1)
+    }
+
+    /// Version of the `capnp` executable. Generally, code generators should ignore this, but the code
+    /// generators that ship with `capnp` itself will print a warning if this mismatches since that
+    /// probably indicates something is misconfigured.
+    ///
+    /// The first version of 'capnp' to set this was 0.6.0. So, if it's missing, the compiler version
+    /// is older than that.
+    pub fn capnp_version(&self) -> Result<CapnpVersionView<'a>, WrongKind>
+        ensures { Reads result (λ x. x.body) (struct_field (pointee_of self.now.body 2)) }
+    {
+        Ok(CapnpVersionView {
+            body: self.body.structure(2)?,
+        })
+    }
+
+    /// Information about the original source code for each node, where available. This array may be
+    /// omitted or may be missing some nodes if no info is available for them.
+    pub fn source_info(&self) -> Result<List<'a, NodeSourceInfoView<'a>>, WrongKind>
+        ensures { result ≡ list_field sizes.Composite (pointee_of self.now.body 3) }
+    {
+        self.body.list(3)
+    }
+}

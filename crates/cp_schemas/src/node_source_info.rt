@@ -1,0 +1,72 @@
+//! `node_source_info` of schema.capnp.
+
+ghost use Rattle.std.specs.Prelude.{◌≡◌, []};
+ghost use Rattle.cp_words.specs.declared.pointer.ElementSize.TheVariants as sizes;
+ghost use Rattle.cp_tree.specs.Seen.{pointee_of};
+ghost use Rattle.cp_fields.specs.Numbers.{plain};
+ghost use Rattle.cp_fields.specs.Pointers.{Reads, list_field, struct_field, text_field};
+
+use crate::node_source_info_member::NodeSourceInfoMemberView;
+use cp_fields::{Item, List, Pointee, StructView, TextView, WrongKind};
+
+/// Additional information about a node which is not needed at runtime, but may be useful for
+/// documentation or debugging purposes. This is kept in a separate struct to make sure it
+/// doesn't accidentally get included in contexts where it is not needed. The
+/// `CodeGeneratorRequest` includes this information in a separate array.
+#[derive(Drop)]
+pub struct NodeSourceInfoView<'a> {
+    /// The struct, by the places of its fields.
+    pub body: StructView<'a>,
+}
+
+impl<'a> Item<'a> for NodeSourceInfoView<'a> {
+    ghost SIZE = { sizes.Composite };
+
+    ghost read = { λ t. record { body = t } };
+
+    fn size() -> cp_words::ElementSize
+        ensures { result ≡ sizes.Composite }
+    {
+        cp_words::ElementSize::Composite
+    }
+
+    fn of_item(item: StructView<'a>) -> NodeSourceInfoView<'a> {
+        NodeSourceInfoView { body: item }
+    }
+}
+
+impl<'a> NodeSourceInfoView<'a> {
+    /// The struct that a pointer stands for; null is the struct whose fields are all as by default.
+    pub fn of(at: Pointee<'a>) -> Result<NodeSourceInfoView<'a>, WrongKind>
+        ensures { Reads result (λ x. x.body) (struct_field at.entry) }
+    {
+        Ok(NodeSourceInfoView {
+            body: StructView::of(at)?,
+        })
+    }
+
+    /// ID of the Node which this info describes.
+    pub fn id(&self) -> u64
+        ensures { result ≡ plain self.now.body 64 0 }
+    {
+        self.body.u64(0)
+    }
+
+    /// The top-level doc comment for the Node.
+    pub fn doc_comment(&self) -> Result<TextView<'a>, WrongKind>
+        ensures { result ≡ text_field [] (pointee_of self.now.body 0) }
+    {
+        self.body.text(0)
+    }
+
+    /// Information about each member -- i.e. fields (for structs), enumerants (for enums), or
+    /// methods (for interfaces).
+    ///
+    /// This list is the same length and order as the corresponding list in the Node, i.e.
+    /// Node.struct.fields, Node.enum.enumerants, or Node.interface.methods.
+    pub fn members(&self) -> Result<List<'a, NodeSourceInfoMemberView<'a>>, WrongKind>
+        ensures { result ≡ list_field sizes.Composite (pointee_of self.now.body 1) }
+    {
+        self.body.list(1)
+    }
+}

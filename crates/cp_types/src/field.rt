@@ -1,0 +1,103 @@
+//! The fields of structs.
+
+use crate::fault::RequestFault;
+use crate::kind::{DEEPEST, Type, type_of};
+use crate::load::{Load, text_of};
+use cp_schemas::{FieldSlotView, FieldView, FieldWhich, ValueView, ValueWhich};
+use std::alloc::Global;
+
+/// A field of a struct.
+#[derive(Drop)]
+pub struct Field {
+    pub name: String,
+    /// Its number in the union that it is in; 65,535 where it is in none.
+    pub tag: u16,
+    /// Its number in the schema, if it isn't a group.
+    pub ordinal: u16,
+    pub kind: FieldKind,
+}
+
+/// What a field is.
+#[derive(Clone, Copy)]
+pub enum FieldKind {
+    Slot(Slot),
+    /// A group, whose fields this node has.
+    Group(u64),
+    /// What a newer schema.capnp has.
+    Unknown,
+}
+
+/// Where a field lies in a struct.
+#[derive(Clone, Copy)]
+pub struct Slot {
+    /// Number or pointer so many of its type.
+    pub place: u32,
+    pub of: Type,
+    /// The bits of its default, if it is a number.
+    pub default: u64,
+    /// Whether it is a pointer whose default isn't null.
+    pub points: bool,
+}
+
+impl Field {
+    /// Whether it is in a union.
+    pub fn is_member(&self) -> bool {
+        self.tag != 65_535
+    }
+}
+
+impl<'n> Load<FieldView<'n>> for Field {
+    fn load(alloc: Global, view: &FieldView<'n>) -> Result<Field, RequestFault> {
+        let kind = kind_of(view)?;
+        Ok(Field {
+            name: text_of(alloc, view.name())?,
+            tag: view.discriminant_value(),
+            ordinal: view.ordinal().explicit(),
+            kind,
+        })
+    }
+}
+
+/// What a field is.
+fn kind_of(view: &FieldView<'_>) -> Result<FieldKind, RequestFault> {
+    match view.which() {
+        FieldWhich::Slot => slot_of(&view.slot()),
+        FieldWhich::Group => Ok(FieldKind::Group(view.group().type_id())),
+        FieldWhich::Unknown(_) => Ok(FieldKind::Unknown),
+    }
+}
+
+/// Where a field lies.
+fn slot_of(view: &FieldSlotView<'_>) -> Result<FieldKind, RequestFault> {
+    let of = type_of(&view.type_()?, DEEPEST)?;
+    let value = view.default_value()?;
+    let points = view.had_explicit_default() && !is_null(&value)?;
+    Ok(FieldKind::Slot(Slot {
+        place: view.offset(),
+        of,
+        default: bits_of(&value),
+        points,
+    }))
+}
+
+/// The bits of a number.
+pub(crate) fn bits_of(value: &ValueView<'_>) -> u64 {
+    match value.which() {
+        ValueWhich::Bool => value.bool_() as u64,
+        ValueWhich::Int8 | ValueWhich::Uint8 => value.uint8() as u64,
+        ValueWhich::Int16 | ValueWhich::Uint16 | ValueWhich::Enum => value.uint16() as u64,
+        ValueWhich::Int32 | ValueWhich::Uint32 | ValueWhich::Float32 => value.uint32() as u64,
+        ValueWhich::Int64 | ValueWhich::Uint64 | ValueWhich::Float64 => value.uint64(),
+        _ => 0,
+    }
+}
+
+/// Whether a value is no pointer, or one that is null or empty.
+fn is_null(value: &ValueView<'_>) -> Result<bool, RequestFault> {
+    Ok(match value.which() {
+        ValueWhich::Text => value.text()?.is_empty(),
+        ValueWhich::Data => value.data_()?.is_empty(),
+        ValueWhich::List | ValueWhich::Struct | ValueWhich::AnyPointer => value.list().is_null(),
+        _ => true,
+    })
+}

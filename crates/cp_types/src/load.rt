@@ -1,0 +1,30 @@
+//! Lists and texts of a request, owned.
+
+use crate::fault::RequestFault;
+use cp_fields::{Item, List, TextView, WrongKind};
+use std::alloc::Global;
+
+/// What is owned of a view.
+pub(crate) trait Load<V>: Drop {
+    fn load(alloc: Global, view: &V) -> Result<Self, RequestFault>;
+}
+
+/// All that is owned of the views of a list.
+pub(crate) fn load_all<'n, V: Item<'n>, T: Load<V>>(
+    alloc: Global,
+    list: List<'n, V>,
+) -> Result<Vec<T>, RequestFault> {
+    let mut all = Vec::new(alloc);
+    for view in list {
+        all.push(T::load(alloc, &view)?)?;
+    }
+    Ok(all)
+}
+
+/// A text.
+pub(crate) fn text_of(
+    alloc: Global,
+    found: Result<TextView<'_>, WrongKind>,
+) -> Result<String, RequestFault> {
+    Ok(found?.text(alloc)?)
+}

@@ -1,0 +1,79 @@
+//! Reads an address book in place, by the names that its schema has: crates/addressbook/addressbook.capnp, of which
+//! capnpc_rattle made the crate addressbook.
+#![tactic(auto)]
+
+use addressbook::{
+    AddressBookView, PersonEmploymentMember, PersonPhoneNumberType, PersonPhoneNumberView,
+    PersonView,
+};
+use anyhow::anyhow;
+use cp_fields::{Pointee, TextView};
+use cp_frame::FrameReader;
+use cp_reading::View;
+use cp_words::{Limits, Segments};
+use std::alloc::Global;
+use std::fs;
+
+/// What a person does.
+fn work_of(alloc: Global, person: &PersonView<'_>) -> anyhow::Result<String> {
+    match person.employment().member()? {
+        PersonEmploymentMember::Unemployed => Ok(String::from_str(alloc, "unemployed")?),
+        PersonEmploymentMember::SelfEmployed => Ok(String::from_str(alloc, "self-employed")?),
+        PersonEmploymentMember::Employer(name) => named(alloc, "works at", &name),
+        PersonEmploymentMember::School(name) => named(alloc, "learns at", &name),
+        PersonEmploymentMember::Unknown(number) => Ok(format!(in alloc; "{number:?}")?),
+    }
+}
+
+/// What is done, and where.
+fn named(alloc: Global, what: &str, place: &TextView<'_>) -> anyhow::Result<String> {
+    let place = place.text(alloc)?;
+    Ok(format!(in alloc; "{what} {}", place.as_str())?)
+}
+
+/// A person's number and name, age and work.
+fn person_line(alloc: Global, person: &PersonView<'_>) -> anyhow::Result<String> {
+    let name = person.name()?.text(alloc)?;
+    let (id, age) = (person.id(), person.age());
+    let work = work_of(alloc, person)?;
+    Ok(format!(in alloc; "{id} {}, {age}: {}", name.as_str(), work.as_str())?)
+}
+
+/// A phone's number and what it is for.
+fn phone_line(alloc: Global, phone: &PersonPhoneNumberView<'_>) -> anyhow::Result<String> {
+    let mark = match phone.type_() {
+        PersonPhoneNumberType::Mobile => "mobile",
+        PersonPhoneNumberType::Home => "home",
+        PersonPhoneNumberType::Work => "work",
+        PersonPhoneNumberType::Unknown(_) => "other",
+    };
+    let number = phone.number()?.text(alloc)?;
+    Ok(format!(in alloc; "{} ({mark})", number.as_str())?)
+}
+
+/// Prints a person with the phones.
+fn print_person(rt: &HostRuntime, person: &PersonView<'_>) -> anyhow::Result<()> {
+    println!(rt; "{}", person_line(rt.alloc(), person)?.as_str())?;
+    for each in person.phones()? {
+        println!(rt; "    {}", phone_line(rt.alloc(), &each)?.as_str())?;
+    }
+    Ok(())
+}
+
+/// Prints the people of an address book.
+fn print_book(rt: &HostRuntime, segments: &Segments) -> anyhow::Result<()> {
+    let view = View::root(segments, Limits::standard()).map_err(|fault| anyhow!("{fault}"))?;
+    for person in AddressBookView::of(Pointee::of_view(view))?.people()? {
+        print_person(rt, &person)?;
+    }
+    Ok(())
+}
+
+fn main(rt: HostRuntime) -> anyhow::Result<()> {
+    let bytes = fs::read(&rt, "book.bin")?;
+    let mut reader = FrameReader::plain(rt.alloc(), Limits::standard());
+    for (_, segments) in &reader.feed(&bytes)? {
+        print_book(&rt, segments)?;
+    }
+    Ok(reader.finish()?)
+}

@@ -1,0 +1,170 @@
+#!/usr/bin/env python3
+"""print.py REQUEST STRUCT    writes a program that prints messages as `capnp decode --short` does, over what capnpc_rattle makes
+of the same request. Names and offsets come from the request alone, read by request.py."""
+import re
+import sys
+
+from request import load
+
+INTEGERS = {2: "i8", 3: "i16", 4: "i32", 5: "i64", 6: "u8", 7: "u16", 8: "u32", 9: "u64"}
+FLOATS = {10: "f32", 11: "f64"}
+RESERVED = {"struct", "match", "of", "self", "type", "which", "result", "data", "box", "size"}
+
+
+def words(name):
+    return re.sub("([A-Z])", lambda c: "_" + c.group().lower(), name).lstrip("_")
+
+
+def method(name):
+    return words(name) + ("_" if words(name) in RESERVED else "")
+
+
+def camel(title):
+    return "".join(part[:1].upper() + part[1:] for part in re.split("[.$]", title))
+
+
+class Printer:
+    def __init__(self, path):
+        self.nodes, _, files = load(path)
+        self.krate = files[0]["name"].split("/")[-1].split(".")[0]
+        self.types, self.done, self.functions = set(), set(), []
+
+    def name(self, node):
+        return camel(node["name"].split(":")[1])
+
+    def value(self, kind, at, depth=0):
+        """Statements that print the value `at` of a type."""
+        code = kind["kind"]
+        if code == 0:
+            return f'let _ = {at}; line.text.push_str("void")?;'
+        if code == 1 or code in INTEGERS:
+            return f'write!(line.text, "{{}}", {at})?;'
+        if code in FLOATS:
+            return f'line.float(format!(in line.alloc; "{{:?}}", {at})?.as_str())?;'
+        if code == 12:
+            return f"line.string(&{at})?;"
+        if code == 13:
+            return f"line.bytes(&{at})?;"
+        if code == 14:
+            inner = kind["elem"]
+            fails = inner["kind"] in (12, 13, 14)
+            item = f"item{depth}"
+            element = self.value(inner, item + ("?" if fails else ""), depth + 1)
+            return f"line.open('[')?; for {item} in {at} {{ line.item()?; {element} }} line.close(']')?;"
+        node = self.nodes[kind["id"]]
+        if code == 15:
+            self.enum(node)
+            return f"{words(self.name(node))}_text(line, {at})?;"
+        if code == 16:
+            self.struct(node)
+            return f"{words(self.name(node))}_line(line, &{at})?;"
+        raise SystemExit(f"no printing of type {code}")
+
+    def enum(self, node):
+        name = self.name(node)
+        if name in self.done:
+            return
+        self.done.add(name)
+        self.types.add(name)
+        arms = "".join(f"        {name}::{variant(item)} => \"{item}\",\n" for item in node["enumerants"])
+        self.functions.append(f"fn {words(name)}_text(line: &mut Line, value: {name}) -> anyhow::Result<()> {{\n"
+                              f"    let text = match value {{\n{arms}        {name}::Unknown(number) => {{\n"
+                              f"            write!(line.text, \"({{}})\", number.number())?;\n            return Ok(());\n        }}\n    }};\n"
+                              f"    line.text.push_str(text)?;\n    Ok(())\n}}\n")
+
+    def field(self, field, at):
+        """Statements that print a field as it is read by its method."""
+        if field["which"] == 1:
+            node = self.nodes[field["group"]]
+            self.struct(node)
+            return f'line.field("{field["name"]}")?; {words(self.name(node))}_line(line, &{at}.{method(field["name"])}())?;'
+        code = field["type"]["kind"]
+        if code == 0:
+            return f'line.field("{field["name"]}")?; line.text.push_str("void")?;'
+        if code in (17, 18):
+            return ""
+        fails = code in (12, 13, 14, 16)
+        value = self.value(field["type"], f'{at}.{method(field["name"])}()' + ("?" if fails else ""))
+        text = f'line.field("{field["name"]}")?; {value}'
+        return f'if has(&{at}.body, {field["offset"]}) {{ {text} }}' if fails else text
+
+    def member(self, node):
+        """Statements that print the member of a union that is set, by what it holds."""
+        name = self.name(node)
+        self.types.add(name + "Member")
+        arms = ""
+        for field in sorted((f for f in node["fields"] if f["disc"] != 0xFFFF), key=lambda f: f["disc"]):
+            arm = f"{name}Member::{variant(field['name'])}"
+            head = f'line.field("{field["name"]}")?;'
+            if field["which"] == 1:
+                group = self.nodes[field["group"]]
+                self.struct(group)
+                arms += f"        {arm}(held) => {{ {head} {words(self.name(group))}_line(line, &held)?; }}\n"
+                continue
+            code = field["type"]["kind"]
+            if code == 0:
+                arms += f'        {arm} => {{ {head} line.text.push_str("void")?; }}\n'
+            elif code in (17, 18):
+                arms += f"        {arm}(_) => {{}}\n"
+            else:
+                value = self.value(field["type"], "held")
+                if code in (12, 13, 14, 16) and field["disc"] == 0:
+                    value = f'if has(&at.body, {field["offset"]}) {{ {head} {value} }}'
+                    head = ""
+                arms += f"        {arm}(held) => {{ {head} {value} }}\n"
+        return f"match at.member()? {{\n{arms}        {name}Member::Unknown(_) => {{}}\n    }}"
+
+    def struct(self, node):
+        name = self.name(node)
+        if name in self.done:
+            return
+        self.done.add(name)
+        self.types.add(name + "View")
+        body, is_printed = "", False
+        for field in node["fields"]:
+            if field["disc"] == 0xFFFF:
+                body += "    " + self.field(field, "at") + "\n"
+            elif not is_printed:
+                is_printed = True
+                body += "    " + self.member(node) + "\n"
+        self.functions.append(f"fn {words(name)}_line(line: &mut Line, at: &{name}View<'_>) -> anyhow::Result<()> {{\n"
+                              f"    line.open('(')?;\n{body}    line.close(')')?;\n    Ok(())\n}}\n")
+
+    def program(self, root):
+        node = next(n for n in self.nodes.values() if n["name"].endswith(":" + root))
+        self.struct(node)
+        name = words(self.name(node))
+        return f"""//! Prints messages of {root}, a line each.
+#![tactic(auto)]
+
+mod line;
+
+use anyhow::anyhow;
+use cp_fields::Pointee;
+use cp_frame::FrameReader;
+use cp_reading::View;
+use cp_words::Limits;
+use line::{{Line, has}};
+use std::io::Read;
+use {self.krate}::{{{", ".join(sorted(self.types))}}};
+
+{"".join(f + chr(10) for f in self.functions)}fn main(rt: HostRuntime) -> anyhow::Result<()> {{
+    let mut bytes = Vec::new(rt.alloc());
+    rt.stdin().read_to_end(&mut bytes)?;
+    let mut reader = FrameReader::plain(rt.alloc(), Limits::standard());
+    for (_, segments) in &reader.feed(&bytes)? {{
+        let view = View::root(segments, Limits::standard()).map_err(|fault| anyhow!("{{fault}}"))?;
+        let mut line = Line::new(rt.alloc());
+        {name}_line(&mut line, &{root}View::of(Pointee::of_view(view))?)?;
+        println!(rt; "{{}}", line.text.as_str())?;
+    }}
+    Ok(reader.finish()?)
+}}
+"""
+
+
+def variant(name):
+    return camel(name) + ("_" if camel(name) in ("Unknown", "Self") else "")
+
+
+sys.stdout.write(Printer(sys.argv[1]).program(sys.argv[2]))
