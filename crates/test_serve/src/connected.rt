@@ -17,23 +17,23 @@ const PIECE: usize = 7;
 
 /// A connection with its objects.
 #[derive(Drop)]
-struct Session {
-    connection: Connection,
+pub struct Session {
+    pub connection: Connection,
     owed: Objects,
     objects: Vec<Box<dyn Servant>>,
 }
 
 impl Session {
-    fn new(alloc: Global, objects: Vec<Box<dyn Servant>>) -> Session {
+    pub fn new(alloc: Global, owed: Objects, objects: Vec<Box<dyn Servant>>) -> Session {
         Session {
             connection: Connection::new(alloc, Mode::Plain, Limits::standard(), Some(0)),
-            owed: Objects::new(alloc),
+            owed,
             objects,
         }
     }
 
     /// Takes bytes of the peer, piece by piece.
-    fn take(&mut self, rt: &impl Abort, bytes: &[u8]) -> Result<(), AllocError> {
+    pub fn take(&mut self, rt: &impl Abort, bytes: &[u8]) -> Result<(), AllocError> {
         for piece in bytes.chunks(PIECE) {
             let mut taken = 0;
             for _ in 0..piece.len() {
@@ -64,7 +64,7 @@ impl Session {
     }
 
     /// Rounds follow, until one gives nothing that is awaited.
-    fn end(&mut self) -> Result<(), AllocError> {
+    pub fn end(&mut self) -> Result<(), AllocError> {
         for _ in 0..u64::MAX {
             if !self.round()? {
                 return Ok(());
@@ -80,7 +80,7 @@ fn an_object_may_fail(rt: HostRuntime) {
     let alloc = rt.alloc();
     let first = boxed(&rt, alloc, Starved);
     let objects = pair(&rt, alloc, first, boxed(&rt, alloc, Cell::new(alloc)));
-    let mut session = Session::new(alloc, objects);
+    let mut session = Session::new(alloc, Objects::new(alloc), objects);
     let bytes = bytes_of(&rt, alloc, &[BOOTSTRAP, LATER]);
     let taken = session.take(&rt, &bytes);
     assert!(&rt; taken.is_err());
@@ -95,7 +95,7 @@ fn a_desk_goes_on_by_itself(rt: HostRuntime) {
     let alloc = rt.alloc();
     let first = boxed(&rt, alloc, Desk::new(alloc));
     let objects = pair(&rt, alloc, first, boxed(&rt, alloc, Cell::new(alloc)));
-    let mut session = Session::new(alloc, objects);
+    let mut session = Session::new(alloc, Objects::new(alloc), objects);
     let bytes = bytes_of(&rt, alloc, &[BOOTSTRAP, LATER]);
     session.take(&rt, &bytes).expect(&rt, "memory");
     let waits = any_again(&session.objects);

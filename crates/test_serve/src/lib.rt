@@ -2,6 +2,8 @@
 #![tactic(auto)]
 
 #[cfg(test)]
+mod calling;
+#[cfg(test)]
 mod connected;
 #[cfg(test)]
 mod devices;
