@@ -1,0 +1,5 @@
+pub mod Bodies
+pub mod Others
+pub mod ReadBack
+pub mod Rows
+pub mod Words

@@ -1,0 +1,22 @@
+//! Structs to be written, by the places of their fields. This is what generated code stands on, as
+//! `cp_fields` is for reading.
+#![tactic(auto)]
+
+mod fault;
+mod laws;
+mod lists;
+mod numbers;
+mod parts;
+mod structure;
+mod views;
+
+pub use fault::DraftFault;
+pub use laws::{
+    numbers_come_back, numbers_stay, pointers_come_back, pointers_stay, sections_stay,
+    texts_come_back,
+};
+pub use lists::StructsDraft;
+pub use parts::{
+    bits_of, bytes_of, cap_of, halves_of, pointers_of, quads_of, text_of, voids_of, words_of,
+};
+pub use structure::StructDraft;
