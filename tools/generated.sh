@@ -35,7 +35,7 @@ generate "$root/crates/capnpc_rattle/stdin" --crate=cp_schemas
 compare cp_schemas
 if command -v capnp >/dev/null; then
     (cd "$root/crates/addressbook" && capnp compile -o- addressbook.capnp) >"$room/request"
-    generate "$room/request"
+    generate "$room/request" --drafts
     compare addressbook
 fi
 [ "$differ" -eq 0 ] || fail "the plugin writes otherwise than what is kept, as shown above"

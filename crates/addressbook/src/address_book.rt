@@ -1,12 +1,16 @@
 //! `address_book` of addressbook.capnp.
 
-ghost use Rattle.std.specs.Prelude.{◌≡◌};
+ghost use Rattle.std.specs.Prelude.{◌≡◌, IfOk, OnOk, OnErr, Err, ◌^◌, ◌+◌, ◌*◌, ◌<◌};
 ghost use Rattle.cp_words.specs.declared.pointer.ElementSize.TheVariants as sizes;
 ghost use Rattle.cp_tree.specs.Seen.{pointee_of};
 ghost use Rattle.cp_fields.specs.Pointers.{Reads, list_field, struct_field};
+ghost use Rattle.cp_drafts.specs.declared.fault.DraftFault.TheVariants.{TooLong};
+ghost use Rattle.cp_drafts.specs.Drafts.{blank, blank_list, item_count, with_last, with_pointer};
 
-use crate::person::PersonView;
+use crate::person::{PersonListDraft, PersonView};
+use cp_drafts::{DraftFault, StructDraft, StructsDraft};
 use cp_fields::{Item, List, Pointee, StructView, WrongKind};
+use std::alloc::{AllocError, Global};
 
 /// `struct AddressBook`.
 #[derive(Drop)]
@@ -46,5 +50,57 @@ impl<'a> AddressBookView<'a> {
         ensures { result ≡ list_field sizes.Composite (pointee_of self.now.body 0) }
     {
         self.body.list(0)
+    }
+}
+
+/// `struct AddressBook`, to be written.
+#[derive(Drop)]
+pub struct AddressBookDraft {
+    /// The struct, by the places of its fields.
+    pub body: StructDraft<0, 1>,
+}
+
+impl AddressBookDraft {
+    /// A struct whose fields are all as by default.
+    pub fn new(alloc: Global) -> Result<AddressBookDraft, AllocError>
+        ensures { IfOk result (λ d. d.body ≡ blank 0 1) }
+    {
+        Ok(AddressBookDraft {
+            body: StructDraft::new(alloc)?,
+        })
+    }
+
+    /// Sets `people`.
+    pub fn set_people(&mut self, value: PersonListDraft)
+        ensures { self.new.body ≡ with_pointer self.old.body 0 value.items }
+    {
+        self.body.set_pointer(0, value.items.into_whole());
+    }
+}
+
+/// A list of `struct AddressBook`, to be written.
+#[derive(Drop)]
+pub struct AddressBookListDraft {
+    /// The list.
+    pub items: StructsDraft<0, 1>,
+}
+
+impl AddressBookListDraft {
+    /// No struct yet.
+    pub fn new(alloc: Global) -> AddressBookListDraft
+        ensures { result.items ≡ blank_list 0 1 }
+    {
+        AddressBookListDraft {
+            items: StructsDraft::new(alloc),
+        }
+    }
+
+    /// Adds a struct at the end.
+    pub fn push(&mut self, item: AddressBookDraft) -> Result<(), DraftFault>
+        ensures pushed { OnOk result (self.new.items ≡ with_last self.old.items item.body) }
+        ensures left { OnErr result (self.new ≡ self.old) }
+        ensures long { result ≡ Err TooLong → ¬ ((item_count self.old.items + 1 < 2 ^ 30) × ((item_count self.old.items + 1) * (0 + 1) < 2 ^ 29)) }
+    {
+        self.items.push(item.body)
     }
 }

@@ -7,8 +7,13 @@ mod person;
 mod person_phone_number;
 mod person_phone_number_type;
 
-pub use address_book::AddressBookView;
+pub use address_book::{AddressBookDraft, AddressBookListDraft, AddressBookView};
 pub use constants::LARGEST;
-pub use person::{PersonEmploymentMember, PersonEmploymentView, PersonEmploymentWhich, PersonView};
-pub use person_phone_number::PersonPhoneNumberView;
+pub use person::{
+    PersonDraft, PersonEmploymentMember, PersonEmploymentView, PersonEmploymentWhich,
+    PersonListDraft, PersonView,
+};
+pub use person_phone_number::{
+    PersonPhoneNumberDraft, PersonPhoneNumberListDraft, PersonPhoneNumberView,
+};
 pub use person_phone_number_type::PersonPhoneNumberType;

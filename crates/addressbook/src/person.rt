@@ -1,16 +1,22 @@
 //! `person` of addressbook.capnp.
 
-ghost use Rattle.std.specs.Prelude.{◌≡◌, not, from_bits, []};
+ghost use Rattle.std.specs.Prelude.{◌≡◌, not, from_bits, to_bits, bit_xor, IfOk, OnOk, OnErr, Err, ◌≤◌, ◌^◌, length, ◌+◌, ◌*◌, ◌<◌, []};
 ghost use Rattle.cp_words.specs.declared.pointer.ElementSize.TheVariants as sizes;
-ghost use Rattle.std.specs.Int.{cast_signed, w16};
+ghost use Rattle.std.specs.Int.{cast_signed, cast_unsigned, w16};
 ghost use Rattle.std.specs.Float.{binary64};
 ghost use Rattle.cp_tree.specs.Seen.{pointee_of};
 ghost use Rattle.cp_fields.specs.Numbers.{flag, plain, uint};
 ghost use Rattle.cp_fields.specs.Pointers.{Reads, data_field, list_field, struct_field, text_field};
+ghost use Rattle.cp_drafts.specs.Numbers.{flag_bit};
+ghost use Rattle.cp_drafts.specs.declared.fault.DraftFault.TheVariants.{TooLong};
+ghost use Rattle.cp_drafts.specs.Drafts.{blank, blank_list, bytes_tree, item_count, quads_tree, text_tree, with_last, with_pointer, with_uint};
 ghost use Rattle.addressbook.specs.Person.{person_employment_which_of, person_employment_member};
 
-use crate::person_phone_number::PersonPhoneNumberView;
+use crate::person_phone_number::{PersonPhoneNumberListDraft, PersonPhoneNumberView};
+use cp_drafts::{DraftFault, StructDraft, StructsDraft};
 use cp_fields::{DataView, Item, List, Past, Pointee, StructView, TextView, WrongKind};
+use std::alloc::{AllocError, Global};
+use std::num::f64_to_bits_with_nan;
 
 /// `struct Person`.
 #[derive(Drop)]
@@ -131,6 +137,179 @@ impl<'a> PersonView<'a> {
         ensures { result ≡ from_bits binary64 (uint self.now.body 64 2 4634661413401395200) }
     {
         self.body.f64_or(2, 4634661413401395200)
+    }
+}
+
+/// `struct Person`, to be written.
+#[derive(Drop)]
+pub struct PersonDraft {
+    /// The struct, by the places of its fields.
+    pub body: StructDraft<3, 7>,
+}
+
+impl PersonDraft {
+    /// A struct whose fields are all as by default.
+    pub fn new(alloc: Global) -> Result<PersonDraft, AllocError>
+        ensures { IfOk result (λ d. d.body ≡ blank 3 7) }
+    {
+        Ok(PersonDraft {
+            body: StructDraft::new(alloc)?,
+        })
+    }
+
+    /// Sets `id`.
+    pub fn set_id(&mut self, value: u32)
+        ensures { self.new.body ≡ with_uint self.old.body 32 0 value }
+    {
+        self.body.set_u32(0, value);
+    }
+
+    /// Sets `name`.
+    pub fn set_name(&mut self, alloc: Global, value: &str) -> Result<(), DraftFault>
+        ensures set { OnOk result (self.new.body ≡ with_pointer self.old.body 0 (text_tree value.now)) }
+        ensures left { OnErr result (self.new ≡ self.old) }
+        ensures long { result ≡ Err TooLong → 2 ^ 29 ≤ length value.now + 1 }
+    {
+        self.body.set_pointer(0, cp_drafts::text_of(alloc, value)?);
+        Ok(())
+    }
+
+    /// Sets `email`.
+    pub fn set_email(&mut self, alloc: Global, value: &str) -> Result<(), DraftFault>
+        ensures set { OnOk result (self.new.body ≡ with_pointer self.old.body 1 (text_tree value.now)) }
+        ensures left { OnErr result (self.new ≡ self.old) }
+        ensures long { result ≡ Err TooLong → 2 ^ 29 ≤ length value.now + 1 }
+    {
+        self.body.set_pointer(1, cp_drafts::text_of(alloc, value)?);
+        Ok(())
+    }
+
+    /// Sets `phones`.
+    pub fn set_phones(&mut self, value: PersonPhoneNumberListDraft)
+        ensures { self.new.body ≡ with_pointer self.old.body 2 value.items }
+    {
+        self.body.set_pointer(2, value.items.into_whole());
+    }
+
+    /// Sets `unemployed`, and chooses it in its union.
+    pub fn set_employment_unemployed(&mut self)
+        ensures { self.new.body ≡ with_uint self.old.body 16 2 0 }
+    {
+        self.body.set_u16(2, 0);
+    }
+
+    /// Sets `employer`, and chooses it in its union.
+    pub fn set_employment_employer(&mut self, alloc: Global, value: &str) -> Result<(), DraftFault>
+        ensures set { OnOk result (self.new.body ≡ with_pointer (with_uint self.old.body 16 2 1) 3 (text_tree value.now)) }
+        ensures left { OnErr result (self.new ≡ self.old) }
+        ensures long { result ≡ Err TooLong → 2 ^ 29 ≤ length value.now + 1 }
+    {
+        let whole = cp_drafts::text_of(alloc, value)?;
+        self.body.set_u16(2, 1);
+        self.body.set_pointer(3, whole);
+        Ok(())
+    }
+
+    /// Sets `school`, and chooses it in its union.
+    pub fn set_employment_school(&mut self, alloc: Global, value: &str) -> Result<(), DraftFault>
+        ensures set { OnOk result (self.new.body ≡ with_pointer (with_uint self.old.body 16 2 2) 3 (text_tree value.now)) }
+        ensures left { OnErr result (self.new ≡ self.old) }
+        ensures long { result ≡ Err TooLong → 2 ^ 29 ≤ length value.now + 1 }
+    {
+        let whole = cp_drafts::text_of(alloc, value)?;
+        self.body.set_u16(2, 2);
+        self.body.set_pointer(3, whole);
+        Ok(())
+    }
+
+    /// Sets `selfEmployed`, and chooses it in its union.
+    pub fn set_employment_self_employed(&mut self)
+        ensures { self.new.body ≡ with_uint self.old.body 16 2 3 }
+    {
+        self.body.set_u16(2, 3);
+    }
+
+    /// In years.
+    pub fn set_age(&mut self, value: u8)
+        ensures { self.new.body ≡ with_uint self.old.body 8 6 (bit_xor value 18) }
+    {
+        self.body.set_u8(6, value ^ 18);
+    }
+
+    /// In centimetres, from the average.
+    pub fn set_height(&mut self, value: i16)
+        ensures { self.new.body ≡ with_uint self.old.body 16 4 (bit_xor (cast_unsigned w16 value) 65531) }
+    {
+        self.body.set_u16(4, value.cast_unsigned() ^ 65531);
+    }
+
+    /// Sets `active`.
+    pub fn set_active(&mut self, value: bool)
+        ensures { self.new.body ≡ with_uint self.old.body 1 56 (flag_bit (not value)) }
+    {
+        self.body.set_bit(56, !value);
+    }
+
+    /// Sets `spouse`.
+    pub fn set_spouse(&mut self, value: PersonDraft)
+        ensures { self.new.body ≡ with_pointer self.old.body 4 value.body }
+    {
+        self.body.set_pointer(4, value.body.into_whole());
+    }
+
+    /// Sets `scores`.
+    pub fn set_scores(&mut self, value: Vec<u32>) -> Result<(), DraftFault>
+        ensures set { OnOk result (self.new.body ≡ with_pointer self.old.body 5 (quads_tree value.items)) }
+        ensures left { OnErr result (self.new ≡ self.old) }
+        ensures long { result ≡ Err TooLong → 2 ^ 29 ≤ length value.items }
+    {
+        self.body.set_pointer(5, cp_drafts::quads_of(value)?);
+        Ok(())
+    }
+
+    /// Sets `picture`.
+    pub fn set_picture(&mut self, value: Vec<u8>) -> Result<(), DraftFault>
+        ensures set { OnOk result (self.new.body ≡ with_pointer self.old.body 6 (bytes_tree value.items)) }
+        ensures left { OnErr result (self.new ≡ self.old) }
+        ensures long { result ≡ Err TooLong → 2 ^ 29 ≤ length value.items }
+    {
+        self.body.set_pointer(6, cp_drafts::bytes_of(value)?);
+        Ok(())
+    }
+
+    /// Sets `weight`.
+    pub fn set_weight(&mut self, value: f64)
+        ensures { self.new.body ≡ with_uint self.old.body 64 2 (bit_xor (to_bits binary64 value) 4634661413401395200) }
+    {
+        self.body
+            .set_u64(2, f64_to_bits_with_nan(value) ^ 4634661413401395200);
+    }
+}
+
+/// A list of `struct Person`, to be written.
+#[derive(Drop)]
+pub struct PersonListDraft {
+    /// The list.
+    pub items: StructsDraft<3, 7>,
+}
+
+impl PersonListDraft {
+    /// No struct yet.
+    pub fn new(alloc: Global) -> PersonListDraft
+        ensures { result.items ≡ blank_list 3 7 }
+    {
+        PersonListDraft {
+            items: StructsDraft::new(alloc),
+        }
+    }
+
+    /// Adds a struct at the end.
+    pub fn push(&mut self, item: PersonDraft) -> Result<(), DraftFault>
+        ensures pushed { OnOk result (self.new.items ≡ with_last self.old.items item.body) }
+        ensures left { OnErr result (self.new ≡ self.old) }
+        ensures long { result ≡ Err TooLong → ¬ ((item_count self.old.items + 1 < 2 ^ 30) × ((item_count self.old.items + 1) * (3 + 7) < 2 ^ 29)) }
+    {
+        self.items.push(item.body)
     }
 }
 

@@ -1,14 +1,19 @@
 //! `person_phone_number` of addressbook.capnp.
 
-ghost use Rattle.std.specs.Prelude.{◌≡◌, []};
+ghost use Rattle.std.specs.Prelude.{◌≡◌, IfOk, OnOk, OnErr, Err, ◌≤◌, ◌^◌, length, ◌+◌, ◌*◌, ◌<◌, []};
 ghost use Rattle.cp_words.specs.declared.pointer.ElementSize.TheVariants as sizes;
 ghost use Rattle.cp_tree.specs.Seen.{pointee_of};
 ghost use Rattle.cp_fields.specs.Numbers.{plain};
 ghost use Rattle.cp_fields.specs.Pointers.{Reads, struct_field, text_field};
+ghost use Rattle.cp_drafts.specs.declared.fault.DraftFault.TheVariants.{TooLong};
+ghost use Rattle.cp_drafts.specs.Drafts.{blank, blank_list, item_count, text_tree, with_last, with_pointer, with_uint};
+ghost use Rattle.addressbook.specs.PersonPhoneNumberType.{person_phone_number_type_number};
 ghost use Rattle.addressbook.specs.PersonPhoneNumberType.{person_phone_number_type_of};
 
 use crate::person_phone_number_type::PersonPhoneNumberType;
+use cp_drafts::{DraftFault, StructDraft, StructsDraft};
 use cp_fields::{Item, Pointee, StructView, TextView, WrongKind};
+use std::alloc::{AllocError, Global};
 
 /// `struct Person.PhoneNumber`.
 #[derive(Drop)]
@@ -55,5 +60,67 @@ impl<'a> PersonPhoneNumberView<'a> {
         ensures { result ≡ person_phone_number_type_of (plain self.now.body 16 0) }
     {
         PersonPhoneNumberType::of(self.body.u16(0))
+    }
+}
+
+/// `struct Person.PhoneNumber`, to be written.
+#[derive(Drop)]
+pub struct PersonPhoneNumberDraft {
+    /// The struct, by the places of its fields.
+    pub body: StructDraft<1, 1>,
+}
+
+impl PersonPhoneNumberDraft {
+    /// A struct whose fields are all as by default.
+    pub fn new(alloc: Global) -> Result<PersonPhoneNumberDraft, AllocError>
+        ensures { IfOk result (λ d. d.body ≡ blank 1 1) }
+    {
+        Ok(PersonPhoneNumberDraft {
+            body: StructDraft::new(alloc)?,
+        })
+    }
+
+    /// Sets `number`.
+    pub fn set_number(&mut self, alloc: Global, value: &str) -> Result<(), DraftFault>
+        ensures set { OnOk result (self.new.body ≡ with_pointer self.old.body 0 (text_tree value.now)) }
+        ensures left { OnErr result (self.new ≡ self.old) }
+        ensures long { result ≡ Err TooLong → 2 ^ 29 ≤ length value.now + 1 }
+    {
+        self.body.set_pointer(0, cp_drafts::text_of(alloc, value)?);
+        Ok(())
+    }
+
+    /// Sets `type`.
+    pub fn set_type(&mut self, value: PersonPhoneNumberType)
+        ensures { self.new.body ≡ with_uint self.old.body 16 0 (person_phone_number_type_number value) }
+    {
+        self.body.set_u16(0, value.number());
+    }
+}
+
+/// A list of `struct Person.PhoneNumber`, to be written.
+#[derive(Drop)]
+pub struct PersonPhoneNumberListDraft {
+    /// The list.
+    pub items: StructsDraft<1, 1>,
+}
+
+impl PersonPhoneNumberListDraft {
+    /// No struct yet.
+    pub fn new(alloc: Global) -> PersonPhoneNumberListDraft
+        ensures { result.items ≡ blank_list 1 1 }
+    {
+        PersonPhoneNumberListDraft {
+            items: StructsDraft::new(alloc),
+        }
+    }
+
+    /// Adds a struct at the end.
+    pub fn push(&mut self, item: PersonPhoneNumberDraft) -> Result<(), DraftFault>
+        ensures pushed { OnOk result (self.new.items ≡ with_last self.old.items item.body) }
+        ensures left { OnErr result (self.new ≡ self.old) }
+        ensures long { result ≡ Err TooLong → ¬ ((item_count self.old.items + 1 < 2 ^ 30) × ((item_count self.old.items + 1) * (1 + 1) < 2 ^ 29)) }
+    {
+        self.items.push(item.body)
     }
 }

@@ -30,6 +30,8 @@ pub struct Book<'s> {
     pub alloc: Global,
     pub schema: &'s Schema,
     pub names: Vec<Named>,
+    /// Whether drafts are written beside the views.
+    pub drafts: bool,
 }
 
 impl<'s> Book<'s> {
@@ -49,6 +51,7 @@ impl<'s> Book<'s> {
             alloc,
             schema,
             names,
+            drafts: false,
         })
     }
 

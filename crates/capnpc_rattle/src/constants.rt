@@ -41,19 +41,13 @@ fn value_of(book: &Book<'_>, sheet: &mut Sheet<'_>, out: &mut Out, of: &Constant
             out.put("&str = ");
             out.quoted(text.as_str());
         }
-        Value::Data(bytes) => bytes_of(out, bytes.as_slice()),
+        Value::Data(bytes) => {
+            out.put("&[u8] = ");
+            out.byte_text(bytes);
+        }
         Value::Bits(bits) if of.of.lists == 0 => number(book, sheet, out, of.of.of, *bits),
         Value::Bits(_) | Value::Other => {}
     }
-}
-
-/// Writes the type and the value of a constant that is bytes.
-fn bytes_of(out: &mut Out, bytes: &[u8]) {
-    out.put("&[u8] = b\"");
-    for byte in bytes {
-        out.byte(*byte);
-    }
-    out.push('"');
 }
 
 /// Writes the type and the value of a number, a bool or a value of an enum.

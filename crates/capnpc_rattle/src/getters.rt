@@ -2,7 +2,7 @@
 
 use crate::book::Book;
 use crate::out::Arg;
-use cp_types::{Base, Slot};
+use cp_types::{Base, Field, Slot, Value};
 
 /// How a field is read: its type, its value as a definition says, and the code. They are templates of the places that
 /// `args` gives.
@@ -23,11 +23,18 @@ pub struct Getter<'b> {
     /// The lists within a list.
     inner: u32,
     size: &'static str,
+    /// What null stands for, where it is a text or data.
+    text: &'b Value,
 }
 
 impl<'b> Getter<'b> {
     /// What stands for the places of its templates, where definitions call the struct `body`.
-    pub fn args(&self, body: &'b str) -> [Arg<'b>; 9] {
+    pub fn args(&self, body: &'b str) -> [Arg<'b>; 10] {
+        let (bytes, literal) = match self.text {
+            Value::Text(text) => (Arg::Bytes(text.as_bytes()), Arg::Quoted(text.as_str())),
+            Value::Data(data) => (Arg::Bytes(data), Arg::ByteText(data)),
+            _ => (Arg::Text(self.size), Arg::Text("")),
+        };
         [
             Arg::Text(body),
             Arg::Number(self.place as u64),
@@ -37,7 +44,8 @@ impl<'b> Getter<'b> {
             Arg::Number(self.width as u64),
             Arg::Times("Result<List<'a, ", self.inner),
             Arg::Times(">, WrongKind>", self.inner),
-            Arg::Text(self.size),
+            bytes,
+            literal,
         ]
     }
 }
@@ -72,9 +80,13 @@ fn unsure(of: &'static str, value: &'static str, code: &'static str) -> Form {
 }
 
 /// How a field is read; `Err` says why it can't be written.
-pub fn read_of<'b>(book: &'b Book<'_>, slot: &Slot) -> Result<Getter<'b>, &'static str> {
-    if slot.points {
-        return Err("a pointer's default can't be written");
+pub fn read_of<'b>(
+    book: &'b Book<'_>,
+    field: &'b Field,
+    slot: &Slot,
+) -> Result<Getter<'b>, &'static str> {
+    if slot.points && !is_text(slot) {
+        return Err("a default that is a struct, a list or a pointer of any kind can't be written");
     }
     let (name, word) = names_in(book, slot.of.of)?;
     let form = form_of(slot);
@@ -95,7 +107,13 @@ pub fn read_of<'b>(book: &'b Book<'_>, slot: &Slot) -> Result<Getter<'b>, &'stat
         } else {
             size_of(slot.of.of)
         },
+        text: &field.default,
     })
+}
+
+/// Whether a field is a text or data.
+fn is_text(slot: &Slot) -> bool {
+    slot.of.lists == 0 && matches!(slot.of.of, Base::Text | Base::Data)
 }
 
 /// The node of a type that has one.
@@ -107,7 +125,7 @@ pub fn node_in(of: Base) -> Option<u64> {
 }
 
 /// The names of the node of a type that has one.
-fn names_in<'b>(book: &'b Book<'_>, of: Base) -> Result<(&'b str, &'b str), &'static str> {
+pub fn names_in<'b>(book: &'b Book<'_>, of: Base) -> Result<(&'b str, &'b str), &'static str> {
     let Some(id) = node_in(of) else {
         return Ok(("", ""));
     };
@@ -126,7 +144,7 @@ fn form_of(slot: &Slot) -> Form {
             "self.body.list($1)",
         );
     }
-    if slot.default == 0 {
+    if slot.default == 0 && !slot.points {
         plain(slot.of.of)
     } else {
         with_default(slot.of.of)
@@ -182,7 +200,7 @@ fn pointer(of: Base) -> Form {
     }
 }
 
-/// The templates of a number with a default.
+/// The templates of a number, a text or data with a default.
 fn with_default(of: Base) -> Form {
     match of {
         Base::Unsigned(_) => sure("u$5", "uint $0 $5 $1 $2", "self.body.u$5_or($1, $2)"),
@@ -201,6 +219,16 @@ fn with_default(of: Base) -> Form {
             "$3",
             "$4_of (uint $0 16 $1 $2)",
             "$3::of(self.body.u16_or($1, $2))",
+        ),
+        Base::Text => unsure(
+            "TextView<'a>",
+            "text_field ($8[]) (pointee_of $0 $1)",
+            "self.body.text_or($1, $9)",
+        ),
+        Base::Data => unsure(
+            "DataView<'a>",
+            "data_field ($8[]) (pointee_of $0 $1)",
+            "self.body.data_or($1, $9)",
         ),
         _ => plain(of),
     }
@@ -241,7 +269,7 @@ fn size_of(of: Base) -> &'static str {
 }
 
 /// The width of a number.
-fn width_of(of: Base) -> u32 {
+pub fn width_of(of: Base) -> u32 {
     match of {
         Base::Signed(width) | Base::Unsigned(width) | Base::Float(width) => width,
         _ => 16,

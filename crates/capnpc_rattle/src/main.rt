@@ -2,19 +2,22 @@
 //! writes a crate of views for each requested file into the current folder.
 //!
 //!     capnp compile -oFOLDER/capnpc_rattle:OUT X.capnp
-//!     capnp compile -o- X.capnp | capnpc_rattle [--crate=NAME] [--print]
+//!     capnp compile -o- X.capnp | capnpc_rattle [--crate=NAME] [--drafts] [--print]
 //!
-//! With `--crate=NAME` the crate has this name, and not the file's; with `--print` its files go to standard output.
+//! With `--crate=NAME` the crate has this name, and not the file's; with `--drafts` it has drafts too, by which structs are
+//! written; with `--print` its files go to standard output.
 #![tactic(auto)]
 
 mod book;
 mod comments;
 mod constants;
+mod drafts;
 mod enums;
 mod getters;
 mod names;
 mod out;
 mod pages;
+mod setters;
 mod sheet;
 mod structs;
 mod unions;
@@ -34,6 +37,8 @@ use std::{env, fs};
 struct Task {
     /// The crate's name; empty where it is the file's.
     krate: String,
+    /// Whether the crate has drafts.
+    drafts: bool,
     /// Whether the files are printed, and not written.
     prints: bool,
 }
@@ -43,16 +48,19 @@ impl Task {
     fn new(rt: &HostRuntime) -> anyhow::Result<Task> {
         let mut task = Task {
             krate: String::new(rt.alloc()),
+            drafts: false,
             prints: false,
         };
         for word in env::args(rt)?.skip(1) {
             let word = word.as_str();
             if let Some(name) = word.strip_prefix("--crate=") {
                 task.krate.push_str(name)?;
+            } else if word == "--drafts" {
+                task.drafts = true;
             } else if word == "--print" {
                 task.prints = true;
             } else {
-                bail!("{word}: neither --crate=NAME nor --print");
+                bail!("{word}: neither --crate=NAME nor --drafts nor --print");
             }
         }
         Ok(task)
@@ -145,7 +153,8 @@ struct File<'f> {
 /// Makes the crate of a file.
 fn make_crate(rt: &HostRuntime, task: &Task, schema: &Schema, file: &Node) -> anyhow::Result<()> {
     let name = crate_name(rt.alloc(), file.path(), task.krate.as_str());
-    let book = Book::of(rt.alloc(), schema, file.path(), name.as_str())?;
+    let mut book = Book::of(rt.alloc(), schema, file.path(), name.as_str())?;
+    book.drafts = task.drafts;
     put_crate(rt, task, &book, file.path(), name.as_str())
 }
 

@@ -2,8 +2,9 @@
 
 /// Types that generated code or definitions have from elsewhere.
 const TYPES: &str = "\
-    Bool Box DataView Drop Err Item List None Ok Option Past Pointee Reads Result Self \
-    Some String StructView TextView Tree Type Unit Vec WrongKind";
+    AllocError Bool Box DataView DraftFault Drop Err Global Item List None Ok Option Past Pointee Reads Result Self \
+    Some String StructDraft StructView StructsDraft TextView Tree Type Unit Vec Whole \
+    WrongKind";
 
 /// Words of Rattle.
 const OF_RATTLE: &str = "\

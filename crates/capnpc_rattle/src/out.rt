@@ -25,6 +25,12 @@ pub enum Arg<'t> {
     Module(&'t str),
     /// A text so many times.
     Times(&'static str, u32),
+    /// A text as code has it.
+    Quoted(&'t str),
+    /// Bytes as a text of bytes, as code has it.
+    ByteText(&'t [u8]),
+    /// Bytes as definitions have a list of numbers, but its end.
+    Bytes(&'t [u8]),
 }
 
 /// A text that grows. It remembers whether memory ran out, and is then without what was put last.
@@ -107,6 +113,9 @@ impl Out {
             Arg::Upper(name) => self.upper(name),
             Arg::Module(name) => self.module(name),
             Arg::Times(text, times) => self.times(text, times),
+            Arg::Quoted(text) => self.quoted(text),
+            Arg::ByteText(bytes) => self.byte_text(bytes),
+            Arg::Bytes(bytes) => self.bytes(bytes),
         }
     }
 
@@ -199,10 +208,23 @@ impl Out {
         }
     }
 
-    /// Adds a byte of a text of bytes, as code has it.
-    pub fn byte(&mut self, byte: u8) {
-        if write!(self.text, "\\x{byte:02x}").is_err() {
-            self.is_full = true;
+    /// Adds bytes as a text of bytes, as code has it.
+    pub fn byte_text(&mut self, bytes: &[u8]) {
+        self.put("b\"");
+        for byte in bytes {
+            if write!(self.text, "\\x{byte:02x}").is_err() {
+                self.is_full = true;
+            }
+        }
+        self.push('"');
+    }
+
+    /// Adds bytes as definitions have a list of numbers, but its end.
+    fn bytes(&mut self, bytes: &[u8]) {
+        for byte in bytes {
+            if write!(self.text, "{byte} ∷ ").is_err() {
+                self.is_full = true;
+            }
         }
     }
 

@@ -124,6 +124,9 @@ pub fn line_of(book: &Book<'_>, sheets: &[Sheet<'_>], krate: &str) -> Out {
         &[Arg::Text(krate)],
     );
     let mut crates = Out::new(book.alloc);
+    if book.drafts {
+        crates.put("cp_drafts\n");
+    }
     for sheet in sheets {
         crates.put(sheet.crates.as_str());
     }

@@ -126,6 +126,19 @@ impl<'b> Sheet<'b> {
         }
     }
 
+    /// Imports the definition of the numbers of an enum's values, of another module, for clauses.
+    pub fn cite_numbers(&mut self, named: &Named) {
+        if self.is_elsewhere(named) {
+            let args = [
+                Arg::Text(named.krate.as_str()),
+                Arg::Module(named.module.as_str()),
+                Arg::Text(named.word.as_str()),
+            ];
+            self.cited
+                .fill("ghost use Rattle.$0.specs.$1.{$2_number};\n", &args);
+        }
+    }
+
     /// Imports the definition of an enum's values, of another module, for definitions.
     pub fn import_values(&mut self, named: &Named) {
         if self.is_elsewhere(named) {

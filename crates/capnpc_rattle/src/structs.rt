@@ -2,6 +2,7 @@
 
 use crate::book::{Book, Named};
 use crate::comments::about;
+use crate::drafts::draft;
 use crate::getters::{Getter, node_in, read_of};
 use crate::out::{Arg, Out};
 use crate::sheet::Sheet;
@@ -81,6 +82,9 @@ pub fn structure<'b>(
     }
     if of.tags > 0 {
         union_code(book, sheet, node, named, of);
+    }
+    if book.drafts && !of.is_group {
+        draft(book, sheet, node, named, of);
     }
 }
 
@@ -218,14 +222,14 @@ fn slot_method<'b>(
     book: &'b Book<'_>,
     sheet: &mut Sheet<'b>,
     node: &Node,
-    field: &Field,
+    field: &'b Field,
     (i, slot): (usize, &Slot),
 ) {
     if is_void(&field.kind) {
         return;
     }
     let name = field.name.as_str();
-    match read_of(book, slot) {
+    match read_of(book, field, slot) {
         Ok(getter) => {
             sheet.begin_method();
             let args = [Arg::Text(name), Arg::Number(field.ordinal as u64)];

@@ -80,13 +80,13 @@ fn members<'b>(sheet: &Sheet<'_>, of: &'b Structure) -> Result<Vec<&'b Field>, A
 }
 
 /// What a field of a union holds. What can't be written was refused where its method is.
-fn held_by<'b>(book: &'b Book<'_>, field: &Field) -> Held<'b> {
+fn held_by<'b>(book: &'b Book<'_>, field: &'b Field) -> Held<'b> {
     match &field.kind {
         FieldKind::Group(id) => match book.find(*id) {
             Some(named) => Held::Group(named.name.as_str()),
             None => Held::Nothing,
         },
-        FieldKind::Slot(slot) => match read_of(book, slot) {
+        FieldKind::Slot(slot) => match read_of(book, field, slot) {
             Ok(getter) if !is_void(&field.kind) => Held::Slot(getter),
             _ => Held::Nothing,
         },
@@ -95,7 +95,7 @@ fn held_by<'b>(book: &'b Book<'_>, field: &Field) -> Held<'b> {
 }
 
 /// The lifetime of the type of what members hold, if some are views.
-fn lifetime(book: &Book<'_>, members: &[&Field]) -> &'static str {
+fn lifetime<'b>(book: &'b Book<'_>, members: &[&'b Field]) -> &'static str {
     for member in members {
         match held_by(book, member) {
             Held::Group(_) => return "<'a>",
@@ -120,7 +120,12 @@ pub fn union_method<'b>(
 }
 
 /// Writes the method that reads the member that is set.
-fn member_method(book: &Book<'_>, sheet: &mut Sheet<'_>, named: &Named, members: &[&Field]) {
+fn member_method<'b>(
+    book: &'b Book<'_>,
+    sheet: &mut Sheet<'_>,
+    named: &Named,
+    members: &[&'b Field],
+) {
     let name = named.name.as_str();
     let args = [
         Arg::Text(name),
@@ -234,12 +239,12 @@ fn which_type<'n>(
 }
 
 /// Writes the type of the member that is set.
-fn member_type<'n>(
-    book: &Book<'_>,
+fn member_type<'n, 'b>(
+    book: &'b Book<'_>,
     sheet: &mut Sheet<'_>,
     node: &'n Node,
     named: &'n Named,
-    members: &[&Field],
+    members: &[&'b Field],
 ) {
     let args = [
         Arg::Text(named.name.as_str()),
@@ -268,12 +273,12 @@ fn member_type<'n>(
 }
 
 /// Writes the definitions of the member that is set.
-fn member_specs(
-    book: &Book<'_>,
+fn member_specs<'b>(
+    book: &'b Book<'_>,
     sheet: &mut Sheet<'_>,
     named: &Named,
     place: u32,
-    members: &[&Field],
+    members: &[&'b Field],
 ) {
     let word = named.word.as_str();
     let args = [
@@ -293,7 +298,7 @@ fn member_specs(
 }
 
 /// Writes what definitions say of a member.
-fn member_spec(book: &Book<'_>, sheet: &mut Sheet<'_>, word: &str, member: &Field) {
+fn member_spec<'b>(book: &'b Book<'_>, sheet: &mut Sheet<'_>, word: &str, member: &'b Field) {
     let args = [Arg::Text(word), Arg::Variant(member.name.as_str())];
     let specs = &mut sheet.specs;
     specs.fill("$0_member_of t $0_whichs.$1 = ", &args);

@@ -1,14 +1,17 @@
 //! The imports of generated code and definitions: of each name that the text has, and of no other.
 
-use crate::out::{Arg, Out};
+use crate::out::{Arg, Out, name_of};
 use crate::sheet::Sheet;
 
 /// A module, and the words that it has for clauses or definitions.
 type Module = (&'static str, &'static [&'static str]);
 
 /// The words of the libraries that generated text cites.
-const LIBRARY: [Module; 6] = [
-    ("std.specs.Int", &["cast_signed", "w16", "w32", "w64", "w8"]),
+const LIBRARY: [Module; 9] = [
+    (
+        "std.specs.Int",
+        &["cast_signed", "cast_unsigned", "w16", "w32", "w64", "w8"],
+    ),
     ("std.specs.Float", &["binary32", "binary64"]),
     ("cp_tree.specs.Seen", &["pointee_of"]),
     ("cp_fields.specs.Numbers", &["flag", "plain", "uint"]),
@@ -25,6 +28,29 @@ const LIBRARY: [Module; 6] = [
         ],
     ),
     (WRONG_KIND, &["WrongKind"]),
+    ("cp_drafts.specs.Numbers", &["flag_bit"]),
+    (
+        "cp_drafts.specs.declared.fault.DraftFault.TheVariants",
+        &["TooLong"],
+    ),
+    (
+        "cp_drafts.specs.Drafts",
+        &[
+            "bits_tree",
+            "blank",
+            "blank_list",
+            "bytes_tree",
+            "cap_tree",
+            "halves_tree",
+            "item_count",
+            "quads_tree",
+            "text_tree",
+            "with_last",
+            "with_pointer",
+            "with_uint",
+            "words_tree",
+        ],
+    ),
 ];
 
 /// Where definitions have the kinds that a pointer may be of from.
@@ -42,8 +68,20 @@ const FIELDS: [&str; 8] = [
     "WrongKind",
 ];
 
+/// The paths of the types of other libraries that the code of drafts cites.
+const DRAFTS: [&str; 8] = [
+    "cp_drafts::DraftFault",
+    "cp_drafts::StructDraft",
+    "cp_drafts::StructsDraft",
+    "cp_tree::Whole",
+    "std::alloc::AllocError",
+    "std::alloc::Global",
+    "std::num::f32_to_bits_with_nan",
+    "std::num::f64_to_bits_with_nan",
+];
+
 /// Parts of a text, and the words of the prelude that it has where it has them.
-const PRELUDE: [(&str, &str); 9] = [
+const PRELUDE: [(&str, &str); 22] = [
     ("ℕ", "ℕ"),
     (" ≡ ", "◌≡◌"),
     (" == ", "◌==◌"),
@@ -52,6 +90,19 @@ const PRELUDE: [(&str, &str); 9] = [
     ("= Ok", "Ok"),
     ("not (", "not"),
     ("from_bits", "from_bits"),
+    ("to_bits binary", "to_bits"),
+    ("bit_xor", "bit_xor"),
+    ("IfOk", "IfOk"),
+    ("OnOk", "OnOk"),
+    ("OnErr", "OnErr"),
+    ("≡ Err", "Err"),
+    (" ≤ ", "◌≤◌"),
+    ("2 ^ ", "◌^◌"),
+    ("length value", "length"),
+    (" + 1", "◌+◌"),
+    (") * (", "◌*◌"),
+    (" < 2 ^", "◌<◌"),
+    (" ∷ ", "◌∷◌"),
     ("[]", "[]"),
 ];
 
@@ -200,6 +251,11 @@ pub fn of_code(sheet: &Sheet<'_>, out: &mut Out) {
     for name in &FIELDS {
         if has_word(sheet.code.as_str(), name) {
             paths.fill("cp_fields::$0\n", &[Arg::Text(name)]);
+        }
+    }
+    for path in &DRAFTS {
+        if has_word(sheet.code.as_str(), name_of(path)) {
+            paths.fill("$0\n", &[Arg::Text(path)]);
         }
     }
     let mut uses = Out::new(sheet.alloc);

@@ -3,7 +3,8 @@
 use crate::fault::RequestFault;
 use crate::kind::{DEEPEST, Type, type_of};
 use crate::load::{Load, text_of};
-use cp_schemas::{FieldSlotView, FieldView, FieldWhich, ValueView, ValueWhich};
+use crate::value::{Value, bits_of, is_null, value_of};
+use cp_schemas::{FieldSlotView, FieldView, FieldWhich};
 use std::alloc::Global;
 
 /// A field of a struct.
@@ -15,6 +16,7 @@ pub struct Field {
     /// Its number in the schema, if it isn't a group.
     pub ordinal: u16,
     pub kind: FieldKind,
+    pub default: Value,
 }
 
 /// What a field is.
@@ -49,12 +51,22 @@ impl Field {
 impl<'n> Load<FieldView<'n>> for Field {
     fn load(alloc: Global, view: &FieldView<'n>) -> Result<Field, RequestFault> {
         let kind = kind_of(view)?;
+        let name = text_of(alloc, view.name())?;
         Ok(Field {
-            name: text_of(alloc, view.name())?,
+            name,
             tag: view.discriminant_value(),
             ordinal: view.ordinal().explicit(),
             kind,
+            default: default_of(alloc, view)?,
         })
+    }
+}
+
+/// The default of a field.
+fn default_of(alloc: Global, view: &FieldView<'_>) -> Result<Value, RequestFault> {
+    match view.which() {
+        FieldWhich::Slot => value_of(alloc, &view.slot().default_value()?),
+        _ => Ok(Value::Other),
     }
 }
 
@@ -78,26 +90,4 @@ fn slot_of(view: &FieldSlotView<'_>) -> Result<FieldKind, RequestFault> {
         default: bits_of(&value),
         points,
     }))
-}
-
-/// The bits of a number.
-pub(crate) fn bits_of(value: &ValueView<'_>) -> u64 {
-    match value.which() {
-        ValueWhich::Bool => value.bool_() as u64,
-        ValueWhich::Int8 | ValueWhich::Uint8 => value.uint8() as u64,
-        ValueWhich::Int16 | ValueWhich::Uint16 | ValueWhich::Enum => value.uint16() as u64,
-        ValueWhich::Int32 | ValueWhich::Uint32 | ValueWhich::Float32 => value.uint32() as u64,
-        ValueWhich::Int64 | ValueWhich::Uint64 | ValueWhich::Float64 => value.uint64(),
-        _ => 0,
-    }
-}
-
-/// Whether a value is no pointer, or one that is null or empty.
-fn is_null(value: &ValueView<'_>) -> Result<bool, RequestFault> {
-    Ok(match value.which() {
-        ValueWhich::Text => value.text()?.is_empty(),
-        ValueWhich::Data => value.data_()?.is_empty(),
-        ValueWhich::List | ValueWhich::Struct | ValueWhich::AnyPointer => value.list().is_null(),
-        _ => true,
-    })
 }

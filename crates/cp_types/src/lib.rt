@@ -6,8 +6,10 @@ mod field;
 mod kind;
 mod load;
 mod node;
+mod value;
 
 pub use fault::RequestFault;
 pub use field::{Field, FieldKind, Slot};
 pub use kind::{Base, Type};
-pub use node::{Comments, Constant, File, Method, Node, NodeKind, Schema, Structure, Value};
+pub use node::{Comments, Constant, File, Method, Node, NodeKind, Schema, Structure};
+pub use value::Value;

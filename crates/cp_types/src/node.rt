@@ -1,16 +1,17 @@
 //! The nodes of a request: its files, structs, enums, interfaces and constants.
 
 use crate::fault::RequestFault;
-use crate::field::{Field, bits_of};
+use crate::field::Field;
 use crate::kind::{DEEPEST, Type, type_of};
 use crate::load::{Load, load_all, text_of};
+use crate::value::{Value, value_of};
 use cp_fields::Pointee;
 use cp_frame::FrameReader;
 use cp_reading::View;
 use cp_schemas::{
     CodeGeneratorRequestRequestedFileImportView, CodeGeneratorRequestRequestedFileView,
     CodeGeneratorRequestView, EnumerantView, MethodView, NodeConstView, NodeSourceInfoMemberView,
-    NodeSourceInfoView, NodeStructView, NodeView, NodeWhich, ValueView, ValueWhich,
+    NodeSourceInfoView, NodeStructView, NodeView, NodeWhich,
 };
 use cp_words::{Limits, Segments};
 use std::alloc::Global;
@@ -68,6 +69,9 @@ pub enum NodeKind {
 #[derive(Drop)]
 pub struct Structure {
     pub is_group: bool,
+    /// The numbers of its data words and pointers.
+    pub words: u16,
+    pub pointers: u16,
     /// The number of members of its union; 0 where it has none.
     pub tags: u16,
     /// Where the number of the member is that is set.
@@ -88,17 +92,6 @@ pub struct Method {
 pub struct Constant {
     pub of: Type,
     pub value: Value,
-}
-
-/// The value of a constant.
-#[derive(Drop)]
-pub enum Value {
-    /// A number, a bool or a value of an enum, by its bits.
-    Bits(u64),
-    Text(String),
-    Data(Vec<u8>),
-    /// A value of another type.
-    Other,
 }
 
 impl Schema {
@@ -189,6 +182,8 @@ fn kind_of(alloc: Global, view: &NodeView<'_>) -> Result<NodeKind, RequestFault>
 fn structure_of(alloc: Global, view: &NodeStructView<'_>) -> Result<NodeKind, RequestFault> {
     Ok(NodeKind::Struct(Structure {
         is_group: view.is_group(),
+        words: view.data_word_count(),
+        pointers: view.pointer_count(),
         tags: view.discriminant_count(),
         tag_place: view.discriminant_offset(),
         fields: load_all(alloc, view.fields()?)?,
@@ -202,18 +197,6 @@ fn constant_of(alloc: Global, view: &NodeConstView<'_>) -> Result<NodeKind, Requ
         of,
         value: value_of(alloc, &view.value()?)?,
     }))
-}
-
-/// The value of a constant.
-fn value_of(alloc: Global, view: &ValueView<'_>) -> Result<Value, RequestFault> {
-    match view.which() {
-        ValueWhich::Text => text_of(alloc, view.text()).map(Value::Text),
-        ValueWhich::Data => Ok(Value::Data(view.data_()?.to_vec(alloc)?)),
-        ValueWhich::Void | ValueWhich::List | ValueWhich::Struct => Ok(Value::Other),
-        ValueWhich::Interface | ValueWhich::AnyPointer => Ok(Value::Other),
-        ValueWhich::Unknown(_) => Ok(Value::Other),
-        _ => Ok(Value::Bits(bits_of(view))),
-    }
 }
 
 impl<'n> Load<EnumerantView<'n>> for String {

@@ -1,15 +1,18 @@
 //! Reads an address book in place, by the names that its schema has: crates/addressbook/addressbook.capnp, of which
-//! capnpc_rattle made the crate addressbook.
+//! capnpc_rattle made the crate addressbook. Then writes another one, and reads it.
 #![tactic(auto)]
 
 use addressbook::{
-    AddressBookView, PersonEmploymentMember, PersonPhoneNumberType, PersonPhoneNumberView,
-    PersonView,
+    AddressBookDraft, AddressBookView, PersonDraft, PersonEmploymentMember, PersonListDraft,
+    PersonPhoneNumberDraft, PersonPhoneNumberListDraft, PersonPhoneNumberType,
+    PersonPhoneNumberView, PersonView,
 };
 use anyhow::anyhow;
 use cp_fields::{Pointee, TextView};
-use cp_frame::FrameReader;
+use cp_frame::{FrameReader, Mode};
 use cp_reading::View;
+use cp_stream::Tap;
+use cp_structs::write_struct;
 use cp_words::{Limits, Segments};
 use std::alloc::Global;
 use std::fs;
@@ -60,6 +63,39 @@ fn print_person(rt: &HostRuntime, person: &PersonView<'_>) -> anyhow::Result<()>
     Ok(())
 }
 
+/// The people of the book that is written.
+fn people(alloc: Global) -> anyhow::Result<PersonListDraft> {
+    let mut phone = PersonPhoneNumberDraft::new(alloc)?;
+    phone.set_number(alloc, "555-1414")?;
+    phone.set_type(PersonPhoneNumberType::Work);
+    let mut phones = PersonPhoneNumberListDraft::new(alloc);
+    phones.push(phone)?;
+    let mut carol = PersonDraft::new(alloc)?;
+    carol.set_id(789);
+    carol.set_name(alloc, "Carol")?;
+    carol.set_phones(phones);
+    carol.set_employment_employer(alloc, "ETH")?;
+    let mut people = PersonListDraft::new(alloc);
+    people.push(carol)?;
+    Ok(people)
+}
+
+/// The bytes of the book that is written.
+fn written(alloc: Global) -> anyhow::Result<Vec<u8>> {
+    let mut book = AddressBookDraft::new(alloc)?;
+    book.set_people(people(alloc)?);
+    let mut to = Tap::new(Vec::new(alloc));
+    let limits = Limits::standard();
+    write_struct(
+        alloc,
+        &mut to,
+        &book.body.into_object(),
+        Mode::Plain,
+        limits,
+    )?;
+    Ok(to.into_inner())
+}
+
 /// Prints the people of an address book.
 fn print_book(rt: &HostRuntime, segments: &Segments) -> anyhow::Result<()> {
     let view = View::root(segments, Limits::standard()).map_err(|fault| anyhow!("{fault}"))?;
@@ -69,11 +105,16 @@ fn print_book(rt: &HostRuntime, segments: &Segments) -> anyhow::Result<()> {
     Ok(())
 }
 
-fn main(rt: HostRuntime) -> anyhow::Result<()> {
-    let bytes = fs::read(&rt, "book.bin")?;
+/// Prints the address books that bytes hold.
+fn print_all(rt: &HostRuntime, bytes: &[u8]) -> anyhow::Result<()> {
     let mut reader = FrameReader::plain(rt.alloc(), Limits::standard());
-    for (_, segments) in &reader.feed(&bytes)? {
-        print_book(&rt, segments)?;
+    for (_, segments) in &reader.feed(bytes)? {
+        print_book(rt, segments)?;
     }
     Ok(reader.finish()?)
+}
+
+fn main(rt: HostRuntime) -> anyhow::Result<()> {
+    print_all(&rt, &fs::read(&rt, "book.bin")?)?;
+    print_all(&rt, &written(rt.alloc())?)
 }
