@@ -1,0 +1,140 @@
+//! Structs that are written by the places of their fields, and over readers and writers.
+
+use cp_drafts::*;
+use cp_fields::{Pointee, StructView};
+use cp_frame::Mode;
+use cp_stream::Tap;
+use cp_structs::{read_struct, write_struct};
+use cp_tree::{Object, Tree, Whole};
+use cp_words::Limits;
+use std::alloc::Global;
+use std::process::Abort;
+
+/// A draft with numbers of each width, a text and a capability.
+fn sample(rt: &impl Abort, alloc: Global) -> StructDraft<2, 3> {
+    let mut draft: StructDraft<2, 3> = StructDraft::new(alloc).expect(rt, "memory");
+    draft.set_bit(0, true);
+    draft.set_u8(1, 255);
+    draft.set_u16(1, 0x8001);
+    draft.set_u32(1, 7);
+    draft.set_u64(1, u64::MAX);
+    draft.set_pointer(0, text_of(alloc, "ab").expect(rt, "a text"));
+    draft.set_pointer(1, cap_of(3));
+    draft
+}
+
+/// What the sample says.
+fn expect_sample(rt: &impl Abort, root: &StructView) {
+    check!(rt; root.bit(0));
+    check!(rt; root.u8(1) == 255);
+    check!(rt; root.u16(1) == 0x8001);
+    check!(rt; root.u32(1) == 7);
+    check!(rt; root.u64(1) == u64::MAX);
+    check!(rt; root.text(0).expect(rt, "a text").len() == 2);
+    check!(rt; root.cap(1) == Ok(Some(3)));
+    check!(rt; root.pointer(2).is_null());
+}
+
+/// What an object that is the sample says.
+fn expect_object(rt: &impl Abort, object: &Object) {
+    let root = StructView::of(Pointee::of_object(object)).expect(rt, "a struct");
+    expect_sample(rt, &root);
+}
+
+#[test]
+fn fields_are_set(rt: HostRuntime) {
+    let object = sample(&rt, rt.alloc()).into_object();
+    expect_object(&rt, &object);
+    drop(object);
+}
+
+/// A draft of the fields that an object has.
+fn taken(rt: &impl Abort, alloc: Global, object: &Object) -> StructDraft<2, 3> {
+    let root = StructView::of(Pointee::of_object(object)).expect(rt, "a struct");
+    StructDraft::of_view(alloc, &root).expect(rt, "memory")
+}
+
+#[test]
+fn a_draft_is_made_of_a_view(rt: HostRuntime) {
+    let first = sample(&rt, rt.alloc()).into_object();
+    let second = taken(&rt, rt.alloc(), &first).into_object();
+    check!(&rt; first.tree() == second.tree());
+    drop(first);
+    drop(second);
+}
+
+/// A part is this tree.
+fn expect_part(rt: &impl Abort, part: Result<Whole, DraftFault>, wanted: Tree) {
+    let part = part.expect(rt, "a part");
+    check!(rt; *part.tree() == wanted);
+    drop(part);
+    drop(wanted);
+}
+
+#[test]
+fn parts_of_each_kind_are_made(rt: HostRuntime) {
+    let alloc = rt.alloc();
+    expect_part(&rt, voids_of(3), Tree::Voids(3));
+    let bits = vec![in alloc; true, false].expect(&rt, "memory");
+    let same = vec![in alloc; true, false].expect(&rt, "memory");
+    expect_part(&rt, bits_of(bits), Tree::Bits(same));
+    let halves = vec![in alloc; 1, 0xffff].expect(&rt, "memory");
+    let same = vec![in alloc; 1, 0xffff].expect(&rt, "memory");
+    expect_part(&rt, halves_of(halves), Tree::Halves(same));
+    let words = vec![in alloc; u64::MAX].expect(&rt, "memory");
+    let same = vec![in alloc; u64::MAX].expect(&rt, "memory");
+    expect_part(&rt, words_of(words), Tree::Words(same));
+}
+
+#[test]
+fn parts_are_put_into_lists(rt: HostRuntime) {
+    let alloc = rt.alloc();
+    let bytes = vec![in alloc; 1, 2].expect(&rt, "memory");
+    let quads = vec![in alloc; 3].expect(&rt, "memory");
+    let mut parts = Vec::new(alloc);
+    parts
+        .push(bytes_of(bytes).expect(&rt, "bytes"))
+        .expect(&rt, "memory");
+    parts
+        .push(quads_of(quads).expect(&rt, "numbers"))
+        .expect(&rt, "memory");
+    let list = pointers_of(alloc, parts).expect(&rt, "a list");
+    check!(&rt; matches!(list.tree(), Tree::Ptrs(items) if items.len() == 2));
+    drop(list);
+}
+
+/// A struct whose pointer 0 is a list of two samples.
+fn two_samples(rt: &impl Abort, alloc: Global) -> Object {
+    let mut list: StructsDraft<2, 3> = StructsDraft::new(alloc);
+    list.push(sample(rt, alloc)).expect(rt, "memory");
+    list.push(sample(rt, alloc)).expect(rt, "memory");
+    let mut root: StructDraft<0, 1> = StructDraft::new(alloc).expect(rt, "memory");
+    root.set_pointer(0, list.into_whole());
+    root.into_object()
+}
+
+/// Both samples of a struct that was read.
+fn expect_two(rt: &impl Abort, whole: &Whole) {
+    let root = StructView::of(Pointee::of_whole(whole)).expect(rt, "a struct");
+    let list = root.list::<StructView<'_>>(0).expect(rt, "a list");
+    check!(rt; list.len() == 2);
+    for item in list {
+        expect_sample(rt, &item);
+    }
+}
+
+#[test]
+fn structs_are_written_and_read(rt: HostRuntime) {
+    let alloc = rt.alloc();
+    let object = two_samples(&rt, alloc);
+    let mut to = Tap::new(Vec::new(alloc));
+    write_struct(alloc, &mut to, &object, Mode::Packed, Limits::standard()).expect(&rt, "written");
+    drop(object);
+    let bytes = to.into_inner();
+    let mut from = Tap::new(bytes.as_slice());
+    let found = read_struct(alloc, &mut from, Mode::Packed, Limits::standard()).expect(&rt, "read");
+    let whole = found.expect(&rt, "a struct");
+    expect_two(&rt, &whole);
+    drop(whole);
+    check!(&rt; from.bytes() == bytes.len() as u64);
+}
