@@ -1,43 +1,63 @@
 //! What a vat sends, in bytes.
 
+use crate::playing::is_reported;
+use crate::script::UNREAD;
 use cp_frame::Mode;
-use cp_machine::{Acted, Effect};
-use cp_rpc::{Bootstrap, Message};
+use cp_machine::{Acted, Effect, Value};
+use cp_rpc::Message;
+use cp_scripts::{Lines, event_of};
 use cp_stream::{Tap, write_message};
 use cp_vat::Vat;
 use cp_words::Limits;
 use std::alloc::Global;
-use std::process::Abort;
 
-/// The message that was sent, alone.
-fn sent<'a>(rt: &impl Abort, acted: &'a Acted<()>) -> &'a Message {
-    match acted.effects.effects() {
-        [Effect::Send(message)] => message,
-        _ => panic!(rt; "not one message was sent"),
+/// The lines of the events of a script, and of the bytes of each message that a new vat sends, plain and packed.
+pub fn sent(alloc: Global, bootstrap: Option<u32>, script: &str) -> Lines {
+    let mut vat = Vat::new(alloc, bootstrap);
+    let mut lines = Lines::new(alloc);
+    for line in script.lines() {
+        if !is_reported(line) {
+            lines.push_line(line);
+            turn(alloc, &mut vat, line, &mut lines);
+        }
+    }
+    drop(vat);
+    lines
+}
+
+/// Plays the event of a line.
+fn turn(alloc: Global, vat: &mut Vat, line: &str, lines: &mut Lines) {
+    let Some(event) = event_of(alloc, line) else {
+        return lines.push(UNREAD);
+    };
+    match vat.act(event) {
+        Ok(acted) => {
+            push_sent(alloc, &acted, lines);
+            drop(acted);
+        }
+        Err(fault) => lines.push_fault(fault),
     }
 }
 
-/// The message is written as these bytes.
-fn expect_bytes(rt: &impl Abort, alloc: Global, message: &Message, mode: Mode, wanted: &str) {
-    let mut to = Tap::new(Vec::new(alloc));
-    let written = write_message(alloc, &mut to, message, mode, Limits::standard());
-    assert!(rt; written.is_ok());
-    let bytes = hex::encode(alloc, to.into_inner()).expect(rt, "memory");
-    assert_eq!(rt; bytes.as_str(), wanted);
+fn push_sent(alloc: Global, acted: &Acted<Value>, lines: &mut Lines) {
+    for effect in acted.effects.effects() {
+        if let Effect::Send(message) = effect {
+            push_bytes(alloc, message, Mode::Plain, "> plain ", lines);
+            push_bytes(alloc, message, Mode::Packed, "> packed ", lines);
+        }
+    }
 }
 
-#[test]
-fn the_return_of_a_bootstrap(rt: HostRuntime) {
-    let mut vat = Vat::new(rt.alloc(), Some(0));
-    let message = Message::Bootstrap(Bootstrap { question_id: 0 });
-    let acted = vat.receive(message).expect(&rt, "an answer");
-    drop(vat);
-    let message = sent(&rt, &acted);
-    let plain = "000000000b0000000000000001000100030000000000000000000000020001000000000001000000\
-        00000000000000000000000000000200030000000000000001000000170000000400000001000100\
-        01000000000000000000000000000000";
-    let packed = "100b500101010350020110010000400201031101175104010101010000";
-    expect_bytes(&rt, rt.alloc(), message, Mode::Plain, plain);
-    expect_bytes(&rt, rt.alloc(), message, Mode::Packed, packed);
-    drop(acted);
+/// Adds the line of a message's bytes.
+fn push_bytes(alloc: Global, message: &Message, mode: Mode, name: &str, lines: &mut Lines) {
+    let mut to = Tap::new(Vec::new(alloc));
+    let written = write_message(alloc, &mut to, message, mode, Limits::standard());
+    let digits = hex::encode(alloc, to.into_inner());
+    match (written, digits) {
+        (Ok(_), Ok(digits)) => {
+            lines.push(name);
+            lines.push_line(digits.as_str());
+        }
+        _ => lines.push(UNREAD),
+    }
 }

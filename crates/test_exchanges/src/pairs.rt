@@ -1,110 +1,94 @@
-//! Scripts of two vats, played. A line that begins with A or B is what that vat does; `takes` is the
-//! next message that is on the way to it.
+//! Scripts of two vats, played. A line that begins with A or B is what that vat does; `takes` is the next message that is on
+//! the way to it.
 
-use crate::playing::{expect_lines, read};
-use cp_machine::{Effect, Event};
-use cp_rpc::Message;
-use cp_scripts::{Lines, Taken, act};
-use cp_vat::Vat;
+use crate::playing::Player;
+use crate::script::UNREAD;
+use cp_scripts::Lines;
 use std::alloc::Global;
-use std::process::Abort;
 
-/// One of two vats, and the messages that are on the way to it, the oldest first.
+/// One of two vats, the lines of the messages that were sent to it, and how many of them it took.
 #[derive(Drop)]
-struct End {
+pub struct End {
     alloc: Global,
-    taken: Taken,
-    vat: Vat,
-    inbox: Vec<Message>,
+    player: Player,
+    sent: Lines,
+    taken: usize,
 }
 
 impl End {
-    fn new(alloc: Global, bootstrap: Option<u32>, taken: Taken) -> End {
+    pub fn new(alloc: Global, player: Player) -> End {
         End {
             alloc,
-            taken,
-            vat: Vat::new(alloc, bootstrap),
-            inbox: Vec::new(alloc),
+            player,
+            sent: Lines::new(alloc),
+            taken: 0,
         }
     }
 
-    fn next(&mut self, rt: &impl Abort) -> Message {
-        if self.inbox.is_empty() {
-            panic!(rt; "nothing is on the way");
-        }
-        self.inbox.remove(0)
-    }
-
-    /// The event of a line.
-    fn event(&mut self, rt: &impl Abort, line: &str, lines: &mut Lines) -> Event {
+    /// Plays the event of a line, and gives the lines of what follows. Where a message is taken its line is added.
+    fn turn(&mut self, line: &str, lines: &mut Lines) -> Lines {
         if line != "takes" {
-            return read(rt, self.alloc, line);
+            return self.player.turn(line, true);
         }
-        let message = self.next(rt);
-        lines.push("< ");
-        lines.push_message(&message);
-        Event::Receive(message)
+        let next = self.next();
+        let event = next.text().unwrap_or(UNREAD).trim_end();
+        lines.push_line(event);
+        let told = self.player.turn(event, true);
+        drop(next);
+        told
     }
 
-    /// What was sent is on the way to this end.
-    fn comes(&mut self, rt: &impl Abort, effects: Vec<Effect>) {
-        for effect in effects {
-            if let Effect::Send(message) = effect {
-                self.inbox.push(message).expect(rt, "memory");
+    /// The line by which the next message comes.
+    fn next(&mut self) -> Lines {
+        let mut line = Lines::new(self.alloc);
+        line.push("< ");
+        line.push(self.sent_line());
+        self.taken = self.taken.saturating_add(1);
+        line
+    }
+
+    /// The line of the next message.
+    fn sent_line(&self) -> &str {
+        let mut left = self.sent.text().unwrap_or(UNREAD).lines().skip(self.taken);
+        left.next().unwrap_or("nothing")
+    }
+
+    /// What is sent comes.
+    fn come(&mut self, lines: &str) {
+        for line in lines.lines() {
+            if let Some(message) = line.strip_prefix("> ") {
+                self.sent.push_line(message);
             }
         }
     }
 }
 
-/// Plays a line at one end. What it sends is then on the way to the other.
-fn turn(rt: &impl Abort, near: &mut End, far: &mut End, line: &str, lines: &mut Lines) {
-    let event = near.event(rt, line, lines);
-    let given = act(near.alloc, &mut near.vat, event, near.taken);
-    match given.expect(rt, "a message") {
-        Ok(acted) => {
-            lines.push_acted(&acted);
-            far.comes(rt, acted.effects.into_effects());
-        }
-        Err(fault) => lines.push_fault(fault),
+/// Plays the event of a line at one end. What is sent is then on the way to the other.
+fn turn(near: &mut End, far: &mut End, line: &str, lines: &mut Lines) {
+    let told = near.turn(line, lines);
+    lines.push(told.text().unwrap_or(UNREAD));
+    far.come(told.text().unwrap_or(UNREAD));
+    drop(told);
+}
+
+/// Plays a line, if it is an event.
+fn play(first: &mut End, second: &mut End, line: &str, lines: &mut Lines) {
+    if let Some(event) = line.strip_prefix("A ") {
+        lines.push_line(line);
+        turn(first, second, event, lines);
+    } else if let Some(event) = line.strip_prefix("B ") {
+        lines.push_line(line);
+        turn(second, first, event, lines);
     }
 }
 
-/// An exchange of two vats: what it shows, what Bootstraps of the one and of the other get, and its script.
-#[derive(Clone, Copy)]
-pub struct Pair<'a> {
-    pub name: &'a str,
-    pub bootstraps: (Option<u32>, Option<u32>),
-    pub script: &'a [&'a str],
-}
-
-/// Two vats do what each script says, however they take in messages.
-pub fn expect_pairs(rt: &impl Abort, alloc: Global, pairs: &[Pair]) {
-    for pair in pairs {
-        for taken in [Taken::Owned, Taken::InPlace] {
-            let first = End::new(alloc, pair.bootstraps.0, taken);
-            let second = End::new(alloc, pair.bootstraps.1, taken);
-            expect_ends(rt, first, second, pair);
-        }
-    }
-}
-
-fn expect_ends(rt: &impl Abort, mut first: End, mut second: End, pair: &Pair) {
-    let mut lines = Lines::new(first.alloc);
-    let mut wanted = Lines::new(first.alloc);
-    for part in pair.script {
-        for line in part.lines() {
-            let line = line.trim();
-            wanted.push_line(line);
-            if let Some(event) = line.strip_prefix("A ") {
-                lines.push_line(line);
-                turn(rt, &mut first, &mut second, event, &mut lines);
-            } else if let Some(event) = line.strip_prefix("B ") {
-                lines.push_line(line);
-                turn(rt, &mut second, &mut first, event, &mut lines);
-            }
-        }
+/// The lines of the events of a script, and of what two vats do.
+pub fn both_played(alloc: Global, mut first: End, mut second: End, script: &str) -> Lines {
+    let mut lines = Lines::new(alloc);
+    for line in script.lines() {
+        play(&mut first, &mut second, line, &mut lines);
     }
     drop(first);
     drop(second);
-    expect_lines(rt, pair.name, &lines, &wanted);
+    lines
 }

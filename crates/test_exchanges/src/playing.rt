@@ -1,52 +1,62 @@
-//! Scripts, played. A line of a script is what comes to a vat, or what follows.
+//! Scripts, played event by event.
 
-use crate::running::expect_run;
-use cp_machine::Event;
+use crate::script::UNREAD;
+use cp_machine::{Acted, Value, VatFault};
 use cp_scripts::{Lines, Taken, act, event_of};
 use cp_vat::Vat;
 use std::alloc::Global;
-use std::process::Abort;
 
-/// An exchange of a new vat with its peer: what it shows, the object that a Bootstrap gets, and its script,
-/// whose parts come one after another.
-#[derive(Clone, Copy)]
-pub struct Exchange<'a> {
-    pub name: &'a str,
-    pub bootstrap: Option<u32>,
-    pub script: &'a [&'a str],
+/// A vat, which takes in messages in one way.
+#[derive(Drop)]
+pub struct Player {
+    alloc: Global,
+    taken: Taken,
+    vat: Vat,
 }
 
-/// Each of these exchanges goes as its script says.
-pub fn expect_all(rt: &impl Abort, alloc: Global, exchanges: &[Exchange]) {
-    for exchange in exchanges {
-        expect(rt, alloc, exchange);
-    }
-}
-
-/// A new vat does what the script says: by `run`, to which messages come as values, and event by event,
-/// where it reads them in place.
-pub fn expect(rt: &impl Abort, alloc: Global, exchange: &Exchange) {
-    expect_run(rt, alloc, exchange);
-    let vat = Vat::new(alloc, exchange.bootstrap);
-    expect_next(rt, alloc, exchange.name, vat, exchange.script);
-}
-
-/// The event of a line.
-pub fn read(rt: &impl Abort, alloc: Global, line: &str) -> Event {
-    match event_of(alloc, line) {
-        Some(event) => event,
-        None => panic!(rt; "it isn't an event: {line}"),
-    }
-}
-
-/// Plays the events of a script, whatever follows them.
-pub fn prepare(rt: &impl Abort, alloc: Global, vat: &mut Vat, script: &str) {
-    for line in script.lines() {
-        let line = line.trim();
-        if !line.is_empty() {
-            let event = read(rt, alloc, line);
-            drop(vat.act(event).expect(rt, "what follows"));
+impl Player {
+    pub fn new(alloc: Global, bootstrap: Option<u32>, taken: Taken) -> Player {
+        Player {
+            alloc,
+            taken,
+            vat: Vat::new(alloc, bootstrap),
         }
+    }
+
+    /// The lines of what follows the event of a line. Where that isn't to be said, of a refusal alone.
+    pub fn turn(&mut self, line: &str, is_said: bool) -> Lines {
+        let mut lines = Lines::new(self.alloc);
+        let given = match event_of(self.alloc, line) {
+            Some(event) => act(self.alloc, &mut self.vat, event, self.taken),
+            None => None,
+        };
+        match given {
+            Some(given) => {
+                if is_said {
+                    lines.push_given(given);
+                } else {
+                    push_refusal(&mut lines, given);
+                }
+            }
+            None => lines.push(UNREAD),
+        }
+        lines
+    }
+}
+
+/// Adds a line where a call is refused.
+fn push_refusal(lines: &mut Lines, given: Result<Acted<Value>, VatFault>) {
+    match given {
+        Ok(acted) => drop(acted),
+        Err(fault) => lines.push_fault(fault),
+    }
+}
+
+/// An event's line without the two dots that it may begin with, and whether what follows it is said: it isn't after the dots.
+pub fn said(line: &str) -> (&str, bool) {
+    match line.strip_prefix(".. ") {
+        Some(line) => (line, false),
+        None => (line, true),
     }
 }
 
@@ -55,31 +65,18 @@ pub fn is_reported(line: &str) -> bool {
     line.starts_with("> ") || line.starts_with("! ") || line.starts_with("= ")
 }
 
-/// These are the wanted lines of the exchange of this name.
-pub fn expect_lines(rt: &impl Abort, name: &str, lines: &Lines, wanted: &Lines) {
-    let text = lines.text().expect(rt, "memory");
-    if wanted.text().expect(rt, "memory") != text {
-        panic!(rt; "{name}: it went so:\n{text}");
-    }
-}
-
-/// A vat, which reads messages in place, does what the script says, whose parts come one after another:
-/// each line of an event is played, and all that follows is compared with the lines after it.
-pub fn expect_next(rt: &impl Abort, alloc: Global, name: &str, mut vat: Vat, script: &[&str]) {
+/// The lines of the events of a script, and of what a player does at each.
+pub fn played(alloc: Global, mut player: Player, script: &str) -> Lines {
     let mut lines = Lines::new(alloc);
-    let mut wanted = Lines::new(alloc);
-    for part in script {
-        for line in part.lines() {
-            let line = line.trim();
-            wanted.push_line(line);
-            if !line.is_empty() && !is_reported(line) {
-                lines.push_line(line);
-                let event = read(rt, alloc, line);
-                let given = act(alloc, &mut vat, event, Taken::InPlace);
-                lines.push_given(given.expect(rt, "a message"));
-            }
+    for line in script.lines() {
+        if !is_reported(line) {
+            let (event, is_said) = said(line);
+            let told = player.turn(event, is_said);
+            lines.push_line(line);
+            lines.push(told.text().unwrap_or(UNREAD));
+            drop(told);
         }
     }
-    drop(vat);
-    expect_lines(rt, name, &lines, &wanted);
+    drop(player);
+    lines
 }

@@ -1,5 +1,4 @@
-//! Allocation failures. With ample memory there are none: nightly/memory/sweep.sh fails each allocation of
-//! the test.
+//! What a vat does where an allocation fails.
 
 use cp_machine::{Event, VatFault};
 use cp_scripts::event_of;
