@@ -26,6 +26,17 @@ impl Lines {
         }
     }
 
+    /// Adds the line of what a question came to.
+    pub fn push_outcome_of(&mut self, question: u32, outcome: &Outcome) {
+        self.push_named("question:", question as u64);
+        self.push(match outcome {
+            Outcome::Results { .. } => " results ",
+            _ => " ",
+        });
+        self.push_outcome(outcome);
+        self.push("\n");
+    }
+
     fn push_value(&mut self, value: &Value) {
         match value {
             Value::Nothing => return,

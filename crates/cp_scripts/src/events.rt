@@ -1,19 +1,53 @@
 //! Events, as lines.
 
 use crate::reader::Reader;
+use crate::wrong::Wrong;
 use cp_machine::Event;
 use cp_refs::{Cap, Caps, Origin, Outcome, Path, Request};
+use cp_tree::Whole;
 use std::alloc::Global;
 
 /// An event's line. `None` where it isn't one, or memory runs out.
 pub fn event_of(alloc: Global, line: &str) -> Option<Event> {
+    read_event(alloc, line).ok()
+}
+
+/// An event's line. `Err` says where it isn't one, or that memory ran out there.
+pub fn read_event(alloc: Global, line: &str) -> Result<Event, Wrong> {
     let mut reader = Reader::new(alloc, line);
     let event = reader.event();
-    if reader.is_read() {
-        return Some(event);
+    match reader.end() {
+        Ok(()) => Ok(event),
+        Err(wrong) => {
+            drop(event);
+            Err(wrong)
+        }
     }
-    drop(event);
-    None
+}
+
+/// A call as words name it.
+#[derive(Drop)]
+pub struct WrittenCall {
+    /// What is called. None says that no target is named.
+    pub target: Option<Cap>,
+    pub interface: u64,
+    pub method: u16,
+    /// Its params. `None` says that they are elsewhere, or that there are none.
+    pub params: Option<(Whole, Caps)>,
+}
+
+/// The call of a line: `TARGET i=H m=N {T caps[..]}`, of which the target and the params may lack. `Err` says where it isn't
+/// one.
+pub fn call_of(alloc: Global, line: &str) -> Result<WrittenCall, Wrong> {
+    let mut reader = Reader::new(alloc, line);
+    let call = reader.written_call();
+    match reader.end() {
+        Ok(()) => Ok(call),
+        Err(wrong) => {
+            drop(call);
+            Err(wrong)
+        }
+    }
 }
 
 /// What the application names.
@@ -21,8 +55,8 @@ impl<'a> Reader<'a> {
     fn path(&mut self) -> Path {
         self.skip("[");
         let mut fields = Vec::new(self.alloc);
-        for _ in 0..self.most() {
-            if !self.goes_on("]") {
+        for place in 0..=self.most() {
+            if !self.goes_on(place, "]") {
                 break;
             }
             let field = self.small();
@@ -44,7 +78,7 @@ impl<'a> Reader<'a> {
             let question = self.number();
             Cap::Pipelined(question, self.path())
         } else {
-            self.skip("broken:");
+            self.skip_last("broken:", "a capability");
             Cap::Broken(self.exception())
         }
     }
@@ -52,8 +86,8 @@ impl<'a> Reader<'a> {
     fn caps(&mut self) -> Caps {
         self.skip(" caps[");
         let mut caps = Vec::new(self.alloc);
-        for _ in 0..self.most() {
-            if !self.goes_on("]}") {
+        for place in 0..=self.most() {
+            if !self.goes_on(place, "]}") {
                 break;
             }
             let cap = self.cap();
@@ -89,7 +123,7 @@ impl<'a> Reader<'a> {
         if self.takes("answer:") {
             return Origin::Answer(self.number());
         }
-        self.skip("question:");
+        self.skip_last("question:", "answer: or question:");
         Origin::Own(self.number())
     }
 
@@ -100,7 +134,7 @@ impl<'a> Reader<'a> {
         if self.takes("canceled") {
             return Outcome::Canceled;
         }
-        self.skip("{");
+        self.skip_last("{", "an outcome");
         Outcome::Results {
             content: self.whole(),
             caps: self.caps(),
@@ -108,8 +142,34 @@ impl<'a> Reader<'a> {
     }
 }
 
-/// Events.
+/// Calls and events.
 impl<'a> Reader<'a> {
+    fn written_call(&mut self) -> WrittenCall {
+        let target = if self.is_next("i=") {
+            None
+        } else {
+            let cap = self.cap();
+            self.skip(" ");
+            Some(cap)
+        };
+        self.skip("i=");
+        let interface = self.large();
+        self.skip(" m=");
+        let method = self.small();
+        let params = if self.takes(" ") {
+            self.skip("{");
+            Some((self.whole(), self.caps()))
+        } else {
+            None
+        };
+        WrittenCall {
+            target,
+            interface,
+            method,
+            params,
+        }
+    }
+
     fn answer(&mut self) -> Event {
         let origin = self.origin();
         self.skip(" ");
@@ -149,7 +209,7 @@ impl<'a> Reader<'a> {
         } else if self.takes("forget promise:") {
             Event::Forget(self.number())
         } else {
-            self.skip("idle");
+            self.skip_last("idle", "an event");
             Event::Idle
         }
     }

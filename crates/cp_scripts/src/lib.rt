@@ -8,7 +8,9 @@ mod events;
 mod lines;
 mod messages;
 mod reader;
+mod wrong;
 
 pub use acting::{Taken, act};
-pub use events::event_of;
+pub use events::{WrittenCall, call_of, event_of, read_event};
 pub use lines::Lines;
+pub use wrong::Wrong;

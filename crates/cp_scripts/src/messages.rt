@@ -11,21 +11,13 @@ use cp_stream::{Tap, read_message};
 use cp_tree::{Body, Tree, Whole};
 use cp_words::Limits;
 
+/// The greatest depth of a tree.
+const DEPTH: u32 = 64;
+
 /// Trees.
 impl<'a> Reader<'a> {
-    fn words(&mut self) -> Vec<u64> {
-        let mut words = Vec::new(self.alloc);
-        for _ in 0..self.most() {
-            if !self.goes_on(";") {
-                break;
-            }
-            let word = self.large().swap_bytes();
-            self.push(&mut words, word);
-        }
-        words
-    }
-
     /// A tree of this depth at most.
+    #[cycle(tree)]
     fn tree(&mut self, depth: u32) -> Tree {
         if self.takes("null") {
             return Tree::Null;
@@ -33,28 +25,157 @@ impl<'a> Reader<'a> {
         if self.takes("cap:") {
             return Tree::Cap(self.number());
         }
-        self.skip("(");
         if depth == 0 {
-            self.miss();
+            self.miss("a tree that is less deep");
             return Tree::Null;
         }
-        let words = self.words();
-        let mut ptrs = Vec::new(self.alloc);
-        for _ in 0..self.most() {
-            if !self.goes_on(")") {
+        let inner = depth - 1;
+        if self.takes("(") {
+            Tree::Struct(self.body(inner))
+        } else if self.takes("ptrs[") {
+            Tree::Ptrs(self.row(inner, "]"))
+        } else if self.takes("structs:") {
+            self.structs(inner)
+        } else {
+            self.list()
+        }
+    }
+
+    /// A struct whose trees have this depth at most, after its bracket.
+    #[cycle(tree)]
+    fn body(&mut self, depth: u32) -> Body {
+        let words = self.words(";");
+        let ptrs = self.row(depth, ")");
+        Body { words, ptrs }
+    }
+
+    /// Trees of this depth at most, up to the row's end.
+    #[cycle(tree)]
+    fn row(&mut self, depth: u32, end: &'static str) -> Vec<Tree> {
+        let mut row = Vec::new(self.alloc);
+        for place in 0..=self.most() {
+            if !self.goes_on(place, end) {
                 break;
             }
-            let tree = self.tree(depth - 1);
-            self.push(&mut ptrs, tree);
+            let tree = self.tree(depth);
+            self.push(&mut row, tree);
         }
-        Tree::Struct(Body { words, ptrs })
+        row
+    }
+
+    /// A list of structs whose trees have this depth at most, after its name.
+    #[cycle(tree)]
+    fn structs(&mut self, depth: u32) -> Tree {
+        let words = self.small();
+        self.skip(",");
+        let ptrs = self.small();
+        self.skip("[");
+        let mut items = Vec::new(self.alloc);
+        for place in 0..=self.most() {
+            if !self.goes_on(place, "]") {
+                break;
+            }
+            self.skip("(");
+            let item = self.body(depth);
+            self.push(&mut items, item);
+        }
+        Tree::Structs { words, ptrs, items }
+    }
+
+    /// A list without pointers.
+    fn list(&mut self) -> Tree {
+        if self.takes("void:") {
+            Tree::Voids(self.number())
+        } else if self.takes("bits[") {
+            Tree::Bits(self.bits())
+        } else if self.takes("bytes[") {
+            Tree::Bytes(self.bytes())
+        } else if self.takes("halves[") {
+            Tree::Halves(self.halves())
+        } else if self.takes("quads[") {
+            Tree::Quads(self.quads())
+        } else if self.takes("words[") {
+            Tree::Words(self.words("]"))
+        } else {
+            self.miss("a tree");
+            Tree::Null
+        }
+    }
+
+    /// Words, up to the row's end.
+    fn words(&mut self, end: &'static str) -> Vec<u64> {
+        let mut words = Vec::new(self.alloc);
+        for place in 0..=self.most() {
+            if !self.goes_on(place, end) {
+                break;
+            }
+            let word = self.element(8);
+            self.push(&mut words, word);
+        }
+        words
+    }
+
+    /// Elements of four bytes.
+    fn quads(&mut self) -> Vec<u32> {
+        let mut quads = Vec::new(self.alloc);
+        for place in 0..=self.most() {
+            if !self.goes_on(place, "]") {
+                break;
+            }
+            let quad = u32::try_from(self.element(4)).unwrap_or(0);
+            self.push(&mut quads, quad);
+        }
+        quads
+    }
+
+    /// Elements of two bytes.
+    fn halves(&mut self) -> Vec<u16> {
+        let mut halves = Vec::new(self.alloc);
+        for place in 0..=self.most() {
+            if !self.goes_on(place, "]") {
+                break;
+            }
+            let half = u16::try_from(self.element(2)).unwrap_or(0);
+            self.push(&mut halves, half);
+        }
+        halves
+    }
+
+    /// Bytes.
+    fn bytes(&mut self) -> Vec<u8> {
+        let digits = self.digits();
+        match hex::decode(self.alloc, digits) {
+            Ok(bytes) => {
+                self.skip("]");
+                bytes
+            }
+            Err(_) => {
+                self.miss("an even number of digits");
+                Vec::new(self.alloc)
+            }
+        }
+    }
+
+    /// Bits.
+    fn bits(&mut self) -> Vec<bool> {
+        let mut bits = Vec::new(self.alloc);
+        for _ in 0..=self.most() {
+            let before = self.rest();
+            match self.byte() {
+                Some(b'0') => self.push(&mut bits, false),
+                Some(b'1') => self.push(&mut bits, true),
+                Some(b']') => return bits,
+                _ => self.miss_at(before, "0, 1 or ]"),
+            }
+        }
+        bits
     }
 
     pub(crate) fn whole(&mut self) -> Whole {
-        match Whole::new(self.tree(64)) {
+        match Whole::new(self.tree(DEPTH)) {
             Ok(whole) => whole,
             Err(_) => {
-                self.miss();
+                self.miss("a tree that a message can hold");
                 Whole::null()
             }
         }
@@ -67,7 +188,7 @@ impl<'a> Reader<'a> {
     fn past<const LAST: u16>(&mut self) -> Option<Past<LAST>> {
         let past = Past::new(self.small());
         if past.is_none() {
-            self.miss();
+            self.miss("a number past those that are known");
         }
         past
     }
@@ -82,7 +203,7 @@ impl<'a> Reader<'a> {
         } else if self.takes("unimplemented") {
             ExceptionKind::Unimplemented
         } else {
-            self.skip("unknown:");
+            self.skip_last("unknown:", "an exception's type");
             match self.past() {
                 Some(number) => ExceptionKind::Unknown(number),
                 None => ExceptionKind::Failed,
@@ -109,6 +230,11 @@ impl<'a> Reader<'a> {
     fn op(&mut self) -> Op {
         if self.takes("noop") {
             Op::Noop
+        } else if self.takes("unknown:") {
+            match self.past() {
+                Some(number) => Op::Unknown(number),
+                None => Op::Noop,
+            }
         } else {
             Op::GetPointerField(self.small())
         }
@@ -118,8 +244,8 @@ impl<'a> Reader<'a> {
         let question_id = self.number();
         self.skip("[");
         let mut ops = Vec::new(self.alloc);
-        for _ in 0..self.most() {
-            if !self.goes_on("]") {
+        for place in 0..=self.most() {
+            if !self.goes_on(place, "]") {
                 break;
             }
             let op = self.op();
@@ -137,7 +263,7 @@ impl<'a> Reader<'a> {
         } else if self.takes("answer:") {
             Target::PromisedAnswer(self.promised_answer())
         } else {
-            self.skip("unknown:");
+            self.skip_last("unknown:", "a target");
             match self.past() {
                 Some(number) => Target::Unknown(number),
                 None => Target::ImportedCap(0),
@@ -159,7 +285,7 @@ impl<'a> Reader<'a> {
         } else if self.takes("thirdPartyHosted:") {
             Descriptor::ThirdPartyHosted(self.whole())
         } else {
-            self.skip("unknown:");
+            self.skip_last("unknown:", "a descriptor");
             match self.past() {
                 Some(number) => Descriptor::Unknown(number),
                 None => Descriptor::None,
@@ -170,8 +296,8 @@ impl<'a> Reader<'a> {
     fn cap_table(&mut self) -> CapTable {
         self.skip(" caps[");
         let mut descriptors = Vec::new(self.alloc);
-        for _ in 0..self.most() {
-            if !self.goes_on("]}") {
+        for place in 0..=self.most() {
+            if !self.goes_on(place, "]}") {
                 break;
             }
             let descriptor = self.descriptor();
@@ -193,8 +319,13 @@ impl<'a> Reader<'a> {
             SendResultsTo::Caller
         } else if self.takes("yourself") {
             SendResultsTo::Yourself
+        } else if self.takes("unknown:") {
+            match self.past() {
+                Some(number) => SendResultsTo::Unknown(number),
+                None => SendResultsTo::Caller,
+            }
         } else {
-            self.skip("thirdParty:");
+            self.skip_last("thirdParty:", "where results go");
             SendResultsTo::ThirdParty(self.whole())
         }
     }
@@ -213,7 +344,7 @@ impl<'a> Reader<'a> {
         } else if self.takes("takeFromOtherQuestion ") {
             Returned::TakeFromOtherQuestion(self.number())
         } else {
-            self.skip("unknown ");
+            self.skip_last("unknown ", "what a call came to");
             match self.past() {
                 Some(number) => Returned::Unknown(number),
                 None => Returned::Canceled,
@@ -227,7 +358,7 @@ impl<'a> Reader<'a> {
         } else if self.takes("exception ") {
             Resolution::Exception(self.exception())
         } else {
-            self.skip("unknown ");
+            self.skip_last("unknown ", "what a promise came to");
             match self.past() {
                 Some(number) => Resolution::Unknown(number),
                 None => Resolution::Cap(Descriptor::None),
@@ -242,8 +373,13 @@ impl<'a> Reader<'a> {
             Context::ReceiverLoopback(self.number())
         } else if self.takes("provide ") {
             Context::Provide(self.number())
+        } else if self.takes("unknown ") {
+            match self.past() {
+                Some(number) => Context::Unknown(number),
+                None => Context::Accept,
+            }
         } else {
-            self.skip("accept");
+            self.skip_last("accept", "a context");
             Context::Accept
         }
     }
@@ -327,7 +463,7 @@ impl<'a> Reader<'a> {
         match which {
             Some(which) => Message::Other { which, body },
             None => {
-                self.miss();
+                self.miss("a message of another kind");
                 Message::Unimplemented(body)
             }
         }
@@ -347,7 +483,7 @@ impl<'a> Reader<'a> {
         let mut from = Tap::new(frame);
         let message = read_message(self.alloc, &mut from, Mode::Plain, Limits::standard());
         if !from.into_inner().is_empty() {
-            self.miss();
+            self.miss("one frame");
         }
         match message {
             Ok(Some(message)) => message,
@@ -357,7 +493,7 @@ impl<'a> Reader<'a> {
 
     /// Ends the reading here.
     fn no_message(&mut self) -> Message {
-        self.miss();
+        self.miss("a message");
         Message::Bootstrap(Bootstrap { question_id: 0 })
     }
 
