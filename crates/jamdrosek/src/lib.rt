@@ -172,6 +172,23 @@
 //!
 //! # Call an object
 //!
+//! A `Client` asks the peer behind a reader and a writer. This adds 41 to a Cell that isn't known yet, over a socket, in one
+//! round trip. The program example_call calls the object of example_serve, over a file or a socket:
+//!
+//! ```
+//! let stream = TcpStream::connect(&rt, "127.0.0.1:7000")?;
+//! stream.set_nodelay(true)?;
+//! let mut client = Client::new(alloc, &stream, &stream, Mode::Plain, Limits::standard());
+//! let desk = client.bootstrap()?;
+//! let given = client.call(desk.cap(alloc), request_of(alloc, DESK, 0, &[])?)?;
+//! let add = request_of(alloc, CELL, 0, &[41])?;
+//! let sum = client.call(given.at(alloc, &[0])?, add)?;
+//! let outcome = client.wait(sum)?;
+//! println!(rt; "sum {}", word_at(&outcome, 0).unwrap_or(0))?;
+//! ```
+//!
+//! # One end by hand
+//!
 //! A `Vat` is one end of a connection. Messages and calls go in, and effects come out, in order. The program
 //! example_vat has two of them, and answers what this calls:
 //!
@@ -193,7 +210,7 @@
 //!
 //! ```text
 //! words ── tree ─┬─ reading ── message ─┬─ vat ────┬─ server
-//!                └─ writing ────────────┤          │
+//!                └─ writing ────────────┤          ├─ connection ── client
 //! packed ── frame ──────────────────────┴─ stream ─┘
 //! ```
 //!
@@ -206,9 +223,11 @@
 //! - `vat`: one end of a connection, with the capabilities, events and effects that it takes and gives.
 //! - `connection`: that end with its frames: bytes come in, bytes go out.
 //! - `server`: objects served to the peer of one connection.
+//! - `client`: the peer's objects called over one connection.
 //!
-//! Each module but `vat`, `connection` and `server` is one crate, whole: `words` is cp_words, `message` is cp_rpc, and any other
-//! has its crate's name. The names that most programs need are here too. `docs/PROVED.md` says what is proved of each.
+//! Each module but `vat`, `connection`, `server` and `client` is one crate, whole: `words` is cp_words, `message` is
+//! cp_rpc, and any other has its crate's name. The names that most programs need are here too. `docs/PROVED.md` says what
+//! is proved of each.
 //!
 //! Each fault is an `Error`, whose text names it, and its place where it has one; `docs/PROFILE.md` has them all, with
 //! the limits.
@@ -217,6 +236,7 @@
 //! `Rattle.cp_stream.specs.Stream`, needs that crate listed as well.
 #![tactic(auto)]
 
+pub mod client;
 pub mod connection;
 pub mod server;
 pub mod vat;

@@ -1,0 +1,4 @@
+pub mod Living
+pub mod Going
+pub mod Waiting
+pub mod Trees

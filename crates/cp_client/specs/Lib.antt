@@ -1,0 +1,6 @@
+pub mod Seat
+pub mod Goes
+pub mod Reading
+pub mod Waits
+pub mod SeatOf
+pub mod Contents

@@ -1,0 +1,61 @@
+//! Why a call of a client gives nothing.
+
+ghost use Rattle.std.specs.Prelude.{◌≡◌};
+ghost use Rattle.cp_client.specs.declared.fault.ClientFault.TheVariants.{Connection};
+ghost use Rattle.cp_connection.specs.declared.fault.ConnectionFault.TheVariants.{OutOfMemory};
+
+use cp_connection::ConnectionFault;
+use std::alloc::{AllocError, AllocFailed};
+use std::error::Error;
+use std::fmt;
+
+/// Why a call of a client gives nothing.
+#[derive(Clone, Copy, PartialEq, Eq, Debug)]
+pub enum ClientFault {
+    /// A call of the reader or of the writer failed. Nothing is lost by it: what wasn't written stays to be written, and
+    /// the next call goes on from there.
+    Device,
+    /// The peer's messages ended, and the outcome hadn't come.
+    Ended,
+    /// V1: the question wasn't asked, or it was finished, or its outcome was given out.
+    NotAsked,
+    /// The connection ended, or memory ran out, or the vat refuses the call.
+    Connection(ConnectionFault),
+}
+
+impl fmt::Display for ClientFault {
+    fn fmt<W: fmt::Write>(&self, f: &mut fmt::Formatter<W>) -> fmt::Result {
+        match self {
+            ClientFault::Device => f.write_str("a call of a device failed"),
+            ClientFault::Ended => f.write_str("the peer's messages ended"),
+            ClientFault::NotAsked => f.write_str("V1 UnknownQuestion"),
+            ClientFault::Connection(fault) => fault.fmt(f),
+        }
+    }
+}
+
+impl Error for ClientFault {}
+
+impl From<ConnectionFault> for ClientFault {
+    ghost from_gives = { λ fault r. r ≡ Connection fault };
+
+    fn from(fault: ConnectionFault) -> ClientFault {
+        ClientFault::Connection(fault)
+    }
+}
+
+impl From<AllocError> for ClientFault {
+    ghost from_gives = { λ _ r. r ≡ Connection OutOfMemory };
+
+    fn from(_: AllocError) -> ClientFault {
+        ClientFault::Connection(ConnectionFault::OutOfMemory)
+    }
+}
+
+impl<T: Drop> From<AllocFailed<T>> for ClientFault {
+    ghost from_gives = { λ _ r. r ≡ Connection OutOfMemory };
+
+    fn from(_: AllocFailed<T>) -> ClientFault {
+        ClientFault::Connection(ConnectionFault::OutOfMemory)
+    }
+}

@@ -1,0 +1,14 @@
+//! A client: asks questions over a connection's reader and writer, and waits for their outcomes.
+#![tactic(auto)]
+
+mod client;
+mod contents;
+mod fault;
+mod piece;
+mod question;
+mod session;
+
+pub use client::Client;
+pub use contents::{request_of, word_at};
+pub use fault::ClientFault;
+pub use question::Question;
