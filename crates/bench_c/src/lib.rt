@@ -5,6 +5,7 @@
 //! was nothing, a fault, or no memory.
 #![tactic(auto)]
 
+mod book;
 mod fill;
 mod packed;
 mod play;
@@ -12,6 +13,7 @@ mod read;
 mod serve;
 mod write;
 
+pub use book::cpb_read_book;
 pub use packed::{cpb_pack, cpb_unpack};
 pub use play::cpb_play;
 pub use read::{

@@ -1,6 +1,7 @@
 //! The command line.
 
 use clap::{Arg, ArgAction, ArgMatches, Command, value_parser};
+use cp_calls::CallPlan;
 use cp_commands::Plan;
 use cp_frame::Mode;
 use cp_guard::{Plan as Relaying, Route};
@@ -19,24 +20,84 @@ const MOST_WORDS: i64 = 8_388_608;
 /// The greatest port.
 const MOST_PORT: i64 = 65_535;
 
+/// The greatest number of seconds.
+const MOST_SECONDS: i64 = 86_400;
+
+/// The word for standard input and output.
+const DASH: &str = "-";
+
 /// The version of what users see.
 const VERSION: &str = "0.2.0";
 
 /// What is to be done.
 #[derive(Drop)]
-pub(crate) enum Task<'a> {
+pub(crate) enum Task<'a, 'b> {
     /// A command on this file.
-    OnFile { plan: Plan, path: &'a str },
+    OnFile {
+        plan: Plan<'a>,
+        path: &'a str,
+    },
+    /// The messages of this file are shown by a schema.
+    Decode {
+        by: By<'a>,
+        path: &'a str,
+    },
     /// This file's bytes are served.
-    Loop { mode: Mode, path: &'a str },
+    Loop {
+        mode: Mode,
+        path: &'a str,
+    },
     /// This many connections on a port are served.
-    Serve { mode: Mode, port: u16, count: u32 },
+    Serve {
+        mode: Mode,
+        port: u16,
+        count: u32,
+    },
+    /// Standard input and output are served.
+    Pipe {
+        mode: Mode,
+    },
     /// The connections of a route are relayed.
-    Relay { plan: Relaying, route: Route<'a> },
+    Relay {
+        plan: Relaying,
+        route: Route<'a>,
+    },
+    /// The objects at an address are called.
+    Call {
+        plan: CallPlan,
+        address: &'a str,
+        calls: &'b [&'a str],
+    },
 }
 
-/// What `capnp_cli` understands.
-pub(crate) fn command<'a>(alloc: Global) -> Result<Command<'a>, AllocError> {
+/// How messages are shown by a schema.
+#[derive(Clone, Copy)]
+pub(crate) struct By<'a> {
+    pub(crate) mode: Mode,
+    pub(crate) limits: Limits,
+    /// The file that has the schema.
+    pub(crate) request: &'a str,
+    /// The name of the struct that each is; none where they are messages of rpc.capnp.
+    pub(crate) name: Option<&'a str>,
+    /// The file of the other direction's messages, whose calls they return from.
+    pub(crate) calls: Option<&'a str>,
+}
+
+/// Whether the words are those of `serve` over standard input and output.
+pub(crate) fn is_pipe(words: &[String]) -> bool {
+    let mut serves = false;
+    for word in words {
+        let word = word.as_str();
+        if serves && word == DASH {
+            return true;
+        }
+        serves = serves || word == "serve";
+    }
+    false
+}
+
+/// What `capnp_cli` understands, where `serve` is over standard input and output, or isn't.
+pub(crate) fn command<'a>(alloc: Global, is_pipe: bool) -> Result<Command<'a>, AllocError> {
     let command = Command::new(alloc, "capnp_cli")
         .about("Cap'n Proto messages and two-party RPC")
         .version(VERSION)
@@ -52,8 +113,9 @@ pub(crate) fn command<'a>(alloc: Global) -> Result<Command<'a>, AllocError> {
     let command = and(command, unpack(alloc))?;
     let command = and(command, recut(alloc))?;
     let command = and(command, looped(alloc))?;
-    let command = and(command, serve(alloc))?;
-    and(command, relay(alloc))
+    let command = and(command, serve(alloc, is_pipe))?;
+    let command = and(command, relay(alloc))?;
+    and(command, call(alloc))
 }
 
 /// The command with one more of its words, which no exit of `command` has to let go.
@@ -65,32 +127,63 @@ fn and<'a>(
 }
 
 /// What the words ask for.
-pub(crate) fn task_of<'a>(matches: &ArgMatches<'a>) -> Option<Task<'a>> {
+pub(crate) fn task_of<'a, 'b>(matches: &'b ArgMatches<'a>) -> Option<Task<'a, 'b>> {
     let (name, inner) = matches.subcommand()?;
-    let task = match name {
-        "loop" => Task::Loop {
+    match name {
+        "loop" => Some(Task::Loop {
             mode: mode(inner),
             path: inner.get_str("FILE")?,
-        },
-        "serve" => Task::Serve {
-            mode: mode(inner),
-            port: inner.get_one::<u16>("PORT")?,
-            count: inner.get_one::<u32>("COUNT")?,
-        },
-        "relay" => Task::Relay {
+        }),
+        "serve" => serving(inner),
+        "relay" => Some(Task::Relay {
             plan: relaying(inner)?,
             route: Route {
                 port: inner.get_one::<u16>("PORT")?,
                 target: inner.get_str("HOST:PORT")?,
                 count: inner.get_one::<u32>("COUNT")?,
             },
-        },
-        name => Task::OnFile {
-            plan: plan(name, inner)?,
-            path: inner.get_str("FILE")?,
-        },
-    };
-    Some(task)
+        }),
+        "call" => Some(Task::Call {
+            plan: call_plan(inner)?,
+            address: inner.get_str("ADDRESS")?,
+            calls: inner.get_strs("CALL")?,
+        }),
+        name => on_file(name, inner),
+    }
+}
+
+/// What the words of `serve` ask for.
+fn serving<'a, 'b>(matches: &'b ArgMatches<'a>) -> Option<Task<'a, 'b>> {
+    let mode = mode(matches);
+    if matches.contains_id("-") {
+        return Some(Task::Pipe { mode });
+    }
+    Some(Task::Serve {
+        mode,
+        port: matches.get_one::<u16>("PORT")?,
+        count: matches.get_one::<u32>("COUNT")?,
+    })
+}
+
+/// What is to be done with a file.
+fn on_file<'a, 'b>(name: &str, matches: &'b ArgMatches<'a>) -> Option<Task<'a, 'b>> {
+    let path = matches.get_str("FILE")?;
+    if name == "show" {
+        if let Some(request) = matches.get_str("schema") {
+            let by = By {
+                mode: mode(matches),
+                limits: limits(matches)?,
+                request,
+                name: matches.get_str("type"),
+                calls: matches.get_str("calls"),
+            };
+            return Some(Task::Decode { by, path });
+        }
+    }
+    match plan(name, matches) {
+        Some(plan) => Some(Task::OnFile { plan, path }),
+        None => None,
+    }
 }
 
 /// The file that a command reads.
@@ -104,8 +197,42 @@ fn file<'a>(alloc: Global) -> Arg<'a> {
 fn show<'a>(alloc: Global) -> Result<Command<'a>, AllocError> {
     let command = Command::new(alloc, "show")
         .about("Print each message of FILE as a line")
-        .after_help("Example: capnp_cli show --packed calls.packed");
+        .after_help("Example: capnp_cli show --packed calls.packed")
+        .arg(schema(alloc))?
+        .arg(type_name(alloc)?)?
+        .arg(questions(alloc)?)?;
     reading(alloc, command)
+}
+
+/// The schema by which messages are shown.
+fn schema<'a>(alloc: Global) -> Arg<'a> {
+    Arg::new(alloc, "schema")
+        .long("schema")
+        .value_name("REQUEST")
+        .help(
+            "Show calls, or with --type messages, by a schema: what `capnp compile -o- X.capnp` prints",
+        )
+}
+
+/// The struct that each message is.
+fn type_name<'a>(alloc: Global) -> Result<Arg<'a>, AllocError> {
+    Arg::new(alloc, "type")
+        .long("type")
+        .value_name("NAME")
+        .help("The struct that each message is, as Person or Person.PhoneNumber")
+        .requires_arg("schema")
+}
+
+/// The messages whose calls are returned from.
+fn questions<'a>(alloc: Global) -> Result<Arg<'a>, AllocError> {
+    Arg::new(alloc, "calls")
+        .long("calls")
+        .value_name("FILE")
+        .help(
+            "The messages of the other direction: results are shown by the methods that these call",
+        )
+        .requires_arg("schema")?
+        .conflicts_with("type")
 }
 
 /// Packed frames instead of plain ones.
@@ -197,13 +324,19 @@ fn looped<'a>(alloc: Global) -> Result<Command<'a>, AllocError> {
 }
 
 /// The words of `serve`.
-fn serve<'a>(alloc: Global) -> Result<Command<'a>, AllocError> {
-    Command::new(alloc, "serve")
+fn serve<'a>(alloc: Global, is_pipe: bool) -> Result<Command<'a>, AllocError> {
+    let command = Command::new(alloc, "serve")
         .about("Serve a Desk and a Cell to each of COUNT connections on PORT")
-        .after_help("Example: capnp_cli serve 7000 1")
-        .arg(packed(alloc))?
-        .arg(port(alloc))?
-        .arg(count(alloc))
+        .after_help(
+            "With - in place of PORT and COUNT, serve one peer over standard input and output.\n\n\
+             Example: capnp_cli serve 7000 1",
+        )
+        .arg(packed(alloc))?;
+    if is_pipe {
+        command.arg(pipe(alloc))
+    } else {
+        command.arg(port(alloc))?.arg(count(alloc))
+    }
 }
 
 /// The words of `relay`.
@@ -264,12 +397,71 @@ fn target<'a>(alloc: Global) -> Arg<'a> {
         .required(true)
 }
 
+/// The words of `call`.
+fn call<'a>(alloc: Global) -> Result<Command<'a>, AllocError> {
+    Command::new(alloc, "call")
+        .about("Call the objects at ADDRESS, and print what each CALL came to as a line")
+        .after_help(
+            "A CALL is question:N[FIELDS] i=INTERFACE m=METHOD {TREE caps[..]}, in the notation of show. The first is \
+             question 1. Without a target it is a call of question:0[], which the bootstrap gives; without params a \
+             struct without fields is sent; i=INTERFACE m=METHOD @FILE sends the content of a stored message.\n\
+             Example: capnp_cli call 127.0.0.1:7000 'i=e5a1000000000001 m=0' \
+             'question:1[0] i=e5a1000000000002 m=0 {(2900000000000000;) caps[]}'",
+        )
+        .arg(packed(alloc))?
+        .arg(nesting(alloc))?
+        .arg(traversal(alloc))?
+        .arg(messages(alloc))?
+        .arg(timeout(alloc))?
+        .arg(address(alloc))?
+        .arg(calls(alloc))
+}
+
+/// Whether messages are printed.
+fn messages<'a>(alloc: Global) -> Arg<'a> {
+    Arg::new(alloc, "messages")
+        .long("messages")
+        .action(ArgAction::SetTrue)
+        .help("Print each message that is sent, after >, and that comes, after <")
+}
+
+/// How long nothing may come.
+fn timeout<'a>(alloc: Global) -> Arg<'a> {
+    Arg::new(alloc, "timeout")
+        .long("timeout")
+        .value_name("SECONDS")
+        .value_parser(value_parser!(u32).range(1..=MOST_SECONDS))
+        .help("Give up where nothing comes for so long; without it there is no end")
+}
+
+/// Whose objects are called.
+fn address<'a>(alloc: Global) -> Arg<'a> {
+    Arg::new(alloc, "ADDRESS")
+        .help("HOST:PORT, or the path of a Unix socket, with a slash")
+        .required(true)
+}
+
+/// The calls.
+fn calls<'a>(alloc: Global) -> Arg<'a> {
+    Arg::new(alloc, "CALL")
+        .help("A call; all go out at once")
+        .required(true)
+        .num_args(1..)
+}
+
 /// The port that is served.
 fn port<'a>(alloc: Global) -> Arg<'a> {
     Arg::new(alloc, "PORT")
         .help("A port of 127.0.0.1")
         .required(true)
         .value_parser(value_parser!(u16).range(1..=MOST_PORT))
+}
+
+/// The dash for standard input and output.
+fn pipe<'a>(alloc: Global) -> Arg<'a> {
+    Arg::new(alloc, "-")
+        .help("Standard input and output")
+        .required(true)
 }
 
 /// The number of connections.
@@ -290,7 +482,7 @@ fn mode(matches: &ArgMatches) -> Mode {
 }
 
 /// The command on a file that the words ask for.
-fn plan(name: &str, matches: &ArgMatches) -> Option<Plan> {
+fn plan<'a>(name: &str, matches: &ArgMatches<'a>) -> Option<Plan<'a>> {
     let plan = match name {
         "show" => Plan::Show {
             mode: mode(matches),
@@ -335,6 +527,16 @@ fn relaying(matches: &ArgMatches) -> Option<Relaying> {
 fn of_frames(limits: Limits, words: u32) -> Option<Limits> {
     let traversal = limits.traversal().min(words);
     Limits::new(limits.nesting(), traversal, limits.segments(), words)
+}
+
+/// How calls are made.
+fn call_plan(matches: &ArgMatches) -> Option<CallPlan> {
+    Some(CallPlan {
+        mode: mode(matches),
+        limits: limits(matches)?,
+        shows_messages: matches.get_flag("messages"),
+        timeout: matches.get_one::<u32>("timeout"),
+    })
 }
 
 /// The limits that the words ask for. A frame may have 8,388,608 words, or as many as may be gone

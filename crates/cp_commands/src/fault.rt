@@ -1,5 +1,6 @@
 //! What stops a command.
 
+use cp_decode::DecodeFault;
 use cp_frame::FrameFault;
 use cp_reading::TreeFault;
 use cp_stream::{Refusal, StreamFault};
@@ -12,6 +13,8 @@ use std::io::{self, ErrorKind};
 pub enum Stop {
     /// Input was refused.
     Refused(Refusal),
+    /// A message isn't as its schema says.
+    Wrong(DecodeFault),
     /// The reader failed.
     Reading(io::Error),
     /// The writer failed.
@@ -60,5 +63,14 @@ impl From<TreeFault> for Stop {
 impl From<WriteFault> for Stop {
     fn from(fault: WriteFault) -> Stop {
         Stop::Refused(Refusal::from(fault))
+    }
+}
+
+impl From<DecodeFault> for Stop {
+    fn from(fault: DecodeFault) -> Stop {
+        match fault {
+            DecodeFault::OutOfMemory => Stop::Refused(Refusal::Frame(FrameFault::OutOfMemory)),
+            fault => Stop::Wrong(fault),
+        }
     }
 }

@@ -1,9 +1,13 @@
 //! What `capnp_cli` does with a file, over a reader and two writers.
 #![tactic(auto)]
 
+mod asked;
 mod fault;
+mod names;
 mod plan;
 mod status;
 
+pub use asked::Asked;
+pub use names::Names;
 pub use plan::{Plan, act};
 pub use status::{ACCEPTED, BROKEN, REFUSED};

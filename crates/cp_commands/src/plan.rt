@@ -1,10 +1,13 @@
 //! What the commands do, over a reader and two writers.
 
+use crate::asked::Occurrences;
 use crate::fault::Stop;
+use crate::names::Names;
 use crate::status::{ACCEPTED, BROKEN, REFUSED};
+use cp_decode::{Decoder, message_line};
 use cp_frame::{FrameReader, Mode, send_frame};
 use cp_lines::push_line;
-use cp_reading::read_root;
+use cp_reading::{View, read_root};
 use cp_stream::{check_of, view_of};
 use cp_words::{Limits, Segments};
 use cp_writing::write_segments;
@@ -13,17 +16,38 @@ use std::io::{self, ErrorKind, Read, Write};
 
 /// A command, apart from the file that it reads.
 #[derive(Clone, Copy)]
-pub enum Plan {
+pub enum Plan<'s> {
     /// Each message as a line.
-    Show { mode: Mode, limits: Limits },
+    Show {
+        mode: Mode,
+        limits: Limits,
+    },
+    /// Each message as a line, by a struct of a schema.
+    Decode {
+        mode: Mode,
+        limits: Limits,
+        decoder: Decoder<'s>,
+    },
+    /// Each message as a line, calls and what they return by the names of a schema.
+    Name {
+        mode: Mode,
+        limits: Limits,
+        names: &'s Names,
+    },
     /// The number of messages.
-    Check { mode: Mode, limits: Limits },
+    Check {
+        mode: Mode,
+        limits: Limits,
+    },
     /// Plain frames in the packed form. Segments stay as they are, and no root is read.
     Pack,
     /// Packed frames in the plain form, likewise.
     Unpack,
     /// Each frame's tree in segments of at most this many words, in the same form.
-    Recut { mode: Mode, words: u32 },
+    Recut {
+        mode: Mode,
+        words: u32,
+    },
 }
 
 /// How many bytes are asked for at once: at first and after a frame, and after a piece that ended no
@@ -40,20 +64,25 @@ struct Progress {
     bytes: u64,
 }
 
-/// The last message's line, which the next is written over, the buffer in which frames are made, and
-/// where both grow.
+/// What is kept from message to message: where memory comes from, the last line, which the next is written
+/// over, and the buffer in which frames are made.
 #[derive(Drop)]
 struct Last {
     alloc: Global,
     line: String,
     buffer: Vec<u8>,
+    /// The Returns that came.
+    returns: Occurrences,
 }
 
-impl Plan {
+impl Plan<'_> {
     /// A reader of the frames that the command takes.
     fn reader(&self, alloc: Global) -> FrameReader {
         let (mode, limits) = match self {
-            Plan::Show { mode, limits } | Plan::Check { mode, limits } => (*mode, *limits),
+            Plan::Show { mode, limits }
+            | Plan::Check { mode, limits }
+            | Plan::Decode { mode, limits, .. }
+            | Plan::Name { mode, limits, .. } => (*mode, *limits),
             Plan::Pack => (Mode::Plain, Limits::standard()),
             Plan::Unpack => (Mode::Packed, Limits::standard()),
             Plan::Recut { mode, .. } => (*mode, Limits::standard()),
@@ -74,6 +103,12 @@ impl Plan {
         let alloc = last.alloc;
         match self {
             Plan::Show { limits, .. } => show(alloc, segments, *limits, &mut last.line, out),
+            Plan::Decode {
+                limits,
+                decoder,
+                ..
+            } => decode(alloc, segments, *limits, decoder, out),
+            Plan::Name { limits, names, .. } => name(segments, *limits, names, last, out),
             Plan::Check { limits, .. } => Ok(check_of(segments, *limits)?),
             Plan::Pack => write(alloc, segments, Mode::Packed, &mut last.buffer, out),
             Plan::Unpack => write(alloc, segments, Mode::Plain, &mut last.buffer, out),
@@ -121,6 +156,7 @@ impl Plan {
             alloc,
             line: String::new(alloc),
             buffer: Vec::new(alloc),
+            returns: Occurrences::new(alloc),
         };
         // A reader could go on for ever; no device gives this many pieces.
         for _ in 0..u64::MAX {
@@ -151,7 +187,7 @@ impl Plan {
 /// accepted, 1 where something was refused, and 2 where a device failed.
 pub fn act<R: Read, W: Write, E: Write>(
     alloc: Global,
-    plan: &Plan,
+    plan: &Plan<'_>,
     from: &mut R,
     out: &mut W,
     err: &mut E,
@@ -169,6 +205,10 @@ pub fn act<R: Read, W: Write, E: Write>(
     match done {
         Ok(()) => ACCEPTED,
         Err(Stop::Refused(fault)) => {
+            let _ = writeln!(err, "refused at byte {}: {fault}", progress.bytes);
+            REFUSED
+        }
+        Err(Stop::Wrong(fault)) => {
             let _ = writeln!(err, "refused at byte {}: {fault}", progress.bytes);
             REFUSED
         }
@@ -195,6 +235,38 @@ fn show<W: Write>(
     line.clear();
     push_line(alloc, line, &view)?;
     Ok(out.write_all(line.as_bytes())?)
+}
+
+/// Writes the message's line, with the names of a schema where it has them.
+fn name<W: Write>(
+    segments: &Segments,
+    limits: Limits,
+    names: &Names,
+    last: &mut Last,
+    out: &mut W,
+) -> Result<(), Stop> {
+    let alloc = last.alloc;
+    let view = view_of(segments, limits)?;
+    last.line.clear();
+    push_line(alloc, &mut last.line, &view)?;
+    let named = names.line(alloc, &mut last.returns, last.line.as_str(), &view)?;
+    if let Some(line) = named {
+        last.line = line;
+    }
+    Ok(out.write_all(last.line.as_bytes())?)
+}
+
+/// Writes the message's line by a struct of a schema.
+fn decode<W: Write>(
+    alloc: Global,
+    segments: &Segments,
+    limits: Limits,
+    decoder: &Decoder<'_>,
+    out: &mut W,
+) -> Result<(), Stop> {
+    let view = View::root(segments, limits)?;
+    let text = message_line(alloc, decoder, view)?;
+    Ok(out.write_all(text.as_bytes())?)
 }
 
 /// Writes the frame of the segments, by way of `buffer`.

@@ -1,12 +1,13 @@
 //! Serving the Desk and the Cell on connections of 127.0.0.1.
 
 use crate::capped::Capped;
+use crate::objects::serve_objects;
+use crate::parting::part;
 use crate::unserved::Unserved;
 use cp_commands::{ACCEPTED, BROKEN, Plan, act};
 use cp_frame::Mode;
-use cp_servants::{Cell, Desk, Servant};
-use cp_serve::{ServeFault, serve};
-use cp_stream::{StreamFault, Tap};
+use cp_serve::ServeFault;
+use cp_stream::StreamFault;
 use cp_words::Limits;
 use std::alloc::Global;
 use std::io::{self, Read, Write};
@@ -125,7 +126,7 @@ impl Loop {
         let limits = Limits::standard();
         let show = Plan::Show { mode, limits };
         match served {
-            Ok(()) => act(alloc, &show, &mut client, out, err),
+            Ok(_) => act(alloc, &show, &mut client, out, err),
             Err(fault) => {
                 let unserved = Unserved(fault);
                 let _ = act(alloc, &show, &mut client, out, &mut io::sink());
@@ -155,26 +156,14 @@ fn serve_next<E: Write>(alloc: Global, listener: &TcpListener, mode: Mode, err: 
     }
 }
 
-/// Serves a connection.
+/// Serves a connection, and closes it.
 fn serve_stream(alloc: Global, stream: &TcpStream, mode: Mode) -> Result<(), ServeFault> {
     // What was sent goes out at once, as the peer may wait for it.
     if stream.set_nodelay(true).is_err() {
         return Err(ServeFault::Stream(StreamFault::Device));
     }
-    serve_objects(alloc, stream, stream, mode)
-}
-
-/// Serves a Desk and a Cell.
-fn serve_objects<R: Read + Drop, W: Write + Drop>(
-    alloc: Global,
-    from: R,
-    to: W,
-    mode: Mode,
-) -> Result<(), ServeFault> {
-    let mut objects: Vec<Box<dyn Servant>> = Vec::new(alloc);
-    objects.push(Box::new(alloc, Desk::new(alloc))?)?;
-    objects.push(Box::new(alloc, Cell::new(alloc))?)?;
-    let (mut from, mut to) = (Tap::new(from), Tap::new(to));
-    let _ = serve(alloc, &mut from, &mut to, &mut objects, mode)?;
+    let served = serve_objects(alloc, stream, stream, mode);
+    part(stream, served);
+    served?;
     Ok(())
 }

@@ -9,22 +9,26 @@ use std::alloc::Global;
 use std::io::{self, ErrorKind, Read};
 use std::process::Abort;
 
-/// `show` within the standard limits.
-fn show(mode: Mode) -> Plan {
+/// The plan of this name, within the standard limits, for bytes that it doesn't outlive.
+fn plan_of<'p>(name: &str, mode: Mode, _bytes: &'p [u8]) -> Option<Plan<'p>> {
     let limits = Limits::standard();
-    Plan::Show { mode, limits }
-}
-
-/// `check` within the standard limits.
-fn check(mode: Mode) -> Plan {
-    let limits = Limits::standard();
-    Plan::Check { mode, limits }
+    match name {
+        "show" => Some(Plan::Show { mode, limits }),
+        "check" => Some(Plan::Check { mode, limits }),
+        "recut" => Some(Plan::Recut { mode, words: 3 }),
+        "pack" => Some(Plan::Pack),
+        "unpack" => Some(Plan::Unpack),
+        _ => None,
+    }
 }
 
 /// What a command that accepts all makes of the bytes.
-fn taken(rt: &impl Abort, alloc: Global, plan: Plan, bytes: &[u8]) -> Vec<u8> {
-    let mut from = bytes;
+fn taken(rt: &impl Abort, alloc: Global, name: &str, bytes: &[u8]) -> Vec<u8> {
     let (mut out, mut err) = (Vec::new(alloc), Vec::new(alloc));
+    let Some(plan) = plan_of(name, Mode::Plain, bytes) else {
+        return out;
+    };
+    let mut from = bytes;
     let status = act(alloc, &plan, &mut from, &mut out, &mut err);
     expect_status(rt, status, 0);
     check!(rt; err.is_empty());
@@ -42,8 +46,8 @@ fn frames_may_be_larger_than_a_piece(rt: HostRuntime) {
         frames.extend_from_slice(&header).expect(&rt, "memory");
         frames.resize(end, 7).expect(&rt, "memory");
     }
-    let packed = taken(&rt, alloc, Plan::Pack, &frames);
-    let plain = taken(&rt, alloc, Plan::Unpack, &packed);
+    let packed = taken(&rt, alloc, "pack", &frames);
+    let plain = taken(&rt, alloc, "unpack", &packed);
     check!(&rt; plain.as_slice() == frames.as_slice());
     drop(plain);
     drop(packed);
@@ -60,15 +64,24 @@ impl Read for Broken {
     }
 }
 
-#[test]
-fn a_device_may_fail(rt: HostRuntime) {
-    let alloc = rt.alloc();
+/// A command says that its device failed.
+fn expect_failure(rt: &impl Abort, alloc: Global, plan: &Plan<'_>) {
     let (mut out, mut err) = (Vec::new(alloc), Vec::new(alloc));
-    let status = act(alloc, &show(Mode::Plain), &mut Broken, &mut out, &mut err);
-    expect_status(&rt, status, 2);
-    check!(&rt; err.as_slice() == b"device: can't read: other error\n".as_slice());
+    let status = act(alloc, plan, &mut Broken, &mut out, &mut err);
+    expect_status(rt, status, 2);
+    check!(rt; err.as_slice() == b"device: can't read: other error\n".as_slice());
     drop(out);
     drop(err);
+}
+
+#[test]
+fn a_device_may_fail(rt: HostRuntime) {
+    let plan = plan_of("show", Mode::Plain, &PLAIN);
+    check!(&rt; plan.is_some());
+    let Some(plan) = plan else {
+        return;
+    };
+    expect_failure(&rt, rt.alloc(), &plan);
 }
 
 /// A `finish` as bytes, which lie in no memory that could be refused.
@@ -86,9 +99,9 @@ const PACKED: [u8; 40] = [
 ];
 
 /// A command ends well, or says that memory ran out.
-fn expect_memory_reported(rt: &impl Abort, alloc: Global, plan: Plan, bytes: &[u8]) {
+fn expect_memory_reported(rt: &impl Abort, alloc: Global, plan: &Plan<'_>, bytes: &[u8]) {
     let (mut from, mut err) = (bytes, Vec::new(alloc));
-    let status = act(alloc, &plan, &mut from, &mut io::sink(), &mut err);
+    let status = act(alloc, plan, &mut from, &mut io::sink(), &mut err);
     let said = String::from_utf8(err).expect(rt, "UTF-8");
     if status == 0 {
         expect_text(rt, said.as_str(), "");
@@ -100,18 +113,21 @@ fn expect_memory_reported(rt: &impl Abort, alloc: Global, plan: Plan, bytes: &[u
     drop(said);
 }
 
+/// The same, of the command of this name.
+fn expect_reported(rt: &impl Abort, alloc: Global, name: &str, (mode, bytes): (Mode, &[u8])) {
+    let Some(plan) = plan_of(name, mode, bytes) else {
+        return;
+    };
+    expect_memory_reported(rt, alloc, &plan, bytes);
+}
+
 // With ample memory no allocation fails. `rt try --test --fail-alloc N` fails the Nth.
 #[test]
 fn allocation_failure_is_reported(rt: HostRuntime) {
-    let words = 3;
-    for (mode, bytes) in [
-        (Mode::Plain, PLAIN.as_slice()),
-        (Mode::Packed, PACKED.as_slice()),
-    ] {
-        expect_memory_reported(&rt, rt.alloc(), show(mode), bytes);
-        expect_memory_reported(&rt, rt.alloc(), check(mode), bytes);
-        expect_memory_reported(&rt, rt.alloc(), Plan::Recut { mode, words }, bytes);
+    for name in ["show", "check", "recut"] {
+        expect_reported(&rt, rt.alloc(), name, (Mode::Plain, PLAIN.as_slice()));
+        expect_reported(&rt, rt.alloc(), name, (Mode::Packed, PACKED.as_slice()));
     }
-    expect_memory_reported(&rt, rt.alloc(), Plan::Pack, &PLAIN);
-    expect_memory_reported(&rt, rt.alloc(), Plan::Unpack, &PACKED);
+    expect_reported(&rt, rt.alloc(), "pack", (Mode::Plain, PLAIN.as_slice()));
+    expect_reported(&rt, rt.alloc(), "unpack", (Mode::Packed, PACKED.as_slice()));
 }

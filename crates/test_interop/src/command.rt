@@ -2,8 +2,10 @@
 
 use crate::fault::Fault;
 use crate::row::{decoded, expect};
-use cp_commands::{Plan, act};
+use cp_commands::{Asked, Names, Plan, act};
+use cp_decode::Decoder;
 use cp_frame::Mode;
+use cp_types::Schema;
 use cp_words::Limits;
 use std::alloc::Global;
 
@@ -29,8 +31,9 @@ fn limits_of(nesting: Option<&str>, traversal: Option<&str>) -> Option<Limits> {
     Limits::new(number_of(nesting)?, number_of(traversal)?, 512, 8_388_608)
 }
 
-/// The command of a row: `pack`, `unpack`, `recut MODE WORDS`, or `show` or `check` with a mode and maybe limits.
-fn plan_of(text: &str) -> Option<Plan> {
+/// The command of a row: `pack`, `unpack`, `recut MODE WORDS`, `decode MODE STRUCT`, `names MODE`, `returns MODE`, or `show` or
+/// `check` with a mode and maybe limits.
+fn plan_of<'p>(text: &str, names: &'p Names) -> Option<Plan<'p>> {
     let mut words = text.split(' ');
     let name = words.next()?;
     if name == "pack" {
@@ -41,14 +44,33 @@ fn plan_of(text: &str) -> Option<Plan> {
     }
     let mode = mode_of(words.next()?)?;
     let first = words.next();
-    if name == "recut" {
-        let words = number_of(first)?;
-        return Some(Plan::Recut { mode, words });
+    match name {
+        "recut" => Some(Plan::Recut {
+            mode,
+            words: number_of(first)?,
+        }),
+        "decode" => {
+            let decoder = Decoder::by_name(&names.schema, first?)?;
+            Some(Plan::Decode {
+                mode,
+                limits: Limits::standard(),
+                decoder,
+            })
+        }
+        name => shown(name, mode, limits_of(first, words.next())?, names),
     }
-    let limits = limits_of(first, words.next())?;
+}
+
+/// The command of a row that shows or checks messages of rpc.capnp.
+fn shown<'p>(name: &str, mode: Mode, limits: Limits, names: &'p Names) -> Option<Plan<'p>> {
     match name {
         "show" => Some(Plan::Show { mode, limits }),
         "check" => Some(Plan::Check { mode, limits }),
+        "names" | "returns" => Some(Plan::Name {
+            mode,
+            limits,
+            names,
+        }),
         _ => None,
     }
 }
@@ -63,17 +85,24 @@ fn push_lines(text: &mut String, bytes: &[u8]) -> Result<(), Fault> {
 }
 
 /// Adds what a command wrote: lines, or a file in hexadecimal.
-fn push_written(alloc: Global, text: &mut String, plan: Plan, out: &[u8]) -> Result<(), Fault> {
+fn push_written(
+    alloc: Global,
+    text: &mut String,
+    plan: &Plan<'_>,
+    out: &[u8],
+) -> Result<(), Fault> {
     match plan {
-        Plan::Show { .. } | Plan::Check { .. } => push_lines(text, out),
-        _ => Ok(text.push_str(hex::encode(alloc, out)?.as_str())?),
+        Plan::Pack | Plan::Unpack | Plan::Recut { .. } => {
+            Ok(text.push_str(hex::encode(alloc, out)?.as_str())?)
+        }
+        _ => push_lines(text, out),
     }
 }
 
 /// What a command does with a file: its status, what it says and what it writes, between tabs.
-fn done(alloc: Global, plan: Plan, mut file: &[u8]) -> Result<String, Fault> {
+fn done(alloc: Global, plan: &Plan<'_>, mut file: &[u8]) -> Result<String, Fault> {
     let (mut out, mut err) = (Vec::new(alloc), Vec::new(alloc));
-    let status = act(alloc, &plan, &mut file, &mut out, &mut err);
+    let status = act(alloc, plan, &mut file, &mut out, &mut err);
     let mut text = format!(in alloc; "{status}\t")?;
     push_lines(&mut text, &err)?;
     text.push('\t')?;
@@ -81,12 +110,29 @@ fn done(alloc: Global, plan: Plan, mut file: &[u8]) -> Result<String, Fault> {
     Ok(text)
 }
 
+/// By what a row's messages are shown: a schema, and for `returns` the calls of the row's own file.
+fn names_of(alloc: Global, request: &[u8], words: &str, file: &[u8]) -> Result<Names, Fault> {
+    let asked = if words == "returns plain" {
+        Some(Asked::read(alloc, file, Mode::Plain, Limits::standard())?)
+    } else {
+        None
+    };
+    Ok(Names {
+        schema: Schema::read(alloc, request)?,
+        asked,
+    })
+}
+
 /// Does the command of a line with its file, in hexadecimal, and compares what comes of it with the rest of the line.
-pub fn try_line(alloc: Global, line: &str) -> Result<u64, Fault> {
+pub fn try_line(alloc: Global, request: &[u8], line: &str) -> Result<u64, Fault> {
     let mut parts = line.splitn(3, '\t');
-    let plan = plan_of(parts.next().ok_or(Fault::Row)?).ok_or(Fault::Row)?;
+    let words = parts.next().ok_or(Fault::Row)?;
     let file = decoded(alloc, parts.next().ok_or(Fault::Row)?)?;
     let wanted = parts.next().ok_or(Fault::Row)?;
-    expect(done(alloc, plan, &file)?, wanted)?;
+    let names = names_of(alloc, request, words, &file)?;
+    let Some(plan) = plan_of(words, &names) else {
+        return Err(Fault::Row);
+    };
+    expect(done(alloc, &plan, &file)?, wanted)?;
     Ok(1)
 }

@@ -1,7 +1,8 @@
 //! How a frame can fail its trial.
 
 use cp_frame::FrameFault;
-use cp_stream::StreamFault;
+use cp_stream::{Refusal, StreamFault};
+use cp_types::RequestFault;
 use std::alloc::{AllocError, AllocFailed};
 use thiserror::Error;
 
@@ -43,6 +44,18 @@ impl From<FrameFault> for Fault {
 
 impl From<StreamFault> for Fault {
     fn from(_: StreamFault) -> Fault {
+        Fault::Refused
+    }
+}
+
+impl From<Refusal> for Fault {
+    fn from(_: Refusal) -> Fault {
+        Fault::Refused
+    }
+}
+
+impl From<RequestFault> for Fault {
+    fn from(_: RequestFault) -> Fault {
         Fault::Refused
     }
 }

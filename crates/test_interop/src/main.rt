@@ -22,6 +22,9 @@ const STREAMS: [(&str, &str); 3] = [
     ("rust.1.c2s", "rust.1.c2s.show"),
 ];
 
+/// The schema by which messages are shown: what `capnp compile -o-` printed of `shown.capnp`, beside it.
+const REQUEST: &str = "shown.request";
+
 /// The files of rows: `frames.txt`, and `commands.txt`.
 #[derive(Clone, Copy)]
 enum Rows {
@@ -38,15 +41,15 @@ impl Rows {
     }
 
     /// Tries a row, and answers how many trials it took.
-    fn try_line(self, alloc: Global, line: &str) -> Result<u64, Fault> {
+    fn try_line(self, alloc: Global, request: &[u8], line: &str) -> Result<u64, Fault> {
         match self {
             Rows::Frames => Row::parse(alloc, line).and_then(|row| row.try_all(alloc)),
-            Rows::Commands => command::try_line(alloc, line),
+            Rows::Commands => command::try_line(alloc, request, line),
         }
     }
 
     /// Tries each row of the file, and prints what was tried.
-    fn try_all(self, rt: &HostRuntime, alloc: Global) -> anyhow::Result<bool> {
+    fn try_all(self, rt: &HostRuntime, alloc: Global, request: &[u8]) -> anyhow::Result<bool> {
         let name = self.name();
         let text = fs::read_to_string(rt, name)?;
         let (mut rows, mut trials, mut failed) = (0u64, 0u64, 0u64);
@@ -54,7 +57,7 @@ impl Rows {
             if line.starts_with('#') {
                 continue;
             }
-            match self.try_line(alloc, line) {
+            match self.try_line(alloc, request, line) {
                 Ok(tried) => trials = trials.saturating_add(tried),
                 Err(fault) => {
                     println!(rt; "{name} line {}: {fault}", i.saturating_add(1))?;
@@ -87,8 +90,9 @@ fn streams(rt: &HostRuntime, alloc: Global) -> anyhow::Result<bool> {
 
 fn main(rt: HostRuntime) -> anyhow::Result<ExitCode> {
     let alloc = rt.alloc();
-    let good = Rows::Frames.try_all(&rt, alloc)?
-        & Rows::Commands.try_all(&rt, alloc)?
+    let request = fs::read(&rt, REQUEST)?;
+    let good = Rows::Frames.try_all(&rt, alloc, &request)?
+        & Rows::Commands.try_all(&rt, alloc, &request)?
         & streams(&rt, alloc)?;
     Ok(if good {
         ExitCode::SUCCESS

@@ -1,0 +1,97 @@
+//! Calls over a socket.
+
+use crate::asking::{CallPlan, converse};
+use crate::fault::CallFault;
+use crate::words::calls_of;
+use cp_commands::{ACCEPTED, REFUSED};
+use mio::net as ready;
+use std::fs::Files;
+use std::io::{self, ErrorKind, Write};
+use std::net::{Net, TcpListener, TcpStream, ToSocketAddrs};
+use std::os::unix::net::UnixStream;
+use std::time::Duration;
+
+/// Makes the calls that these words name, of the objects of the peer at an address, in one go: HOST:PORT, or the path of
+/// a Unix socket, which has a slash. What each came to goes to `out` as a line, in the order of the calls, and a line that
+/// says why it stopped to `err`. The status is 0 where each call has results, 1 where one has none, and 2 where a word
+/// isn't a call, or a device failed.
+pub fn call_address<N, O: Write, E: Write>(
+    rt: &N,
+    address: &str,
+    plan: &CallPlan,
+    words: &[&str],
+    out: &mut O,
+    err: &mut E,
+) -> u8
+where
+    N: Net<Listener = TcpListener, Stream = TcpStream> + Files + AllocGlobal,
+{
+    match call_all(rt, address, plan, words, out) {
+        Ok(true) => ACCEPTED,
+        Ok(false) => REFUSED,
+        Err(fault) => {
+            let _ = writeln!(err, "{fault}");
+            fault.status()
+        }
+    }
+}
+
+/// Makes the calls that these words name.
+fn call_all<N, O: Write>(
+    rt: &N,
+    address: &str,
+    plan: &CallPlan,
+    words: &[&str],
+    out: &mut O,
+) -> Result<bool, CallFault>
+where
+    N: Net<Listener = TcpListener, Stream = TcpStream> + Files + AllocGlobal,
+{
+    let calls = calls_of(rt, words)?;
+    if address.contains('/') {
+        return match connect_unix(rt, address) {
+            Ok(stream) => converse(rt, stream, address, plan, calls, out),
+            Err(error) => Err(CallFault::of_device(rt.alloc(), address, error)),
+        };
+    }
+    match connect_tcp(rt, address, plan.timeout) {
+        Ok(stream) => converse(rt, stream, address, plan, calls, out),
+        Err(error) => Err(CallFault::of_device(rt.alloc(), address, error)),
+    }
+}
+
+/// A connection to HOST:PORT.
+fn connect_tcp<N>(rt: &N, address: &str, timeout: Option<u32>) -> io::Result<ready::TcpStream>
+where
+    N: Net<Listener = TcpListener, Stream = TcpStream>,
+{
+    let stream = match timeout {
+        Some(seconds) => connect_within(rt, address, Duration::from_secs(seconds as u64))?,
+        None => TcpStream::connect(rt, address)?,
+    };
+    stream.set_nodelay(true)?;
+    stream.set_nonblocking(true)?;
+    Ok(ready::TcpStream::from_std(stream))
+}
+
+/// A connection to HOST:PORT, whose addresses are each tried for so long.
+fn connect_within<N>(rt: &N, address: &str, time: Duration) -> io::Result<TcpStream>
+where
+    N: Net<Listener = TcpListener, Stream = TcpStream>,
+{
+    let mut last = io::Error::from(ErrorKind::NotFound);
+    for address in address.to_socket_addrs(rt)? {
+        match TcpStream::connect_timeout(rt, &address, time) {
+            Ok(stream) => return Ok(stream),
+            Err(error) => last = error,
+        }
+    }
+    Err(last)
+}
+
+/// A connection to a Unix socket.
+fn connect_unix<N: Net>(rt: &N, path: &str) -> io::Result<ready::UnixStream> {
+    let stream = UnixStream::connect(rt, path)?;
+    stream.set_nonblocking(true)?;
+    Ok(ready::UnixStream::from_std(stream))
+}

@@ -1,0 +1,95 @@
+//! The messages of a connection, as lines.
+
+use crate::asking::CallPlan;
+use cp_frame::{FrameReader, Mode};
+use cp_lines::push_line;
+use cp_stream::view_of;
+use cp_words::{Limits, Segments};
+use std::alloc::Global;
+
+/// The messages that went over a connection, as lines that weren't printed. A message that can't be read, or for whose line
+/// there is no memory, is left out.
+#[derive(Drop)]
+pub(crate) struct Log {
+    alloc: Global,
+    limits: Limits,
+    /// Whether messages are noted.
+    notes: bool,
+    sent: FrameReader,
+    received: FrameReader,
+    pub(crate) lines: String,
+}
+
+/// A way that messages go.
+#[derive(Clone, Copy)]
+pub(crate) enum Way {
+    Sent,
+    Received,
+}
+
+impl Log {
+    /// Nothing went.
+    pub(crate) fn new(alloc: Global, plan: &CallPlan) -> Log {
+        Log {
+            alloc,
+            limits: plan.limits,
+            notes: plan.shows_messages,
+            sent: reader_of(alloc, plan.mode, Limits::standard()),
+            received: reader_of(alloc, plan.mode, plan.limits),
+            lines: String::new(alloc),
+        }
+    }
+
+    /// Notes bytes that went this way.
+    pub(crate) fn note(&mut self, way: Way, bytes: &[u8]) {
+        if !self.notes {
+            return;
+        }
+        let mut left = bytes;
+        for _ in 0..bytes.len() {
+            match self.next(way, left) {
+                Some(rest) => left = rest,
+                None => return,
+            }
+        }
+    }
+
+    /// Notes the next message of these bytes, and gives what follows it.
+    fn next<'a>(&mut self, way: Way, bytes: &'a [u8]) -> Option<&'a [u8]> {
+        let frame = match way {
+            Way::Sent => next_frame(&mut self.sent, bytes),
+            Way::Received => next_frame(&mut self.received, bytes),
+        };
+        let (segments, rest) = frame?;
+        let Ok(view) = view_of(&segments, self.limits) else {
+            return None;
+        };
+        self.lines.push_str(mark_of(way)).ok()?;
+        push_line(self.alloc, &mut self.lines, &view).ok()?;
+        Some(rest)
+    }
+}
+
+/// The next frame of these bytes, and what follows it.
+fn next_frame<'a>(reader: &mut FrameReader, bytes: &'a [u8]) -> Option<(Segments, &'a [u8])> {
+    match reader.next(bytes) {
+        Ok(Some((_, segments, rest))) => Some((segments, rest)),
+        _ => None,
+    }
+}
+
+/// What comes before the line of a message that went this way.
+fn mark_of(way: Way) -> &'static str {
+    match way {
+        Way::Sent => "> ",
+        Way::Received => "< ",
+    }
+}
+
+/// A reader of frames to which nothing came.
+fn reader_of(alloc: Global, mode: Mode, limits: Limits) -> FrameReader {
+    match mode {
+        Mode::Plain => FrameReader::plain(alloc, limits),
+        Mode::Packed => FrameReader::packed(alloc, limits),
+    }
+}
