@@ -19,6 +19,9 @@ size_t cpb_write_frames(const uint8_t* bytes, size_t length, uint32_t turns, uin
 uint64_t cpb_read_frames_within(const uint8_t* bytes, size_t length, uint8_t kind, uint32_t nesting, uint32_t traversal);
 uint64_t cpb_packed_frames_within(const uint8_t* bytes, size_t length, uint8_t kind, uint32_t nesting, uint32_t traversal);
 size_t cpb_write_frames_within(const uint8_t* bytes, size_t length, uint32_t words, uint32_t nesting, uint32_t traversal, uint8_t* buffer, size_t size);
+// Reads the address book that is the first message of a plain stream this many times: the sum of all its people's texts' lengths and of the
+// numbers of their phones' types. Its message is checked anew each time, or once.
+uint64_t cpb_read_book(const uint8_t* bytes, size_t length, uint32_t turns, bool anew);
 // Plays a script on a new vat (docs/TESTING.md has its lines). Gives the number of bytes of the events' lines but the first `skipped`,
 // with all that follows after each, and puts what fits of them into the buffer.
 size_t cpb_play(const uint8_t* script, size_t length, size_t skipped, uint8_t* buffer, size_t size);

@@ -9,7 +9,8 @@
 #   moves     100 seeds of 120 random moves of two vats                        a minute
 #   peers     sessions of C++ clients, and of peers at fault                   15 seconds
 #   relay     sessions of C++ clients and of peers at fault through a relay    a minute
-#   fields    texts of schemas, read by generated code and the reference tool   half an hour
+#   fields    texts of schemas, read by generated code and by the reference tool   half an hour
+#   callees   calls of servers by the reference library, and of peers at fault two minutes
 #   sessions  15,000 random sessions with two servers                          ten minutes
 #   served    20 million messages of random sessions, served in memory         a minute, and half of one with the address sanitizer
 #   starved   1,000 random sessions, once for each of their allocations        five minutes
@@ -21,7 +22,7 @@
 set -u
 here=$(cd "$(dirname "${BASH_SOURCE[0]}")" && pwd)
 root=$(dirname "$here")
-all=(look memory moves peers relay fields sessions served starved fuzz edits plants)
+all=(look memory moves peers relay fields callees sessions served starved fuzz edits plants)
 planted=(cp_words cp_tables cp_writing cp_packed cp_frame cp_rpc cp_stream cp_refs cp_vat cp_serve)
 
 [ $# -ge 1 ] || { sed -n '2,/^# Debian/s/^# \{0,1\}//p' "$0" >&2; exit 2; }
@@ -56,9 +57,10 @@ peers() { built && "$here/peers/run.sh" "$server" "$folder"; }
 relay() { built && "$here/relay/run.sh" "$server" "$folder/relay"; }
 
 fields() {
-    "$root/tools/build.sh" capnpc_rattle && "$root/tools/generated.sh" &&
-        "$here/fields/run.sh" "$root/crates/capnpc_rattle/out/capnpc_rattle" "$folder/fields"
+    "$root/tools/build.sh" capnpc_rattle cp_cli && "$root/tools/generated.sh" &&
+        "$here/fields/run.sh" "$root/crates/capnpc_rattle/out/capnpc_rattle" "$folder/fields" "$server"
 }
+callees() { built && "$here/callees/run.sh" "$server" "$folder/callees"; }
 
 sessions() { built && "$here/fuzz/sessions.sh" "$server" "$folder" 15000 7; }
 

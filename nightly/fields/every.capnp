@@ -80,6 +80,8 @@ struct Every {
     six @49 :Colour = green;
     seven @50 :Bool = true;
     eight @51 :AnyPointer;
+    nine @60 :Text = "h\xc3\xa9 \"you\"\n";
+    ten @61 :Data = 0x"00 ff 41";
   }
 
   more :union {
@@ -98,4 +100,6 @@ struct Every {
   enum Option { none @0; some @1; unknown @2; }
 
   last @59 :Bool = true;
+  greeting @62 :Text = "hello";
+  seal @63 :Data = "seal";
 }

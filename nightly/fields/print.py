@@ -88,31 +88,27 @@ class Printer:
         text = f'line.field("{field["name"]}")?; {value}'
         return f'if has(&{at}.body, {field["offset"]}) {{ {text} }}' if fails else text
 
-    def member(self, node):
-        """Statements that print the member of a union that is set, by what it holds."""
+    def member(self, node, field):
+        """Statements that print a member of a union, by what it holds, if it is the one that is set."""
         name = self.name(node)
         self.types.add(name + "Member")
-        arms = ""
-        for field in sorted((f for f in node["fields"] if f["disc"] != 0xFFFF), key=lambda f: f["disc"]):
-            arm = f"{name}Member::{variant(field['name'])}"
-            head = f'line.field("{field["name"]}")?;'
-            if field["which"] == 1:
-                group = self.nodes[field["group"]]
-                self.struct(group)
-                arms += f"        {arm}(held) => {{ {head} {words(self.name(group))}_line(line, &held)?; }}\n"
-                continue
-            code = field["type"]["kind"]
-            if code == 0:
-                arms += f'        {arm} => {{ {head} line.text.push_str("void")?; }}\n'
-            elif code in (17, 18):
-                arms += f"        {arm}(_) => {{}}\n"
-            else:
-                value = self.value(field["type"], "held")
-                if code in (12, 13, 14, 16) and field["disc"] == 0:
-                    value = f'if has(&at.body, {field["offset"]}) {{ {head} {value} }}'
-                    head = ""
-                arms += f"        {arm}(held) => {{ {head} {value} }}\n"
-        return f"match at.member()? {{\n{arms}        {name}Member::Unknown(_) => {{}}\n    }}"
+        arm = f"{name}Member::{variant(field['name'])}"
+        head = f'line.field("{field["name"]}")?;'
+        if field["which"] == 1:
+            group = self.nodes[field["group"]]
+            self.struct(group)
+            arm = f"{arm}(held) => {{ {head} {words(self.name(group))}_line(line, &held)?; }}"
+        elif field["type"]["kind"] == 0:
+            arm = f'{arm} => {{ {head} line.text.push_str("void")?; }}'
+        elif field["type"]["kind"] in (17, 18):
+            return ""
+        else:
+            value = self.value(field["type"], "held")
+            if field["type"]["kind"] in (12, 13, 14, 16) and field["disc"] == 0:
+                value = f'if has(&at.body, {field["offset"]}) {{ {head} {value} }}'
+                head = ""
+            arm = f"{arm}(held) => {{ {head} {value} }}"
+        return f"match at.member()? {{ {arm} _ => {{}} }}"
 
     def struct(self, node):
         name = self.name(node)
@@ -120,13 +116,10 @@ class Printer:
             return
         self.done.add(name)
         self.types.add(name + "View")
-        body, is_printed = "", False
+        body = ""
         for field in node["fields"]:
-            if field["disc"] == 0xFFFF:
-                body += "    " + self.field(field, "at") + "\n"
-            elif not is_printed:
-                is_printed = True
-                body += "    " + self.member(node) + "\n"
+            statements = self.field(field, "at") if field["disc"] == 0xFFFF else self.member(node, field)
+            body += "    " + statements + "\n"
         self.functions.append(f"fn {words(name)}_line(line: &mut Line, at: &{name}View<'_>) -> anyhow::Result<()> {{\n"
                               f"    line.open('(')?;\n{body}    line.close(')')?;\n    Ok(())\n}}\n")
 
@@ -167,4 +160,5 @@ def variant(name):
     return camel(name) + ("_" if camel(name) in ("Unknown", "Self") else "")
 
 
-sys.stdout.write(Printer(sys.argv[1]).program(sys.argv[2]))
+if __name__ == "__main__":
+    sys.stdout.write(Printer(sys.argv[1]).program(sys.argv[2]))

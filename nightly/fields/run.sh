@@ -1,15 +1,20 @@
 #!/usr/bin/env bash
-# run.sh PLUGIN FOLDER    texts go through `capnp encode`, are read by the code that PLUGIN (capnpc_rattle, built) makes of the schemas
-#                         here, and are compared line by line with what `capnp decode --short` prints: every kind of field, a struct
-#                         of 300 fields, and two editions of a schema, each read by the other's code. FOLDER gets the crates.
+# run.sh PLUGIN FOLDER [COMMAND]    texts go through `capnp encode`, are read by the code that PLUGIN (capnpc_rattle, built) makes of
+#                                   the schemas here, and by `COMMAND show --schema` (capnp_cli, built), and are compared line by line
+#                                   with what `capnp decode --short` prints: every kind of field, floats of each size, a struct of 300
+#                                   fields, and two editions of a schema, each read by the other's code. FOLDER gets the crates.
+#                                   Then the same messages, and random ones, are built again by the drafts that PLUGIN makes. With - for
+#                                   PLUGIN no code is made, and COMMAND alone is tried, in a minute.
 #
-# The programs that print are made by print.py, of the request alone; `rt try` runs them, over unproved code.
+# The programs that print are made by print.py, those that build by copy.py, of the request alone; `rt try` runs them, over unproved code.
 set -eu
-plugin=$(realpath "$1")
+plugin=$1
+[ "$plugin" = - ] || plugin=$(realpath "$plugin")
 mkdir -p "$2" && room=$(cd "$2" && pwd)
 here=$(cd "$(dirname "${BASH_SOURCE[0]}")" && pwd)
 root=$(dirname "$(dirname "$here")")
-libraries=(cp_words cp_tree cp_reading cp_packed cp_frame cp_fields)
+command=${3:+$(realpath "$3")}
+libraries=(cp_words cp_tree cp_reading cp_writing cp_packed cp_frame cp_rpc cp_stream cp_fields cp_drafts cp_structs)
 failed=0
 
 take_libraries() {
@@ -46,13 +51,21 @@ wide() { # a schema of 300 fields of the widths in turn, and a message that sets
 
 make_printer() { # SCHEMA STRUCT: the schema's crate, and the program that prints its messages
     local name
+    [ "$plugin" != - ] || return 0
     name=$(basename "$1" .capnp)
-    (cd "$(dirname "$1")" && capnp compile -o"$plugin:$room/crates" "$name.capnp") >>"$room/crates.txt"
     capnp compile --src-prefix="$(dirname "$1")" -o- "$1" >"$room/$name.request"
+    (cd "$room/crates" && "$plugin" --drafts <"../$name.request") >>"$room/crates.txt"
     mkdir -p "$room/crates/print_$name/src"
     "$here/print.py" "$room/$name.request" "$2" >"$room/crates/print_$name/src/main.rt"
     cp "$here/line.code" "$room/crates/print_$name/src/line.rt"
     printf 'print_%s: cp_words cp_reading cp_frame cp_fields %s anyhow\n' "$name" "$name" >>"$room/crates.txt"
+}
+
+make_copier() { # NAME STRUCT: the program that builds the messages of a schema again
+    [ "$plugin" != - ] || return 0
+    mkdir -p "$room/crates/copy_$1/src"
+    "$here/copy.py" "$room/$1.request" "$2" >"$room/crates/copy_$1/src/main.rt"
+    printf 'copy_%s: cp_words cp_tree cp_reading cp_frame cp_fields cp_drafts cp_stream cp_structs %s anyhow\n' "$1" "$1" >>"$room/crates.txt"
 }
 
 same() { # TEXTS READER: whether what was found is what is wanted
@@ -65,6 +78,25 @@ same() { # TEXTS READER: whether what was found is what is wanted
     fi
 }
 
+show() { # TEXTS WRITER READER STRUCT: the same frames, shown by READER's schema
+    [ -n "$command" ] || return 0
+    capnp compile --src-prefix="$(dirname "$3")" -o- "$3" >"$room/request"
+    "$command" show --schema "$room/request" --type "$4" "$room/frames" >"$room/found" 2>"$room/said" || :
+    same "$1" "show --schema $(basename "$3")"
+}
+
+calls() { # a session's calls and results, by the names of the methods: desk.1.c2s.show in these words is desk.txt, desk.1.s2c.show returns.txt
+    [ -n "$command" ] || return 0
+    capnp compile --src-prefix="$root/nightly/peers" -o- "$root/nightly/peers/desk.capnp" >"$room/request"
+    cp "$here/desk.txt" "$room/wanted"
+    "$command" show --schema "$room/request" "$root/crates/test_interop/data/desk.1.c2s" >"$room/found" 2>"$room/said" || :
+    same desk.txt "show --schema desk.capnp"
+    cp "$here/returns.txt" "$room/wanted"
+    "$command" show --schema "$room/request" --calls "$root/crates/test_interop/data/desk.1.c2s" "$root/crates/test_interop/data/desk.1.s2c" \
+        >"$room/found" 2>"$room/said" || :
+    same returns.txt "show --schema desk.capnp --calls"
+}
+
 compare() { # TEXTS WRITER READER STRUCT: texts that WRITER's schema encodes, read by READER's code
     local name line
     name=$(basename "$3" .capnp)
@@ -73,18 +105,49 @@ compare() { # TEXTS WRITER READER STRUCT: texts that WRITER's schema encodes, re
         printf '%s\n' "$line" | capnp encode "$2" "$4" >>"$room/frames"
     done <"$1"
     capnp decode --short "$3" "$4" <"$room/frames" >"$room/wanted"
+    show "$@"
+    [ -d "$room/crates/print_$name" ] || return 0
     (cd "$room/crates/print_$name" && rt try --seconds 120 --steps 1000 <"$room/frames" >"$room/found" 2>"$room/said") || :
     same "$1" "the code of $(basename "$3")"
 }
 
+copy() { # TEXTS SCHEMA STRUCT: texts that SCHEMA encodes, built again by its drafts
+    [ "$plugin" != - ] || return 0
+    local name line
+    name=$(basename "$2" .capnp)
+    : >"$room/frames"
+    while IFS= read -r line; do
+        printf '%s\n' "$line" | capnp encode "$2" "$3" >>"$room/frames"
+    done <"$1"
+    capnp decode --short "$2" "$3" <"$room/frames" >"$room/wanted"
+    (cd "$room/crates/copy_$name" && rt try --seconds 120 --steps 1000 <"$room/frames" >"$room/copied" 2>"$room/said") || :
+    capnp decode --short "$2" "$3" <"$room/copied" >"$room/found" || :
+    same "$1" "the drafts of $(basename "$2")"
+}
+
+nulls() { # members of a union that have defaults, whose pointers are null, since the writer's schema knows them as void
+    sed -E 's/(nine|ten) (@[0-9]+) :[A-Za-z]+ = [^;]+;/\1 \2 :Void;/' "$here/every.capnp" >"$room/void.capnp"
+    printf '(%s = void)\n' nine ten >"$room/nulls.txt"
+    compare "$room/nulls.txt" "$room/void.capnp" "$here/every.capnp" Every
+}
+
 take_libraries
 wide
+calls
 make_printer "$here/every.capnp" Every
 make_printer "$here/older.capnp" Thing
 make_printer "$here/newer.capnp" Thing
 make_printer "$room/wide.capnp" Wide
+compare "$here/floats.txt" "$here/floats.capnp" "$here/floats.capnp" Floats
 compare "$here/every.txt" "$here/every.capnp" "$here/every.capnp" Every
+nulls
 compare "$here/older.txt" "$here/older.capnp" "$here/newer.capnp" Thing
 compare "$here/newer.txt" "$here/newer.capnp" "$here/older.capnp" Thing
 compare "$room/wide.txt" "$room/wide.capnp" "$room/wide.capnp" Wide
+make_copier every Every
+make_copier wide Wide
+"$here/random_texts.py" "$room/every.request" Every 7 200 >"$room/random.txt"
+copy "$here/every.txt" "$here/every.capnp" Every
+copy "$room/random.txt" "$here/every.capnp" Every
+copy "$room/wide.txt" "$room/wide.capnp" Wide
 exit "$failed"

@@ -1,0 +1,68 @@
+#!/usr/bin/env python3
+"""Times our client beside the reference library's, each with the same server, and prints the ratios of their times.
+
+    clients.py --build FOLDER [--command FILE] [--runs 7] [--calls 30000] [--only WORD] [--cpus 1,2] [--enforce]
+
+`calling/build.sh FOLDER` builds our client, `make BUILD=FOLDER` the reference library's and its server. The clients run in turn on
+one processor, a server on another: the reference library's, and with --command also `capnp_cli serve`. A call's time is the
+client's by the clock. A ratio is ours over the reference's: below 1 we are faster. With --enforce the status is 1 where one
+passes its goal. `client.cpp` says what the modes are.
+"""
+import argparse
+import os
+import pathlib
+import statistics
+import subprocess
+import sys
+
+from compare import free_port, wait_for
+
+# The greatest ratio that is asked for.
+GOALS = {"seq": 0.9, "window": 0.9, "pipeline": 0.9}
+
+
+def run(client, server, mode, args):
+    """Microseconds a call, with a server of its own."""
+    port = free_port()
+    here, there = args.cpus.split(",")
+    process = subprocess.Popen(["taskset", "-c", there, *server, str(port), "1"])
+    wait_for(process, port)
+    words = ["taskset", "-c", here, str(args.build / client), str(port), mode, str(args.calls)]
+    took = float(subprocess.run(words, stdout=subprocess.PIPE, check=True, timeout=120).stdout) / 1e3
+    process.wait(5)
+    return took
+
+
+def compare(name, server, mode, args):
+    """Prints a row; whether the goal is met."""
+    times = [[run(client, server, mode, args) for client in ("calling", "client")] for _ in range(args.runs)]
+    ours, theirs = zip(*times)
+    mine, other = statistics.median(ours), statistics.median(theirs)
+    met = mine / other <= GOALS[mode]
+    spread = f"{mine / min(ours):.2f} {other / min(theirs):.2f}"
+    row = f"{name:<11}{mode:<10}{mine:>8.1f} us{other:>9.1f} us{mine / other:>8.2f}{GOALS[mode]:>7.2f}   {spread}  {'' if met else 'over'}"
+    print(row, flush=True)
+    return met
+
+
+def main():
+    words = argparse.ArgumentParser(description=__doc__, formatter_class=argparse.RawDescriptionHelpFormatter)
+    words.add_argument("--build", type=pathlib.Path, required=True)
+    words.add_argument("--command", type=pathlib.Path)
+    words.add_argument("--runs", type=int, default=7)
+    words.add_argument("--calls", type=int, default=30016)
+    words.add_argument("--only", default="")
+    words.add_argument("--cpus", default="1,2")
+    words.add_argument("--enforce", action="store_true")
+    args = words.parse_args()
+    servers = {"reference": [str(args.build / "server")]}
+    if args.command:
+        servers["ours"] = [str(args.command), "serve"]
+    print(f"{args.runs} runs of each, in turn; load {os.getloadavg()[0]:.1f}")
+    print(f"{'server':<11}{'mode':<10}{'our client':>11}{'reference':>12}{'ratio':>8}{'goal':>7}   spread")
+    met = [compare(name, server, mode, args) for name, server in servers.items() for mode in GOALS if args.only in mode]
+    return 1 if args.enforce and not all(met) else 0
+
+
+if __name__ == "__main__":
+    sys.exit(main())

@@ -1,0 +1,133 @@
+#!/usr/bin/env python3
+"""copy.py REQUEST STRUCT    writes a program that reads each message of standard input by the views that capnpc_rattle makes of the
+same request, builds it again by its drafts, and writes it to standard output. What a draft takes as a tree is copied as it is."""
+import sys
+
+from request import load
+from print import FLOATS, INTEGERS, camel, method, variant, words
+
+VECTORS = {1, 6, 7, 8, 9}
+
+
+class Copier:
+    def __init__(self, path):
+        self.nodes, _, files = load(path)
+        self.krate = files[0]["name"].split("/")[-1].split(".")[0]
+        self.types, self.done, self.functions = set(), set(), []
+
+    def name(self, node):
+        return camel(node["name"].split(":")[1])
+
+    def pointer(self, field, at, to, setter):
+        """Statements that copy a pointer that isn't null."""
+        kind, place = field["type"], field["offset"]
+        code = kind["kind"]
+        read = f"{at}.{method(field['name'])}()?"
+        if code == 12:
+            copied = f"{to}.{setter}(alloc, {read}.text(alloc)?.as_str())?;"
+        elif code == 13:
+            copied = f"{to}.{setter}({read}.to_vec(alloc)?)?;"
+        elif code == 16:
+            copied = f"{to}.{setter}({self.struct(self.nodes[kind['id']])}(alloc, &{read})?);"
+        elif code == 17:
+            copied = f"if let Some(cap) = {read} {{ {to}.{setter}(cap); }}"
+        elif code == 14 and kind["elem"]["kind"] == 16:
+            node = self.nodes[kind["elem"]["id"]]
+            self.types.add(self.name(node) + "ListDraft")
+            copied = (f"let mut items = {self.name(node)}ListDraft::new(alloc); "
+                      f"for item in {read} {{ items.push({self.struct(node)}(alloc, &item)?)?; }} {to}.{setter}(items);")
+        elif code == 14 and kind["elem"]["kind"] in VECTORS:
+            copied = f"let mut items = Vec::new(alloc); for item in {read} {{ items.push(item)?; }} {to}.{setter}(items)?;"
+        else:
+            copied = f"{to}.{setter}(whole_at(alloc, &{at}.body, {place})?);"
+        return f"if !{at}.body.pointer({place}).is_null() {{ {copied} }}"
+
+    def field(self, field, at, to, prefix):
+        """Statements that copy a field; a member of a union is chosen first, as it may be null."""
+        setter = "set_" + prefix + words(field["name"])
+        chosen = field["disc"] != 0xFFFF
+        if field["which"] == 1:
+            group = self.nodes[field["group"]]
+            choose = f"{to}.{setter}(); " if chosen else ""
+            return choose + self.fields(group, f"{at}.{method(field['name'])}()", to, prefix + words(field["name"]) + "_")
+        code = field["type"]["kind"]
+        if code == 0:
+            return f"{to}.{setter}();" if chosen else ""
+        if code in INTEGERS or code in FLOATS or code in (1, 15):
+            return f"{to}.{setter}({at}.{method(field['name'])}());"
+        return self.pointer(field, at, to, setter)
+
+    def fields(self, node, at, to, prefix):
+        """Statements that copy the fields of a struct or a group."""
+        text, members = "", []
+        for field in node["fields"]:
+            if field["disc"] == 0xFFFF:
+                text += self.field(field, at, to, prefix) + "\n"
+            else:
+                members.append(field)
+        if members:
+            name = self.name(node)
+            self.types.add(name + "Which")
+            arms = ""
+            for field in sorted(members, key=lambda f: f["disc"]):
+                arms += f"{name}Which::{variant(field['name'])} => {{ {self.tag(node, field, to)} {self.field(field, at, to, prefix)} }}\n"
+            text += f"match {at}.which() {{ {arms} {name}Which::Unknown(_) => {{}} }}\n"
+        return text
+
+    def tag(self, node, field, to):
+        """A member whose pointer is null is chosen by its number alone."""
+        if field["which"] == 0 and field["type"]["kind"] in (12, 13, 14, 16, 17, 18):
+            return f"{to}.body.set_u16({node['doff']}, {field['disc']});"
+        return ""
+
+    def struct(self, node):
+        """The function that copies a struct."""
+        name = self.name(node)
+        function = "copy_" + words(name)
+        if name not in self.done:
+            self.done.add(name)
+            self.types.update({name + "View", name + "Draft"})
+            body = self.fields(node, "at", "to", "")
+            self.functions.append(f"fn {function}(alloc: Global, at: &{name}View<'_>) -> anyhow::Result<{name}Draft> {{\n"
+                                  f"let mut to = {name}Draft::new(alloc)?;\n{body}Ok(to)\n}}\n")
+        return function
+
+    def program(self, root):
+        node = next(n for n in self.nodes.values() if n["name"].endswith(":" + root))
+        function = self.struct(node)
+        return f"""//! Copies messages of {root}.
+#![tactic(auto)]
+
+use anyhow::anyhow;
+use cp_fields::{{Pointee, StructView}};
+use cp_frame::{{FrameReader, Mode}};
+use cp_reading::View;
+use cp_stream::Tap;
+use cp_structs::write_struct;
+use cp_tree::Whole;
+use cp_words::Limits;
+use std::alloc::Global;
+use std::io::{{self, Read}};
+use {self.krate}::{{{", ".join(sorted(self.types))}}};
+
+fn whole_at(alloc: Global, body: &StructView<'_>, place: u32) -> anyhow::Result<Whole> {{
+    Whole::new(body.pointer(place).tree(alloc)?).map_err(|_| anyhow!("no message can hold this"))
+}}
+
+{"".join(f + chr(10) for f in self.functions)}fn main(rt: HostRuntime) -> anyhow::Result<()> {{
+    let mut bytes = Vec::new(rt.alloc());
+    rt.stdin().read_to_end(&mut bytes)?;
+    let mut reader = FrameReader::plain(rt.alloc(), Limits::standard());
+    let mut out = Tap::new(io::writer(&rt));
+    for (_, segments) in &reader.feed(&bytes)? {{
+        let view = View::root(segments, Limits::standard()).map_err(|fault| anyhow!("{{fault}}"))?;
+        let draft = {function}(rt.alloc(), &{root}View::of(Pointee::of_view(view))?)?;
+        write_struct(rt.alloc(), &mut out, &draft.body.into_object(), Mode::Plain, Limits::standard())?;
+    }}
+    Ok(reader.finish()?)
+}}
+"""
+
+
+if __name__ == "__main__":
+    sys.stdout.write(Copier(sys.argv[1]).program(sys.argv[2]))
