@@ -3,21 +3,12 @@
 same request, builds it again by its drafts, and writes it to standard output. What a draft takes as a tree is copied as it is."""
 import sys
 
-from request import load
-from print import FLOATS, INTEGERS, camel, method, variant, words
+from print import FLOATS, INTEGERS, Printer, method, variant, words
 
 VECTORS = {1, 6, 7, 8, 9}
 
 
-class Copier:
-    def __init__(self, path):
-        self.nodes, _, files = load(path)
-        self.krate = files[0]["name"].split("/")[-1].split(".")[0]
-        self.types, self.done, self.functions = set(), set(), []
-
-    def name(self, node):
-        return camel(node["name"].split(":")[1])
-
+class Copier(Printer):
     def pointer(self, field, at, to, setter):
         """Statements that copy a pointer that isn't null."""
         kind, place = field["type"], field["offset"]

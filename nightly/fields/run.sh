@@ -97,13 +97,18 @@ calls() { # a session's calls and results, by the names of the methods: desk.1.c
     same returns.txt "show --schema desk.capnp --calls"
 }
 
-compare() { # TEXTS WRITER READER STRUCT: texts that WRITER's schema encodes, read by READER's code
-    local name line
-    name=$(basename "$3" .capnp)
+encode() { # TEXTS SCHEMA STRUCT: the frames of these texts
+    local line
     : >"$room/frames"
     while IFS= read -r line; do
-        printf '%s\n' "$line" | capnp encode "$2" "$4" >>"$room/frames"
+        printf '%s\n' "$line" | capnp encode "$2" "$3" >>"$room/frames"
     done <"$1"
+}
+
+compare() { # TEXTS WRITER READER STRUCT: texts that WRITER's schema encodes, read by READER's code
+    local name
+    name=$(basename "$3" .capnp)
+    encode "$1" "$2" "$4"
     capnp decode --short "$3" "$4" <"$room/frames" >"$room/wanted"
     show "$@"
     [ -d "$room/crates/print_$name" ] || return 0
@@ -113,12 +118,9 @@ compare() { # TEXTS WRITER READER STRUCT: texts that WRITER's schema encodes, re
 
 copy() { # TEXTS SCHEMA STRUCT: texts that SCHEMA encodes, built again by its drafts
     [ "$plugin" != - ] || return 0
-    local name line
+    local name
     name=$(basename "$2" .capnp)
-    : >"$room/frames"
-    while IFS= read -r line; do
-        printf '%s\n' "$line" | capnp encode "$2" "$3" >>"$room/frames"
-    done <"$1"
+    encode "$1" "$2" "$3"
     capnp decode --short "$2" "$3" <"$room/frames" >"$room/wanted"
     (cd "$room/crates/copy_$name" && rt try --seconds 120 --steps 1000 <"$room/frames" >"$room/copied" 2>"$room/said") || :
     capnp decode --short "$2" "$3" <"$room/copied" >"$room/found" || :
