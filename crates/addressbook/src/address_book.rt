@@ -1,11 +1,11 @@
 //! `address_book` of addressbook.capnp.
 
-ghost use Rattle.std.specs.Prelude.{◌≡◌, IfOk, OnOk, OnErr, Err, ◌^◌, ◌+◌, ◌*◌, ◌<◌};
+ghost use Rattle.std.specs.Prelude.{◌≡◌, IfOk, OnOk, OnErr, Err, ◌+◌};
 ghost use Rattle.cp_words.specs.declared.pointer.ElementSize.TheVariants as sizes;
 ghost use Rattle.cp_tree.specs.Seen.{pointee_of};
 ghost use Rattle.cp_fields.specs.Pointers.{Reads, list_field, struct_field};
 ghost use Rattle.cp_drafts.specs.declared.fault.DraftFault.TheVariants.{TooLong};
-ghost use Rattle.cp_drafts.specs.Drafts.{blank, blank_list, item_count, with_last, with_pointer};
+ghost use Rattle.cp_drafts.specs.Drafts.{HoldsOneMore, blank, blank_list, with_last, with_pointer};
 
 use crate::person::{PersonListDraft, PersonView};
 use cp_drafts::{DraftFault, StructDraft, StructsDraft};
@@ -99,7 +99,7 @@ impl AddressBookListDraft {
     pub fn push(&mut self, item: AddressBookDraft) -> Result<(), DraftFault>
         ensures pushed { OnOk result (self.new.items ≡ with_last self.old.items item.body) }
         ensures left { OnErr result (self.new ≡ self.old) }
-        ensures long { result ≡ Err TooLong → ¬ ((item_count self.old.items + 1 < 2 ^ 30) × ((item_count self.old.items + 1) * (0 + 1) < 2 ^ 29)) }
+        ensures long { result ≡ Err TooLong → ¬ (HoldsOneMore self.old.items (0 + 1)) }
     {
         self.items.push(item.body)
     }

@@ -1,6 +1,6 @@
 //! `person` of addressbook.capnp.
 
-ghost use Rattle.std.specs.Prelude.{◌≡◌, not, from_bits, to_bits, bit_xor, IfOk, OnOk, OnErr, Err, ◌≤◌, ◌^◌, length, ◌+◌, ◌*◌, ◌<◌, []};
+ghost use Rattle.std.specs.Prelude.{◌≡◌, not, from_bits, to_bits, bit_xor, IfOk, OnOk, OnErr, IfErr, Err, ◌≤◌, ◌^◌, length, ◌+◌, []};
 ghost use Rattle.cp_words.specs.declared.pointer.ElementSize.TheVariants as sizes;
 ghost use Rattle.std.specs.Int.{cast_signed, cast_unsigned, w16};
 ghost use Rattle.std.specs.Float.{binary64};
@@ -9,7 +9,7 @@ ghost use Rattle.cp_fields.specs.Numbers.{flag, plain, uint};
 ghost use Rattle.cp_fields.specs.Pointers.{Reads, data_field, list_field, struct_field, text_field};
 ghost use Rattle.cp_drafts.specs.Numbers.{flag_bit};
 ghost use Rattle.cp_drafts.specs.declared.fault.DraftFault.TheVariants.{TooLong};
-ghost use Rattle.cp_drafts.specs.Drafts.{blank, blank_list, bytes_tree, item_count, quads_tree, text_tree, with_last, with_pointer, with_uint};
+ghost use Rattle.cp_drafts.specs.Drafts.{HoldsOneMore, blank, blank_list, bytes_tree, quads_tree, text_tree, with_last, with_pointer, with_uint};
 ghost use Rattle.addressbook.specs.Person.{person_employment_which_of, person_employment_member};
 
 use crate::person_phone_number::{PersonPhoneNumberListDraft, PersonPhoneNumberView};
@@ -261,7 +261,7 @@ impl PersonDraft {
     pub fn set_scores(&mut self, value: Vec<u32>) -> Result<(), DraftFault>
         ensures set { OnOk result (self.new.body ≡ with_pointer self.old.body 5 (quads_tree value.items)) }
         ensures left { OnErr result (self.new ≡ self.old) }
-        ensures long { result ≡ Err TooLong → 2 ^ 29 ≤ length value.items }
+        ensures long { IfErr result (λ fault. (fault ≡ TooLong) × (2 ^ 29 ≤ length value.items)) }
     {
         self.body.set_pointer(5, cp_drafts::quads_of(value)?);
         Ok(())
@@ -271,7 +271,7 @@ impl PersonDraft {
     pub fn set_picture(&mut self, value: Vec<u8>) -> Result<(), DraftFault>
         ensures set { OnOk result (self.new.body ≡ with_pointer self.old.body 6 (bytes_tree value.items)) }
         ensures left { OnErr result (self.new ≡ self.old) }
-        ensures long { result ≡ Err TooLong → 2 ^ 29 ≤ length value.items }
+        ensures long { IfErr result (λ fault. (fault ≡ TooLong) × (2 ^ 29 ≤ length value.items)) }
     {
         self.body.set_pointer(6, cp_drafts::bytes_of(value)?);
         Ok(())
@@ -307,7 +307,7 @@ impl PersonListDraft {
     pub fn push(&mut self, item: PersonDraft) -> Result<(), DraftFault>
         ensures pushed { OnOk result (self.new.items ≡ with_last self.old.items item.body) }
         ensures left { OnErr result (self.new ≡ self.old) }
-        ensures long { result ≡ Err TooLong → ¬ ((item_count self.old.items + 1 < 2 ^ 30) × ((item_count self.old.items + 1) * (3 + 7) < 2 ^ 29)) }
+        ensures long { result ≡ Err TooLong → ¬ (HoldsOneMore self.old.items (3 + 7)) }
     {
         self.items.push(item.body)
     }

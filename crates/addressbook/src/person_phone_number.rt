@@ -1,12 +1,12 @@
 //! `person_phone_number` of addressbook.capnp.
 
-ghost use Rattle.std.specs.Prelude.{◌≡◌, IfOk, OnOk, OnErr, Err, ◌≤◌, ◌^◌, length, ◌+◌, ◌*◌, ◌<◌, []};
+ghost use Rattle.std.specs.Prelude.{◌≡◌, IfOk, OnOk, OnErr, Err, ◌≤◌, ◌^◌, length, ◌+◌, []};
 ghost use Rattle.cp_words.specs.declared.pointer.ElementSize.TheVariants as sizes;
 ghost use Rattle.cp_tree.specs.Seen.{pointee_of};
 ghost use Rattle.cp_fields.specs.Numbers.{plain};
 ghost use Rattle.cp_fields.specs.Pointers.{Reads, struct_field, text_field};
 ghost use Rattle.cp_drafts.specs.declared.fault.DraftFault.TheVariants.{TooLong};
-ghost use Rattle.cp_drafts.specs.Drafts.{blank, blank_list, item_count, text_tree, with_last, with_pointer, with_uint};
+ghost use Rattle.cp_drafts.specs.Drafts.{HoldsOneMore, blank, blank_list, text_tree, with_last, with_pointer, with_uint};
 ghost use Rattle.addressbook.specs.PersonPhoneNumberType.{person_phone_number_type_number};
 ghost use Rattle.addressbook.specs.PersonPhoneNumberType.{person_phone_number_type_of};
 
@@ -119,7 +119,7 @@ impl PersonPhoneNumberListDraft {
     pub fn push(&mut self, item: PersonPhoneNumberDraft) -> Result<(), DraftFault>
         ensures pushed { OnOk result (self.new.items ≡ with_last self.old.items item.body) }
         ensures left { OnErr result (self.new ≡ self.old) }
-        ensures long { result ≡ Err TooLong → ¬ ((item_count self.old.items + 1 < 2 ^ 30) × ((item_count self.old.items + 1) * (1 + 1) < 2 ^ 29)) }
+        ensures long { result ≡ Err TooLong → ¬ (HoldsOneMore self.old.items (1 + 1)) }
     {
         self.items.push(item.body)
     }

@@ -65,7 +65,7 @@ const PUSH_WIDE: &str =
 const PUSH_BODY: &str = "
         ensures pushed { OnOk result (self.new.items ≡ with_last self.old.items item.body) }
         ensures left { OnErr result (self.new ≡ self.old) }
-        ensures long { result ≡ Err TooLong → ¬ ((item_count self.old.items + 1 < 2 ^ 30) × ((item_count self.old.items + 1) * ($2 + $3) < 2 ^ 29)) }
+        ensures long { result ≡ Err TooLong → ¬ (HoldsOneMore self.old.items ($2 + $3)) }
     {
         self.items.push(item.body)
     }
@@ -293,7 +293,7 @@ fn clauses<'b>(sheet: &mut Sheet<'b>, part: &Part<'_>, field: &Field, setter: &S
             SetterKind::Long => {
                 "\n        ensures set { OnOk result (self.new.body ≡ with_pointer $0 $1 $3) }
         ensures left { OnErr result (self.new ≡ self.old) }
-        ensures long { result ≡ Err TooLong → 2 ^ 29 ≤ length value.items }\n    {\n"
+        ensures long { IfErr result (λ fault. (fault ≡ TooLong) × (2 ^ 29 ≤ length value.items)) }\n    {\n"
             }
             SetterKind::Copied => {
                 "\n        ensures set { OnOk result (self.new.body ≡ with_pointer $0 $1 $3) }

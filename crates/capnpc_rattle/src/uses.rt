@@ -36,13 +36,13 @@ const LIBRARY: [Module; 9] = [
     (
         "cp_drafts.specs.Drafts",
         &[
+            "HoldsOneMore",
             "bits_tree",
             "blank",
             "blank_list",
             "bytes_tree",
             "cap_tree",
             "halves_tree",
-            "item_count",
             "quads_tree",
             "text_tree",
             "with_last",
@@ -81,7 +81,7 @@ const DRAFTS: [&str; 8] = [
 ];
 
 /// Parts of a text, and the words of the prelude that it has where it has them.
-const PRELUDE: [(&str, &str); 22] = [
+const PRELUDE: [(&str, &str); 21] = [
     ("ℕ", "ℕ"),
     (" ≡ ", "◌≡◌"),
     (" == ", "◌==◌"),
@@ -95,13 +95,12 @@ const PRELUDE: [(&str, &str); 22] = [
     ("IfOk", "IfOk"),
     ("OnOk", "OnOk"),
     ("OnErr", "OnErr"),
+    ("IfErr", "IfErr"),
     ("≡ Err", "Err"),
     (" ≤ ", "◌≤◌"),
     ("2 ^ ", "◌^◌"),
     ("length value", "length"),
-    (" + 1", "◌+◌"),
-    (") * (", "◌*◌"),
-    (" < 2 ^", "◌<◌"),
+    (" + ", "◌+◌"),
     (" ∷ ", "◌∷◌"),
     ("[]", "[]"),
 ];

@@ -2,4 +2,5 @@ pub mod Bodies
 pub mod Others
 pub mod ReadBack
 pub mod Rows
+pub mod Widened
 pub mod Words

@@ -7,7 +7,7 @@ use Rattle.cp_tree.specs.Node.{Node, null, cap, struct, list, ptrs, structs, Nod
 use Rattle.cp_tree.specs.Seen.{pointee_of, node_at}
 use Rattle.cp_tree.specs.Elements.{element}
 use Rattle.cp_fields.specs.Numbers.{plain}
-use Rattle.cp_drafts.specs.Numbers.{put, with_number}
+use Rattle.cp_drafts.specs.Numbers.{put, with_number, AreApart, IsInWord, IsNumber}
 use Rattle.cp_drafts.specs.Drafts.{with_uint, with_node, with_pointer}
 
 -- bits below those that are replaced stay
@@ -110,10 +110,10 @@ element_stays ws w i n v j whole other small =
     (λ less. in_others ws (put (slice_index ws (i * w / 64)) w (i * w % 64) n) v (i * w) (j * v) (λ same. omega (arith, same, less)))
     (eq-or-lt_of_le (word_before v j w i after)))
 
-pub number_stays : (t : Node) (w i n v j : ℕ) → i * w % 64 + w ≤ 64 → j * v % 64 + v ≤ 64 → n < 2 ^ w → (j * v + v ≤ i * w) ⊎ (i * w + w ≤ j * v) → plain (with_uint t w i n) v j ≡ plain t v j
-number_stays null w i n v j whole other small apart = refl
-number_stays (cap k) w i n v j whole other small apart = refl
-number_stays (struct ws ts) w i n v j whole other small apart = element_stays ws w i n v j whole other small apart
-number_stays (list es) w i n v j whole other small apart = refl
-number_stays (ptrs ts) w i n v j whole other small apart = refl
-number_stays (structs d k bs) w i n v j whole other small apart = refl
+pub number_stays : (t : Node) (w i n v j : ℕ) → IsNumber w i n → IsInWord v j → AreApart w i v j → plain (with_uint t w i n) v j ≡ plain t v j
+number_stays null w i n v j whole other apart = refl
+number_stays (cap k) w i n v j whole other apart = refl
+number_stays (struct ws ts) w i n v j number other apart = element_stays ws w i n v j number.0 other number.1 apart
+number_stays (list es) w i n v j whole other apart = refl
+number_stays (ptrs ts) w i n v j whole other apart = refl
+number_stays (structs d k bs) w i n v j whole other apart = refl

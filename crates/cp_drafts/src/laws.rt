@@ -1,11 +1,12 @@
 //! What is set is read back, and all else stays.
 
-ghost use Rattle.std.specs.Prelude.{◌≡◌, ◌≢◌, ℕ, ◌+◌, ◌*◌, ◌/◌, ◌%◌, ◌^◌, ◌<◌, ◌≤◌, ◌⊎◌, List, length, Ok};
+ghost use Rattle.std.specs.Prelude.{◌≡◌, ◌≢◌, ℕ, ◌*◌, ◌/◌, ◌^◌, ◌<◌, List, length, Ok};
 ghost use Rattle.cp_tree.specs.Node.{Node, IsStruct, data_of, count};
 ghost use Rattle.cp_tree.specs.Seen.{pointee_of};
 ghost use Rattle.cp_fields.specs.Numbers.{plain};
 ghost use Rattle.cp_fields.specs.Pointers.{pointers_of, text_field};
-ghost use Rattle.cp_drafts.specs.Drafts.{with_uint, with_pointer, text_tree};
+ghost use Rattle.cp_drafts.specs.Numbers.{AreApart, IsInWord, IsNumber};
+ghost use Rattle.cp_drafts.specs.Drafts.{widened, with_uint, with_pointer, text_tree};
 
 /// A number that was set is read back, if it lies within the data section.
 #[tactic(auto, using(crate::proofs::ReadBack::number_back))]
@@ -13,10 +14,10 @@ pub fn numbers_come_back()
     ensures { (t : Node) (w i n : ℕ) → IsStruct t → i * w / 64 < length (data_of t) → n < 2 ^ w → plain (with_uint t w i n) w i ≡ n }
 {}
 
-/// Setting a number changes no other one: none that ends before it begins or begins where it ended or after.
+/// Setting a number changes no other one that shares no bit with it.
 #[tactic(auto, using(crate::proofs::Others::number_stays))]
 pub fn numbers_stay()
-    ensures { (t : Node) (w i n v j : ℕ) → i * w % 64 + w ≤ 64 → j * v % 64 + v ≤ 64 → n < 2 ^ w → (j * v + v ≤ i * w) ⊎ (i * w + w ≤ j * v) → plain (with_uint t w i n) v j ≡ plain t v j }
+    ensures { (t : Node) (w i n v j : ℕ) → IsNumber w i n → IsInWord v j → AreApart w i v j → plain (with_uint t w i n) v j ≡ plain t v j }
 {}
 
 /// What a pointer was set to is read back.
@@ -36,6 +37,13 @@ pub fn pointers_stay()
 pub fn sections_stay()
     ensures pointer { (t : Node) (w i n j : ℕ) → pointee_of (with_uint t w i n) j ≡ pointee_of t j }
     ensures number { (t : Node) (i : ℕ) (x : Node) (w j : ℕ) → plain (with_pointer t i x) w j ≡ plain t w j }
+{}
+
+/// A draft of a struct that was read has the fields that were read.
+#[tactic(auto, using(crate::proofs::Widened::number_kept, crate::proofs::Widened::pointer_kept))]
+pub fn fields_are_kept()
+    ensures number { (d n : ℕ) (t : Node) (w i : ℕ) → plain (widened d n t) w i ≡ plain t w i }
+    ensures pointer { (d n : ℕ) (t : Node) (i : ℕ) → pointee_of (widened d n t) i ≡ pointee_of t i }
 {}
 
 /// A text that was written is read back.

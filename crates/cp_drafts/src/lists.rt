@@ -1,7 +1,7 @@
 //! Lists of structs to be written (encoding specification, "Lists").
 
 ghost use Rattle.std.specs.Prelude.{◌≡◌, ◌<◌, ◌≤◌, ◌+◌, ◌*◌, ◌^◌, Err, OnOk, OnErr, IfErr};
-ghost use Rattle.cp_drafts.specs.Drafts.{blank_list, with_last, item_count};
+ghost use Rattle.cp_drafts.specs.Drafts.{blank_list, with_last, HoldsOneMore};
 ghost use Rattle.cp_drafts.specs.declared.fault.DraftFault.TheVariants.{TooLong};
 
 use crate::fault::DraftFault;
@@ -41,7 +41,7 @@ impl<const W: usize, const P: usize> Model for StructsDraft<W, P> {
 
 impl<const W: usize, const P: usize> StructsDraft<W, P> {
     ghost use Rattle.std.specs.Prelude.{◌≡◌, ◌<◌, ◌≤◌, ◌+◌, ◌*◌, ◌^◌, Err, OnOk, OnErr};
-    ghost use Rattle.cp_drafts.specs.Drafts.{blank_list, with_last, item_count};
+    ghost use Rattle.cp_drafts.specs.Drafts.{blank_list, with_last, HoldsOneMore};
     ghost use Rattle.cp_drafts.specs.declared.fault.DraftFault.TheVariants.{TooLong};
 
     /// No struct yet.
@@ -55,13 +55,14 @@ impl<const W: usize, const P: usize> StructsDraft<W, P> {
         }
     }
 
-    /// Adds a struct at the end. `TooLong` says that the list has no room for it: a list has fewer than 2^30
-    /// structs, which take fewer than 2^29 words together.
+    /// Adds a struct at the end: the fields of this schema alone, since the structs of a list are all of one size.
+    /// `TooLong` says that the list has no room for it: a list has fewer than 2^30 structs, which take fewer than
+    /// 2^29 words together.
     #[tactic(auto, using(cp_tree::proofs::Trees::number_in))]
     pub fn push(&mut self, item: StructDraft<W, P>) -> Result<(), DraftFault>
         ensures pushed { OnOk result (self.new ≡ with_last self.old item.entry) }
         ensures left { OnErr result (self.new ≡ self.old) }
-        ensures long { result ≡ Err TooLong → ¬ ((item_count self.old + 1 < 2 ^ 30) × ((item_count self.old + 1) * (W + P) < 2 ^ 29)) }
+        ensures long { result ≡ Err TooLong → ¬ (HoldsOneMore self.old (W + P)) }
     {
         let count = self.items.len() + 1;
         if count >= MOST_ITEMS || count * (W + P) >= MOST_WORDS {
@@ -84,12 +85,11 @@ impl<const W: usize, const P: usize> StructsDraft<W, P> {
 
     /// Adds a struct at the end of a list that has room for it.
     fn add(&mut self, item: StructDraft<W, P>) -> Result<(), AllocError>
-        requires count { item_count self.old + 1 < 2 ^ 30 }
-        requires words { (item_count self.old + 1) * (W + P) < 2 ^ 29 }
+        requires { HoldsOneMore self.old (W + P) }
         ensures pushed { OnOk result (self.new ≡ with_last self.old item.entry) }
         ensures left { OnErr result (self.new ≡ self.old) }
     {
-        self.items.push(item.into_body())?;
+        self.items.push(item.into_item())?;
         Ok(())
     }
 }

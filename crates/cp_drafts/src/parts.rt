@@ -1,6 +1,6 @@
 //! What pointer fields are written as (encoding specification, "Lists").
 
-ghost use Rattle.std.specs.Prelude.{◌≡◌, ◌<◌, ◌≤◌, ◌+◌, ◌^◌, ◌++◌, ◌∷◌, [], Err, IfOk, IsTrue, IsFalse, length, map};
+ghost use Rattle.std.specs.Prelude.{◌≡◌, ◌<◌, ◌≤◌, ◌+◌, ◌^◌, ◌++◌, ◌∷◌, [], Err, IfOk, IfErr, IsTrue, IsFalse, length, map};
 ghost use Rattle.cp_tree.specs.Node.{list, ptrs, voids, bytes, halves, quads, words};
 ghost use Rattle.cp_tree.specs.NodeOf.{node_of, nodes_of};
 ghost use Rattle.cp_tree.specs.Shaped.{ElementsFit, EachShaped};
@@ -25,7 +25,7 @@ pub fn text_of(alloc: Global, text: &str) -> Result<Whole, DraftFault>
 /// A list of this many elements without bits.
 pub fn voids_of(count: u32) -> Result<Whole, DraftFault>
     ensures list { IfOk result (λ whole. whole ≡ list (voids count)) }
-    ensures long { result ≡ Err TooLong → 2 ^ 29 ≤ count }
+    ensures long { IfErr result (λ fault. (fault ≡ TooLong) × (2 ^ 29 ≤ count)) }
 {
     if count as usize >= MOST {
         return Err(DraftFault::TooLong);
@@ -36,7 +36,7 @@ pub fn voids_of(count: u32) -> Result<Whole, DraftFault>
 /// A list of bits.
 pub fn bits_of(items: Vec<bool>) -> Result<Whole, DraftFault>
     ensures list { IfOk result (λ whole. whole ≡ bits_tree items.items) }
-    ensures long { result ≡ Err TooLong → 2 ^ 29 ≤ length items.items }
+    ensures long { IfErr result (λ fault. (fault ≡ TooLong) × (2 ^ 29 ≤ length items.items)) }
 {
     if items.len() >= MOST {
         return Err(DraftFault::TooLong);
@@ -47,7 +47,7 @@ pub fn bits_of(items: Vec<bool>) -> Result<Whole, DraftFault>
 /// A list of bytes, or data.
 pub fn bytes_of(items: Vec<u8>) -> Result<Whole, DraftFault>
     ensures list { IfOk result (λ whole. whole ≡ bytes_tree items.items) }
-    ensures long { result ≡ Err TooLong → 2 ^ 29 ≤ length items.items }
+    ensures long { IfErr result (λ fault. (fault ≡ TooLong) × (2 ^ 29 ≤ length items.items)) }
 {
     if !are_bytes(&items) {
         return Err(DraftFault::TooLong);
@@ -58,7 +58,7 @@ pub fn bytes_of(items: Vec<u8>) -> Result<Whole, DraftFault>
 /// A list of numbers of 16 bits.
 pub fn halves_of(items: Vec<u16>) -> Result<Whole, DraftFault>
     ensures list { IfOk result (λ whole. whole ≡ halves_tree items.items) }
-    ensures long { result ≡ Err TooLong → 2 ^ 29 ≤ length items.items }
+    ensures long { IfErr result (λ fault. (fault ≡ TooLong) × (2 ^ 29 ≤ length items.items)) }
 {
     if !are_halves(&items) {
         return Err(DraftFault::TooLong);
@@ -69,7 +69,7 @@ pub fn halves_of(items: Vec<u16>) -> Result<Whole, DraftFault>
 /// A list of numbers of 32 bits.
 pub fn quads_of(items: Vec<u32>) -> Result<Whole, DraftFault>
     ensures list { IfOk result (λ whole. whole ≡ quads_tree items.items) }
-    ensures long { result ≡ Err TooLong → 2 ^ 29 ≤ length items.items }
+    ensures long { IfErr result (λ fault. (fault ≡ TooLong) × (2 ^ 29 ≤ length items.items)) }
 {
     if !are_quads(&items) {
         return Err(DraftFault::TooLong);
@@ -80,7 +80,7 @@ pub fn quads_of(items: Vec<u32>) -> Result<Whole, DraftFault>
 /// A list of numbers of 64 bits.
 pub fn words_of(items: Vec<u64>) -> Result<Whole, DraftFault>
     ensures list { IfOk result (λ whole. whole ≡ words_tree items.items) }
-    ensures long { result ≡ Err TooLong → 2 ^ 29 ≤ length items.items }
+    ensures long { IfErr result (λ fault. (fault ≡ TooLong) × (2 ^ 29 ≤ length items.items)) }
 {
     if !are_words(&items) {
         return Err(DraftFault::TooLong);

@@ -7,9 +7,9 @@ use cp_tree::{Body, Object, Tree, Whole};
 use std::alloc::{AllocError, Global};
 use std::marker::Model;
 
-/// A struct to be written, of `W` data words and `P` pointers. Its fields are set by their places: number
-/// `i` of a width counts numbers of that width from the start of the data section. A message can hold it at
-/// any time. Contracts see it as its tree.
+/// A struct to be written, of `W` data words and `P` pointers, or more where it was read and its writer knew
+/// more fields. Its fields are set by their places: number `i` of a width counts numbers of that width from
+/// the start of the data section. A message can hold it at any time. Contracts see it as its tree.
 #[derive(Drop)]
 pub struct StructDraft<const W: usize, const P: usize> {
     pub(crate) words: Vec<u64>,
@@ -24,22 +24,22 @@ impl<const W: usize, const P: usize> Model for StructDraft<W, P> {
 
     ghost coded = { tree_code };
 
-    ghost use Rattle.std.specs.Prelude.{◌≡◌, map, length};
+    ghost use Rattle.std.specs.Prelude.{◌≤◌, map, length};
     ghost use Rattle.cp_tree.specs.Node.{struct};
     ghost use Rattle.cp_tree.specs.NodeOf.{node_of, nodes_of};
     ghost use Rattle.cp_tree.specs.Shaped.{HasSizes, EachShaped};
 
     ghost view = { λ d. struct d.words.items (nodes_of (map node_of d.pointers.items)) };
 
-    ghost invariant = { λ d. HasSizes W P × (length d.words.items ≡ W) × (length d.pointers.items ≡ P) × EachShaped (nodes_of (map node_of d.pointers.items)) };
+    ghost invariant = { λ d. HasSizes (length d.words.items) (length d.pointers.items) × (W ≤ length d.words.items) × (P ≤ length d.pointers.items) × EachShaped (nodes_of (map node_of d.pointers.items)) };
 }
 
 impl<const W: usize, const P: usize> StructDraft<W, P> {
     ghost use Rattle.std.specs.Prelude.{◌≡◌, ◌<◌, ◌^◌, [], ◌∷◌, IfOk};
-    ghost use Rattle.cp_tree.specs.Node.{struct, IsStruct};
+    ghost use Rattle.cp_tree.specs.Node.{struct, structs, Bodies};
     ghost use Rattle.cp_tree.specs.NodeOf.{body_of, bodies_of};
-    ghost use Rattle.cp_tree.specs.Shaped.{EachEven, HasSizes};
-    ghost use Rattle.cp_drafts.specs.Drafts.{blank, with_pointer};
+    ghost use Rattle.cp_tree.specs.Shaped.{Shaped, EachEven, HasSizes};
+    ghost use Rattle.cp_drafts.specs.Drafts.{blank, bodies_then, with_last, with_pointer};
 
     /// A struct whose fields are all as by default.
     pub fn new(alloc: Global) -> Result<StructDraft<W, P>, AllocError>
@@ -63,11 +63,23 @@ impl<const W: usize, const P: usize> StructDraft<W, P> {
         put_tree(&mut self.pointers, i as usize, whole.into_tree());
     }
 
-    /// The struct as an element of a list.
-    pub(crate) fn into_body(self) -> Body
-        ensures body { struct (body_of result).0 (body_of result).1 ≡ self.entry }
+    /// The struct as an element of a list: the fields of the list's schema alone, since its elements are all of one size.
+    pub(crate) fn into_item(self) -> Body
+        ensures added { (bs : Bodies) → with_last (structs W P bs) self.entry ≡ structs W P (bodies_then bs (body_of result).0 (body_of result).1) }
         ensures sizes { HasSizes W P }
         ensures even { EachEven W P (bodies_of (body_of result ∷ [])) }
+    {
+        let (mut words, mut ptrs) = (self.words, self.pointers);
+        words.truncate(W);
+        ptrs.truncate(P);
+        fit(&words);
+        Body { words, ptrs }
+    }
+
+    /// The struct with all that it has.
+    fn into_body(self) -> Body
+        ensures body { struct (body_of result).0 (body_of result).1 ≡ self.entry }
+        ensures shaped { Shaped self.entry }
     {
         fit(&self.words);
         Body {

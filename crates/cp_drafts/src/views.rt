@@ -1,78 +1,78 @@
-//! Drafts of structs that were read.
+//! Drafts of structs that were read. All that was read is kept, the fields of a newer schema too.
 
-ghost use Rattle.std.specs.Prelude.{◌≡◌, ◌<◌, ◌^◌, ◌++◌, ◌∷◌, [], ℕ, IfOk, OnOk, get_or, length};
-ghost use Rattle.cp_tree.specs.Node.{null};
-ghost use Rattle.cp_tree.specs.Seen.{pointee_of};
-ghost use Rattle.cp_fields.specs.Numbers.{plain};
+ghost use Rattle.std.specs.Prelude.{◌≡◌, ◌-◌, ◌++◌, IfOk, length, map, replicate};
+ghost use Rattle.cp_tree.specs.Node.{null, struct};
+ghost use Rattle.cp_tree.specs.NodeOf.{node_of, body_of};
+ghost use Rattle.cp_tree.specs.Shaped.{Shaped};
 
 use crate::fault::DraftFault;
-use crate::parts::trees_of;
 use crate::structure::StructDraft;
-use cp_fields::{Pointee, StructView};
-use cp_tree::Whole;
+use cp_fields::StructView;
+use cp_tree::{Body, Object, Tree};
 use std::alloc::{AllocError, Global};
 
 impl<const W: usize, const P: usize> StructDraft<W, P> {
-    ghost use Rattle.std.specs.Prelude.{◌≡◌, ◌<◌, ◌^◌, ℕ, IfOk};
-    ghost use Rattle.cp_tree.specs.Seen.{pointee_of};
-    ghost use Rattle.cp_fields.specs.Numbers.{plain};
+    ghost use Rattle.std.specs.Prelude.{◌≡◌, ◌<◌, ◌^◌, Err, IfOk, OnOk};
+    ghost use Rattle.cp_tree.specs.Shaped.{Shaped};
+    ghost use Rattle.cp_drafts.specs.Drafts.{widened};
+    ghost use Rattle.cp_drafts.specs.declared.fault.DraftFault.TheVariants.{TooLong};
 
-    /// A draft with the fields of a struct that was read. Fields past the draft's own sizes, of a newer schema, aren't
-    /// taken. `TooLong` says that an owned tree of it is one that no message can hold.
+    /// A draft of a struct that was read where it lies. `TooLong` says that it is owned, and no message can hold it.
     pub fn of_view(alloc: Global, view: &StructView<'_>) -> Result<StructDraft<W, P>, DraftFault>
         requires words { W < 2 ^ 16 }
         requires pointers { P < 2 ^ 16 }
-        ensures words { IfOk result (λ d. (i : ℕ) → i < W → plain d 64 i ≡ plain view.now 64 i) }
-        ensures pointers { IfOk result (λ d. (i : ℕ) → i < P → pointee_of d i ≡ pointee_of view.now i) }
+        ensures taken { IfOk result (λ d. d ≡ widened W P view.now) }
+        ensures shaped { OnOk result (Shaped view.now) }
+        ensures long { result ≡ Err TooLong → ¬ (Shaped view.now) }
     {
+        match Object::new(view.tree(alloc)?) {
+            Ok(object) => Ok(StructDraft::of_object(object)?),
+            Err(_) => Err(DraftFault::TooLong),
+        }
+    }
+
+    /// A draft of a struct that was read and is owned. Nothing of it is copied.
+    pub fn of_object(object: Object) -> Result<StructDraft<W, P>, AllocError>
+        requires words { W < 2 ^ 16 }
+        requires pointers { P < 2 ^ 16 }
+        ensures { IfOk result (λ d. d ≡ widened W P object) }
+    {
+        let body = body_in(object);
+        let words = filled(body.words, W)?;
         Ok(StructDraft {
-            words: words_of(alloc, view, W)?,
-            pointers: trees_of(alloc, wholes_of(alloc, view, P)?)?,
+            words,
+            pointers: with_nulls(body.ptrs, P)?,
         })
     }
 }
 
-/// The first data words of a struct.
-fn words_of(alloc: Global, view: &StructView<'_>, count: usize) -> Result<Vec<u64>, AllocError>
-    requires { count < 2 ^ 16 }
-    ensures length { IfOk result (λ words. length words.items ≡ count) }
-    ensures words { IfOk result (λ words. (i : ℕ) → i < count → get_or words.items i 0 ≡ plain view.now 64 i) }
+/// The struct that an object is.
+fn body_in(object: Object) -> Body
+    ensures body { struct (body_of result).0 (body_of result).1 ≡ object }
+    ensures shaped { Shaped object }
 {
-    let mut words = Vec::with_capacity(alloc, count)?;
-    for i in 0..count {
-        words.push(view.u64(i as u32))?;
+    match object.into_tree() {
+        Tree::Struct(body) => body,
+        _ => unreachable!(),
     }
+}
+
+/// Words, and zeros after them up to this many.
+fn filled(words: Vec<u64>, count: usize) -> Result<Vec<u64>, AllocError>
+    ensures { IfOk result (λ v. v.items ≡ words.items ++ replicate (count - length words.items) 0) }
+{
+    let mut words = words;
+    words.resize(words.len().max(count), 0)?;
     Ok(words)
 }
 
-/// What the first pointers of a struct stand for.
-fn wholes_of(alloc: Global, view: &StructView<'_>, count: usize) -> Result<Vec<Whole>, DraftFault>
-    requires { count < 2 ^ 16 }
-    ensures length { IfOk result (λ wholes. length wholes.items ≡ count) }
-    ensures wholes { IfOk result (λ wholes. (i : ℕ) → i < count → get_or wholes.items i null ≡ pointee_of view.now i) }
+/// Trees, and null ones after them up to this many.
+fn with_nulls(trees: Vec<Tree>, count: usize) -> Result<Vec<Tree>, AllocError>
+    ensures { IfOk result (λ v. map node_of v.items ≡ map node_of trees.items ++ replicate (count - length trees.items) null) }
 {
-    let mut wholes = Vec::new(alloc);
-    for i in 0..count {
-        let whole = whole_of(alloc, &view.pointer(i as u32))?;
-        add(&mut wholes, whole)?;
+    let mut trees = trees;
+    for _ in 0..count.saturating_sub(trees.len()) {
+        trees.push(Tree::Null)?;
     }
-    Ok(wholes)
-}
-
-/// Adds what a pointer stands for.
-fn add(wholes: &mut Vec<Whole>, whole: Whole) -> Result<(), AllocError>
-    ensures { OnOk result (wholes.new.items ≡ wholes.old.items ++ whole ∷ []) }
-{
-    wholes.push(whole)?;
-    Ok(())
-}
-
-/// What a pointer stands for, owned.
-fn whole_of(alloc: Global, at: &Pointee<'_>) -> Result<Whole, DraftFault>
-    ensures { IfOk result (λ whole. whole ≡ at.now) }
-{
-    match Whole::new(at.tree(alloc)?) {
-        Ok(whole) => Ok(whole),
-        Err(_) => Err(DraftFault::TooLong),
-    }
+    Ok(trees)
 }

@@ -1,12 +1,12 @@
 //! Structs that are looked at by the places of their fields (encoding specification, "Structs").
 
-ghost use Rattle.std.specs.Prelude.{◌≡◌, ◌<◌, ◌^◌, [], slice_index};
+ghost use Rattle.std.specs.Prelude.{◌≡◌, ◌<◌, ◌^◌, [], slice_index, map, IfOk};
 ghost use Rattle.cp_tree.specs.Elements.{element};
-ghost use Rattle.cp_tree.specs.Node.{struct, data_of, no_nodes, IsStruct};
-ghost use Rattle.cp_tree.specs.NodeOf.{node_of, body_of};
+ghost use Rattle.cp_tree.specs.Node.{struct, data_of, no_nodes, IsStruct, count};
+ghost use Rattle.cp_tree.specs.NodeOf.{node_of, body_of, nodes_of};
 ghost use Rattle.cp_tree.specs.Seen.{pointee_of};
 ghost use Rattle.cp_fields.specs.Items.{number_item, pointer_item};
-ghost use Rattle.cp_fields.specs.Parts.{pointers_in, HaveStruct};
+ghost use Rattle.cp_fields.specs.Parts.{data_in, pointers_in, HaveStruct};
 ghost use Rattle.cp_fields.specs.Pointers.{pointers_of, struct_field, text_field, data_field, cap_field, list_field};
 
 use crate::bytes::DataView;
@@ -16,7 +16,8 @@ use crate::list::List;
 use crate::pointee::{Part, Pointee};
 use crate::text::TextView;
 use cp_reading::View;
-use cp_tree::{Body, Shape, Tree};
+use cp_tree::{Body, Shape, Tree, TreeRef, tree_copy};
+use std::alloc::{AllocError, Global};
 use std::marker::Model;
 
 /// The data words of a struct: those of a body, or a number alone, as an element of a list of numbers has.
@@ -60,7 +61,7 @@ impl<'a> Model for StructView<'a> {
 }
 
 impl<'a> StructView<'a> {
-    ghost use Rattle.std.specs.Prelude.{◌≡◌, ◌<◌, ◌^◌, [], slice_index};
+    ghost use Rattle.std.specs.Prelude.{◌≡◌, ◌<◌, ◌^◌, [], slice_index, IfOk};
     ghost use Rattle.cp_tree.specs.Elements.{element};
     ghost use Rattle.cp_tree.specs.Node.{struct, data_of, no_nodes, IsStruct};
     ghost use Rattle.cp_tree.specs.NodeOf.{node_of, body_of};
@@ -179,6 +180,17 @@ impl<'a> StructView<'a> {
         self.pointer(i).cap()
     }
 
+    /// The struct with all that it has, owned: the fields that a newer schema knows too.
+    pub fn tree(&self, alloc: Global) -> Result<Tree, AllocError>
+        ensures same { IfOk result (λ t. node_of t ≡ self.now) }
+        ensures is_struct { IfOk result (λ t. IsStruct (node_of t)) }
+    {
+        Ok(Tree::Struct(Body {
+            words: words_copy(alloc, &self.data)?,
+            ptrs: trees_copy(alloc, &self.pointers)?,
+        }))
+    }
+
     /// Word `index` of the data section.
     #[inline(always)]
     pub(crate) fn word(&self, index: usize) -> u64
@@ -262,6 +274,50 @@ fn pointers_again<'a>(pointers: &Pointers<'a>) -> Pointers<'a>
         Pointers::Body(body) => Pointers::Body(body),
         Pointers::Only(only) => Pointers::Only(only.again()),
     }
+}
+
+/// The same data words, owned.
+fn words_copy(alloc: Global, part: &Data<'_>) -> Result<Vec<u64>, AllocError>
+    ensures { IfOk result (λ words. words.items ≡ data_in part.now) }
+{
+    match part {
+        Data::Words(words) => Vec::from_slice(alloc, words),
+        Data::Number(number) => Ok(vec![in alloc; *number]?),
+    }
+}
+
+/// What the pointers of a struct stand for, owned.
+fn trees_copy(alloc: Global, pointers: &Pointers<'_>) -> Result<Vec<Tree>, AllocError>
+    requires { HaveStruct pointers.now }
+    ensures { IfOk result (λ trees. nodes_of (map node_of trees.items) ≡ pointers_in pointers.now) }
+{
+    match pointers {
+        Pointers::Nulls => Ok(Vec::new(alloc)),
+        Pointers::View(view) => Ok(struct_trees(alloc, view.tree(alloc)?.into_tree())),
+        Pointers::Body(body) => row_copy(alloc, &body.ptrs),
+        Pointers::Only(only) => Ok(vec![in alloc; only.tree(alloc)?]?),
+    }
+}
+
+/// What the pointers of an owned struct stand for; any other tree has none.
+fn struct_trees(alloc: Global, tree: Tree) -> Vec<Tree>
+    ensures { nodes_of (map node_of result.items) ≡ pointers_of (node_of tree) }
+{
+    match tree {
+        Tree::Struct(Body { words: _, ptrs }) => ptrs,
+        _ => Vec::new(alloc),
+    }
+}
+
+/// Equal trees.
+fn row_copy(alloc: Global, trees: &[Tree]) -> Result<Vec<Tree>, AllocError>
+    ensures { IfOk result (λ v. map node_of v.items ≡ map node_of trees.now) }
+{
+    let mut found = Vec::with_capacity(alloc, trees.len())?;
+    for tree in trees {
+        found.push(tree_copy(alloc, TreeRef::Tree(tree))?)?;
+    }
+    Ok(found)
 }
 
 /// The data words of a struct; any other tree has none.

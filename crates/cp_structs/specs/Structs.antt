@@ -1,21 +1,27 @@
 -- One tree as one frame: how it is written and read. (Encoding specification, "Messages", "Serialization Over a Stream".)
-use Rattle.std.specs.Prelude.{◌≡◌, ◌⊎◌, ℕ, ◌≤◌, List, [], ◌∷◌, Option, Some, None, length}
+use Rattle.std.specs.Prelude.{◌≡◌, ◌≢◌, ◌⊎◌, ℕ, ◌≤◌, List, [], ◌∷◌, ◌++◌, Option, Some, None, Result, Ok, Err, length}
 use Rattle.std.specs.Io.KnownBytes.{Consumes}
 use Rattle.cp_words.specs.Limits.{Bounds}
 use Rattle.cp_tree.specs.Node.{Node}
 use Rattle.cp_reading.specs.Denotes.{Root}
 use Rattle.cp_reading.specs.FirstFault.{IsFirstFault}
+use Rattle.cp_reading.specs.declared.fault.TreeFault.{TreeFault}
+use Rattle.cp_packed.specs.Words.{AreBytes}
 use Rattle.cp_writing.specs.Layout.{Built}
 use Rattle.cp_writing.specs.Writes.{FitsIn, IsWriteFaultOf}
 use Rattle.cp_frame.specs.declared.mode.Mode.{Mode}
+use Rattle.cp_frame.specs.declared.fault.FrameFault.{FrameFault}
 use Rattle.cp_frame.specs.declared.fault.FrameFault.TheVariants as frames
+use Rattle.cp_frame.specs.Stream as streams
 use Rattle.cp_frame.specs.Frame.{Frame, Written}
 use Rattle.cp_stream.specs.declared.fault.Refusal.{Refusal}
 use Rattle.cp_stream.specs.declared.fault.Refusal.TheVariants as refusals
 use Rattle.cp_stream.specs.declared.fault.StreamFault.{StreamFault}
 use Rattle.cp_stream.specs.declared.fault.StreamFault.TheVariants as faults
 use Rattle.cp_stream.specs.declared.tap.Tap.{Tap}
-use Rattle.cp_stream.specs.Read.{ReadsAll, RefusesFrame}
+use Rattle.cp_stream.specs.Reader.{IsMemory}
+use Rattle.cp_stream.specs.Tap.{inner_of, failures_of}
+use Rattle.cp_stream.specs.Read.{ReadsAll, RefusesFrame, StopsAt, GivesOnly, GivesNone, ReportsOnly}
 use Rattle.cp_stream.specs.Write.{Sends, Breaks}
 
 -- These words are the one segment that a tree is laid out in, within the limits.
@@ -61,3 +67,32 @@ abbrev pub RefusesTree : Mode → Bounds → Option (List ℕ) → List ℕ → 
 RefusesTree mode limits new b (refusals.Frame fault) = (fault ≡ frames.OutOfMemory) ⊎ RefusesFrame mode limits new b (refusals.Frame fault)
 RefusesTree mode limits new b (refusals.Tree fault) = (S : List (List ℕ)) × Frame mode limits S b × IsFirstFault S limits fault
 RefusesTree mode limits new b other = ⊥
+
+-- a fault is reported at 0, and what was read is refused for it; or the device failed in this call
+abbrev pub StopsReading : {T : Type 0} → (T → Option (List ℕ)) → Mode → Bounds → Tap T → Tap T → StreamFault → Type 0
+StopsReading remaining mode limits old new fault =
+    StopsAt (RefusesTree mode limits (remaining (inner_of new))) (remaining (inner_of old)) (remaining (inner_of new)) (failures_of old) (failures_of new) fault
+
+-- the root that was given is this tree; or memory ran out
+abbrev pub IsThe : Node → Result Node Refusal → Type 0
+IsThe t (Ok root) = root ≡ t
+IsThe t (Err refusal) = IsMemory refusal
+
+-- no root was given, and the refusal is the root's fault; or memory ran out
+abbrev pub IsRefusedFor : TreeFault → Result Node Refusal → Type 0
+IsRefusedFor fault (Ok root) = ⊥
+IsRefusedFor fault (Err refusal) = IsMemory refusal ⊎ (refusal ≡ refusals.Tree fault)
+
+-- What is read of a device is what its bytes say: the root of a frame that they begin with, or its first fault; nothing where
+-- there are none; F3 where they end inside a frame; else their fault.
+pub record OnlyTree (mode : Mode) (limits : Bounds) (bytes : List ℕ) (old new : Option (List ℕ)) (result : Result (Option Node) StreamFault) : Type 0 where
+  pub tree : (S : List (List ℕ)) (t : Node) (front back : List ℕ) → bytes ≡ front ++ back → Frame mode limits S front → Root S limits t → GivesOnly old new t front result
+  pub rootless : (S : List (List ℕ)) (fault : TreeFault) (front back : List ℕ) → bytes ≡ front ++ back → Frame mode limits S front → IsFirstFault S limits fault
+      → ReportsOnly (λ r. r ≡ refusals.Tree fault) result
+  pub end : bytes ≡ [] → GivesNone result
+  pub inside : bytes ≢ [] → streams.Open mode limits bytes → ReportsOnly (λ r. r ≡ refusals.Frame frames.Truncated) result
+  pub fault : (fault : FrameFault) → streams.HasFault mode limits bytes fault → ReportsOnly (λ r. r ≡ refusals.Frame fault) result
+
+-- bytes that are known leave one answer
+abbrev pub ReadsOnly : Mode → Bounds → Option (List ℕ) → Option (List ℕ) → Result (Option Node) StreamFault → Type 0
+ReadsOnly mode limits old new result = (bytes : List ℕ) → AreBytes bytes → old ≡ Some bytes → OnlyTree mode limits bytes old new result

@@ -1,13 +1,15 @@
 //! Structs of any schema over readers and writers: one tree as one frame.
 
 ghost use Rattle.std.specs.Prelude.{◌≡◌, ◌≤◌, [], ◌∷◌, length, IfOk, IfErr, OnOk};
+ghost use Rattle.cp_tree.specs.Node.{Node};
 ghost use Rattle.cp_frame.specs.Frame.{Written};
 ghost use Rattle.cp_frame.specs.declared.fault.FrameFault.TheVariants as frames;
 ghost use Rattle.cp_reading.specs.Denotes.{Root};
-ghost use Rattle.cp_stream.specs.Read.{StopsAt};
+ghost use Rattle.cp_reading.specs.FirstFault.{IsFirstFault};
+ghost use Rattle.cp_reading.specs.declared.fault.TreeFault.{TreeFault};
 ghost use Rattle.cp_stream.specs.Tap.{inner_of, failures_of};
 ghost use Rattle.cp_stream.specs.declared.fault.Refusal.TheVariants as refusals;
-ghost use Rattle.cp_structs.specs.Structs.{IsWrittenAs, IsUnwrittenFor, IsSent, IsCutShort, IsNoRoot, ReadsTree, RefusesTree};
+ghost use Rattle.cp_structs.specs.Structs.{IsWrittenAs, IsUnwrittenFor, IsSent, IsCutShort, IsNoRoot, IsRefusedFor, IsThe, ReadsOnly, ReadsTree, StopsReading};
 
 use cp_frame::{FrameFault, Mode, write_frame};
 use cp_reading::View;
@@ -41,7 +43,8 @@ pub fn write_struct<W: Write>(
 }
 
 /// Reads the next frame of a device, exactly its bytes, and gives its root. `None` says that the device ended before any
-/// byte. Faults are those of `cp_stream::read_segments`, and those of the root (G1 to G9), all at 0.
+/// byte. Faults are those of `cp_stream::read_segments`, and those of the root (G1 to G9), all at 0. `Device` says that a
+/// call of the device failed. What was read is the front of its bytes.
 pub fn read_struct<R: Read>(
     alloc: Global,
     from: &mut Tap<R>,
@@ -50,7 +53,9 @@ pub fn read_struct<R: Read>(
 ) -> Result<Option<Whole>, StreamFault>
     ensures read { IfOk result (ReadsTree mode limits (R.remaining (inner_of from.old)) (R.remaining (inner_of from.new))) }
     ensures counted { OnOk result (failures_of from.new ≡ failures_of from.old) }
-    ensures stopped { IfErr result (StopsAt (RefusesTree mode limits (R.remaining (inner_of from.new))) (R.remaining (inner_of from.old)) (R.remaining (inner_of from.new)) (failures_of from.old) (failures_of from.new)) }
+    ensures stopped { IfErr result (StopsReading R.remaining mode limits from.old from.new) }
+    // Bytes that are known leave one answer.
+    ensures only { ReadsOnly mode limits (R.remaining (inner_of from.old)) (R.remaining (inner_of from.new)) result }
 {
     let Some(segments) = read_segments(alloc, from, mode, limits)? else {
         return Ok(None);
@@ -84,6 +89,8 @@ fn frame_in(alloc: Global, words: Vec<u64>, mode: Mode, limits: Limits) -> Resul
 fn root_of(alloc: Global, segments: &Segments, limits: Limits) -> Result<Whole, Refusal>
     ensures found { IfOk result (Root segments.now limits) }
     ensures refused { IfErr result (IsNoRoot limits segments.now) }
+    ensures only { (t : Node) → Root segments.now limits t → IsThe t result }
+    ensures reported { (fault : TreeFault) → IsFirstFault segments.now limits fault → IsRefusedFor fault result }
 {
     let view = View::root(segments, limits)?;
     match view.tree(alloc) {

@@ -5,7 +5,7 @@ use cp_fields::{Pointee, StructView};
 use cp_frame::Mode;
 use cp_stream::Tap;
 use cp_structs::{read_struct, write_struct};
-use cp_tree::{Object, Tree, Whole};
+use cp_tree::{Body, Object, Tree, Whole};
 use cp_words::Limits;
 use std::alloc::Global;
 use std::process::Abort;
@@ -61,6 +61,83 @@ fn a_draft_is_made_of_a_view(rt: HostRuntime) {
     check!(&rt; first.tree() == second.tree());
     drop(first);
     drop(second);
+}
+
+/// A draft of the fields that an object has, by an older schema.
+fn taken_by_older(rt: &impl Abort, alloc: Global, object: &Object) -> StructDraft<1, 2> {
+    let root = StructView::of(Pointee::of_object(object)).expect(rt, "a struct");
+    StructDraft::of_view(alloc, &root).expect(rt, "memory")
+}
+
+/// Sets a field that the older schema knows, as the sample has it.
+fn set_again(draft: StructDraft<1, 2>) -> StructDraft<1, 2> {
+    let mut draft = draft;
+    draft.set_u32(1, 0);
+    draft.set_u32(1, 7);
+    draft
+}
+
+#[test]
+fn fields_of_a_newer_schema_are_kept(rt: HostRuntime) {
+    let newer = sample(&rt, rt.alloc()).into_object();
+    let older = set_again(taken_by_older(&rt, rt.alloc(), &newer)).into_object();
+    check!(&rt; newer.tree() == older.tree());
+    drop(newer);
+    drop(older);
+}
+
+/// A list by an older schema, of one struct that a newer schema's program wrote.
+fn list_by_older(rt: &impl Abort, alloc: Global) -> Whole {
+    let newer = sample(rt, alloc).into_object();
+    let mut list: StructsDraft<1, 2> = StructsDraft::new(alloc);
+    let item = taken_by_older(rt, alloc, &newer);
+    drop(newer);
+    list.push(item).expect(rt, "memory");
+    list.into_whole()
+}
+
+/// Whether a list has one struct, of one data word and two pointers.
+fn is_of_older_sizes(list: &Tree) -> bool {
+    match list {
+        Tree::Structs {
+            words: 1,
+            ptrs: 2,
+            items,
+        } => items.len() == 1 && items[0].words.len() == 1 && items[0].ptrs.len() == 2,
+        _ => false,
+    }
+}
+
+#[test]
+fn structs_of_a_list_have_its_sizes(rt: HostRuntime) {
+    let list = list_by_older(&rt, rt.alloc());
+    check!(&rt; is_of_older_sizes(list.tree()));
+    drop(list);
+}
+
+/// What is said of a struct that no message can hold: a composite list's element lacks a word.
+fn uneven(rt: &impl Abort, alloc: Global) -> Option<DraftFault> {
+    let item = Body {
+        words: Vec::new(alloc),
+        ptrs: Vec::new(alloc),
+    };
+    let list = Tree::Structs {
+        words: 1,
+        ptrs: 0,
+        items: vec![in alloc; item].expect(rt, "memory"),
+    };
+    let tree = Tree::Struct(Body {
+        words: Vec::new(alloc),
+        ptrs: vec![in alloc; list].expect(rt, "memory"),
+    });
+    let root = StructView::of(Pointee::of_tree(&tree)).expect(rt, "a struct");
+    let draft: Result<StructDraft<1, 2>, DraftFault> = StructDraft::of_view(alloc, &root);
+    draft.err()
+}
+
+#[test]
+fn no_draft_is_made_of_what_no_message_can_hold(rt: HostRuntime) {
+    check!(&rt; uneven(&rt, rt.alloc()) == Some(DraftFault::TooLong));
 }
 
 /// A part is this tree.

@@ -9,20 +9,20 @@ use Rattle.cp_drafts.proofs.lists.StructsDraft.add.Given.{Over}
 use Rattle.cp_drafts.proofs.lists.StructsDraft.add.Goals.{In_ok-push}
 use Rattle.cp_drafts.proofs.lists.StructsDraft.add.Goals as goal
 
-added : (g : Over) (c : In_ok-push g) → bodies_of (map body_of c.push.new.self.items) ≡ bodies_then (bodies_of (map body_of c.self.inside.items.items)) (body_of c.into_body.result).0 (body_of c.into_body.result).1
-added g c = ap (λ (bs : List Body). bodies_of (map body_of bs)) c.in_ok-push.ensures.items ∙ with_body c.self.inside.items.items c.into_body.result
+added : (g : Over) (c : In_ok-push g) → bodies_of (map body_of c.push.new.self.items) ≡ bodies_then (bodies_of (map body_of c.self.inside.items.items)) (body_of c.into_item.result).0 (body_of c.into_item.result).1
+added g c = ap (λ (bs : List Body). bodies_of (map body_of bs)) c.in_ok-push.ensures.items ∙ with_body c.self.inside.items.items c.into_item.result
 
 pub invariant_of-self-2 : goal.invariant_of-self-2
 invariant_of-self-2 g c =
     let old : Bodies = bodies_of (map body_of c.self.inside.items.items) in
-    let count : number_of (bodies_of (map body_of c.push.new.self.items)) ≡ number_of old + 1 = ap number_of (added g c) ∙ number_then old (body_of c.into_body.result).0 (body_of c.into_body.result).1 in (
+    let count : number_of (bodies_of (map body_of c.push.new.self.items)) ≡ number_of old + 1 = ap number_of (added g c) ∙ number_then old (body_of c.into_item.result).0 (body_of c.into_item.result).1 in (
       c.self.invariant.0,
-      subst (λ (n : ℕ). n < 2 ^ 30) (sym count) (subst (λ (t : Node). item_count t + 1 < 2 ^ 30) (sym c.self.view_is) c.requires.count),
-      subst (λ (n : ℕ). n * (g.row.W + g.row.P) < 2 ^ 29) (sym count) (subst (λ (t : Node). (item_count t + 1) * (g.row.W + g.row.P) < 2 ^ 29) (sym c.self.view_is) c.requires.words),
-      subst (λ (bs : Bodies). EachEven g.row.W g.row.P bs) (sym (added g c)) (even_then g.row.W g.row.P old (body_of c.into_body.result).0 (body_of c.into_body.result).1 c.self.invariant.3 c.into_body.ensures.even),
+      subst (λ (n : ℕ). n < 2 ^ 30) (sym count) (subst (λ (t : Node). item_count t + 1 < 2 ^ 30) (sym c.self.view_is) c.requires.0),
+      subst (λ (n : ℕ). n * (g.row.W + g.row.P) < 2 ^ 29) (sym count) (subst (λ (t : Node). (item_count t + 1) * (g.row.W + g.row.P) < 2 ^ 29) (sym c.self.view_is) c.requires.1),
+      subst (λ (bs : Bodies). EachEven g.row.W g.row.P bs) (sym (added g c)) (even_then g.row.W g.row.P old (body_of c.into_item.result).0 (body_of c.into_item.result).1 c.self.invariant.3 c.into_item.ensures.even),
     )
 
 pub returns-clause-pushed : goal.returns-clause-pushed
 returns-clause-pushed g c =
     rw (← c.self.view_is)
-    (rw (← c.into_body.ensures.body) (ap (λ (bs : Bodies). structs g.row.W g.row.P bs) (added g c)))
+    (ap (λ (bs : Bodies). structs g.row.W g.row.P bs) (added g c) ∙ sym (c.into_item.ensures.added (bodies_of (map body_of c.self.inside.items.items))))

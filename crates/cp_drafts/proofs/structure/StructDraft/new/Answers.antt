@@ -7,7 +7,7 @@ use Rattle.cp_drafts.proofs.structure.StructDraft.new.Goals as goal
 
 pub invariant_of-result : goal.invariant_of-result
 invariant_of-result g c = (
-  (c.requires.words, c.requires.pointers),
+  (search rules, search rules),
   search rules,
   search rules,
   subst (λ (ts : List Node). EachShaped (nodes_of ts)) (sym c.loop.invariant.0) (nulls_shaped c.loop.counter),
