@@ -3,10 +3,12 @@
 #                                   the schemas here, and by `COMMAND show --schema` (capnp_cli, built), and are compared line by line
 #                                   with what `capnp decode --short` prints: every kind of field, floats of each size, a struct of 300
 #                                   fields, and two editions of a schema, each read by the other's code. FOLDER gets the crates.
-#                                   Then the same messages, and random ones, are built again by the drafts that PLUGIN makes. With - for
+#                                   Then the same messages, and random ones, are built again by the drafts that PLUGIN makes; and those of the
+#                                   newer edition are written again by the older one's drafts, which keep what they don't know. With - for
 #                                   PLUGIN no code is made, and COMMAND alone is tried, in a minute.
 #
-# The programs that print are made by print.py, those that build by copy.py, of the request alone; `rt try` runs them, over unproved code.
+# The programs that print are made by print.py, those that build by copy.py, of the request alone; keep.code is one by hand. `rt try` runs them,
+# over unproved code.
 set -eu
 plugin=$1
 [ "$plugin" = - ] || plugin=$(realpath "$plugin")
@@ -116,15 +118,20 @@ compare() { # TEXTS WRITER READER STRUCT: texts that WRITER's schema encodes, re
     same "$1" "the code of $(basename "$3")"
 }
 
-copy() { # TEXTS SCHEMA STRUCT: texts that SCHEMA encodes, built again by its drafts
+make_keeper() { # the program that writes messages of a newer schema again, by the drafts of an older one
     [ "$plugin" != - ] || return 0
-    local name
-    name=$(basename "$2" .capnp)
+    mkdir -p "$room/crates/keep_older/src"
+    cp "$here/keep.code" "$room/crates/keep_older/src/main.rt"
+    printf 'keep_older: cp_words cp_tree cp_reading cp_frame cp_fields cp_drafts cp_stream cp_structs older anyhow\n' >>"$room/crates.txt"
+}
+
+copy() { # TEXTS SCHEMA STRUCT PROGRAM: texts that SCHEMA encodes, read by PROGRAM and written again
+    [ "$plugin" != - ] || return 0
     encode "$1" "$2" "$3"
     capnp decode --short "$2" "$3" <"$room/frames" >"$room/wanted"
-    (cd "$room/crates/copy_$name" && rt try --seconds 120 --steps 1000 <"$room/frames" >"$room/copied" 2>"$room/said") || :
+    (cd "$room/crates/$4" && rt try --seconds 120 --steps 1000 <"$room/frames" >"$room/copied" 2>"$room/said") || :
     capnp decode --short "$2" "$3" <"$room/copied" >"$room/found" || :
-    same "$1" "the drafts of $(basename "$2")"
+    same "$1" "$4"
 }
 
 nulls() { # members of a union that have defaults, whose pointers are null, since the writer's schema knows them as void
@@ -149,7 +156,9 @@ compare "$room/wide.txt" "$room/wide.capnp" "$room/wide.capnp" Wide
 make_copier every Every
 make_copier wide Wide
 [ "$plugin" = - ] || "$here/random_texts.py" "$room/every.request" Every 7 200 >"$room/random.txt"
-copy "$here/every.txt" "$here/every.capnp" Every
-copy "$room/random.txt" "$here/every.capnp" Every
-copy "$room/wide.txt" "$room/wide.capnp" Wide
+copy "$here/every.txt" "$here/every.capnp" Every copy_every
+copy "$room/random.txt" "$here/every.capnp" Every copy_every
+copy "$room/wide.txt" "$room/wide.capnp" Wide copy_wide
+make_keeper
+copy "$here/newer.txt" "$here/newer.capnp" Thing keep_older
 exit "$failed"

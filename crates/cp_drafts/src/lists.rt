@@ -84,6 +84,7 @@ impl<const W: usize, const P: usize> StructsDraft<W, P> {
     }
 
     /// Adds a struct at the end of a list that has room for it.
+    #[inline]
     fn add(&mut self, item: StructDraft<W, P>) -> Result<(), AllocError>
         requires { HoldsOneMore self.old (W + P) }
         ensures pushed { OnOk result (self.new ≡ with_last self.old item.entry) }

@@ -15,6 +15,7 @@ use std::alloc::{AllocError, Global};
 const MOST: usize = 0x2000_0000;
 
 /// A text: its bytes, and a zero byte after them.
+#[inline]
 pub fn text_of(alloc: Global, text: &str) -> Result<Whole, DraftFault>
     ensures text { IfOk result (λ whole. whole ≡ text_tree text.now) }
     ensures long { result ≡ Err TooLong → 2 ^ 29 ≤ length text.now + 1 }
@@ -45,6 +46,7 @@ pub fn bits_of(items: Vec<bool>) -> Result<Whole, DraftFault>
 }
 
 /// A list of bytes, or data.
+#[inline]
 pub fn bytes_of(items: Vec<u8>) -> Result<Whole, DraftFault>
     ensures list { IfOk result (λ whole. whole ≡ bytes_tree items.items) }
     ensures long { IfErr result (λ fault. (fault ≡ TooLong) × (2 ^ 29 ≤ length items.items)) }
@@ -107,6 +109,7 @@ pub fn pointers_of(alloc: Global, items: Vec<Whole>) -> Result<Whole, DraftFault
 }
 
 /// Bytes with a zero byte after them.
+#[inline]
 fn with_zero(alloc: Global, bytes: &[u8]) -> Result<Vec<u8>, AllocError>
     ensures { IfOk result (λ ended. ended.items ≡ bytes.now ++ 0 ∷ []) }
 {

@@ -56,6 +56,7 @@ impl<const W: usize, const P: usize> StructDraft<W, P> {
     }
 
     /// Sets what pointer `i` stands for.
+    #[inline(always)]
     pub fn set_pointer(&mut self, i: u32, whole: Whole)
         requires { i < P }
         ensures { self.new ≡ with_pointer self.old i whole }
@@ -64,6 +65,7 @@ impl<const W: usize, const P: usize> StructDraft<W, P> {
     }
 
     /// The struct as an element of a list: the fields of the list's schema alone, since its elements are all of one size.
+    #[inline]
     pub(crate) fn into_item(self) -> Body
         ensures added { (bs : Bodies) → with_last (structs W P bs) self.entry ≡ structs W P (bodies_then bs (body_of result).0 (body_of result).1) }
         ensures sizes { HasSizes W P }
@@ -77,6 +79,7 @@ impl<const W: usize, const P: usize> StructDraft<W, P> {
     }
 
     /// The struct with all that it has.
+    #[inline]
     fn into_body(self) -> Body
         ensures body { struct (body_of result).0 (body_of result).1 ≡ self.entry }
         ensures shaped { Shaped self.entry }
@@ -89,6 +92,7 @@ impl<const W: usize, const P: usize> StructDraft<W, P> {
     }
 
     /// The struct as a part of another one. Nothing is copied, and nothing is looked at again.
+    #[inline]
     pub fn into_whole(self) -> Whole
         ensures { result ≡ self.entry }
     {
@@ -107,6 +111,7 @@ impl<const W: usize, const P: usize> StructDraft<W, P> {
 }
 
 /// Puts a tree in the place of another one.
+#[inline(always)]
 fn put_tree(trees: &mut Vec<Tree>, i: usize, tree: Tree)
     requires { i < length trees.old.items }
     ensures { trees.new.items ≡ slice_set trees.old.items i tree }

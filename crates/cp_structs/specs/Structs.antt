@@ -71,7 +71,8 @@ RefusesTree mode limits new b other = ⊥
 -- a fault is reported at 0, and what was read is refused for it; or the device failed in this call
 abbrev pub StopsReading : {T : Type 0} → (T → Option (List ℕ)) → Mode → Bounds → Tap T → Tap T → StreamFault → Type 0
 StopsReading remaining mode limits old new fault =
-    StopsAt (RefusesTree mode limits (remaining (inner_of new))) (remaining (inner_of old)) (remaining (inner_of new)) (failures_of old) (failures_of new) fault
+    let after : Option (List ℕ) = remaining (inner_of new) in
+    StopsAt (RefusesTree mode limits after) (remaining (inner_of old)) after (failures_of old) (failures_of new) fault
 
 -- the root that was given is this tree; or memory ran out
 abbrev pub IsThe : Node → Result Node Refusal → Type 0
@@ -83,11 +84,15 @@ abbrev pub IsRefusedFor : TreeFault → Result Node Refusal → Type 0
 IsRefusedFor fault (Ok root) = ⊥
 IsRefusedFor fault (Err refusal) = IsMemory refusal ⊎ (refusal ≡ refusals.Tree fault)
 
+-- the bytes begin with this frame
+abbrev pub BeginsWith : Mode → Bounds → List ℕ → List (List ℕ) → List ℕ → Type 0
+BeginsWith mode limits bytes S front = Frame mode limits S front × (back : List ℕ) × (bytes ≡ front ++ back)
+
 -- What is read of a device is what its bytes say: the root of a frame that they begin with, or its first fault; nothing where
 -- there are none; F3 where they end inside a frame; else their fault.
 pub record OnlyTree (mode : Mode) (limits : Bounds) (bytes : List ℕ) (old new : Option (List ℕ)) (result : Result (Option Node) StreamFault) : Type 0 where
-  pub tree : (S : List (List ℕ)) (t : Node) (front back : List ℕ) → bytes ≡ front ++ back → Frame mode limits S front → Root S limits t → GivesOnly old new t front result
-  pub rootless : (S : List (List ℕ)) (fault : TreeFault) (front back : List ℕ) → bytes ≡ front ++ back → Frame mode limits S front → IsFirstFault S limits fault
+  pub tree : (S : List (List ℕ)) (front : List ℕ) (t : Node) → BeginsWith mode limits bytes S front → Root S limits t → GivesOnly old new t front result
+  pub rootless : (S : List (List ℕ)) (front : List ℕ) (fault : TreeFault) → BeginsWith mode limits bytes S front → IsFirstFault S limits fault
       → ReportsOnly (λ r. r ≡ refusals.Tree fault) result
   pub end : bytes ≡ [] → GivesNone result
   pub inside : bytes ≢ [] → streams.Open mode limits bytes → ReportsOnly (λ r. r ≡ refusals.Frame frames.Truncated) result
