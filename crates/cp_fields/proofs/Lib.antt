@@ -1,3 +1,4 @@
 pub mod Pointed
 pub mod RowItems
 pub mod Owned
+pub mod Constants

@@ -3,6 +3,7 @@ use Rattle.std.specs.Prelude.{ℕ, ◌^◌, ◌<◌, List, [], ◌∷◌}
 use Rattle.cp_tree.specs.Elements.{numbers}
 use Rattle.cp_tree.specs.Node.{Node, null, Nodes, no_nodes, node, IsStruct}
 use Rattle.cp_tree.specs.NodeOf.{node_of, body_of}
+use Rattle.cp_fields.specs.Constants.{constant_of, constant_body_of}
 use Rattle.cp_fields.specs.Pointers.{pointers_of}
 use Rattle.cp_fields.specs.declared.pointee.Part.{Part}
 use Rattle.cp_fields.specs.declared.pointee.Part.TheVariants as parts
@@ -17,6 +18,7 @@ abbrev pub part_node : Part → Node
 part_node parts.Null = null
 part_node (parts.View v) = v
 part_node (parts.Tree t) = node_of t.now
+part_node (parts.Constant t) = constant_of t.now
 
 -- the bytes that words hold, or those of a slice
 abbrev pub bytes_in : Lent → List ℕ
@@ -34,6 +36,7 @@ pointers_in rows.Nulls = no_nodes
 pointers_in (rows.View v) = pointers_of v
 pointers_in (rows.Body b) = (body_of b.now).1
 pointers_in (rows.Only t) = node t no_nodes
+pointers_in (rows.Constant b) = (constant_body_of b.now).1
 
 -- few enough bytes of words for a list
 abbrev pub IsLent : Lent → Type 0

@@ -6,11 +6,12 @@ ghost use Rattle.cp_tree.specs.Node.{bytes, list};
 ghost use Rattle.cp_tree.specs.NodeOf.{node_of};
 ghost use Rattle.cp_fields.specs.Pointers.{data_field, ends_in_zero};
 
+use crate::constant::Constant;
 use crate::data::number_at;
 use crate::kind::{Kind, WrongKind};
 use crate::pointee::{Part, Pointee};
 use cp_reading::View;
-use cp_tree::{Shape, Tree};
+use cp_tree::{ListRef, Shape, Tree};
 use cp_words::ElementSize;
 use std::alloc::{AllocError, Global};
 use std::marker::Model;
@@ -167,6 +168,10 @@ pub(crate) fn bytes_at<'a>(at: &Pointee<'a>) -> Option<DataView<'a>>
         Part::View(view) => bytes_in_place(view),
         Part::Tree(tree) => match tree {
             Tree::Bytes(bytes) => Some(DataView::of_slice(bytes)),
+            _ => None,
+        },
+        Part::Constant(tree) => match tree {
+            Constant::List(ListRef::Bytes(bytes)) => Some(DataView::of_slice(bytes)),
             _ => None,
         },
     }

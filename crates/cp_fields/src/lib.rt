@@ -3,6 +3,7 @@
 #![tactic(auto)]
 
 mod bytes;
+mod constant;
 mod data;
 mod item;
 mod kind;
@@ -15,6 +16,7 @@ mod structure;
 mod text;
 
 pub use bytes::DataView;
+pub use constant::{Constant, ConstantBody};
 pub use item::Item;
 pub use kind::{Kind, WrongKind};
 pub use list::{Items, List};

@@ -5,8 +5,10 @@ ghost use Rattle.std.specs.Iterator.{YieldsFirst, item_count};
 ghost use Rattle.cp_tree.specs.Node.{null};
 ghost use Rattle.cp_tree.specs.NodeOf.{node_of};
 ghost use Rattle.cp_words.specs.declared.pointer.ElementSize.{ElementSize};
+ghost use Rattle.cp_fields.specs.Constants.{constant_of};
 ghost use Rattle.cp_fields.specs.Pointers.{list_field};
 
+use crate::constant::Constant;
 use crate::item::Item;
 use crate::kind::{Kind, WrongKind, reads_from, reads_from_structs};
 use crate::pointee::{Part, Pointee};
@@ -127,6 +129,7 @@ fn elements_of(at: Pointee<'_>, wanted: ElementSize) -> Result<Elements<'_>, Wro
         Part::Null => Ok(Elements::empty()),
         Part::View(view) => elements_in_place(view, wanted),
         Part::Tree(tree) => elements_owned(tree, wanted),
+        Part::Constant(tree) => elements_constant(tree, wanted),
     }
 }
 
@@ -162,6 +165,29 @@ fn elements_owned(tree: &Tree, wanted: ElementSize) -> Result<Elements<'_>, Wron
     };
     if reads {
         Ok(Elements::of_tree(tree))
+    } else {
+        Err(at.wrong(Kind::List(wanted)))
+    }
+}
+
+/// The elements of a list that is a constant, where elements of a size are wanted.
+fn elements_constant<'a>(
+    tree: &'a Constant<'a>,
+    wanted: ElementSize,
+) -> Result<Elements<'a>, WrongKind>
+    ensures { result ≡ list_field wanted (constant_of tree.now) }
+{
+    let at = Pointee::of_constant(tree);
+    let reads = match tree {
+        Constant::Null => true,
+        Constant::Structs { words, ptrs, .. } => reads_from_structs(wanted, *words, *ptrs),
+        _ => match at.kind() {
+            Kind::List(size) => reads_from(wanted, size),
+            _ => false,
+        },
+    };
+    if reads {
+        Ok(Elements::of_constant(tree))
     } else {
         Err(at.wrong(Kind::List(wanted)))
     }

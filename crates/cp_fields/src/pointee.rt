@@ -5,6 +5,7 @@ ghost use Rattle.cp_tree.specs.Node.{null};
 ghost use Rattle.cp_tree.specs.NodeOf.{node_of};
 ghost use Rattle.cp_fields.specs.Kinds.{kind_of};
 
+use crate::constant::{Constant, constant_copy, constant_kind};
 use crate::kind::{Kind, WrongKind};
 use cp_reading::View;
 use cp_tree::{Object, Shape, Tree, TreeRef, Whole, tree_copy};
@@ -18,6 +19,7 @@ pub(crate) enum Part<'a> {
     Null,
     View(View<'a>),
     Tree(&'a Tree),
+    Constant(&'a Constant<'a>),
 }
 
 /// What a pointer stands for, where it lies: the value of a field of the type AnyPointer. Contracts see
@@ -44,6 +46,7 @@ impl<'a> Pointee<'a> {
     ghost use Rattle.std.specs.Prelude.{◌≡◌, ◌↔◌, IsTrue, IfOk};
     ghost use Rattle.cp_tree.specs.Node.{null};
     ghost use Rattle.cp_tree.specs.NodeOf.{node_of};
+    ghost use Rattle.cp_fields.specs.Constants.{constant_of};
     ghost use Rattle.cp_fields.specs.Kinds.{kind_of};
     ghost use Rattle.cp_fields.specs.Pointers.{cap_field, or_default};
 
@@ -80,6 +83,15 @@ impl<'a> Pointee<'a> {
         Pointee::of_tree(whole.tree())
     }
 
+    /// A tree that is a constant of the program.
+    pub fn of_constant(tree: &'a Constant<'a>) -> Pointee<'a>
+        ensures { result ≡ constant_of tree.now }
+    {
+        Pointee {
+            part: Part::Constant(tree),
+        }
+    }
+
     /// A struct that is owned, and that a message can hold.
     pub fn of_object(object: &'a Object) -> Pointee<'a>
         ensures { result ≡ object.now }
@@ -95,6 +107,7 @@ impl<'a> Pointee<'a> {
             Part::Null => Pointee::null(),
             Part::View(view) => Pointee::of_view(view.again()),
             Part::Tree(tree) => Pointee::of_tree(tree),
+            Part::Constant(tree) => Pointee::of_constant(tree),
         }
     }
 
@@ -106,6 +119,7 @@ impl<'a> Pointee<'a> {
             Part::Null => Kind::Null,
             Part::View(view) => view_kind(view),
             Part::Tree(tree) => tree_kind(tree),
+            Part::Constant(tree) => constant_kind(tree),
         }
     }
 
@@ -117,6 +131,7 @@ impl<'a> Pointee<'a> {
             Part::Null => true,
             Part::View(view) => matches!(view.shape(), Shape::Null),
             Part::Tree(tree) => matches!(tree, Tree::Null),
+            Part::Constant(tree) => matches!(tree, Constant::Null),
         }
     }
 
@@ -144,6 +159,10 @@ impl<'a> Pointee<'a> {
                 Tree::Cap(index) => Ok(Some(*index)),
                 _ => Err(self.wrong(Kind::Capability)),
             },
+            Part::Constant(tree) => match tree {
+                Constant::Null => Ok(None),
+                _ => Err(self.wrong(Kind::Capability)),
+            },
         }
     }
 
@@ -155,6 +174,7 @@ impl<'a> Pointee<'a> {
             Part::Null => Tree::Null,
             Part::View(view) => view.tree(alloc)?.into_tree(),
             Part::Tree(tree) => tree_copy(alloc, TreeRef::Tree(tree))?,
+            Part::Constant(tree) => constant_copy(alloc, tree)?,
         })
     }
 

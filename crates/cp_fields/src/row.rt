@@ -1,16 +1,19 @@
 //! The elements of a list, where they lie.
 
-ghost use Rattle.std.specs.Prelude.{◌≡◌, ◌<◌, length, slice_index_or};
+ghost use Rattle.std.specs.Prelude.{◌≡◌, ◌<◌, length, map, slice_index_or};
 ghost use Rattle.cp_tree.specs.Node.{null};
 ghost use Rattle.cp_tree.specs.NodeOf.{node_of};
-ghost use Rattle.cp_fields.specs.Items.{bit_number, items_of};
+ghost use Rattle.cp_fields.specs.Constants.{constant_of};
+ghost use Rattle.cp_fields.specs.Items.{items_of};
+ghost use Rattle.cp_fields.specs.Rows.{tree_item, body_item};
 
+use crate::constant::{Constant, ConstantBody, bit_value, list_count, list_number};
 use crate::data::packed_at;
 use crate::kind::element_bits;
 use crate::pointee::Pointee;
 use crate::structure::StructView;
 use cp_reading::View;
-use cp_tree::{Shape, Tree};
+use cp_tree::{ListRef, Shape, Tree};
 use cp_words::ElementSize;
 use std::marker::Model;
 
@@ -26,6 +29,10 @@ pub(crate) enum Row<'a> {
     Structs(View<'a>),
     /// A list that is owned.
     Owned(&'a Tree),
+    /// A list that is a constant: without pointers, of pointers, or of structs.
+    Numbers(ListRef<'a>),
+    Trees(&'a [Constant<'a>]),
+    Bodies(&'a [ConstantBody<'a>]),
 }
 
 /// The elements of a list, each seen as a struct. Contracts see it as these.
@@ -56,6 +63,7 @@ impl<'a> Elements<'a> {
     ghost use Rattle.std.specs.Prelude.{◌≡◌, ◌<◌, [], length, slice_index_or};
     ghost use Rattle.cp_tree.specs.Node.{null};
     ghost use Rattle.cp_tree.specs.NodeOf.{node_of};
+    ghost use Rattle.cp_fields.specs.Constants.{constant_of};
     ghost use Rattle.cp_fields.specs.Items.{items_of};
     ghost use Rattle.cp_fields.specs.Rows.{row_items, IsRow};
 
@@ -95,6 +103,18 @@ impl<'a> Elements<'a> {
         Elements::new(Row::Owned(tree), owned_count(tree))
     }
 
+    /// Those of a list that is a constant.
+    pub(crate) fn of_constant(tree: &'a Constant<'a>) -> Elements<'a>
+        ensures { result ≡ items_of (constant_of tree.now) }
+    {
+        match tree {
+            Constant::List(items) => Elements::new(Row::Numbers(*items), list_count(items)),
+            Constant::Ptrs(items) => Elements::new(Row::Trees(items), items.len()),
+            Constant::Structs { items, .. } => Elements::new(Row::Bodies(items), items.len()),
+            Constant::Null | Constant::Struct(_) => Elements::empty(),
+        }
+    }
+
     /// A row of this many elements.
     fn new(row: Row<'a>, count: usize) -> Elements<'a>
         requires { IsRow row count }
@@ -123,6 +143,9 @@ impl<'a> Elements<'a> {
             Row::Pointers(view) => StructView::of_pointer(Pointee::of_view(view.child(i as u32))),
             Row::Structs(view) => StructView::of_struct(view.child(i as u32)),
             Row::Owned(tree) => owned_item(tree, i),
+            Row::Numbers(items) => StructView::of_number(list_number(items, i)),
+            Row::Trees(items) => constant_pointer(items, i),
+            Row::Bodies(items) => constant_struct(items, i),
         }
     }
 }
@@ -162,9 +185,18 @@ fn owned_item(tree: &Tree, i: usize) -> StructView<'_>
     }
 }
 
-/// A bit as a number.
-fn bit_value(set: bool) -> u64
-    ensures { result ≡ bit_number set }
+/// Element `i` of a list of pointers that is a constant.
+fn constant_pointer<'a>(items: &'a [Constant<'a>], i: usize) -> StructView<'a>
+    requires { i < length (map tree_item items.now) }
+    ensures { result ≡ slice_index_or (map tree_item items.now) i null }
 {
-    if set { 1 } else { 0 }
+    StructView::of_pointer(Pointee::of_constant(&items[i]))
+}
+
+/// Element `i` of a list of structs that is a constant.
+fn constant_struct<'a>(items: &'a [ConstantBody<'a>], i: usize) -> StructView<'a>
+    requires { i < length (map body_item items.now) }
+    ensures { result ≡ slice_index_or (map body_item items.now) i null }
+{
+    StructView::of_constant_body(&items[i])
 }

@@ -5,11 +5,13 @@ ghost use Rattle.cp_tree.specs.Elements.{element};
 ghost use Rattle.cp_tree.specs.Node.{struct, data_of, no_nodes, IsStruct, count};
 ghost use Rattle.cp_tree.specs.NodeOf.{node_of, body_of, nodes_of};
 ghost use Rattle.cp_tree.specs.Seen.{pointee_of};
+ghost use Rattle.cp_fields.specs.Constants.{constant_of, constant_body_of};
 ghost use Rattle.cp_fields.specs.Items.{number_item, pointer_item};
 ghost use Rattle.cp_fields.specs.Parts.{data_in, pointers_in, HaveStruct};
-ghost use Rattle.cp_fields.specs.Pointers.{pointers_of, struct_field, text_field, data_field, cap_field, list_field};
+ghost use Rattle.cp_fields.specs.Pointers.{pointers_of, struct_field, text_field, data_field, cap_field, list_field, or_default};
 
 use crate::bytes::DataView;
+use crate::constant::{Constant, ConstantBody, pointers_copy};
 use crate::item::Item;
 use crate::kind::{Kind, WrongKind};
 use crate::list::List;
@@ -33,6 +35,7 @@ pub(crate) enum Pointers<'a> {
     Nulls,
     View(View<'a>),
     Body(&'a Body),
+    Constant(&'a ConstantBody<'a>),
     Only(Pointee<'a>),
 }
 
@@ -66,8 +69,9 @@ impl<'a> StructView<'a> {
     ghost use Rattle.cp_tree.specs.Node.{struct, data_of, no_nodes, IsStruct};
     ghost use Rattle.cp_tree.specs.NodeOf.{node_of, body_of};
     ghost use Rattle.cp_tree.specs.Seen.{pointee_of};
+    ghost use Rattle.cp_fields.specs.Constants.{constant_of, constant_body_of};
     ghost use Rattle.cp_fields.specs.Items.{number_item, pointer_item};
-    ghost use Rattle.cp_fields.specs.Pointers.{pointers_of, struct_field, text_field, data_field, cap_field, list_field};
+    ghost use Rattle.cp_fields.specs.Pointers.{pointers_of, struct_field, text_field, data_field, cap_field, list_field, or_default};
 
     /// The struct that a pointer stands for. Null stands for the struct whose fields are all as by
     /// default.
@@ -78,6 +82,7 @@ impl<'a> StructView<'a> {
             Part::Null => Ok(StructView::empty()),
             Part::View(view) => of_view(view),
             Part::Tree(tree) => of_tree(tree),
+            Part::Constant(tree) => of_constant(tree),
         }
     }
 
@@ -114,6 +119,10 @@ impl<'a> StructView<'a> {
                 Some(tree) => Pointee::of_tree(tree),
                 None => Pointee::null(),
             },
+            Pointers::Constant(body) => match body.pointer(i) {
+                Some(tree) => Pointee::of_constant(tree),
+                None => Pointee::null(),
+            },
             Pointers::Only(only) => {
                 if i == 0 {
                     only.again()
@@ -124,12 +133,32 @@ impl<'a> StructView<'a> {
         }
     }
 
+    /// What pointer `i` stands for; null stands for the default.
+    #[inline]
+    pub fn pointer_or(&self, i: u32, default: &'a Constant<'a>) -> Pointee<'a>
+        ensures { result ≡ or_default (pointee_of self.now i) (constant_of default.now) }
+    {
+        self.pointer(i).or(Pointee::of_constant(default))
+    }
+
     /// The struct at pointer `i`.
     #[inline]
     pub fn structure(&self, i: u32) -> Result<StructView<'a>, WrongKind>
         ensures { result ≡ struct_field (pointee_of self.now i) }
     {
         StructView::of(self.pointer(i))
+    }
+
+    /// The struct at pointer `i`; null is the default.
+    #[inline]
+    pub fn structure_or(
+        &self,
+        i: u32,
+        default: &'a Constant<'a>,
+    ) -> Result<StructView<'a>, WrongKind>
+        ensures { result ≡ struct_field (or_default (pointee_of self.now i) (constant_of default.now)) }
+    {
+        StructView::of(self.pointer_or(i, default))
     }
 
     /// The text at pointer `i`; null is the empty text.
@@ -170,6 +199,18 @@ impl<'a> StructView<'a> {
         ensures { result ≡ list_field T.SIZE (pointee_of self.now i) }
     {
         List::of(self.pointer(i))
+    }
+
+    /// The list at pointer `i`; null is the default.
+    #[inline]
+    pub fn list_or<T: Item<'a>>(
+        &self,
+        i: u32,
+        default: &'a Constant<'a>,
+    ) -> Result<List<'a, T>, WrongKind>
+        ensures { result ≡ list_field T.SIZE (or_default (pointee_of self.now i) (constant_of default.now)) }
+    {
+        List::of(self.pointer_or(i, default))
     }
 
     /// The index of the capability at pointer `i` in the table that goes with the message; null is none.
@@ -228,9 +269,9 @@ impl<'a> StructView<'a> {
         }
     }
 
-    /// An element of a list of pointers.
+    /// The struct that has this as its one pointer, as an element of a list of pointers is read.
     #[inline]
-    pub(crate) fn of_pointer(pointer: Pointee<'a>) -> StructView<'a>
+    pub fn of_pointer(pointer: Pointee<'a>) -> StructView<'a>
         ensures { result ≡ pointer_item pointer.entry }
     {
         StructView {
@@ -247,6 +288,16 @@ impl<'a> StructView<'a> {
         StructView {
             data: Data::Words(&body.words),
             pointers: Pointers::Body(body),
+        }
+    }
+
+    /// A struct that is a constant.
+    pub(crate) fn of_constant_body(body: &'a ConstantBody<'a>) -> StructView<'a>
+        ensures { result ≡ struct (constant_body_of body.now).0 (constant_body_of body.now).1 }
+    {
+        StructView {
+            data: Data::Words(body.words),
+            pointers: Pointers::Constant(body),
         }
     }
 
@@ -272,6 +323,7 @@ fn pointers_again<'a>(pointers: &Pointers<'a>) -> Pointers<'a>
         Pointers::Nulls => Pointers::Nulls,
         Pointers::View(view) => Pointers::View(view.again()),
         Pointers::Body(body) => Pointers::Body(body),
+        Pointers::Constant(body) => Pointers::Constant(body),
         Pointers::Only(only) => Pointers::Only(only.again()),
     }
 }
@@ -295,6 +347,7 @@ fn trees_copy(alloc: Global, pointers: &Pointers<'_>) -> Result<Vec<Tree>, Alloc
         Pointers::Nulls => Ok(Vec::new(alloc)),
         Pointers::View(view) => Ok(struct_trees(alloc, view.tree(alloc)?.into_tree())),
         Pointers::Body(body) => row_copy(alloc, &body.ptrs),
+        Pointers::Constant(body) => pointers_copy(alloc, body),
         Pointers::Only(only) => Ok(vec![in alloc; only.tree(alloc)?]?),
     }
 }
@@ -351,5 +404,16 @@ fn of_tree(tree: &Tree) -> Result<StructView<'_>, WrongKind>
         Tree::Null => Ok(StructView::empty()),
         Tree::Struct(body) => Ok(StructView::of_body(body)),
         _ => Err(Pointee::of_tree(tree).wrong(Kind::Struct)),
+    }
+}
+
+/// The struct that is a constant.
+fn of_constant<'a>(tree: &'a Constant<'a>) -> Result<StructView<'a>, WrongKind>
+    ensures { result ≡ struct_field (constant_of tree.now) }
+{
+    match tree {
+        Constant::Null => Ok(StructView::empty()),
+        Constant::Struct(body) => Ok(StructView::of_constant_body(body)),
+        _ => Err(Pointee::of_constant(tree).wrong(Kind::Struct)),
     }
 }

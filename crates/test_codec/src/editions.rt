@@ -128,14 +128,23 @@ fn expect_bits_alone(rt: &impl Abort, root: &StructView) {
 }
 
 #[test]
-fn numbers_are_read_from_wider_ones_alone(rt: HostRuntime) {
-    let wide = one_segment(&rt, rt.alloc(), &WIDE);
-    expect_low_parts(&rt, list_of(&rt, pointee_of(&rt, &wide)));
-    drop(wide);
-    let numbers = one_segment(&rt, rt.alloc(), &NUMBERS);
-    expect_no_wider(&rt, &root_of(&rt, &numbers));
-    drop(numbers);
-    let bits = one_segment(&rt, rt.alloc(), &BITS);
-    expect_bits_alone(&rt, &root_of(&rt, &bits));
-    drop(bits);
+fn numbers_are_read_from_wider_ones(rt: HostRuntime) {
+    let segments = one_segment(&rt, rt.alloc(), &WIDE);
+    let list = list_of(&rt, pointee_of(&rt, &segments));
+    expect_low_parts(&rt, list);
+    drop(segments);
+}
+
+#[test]
+fn numbers_are_read_from_no_narrower_ones(rt: HostRuntime) {
+    let segments = one_segment(&rt, rt.alloc(), &NUMBERS);
+    expect_no_wider(&rt, &root_of(&rt, &segments));
+    drop(segments);
+}
+
+#[test]
+fn bits_are_read_as_bits_alone(rt: HostRuntime) {
+    let segments = one_segment(&rt, rt.alloc(), &BITS);
+    expect_bits_alone(&rt, &root_of(&rt, &segments));
+    drop(segments);
 }
