@@ -43,4 +43,10 @@ struct Person {
 
 struct AddressBook {
   people @0 :List(Person);
+
+  owner @1 :Person = (name = "Nobody", age = 0);
+  # Whose book it is.
+
+  circles @2 :List(Text) = ["family", "work"];
+  # What people are sorted into.
 }

@@ -1,2 +1,3 @@
+pub mod AddressBook
 pub mod Person
 pub mod PersonPhoneNumberType

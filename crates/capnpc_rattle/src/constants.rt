@@ -4,34 +4,54 @@ use crate::book::{Book, Named};
 use crate::comments::about;
 use crate::out::{Arg, Out};
 use crate::sheet::Sheet;
+use crate::trees::{Place, put_tree};
+use cp_tree::Tree;
 use cp_types::{Base, Constant, Node, NodeKind, Value};
 
 /// Writes a constant.
 pub fn constant(book: &Book<'_>, sheet: &mut Sheet<'_>, node: &Node, of: &Constant) {
-    let mut value = Out::new(sheet.alloc);
-    value_of(book, sheet, &mut value, of);
-    let mut name = Out::new(sheet.alloc);
-    name.fill("$0", &[Arg::Upper(node.name())]);
-    if value.is_empty() {
-        sheet.refuse(node.name(), "", "a constant of this type can't be written");
+    let name = Out::of(sheet.alloc, "$0", &[Arg::Upper(node.name())]);
+    let args = [Arg::Text(node.name())];
+    sheet.between();
+    let text = book.about(node.id);
+    about(&mut sheet.code, "", text, "`const $0`.", &args);
+    match &of.value {
+        Value::Tree(tree) => tree_constant(&mut sheet.code, name.as_str(), tree),
+        _ => plain_constant(book, sheet, node, name.as_str(), of),
     }
-    declaration(book, sheet, node, name.as_str(), value.as_str());
+    sheet.export("$0", name.as_str());
 }
 
-/// Writes a constant of this name and this type and value.
-fn declaration<'n>(
+/// Writes a constant of this name that is a struct or a list. It is a `static`, so that views of it may be lent for any
+/// time.
+fn tree_constant(code: &mut Out, name: &str, tree: &Tree) {
+    let args = [Arg::Text(name)];
+    let held = Out::of(code.alloc, "pub static $0: Constant<'static> = ", &args);
+    let at = Place {
+        indent: 0,
+        column: held.as_str().len(),
+        ending: 1,
+    };
+    code.put(held.as_str());
+    put_tree(code, tree, at);
+    code.put(";\n");
+}
+
+/// Writes a constant of this name of another type.
+fn plain_constant<'n>(
     book: &Book<'_>,
     sheet: &mut Sheet<'_>,
     node: &'n Node,
     name: &'n str,
-    value: &'n str,
+    of: &Constant,
 ) {
-    let args = [Arg::Text(node.name()), Arg::Text(name), Arg::Text(value)];
-    let text = book.about(node.id);
-    sheet.between();
-    about(&mut sheet.code, "", text, "`const $0`.", &args);
-    sheet.code.fill("pub const $1: $2;\n", &args);
-    sheet.export("$0", name);
+    let mut value = Out::new(sheet.alloc);
+    value_of(book, sheet, &mut value, of);
+    if value.is_empty() {
+        sheet.refuse(node.name(), "", "a constant of this type can't be written");
+    }
+    let args = [Arg::Text(name), Arg::Text(value.as_str())];
+    sheet.code.fill("pub const $0: $1;\n", &args);
 }
 
 /// Writes the type and the value of a constant, or nothing where it can't be written.
@@ -46,7 +66,7 @@ fn value_of(book: &Book<'_>, sheet: &mut Sheet<'_>, out: &mut Out, of: &Constant
             out.byte_text(bytes);
         }
         Value::Bits(bits) if of.of.lists == 0 => number(book, sheet, out, of.of.of, *bits),
-        Value::Bits(_) | Value::Other => {}
+        Value::Bits(_) | Value::Tree(_) | Value::Other => {}
     }
 }
 

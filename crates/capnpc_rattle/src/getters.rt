@@ -1,7 +1,9 @@
 //! How fields of each type are read.
 
-use crate::book::Book;
+use crate::book::{Book, Named};
+use crate::defaults::default_of;
 use crate::out::Arg;
+use cp_tree::Tree;
 use cp_types::{Base, Field, Slot, Value};
 
 /// How a field is read: its type, its value as a definition says, and the code. They are templates of the places that
@@ -25,6 +27,10 @@ pub struct Getter<'b> {
     size: &'static str,
     /// What null stands for, where it is a text or data.
     text: &'b Value,
+    /// What null stands for, where it is a struct or a list, and the name that definitions have for it.
+    pub tree: Option<&'b Tree>,
+    owner: &'b str,
+    field: &'b str,
 }
 
 impl<'b> Getter<'b> {
@@ -38,7 +44,10 @@ impl<'b> Getter<'b> {
         [
             Arg::Text(body),
             Arg::Number(self.place as u64),
-            Arg::Number(self.default),
+            match self.tree {
+                Some(_) => Arg::Default(self.owner, self.field),
+                None => Arg::Number(self.default),
+            },
             Arg::Text(self.name),
             Arg::Text(self.word),
             Arg::Number(self.width as u64),
@@ -82,12 +91,10 @@ fn unsure(of: &'static str, value: &'static str, code: &'static str) -> Form {
 /// How a field is read; `Err` says why it can't be written.
 pub fn read_of<'b>(
     book: &'b Book<'_>,
+    owner: &'b Named,
     field: &'b Field,
     slot: &Slot,
 ) -> Result<Getter<'b>, &'static str> {
-    if slot.points && !is_text(slot) {
-        return Err("a default that is a struct, a list or a pointer of any kind can't be written");
-    }
     let (name, word) = names_in(book, slot.of.of)?;
     let form = form_of(slot);
     Ok(Getter {
@@ -108,12 +115,10 @@ pub fn read_of<'b>(
             size_of(slot.of.of)
         },
         text: &field.default,
+        tree: default_of(field),
+        owner: owner.word.as_str(),
+        field: field.name.as_str(),
     })
-}
-
-/// Whether a field is a text or data.
-fn is_text(slot: &Slot) -> bool {
-    slot.of.lists == 0 && matches!(slot.of.of, Base::Text | Base::Data)
 }
 
 /// The node of a type that has one.
@@ -137,6 +142,13 @@ pub fn names_in<'b>(book: &'b Book<'_>, of: Base) -> Result<(&'b str, &'b str), 
 
 /// The templates of a field.
 fn form_of(slot: &Slot) -> Form {
+    if slot.of.lists > 0 && slot.points {
+        return unsure(
+            list_of(slot.of.of),
+            "list_field sizes.$8 (or_default (pointee_of $0 $1) $2)",
+            "self.body.list_or($1, default)",
+        );
+    }
     if slot.of.lists > 0 {
         return unsure(
             list_of(slot.of.of),
@@ -200,7 +212,7 @@ fn pointer(of: Base) -> Form {
     }
 }
 
-/// The templates of a number, a text or data with a default.
+/// The templates of a field with a default that isn't a list.
 fn with_default(of: Base) -> Form {
     match of {
         Base::Unsigned(_) => sure("u$5", "uint $0 $5 $1 $2", "self.body.u$5_or($1, $2)"),
@@ -229,6 +241,16 @@ fn with_default(of: Base) -> Form {
             "DataView<'a>",
             "data_field ($8[]) (pointee_of $0 $1)",
             "self.body.data_or($1, $9)",
+        ),
+        Base::Struct(_) => unsure(
+            "$3View<'a>",
+            "struct_field (or_default (pointee_of $0 $1) $2)",
+            "Ok($3View {\n            body: self.body.structure_or($1, default)?,\n        })",
+        ),
+        Base::AnyPointer => sure(
+            "Pointee<'a>",
+            "or_default (pointee_of $0 $1) $2",
+            "self.body.pointer_or($1, default)",
         ),
         _ => plain(of),
     }

@@ -11,6 +11,7 @@
 mod book;
 mod comments;
 mod constants;
+mod defaults;
 mod drafts;
 mod enums;
 mod getters;
@@ -20,6 +21,7 @@ mod pages;
 mod setters;
 mod sheet;
 mod structs;
+mod trees;
 mod unions;
 mod uses;
 

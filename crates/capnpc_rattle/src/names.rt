@@ -2,8 +2,8 @@
 
 /// Types that generated code or definitions have from elsewhere.
 const TYPES: &str = "\
-    AllocError Bool Box DataView DraftFault Drop Err Global Item List None Ok Option Past Pointee Reads Result Self \
-    Some String StructDraft StructView StructsDraft TextView Tree Type Unit Vec Whole \
+    AllocError Bool Box Constant ConstantBody DataView DraftFault Drop Err Global Item List ListRef None Ok Option \
+    Past Pointee Reads Result Self Some String StructDraft StructView StructsDraft TextView Tree Type Unit Vec Whole \
     WrongKind";
 
 /// Words of Rattle.

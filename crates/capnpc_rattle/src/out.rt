@@ -4,7 +4,7 @@ use crate::names::is_reserved;
 use std::alloc::{AllocError, Global};
 
 /// The columns of a line, as `rt fmt` has them.
-const WIDTH: usize = 100;
+pub const WIDTH: usize = 100;
 
 /// What stands for a place of a template.
 #[derive(Clone, Copy)]
@@ -25,6 +25,8 @@ pub enum Arg<'t> {
     Module(&'t str),
     /// A text so many times.
     Times(&'static str, u32),
+    /// The name of a default in definitions: of the struct's word and the field's name.
+    Default(&'t str, &'t str),
     /// A text as code has it.
     Quoted(&'t str),
     /// Bytes as a text of bytes, as code has it.
@@ -36,7 +38,7 @@ pub enum Arg<'t> {
 /// A text that grows. It remembers whether memory ran out, and is then without what was put last.
 #[derive(Drop)]
 pub struct Out {
-    alloc: Global,
+    pub alloc: Global,
     text: String,
     pub is_full: bool,
 }
@@ -113,6 +115,7 @@ impl Out {
             Arg::Upper(name) => self.upper(name),
             Arg::Module(name) => self.module(name),
             Arg::Times(text, times) => self.times(text, times),
+            Arg::Default(word, name) => self.default(word, name),
             Arg::Quoted(text) => self.quoted(text),
             Arg::ByteText(bytes) => self.byte_text(bytes),
             Arg::Bytes(bytes) => self.bytes(bytes),
@@ -124,6 +127,43 @@ impl Out {
         if self.text.push(c).is_err() {
             self.is_full = true;
         }
+    }
+
+    /// Goes on in a new line, after so many columns.
+    pub fn line(&mut self, indent: usize) {
+        self.push('\n');
+        for _ in 0..indent {
+            self.push(' ');
+        }
+    }
+
+    /// Adds an item of a list with commas between.
+    pub fn item(&mut self, item: &str) {
+        if !self.is_empty() {
+            self.put(", ");
+        }
+        self.put(item);
+    }
+
+    /// Adds a number to a list with commas between.
+    pub fn number_item(&mut self, number: u64) {
+        self.item("");
+        self.number(number);
+    }
+
+    /// Adds so many closing brackets.
+    pub fn close(&mut self, count: usize) {
+        for _ in 0..count {
+            self.push(')');
+        }
+    }
+
+    /// Adds the name of a default.
+    fn default(&mut self, word: &str, name: &str) {
+        self.put(word);
+        self.push('_');
+        self.snake(name);
+        self.put("_default");
     }
 
     /// Adds a number.
@@ -298,9 +338,9 @@ impl Out {
         }
     }
 
-    /// Adds the import of several names.
+    /// Adds the import of several names, on one line if that leaves two columns.
     fn import_all(&mut self, names: &str, args: &[Arg<'_>]) {
-        if self.fits("$0 $1::{$2};", args) {
+        if self.fits("$0 $1::{$2};..", args) {
             self.fill("$0 $1::{$2};\n", args);
         } else {
             self.fill("$0 $1::{\n", args);

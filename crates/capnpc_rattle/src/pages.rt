@@ -37,6 +37,7 @@ fn sheet_of<'b>(book: &'b Book<'_>, module: &'b str, krate: &'b str) -> Sheet<'b
             }
         }
     }
+    sheet.end();
     sheet
 }
 
@@ -77,6 +78,7 @@ impl Sheet<'_> {
     /// Whether memory ran out while it was written.
     pub fn is_full(&self) -> bool {
         self.code.is_full
+            || self.helpers.is_full
             || self.specs.is_full
             || self.exports.is_full
             || self.words.is_full

@@ -3,6 +3,7 @@
 use crate::book::Named;
 use crate::out::{Arg, Out};
 use std::alloc::Global;
+use std::mem;
 
 /// A module of a generated crate.
 #[derive(Drop)]
@@ -12,6 +13,8 @@ pub struct Sheet<'b> {
     /// The crate that it is in.
     pub krate: &'b str,
     pub code: Out,
+    /// Its private functions, which come after all else.
+    pub helpers: Out,
     pub specs: Out,
     /// The types that it declares, by their paths, a line each.
     pub exports: Out,
@@ -39,6 +42,7 @@ impl<'b> Sheet<'b> {
             module,
             krate,
             code: Out::new(alloc),
+            helpers: Out::new(alloc),
             specs: Out::new(alloc),
             exports: Out::new(alloc),
             words: Out::new(alloc),
@@ -60,6 +64,13 @@ impl<'b> Sheet<'b> {
             }
             self.fault.fill(": $0", &[Arg::Text(why)]);
         }
+    }
+
+    /// Puts the private functions after all else.
+    pub fn end(&mut self) {
+        let helpers = mem::replace(&mut self.helpers, Out::new(self.alloc));
+        self.code.put(helpers.as_str());
+        self.helpers.is_full = helpers.is_full;
     }
 
     /// Goes on after a blank line, but at the beginning.

@@ -2,6 +2,7 @@
 
 use crate::book::{Book, Named};
 use crate::comments::about;
+use crate::defaults::{constant, definition};
 use crate::drafts::draft;
 use crate::getters::{Getter, node_in, read_of};
 use crate::out::{Arg, Out};
@@ -154,7 +155,7 @@ fn methods<'b>(
     for (i, field) in of.fields.iter().enumerate() {
         match &field.kind {
             FieldKind::Group(id) => group_method(book, sheet, node, field, (i, *id)),
-            FieldKind::Slot(slot) => slot_method(book, sheet, node, field, (i, slot)),
+            FieldKind::Slot(slot) => slot_method(book, sheet, (node, named), field, (i, slot)),
             FieldKind::Unknown => {
                 sheet.refuse(
                     node.name(),
@@ -221,7 +222,7 @@ fn group_method(
 fn slot_method<'b>(
     book: &'b Book<'_>,
     sheet: &mut Sheet<'b>,
-    node: &Node,
+    (node, named): (&Node, &'b Named),
     field: &'b Field,
     (i, slot): (usize, &Slot),
 ) {
@@ -229,7 +230,7 @@ fn slot_method<'b>(
         return;
     }
     let name = field.name.as_str();
-    match read_of(book, field, slot) {
+    match read_of(book, named, field, slot) {
         Ok(getter) => {
             sheet.begin_method();
             let args = [Arg::Text(name), Arg::Number(field.ordinal as u64)];
@@ -237,6 +238,10 @@ fn slot_method<'b>(
             about(&mut sheet.code, "    ", text, "`$0 @$1`.", &args);
             getter_method(sheet, name, &getter);
             cite_type(book, sheet, slot);
+            if let Some(tree) = getter.tree {
+                definition(sheet, named, field, tree);
+                constant(sheet, named, field, tree);
+            }
         }
         Err(why) => sheet.refuse(node.name(), name, why),
     }
@@ -259,7 +264,11 @@ fn getter_method<'b>(sheet: &mut Sheet<'b>, name: &str, getter: &Getter<'b>) {
     });
     code.fill(getter.value, &args);
     code.put(if getter.is_struct { ") }" } else { " }" });
-    code.put("\n    {\n        ");
+    code.put("\n    {\n");
+    if getter.tree.is_some() {
+        code.fill("        let default = $2();\n", &args);
+    }
+    code.put("        ");
     code.fill(getter.code, &args);
     code.put("\n    }\n");
 }

@@ -80,13 +80,13 @@ fn members<'b>(sheet: &Sheet<'_>, of: &'b Structure) -> Result<Vec<&'b Field>, A
 }
 
 /// What a field of a union holds. What can't be written was refused where its method is.
-fn held_by<'b>(book: &'b Book<'_>, field: &'b Field) -> Held<'b> {
+fn held_by<'b>(book: &'b Book<'_>, named: &'b Named, field: &'b Field) -> Held<'b> {
     match &field.kind {
         FieldKind::Group(id) => match book.find(*id) {
             Some(named) => Held::Group(named.name.as_str()),
             None => Held::Nothing,
         },
-        FieldKind::Slot(slot) => match read_of(book, field, slot) {
+        FieldKind::Slot(slot) => match read_of(book, named, field, slot) {
             Ok(getter) if !is_void(&field.kind) => Held::Slot(getter),
             _ => Held::Nothing,
         },
@@ -95,9 +95,9 @@ fn held_by<'b>(book: &'b Book<'_>, field: &'b Field) -> Held<'b> {
 }
 
 /// The lifetime of the type of what members hold, if some are views.
-fn lifetime<'b>(book: &'b Book<'_>, members: &[&'b Field]) -> &'static str {
+fn lifetime<'b>(book: &'b Book<'_>, named: &'b Named, members: &[&'b Field]) -> &'static str {
     for member in members {
-        match held_by(book, member) {
+        match held_by(book, named, member) {
             Held::Group(_) => return "<'a>",
             Held::Slot(getter) if getter.of.contains("'a") => return "<'a>",
             _ => {}
@@ -123,20 +123,20 @@ pub fn union_method<'b>(
 fn member_method<'b>(
     book: &'b Book<'_>,
     sheet: &mut Sheet<'_>,
-    named: &Named,
+    named: &'b Named,
     members: &[&'b Field],
 ) {
     let name = named.name.as_str();
     let args = [
         Arg::Text(name),
         Arg::Text(named.word.as_str()),
-        Arg::Text(lifetime(book, members)),
+        Arg::Text(lifetime(book, named, members)),
     ];
     sheet.method(ABOUT, &args);
     signature(sheet, SHORT, LONG, &args);
     sheet.code.fill(METHOD, &args);
     for member in members {
-        let question = match held_by(book, member) {
+        let question = match held_by(book, named, member) {
             Held::Nothing => None,
             Held::Slot(getter) if getter.fails => Some("?"),
             _ => Some(""),
@@ -239,18 +239,18 @@ fn which_type<'n>(
 }
 
 /// Writes the type of the member that is set.
-fn member_type<'n, 'b>(
+fn member_type<'b>(
     book: &'b Book<'_>,
     sheet: &mut Sheet<'_>,
-    node: &'n Node,
-    named: &'n Named,
+    node: &'b Node,
+    named: &'b Named,
     members: &[&'b Field],
 ) {
     let args = [
         Arg::Text(named.name.as_str()),
         Arg::Text(named.word.as_str()),
         Arg::Text(node.name()),
-        Arg::Text(lifetime(book, members)),
+        Arg::Text(lifetime(book, named, members)),
         Arg::Number(members.len().saturating_sub(1) as u64),
     ];
     sheet.export("$0Member", named.name.as_str());
@@ -258,7 +258,7 @@ fn member_type<'n, 'b>(
     for member in members {
         let code = &mut sheet.code;
         code.fill("    $0", &[Arg::Variant(member.name.as_str())]);
-        match held_by(book, member) {
+        match held_by(book, named, member) {
             Held::Nothing => {}
             Held::Group(group) => code.fill("($0View<'a>)", &[Arg::Text(group)]),
             Held::Slot(getter) => {
@@ -276,7 +276,7 @@ fn member_type<'n, 'b>(
 fn member_specs<'b>(
     book: &'b Book<'_>,
     sheet: &mut Sheet<'_>,
-    named: &Named,
+    named: &'b Named,
     place: u32,
     members: &[&'b Field],
 ) {
@@ -292,17 +292,20 @@ fn member_specs<'b>(
     sheet.cite_own("$0_member", word);
     sheet.specs.fill(MEMBER_OF, &args);
     for member in members {
-        member_spec(book, sheet, word, member);
+        member_spec(book, sheet, named, member);
     }
     sheet.specs.fill(MEMBER_SPEC, &args);
 }
 
 /// Writes what definitions say of a member.
-fn member_spec<'b>(book: &'b Book<'_>, sheet: &mut Sheet<'_>, word: &str, member: &'b Field) {
-    let args = [Arg::Text(word), Arg::Variant(member.name.as_str())];
+fn member_spec<'b>(book: &'b Book<'_>, sheet: &mut Sheet<'_>, named: &'b Named, member: &'b Field) {
+    let args = [
+        Arg::Text(named.word.as_str()),
+        Arg::Variant(member.name.as_str()),
+    ];
     let specs = &mut sheet.specs;
     specs.fill("$0_member_of t $0_whichs.$1 = ", &args);
-    match held_by(book, member) {
+    match held_by(book, named, member) {
         Held::Nothing => specs.fill("Ok $0_members.$1\n", &args),
         Held::Group(_) => specs.fill("Ok ($0_members.$1 (record { body = t }))\n", &args),
         Held::Slot(getter) => {

@@ -7,13 +7,14 @@ use crate::sheet::Sheet;
 type Module = (&'static str, &'static [&'static str]);
 
 /// The words of the libraries that generated text cites.
-const LIBRARY: [Module; 9] = [
+const LIBRARY: [Module; 10] = [
     (
         "std.specs.Int",
         &["cast_signed", "cast_unsigned", "w16", "w32", "w64", "w8"],
     ),
     ("std.specs.Float", &["binary32", "binary64"]),
     ("cp_tree.specs.Seen", &["pointee_of"]),
+    ("cp_fields.specs.Constants", &["constant_of"]),
     ("cp_fields.specs.Numbers", &["flag", "plain", "uint"]),
     (
         "cp_fields.specs.Pointers",
@@ -23,6 +24,7 @@ const LIBRARY: [Module; 9] = [
             "data_field",
             "held",
             "list_field",
+            "or_default",
             "struct_field",
             "text_field",
         ],
@@ -80,8 +82,15 @@ const DRAFTS: [&str; 8] = [
     "std::num::f64_to_bits_with_nan",
 ];
 
+/// The paths of the types that constants of trees cite.
+const CONSTANTS: [&str; 3] = [
+    "cp_fields::Constant",
+    "cp_fields::ConstantBody",
+    "cp_tree::ListRef",
+];
+
 /// Parts of a text, and the words of the prelude that it has where it has them.
-const PRELUDE: [(&str, &str); 21] = [
+const PRELUDE: [(&str, &str); 23] = [
     ("ℕ", "ℕ"),
     (" ≡ ", "◌≡◌"),
     (" == ", "◌==◌"),
@@ -103,6 +112,8 @@ const PRELUDE: [(&str, &str); 21] = [
     (" + ", "◌+◌"),
     (" ∷ ", "◌∷◌"),
     ("[]", "[]"),
+    ("true ∷ ", "true"),
+    ("false ∷ ", "false"),
 ];
 
 /// The path of the sizes of elements.
@@ -243,13 +254,31 @@ pub fn of_clauses(sheet: &Sheet<'_>, out: &mut Out) {
     block(out, &uses);
 }
 
+/// Whether a module's code has a type of this name; a variant may be called so too.
+fn has_type(sheet: &Sheet<'_>, name: &str) -> bool {
+    let args = [Arg::Text(name)];
+    let code = sheet.code.as_str();
+    let of = Out::of(sheet.alloc, "$0<", &args);
+    let path = Out::of(sheet.alloc, "$0::", &args);
+    has_part(code, of.as_str())
+        || has_part(code, path.as_str())
+        || name == "WrongKind" && has_word(code, name)
+}
+
 /// Adds the imports of a module's code.
 pub fn of_code(sheet: &Sheet<'_>, out: &mut Out) {
     let mut paths = Out::new(sheet.alloc);
     paths.put(sheet.libraries.as_str());
     for name in &FIELDS {
-        if has_word(sheet.code.as_str(), name) {
+        if has_type(sheet, name) {
             paths.fill("cp_fields::$0\n", &[Arg::Text(name)]);
+        }
+    }
+    if has_part(sheet.code.as_str(), "Constant<'static>") {
+        for path in &CONSTANTS {
+            if has_word(sheet.code.as_str(), name_of(path)) {
+                paths.fill("$0\n", &[Arg::Text(path)]);
+            }
         }
     }
     for path in &DRAFTS {

@@ -4,6 +4,7 @@ use crate::line::Line;
 use crate::number::signed;
 use cp_fields::{DataView, Pointee, StructView, WrongKind};
 use cp_reading::View;
+use cp_tree::Tree;
 use cp_types::{Base, Field, FieldKind, Node, NodeKind, Schema, Slot, Structure, Type, Value};
 use std::alloc::Global;
 use std::fmt;
@@ -119,10 +120,32 @@ fn show_field(line: &mut Line, schema: &Schema, field: &Field, at: &StructView<'
             match &field.default {
                 Value::Text(text) if is_null => line.characters(text.as_str()),
                 Value::Data(bytes) if is_null => line.bytes(&DataView::of_slice(bytes)),
+                Value::Tree(tree) if is_null => default_value(line, schema, slot.of, tree, depth),
                 _ => value(line, schema, slot, at, depth),
             }
         }
         FieldKind::Unknown => {}
+    }
+}
+
+/// Adds a default, which is a struct or a list, or what a pointer of any kind stands for.
+#[cycle(show)]
+fn default_value(line: &mut Line, schema: &Schema, of: Type, tree: &Tree, depth: u32) {
+    if depth == 0 {
+        line.is_deep = true;
+        return;
+    }
+    let at = StructView::of_pointer(Pointee::of_tree(tree));
+    value(line, schema, &only(of), &at, depth - 1);
+}
+
+/// The place of a struct's one field.
+fn only(of: Type) -> Slot {
+    Slot {
+        place: 0,
+        of,
+        default: 0,
+        points: false,
     }
 }
 
@@ -184,15 +207,10 @@ fn list(line: &mut Line, schema: &Schema, slot: &Slot, at: &StructView<'_>, dept
         bools(line, at, slot.place);
         return;
     }
-    let element = Slot {
-        place: 0,
-        of: Type {
-            lists: slot.of.lists.saturating_sub(1),
-            of: slot.of.of,
-        },
-        default: 0,
-        points: false,
-    };
+    let element = only(Type {
+        lists: slot.of.lists.saturating_sub(1),
+        of: slot.of.of,
+    });
     match at.list::<StructView<'_>>(slot.place) {
         Ok(items) => {
             line.open('[');

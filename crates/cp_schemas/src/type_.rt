@@ -8,7 +8,7 @@ ghost use Rattle.cp_fields.specs.Pointers.{Reads, struct_field};
 ghost use Rattle.cp_schemas.specs.Type_.{type_which_of, type_member, type_any_pointer_unconstrained_which_of, type_any_pointer_unconstrained_member, type_any_pointer_which_of, type_any_pointer_member};
 
 use crate::brand::BrandView;
-use cp_fields::{Item, List, Past, Pointee, StructView, WrongKind};
+use cp_fields::{Item, Past, Pointee, StructView, WrongKind};
 
 /// Represents a type expression.
 #[derive(Drop)]

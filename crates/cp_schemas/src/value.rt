@@ -9,7 +9,7 @@ ghost use Rattle.cp_fields.specs.Numbers.{flag, plain};
 ghost use Rattle.cp_fields.specs.Pointers.{Reads, data_field, struct_field, text_field};
 ghost use Rattle.cp_schemas.specs.Value.{value_which_of, value_member};
 
-use cp_fields::{DataView, Item, List, Past, Pointee, StructView, TextView, WrongKind};
+use cp_fields::{DataView, Item, Past, Pointee, StructView, TextView, WrongKind};
 
 /// Represents a value, e.g. a field default value, constant value, or annotation value.
 #[derive(Drop)]

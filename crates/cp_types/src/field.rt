@@ -3,7 +3,7 @@
 use crate::fault::RequestFault;
 use crate::kind::{DEEPEST, Type, type_of};
 use crate::load::{Load, text_of};
-use crate::value::{Value, bits_of, is_null, value_of};
+use crate::value::{Value, bits_of, value_of};
 use cp_schemas::{FieldSlotView, FieldView, FieldWhich};
 use std::alloc::Global;
 
@@ -37,7 +37,7 @@ pub struct Slot {
     pub of: Type,
     /// The bits of its default, if it is a number.
     pub default: u64,
-    /// Whether it is a pointer whose default isn't null.
+    /// Whether it is a pointer whose default reads otherwise than null.
     pub points: bool,
 }
 
@@ -50,14 +50,15 @@ impl Field {
 
 impl<'n> Load<FieldView<'n>> for Field {
     fn load(alloc: Global, view: &FieldView<'n>) -> Result<Field, RequestFault> {
-        let kind = kind_of(view)?;
+        let default = default_of(alloc, view)?;
+        let kind = kind_of(view, &default)?;
         let name = text_of(alloc, view.name())?;
         Ok(Field {
             name,
             tag: view.discriminant_value(),
             ordinal: view.ordinal().explicit(),
             kind,
-            default: default_of(alloc, view)?,
+            default,
         })
     }
 }
@@ -70,24 +71,22 @@ fn default_of(alloc: Global, view: &FieldView<'_>) -> Result<Value, RequestFault
     }
 }
 
-/// What a field is.
-fn kind_of(view: &FieldView<'_>) -> Result<FieldKind, RequestFault> {
+/// What a field with this default is.
+fn kind_of(view: &FieldView<'_>, default: &Value) -> Result<FieldKind, RequestFault> {
     match view.which() {
-        FieldWhich::Slot => slot_of(&view.slot()),
+        FieldWhich::Slot => slot_of(&view.slot(), default),
         FieldWhich::Group => Ok(FieldKind::Group(view.group().type_id())),
         FieldWhich::Unknown(_) => Ok(FieldKind::Unknown),
     }
 }
 
-/// Where a field lies.
-fn slot_of(view: &FieldSlotView<'_>) -> Result<FieldKind, RequestFault> {
+/// Where a field with this default lies.
+fn slot_of(view: &FieldSlotView<'_>, default: &Value) -> Result<FieldKind, RequestFault> {
     let of = type_of(&view.type_()?, DEEPEST)?;
-    let value = view.default_value()?;
-    let points = view.had_explicit_default() && !is_null(&value)?;
     Ok(FieldKind::Slot(Slot {
         place: view.offset(),
         of,
-        default: bits_of(&value),
-        points,
+        default: bits_of(&view.default_value()?),
+        points: view.had_explicit_default() && default.points(),
     }))
 }

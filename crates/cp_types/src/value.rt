@@ -3,6 +3,7 @@
 use crate::fault::RequestFault;
 use crate::load::text_of;
 use cp_schemas::{ValueView, ValueWhich};
+use cp_tree::Tree;
 use std::alloc::Global;
 
 /// The value of a constant, or a field's default.
@@ -12,8 +13,22 @@ pub enum Value {
     Bits(u64),
     Text(String),
     Data(Vec<u8>),
-    /// A value of another type.
+    /// A struct, a list that has elements, or what a pointer of any kind stands for.
+    Tree(Tree),
+    /// A value of another type, null, or an empty list, which null stands for.
     Other,
+}
+
+impl Value {
+    /// Whether it is a pointer that reads otherwise than null.
+    pub(crate) fn points(&self) -> bool {
+        match self {
+            Value::Text(text) => !text.is_empty(),
+            Value::Data(bytes) => !bytes.is_empty(),
+            Value::Tree(_) => true,
+            Value::Bits(_) | Value::Other => false,
+        }
+    }
 }
 
 /// The value of a constant, or a field's default.
@@ -21,9 +36,15 @@ pub(crate) fn value_of(alloc: Global, view: &ValueView<'_>) -> Result<Value, Req
     match view.which() {
         ValueWhich::Text => text_of(alloc, view.text()).map(Value::Text),
         ValueWhich::Data => Ok(Value::Data(view.data_()?.to_vec(alloc)?)),
-        ValueWhich::Void | ValueWhich::List | ValueWhich::Struct => Ok(Value::Other),
-        ValueWhich::Interface | ValueWhich::AnyPointer => Ok(Value::Other),
-        ValueWhich::Unknown(_) => Ok(Value::Other),
+        ValueWhich::List => match view.list().tree(alloc)? {
+            list if is_empty(&list) => Ok(Value::Other),
+            list => Ok(Value::Tree(list)),
+        },
+        ValueWhich::Struct | ValueWhich::AnyPointer => match view.list().tree(alloc)? {
+            Tree::Null => Ok(Value::Other),
+            tree => Ok(Value::Tree(tree)),
+        },
+        ValueWhich::Void | ValueWhich::Interface | ValueWhich::Unknown(_) => Ok(Value::Other),
         _ => Ok(Value::Bits(bits_of(view))),
     }
 }
@@ -40,12 +61,18 @@ pub(crate) fn bits_of(value: &ValueView<'_>) -> u64 {
     }
 }
 
-/// Whether a value is no pointer, or one that is null or empty.
-pub(crate) fn is_null(value: &ValueView<'_>) -> Result<bool, RequestFault> {
-    Ok(match value.which() {
-        ValueWhich::Text => value.text()?.is_empty(),
-        ValueWhich::Data => value.data_()?.is_empty(),
-        ValueWhich::List | ValueWhich::Struct | ValueWhich::AnyPointer => value.list().is_null(),
-        _ => true,
-    })
+/// Whether a tree is null, or a list without elements.
+fn is_empty(tree: &Tree) -> bool {
+    match tree {
+        Tree::Null => true,
+        Tree::Voids(count) => *count == 0,
+        Tree::Bits(items) => items.is_empty(),
+        Tree::Bytes(items) => items.is_empty(),
+        Tree::Halves(items) => items.is_empty(),
+        Tree::Quads(items) => items.is_empty(),
+        Tree::Words(items) => items.is_empty(),
+        Tree::Ptrs(items) => items.is_empty(),
+        Tree::Structs { items, .. } => items.is_empty(),
+        Tree::Cap(_) | Tree::Struct(_) => false,
+    }
 }

@@ -96,10 +96,23 @@ fn written(alloc: Global) -> anyhow::Result<Vec<u8>> {
     Ok(to.into_inner())
 }
 
-/// Prints the people of an address book.
+/// Whose book it is, and what people are sorted into; a book that doesn't say it has the defaults.
+fn head_line(alloc: Global, book: &AddressBookView<'_>) -> anyhow::Result<String> {
+    let owner = book.owner()?.name()?.text(alloc)?;
+    let mut line = format!(in alloc; "of {}:", owner.as_str())?;
+    for circle in book.circles()? {
+        let name = circle?.text(alloc)?;
+        write!(line, " {}", name.as_str())?;
+    }
+    Ok(line)
+}
+
+/// Prints an address book with its people.
 fn print_book(rt: &HostRuntime, segments: &Segments) -> anyhow::Result<()> {
     let view = View::root(segments, Limits::standard()).map_err(|fault| anyhow!("{fault}"))?;
-    for person in AddressBookView::of(Pointee::of_view(view))?.people()? {
+    let book = AddressBookView::of(Pointee::of_view(view))?;
+    println!(rt; "{}", head_line(rt.alloc(), &book)?.as_str())?;
+    for person in book.people()? {
         print_person(rt, &person)?;
     }
     Ok(())

@@ -18,3 +18,6 @@ decreases-list l = 2 * l.depth
 
 abbrev pub decreases-show_item : goal.decreases-show_item
 decreases-show_item l = 2 * l.depth
+
+abbrev pub decreases-default_value : goal.decreases-default_value
+decreases-default_value l = 2 * l.depth
