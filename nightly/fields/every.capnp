@@ -13,6 +13,9 @@ struct Box(T) {
   label @1 :Text;
 }
 
+const five :Small = (number = 5, name = "five");
+const pair :List(Small) = [.five, (name = "six")];
+
 interface Door { open @0 (key :Text, times :UInt8 = 2) -> (room :Small); }
 
 struct Every {
@@ -102,4 +105,44 @@ struct Every {
   last @59 :Bool = true;
   greeting @62 :Text = "hello";
   seal @63 :Data = "seal";
+
+  defaults @64 :Defaults;
+  start @65 :Small = (number = 3, name = "in");
+  steps @66 :List(Small) = [(number = 1), (name = "two")];
+  empty @67 :List(Text) = [];
+}
+
+struct Defaults {
+  # A default of each kind of pointer. What null stands for is printed of a union's members alone.
+  union {
+    none @0 :Void;
+    voids @1 :List(Void) = [void, void];
+    bools @2 :List(Bool) = [true, false, false, true, true, false, true, false, false, true];
+    bytes @3 :List(UInt8) = [1, 255, 0];
+    halves @4 :List(Int16) = [-1, 32767, -32768];
+    quads @5 :List(Int32) = [-2147483648, 7];
+    words @6 :List(UInt64) = [18446744073709551615, 1];
+    floats @7 :List(Float32) = [1.25, -inf, nan];
+    doubles @8 :List(Float64) = [-0, 1e300];
+    colours @9 :List(Colour) = [blue, green];
+    texts @10 :List(Text) = ["a", "", "h\xc3\xa9 \"you\"\n"];
+    datas @11 :List(Data) = [0x"fe", ""];
+    smalls @12 :List(Small) = [(number = 1, name = "one"), (number = 4294967295)];
+    lists @13 :List(List(Int16)) = [[1, -2], [], [3]];
+    deep @14 :List(List(List(Text))) = [[["a", "b"], []], [[""]], []];
+    empty @15 :List(Small) = [];
+    small @16 :Small = (number = 3, name = "in");
+    blank @17 :Small = ();
+    same @18 :Small = .five;
+    pair @19 :List(Small) = .pair;
+    box @20 :Box(Text) = (label = "l");
+    boxes @21 :List(Box(Small)) = [(label = "x"), ()];
+    every @22 :Every = (uint8 = 3, float64 = -0.5, text = "deep", small = (number = 4), place = (roof = "tiles"),
+        bools = [true, false], smalls = [(number = 1), (name = "b")], three = (number = 9), defaults = (small = (number = 8)));
+    any @23 :AnyPointer = .five;
+    words2 :group {
+      held @24 :List(UInt64) = [7];
+      one @25 :Small = (name = "grouped");
+    }
+  }
 }

@@ -23,4 +23,8 @@ struct Thing {
   }
   late @9 :Bool = true;
   later @10 :Text;
+  spare @11 :Part = (size = 5, name = "spare");
+  spares @12 :List(Part) = [(size = 1, weight = 0.5), (name = "x")];
+  words @13 :List(Text) = ["a", "", "b"];
+  flags @14 :List(Bool) = [true, false];
 }

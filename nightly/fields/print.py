@@ -1,6 +1,7 @@
 #!/usr/bin/env python3
-"""print.py REQUEST STRUCT    writes a program that prints messages as `capnp decode --short` does, over what capnpc_rattle makes
-of the same request. Names and offsets come from the request alone, read by request.py."""
+"""print.py REQUEST STRUCT [FIELD..]    writes a program that prints messages as `capnp decode --short` does, over what capnpc_rattle
+makes of the same request. With FIELDs it prints these of the struct alone, and what null stands for too. Names and offsets come from
+the request alone, read by request.py."""
 import re
 import sys
 
@@ -24,7 +25,8 @@ def camel(title):
 
 
 class Printer:
-    def __init__(self, path):
+    def __init__(self, path, chosen=()):
+        self.chosen = chosen
         self.nodes, _, files = load(path)
         self.krate = files[0]["name"].split("/")[-1].split(".")[0]
         self.types, self.done, self.functions = set(), set(), []
@@ -51,6 +53,8 @@ class Printer:
             item = f"item{depth}"
             element = self.value(inner, item + ("?" if fails else ""), depth + 1)
             return f"line.open('[')?; for {item} in {at} {{ line.item()?; {element} }} line.close(']')?;"
+        if code == 18:
+            return f'let _ = {at}; line.text.push_str("<opaque pointer>")?;'
         node = self.nodes[kind["id"]]
         if code == 15:
             self.enum(node)
@@ -81,12 +85,13 @@ class Printer:
         code = field["type"]["kind"]
         if code == 0:
             return f'line.field("{field["name"]}")?; line.text.push_str("void")?;'
-        if code in (17, 18):
+        if code == 17:
             return ""
         fails = code in (12, 13, 14, 16)
         value = self.value(field["type"], f'{at}.{method(field["name"])}()' + ("?" if fails else ""))
         text = f'line.field("{field["name"]}")?; {value}'
-        return f'if has(&{at}.body, {field["offset"]}) {{ {text} }}' if fails else text
+        always = field["name"] in self.chosen or not (fails or code == 18)
+        return text if always else f'if has(&{at}.body, {field["offset"]}) {{ {text} }}'
 
     def member(self, node, field):
         """Statements that print a member of a union, by what it holds, if it is the one that is set."""
@@ -100,11 +105,11 @@ class Printer:
             arm = f"{arm}(held) => {{ {head} {words(self.name(group))}_line(line, &held)?; }}"
         elif field["type"]["kind"] == 0:
             arm = f'{arm} => {{ {head} line.text.push_str("void")?; }}'
-        elif field["type"]["kind"] in (17, 18):
+        elif field["type"]["kind"] == 17:
             return ""
         else:
             value = self.value(field["type"], "held")
-            if field["type"]["kind"] in (12, 13, 14, 16) and field["disc"] == 0:
+            if field["type"]["kind"] in (12, 13, 14, 16, 18) and field["disc"] == 0:
                 value = f'if has(&at.body, {field["offset"]}) {{ {head} {value} }}'
                 head = ""
             arm = f"{arm}(held) => {{ {head} {value} }}"
@@ -117,7 +122,8 @@ class Printer:
         self.done.add(name)
         self.types.add(name + "View")
         body = ""
-        for field in node["fields"]:
+        chosen = [f for f in node["fields"] if f["name"] in self.chosen]
+        for field in chosen or node["fields"]:
             statements = self.field(field, "at") if field["disc"] == 0xFFFF else self.member(node, field)
             body += "    " + statements + "\n"
         self.functions.append(f"fn {words(name)}_line(line: &mut Line, at: &{name}View<'_>) -> anyhow::Result<()> {{\n"
@@ -161,4 +167,4 @@ def variant(name):
 
 
 if __name__ == "__main__":
-    sys.stdout.write(Printer(sys.argv[1]).program(sys.argv[2]))
+    sys.stdout.write(Printer(sys.argv[1], sys.argv[3:]).program(sys.argv[2]))

@@ -51,16 +51,22 @@ wide() { # a schema of 300 fields of the widths in turn, and a message that sets
     } >"$room/wide.txt"
 }
 
+make_program() { # PROGRAM NAME STRUCT [FIELD..]: the program that prints messages, or these fields of theirs, over the crate of this name
+    local program=$1 name=$2
+    shift 2
+    mkdir -p "$room/crates/$program/src"
+    "$here/print.py" "$room/$name.request" "$@" >"$room/crates/$program/src/main.rt"
+    cp "$here/line.code" "$room/crates/$program/src/line.rt"
+    printf '%s: cp_words cp_reading cp_frame cp_fields %s anyhow\n' "$program" "$name" >>"$room/crates.txt"
+}
+
 make_printer() { # SCHEMA STRUCT: the schema's crate, and the program that prints its messages
     local name
     [ "$plugin" != - ] || return 0
     name=$(basename "$1" .capnp)
     capnp compile --src-prefix="$(dirname "$1")" -o- "$1" >"$room/$name.request"
     (cd "$room/crates" && "$plugin" --drafts <"../$name.request") >>"$room/crates.txt"
-    mkdir -p "$room/crates/print_$name/src"
-    "$here/print.py" "$room/$name.request" "$2" >"$room/crates/print_$name/src/main.rt"
-    cp "$here/line.code" "$room/crates/print_$name/src/line.rt"
-    printf 'print_%s: cp_words cp_reading cp_frame cp_fields %s anyhow\n' "$name" "$name" >>"$room/crates.txt"
+    make_program "print_$name" "$name" "$2"
 }
 
 make_copier() { # NAME STRUCT: the program that builds the messages of a schema again
@@ -125,6 +131,17 @@ make_keeper() { # the program that writes messages of a newer schema again, by t
     printf 'keep_older: cp_words cp_tree cp_reading cp_frame cp_fields cp_drafts cp_stream cp_structs older anyhow\n' >>"$room/crates.txt"
 }
 
+absent() { # FIELD..: what the newer edition's code reads of these fields, which the older one lacks, is what `capnp eval` says
+    local line='' field
+    [ "$plugin" != - ] || return 0
+    make_program absent newer Thing "$@"
+    encode "$here/older.txt" "$here/older.capnp" Thing
+    for field in "$@"; do line="$line${line:+, }$field = $(capnp eval --short "$here/newer.capnp" "Thing.$field")"; done
+    while IFS= read -r _; do printf '(%s)\n' "$line"; done <"$here/older.txt" >"$room/wanted"
+    (cd "$room/crates/absent" && rt try --seconds 120 --steps 1000 <"$room/frames" >"$room/found" 2>"$room/said") || :
+    same older.txt "the code of newer.capnp, its defaults"
+}
+
 copy() { # TEXTS SCHEMA STRUCT PROGRAM: texts that SCHEMA encodes, read by PROGRAM and written again
     [ "$plugin" != - ] || return 0
     encode "$1" "$2" "$3"
@@ -134,9 +151,12 @@ copy() { # TEXTS SCHEMA STRUCT PROGRAM: texts that SCHEMA encodes, read by PROGR
     same "$1" "$4"
 }
 
-nulls() { # members of a union that have defaults, whose pointers are null, since the writer's schema knows them as void
-    sed -E 's/(nine|ten) (@[0-9]+) :[A-Za-z]+ = [^;]+;/\1 \2 :Void;/' "$here/every.capnp" >"$room/void.capnp"
+nulls() { # members of unions that have defaults, whose pointers are null, since the writer's schema knows them as void
+    sed -Ez 's/(nine|ten) (@[0-9]+) :[A-Za-z]+ = [^;]+;/\1 \2 :Void;/g' "$here/every.capnp" |
+        sed -Ez ':again; s/(struct Defaults .* @[0-9]+) :[^;V][^;]*;/\1 :Void;/; t again' >"$room/void.capnp"
     printf '(%s = void)\n' nine ten >"$room/nulls.txt"
+    printf '(defaults = (%s = void))\n' voids bools bytes halves quads words floats doubles colours texts datas smalls lists deep empty \
+        small blank same pair box boxes every any >>"$room/nulls.txt"
     compare "$room/nulls.txt" "$room/void.capnp" "$here/every.capnp" Every
 }
 
@@ -151,6 +171,7 @@ compare "$here/floats.txt" "$here/floats.capnp" "$here/floats.capnp" Floats
 compare "$here/every.txt" "$here/every.capnp" "$here/every.capnp" Every
 nulls
 compare "$here/older.txt" "$here/older.capnp" "$here/newer.capnp" Thing
+absent late spare spares words flags
 compare "$here/newer.txt" "$here/newer.capnp" "$here/older.capnp" Thing
 compare "$room/wide.txt" "$room/wide.capnp" "$room/wide.capnp" Wide
 make_copier every Every
