@@ -96,7 +96,7 @@ const PIPELINED: [u64; 13] = [
 ];
 
 #[test]
-fn disembargoes_and_targets(rt: HostRuntime) {
+fn disembargoes_are_kept(rt: HostRuntime) {
     // Each context, with its number where it has one.
     for word in [
         0x0000_0000_ffff_ffff,
@@ -115,7 +115,11 @@ fn disembargoes_and_targets(rt: HostRuntime) {
         check!(&rt; is_kept(&rt, rt.alloc(), &words));
     }
     check!(&rt; is_kept(&rt, rt.alloc(), &PIPELINED));
-    // What a member carries that isn't chosen or known is dropped.
+}
+
+/// What a member of a Disembargo carries that isn't chosen or known is dropped.
+#[test]
+fn a_disembargo_is_written_without_what_is_not_chosen(rt: HostRuntime) {
     let carried = [
         ROOT,
         13,

@@ -1,10 +1,11 @@
 //! Trees, written and read back.
 
 ghost use Rattle.std.specs.Prelude.{◌≡◌, ◌∷◌, [], map, IfOk};
-ghost use Rattle.cp_tree.specs.Node.{cap, struct, node, no_nodes, ptrs, structs, body, no_bodies};
+ghost use Rattle.cp_tree.specs.Node.{struct, node, no_nodes};
 ghost use Rattle.cp_tree.specs.NodeOf.{node_of, nodes_of};
 ghost use Rattle.cp_tree.specs.DraftOf.{draft_of, draft_body_of};
 ghost use Rattle.cp_tree.specs.Shaped.{Shaped};
+ghost use Rattle.test_codec.specs.Drafted.{list_with, structs_with, struct_with};
 
 use crate::checks::expect_right_of;
 use crate::trees::{are_words, body, finish, leaf, object_of, segments};
@@ -158,7 +159,7 @@ fn object_of_all_kinds(rt: &impl Abort, alloc: Global) -> Object {
 
 /// A list of two pointers: a lent tree, and a capability of its own.
 fn drafted_list<'a>(alloc: Global, lent: &'a Tree) -> Result<Draft<'a>, AllocError>
-    ensures { IfOk result (λ d. draft_of d ≡ ptrs (node (node_of lent.now) (node (cap 2) no_nodes))) }
+    ensures { IfOk result (λ d. draft_of d ≡ list_with (node_of lent.now)) }
 {
     Ok(Draft::Ptrs(vec![in alloc; Draft::Lent(lent), Draft::Own(Tree::Cap(2))]?))
 }
@@ -175,7 +176,7 @@ fn drafted_body<'a>(alloc: Global, word: u64, part: Draft<'a>) -> Result<DraftBo
 
 /// A composite list of two such structs.
 fn drafted_structs<'a>(alloc: Global, lent: &'a Tree) -> Result<Draft<'a>, AllocError>
-    ensures { IfOk result (λ d. draft_of d ≡ structs 1 1 (body (5 ∷ []) (node (node_of lent.now) no_nodes) (body (6 ∷ []) (node (cap 1) no_nodes) no_bodies))) }
+    ensures { IfOk result (λ d. draft_of d ≡ structs_with (node_of lent.now)) }
 {
     let items = vec![in alloc;
         drafted_body(alloc, 5, Draft::Lent(lent))?,
@@ -197,7 +198,7 @@ fn drafted_struct<'a>(words: Vec<u64>, ptrs: Vec<Draft<'a>>) -> Draft<'a>
 
 /// A struct of one data word and of both lists.
 fn drafted<'a>(alloc: Global, lent: &'a Tree) -> Result<Draft<'a>, AllocError>
-    ensures { IfOk result (λ d. draft_of d ≡ struct (9 ∷ []) (node (ptrs (node (node_of lent.now) (node (cap 2) no_nodes))) (node (structs 1 1 (body (5 ∷ []) (node (node_of lent.now) no_nodes) (body (6 ∷ []) (node (cap 1) no_nodes) no_bodies))) no_nodes))) }
+    ensures { IfOk result (λ d. draft_of d ≡ struct_with (node_of lent.now)) }
 {
     let ptrs = vec![in alloc; drafted_list(alloc, lent)?, drafted_structs(alloc, lent)?]?;
     Ok(drafted_struct(Vec::from_slice(alloc, &[9])?, ptrs))
