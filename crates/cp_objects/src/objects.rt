@@ -25,7 +25,8 @@ use std::collections::VecDeque;
 use std::mem;
 
 /// What a connection's objects owe its peer, and what happened that is no object's business. The objects themselves,
-/// a slice in which the object of number k is at place k, are kept beside the connection.
+/// a slice in which the object of number k is at place k, are kept beside the connection. They are of one type: boxes
+/// (`Box<dyn Servant>`) or an enum, where there are several kinds.
 ///
 /// # In which order calls are made
 ///
@@ -85,12 +86,12 @@ impl Objects {
     }
 
     /// Does what happened on a connection asks of its objects, in order, until nothing is left.
-    pub fn work_off(
+    pub fn work_off<O: Servant>(
         &mut self,
         connection: &mut Connection,
-        objects: &mut [Box<dyn Servant>],
+        objects: &mut [O],
     ) -> Result<(), AllocError>
-        ensures done { OnOk result (On (λ o. seen o) objects.old objects.new (WorksOff (work_of self.old connection.old) (work_of self.new connection.new))) }
+        ensures done { OnOk result (On O.seen objects.old objects.new (WorksOff (work_of self.old connection.old) (work_of self.new connection.new))) }
         ensures lives { Lives connection.old connection.new }
     {
         for _ in 0..u64::MAX {
@@ -104,12 +105,12 @@ impl Objects {
 
     /// Polls each object once, in order, and tries to release the imports that were given up; what each poll and the
     /// releases lead to is worked off. Says whether an object gave an outcome that was awaited.
-    pub fn round(
+    pub fn round<O: Servant>(
         &mut self,
         connection: &mut Connection,
-        objects: &mut [Box<dyn Servant>],
+        objects: &mut [O],
     ) -> Result<bool, AllocError>
-        ensures done { IfOk result (λ gave. On (λ o. seen o) objects.old objects.new (Rounds (work_of self.old connection.old) gave (work_of self.new connection.new))) }
+        ensures done { IfOk result (λ gave. On O.seen objects.old objects.new (Rounds (work_of self.old connection.old) gave (work_of self.new connection.new))) }
         ensures lives { Lives connection.old connection.new }
     {
         let gave = self.poll_each(connection, objects)?;
@@ -143,13 +144,13 @@ impl Objects {
     }
 
     /// Does what one happening asks.
-    fn handle(
+    fn handle<O: Servant>(
         &mut self,
         connection: &mut Connection,
-        objects: &mut [Box<dyn Servant>],
+        objects: &mut [O],
         happening: Happening,
     ) -> Result<(), AllocError>
-        ensures done { OnOk result (On (λ o. seen o) objects.old objects.new (Handles happening (work_of self.old connection.old) (work_of self.new connection.new))) }
+        ensures done { OnOk result (On O.seen objects.old objects.new (Handles happening (work_of self.old connection.old) (work_of self.new connection.new))) }
         ensures lives { Lives connection.old connection.new }
     {
         match happening {
@@ -180,14 +181,14 @@ impl Objects {
     }
 
     /// Hands an outcome back to the object whose call it is of, which may make calls then, or notes it for the user.
-    fn hand_back(
+    fn hand_back<O: Servant>(
         &mut self,
         connection: &mut Connection,
-        objects: &mut [Box<dyn Servant>],
+        objects: &mut [O],
         question: u32,
         outcome: Outcome,
     ) -> Result<(), AllocError>
-        ensures done { OnOk result (On (λ o. seen o) objects.old objects.new (HandsBack question outcome (work_of self.old connection.old) (work_of self.new connection.new))) }
+        ensures done { OnOk result (On O.seen objects.old objects.new (HandsBack question outcome (work_of self.old connection.old) (work_of self.new connection.new))) }
         ensures lives { Lives connection.old connection.new }
     {
         let Some(asker) = self.asked.remove(question) else {
@@ -199,13 +200,13 @@ impl Objects {
     }
 
     /// Makes the calls that the object at a place asks for, until it asks for no more.
-    fn make_calls(
+    fn make_calls<O: Servant>(
         &mut self,
         connection: &mut Connection,
-        objects: &mut [Box<dyn Servant>],
+        objects: &mut [O],
         place: usize,
     ) -> Result<(), AllocError>
-        ensures done { OnOk result (On (λ o. seen o) objects.old objects.new (MakesCalls place (work_of self.old connection.old) (work_of self.new connection.new))) }
+        ensures done { OnOk result (On O.seen objects.old objects.new (MakesCalls place (work_of self.old connection.old) (work_of self.new connection.new))) }
         ensures lives { Lives connection.old connection.new }
     {
         for _ in 0..u64::MAX {
@@ -218,13 +219,13 @@ impl Objects {
     }
 
     /// The next call of the object at a place: none where objects may not call, and once the connection ended.
-    fn next_call(
+    fn next_call<O: Servant>(
         &self,
         connection: &Connection,
-        objects: &mut [Box<dyn Servant>],
+        objects: &mut [O],
         place: usize,
     ) -> Result<Option<Ask>, AllocError>
-        ensures { IfOk result (λ ask. On (λ o. seen o) objects.old objects.new (NextCall place (work_of self.now connection.now) ask)) }
+        ensures { IfOk result (λ ask. On O.seen objects.old objects.new (NextCall place (work_of self.now connection.now) ask)) }
     {
         if !self.may_call || place >= objects.len() || has_ended(connection) {
             return Ok(None);
@@ -234,14 +235,14 @@ impl Objects {
     }
 
     /// Makes a call of the object at a place. Where the vat refuses it the object is told so.
-    fn make_call(
+    fn make_call<O: Servant>(
         &mut self,
         connection: &mut Connection,
-        objects: &mut [Box<dyn Servant>],
+        objects: &mut [O],
         place: usize,
         ask: Ask,
     ) -> Result<(), AllocError>
-        ensures done { OnOk result (On (λ o. seen o) objects.old objects.new (MakesCall place ask (work_of self.old connection.old) (work_of self.new connection.new))) }
+        ensures done { OnOk result (On O.seen objects.old objects.new (MakesCall place ask (work_of self.old connection.old) (work_of self.new connection.new))) }
         ensures lives { Lives connection.old connection.new }
     {
         let mark = ask.mark;
@@ -285,12 +286,12 @@ impl Objects {
     }
 
     /// Polls each object once, in order, until the connection ended. Says whether an outcome was given that was awaited.
-    fn poll_each(
+    fn poll_each<O: Servant>(
         &mut self,
         connection: &mut Connection,
-        objects: &mut [Box<dyn Servant>],
+        objects: &mut [O],
     ) -> Result<bool, AllocError>
-        ensures done { IfOk result (λ gave. On (λ o. seen o) objects.old objects.new (PollsFrom 0 (work_of self.old connection.old) gave (work_of self.new connection.new))) }
+        ensures done { IfOk result (λ gave. On O.seen objects.old objects.new (PollsFrom 0 (work_of self.old connection.old) gave (work_of self.new connection.new))) }
         ensures lives { Lives connection.old connection.new }
     {
         let mut gave = false;
@@ -376,14 +377,14 @@ impl Objects {
 }
 
 /// What the object at a place replies to a call; past the objects the call fails.
-fn reply_of(
+fn reply_of<O: Servant>(
     alloc: Global,
-    objects: &mut [Box<dyn Servant>],
+    objects: &mut [O],
     place: usize,
     ticket: u64,
     request: Request,
 ) -> Result<Reply, AllocError>
-    ensures { IfOk result (λ reply. On (λ o. seen o) objects.old objects.new (Gives place ticket request reply)) }
+    ensures { IfOk result (λ reply. On O.seen objects.old objects.new (Gives place ticket request reply)) }
 {
     if place < objects.len() {
         let reply = call_at(objects, place, ticket, request)?;
@@ -396,13 +397,13 @@ fn reply_of(
 }
 
 /// Tells the object at a place what a call of its own came to. Past the objects nobody is told.
-fn tell(
-    objects: &mut [Box<dyn Servant>],
+fn tell<O: Servant>(
+    objects: &mut [O],
     place: usize,
     mark: u64,
     outcome: Outcome,
 ) -> Result<(), AllocError>
-    ensures { OnOk result (On (λ o. seen o) objects.old objects.new (Hears place mark outcome)) }
+    ensures { OnOk result (On O.seen objects.old objects.new (Hears place mark outcome)) }
 {
     if place < objects.len() {
         return tell_at(objects, place, mark, outcome);

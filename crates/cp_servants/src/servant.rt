@@ -74,3 +74,28 @@ pub trait Servant: Drop {
         Ok(())
     }
 }
+
+/// A boxed object is the object in the box: so objects of many kinds stand in one list.
+impl Servant for Box<dyn Servant> {
+    ghost seen = { λ b. (Servant-box b).seen b.value };
+
+    fn call(&mut self, ticket: u64, request: Request) -> Result<Reply, AllocError> {
+        (**self).call(ticket, request)
+    }
+
+    fn poll(&mut self) -> Result<Option<Settled>, AllocError> {
+        (**self).poll()
+    }
+
+    fn again(&self) -> bool {
+        (**self).again()
+    }
+
+    fn ask(&mut self) -> Result<Option<Ask>, AllocError> {
+        (**self).ask()
+    }
+
+    fn told(&mut self, mark: u64, outcome: Outcome) -> Result<(), AllocError> {
+        (**self).told(mark, outcome)
+    }
+}
