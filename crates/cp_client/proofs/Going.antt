@@ -17,7 +17,7 @@ use Rattle.cp_connection.specs.Lives.{Life, begins, receives, receives_none, wri
 use Rattle.cp_client.specs.declared.fault.ClientFault.{ClientFault}
 use Rattle.cp_client.specs.declared.fault.ClientFault.TheVariants as client_faults
 use Rattle.cp_client.specs.Reading.{IsUnread, StopsReading}
-use Rattle.cp_client.specs.Seat.{Asked, Device, device, fresh, Seat, new_seat}
+use Rattle.cp_client.specs.Seat.{Asked, Device, device, fresh, Seat, seat_with}
 use Rattle.cp_client.specs.Goes.{Talks, Goes, Exchanges, asked_after, closed_after, came}
 use Rattle.cp_client.proofs.Living.{life_still, lives_one, lives_both}
 
@@ -279,8 +279,10 @@ pub fresh_device : {T : Type 0} (known : T → Option (List ℕ)) (tap : Tap T) 
 fresh_device {T = T} known tap inner is none = ap (λ (x : T). made (known x) (failures_of tap)) is ∙ ap (λ (n : ℕ). made (known inner) n) none
 
 -- a client that asked nothing, over such devices
-pub new_over : (mode : Mode) (limits : Bounds) (from to first second : Device) (s : Seat) → s ≡ new_seat mode limits from to → from ≡ first → to ≡ second → s ≡ new_seat mode limits first second
-new_over mode limits from to first second s is e f = is ∙ ap (λ (d : Device). new_seat mode limits d to) e ∙ ap (λ (d : Device). new_seat mode limits first d) f
+pub new_over : (mode : Mode) (limits : Bounds) (bootstrap : Option ℕ) (from to first second : Device) (s : Seat) → s ≡ seat_with mode limits bootstrap from to → from ≡ first → to ≡ second
+    → s ≡ seat_with mode limits bootstrap first second
+new_over mode limits bootstrap from to first second s is e f =
+    is ∙ ap (λ (d : Device). seat_with mode limits bootstrap d to) e ∙ ap (λ (d : Device). seat_with mode limits bootstrap first d) f
 
 pub wrote_some : {T : Type 0} (old new : Tap T) (count : ℕ) → CountsWrite {T = T} {E = Unit {0}} old new (Ok count) → (count ≡ 0 → ⊥) → failures_of new ≡ failures_of old
 wrote_some old new zero h some = absurd (some refl)

@@ -38,6 +38,10 @@ pub record Seat : Type 0 where
   pub from : Device
   pub to : Device
 
--- a client that asked nothing
+-- a client that asked nothing, whose peer gets this object for its Bootstrap
+abbrev pub seat_with : Mode → Bounds → Option ℕ → Device → Device → Seat
+seat_with mode limits bootstrap from to = record { link = new_link mode limits bootstrap; left = []; asked = empty; closed = None; over = None; from = from; to = to }
+
+-- a client that asked nothing, and has no object for it
 abbrev pub new_seat : Mode → Bounds → Device → Device → Seat
-new_seat mode limits from to = record { link = new_link mode limits None; left = []; asked = empty; closed = None; over = None; from = from; to = to }
+new_seat mode limits from to = seat_with mode limits None from to

@@ -1,10 +1,10 @@
 //! A client.
 
-ghost use Rattle.std.specs.Prelude.{◌≡◌, ◌<◌, [], None, IfOk, IfErr, OnOk, option_copied, length};
+ghost use Rattle.std.specs.Prelude.{◌≡◌, ◌<◌, [], None, Some, IfOk, IfErr, OnOk, option_copied, length};
 ghost use Rattle.cp_machine.specs.declared.event.Event.TheVariants as events;
 ghost use Rattle.cp_stream.specs.Read.{FailedOnce};
 ghost use Rattle.cp_stream.specs.Tap.{failures_of};
-ghost use Rattle.cp_client.specs.Seat.{fresh, new_seat};
+ghost use Rattle.cp_client.specs.Seat.{fresh, new_seat, seat_with};
 ghost use Rattle.cp_client.specs.SeatOf.{seat};
 ghost use Rattle.cp_client.specs.Goes.{Goes, Exchanges, NoneFailed, Asks, IsUnasked, IsUndone, Finishes, Releases};
 ghost use Rattle.cp_client.specs.Reading.{IsConnections, StopsReading};
@@ -51,7 +51,8 @@ use std::io::{Read, Write};
 pub struct Client<R, W> {
     from: Tap<R>,
     to: Tap<W>,
-    session: Session,
+    /// All but the devices, for one who has what happened done by others, as `Exports` has by its objects.
+    pub session: Session,
 }
 
 impl<R: Read + Drop, W: Write + Drop> Client<R, W> {
@@ -62,7 +63,25 @@ impl<R: Read + Drop, W: Write + Drop> Client<R, W> {
         Client {
             from: Tap::new(from),
             to: Tap::new(to),
-            session: Session::new(alloc, mode, limits),
+            session: Session::new(alloc, mode, limits, None),
+        }
+    }
+
+    /// The same, whose peer gets this object of the client's for its Bootstrap.
+    pub fn with_bootstrap(
+        alloc: Global,
+        from: R,
+        to: W,
+        mode: Mode,
+        limits: Limits,
+        object: u32,
+    ) -> Client<R, W>
+        ensures { seat R.remaining W.contents result ≡ seat_with mode limits (Some object) (fresh (R.remaining from)) (fresh (W.contents to)) }
+    {
+        Client {
+            from: Tap::new(from),
+            to: Tap::new(to),
+            session: Session::new(alloc, mode, limits, Some(object)),
         }
     }
 
@@ -185,7 +204,7 @@ impl<R: Read + Drop, W: Write + Drop> Client<R, W> {
     }
 
     /// Writes all that was sent, and then takes bytes up to the end of a message, or of those that were read.
-    fn step(&mut self) -> Result<(), ClientFault>
+    pub fn step(&mut self) -> Result<(), ClientFault>
         ensures exchanges { let at = seat R.remaining W.contents in Exchanges (at self.old) (at self.new) }
         ensures none_failed { let at = seat R.remaining W.contents in OnOk result (NoneFailed (at self.old) (at self.new)) }
         ensures stops { let at = seat R.remaining W.contents in IfErr result (λ fault. StopsFor (at self.old) fault (at self.new)) }

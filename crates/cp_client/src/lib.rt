@@ -12,3 +12,4 @@ pub use client::Client;
 pub use contents::{request_of, word_at};
 pub use fault::ClientFault;
 pub use question::Question;
+pub use session::Session;

@@ -5,7 +5,7 @@ ghost use Rattle.std.specs.FinMap.{get};
 ghost use Rattle.cp_machine.specs.declared.event.Event.TheVariants as events;
 ghost use Rattle.cp_machine.specs.declared.event.Value.TheVariants as values;
 ghost use Rattle.cp_connection.specs.Lives.{Life};
-ghost use Rattle.cp_client.specs.Seat.{Device, new_seat};
+ghost use Rattle.cp_client.specs.Seat.{Device, seat_with};
 ghost use Rattle.cp_client.specs.SeatOf.{seat_of, Between};
 ghost use Rattle.cp_client.specs.Goes.{Goes, Exchanges, Asks, IsUnasked, IsUndone, Finishes, came};
 ghost use Rattle.cp_client.specs.Reading.{IsConnections};
@@ -25,27 +25,27 @@ use std::alloc::Global;
 
 /// A connection without devices, with what was read for it and what is known of its questions.
 #[derive(Drop)]
-pub(crate) struct Session {
+pub struct Session {
     alloc: Global,
-    pub(crate) connection: Connection,
+    pub connection: Connection,
     /// The bytes that were read and weren't taken.
     pub(crate) piece: Piece,
     /// The questions whose outcome wasn't given out, each with its outcome once that came.
     pub(crate) asked: Entries<Option<Outcome>>,
     /// Why the vat closed.
-    pub(crate) closed: Option<Reason>,
+    pub closed: Option<Reason>,
     /// Why no more bytes are taken.
-    pub(crate) over: Option<ConnectionFault>,
+    pub over: Option<ConnectionFault>,
 }
 
 impl Session {
-    /// A session in which nothing was asked.
-    pub(crate) fn new(alloc: Global, mode: Mode, limits: Limits) -> Session
-        ensures { (from to : Device) → seat_of result from to ≡ new_seat mode limits from to }
+    /// A session in which nothing was asked, whose peer gets this object for its Bootstrap.
+    pub(crate) fn new(alloc: Global, mode: Mode, limits: Limits, bootstrap: Option<u32>) -> Session
+        ensures { (from to : Device) → seat_of result from to ≡ seat_with mode limits bootstrap from to }
     {
         Session {
             alloc,
-            connection: Connection::new(alloc, mode, limits, None),
+            connection: Connection::new(alloc, mode, limits, bootstrap),
             piece: Piece::new(alloc),
             asked: Entries::new(alloc),
             closed: None,
@@ -84,7 +84,7 @@ impl Session {
     }
 
     /// The outcome of a question, once that came. It is given out once.
-    pub(crate) fn take_outcome(&mut self, question: u32) -> Result<Option<Outcome>, ClientFault>
+    pub fn take_outcome(&mut self, question: u32) -> Result<Option<Outcome>, ClientFault>
         ensures taken { IfOk result (λ outcome. Between self.old self.new (λ old new. TakesOut old question outcome new)) }
         ensures unknown { IfErr result (λ fault. (fault ≡ NotAsked) × (get self.new.asked question ≡ None)) }
         ensures same { OnErr result (self.new ≡ self.old) }
@@ -164,7 +164,7 @@ impl Session {
     }
 
     /// Keeps the outcome of a question that is waited for.
-    fn come(&mut self, question: u32, outcome: Outcome)
+    pub fn come(&mut self, question: u32, outcome: Outcome)
         ensures { self.new ≡ record self.old { asked = came self.old.asked question outcome } }
     {
         if let Some(kept) = self.asked.get_mut(question) {

@@ -14,9 +14,13 @@ mod asking;
 #[cfg(test)]
 mod checks;
 #[cfg(test)]
+mod contents;
+#[cfg(test)]
 mod devices;
 #[cfg(test)]
 mod endings;
+#[cfg(test)]
+mod exporting;
 #[cfg(test)]
 mod frames;
 #[cfg(test)]

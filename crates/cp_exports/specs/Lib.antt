@@ -1,0 +1,4 @@
+pub mod Party
+pub mod Turns
+pub mod Attends
+pub mod PartyOf
