@@ -1,8 +1,7 @@
 //! Serves an object of its own to a client whose messages are in a file, and writes its answers.
 #![tactic(auto)]
 
-use jamdrosek::server::{Caps, Ids, Outcome, Reply, Request, Servant, Settled, serve};
-use jamdrosek::tree::{Body, Tree, Whole};
+use jamdrosek::server::{Content, Ids, Reply, Request, Servant, Settled, serve, word_in};
 use jamdrosek::{Mode, Tap};
 use std::alloc::{AllocError, Global};
 use std::fs::File;
@@ -16,16 +15,9 @@ struct Doubler {
 
 impl Servant for Doubler {
     fn call(&mut self, _ticket: u64, request: Request) -> Result<Reply, AllocError> {
-        let number = request.content.tree().data().first().copied().unwrap_or(0);
-        let body = Body {
-            words: vec![in self.alloc; number.saturating_mul(2)]?,
-            ptrs: Vec::new(self.alloc),
-        };
+        let number = word_in(&request.content, 0).saturating_mul(2);
         Ok(Reply::Now {
-            outcome: Outcome::Results {
-                content: Whole::new(Tree::Struct(body)).unwrap_or(Whole::null()),
-                caps: Caps::new(Vec::new(self.alloc)),
-            },
+            outcome: Content::new(self.alloc).word(number)?.results(),
             gives_up: Ids::new(Vec::new(self.alloc)),
         })
     }

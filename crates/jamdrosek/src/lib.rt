@@ -125,8 +125,7 @@
 //! ```
 //! #![tactic(auto)]
 //!
-//! use jamdrosek::server::{Caps, Ids, Outcome, Reply, Request, Servant, Settled, serve};
-//! use jamdrosek::tree::{Body, Tree, Whole};
+//! use jamdrosek::server::{Content, Ids, Reply, Request, Servant, Settled, serve, word_in};
 //! use jamdrosek::{Mode, Tap};
 //! use std::alloc::{AllocError, Global};
 //! use std::fs::File;
@@ -140,16 +139,9 @@
 //!
 //! impl Servant for Doubler {
 //!     fn call(&mut self, _ticket: u64, request: Request) -> Result<Reply, AllocError> {
-//!         let number = request.content.tree().data().first().copied().unwrap_or(0);
-//!         let body = Body {
-//!             words: vec![in self.alloc; number.saturating_mul(2)]?,
-//!             ptrs: Vec::new(self.alloc),
-//!         };
+//!         let number = word_in(&request.content, 0).saturating_mul(2);
 //!         Ok(Reply::Now {
-//!             outcome: Outcome::Results {
-//!                 content: Whole::new(Tree::Struct(body)).unwrap_or(Whole::null()),
-//!                 caps: Caps::new(Vec::new(self.alloc)),
-//!             },
+//!             outcome: Content::new(self.alloc).word(number)?.results(),
 //!             gives_up: Ids::new(Vec::new(self.alloc)),
 //!         })
 //!     }
@@ -180,11 +172,65 @@
 //! stream.set_nodelay(true)?;
 //! let mut client = Client::new(alloc, &stream, &stream, Mode::Plain, Limits::standard());
 //! let desk = client.bootstrap()?;
-//! let given = client.call(desk.cap(alloc), request_of(alloc, DESK, 0, &[])?)?;
-//! let add = request_of(alloc, CELL, 0, &[41])?;
+//! let given = client.call(desk.cap(alloc), Content::new(alloc).request(DESK, 0))?;
+//! let add = Content::new(alloc).word(41)?.request(CELL, 0);
 //! let sum = client.call(given.at(alloc, &[0])?, add)?;
 //! let outcome = client.wait(sum)?;
 //! println!(rt; "sum {}", word_at(&outcome, 0).unwrap_or(0))?;
+//! ```
+//!
+//! # Params and results, field by field
+//!
+//! A `Content` is the struct of a call's params, or of an object's results, with the capabilities that it names. Each
+//! call adds a data word, or a pointer to a text, to data, to a capability or to any other part:
+//!
+//! ```
+//! let params = Content::new(alloc).word(7)?.text("Carol")?.data(&key)?.cap(cell)?;
+//! let question = client.call(cap, params.request(INTERFACE, METHOD))?;
+//! let reply = Content::new(alloc).text("done")?.results();
+//! ```
+//!
+//! `word_in`, `text_in` and `data_in` are the fields of a content that came: a request's own, or the one of `results_of` an
+//! outcome. `Outcome::at` is the capability at a path of its pointers. Structs whose fields have other widths are made by the
+//! drafts that capnpc_rattle writes of a schema, and given as `Content::pointer` or as a request's own content.
+//!
+//! # Let objects answer while a client waits
+//!
+//! A peer may call what a call gave it. `Exports` holds such objects, of one type that implements `server::Servant`, or
+//! boxed ones of several. They answer while `Exports::wait` waits, in the place of `Client::wait`:
+//!
+//! ```
+//! let mut exports = Exports::new(alloc);
+//! let cell = exports.export(Cell::new(alloc))?;
+//! let now = Content::new(alloc).cap(cell)?.request(DESK, 0);
+//! let given = client.call(desk.cap(alloc), now)?;
+//! let outcome = exports.wait(&mut client, given)?;
+//! ```
+//!
+//! # Store and load messages
+//!
+//! A stored message is one frame. `read_struct` and `write_struct` read and write one with a struct of any schema as its
+//! root; `read_segments` and `send_frame` move a message without a look at what it holds. This packs a file:
+//!
+//! ```
+//! let mut from = Tap::new(File::open(&rt, "book.bin")?);
+//! let mut buffer = Vec::new(alloc);
+//! while let Some(segments) = read_segments(alloc, &mut from, Mode::Plain, limits)? {
+//!     send_frame(alloc, &mut to, &mut buffer, &segments, Mode::Packed, limits)??;
+//! }
+//! ```
+//!
+//! # Relay a stream
+//!
+//! A `Relay` stands between two ends that don't trust each other, one for each direction. It is fed the bytes of one end
+//! in any pieces, and puts out for the other the frames of the messages that it accepts, each whole; a `Visitor` of your own
+//! may forbid some:
+//!
+//! ```
+//! let mut relay = Relay::new(alloc, Mode::Plain, Output::AsRead, Limits::standard());
+//! let fed = relay.feed(&mut Everything, piece, &mut out);
+//! to.write_all(&out)?;
+//! fed?;
 //! ```
 //!
 //! # One end by hand
@@ -211,7 +257,7 @@
 //! ```text
 //! words ── tree ─┬─ reading ── message ─┬─ vat ────┬─ server
 //!                └─ writing ────────────┤          ├─ connection ── client
-//! packed ── frame ──────────────────────┴─ stream ─┘
+//! packed ── frame ──────────────────────┴─ stream ─┴─ relay
 //! ```
 //!
 //! - `words`: pointer words, segments and limits.
@@ -220,6 +266,7 @@
 //! - `packed`, `frame`: the packed form, and the frames of a stream in any pieces.
 //! - `message`: the messages of rpc.capnp, owned or read in place.
 //! - `stream`: messages read from and written to streams.
+//! - `relay`: one direction of a connection, and which of its messages go on.
 //! - `vat`: one end of a connection, with the capabilities, events and effects that it takes and gives.
 //! - `connection`: that end with its frames: bytes come in, bytes go out.
 //! - `server`: objects served to the peer of one connection.
@@ -242,13 +289,17 @@ pub mod server;
 pub mod vat;
 
 pub use cp_frame as frame;
-pub use cp_frame::{FrameReader, Mode};
+pub use cp_frame::{FrameReader, Mode, send_frame};
 pub use cp_packed as packed;
 pub use cp_reading as reading;
+pub use cp_relay as relay;
 pub use cp_rpc as message;
 pub use cp_rpc::{Message, MessageIn, MessageView};
 pub use cp_stream as stream;
-pub use cp_stream::{MessageReader, StreamFault, Tap, read_message, view_of, write_message};
+pub use cp_stream::{
+    MessageReader, StreamFault, Tap, read_message, read_segments, view_of, write_message,
+};
+pub use cp_structs::{read_struct, write_struct};
 pub use cp_tree as tree;
 pub use cp_words as words;
 pub use cp_words::{Limits, Segments};

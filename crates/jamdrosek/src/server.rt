@@ -17,12 +17,16 @@
 //! A call on a number past the list fails with `no such object`, and one whose answer the vat refuses with
 //! `bad outcome`.
 //!
+//! `Content` makes what an object answers, field by field, and `word_in`, `text_in` and `data_in` are the fields of the request's
+//! content.
+//!
 //! `Report` says how many messages were taken and sent, and why the vat closed, if it did. A `ServeFault`
 //! ends the serving: the messages can't be read on (the faults of `StreamFault`), or memory ran out.
 //! Nothing is written after it.
 //!
 //! The reader and the writer may be the two ends of a `TcpStream`, `&stream` twice, or bytes in memory.
 
+pub use cp_contents::{Content, data_in, text_in, word_in};
 pub use cp_machine::{Ids, PeerFault, Reason};
 pub use cp_refs::{Cap, Caps, Outcome, Request};
 pub use cp_servants::{Ask, Cell, Desk, Reply, Script, Servant, Settled};
