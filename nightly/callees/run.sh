@@ -93,6 +93,14 @@ expect 0 "> bootstrap q=0
 question:1 results {(;cap:0) caps[import:1]}" "$cli" call --messages "$at" "i=$desk m=0"
 echo "server: each message"
 
+"$here/answering/build.sh" "$build"
+expect 0 "tells: 0
+gives: 1005
+asks: 505
+becomes: 7
+reflects: the connection is closed" "$build/answering" "$port" tells gives asks becomes reflects
+echo "server: objects of the client's, called while it waits"
+
 many "i=$trial m=1" "$calls" "$cli" call "$at"
 many "i=$desk m=0" "$calls" "$cli" call "$at"
 echo "server: $calls calls in one go"
