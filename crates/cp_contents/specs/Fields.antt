@@ -23,10 +23,14 @@ IsBytes t bs = t ≡ list (bytes bs)
 abbrev pub IsNoBytes : Node → Type 0
 IsNoBytes t = (bs : List ℕ) → IsBytes t bs → ⊥
 
--- a tree is the list of the bytes of this text and a zero byte
-pub record IsText (t : Node) (text : List ℕ) : Type 0 where
-  pub is : IsBytes t (text ++ 0 ∷ [])
+-- The bytes are those of this text, which is UTF-8, and a zero byte.
+pub record HoldText (bs text : List ℕ) : Type 0 where
+  pub is : bs ≡ text ++ 0 ∷ []
   pub utf8 : IsUtf8 text
+
+-- a tree is the list of such bytes
+abbrev pub IsText : Node → List ℕ → Type 0
+IsText t text = (bs : List ℕ) × IsBytes t bs × HoldText bs text
 
 -- it is none of a text
 abbrev pub IsNoText : Node → Type 0

@@ -44,8 +44,7 @@ impl Model for Content {
 
 impl Content {
     ghost use Rattle.std.specs.Prelude.{◌≡◌, ◌++◌, ◌∷◌, [], length, IfOk};
-    ghost use Rattle.cp_tree.specs.Node.{cap};
-    ghost use Rattle.cp_drafts.specs.Drafts.{text_tree, bytes_tree};
+    ghost use Rattle.cp_drafts.specs.Drafts.{text_tree, bytes_tree, cap_tree};
     ghost use Rattle.cp_refs.specs.declared.outcome.Outcome.TheVariants.{Results};
     ghost use Rattle.cp_contents.specs.Made.{nothing, with_word, with_pointer, content_of};
 
@@ -106,7 +105,7 @@ impl Content {
 
     /// One pointer more, to a capability.
     pub fn cap(self, cap: Cap) -> Result<Content, AllocError>
-        ensures { IfOk result (λ c. c ≡ record (with_pointer self (cap (length self.caps))) { caps = self.caps ++ cap ∷ [] }) }
+        ensures { IfOk result (λ c. c ≡ record (with_pointer self (cap_tree (length self.caps))) { caps = self.caps ++ cap ∷ [] }) }
     {
         let index = self.caps.len() as u32;
         let mut named = self.pointer(cap_of(index))?;

@@ -1,9 +1,9 @@
 //! The fields of contents.
 
-ghost use Rattle.std.specs.Prelude.{◌≡◌, MatchOption, IfSome, IfNone, slice_index_or};
+ghost use Rattle.std.specs.Prelude.{◌≡◌, ℕ, List, IfSome, IfNone, slice_index_or};
 ghost use Rattle.cp_tree.specs.Node.{data_of};
 ghost use Rattle.cp_tree.specs.Seen.{pointee_of};
-ghost use Rattle.cp_contents.specs.Fields.{IsBytes, IsNoBytes, IsText, IsNoText, HasResults, HasNone};
+ghost use Rattle.cp_contents.specs.Fields.{IsBytes, IsNoBytes, HoldText, IsText, IsNoText, HasResults, HasNone};
 
 use cp_refs::Outcome;
 use cp_tree::{Tree, Whole};
@@ -48,11 +48,20 @@ pub fn text_in(content: &Whole, place: u32) -> Option<&str>
     text_of(bytes)
 }
 
-/// The text that bytes hold.
-fn text_of(bytes: &[u8]) -> Option<&str> {
-    let (last, text) = bytes.split_last()?;
-    if *last != 0 {
+/// The text that bytes hold: UTF-8, and a zero byte after it.
+fn text_of(bytes: &[u8]) -> Option<&str>
+    ensures text { IfSome result (λ text. HoldText bytes.now text.now) }
+    ensures none { IfNone result ((text : List ℕ) → HoldText bytes.now text → ⊥) }
+{
+    if bytes.is_empty() {
         return None;
     }
-    str::from_utf8(text).ok()
+    let last = bytes.len() - 1;
+    if bytes[last] != 0 {
+        return None;
+    }
+    match str::from_utf8(&bytes[..last]) {
+        Ok(text) => Some(text),
+        Err(_) => None,
+    }
 }
