@@ -1,0 +1,4 @@
+pub mod Feeding
+pub mod Entry
+pub mod Roster
+pub mod RosterOf

@@ -1,0 +1,16 @@
+//! Many connections in one process, each with objects of its own.
+#![tactic(auto)]
+
+mod crew;
+mod end;
+mod entry;
+mod event_loop;
+mod feeding;
+mod guest;
+mod host;
+mod plan;
+mod time;
+
+pub use end::End;
+pub use host::{Host, News};
+pub use plan::Plan;
