@@ -1,6 +1,8 @@
-//! Tests of what a host decides of its connections, without sockets.
+//! Tests of a host: of what it decides of its connections, and of one that is served.
 #![tactic(auto)]
 
+#[cfg(test)]
+mod hosts;
 #[cfg(test)]
 mod limits;
 #[cfg(test)]
