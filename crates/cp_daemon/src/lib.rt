@@ -1,0 +1,7 @@
+//! Serving the Desk and the Cell to many connections at once.
+#![tactic(auto)]
+
+mod places;
+mod thing;
+
+pub use places::{Place, Service, serve_place};

@@ -1,0 +1,173 @@
+//! Serving connections of an address or of a path, many at once.
+
+use crate::thing::Thing;
+use cp_commands::{ACCEPTED, BROKEN, REFUSED};
+use cp_frame::Mode;
+use cp_host::{End, Host, News, Plan};
+use cp_seats::{Crowd, HostLimits};
+use cp_servants::{Cell, Desk};
+use cp_sockets::{Listener, Peer};
+use cp_words::Limits;
+use std::alloc::{AllocGlobal, Global};
+use std::fmt;
+use std::fs::Files;
+use std::io::{self, Write};
+use std::net::{Net, SocketAddr};
+use std::time::Clock;
+
+/// Where connections come to.
+#[derive(Clone, Copy)]
+pub enum Place<'a> {
+    Address(SocketAddr),
+    /// A path, at which a socket is made.
+    Path(&'a str),
+}
+
+/// How connections are served.
+#[derive(Clone, Copy)]
+pub struct Service {
+    /// The form of the frames, both ways.
+    pub mode: Mode,
+    /// The most connections at once. Further ones wait.
+    pub at_once: u32,
+    /// The seconds in which a byte moves, where it isn't the standard limit.
+    pub idle: Option<u32>,
+    /// How many connections come, in all. `None`: no end.
+    pub count: Option<u32>,
+}
+
+/// Serves connections, each with a Desk and a Cell of its own, as many at once as the service says. When it listens, a line of
+/// `err` says where: `listening on ADDRESS:PORT`, or `listening on PATH`.
+///
+/// Of each connection that isn't served to its end, or that meets a limit, a line of `err` says why, and names its peer. The
+/// status is that of the first of these: 1 where something was refused, 2 where a stream failed. An Abort, of either side, ends a
+/// connection with status 0. A place that can't be listened on is a device that failed.
+pub fn serve_place<N, E: Write>(rt: &N, place: &Place, service: &Service, err: &mut E) -> u8
+where
+    N: Net + Files + Clock + AllocGlobal,
+{
+    match serve_all(rt, place, service, err) {
+        Ok(status) => status,
+        Err(error) => {
+            let _ = writeln!(err, "device: {place}: {error}");
+            BROKEN
+        }
+    }
+}
+
+impl fmt::Display for Place<'_> {
+    fn fmt<W: fmt::Write>(&self, f: &mut fmt::Formatter<W>) -> fmt::Result {
+        match self {
+            Place::Address(address) => address.fmt(f),
+            Place::Path(path) => f.write_str(path),
+        }
+    }
+}
+
+impl Service {
+    /// The plan of its host.
+    fn plan(&self) -> Plan {
+        let standard = HostLimits::standard();
+        let idle = match self.idle {
+            Some(seconds) => seconds as u64 * 1_000,
+            None => standard.idle,
+        };
+        Plan {
+            mode: self.mode,
+            messages: Limits::standard(),
+            limits: HostLimits {
+                connections: self.at_once as usize,
+                crowd: Crowd::Wait,
+                idle,
+                ..standard
+            },
+            count: self.count.map(|count| count as u64),
+        }
+    }
+}
+
+/// Serves all connections, and gives the status.
+fn serve_all<N, E: Write>(rt: &N, place: &Place, service: &Service, err: &mut E) -> io::Result<u8>
+where
+    N: Net + Files + Clock + AllocGlobal,
+{
+    let listener = listener_at(rt, place, err)?;
+    let mut host = Host::new(rt, service.plan(), listener)?;
+    run(rt, &mut host, err)
+}
+
+/// Serves the connections of a host until the last has ended, and gives the status.
+fn run<N, E: Write>(rt: &N, host: &mut Host<Thing>, err: &mut E) -> io::Result<u8>
+where
+    N: Net + Clock + AllocGlobal,
+{
+    let mut first = ACCEPTED;
+    for _ in 0..u64::MAX {
+        let Some(news) = host.next(rt)? else {
+            break;
+        };
+        let status = hear(rt.alloc(), host, &news, err)?;
+        if first == ACCEPTED {
+            first = status;
+        }
+    }
+    Ok(first)
+}
+
+/// Does what news of a connection asks, and gives the status that it leads to.
+fn hear<E: Write>(
+    alloc: Global,
+    host: &mut Host<Thing>,
+    news: &News,
+    err: &mut E,
+) -> io::Result<u8> {
+    match news {
+        News::Came { .. } => admit(alloc, host)?,
+        News::Refused { .. } => (),
+        News::Ended { peer, end, .. } => return Ok(report(end, *peer, err)),
+    }
+    Ok(ACCEPTED)
+}
+
+/// Serves the connection that came last with a Desk and a Cell.
+fn admit(alloc: Global, host: &mut Host<Thing>) -> io::Result<()> {
+    let mut objects = Vec::new(alloc);
+    objects.push(Thing::Desk(Desk::new(alloc)))?;
+    objects.push(Thing::Cell(Cell::new(alloc)))?;
+    host.admit(objects)
+}
+
+/// Listens, and says where.
+fn listener_at<N: Net + Files, E: Write>(
+    rt: &N,
+    place: &Place,
+    err: &mut E,
+) -> io::Result<Listener> {
+    let listener = match place {
+        Place::Address(address) => Listener::bind(rt, *address)?,
+        Place::Path(path) => Listener::bind_path(rt, path)?,
+    };
+    match listener.address()? {
+        Some(address) => writeln!(err, "listening on {address}")?,
+        None => writeln!(err, "listening on {place}")?,
+    }
+    Ok(listener)
+}
+
+/// Says how a connection ended, where it wasn't served to its end, and gives its status.
+fn report<E: Write>(end: &End, peer: Peer, err: &mut E) -> u8 {
+    let status = status_of(end);
+    if status != ACCEPTED {
+        let _ = writeln!(err, "{end} (peer {peer})");
+    }
+    status
+}
+
+/// The status that an end leads to.
+fn status_of(end: &End) -> u8 {
+    match end {
+        End::Ended | End::Closed(_) => ACCEPTED,
+        End::Fault(_) | End::Limit(_) => REFUSED,
+        End::Failed(_) => BROKEN,
+    }
+}
