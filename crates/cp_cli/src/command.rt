@@ -1,5 +1,6 @@
 //! The command line.
 
+use crate::serving::{Serving, any_count, any_place, options, serving_of};
 use clap::{Arg, ArgAction, ArgMatches, Command, value_parser};
 use cp_calls::CallPlan;
 use cp_commands::Plan;
@@ -23,9 +24,6 @@ const MOST_PORT: i64 = 65_535;
 /// The greatest number of seconds.
 const MOST_SECONDS: i64 = 86_400;
 
-/// The word for standard input and output.
-const DASH: &str = "-";
-
 /// The version of what users see.
 const VERSION: &str = "0.2.0";
 
@@ -47,16 +45,8 @@ pub(crate) enum Task<'a, 'b> {
         mode: Mode,
         path: &'a str,
     },
-    /// This many connections on a port are served.
-    Serve {
-        mode: Mode,
-        port: u16,
-        count: u32,
-    },
-    /// Standard input and output are served.
-    Pipe {
-        mode: Mode,
-    },
+    /// Connections are served.
+    Serve(Serving<'a>),
     /// The connections of a route are relayed.
     Relay {
         plan: Relaying,
@@ -83,21 +73,8 @@ pub(crate) struct By<'a> {
     pub(crate) calls: Option<&'a str>,
 }
 
-/// Whether the words are those of `serve` over standard input and output.
-pub(crate) fn is_pipe(words: &[String]) -> bool {
-    let mut serves = false;
-    for word in words {
-        let word = word.as_str();
-        if serves && word == DASH {
-            return true;
-        }
-        serves = serves || word == "serve";
-    }
-    false
-}
-
-/// What `capnp_cli` understands, where `serve` is over standard input and output, or isn't.
-pub(crate) fn command<'a>(alloc: Global, is_pipe: bool) -> Result<Command<'a>, AllocError> {
+/// What `capnp_cli` understands, where the words of `serve` are open to other ones than a port and a count, or aren't.
+pub(crate) fn command<'a>(alloc: Global, is_open: bool) -> Result<Command<'a>, AllocError> {
     let command = Command::new(alloc, "capnp_cli")
         .about("Cap'n Proto messages and two-party RPC")
         .version(VERSION)
@@ -113,7 +90,7 @@ pub(crate) fn command<'a>(alloc: Global, is_pipe: bool) -> Result<Command<'a>, A
     let command = and(command, unpack(alloc))?;
     let command = and(command, recut(alloc))?;
     let command = and(command, looped(alloc))?;
-    let command = and(command, serve(alloc, is_pipe))?;
+    let command = and(command, serve(alloc, is_open))?;
     let command = and(command, relay(alloc))?;
     and(command, call(alloc))
 }
@@ -134,7 +111,7 @@ pub(crate) fn task_of<'a, 'b>(matches: &'b ArgMatches<'a>) -> Option<Task<'a, 'b
             mode: mode(inner),
             path: inner.get_str("FILE")?,
         }),
-        "serve" => serving(inner),
+        "serve" => Some(Task::Serve(serving_of(inner)?)),
         "relay" => Some(Task::Relay {
             plan: relaying(inner)?,
             route: Route {
@@ -150,19 +127,6 @@ pub(crate) fn task_of<'a, 'b>(matches: &'b ArgMatches<'a>) -> Option<Task<'a, 'b
         }),
         name => on_file(name, inner),
     }
-}
-
-/// What the words of `serve` ask for.
-fn serving<'a, 'b>(matches: &'b ArgMatches<'a>) -> Option<Task<'a, 'b>> {
-    let mode = mode(matches);
-    if matches.contains_id("-") {
-        return Some(Task::Pipe { mode });
-    }
-    Some(Task::Serve {
-        mode,
-        port: matches.get_one::<u16>("PORT")?,
-        count: matches.get_one::<u32>("COUNT")?,
-    })
 }
 
 /// What is to be done with a file.
@@ -236,7 +200,7 @@ fn questions<'a>(alloc: Global) -> Result<Arg<'a>, AllocError> {
 }
 
 /// Packed frames instead of plain ones.
-fn packed<'a>(alloc: Global) -> Arg<'a> {
+pub(crate) fn packed<'a>(alloc: Global) -> Arg<'a> {
     Arg::new(alloc, "packed")
         .long("packed")
         .action(ArgAction::SetTrue)
@@ -324,16 +288,10 @@ fn looped<'a>(alloc: Global) -> Result<Command<'a>, AllocError> {
 }
 
 /// The words of `serve`.
-fn serve<'a>(alloc: Global, is_pipe: bool) -> Result<Command<'a>, AllocError> {
-    let command = Command::new(alloc, "serve")
-        .about("Serve a Desk and a Cell to each of COUNT connections on PORT")
-        .after_help(
-            "With - in place of PORT and COUNT, serve one peer over standard input and output.\n\n\
-             Example: capnp_cli serve 7000 1",
-        )
-        .arg(packed(alloc))?;
-    if is_pipe {
-        command.arg(pipe(alloc))
+fn serve<'a>(alloc: Global, is_open: bool) -> Result<Command<'a>, AllocError> {
+    let command = options(alloc)?;
+    if is_open {
+        command.arg(any_place(alloc))?.arg(any_count(alloc))
     } else {
         command.arg(port(alloc))?.arg(count(alloc))
     }
@@ -457,13 +415,6 @@ fn port<'a>(alloc: Global) -> Arg<'a> {
         .value_parser(value_parser!(u16).range(1..=MOST_PORT))
 }
 
-/// The dash for standard input and output.
-fn pipe<'a>(alloc: Global) -> Arg<'a> {
-    Arg::new(alloc, "-")
-        .help("Standard input and output")
-        .required(true)
-}
-
 /// The number of connections.
 fn count<'a>(alloc: Global) -> Arg<'a> {
     Arg::new(alloc, "COUNT")
@@ -473,7 +424,7 @@ fn count<'a>(alloc: Global) -> Arg<'a> {
 }
 
 /// The form that the words ask for.
-fn mode(matches: &ArgMatches) -> Mode {
+pub(crate) fn mode(matches: &ArgMatches) -> Mode {
     if matches.get_flag("packed") {
         Mode::Packed
     } else {

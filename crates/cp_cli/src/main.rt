@@ -2,15 +2,18 @@
 #![tactic(auto)]
 
 mod command;
+mod serving;
 
 use command::{By, Task};
 use cp_calls::call_address;
 use cp_commands::{Asked, BROKEN, Names, Plan, REFUSED, act};
+use cp_daemon::serve_place;
 use cp_decode::Decoder;
 use cp_frame::Mode;
 use cp_guard::{Plan as Relaying, Route, relay_port};
 use cp_ports::{LONGEST_LOOP, loop_bytes, serve_pipe, serve_port};
 use cp_types::Schema;
+use serving::Serving;
 use std::env;
 use std::fs::{self, File};
 use std::io::{self, BufWriter, Read, Write};
@@ -142,6 +145,16 @@ fn on_loop(rt: &HostRuntime, mode: Mode, path: &str) -> io::Result<u8> {
     Ok(loop_bytes(rt, &bytes, mode, &mut out, &mut err))
 }
 
+/// Serves connections, or standard input and output.
+fn on_serve(rt: &HostRuntime, serving: &Serving) -> u8 {
+    let mut err = rt.stderr();
+    match serving {
+        Serving::InTurn { mode, port, count } => serve_port(rt, *port, *count, *mode, &mut err),
+        Serving::Hosted { place, service } => serve_place(rt, place, service, &mut err),
+        Serving::Pipe { mode } => serve_pipe(rt.alloc(), rt.stdin(), rt.stdout(), *mode, &mut err),
+    }
+}
+
 /// Relays the connections of a route.
 fn on_relay(rt: &HostRuntime, plan: &Relaying, route: &Route) -> io::Result<u8> {
     let mut out = BufWriter::with_capacity(rt.alloc(), BUFFER, io::writer(rt))?;
@@ -167,11 +180,7 @@ fn act_on(rt: &HostRuntime, task: &Task) -> u8 {
         Task::Loop { mode, path } => {
             on_loop(rt, *mode, path).unwrap_or_else(|error| failed(rt, path, error))
         }
-        Task::Serve { mode, port, count } => serve_port(rt, *port, *count, *mode, &mut rt.stderr()),
-        Task::Pipe { mode } => {
-            let mut err = rt.stderr();
-            serve_pipe(rt.alloc(), rt.stdin(), rt.stdout(), *mode, &mut err)
-        }
+        Task::Serve(serving) => on_serve(rt, serving),
         Task::Relay { plan, route } => {
             on_relay(rt, plan, route).unwrap_or_else(|error| failed(rt, route.target, error))
         }
@@ -194,7 +203,7 @@ fn act_on(rt: &HostRuntime, task: &Task) -> u8 {
 fn run(rt: &HostRuntime) -> io::Result<u8> {
     let alloc = rt.alloc();
     let words: Vec<String> = env::args(rt)?.collect(alloc)?;
-    let command = command::command(alloc, command::is_pipe(words.as_slice()))?;
+    let command = command::command(alloc, serving::is_open(words.as_slice()))?;
     let matches = match command.try_get_matches_from(words.as_slice()) {
         Ok(matches) => matches,
         Err(error) => {
@@ -203,6 +212,7 @@ fn run(rt: &HostRuntime) -> io::Result<u8> {
         }
     };
     let Some(task) = command::task_of(&matches) else {
+        eprintln!(rt; "error: not what `serve` takes: see capnp_cli help serve")?;
         return Ok(BROKEN);
     };
     Ok(act_on(rt, &task))
