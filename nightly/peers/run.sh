@@ -1,23 +1,24 @@
 #!/usr/bin/env bash
-# run.sh SERVER BUILD [COUNT]    sessions of peers at fault, and of a C++ client, with `SERVER serve`, plain, and packed through a relay;
-#                                then COUNT sessions (10,000 by default) with one server, whose memory may not grow
+# run.sh SERVER BUILD [COUNT [WORD..]]    sessions of peers at fault, and of a C++ client, with `SERVER serve WORD..`, plain, and packed
+#                                         through a relay; then COUNT sessions (10,000 by default) with one server, whose memory may not grow
 set -eu
-server=$1 build=$2 count=${3:-10000}
+build=$2 count=${3:-10000}
+serve=("$1" serve "${@:4}")
 port=17101 relayed=17102
 here=$(cd "$(dirname "${BASH_SOURCE[0]}")" && pwd)
 . "$here/../begin.sh"
 make -s -C "$here" BUILD="$build"
 
-begin "$port" "$server" serve "$port" 26
+begin "$port" "${serve[@]}" "$port" 26
 "$build/hostile" "$port"
 wait "$pid"
 echo "hostile: each fault has its Abort, and each limit its edge"
 
 for kind in first second abort; do
-    begin "$port" "$server" serve "$port" 1
+    begin "$port" "${serve[@]}" "$port" 1
     "$build/client" "$port" "$kind" 1
     wait "$pid"
-    begin "$port" "$server" serve --packed "$port" 1
+    begin "$port" "${serve[@]}" --packed "$port" 1
     packed=$pid
     begin "$relayed" "$build/relay" "$relayed" "$port" 1
     "$build/client" "$relayed" "$kind" 1
@@ -26,7 +27,7 @@ for kind in first second abort; do
     echo "$kind: plain and packed"
 done
 
-begin "$port" "$server" serve "$port" 2 2>"$build/said"
+begin "$port" "${serve[@]}" "$port" 2 2>"$build/said"
 "$build/client" "$port" reset 1
 "$build/client" "$port" first 1
 status=0
@@ -35,7 +36,7 @@ cat "$build/said"
 [ "$status" = 2 ] && grep -q '^device.* (peer 127\.0\.0\.1:[0-9]*)$' "$build/said"
 echo "reset: status 2, and the next connection is served"
 
-begin "$port" "$server" serve "$port" "$((count / 10 * 10 + 1))"
+begin "$port" "${serve[@]}" "$port" "$((count / 10 * 10 + 1))"
 part=$((count / 10))
 for turn in $(seq 10); do
     "$build/client" "$port" many "$part"
