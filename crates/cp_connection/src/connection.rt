@@ -46,9 +46,15 @@ use std::marker::Model;
 /// A connection keeps what came of the open frame, what is to go out, what happened and wasn't taken, and what its
 /// vat keeps. `held` says how much that is. One that is emptied after each message keeps no more of these than one
 /// message leads to.
-#[derive(Drop)]
 pub struct Connection {
     parts: Parts,
+}
+
+// Not derived: a crate that lets one go calls this function, and need not prove the drop of all that it holds.
+impl Drop for Connection {
+    fn drop(self) {
+        let Connection { parts: _ } = self;
+    }
 }
 
 impl Model for Connection {
@@ -72,6 +78,7 @@ impl Connection {
     ghost use Rattle.cp_frame.specs.Reader.{taken_of};
     ghost use Rattle.cp_machine.specs.declared.event.Event.TheVariants as events;
     ghost use Rattle.cp_machine.specs.declared.event.Value.TheVariants as values;
+    ghost use Rattle.cp_vat.specs.Kept.{entries_of};
     ghost use Rattle.cp_connection.specs.Link.{HasCome, new_link};
     ghost use Rattle.cp_connection.specs.Doing.{Acts, answered};
     ghost use Rattle.cp_connection.specs.Receiving.{Receives, IsUnreceived, EndsWell, EndsBadly, Wrote, HandsOut};
@@ -214,17 +221,18 @@ impl Connection {
         }
     }
 
-    /// How much the connection holds, beside what its vat keeps. Of the open frame it keeps no more words than came
-    /// whole.
+    /// How much the connection holds. Of the open frame it keeps no more words than came whole.
     pub fn held(&self) -> Held
         ensures came { result.came ≡ taken_of self.now.reading }
         ensures unwritten { result.unwritten ≡ length self.now.unwritten }
         ensures happenings { result.happenings ≡ length self.now.happened }
+        ensures entries { result.entries ≡ entries_of self.now.vat }
     {
         Held {
             came: self.parts.frames.taken(),
             unwritten: self.parts.agenda.outgoing.len(),
             happenings: self.parts.agenda.happened.len(),
+            entries: self.parts.vat.entries(),
         }
     }
 }

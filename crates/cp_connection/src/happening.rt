@@ -36,7 +36,7 @@ pub struct Tally {
     pub sent: u64,
 }
 
-/// What a connection holds, beside what its vat does.
+/// What a connection holds.
 #[derive(Clone, Copy, PartialEq, Eq, Debug)]
 pub struct Held {
     /// The bytes of the open frame that came.
@@ -45,4 +45,6 @@ pub struct Held {
     pub unwritten: usize,
     /// The happenings that weren't taken.
     pub happenings: usize,
+    /// The questions, answers and imports of its vat.
+    pub entries: usize,
 }

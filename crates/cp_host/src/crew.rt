@@ -12,6 +12,9 @@ use cp_seats::HostLimits;
 use cp_servants::{Servant, any_again};
 use std::alloc::Global;
 
+/// The bytes that an entry of a vat takes at most, its content aside.
+const ENTRY: u64 = 640;
+
 /// A connection with its objects, of which the one at place 0 is its bootstrap object.
 #[derive(Drop)]
 pub(crate) struct Crew<O> {
@@ -117,10 +120,12 @@ impl<O: Servant> Crew<O> {
         self.connection.tally().messages
     }
 
-    /// The bytes that are kept of the open message, and of what waits to be written.
+    /// The bytes that are kept: of the open message, of what waits to be written, and `ENTRY` for each entry of the vat.
     pub(crate) fn kept(&self) -> u64 {
         let held = self.connection.held();
-        held.came.saturating_add(held.unwritten as u64)
+        let entries = (held.entries as u64).saturating_mul(ENTRY);
+        let bytes = held.came.saturating_add(held.unwritten as u64);
+        bytes.saturating_add(entries)
     }
 }
 

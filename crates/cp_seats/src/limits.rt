@@ -27,7 +27,8 @@ pub struct HostLimits {
     pub closing: u64,
     /// The bytes of a connection that may wait to be written while more is taken from its peer.
     pub ahead: usize,
-    /// The most bytes that are kept for a connection: of the open message, and of what waits to be written.
+    /// The most bytes that are kept for a connection: of the open message, of what waits to be written, and of what its vat has
+    /// entries for.
     pub kept: u64,
     /// The most messages of a connection that one turn takes.
     pub messages: u32,

@@ -5,3 +5,4 @@ pub mod Ways
 pub mod Returning
 pub mod Receiving
 pub mod Running
+pub mod Kept

@@ -7,6 +7,7 @@ ghost use Rattle.cp_machine.specs.Step.{Step};
 ghost use Rattle.cp_machine.specs.declared.event.Event.TheVariants as events;
 ghost use Rattle.cp_machine.specs.declared.event.Value.TheVariants as values;
 ghost use Rattle.cp_sizes.specs.Sizes.{AreWritable};
+ghost use Rattle.cp_vat.specs.Kept.{entries_of};
 ghost use Rattle.cp_vat.specs.Stepping.{answered, effects_of};
 
 use crate::ending::{end_call, end_message};
@@ -58,9 +59,15 @@ use std::marker::Model;
 /// # Sizes
 ///
 /// Each message that a vat sends can be written: it nests 64 deep at most, and costs 8,388,608 words at most.
-#[derive(Drop)]
 pub struct Vat {
     core: Core,
+}
+
+// Not derived: a crate that lets one go calls this function, and need not prove the drop of all that it holds.
+impl Drop for Vat {
+    fn drop(self) {
+        let Vat { core: _ } = self;
+    }
 }
 
 impl Model for Vat {
@@ -88,6 +95,14 @@ impl Vat {
         Vat {
             core: Core::new(alloc, bootstrap),
         }
+    }
+
+    /// How many entries it keeps: of questions, of answers, which the peer's calls are until they are answered and finished, and of
+    /// imports.
+    pub fn entries(&self) -> usize
+        ensures { result ≡ entries_of self.now }
+    {
+        self.core.questions.len() + self.core.answers.len() + self.core.imports.len()
     }
 
     /// Takes in a message of the peer's.
