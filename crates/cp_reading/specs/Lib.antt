@@ -3,10 +3,12 @@ pub mod Denotes
 pub mod Reading
 pub mod Near
 pub mod Visited
+pub mod Checking
 pub mod Viewed
 pub mod Pruned
 pub mod Faults
 pub mod Fills
 pub mod Answers
 pub mod Rows
+pub mod Building
 pub mod FirstFault

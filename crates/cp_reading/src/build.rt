@@ -4,8 +4,9 @@ ghost use Rattle.std.specs.Prelude.{◌≡◌, ◌≤◌, ◌+◌, map, IfOk, On
 ghost use Rattle.cp_tree.specs.Node.{struct};
 ghost use Rattle.cp_tree.specs.NodeOf.{node_of, body_of, nodes_of, bodies_of};
 ghost use Rattle.cp_words.specs.Segments.{words_of};
-ghost use Rattle.cp_reading.specs.Viewed.{viewed_node, IsViewed};
-ghost use Rattle.cp_reading.specs.Rows.{bodies_in, struct_at, structs_at, trees_from};
+ghost use Rattle.cp_reading.specs.Building.{elements_in, part_in, row_in, struct_in};
+ghost use Rattle.cp_reading.specs.Viewed.{IsViewed};
+ghost use Rattle.cp_reading.specs.Rows.{struct_at, structs_at};
 ghost use Rattle.cp_reading.specs.Visited.{pointers, pointers_of_row, pointers_of_bodies};
 ghost use Rattle.cp_reading.specs.declared.view.Viewed.TheVariants as viewed;
 
@@ -51,9 +52,9 @@ impl<'a, 'v, L: Ledger> Builder<'a, 'v, L> {
     #[inline(always)]
     fn build(&mut self, part: Viewed) -> Result<Tree, AllocError>
         requires { IsViewed (words_of self.old.segments.now) part }
-        ensures tree { IfOk result (λ t. node_of t ≡ viewed_node (words_of self.old.segments.now) part) }
-        ensures exact { OnOk result (self.new.visits.now ≡ self.old.visits.now + pointers (viewed_node (words_of self.old.segments.now) part)) }
-        ensures few { self.new.visits.now ≤ self.old.visits.now + pointers (viewed_node (words_of self.old.segments.now) part) }
+        ensures tree { IfOk result (λ t. node_of t ≡ part_in self.old part) }
+        ensures exact { OnOk result (self.new.visits.now ≡ self.old.visits.now + pointers (part_in self.old part)) }
+        ensures few { self.new.visits.now ≤ self.old.visits.now + pointers (part_in self.old part) }
         ensures same { self.new.segments ≡ self.old.segments }
         ensures lent { self.new.visits.ghost_name ≡ self.old.visits.ghost_name }
     {
@@ -69,9 +70,9 @@ impl<'a, 'v, L: Ledger> Builder<'a, 'v, L> {
     #[inline(always)]
     fn build_area(&mut self, area: Area) -> Result<Tree, AllocError>
         requires { IsViewed (words_of self.old.segments.now) (viewed.Body area) }
-        ensures tree { IfOk result (λ t. node_of t ≡ viewed_node (words_of self.old.segments.now) (viewed.Body area)) }
-        ensures exact { OnOk result (self.new.visits.now ≡ self.old.visits.now + pointers (viewed_node (words_of self.old.segments.now) (viewed.Body area))) }
-        ensures few { self.new.visits.now ≤ self.old.visits.now + pointers (viewed_node (words_of self.old.segments.now) (viewed.Body area)) }
+        ensures tree { IfOk result (λ t. node_of t ≡ part_in self.old (viewed.Body area)) }
+        ensures exact { OnOk result (self.new.visits.now ≡ self.old.visits.now + pointers (part_in self.old (viewed.Body area))) }
+        ensures few { self.new.visits.now ≤ self.old.visits.now + pointers (part_in self.old (viewed.Body area)) }
         ensures same { self.new.segments ≡ self.old.segments }
         ensures lent { self.new.visits.ghost_name ≡ self.old.visits.ghost_name }
     {
@@ -106,9 +107,9 @@ impl<'a, 'v, L: Ledger> Builder<'a, 'v, L> {
     #[inline(always)]
     fn build_body(&mut self, start: Place, words: u16, ptrs: u16) -> Result<Body, AllocError>
         requires { IsViewed (words_of self.old.segments.now) (viewed.Body (struct_at start words ptrs)) }
-        ensures body { IfOk result (λ b. struct (body_of b).0 (body_of b).1 ≡ viewed_node (words_of self.old.segments.now) (viewed.Body (struct_at start words ptrs))) }
-        ensures exact { OnOk result (self.new.visits.now ≡ self.old.visits.now + pointers (viewed_node (words_of self.old.segments.now) (viewed.Body (struct_at start words ptrs)))) }
-        ensures few { self.new.visits.now ≤ self.old.visits.now + pointers (viewed_node (words_of self.old.segments.now) (viewed.Body (struct_at start words ptrs))) }
+        ensures body { IfOk result (λ b. struct (body_of b).0 (body_of b).1 ≡ struct_in self.old start words ptrs) }
+        ensures exact { OnOk result (self.new.visits.now ≡ self.old.visits.now + pointers (struct_in self.old start words ptrs)) }
+        ensures few { self.new.visits.now ≤ self.old.visits.now + pointers (struct_in self.old start words ptrs) }
         ensures same { self.new.segments ≡ self.old.segments }
         ensures lent { self.new.visits.ghost_name ≡ self.old.visits.ghost_name }
     {
@@ -127,9 +128,9 @@ impl<'a, 'v, L: Ledger> Builder<'a, 'v, L> {
     #[inline(always)]
     fn build_ptrs(&mut self, first: Place, number: usize) -> Result<Vec<Tree>, AllocError>
         requires { IsViewed (words_of self.old.segments.now) (viewed.Body (struct_at first 0 number)) }
-        ensures row { IfOk result (λ v. nodes_of (map node_of v.items) ≡ trees_from (words_of self.old.segments.now) first number) }
-        ensures exact { OnOk result (self.new.visits.now ≡ self.old.visits.now + pointers_of_row (trees_from (words_of self.old.segments.now) first number)) }
-        ensures few { self.new.visits.now ≤ self.old.visits.now + pointers_of_row (trees_from (words_of self.old.segments.now) first number) }
+        ensures row { IfOk result (λ v. nodes_of (map node_of v.items) ≡ row_in self.old first number) }
+        ensures exact { OnOk result (self.new.visits.now ≡ self.old.visits.now + pointers_of_row (row_in self.old first number)) }
+        ensures few { self.new.visits.now ≤ self.old.visits.now + pointers_of_row (row_in self.old first number) }
         ensures same { self.new.segments ≡ self.old.segments }
         ensures lent { self.new.visits.ghost_name ≡ self.old.visits.ghost_name }
     {
@@ -143,9 +144,9 @@ impl<'a, 'v, L: Ledger> Builder<'a, 'v, L> {
     #[cycle(build)]
     fn build_row(&mut self, first: Place, number: usize) -> Result<Vec<Tree>, AllocError>
         requires { IsViewed (words_of self.old.segments.now) (viewed.Body (struct_at first 0 number)) }
-        ensures row { IfOk result (λ v. nodes_of (map node_of v.items) ≡ trees_from (words_of self.old.segments.now) first number) }
-        ensures exact { OnOk result (self.new.visits.now ≡ self.old.visits.now + pointers_of_row (trees_from (words_of self.old.segments.now) first number)) }
-        ensures few { self.new.visits.now ≤ self.old.visits.now + pointers_of_row (trees_from (words_of self.old.segments.now) first number) }
+        ensures row { IfOk result (λ v. nodes_of (map node_of v.items) ≡ row_in self.old first number) }
+        ensures exact { OnOk result (self.new.visits.now ≡ self.old.visits.now + pointers_of_row (row_in self.old first number)) }
+        ensures few { self.new.visits.now ≤ self.old.visits.now + pointers_of_row (row_in self.old first number) }
         ensures same { self.new.segments ≡ self.old.segments }
         ensures lent { self.new.visits.ghost_name ≡ self.old.visits.ghost_name }
     {
@@ -171,9 +172,9 @@ impl<'a, 'v, L: Ledger> Builder<'a, 'v, L> {
         number: u32,
     ) -> Result<Vec<Body>, AllocError>
         requires { IsViewed (words_of self.old.segments.now) (viewed.Body (structs_at first words ptrs number)) }
-        ensures bodies { IfOk result (λ v. bodies_of (map body_of v.items) ≡ bodies_in (viewed_node (words_of self.old.segments.now) (viewed.Body (structs_at first words ptrs number)))) }
-        ensures exact { OnOk result (self.new.visits.now ≡ self.old.visits.now + pointers_of_bodies (bodies_in (viewed_node (words_of self.old.segments.now) (viewed.Body (structs_at first words ptrs number))))) }
-        ensures few { self.new.visits.now ≤ self.old.visits.now + pointers_of_bodies (bodies_in (viewed_node (words_of self.old.segments.now) (viewed.Body (structs_at first words ptrs number)))) }
+        ensures bodies { IfOk result (λ v. bodies_of (map body_of v.items) ≡ elements_in self.old first words ptrs number) }
+        ensures exact { OnOk result (self.new.visits.now ≡ self.old.visits.now + pointers_of_bodies (elements_in self.old first words ptrs number)) }
+        ensures few { self.new.visits.now ≤ self.old.visits.now + pointers_of_bodies (elements_in self.old first words ptrs number) }
         ensures same { self.new.segments ≡ self.old.segments }
         ensures lent { self.new.visits.ghost_name ≡ self.old.visits.ghost_name }
     {

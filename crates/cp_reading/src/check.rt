@@ -5,8 +5,9 @@ ghost use Rattle.cp_words.specs.Targets.{segment};
 ghost use Rattle.cp_reading.specs.Near.{root_read};
 ghost use Rattle.cp_tree.specs.Node.{Node};
 ghost use Rattle.cp_words.specs.Segments.{words_of};
-ghost use Rattle.cp_reading.specs.Reading.{body_by, filled, price, bodies_by, kids_at, tree_at, rows_at, root_of, body_words, budget_after, IsRootArea, IsWithin};
-ghost use Rattle.cp_reading.specs.Visited.{passed, answered, pointers, pointers_of_row, pointers_of_bodies};
+ghost use Rattle.cp_reading.specs.Checking.{GoesOver, GoesOverWord, body_at, elements_at, parts_at, root_in, row_at, word_at};
+ghost use Rattle.cp_reading.specs.Reading.{price, body_words, budget_after, IsRootArea, IsWithin};
+ghost use Rattle.cp_reading.specs.Visited.{pointers, pointers_of_row, pointers_of_bodies};
 
 use crate::area::{Area, Form, area_of};
 use crate::fault::TreeFault;
@@ -35,10 +36,10 @@ impl<'a, 'v, L: Ledger> Checker<'a, 'v, L> {
     #[tactic(auto, unfolding(crate::specs::Reading::root_of))]
     pub(crate) fn check_root(&mut self, nesting: u32) -> Result<Area, TreeFault>
         requires { 0 < length self.old.segments.now }
-        ensures fault { IfErr result (λ e. root_of nesting self.old.budget (words_of self.old.segments.now) ≡ Err e) }
+        ensures fault { IfErr result (λ e. root_in nesting self.old ≡ Err e) }
         ensures read { IfOk result (λ a. IsRootArea nesting self.old.budget (words_of self.old.segments.now) a) }
         ensures small { IfOk result (λ a. a.start + body_words a.form < 2 ^ 63) }
-        ensures exact { IfOk result (λ a. (t : Node) → root_of nesting self.old.budget (words_of self.old.segments.now) ≡ Ok t → self.new.visits.now ≡ self.old.visits.now + 1 + pointers t) }
+        ensures exact { IfOk result (λ a. (t : Node) → root_in nesting self.old ≡ Ok t → self.new.visits.now ≡ self.old.visits.now + 1 + pointers t) }
         ensures few { self.new.visits.now ≤ self.old.visits.now + 1 + self.old.budget }
         ensures lent { self.new.visits.ghost_name ≡ self.old.visits.ghost_name }
     {
@@ -61,10 +62,10 @@ impl<'a, 'v, L: Ledger> Checker<'a, 'v, L> {
     fn check_any_root(&mut self, nesting: u32) -> Result<Area, TreeFault>
         requires exists { 0 < length self.old.segments.now }
         requires some { (length (segment (words_of self.old.segments.now) 0) == 0) ≡ false }
-        ensures fault { IfErr result (λ e. root_of nesting self.old.budget (words_of self.old.segments.now) ≡ Err e) }
+        ensures fault { IfErr result (λ e. root_in nesting self.old ≡ Err e) }
         ensures read { IfOk result (λ a. IsRootArea nesting self.old.budget (words_of self.old.segments.now) a) }
         ensures small { IfOk result (λ a. a.start + body_words a.form < 2 ^ 63) }
-        ensures exact { IfOk result (λ a. (t : Node) → root_of nesting self.old.budget (words_of self.old.segments.now) ≡ Ok t → self.new.visits.now ≡ self.old.visits.now + pointers t) }
+        ensures exact { IfOk result (λ a. (t : Node) → root_in nesting self.old ≡ Ok t → self.new.visits.now ≡ self.old.visits.now + pointers t) }
         ensures few { self.new.visits.now ≤ self.old.visits.now + self.old.budget }
         ensures lent { self.new.visits.ghost_name ≡ self.old.visits.ghost_name }
     {
@@ -88,11 +89,11 @@ impl<'a, 'v, L: Ledger> Checker<'a, 'v, L> {
     fn check_root_body(&mut self, area: Area, nesting: u32) -> Result<Area, TreeFault>
         requires within { IsWithin (words_of self.old.segments.now) area }
         requires small { area.start + body_words area.form < 2 ^ 63 }
-        requires root { root_of nesting self.old.budget (words_of self.old.segments.now) ≡ root_read nesting self.old.budget (words_of self.old.segments.now) area }
-        ensures fault { IfErr result (λ e. root_of nesting self.old.budget (words_of self.old.segments.now) ≡ Err e) }
+        requires root { root_in nesting self.old ≡ root_read nesting self.old.budget (words_of self.old.segments.now) area }
+        ensures fault { IfErr result (λ e. root_in nesting self.old ≡ Err e) }
         ensures read { IfOk result (λ a. IsRootArea nesting self.old.budget (words_of self.old.segments.now) a) }
         ensures small { IfOk result (λ a. a.start + body_words a.form < 2 ^ 63) }
-        ensures exact { IfOk result (λ a. (t : Node) → root_of nesting self.old.budget (words_of self.old.segments.now) ≡ Ok t → self.new.visits.now ≡ self.old.visits.now + pointers t) }
+        ensures exact { IfOk result (λ a. (t : Node) → root_in nesting self.old ≡ Ok t → self.new.visits.now ≡ self.old.visits.now + pointers t) }
         ensures few { self.new.visits.now ≤ self.old.visits.now + self.old.budget }
         ensures lent { self.new.visits.ghost_name ≡ self.old.visits.ghost_name }
     {
@@ -106,7 +107,7 @@ impl<'a, 'v, L: Ledger> Checker<'a, 'v, L> {
     pub(crate) fn check_body(&mut self, at: Place, area: Area, depth: u32) -> Result<(), TreeFault>
         requires within { IsWithin (words_of self.old.segments.now) area }
         requires small { area.start + body_words area.form < 2 ^ 63 }
-        ensures reports { passed pointers self.old.visits.now (body_by at (kids_at depth (words_of self.old.segments.now)) (words_of self.old.segments.now) self.old.budget area) ≡ answered result self.new.budget self.new.visits.now }
+        ensures reports { GoesOver pointers (body_at at area depth) self.old result self.new }
         ensures few { self.new.visits.now + self.new.budget ≤ self.old.visits.now + self.old.budget }
         ensures same { self.new.segments ≡ self.old.segments }
         ensures lent { self.new.visits.ghost_name ≡ self.old.visits.ghost_name }
@@ -121,7 +122,7 @@ impl<'a, 'v, L: Ledger> Checker<'a, 'v, L> {
     fn check_parts(&mut self, area: Area, depth: u32) -> Result<(), TreeFault>
         requires within { IsWithin (words_of self.old.segments.now) area }
         requires small { area.start + body_words area.form < 2 ^ 63 }
-        ensures reports { passed pointers self.old.visits.now (filled (rows_at depth (words_of self.old.segments.now)) (words_of self.old.segments.now) area.form area.segment area.start self.old.budget) ≡ answered result self.new.budget self.new.visits.now }
+        ensures reports { GoesOver pointers (parts_at area depth) self.old result self.new }
         ensures few { self.new.visits.now + self.new.budget < self.old.visits.now + price area.form + self.old.budget }
         ensures same { self.new.segments ≡ self.old.segments }
         ensures lent { self.new.visits.ghost_name ≡ self.old.visits.ghost_name }
@@ -156,7 +157,7 @@ impl<'a, 'v, L: Ledger> Checker<'a, 'v, L> {
         requires exists { first.segment < length self.old.segments.now }
         requires within { first.word + count ≤ length (segment (words_of self.old.segments.now) first.segment) }
         requires small { first.word + count < 2 ^ 63 }
-        ensures reports { passed pointers_of_row self.old.visits.now (rows_at depth (words_of self.old.segments.now) first.segment count first.word self.old.budget) ≡ answered result self.new.budget self.new.visits.now }
+        ensures reports { GoesOver pointers_of_row (row_at first count depth) self.old result self.new }
         ensures few { self.new.visits.now + self.new.budget ≤ self.old.visits.now + count + self.old.budget }
         ensures same { self.new.segments ≡ self.old.segments }
         ensures lent { self.new.visits.ghost_name ≡ self.old.visits.ghost_name }
@@ -180,7 +181,7 @@ impl<'a, 'v, L: Ledger> Checker<'a, 'v, L> {
         requires exists { first.segment < length self.old.segments.now }
         requires within { first.word + count * (words + ptrs) ≤ length (segment (words_of self.old.segments.now) first.segment) }
         requires small { first.word + count * (words + ptrs) < 2 ^ 63 }
-        ensures reports { passed pointers_of_bodies self.old.visits.now (bodies_by (rows_at depth (words_of self.old.segments.now) first.segment) (words_of self.old.segments.now) first.segment words ptrs count first.word self.old.budget) ≡ answered result self.new.budget self.new.visits.now }
+        ensures reports { GoesOver pointers_of_bodies (elements_at first words ptrs count depth) self.old result self.new }
         ensures few { self.new.visits.now + self.new.budget ≤ self.old.visits.now + count * (words + ptrs) + self.old.budget }
         ensures same { self.new.segments ≡ self.old.segments }
         ensures lent { self.new.visits.ghost_name ≡ self.old.visits.ghost_name }
@@ -206,7 +207,7 @@ impl<'a, 'v, L: Ledger> Checker<'a, 'v, L> {
         requires exists { first.segment < length self.old.segments.now }
         requires within { first.word + count ≤ length (segment (words_of self.old.segments.now) first.segment) }
         requires small { first.word + count < 2 ^ 63 }
-        ensures reports { passed pointers_of_row self.old.visits.now (rows_at depth (words_of self.old.segments.now) first.segment count first.word self.old.budget) ≡ answered result self.new.budget self.new.visits.now }
+        ensures reports { GoesOver pointers_of_row (row_at first count depth) self.old result self.new }
         ensures few { self.new.visits.now + self.new.budget ≤ self.old.visits.now + count + self.old.budget }
         ensures same { self.new.segments ≡ self.old.segments }
         ensures lent { self.new.visits.ghost_name ≡ self.old.visits.ghost_name }
@@ -229,7 +230,7 @@ impl<'a, 'v, L: Ledger> Checker<'a, 'v, L> {
         requires exists { at.segment < length self.old.segments.now }
         requires word_is { word ≡ slice_index (segment (words_of self.old.segments.now) at.segment) at.word }
         requires small { at.word < 2 ^ 63 }
-        ensures reports { passed pointers (self.old.visits.now + 1) (tree_at depth (words_of self.old.segments.now) at.segment at.word self.old.budget) ≡ answered result self.new.budget self.new.visits.now }
+        ensures reports { GoesOverWord (word_at at depth) self.old result self.new }
         ensures few { self.new.visits.now + self.new.budget ≤ self.old.visits.now + 1 + self.old.budget }
         ensures same { self.new.segments ≡ self.old.segments }
         ensures lent { self.new.visits.ghost_name ≡ self.old.visits.ghost_name }
@@ -258,7 +259,7 @@ impl<'a, 'v, L: Ledger> Checker<'a, 'v, L> {
         requires exists { at.segment < length self.old.segments.now }
         requires word_is { word ≡ slice_index (segment (words_of self.old.segments.now) at.segment) at.word }
         requires small { at.word < 2 ^ 63 }
-        ensures reports { passed pointers self.old.visits.now (tree_at depth (words_of self.old.segments.now) at.segment at.word self.old.budget) ≡ answered result self.new.budget self.new.visits.now }
+        ensures reports { GoesOver pointers (word_at at depth) self.old result self.new }
         ensures few { self.new.visits.now + self.new.budget ≤ self.old.visits.now + self.old.budget }
         ensures same { self.new.segments ≡ self.old.segments }
         ensures lent { self.new.visits.ghost_name ≡ self.old.visits.ghost_name }
