@@ -78,10 +78,7 @@ pub extern "C" fn cpb_packed_frames_within(
 fn count(alloc: Global, mode: Mode, bytes: &[u8], kind: u8, limits: Limits) -> Option<u64>
     ensures { IfSome result (CountsWithin limits mode kind bytes.now) }
 {
-    let mut reader = match mode {
-        Mode::Plain => FrameReader::plain(alloc, limits),
-        Mode::Packed => FrameReader::packed(alloc, limits),
-    };
+    let mut reader = FrameReader::new(alloc, mode, limits);
     let mut count: u64 = 0;
     let mut left = bytes;
     'reading: while !left.is_empty() {

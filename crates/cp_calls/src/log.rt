@@ -1,7 +1,7 @@
 //! The messages of a connection, as lines.
 
 use crate::asking::CallPlan;
-use cp_frame::{FrameReader, Mode};
+use cp_frame::FrameReader;
 use cp_lines::push_line;
 use cp_stream::view_of;
 use cp_words::{Limits, Segments};
@@ -34,8 +34,8 @@ impl Log {
             alloc,
             limits: plan.limits,
             notes: plan.shows_messages,
-            sent: reader_of(alloc, plan.mode, Limits::standard()),
-            received: reader_of(alloc, plan.mode, plan.limits),
+            sent: FrameReader::new(alloc, plan.mode, Limits::standard()),
+            received: FrameReader::new(alloc, plan.mode, plan.limits),
             lines: String::new(alloc),
         }
     }
@@ -83,13 +83,5 @@ fn mark_of(way: Way) -> &'static str {
     match way {
         Way::Sent => "> ",
         Way::Received => "< ",
-    }
-}
-
-/// A reader of frames to which nothing came.
-fn reader_of(alloc: Global, mode: Mode, limits: Limits) -> FrameReader {
-    match mode {
-        Mode::Plain => FrameReader::plain(alloc, limits),
-        Mode::Packed => FrameReader::packed(alloc, limits),
     }
 }

@@ -1,7 +1,6 @@
 //! What a connection is made of.
 
 ghost use Rattle.std.specs.Prelude.{◌≡◌, [], ℕ, List, Some, None, IfOk, IfErr, OnOk};
-ghost use Rattle.cp_frame.specs.Reader.{new_reader};
 ghost use Rattle.cp_rpc.specs.Told.{told};
 ghost use Rattle.cp_stream.specs.Stream.{Holds, HoldsNone};
 ghost use Rattle.cp_machine.specs.declared.event.Event.TheVariants as events;
@@ -51,7 +50,7 @@ impl Parts {
     {
         Parts {
             limits,
-            frames: reader_of(alloc, mode, limits),
+            frames: FrameReader::new(alloc, mode, limits),
             vat: Vat::new(alloc, bootstrap),
             is_lost: false,
             agenda: Agenda::new(alloc, mode),
@@ -203,15 +202,5 @@ impl Parts {
             at: self.bytes,
             refusal,
         }
-    }
-}
-
-/// A reader of frames to which nothing came.
-fn reader_of(alloc: Global, mode: Mode, limits: Limits) -> FrameReader
-    ensures { result ≡ new_reader mode limits }
-{
-    match mode {
-        Mode::Plain => FrameReader::plain(alloc, limits),
-        Mode::Packed => FrameReader::packed(alloc, limits),
     }
 }

@@ -1,6 +1,8 @@
 -- Groups of the packed form taken at once. No public clause names these.
-use Rattle.std.specs.Prelude.{◌≡◌, ◌⊎◌, ℕ, ◌+◌, ◌≤◌, List, [], ◌++◌, length}
+use Rattle.std.specs.Prelude.{◌≡◌, ◌⊎◌, ℕ, ◌+◌, ◌<◌, ◌≤◌, List, [], ◌++◌, length}
 use Rattle.cp_words.specs.Limits.{Bounds}
+use Rattle.cp_frame.specs.declared.fault.FrameFault.{FrameFault}
+use Rattle.cp_frame.specs.declared.fault.FrameFault.TheVariants as faults
 use Rattle.cp_frame.specs.declared.frame.OpenFrame.{OpenFrame}
 use Rattle.cp_frame.specs.declared.rest.Rest.{Rest}
 use Rattle.cp_packed.specs.Words.{AreWords, bytes_of}
@@ -9,6 +11,10 @@ use Rattle.cp_words.specs.Segments.{words_of}
 use Rattle.cp_packed.specs.Unpacking.{Pending, nothing, after, given, pending_of}
 use Rattle.cp_frame.specs.Rest.{IsBlank}
 use Rattle.cp_packed.specs.Groups.{running}
+
+-- why words aren't taken, which would be this many: memory ran out, or there are more than there may be
+abbrev pub IsFullFor : ℕ → ℕ → FrameFault → Type 0
+IsFullFor limit count fault = (fault ≡ faults.OutOfMemory) ⊎ ((fault ≡ faults.FrameTooLarge) × (limit < count))
 
 -- Whatever is open of a group: a front of the bytes was taken, with the words that it brings, and there are no more than there may be.
 pub record TakesWithin (limit : ℕ) (old : List ℕ) (p : Pending) (left new : List ℕ) (q : Pending) (back : List ℕ) : Type 0 where

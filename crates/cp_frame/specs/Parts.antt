@@ -21,6 +21,10 @@ halves (w ∷ ws) = w % 2 ^ 32 ∷ w / 2 ^ 32 ∷ halves ws
 abbrev pub count_of : List ℕ → ℕ
 count_of table = slice_index table 0 % 2 ^ 32 + 1
 
+-- all segments are whole; or what has come ends inside one, of which these are the words
+abbrev pub EndsInOne : {A : Type 0} → List ℕ → List A → List ℕ → Type 0
+EndsInOne table segments words = (length segments ≡ count_of table) ⊎ (length words < slice_index (named_sizes (halves table)) (length segments))
+
 -- all words of the table have come
 abbrev pub IsWholeTable : List ℕ → Type 0
 IsWholeTable table = count_of table / 2 < length table

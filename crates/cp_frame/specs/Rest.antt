@@ -11,7 +11,7 @@ use Rattle.cp_frame.specs.declared.frame.OpenFrame.{OpenFrame}
 use Rattle.cp_frame.specs.declared.rest.Rest.{Rest}
 use Rattle.cp_packed.specs.Words.{AreWords, bytes_of}
 use Rattle.cp_frame.specs.Frame.{Frame}
-use Rattle.cp_frame.specs.Stream.{Frames, HasFault, numbers}
+use Rattle.cp_frame.specs.Stream.{Frames, HasFault, NamesFault, numbers}
 use Rattle.cp_frame.specs.Reader.{Stands, reading}
 use Rattle.cp_frame.specs.Parts.{IsOpen, IsBegun, IsComplete, IsEmpty, IsFaultOf, NamesLittle, rest_of, kept_words}
 use Rattle.cp_words.specs.Segments.{words_of}
@@ -82,6 +82,12 @@ EndsInside limits b = (S : List (List ℕ)) × (front : List ℕ) × (back : Lis
 -- words that come at once go past the frame, or its table has a fault
 abbrev pub IsFaultOfWords : Bounds → List ℕ → FrameFault → Type 0
 IsFaultOfWords limits b fault = ((fault ≡ faults.RunPastFrame) × EndsInside limits b) ⊎ IsFaultOf limits (numbers b) fault
+
+-- the fault that shows after a packed byte: a group goes on past the frame; or the table has it, with what is laid
+abbrev pub ShowsFault : Bounds → Rest → FrameFault → Type 0
+ShowsFault limits r fault =
+    ((fault ≡ faults.RunPastFrame) × IsComplete limits r.frame × (0 < length r.group.part.items + r.group.run))
+    ⊎ NamesFault limits (numbers (rest_of r.frame ++ laid (pending_of r.group))) fault
 
 -- what is kept stands for the rest b of a stream
 abbrev pub KeptFor : Mode → Bounds → Rest → List ℕ → Type 0

@@ -1,10 +1,10 @@
 //! The frame of which a part has come.
 
-ghost use Rattle.std.specs.Prelude.{◌≡◌, ◌⊎◌, ◌^◌, ◌+◌, ◌*◌, ◌/◌, ◌%◌, ◌<◌, ◌≤◌, ◌++◌, ◌∷◌, [], ◌↔◌, IsTrue, IfOk, OnOk, IfErr, length, sum, replicate, slice_index, vec_capacity};
+ghost use Rattle.std.specs.Prelude.{◌≡◌, ◌⊎◌, ◌^◌, ◌+◌, ◌*◌, ◌/◌, ◌<◌, ◌≤◌, ◌++◌, ◌∷◌, [], ◌↔◌, IsTrue, IfOk, OnOk, IfErr, length, sum, replicate, slice_index, vec_capacity};
 ghost use Rattle.cp_frame.specs.Framed.{sizes_of};
 ghost use Rattle.cp_packed.specs.Words.{bytes_of};
 ghost use Rattle.std.specs.Int.{to_le_bytes, w64};
-ghost use Rattle.cp_frame.specs.Parts.{Takes, IsBegun, InTable, InSegments, halves, count_of, IsWholeTable, IsTable, IsFaultOf, Fills, body, rest_of, IsOpen, IsComplete, IsEmpty, least_words, kept_words};
+ghost use Rattle.cp_frame.specs.Parts.{EndsInOne, Takes, IsBegun, InTable, InSegments, halves, count_of, IsWholeTable, IsFaultOf, Fills, body, rest_of, IsOpen, IsEmpty, least_words, kept_words};
 ghost use Rattle.cp_words.specs.Segments.{words_of};
 ghost use Rattle.cp_frame.specs.Stream.{numbers, named_sizes};
 ghost use Rattle.cp_frame.specs.Rest.{IsFaultOfWords};
@@ -323,7 +323,7 @@ fn close(
     requires fills { Fills (named_sizes (halves table.now)) (words_of segments.old.items) words.old.items }
     ensures fills { OnOk result (Fills (named_sizes (halves table.now)) (words_of segments.new.items) words.new.items) }
     ensures body { OnOk result (body (words_of segments.new.items) words.new.items ≡ body (words_of segments.old.items) words.old.items) }
-    ensures ends { OnOk result ((length segments.new.items ≡ count_of table.now) ⊎ (length words.new.items < slice_index (named_sizes (halves table.now)) (length segments.new.items))) }
+    ensures ends { OnOk result (EndsInOne table.now segments.new.items words.new.items) }
 {
     let count = table::count(table);
     'closing: while segments.len() < count && words.len() == table::size(table, segments.len()) {
@@ -382,7 +382,7 @@ fn take_words<'a>(
     requires open { length words.old.items < slice_index (named_sizes (halves table.now)) (length segments.old.items) }
     requires some { 8 ≤ length left.now }
     ensures fills { OnOk result (Fills (named_sizes (halves table.now)) (words_of segments.new.items) words.new.items) }
-    ensures ends { OnOk result ((length segments.new.items ≡ count_of table.now) ⊎ (length words.new.items < slice_index (named_sizes (halves table.now)) (length segments.new.items))) }
+    ensures ends { OnOk result (EndsInOne table.now segments.new.items words.new.items) }
     ensures body { IfOk result (λ back. body (words_of segments.new.items) words.new.items ++ back.now ≡ body (words_of segments.old.items) words.old.items ++ left.now) }
     ensures shorter { IfOk result (λ back. length back.now < length left.now) }
 {

@@ -38,8 +38,9 @@ impl FrameReader {
     ghost use Rattle.std.specs.Prelude.{◌≡◌, ◌<◌, ◌≤◌, ◌^◌, [], OnOk, IfErr, IfNone, IfOk, IfSome};
     ghost use Rattle.cp_frame.specs.Reader.{taken_of, StandsFor, Gives, GivesNext, Reports, EndsWell, ReportsAtEnd, KeepsLittle, Needs, IsAsBefore, most_spare, new_reader, failed};
 
-    /// A reader of a stream in this form, of which nothing has come.
-    fn new(alloc: Global, mode: Mode, limits: Limits) -> FrameReader
+    /// A reader of a stream in this form (encoding specification, "Serialization Over a Stream" and "Packing"), of which
+    /// nothing has come.
+    pub fn new(alloc: Global, mode: Mode, limits: Limits) -> FrameReader
         ensures fresh { result ≡ new_reader mode limits }
         ensures stands { StandsFor result [] }
     {

@@ -3,11 +3,11 @@
 ghost use Rattle.std.specs.Prelude.{vec_capacity, ◌≡◌, ◌⊎◌, ◌+◌, ◌<◌, ◌^◌, ◌++◌, ◌∷◌, ◌↔◌, [], IfOk, IsTrue, OnOk, IfErr, length, sum};
 ghost use Rattle.cp_frame.specs.Framed.{sizes_of};
 ghost use Rattle.cp_packed.specs.Words.{bytes_of};
-ghost use Rattle.cp_frame.specs.Stream.{numbers, NamesFault, HasFault};
-ghost use Rattle.cp_frame.specs.Parts.{IsOpen, IsBegun, IsComplete, rest_of, kept_words};
+ghost use Rattle.cp_frame.specs.Stream.{HasFault};
+ghost use Rattle.cp_frame.specs.Parts.{IsBegun, rest_of, kept_words};
 ghost use Rattle.cp_words.specs.Segments.{words_of};
 ghost use Rattle.cp_packed.specs.Unpacking.{IsPending, nothing, brought, laid, pending_of};
-ghost use Rattle.cp_frame.specs.Rest.{InPacked, IsBlank, IsRest, bytes_for, count_for, TakesByte, IsSound, IsFaultOfWords};
+ghost use Rattle.cp_frame.specs.Rest.{InPacked, IsBlank, IsRest, bytes_for, count_for, TakesByte, IsSound, IsFaultOfWords, ShowsFault};
 ghost use Rattle.cp_frame.specs.Bulk.{TakesFront};
 ghost use Rattle.cp_frame.specs.Single.{IsStillOpen};
 ghost use Rattle.cp_frame.specs.declared.mode.Mode.TheVariants.{Packed};
@@ -61,7 +61,7 @@ impl Rest {
         requires no_part { self.now.frame.part.items ≡ [] }
         requires pending { IsPending (pending_of self.now.group) }
         ensures sound { OnOk result (IsSound limits self.now) }
-        ensures fault { IfErr result (λ fault. ((fault ≡ RunPastFrame) × IsComplete limits self.now.frame × (0 < length self.now.group.part.items + self.now.group.run)) ⊎ NamesFault limits (numbers (rest_of self.now.frame ++ laid (pending_of self.now.group))) fault) }
+        ensures fault { IfErr result (ShowsFault limits self.now) }
     {
         if self.frame.is_complete() {
             if self.group.is_empty() {

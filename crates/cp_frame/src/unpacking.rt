@@ -1,11 +1,11 @@
 //! Unpacking words.
 
-ghost use Rattle.std.specs.Prelude.{◌≡◌, ◌≤◌, ◌<◌, ◌+◌, ◌⊎◌, ◌∷◌, [], IfOk, IfErr, OnOk, length};
+ghost use Rattle.std.specs.Prelude.{◌≤◌, ◌<◌, ◌+◌, ◌∷◌, [], IfOk, IfErr, OnOk, length};
 ghost use Rattle.cp_packed.specs.Packed.{Packed};
 ghost use Rattle.cp_frame.specs.Stream.{IsNotUnpackedFor};
 ghost use Rattle.cp_packed.specs.Unpacking.{IsPending, brought, pending_of};
-ghost use Rattle.cp_frame.specs.Bulk.{TakesWithin};
-ghost use Rattle.cp_frame.specs.declared.fault.FrameFault.TheVariants.{OutOfMemory, FrameTooLarge};
+ghost use Rattle.cp_frame.specs.Bulk.{IsFullFor, TakesWithin};
+ghost use Rattle.cp_frame.specs.declared.fault.FrameFault.TheVariants.{FrameTooLarge};
 
 use crate::fault::FrameFault;
 use cp_packed::{OpenGroup, take_groups};
@@ -64,7 +64,7 @@ fn take_byte(
     requires within { length words.old.items ≤ limit }
     requires pending { IsPending (pending_of group.old) }
     ensures takes { OnOk result (TakesWithin limit words.old.items (pending_of group.old) (byte ∷ []) words.new.items (pending_of group.new) []) }
-    ensures fault { IfErr result (λ fault. (fault ≡ OutOfMemory) ⊎ ((fault ≡ FrameTooLarge) × (limit < length words.old.items + length (brought (pending_of group.old) byte)))) }
+    ensures fault { IfErr result (IsFullFor limit (length words.old.items + length (brought (pending_of group.old) byte))) }
 {
     let run = group.take(byte)?;
     if limit - words.len() < run.count {

@@ -1,13 +1,17 @@
 -- A tree's body, apart from the pointer word that has the body.
-use Rattle.std.specs.Prelude.{◌≡◌, ℕ, ◌+◌, List, length}
+use Rattle.std.specs.Prelude.{◌≡◌, ℕ, ◌+◌, List, length, Option, Some}
 use Rattle.cp_words.specs.Word.{words_for}
+use Rattle.cp_words.specs.declared.place.Place.{Place}
 use Rattle.cp_words.specs.declared.pointer.ElementSize.TheVariants as sizes
+use Rattle.cp_reading.specs.declared.area.Area.{Area}
 use Rattle.cp_reading.specs.declared.area.Form.{Form}
 use Rattle.cp_reading.specs.declared.area.Form.TheVariants as forms
 use Rattle.cp_tree.specs.Node.{element_size, element_count, Node, null, cap, struct, list, ptrs, structs, Nodes, count, number_of}
 use Rattle.cp_words.specs.Targets.{words_at}
 use Rattle.cp_tree.specs.Elements.{elements_of}
 use Rattle.cp_reading.specs.Denotes.{EachDenotes, EachBody}
+use Rattle.cp_reading.specs.Locates.{Locates}
+use Rattle.cp_reading.specs.Reading.{IsWhole}
 
 -- a tree that has a body
 abbrev pub IsBody : Node → Type 0
@@ -39,3 +43,8 @@ IsListIn f ws other = ⊥
 -- a struct's words and pointers stand from word q of segment s on, this many of each
 abbrev pub IsBodyAt : List (List ℕ) → ℕ → ℕ → ℕ → ℕ → List ℕ × Nodes → Type 0
 IsBodyAt S s q d n b = (length b.0 ≡ d) × (count b.1 ≡ n) × (b.0 ≡ words_at S s q d) × EachDenotes S s (q + d) b.1
+
+-- the pointer word's body, if it has one of a whole form, is the one that was found
+abbrev pub FindsWhole : List (List ℕ) → Place → Option Area → Type 0
+FindsWhole S at found =
+    (f : Form) (s' start : ℕ) → IsWhole f → Locates S at.segment at.word f s' start → found ≡ Some (record { form = f; segment = s'; start = start })

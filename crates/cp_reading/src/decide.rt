@@ -1,13 +1,13 @@
 //! Whether a word denotes a given tree, part by part: slow, for comparing with the reader.
 
-ghost use Rattle.std.specs.Prelude.{◌≡◌, ◌<◌, ◌≤◌, ◌+◌, ◌*◌, ◌^◌, ℕ, length, map, Some, IfOk, IfSome, Decides};
+ghost use Rattle.std.specs.Prelude.{◌≡◌, ◌<◌, ◌≤◌, ◌+◌, ◌*◌, ◌^◌, length, map, Some, IfOk, IfSome, Decides};
 ghost use Rattle.cp_words.specs.Targets.{segment};
 ghost use Rattle.cp_reading.specs.Locates.{Locates};
 ghost use Rattle.cp_reading.specs.Denotes.{Denotes, EachDenotes, EachBody};
-ghost use Rattle.cp_reading.specs.Fills.{form_of, Fills, IsBodyAt};
+ghost use Rattle.cp_reading.specs.Fills.{form_of, Fills, FindsWhole, IsBodyAt};
 ghost use Rattle.cp_tree.specs.NodeOf.{node_of, body_of, nodes_of, bodies_of};
 ghost use Rattle.cp_words.specs.Segments.{words_of};
-ghost use Rattle.cp_reading.specs.Reading.{body_words, IsWhole, IsWithin};
+ghost use Rattle.cp_reading.specs.Reading.{body_words, IsWithin};
 ghost use Rattle.cp_reading.specs.declared.area.Form.{Form};
 
 use crate::area::{Area, Form, area_of};
@@ -58,7 +58,7 @@ fn body_found(segments: &[Vec<u64>], at: Place) -> Option<Area>
     ensures within { IfSome result (IsWithin (words_of segments.now)) }
     ensures small { IfSome result (λ a. a.start + body_words a.form < 2 ^ 63) }
     ensures located { IfSome result (λ a. Locates (words_of segments.now) at.segment at.word a.form a.segment a.start) }
-    ensures only { (f : Form) (s' start : ℕ) → IsWhole f → Locates (words_of segments.now) at.segment at.word f s' start → result ≡ Some (record { form = f; segment = s'; start = start }) }
+    ensures only { FindsWhole (words_of segments.now) at result }
 {
     let pointer = pointer_at(segments, at)?;
     let Ok(target) = target_of(segments, at, pointer) else {

@@ -30,8 +30,12 @@ abbrev pub cap_in : List Cap → Node → Cap
 cap_in table (cap i) = slice_index_or table i caps.None
 cap_in table other = caps.None
 
+-- the capability at a path of a tree, of this table
+abbrev pub cap_along : List Cap → Node → List ℕ → Cap
+cap_along table t path = cap_in table (node_along t path)
+
 -- What an outcome gives at a path: of results the capability there, of an exception at every path one that fails with it.
 abbrev pub cap_at : Outcome → List ℕ → Cap
-cap_at (outcomes.Results content table) path = cap_in table (node_along content path)
+cap_at (outcomes.Results content table) path = cap_along table content path
 cap_at (outcomes.Failed exception) path = caps.Broken exception
 cap_at outcomes.Canceled path = caps.Broken canceled

@@ -17,7 +17,7 @@ mod walk;
 pub use call::{Held, Origin, Request};
 pub use cap::{Cap, Caps, Path, PromiseId};
 pub use kept_outcome::KeptOutcome;
-pub use outcome::Outcome;
+pub use outcome::{Outcome, failed};
 pub use route::{Gate, Route};
 pub use values::{Question, QuestionKind, Values};
 pub use waiting::Waiting;

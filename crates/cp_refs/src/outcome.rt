@@ -3,7 +3,7 @@
 ghost use Rattle.std.specs.Prelude.{◌≡◌, MatchOption, IfOk};
 ghost use Rattle.cp_tree.specs.Node.{null};
 ghost use Rattle.cp_tree.specs.NodeOf.{node_of};
-ghost use Rattle.cp_refs.specs.At.{failed, null_capability, node_along, cap_in, cap_at};
+ghost use Rattle.cp_refs.specs.At.{failed, null_capability, node_along, cap_along, cap_at};
 ghost use Rattle.cp_refs.specs.declared.cap.Cap.TheVariants.{None};
 
 use crate::cap::{Cap, Caps};
@@ -53,8 +53,8 @@ impl Outcome {
     }
 }
 
-/// An exception of type failed.
-pub(crate) fn failed(alloc: Global, reason: &str) -> Result<Exception, AllocError>
+/// An exception of type failed, with this reason and no trace (rpc.capnp, "Exception").
+pub fn failed(alloc: Global, reason: &str) -> Result<Exception, AllocError>
     ensures { IfOk result (λ e. e ≡ failed reason.now) }
 {
     Ok(Exception {
@@ -73,7 +73,7 @@ pub(crate) fn null_capability(alloc: Global) -> Result<Exception, AllocError>
 
 /// The capability at a path of a tree, with this table. `None` is null.
 pub(crate) fn cap_along<'a>(tree: &Tree, caps: &'a Caps, path: &[u16]) -> Option<&'a Cap>
-    ensures { MatchOption result (cap_in caps.now (node_along (node_of tree.now) path.now) ≡ None) (λ c. c.now ≡ cap_in caps.now (node_along (node_of tree.now) path.now)) }
+    ensures { MatchOption result (cap_along caps.now (node_of tree.now) path.now ≡ None) (λ c. c.now ≡ cap_along caps.now (node_of tree.now) path.now) }
 {
     let Tree::Cap(index) = tree_along(tree, path)? else {
         return None;

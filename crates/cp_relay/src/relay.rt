@@ -41,16 +41,12 @@ impl Relay {
         ensures fresh { result ≡ new_relay mode output limits }
         ensures stands { StandsFor result [] }
     {
-        let frames = match mode {
-            Mode::Plain => FrameReader::plain(alloc, limits),
-            Mode::Packed => FrameReader::packed(alloc, limits),
-        };
         Relay {
             passage: Passage {
                 alloc,
                 limits,
                 output,
-                frames,
+                frames: FrameReader::new(alloc, mode, limits),
                 kept: Vec::new(alloc),
                 at: 0,
             },

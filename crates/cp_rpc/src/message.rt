@@ -149,8 +149,9 @@ impl Message {
         })
     }
 
-    /// Whether each list of the struct that the message is written as is short enough.
-    pub(crate) fn fits(&self) -> bool
+    /// Whether each list of the struct that the message is written as is short enough: it has fewer than 2^29 elements, and
+    /// fewer words than that (encoding specification, "Lists").
+    pub fn fits(&self) -> bool
         ensures { result ≡ message_fits self.now }
     {
         match self {

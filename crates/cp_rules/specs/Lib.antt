@@ -3,3 +3,4 @@ pub mod Paces
 pub mod Ungiven
 pub mod Going
 pub mod Settling
+pub mod Giving

@@ -7,12 +7,13 @@ use Rattle.cp_tables.specs.declared.exchange.Exchange.{Exchange}
 use Rattle.cp_refs.specs.Values.{ValueMaps}
 use Rattle.cp_refs.specs.declared.cap.Cap.{Cap}
 use Rattle.cp_refs.specs.declared.outcome.Outcome.{Outcome}
-use Rattle.cp_machine.specs.Give.{SettleTied}
-use Rattle.cp_machine.specs.State.{State, Over}
+use Rattle.cp_machine.specs.Give.{SettleTied, Tells}
+use Rattle.cp_machine.specs.State.{State, Over, with_exports}
 use Rattle.cp_machine.specs.Take.{lowered_by}
 use Rattle.cp_machine.specs.Then.{Done}
 use Rattle.cp_machine.specs.declared.effect.Effect.{Effect}
 use Rattle.cp_machine.specs.declared.entry.AnswerEntry.{AnswerEntry}
+use Rattle.cp_machine.specs.declared.entry.Tied.{Tied}
 use Rattle.cp_machine.specs.declared.fault.PeerFault.{PeerFault}
 use Rattle.cp_state.specs.declared.parts.Core.{Core}
 use Rattle.cp_state.specs.declared.halt.Halt.{Halt}
@@ -59,6 +60,14 @@ abbrev pub SettlesBy : {A : Type 0} → (State → Result Done PeerFault → Typ
 SettlesBy Rule old exports result before after new raised settled =
     (s : State) → s.values.questions ≡ old.questions
     → Settles (Rule (settling s old.promises exports [])) result before after (λ x. settling s new.promises raised (settled x))
+
+-- so these promises, which are tied to an answer, by what it was given
+abbrev pub SettlesTied : {A : Type 0} → Outcome → List Tied → ValueMaps → Table (Counted Cap) → Result A Halt → List Effect → List Effect → ValueMaps → Table (Counted Cap) → (A → List Settled) → Type 0
+SettlesTied outcome tied = SettlesBy (λ s. SettleTied s outcome tied)
+
+-- the peer is told what a promise came to, if it is exported
+abbrev pub TellsOf : ℕ → Cap → Table (Counted Cap) → Result (Option ℕ) Halt → List Effect → List Effect → Table (Counted Cap) → Type 0
+TellsOf promise last old result before after new = (s : State) → Settles (Tells (with_exports s old) promise last) result before after (λ _. with_exports s new)
 
 -- so the promises that are tied to an answer
 abbrev pub SettlesTiedTo : {A : Type 0} → Core → ℕ → Outcome → Result A Halt → List Effect → List Effect → Core → (A → List Settled) → Type 0

@@ -1,14 +1,13 @@
 //! How entries of questions and answers change.
 
-ghost use Rattle.std.specs.Prelude.{◌≡◌, [], Some, true};
-ghost use Rattle.std.specs.FinMap as map;
+ghost use Rattle.std.specs.Prelude.{◌≡◌, Some, true};
 ghost use Rattle.cp_tables.specs.Table.{with_change};
-ghost use Rattle.cp_tables.specs.declared.exchange.Stage.TheVariants as stages;
 ghost use Rattle.cp_machine.specs.Answering.{without_answer};
 ghost use Rattle.cp_machine.specs.Give.{without_question};
 ghost use Rattle.cp_machine.specs.Go.{delivered};
 ghost use Rattle.cp_machine.specs.declared.entry.AnswerEntry.{AnswerEntry};
 ghost use Rattle.cp_state.specs.StateOf.{state_of};
+ghost use Rattle.cp_rules.specs.Giving.{NotesGiven};
 
 use cp_machine::{AnswerEntry, Mentions, QuestionEntry, TiedPromises};
 use cp_refs::Origin;
@@ -78,7 +77,7 @@ pub(crate) fn note_given(
     id: u32,
     mentions: Mentions,
 )
-    ensures { (kept : AnswerEntry) → map.get answers.old id ≡ Some (record { stage = stages.Open; kept = kept }) → answers.new ≡ map.insert answers.old id (record { stage = stages.Returned; kept = record kept { mentions = mentions; tied = [] } }) }
+    ensures { NotesGiven answers.old id mentions answers.new }
 {
     let Some(kept) = answers.kept_mut(id) else {
         return;

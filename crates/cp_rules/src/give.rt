@@ -1,14 +1,13 @@
 //! How outcomes are given to answers.
 
-ghost use Rattle.std.specs.Prelude.{◌≡◌, [], Some, IfOk, OnOk};
-ghost use Rattle.std.specs.FinMap as map;
+ghost use Rattle.std.specs.Prelude.{◌≡◌, Some, IfOk, OnOk};
 ghost use Rattle.cp_tables.specs.declared.exchange.Stage.TheVariants as stages;
 ghost use Rattle.cp_machine.specs.State.{State};
-ghost use Rattle.cp_machine.specs.Give.{Give, GiveAnswer, GiveBy, Returns, return_of, returned_mentions};
+ghost use Rattle.cp_machine.specs.Give.{Give, GiveAnswer, Returns, return_of, returned_mentions};
 ghost use Rattle.cp_machine.specs.InUse.{caps_of};
-ghost use Rattle.cp_machine.specs.declared.entry.AnswerEntry.{AnswerEntry};
 ghost use Rattle.cp_state.specs.Halts.{Acts, IfFault, Leaves};
 ghost use Rattle.cp_state.specs.StateOf.{state_of};
+ghost use Rattle.cp_rules.specs.Giving.{GivesAnswer};
 ghost use Rattle.cp_rules.specs.Leading.{with_parts};
 ghost use Rattle.cp_rules.specs.Ungiven.{AllEnd, IsUngiven};
 ghost use Rattle.cp_rules.specs.Settling.{OnlySettles, SettlesTiedTo, lowered_back};
@@ -75,7 +74,7 @@ fn give_open(
 ) -> Result<(), Halt>
     requires ungiven { IsUngiven (state_of core.old) (Origin.Answer id) }
     requires ends { AllEnd core.old.values (caps_of outcome) }
-    ensures acts { (kept : AnswerEntry) → map.get core.old.answers id ≡ Some (record { stage = stages.Open; kept = kept }) → Acts (GiveBy (state_of core.old) id outcome kept stages.Open) result effects.old.items effects.new.items (state_of core.new) }
+    ensures acts { GivesAnswer stages.Open core.old id outcome result effects.old.items effects.new.items core.new }
     ensures unchanged { IfFault result (core.new ≡ core.old) }
 {
     let kept = KeptOutcome::of(core.alloc, &outcome)?;
@@ -106,7 +105,7 @@ fn give_finished(
 ) -> Result<(), Halt>
     requires ungiven { IsUngiven (state_of core.old) (Origin.Answer id) }
     requires ends { AllEnd core.old.values (caps_of outcome) }
-    ensures acts { (kept : AnswerEntry) → map.get core.old.answers id ≡ Some (record { stage = stages.Finished; kept = kept }) → Acts (GiveBy (state_of core.old) id outcome kept stages.Finished) result effects.old.items effects.new.items (state_of core.new) }
+    ensures acts { GivesAnswer stages.Finished core.old id outcome result effects.old.items effects.new.items core.new }
     ensures unchanged { IfFault result (core.new ≡ core.old) }
 {
     let kept = KeptOutcome::of(core.alloc, &outcome)?;

@@ -1,13 +1,11 @@
 //! How outcomes are given to the application's questions.
 
 ghost use Rattle.std.specs.Prelude.{◌≡◌, Some, OnOk};
-ghost use Rattle.std.specs.FinMap as map;
-ghost use Rattle.cp_tables.specs.declared.exchange.Exchange.{Exchange};
 ghost use Rattle.cp_tables.specs.declared.exchange.Stage.TheVariants as stages;
-ghost use Rattle.cp_machine.specs.Give.{GiveOwn, GiveOwnBy, question_over, without_question};
-ghost use Rattle.cp_machine.specs.declared.entry.QuestionEntry.{QuestionEntry};
+ghost use Rattle.cp_machine.specs.Give.{GiveOwn, question_over, without_question};
 ghost use Rattle.cp_state.specs.Halts.{Acts, IfFault};
 ghost use Rattle.cp_state.specs.StateOf.{state_of};
+ghost use Rattle.cp_rules.specs.Giving.{GivesQuestion};
 ghost use Rattle.cp_rules.specs.Ungiven.{IsUngiven};
 
 use crate::entry::remove_question;
@@ -45,7 +43,7 @@ fn settle_question(
     outcome: Outcome,
     effects: &mut Vec<Effect>,
 ) -> Result<(), Halt>
-    ensures acts { (kept : QuestionEntry) → map.get core.old.questions id ≡ Some (record { stage = stages.Open; kept = kept }) → Acts (GiveOwnBy (state_of core.old) id outcome stages.Open) result effects.old.items effects.new.items (state_of core.new) }
+    ensures acts { GivesQuestion stages.Open core.old id outcome result effects.old.items effects.new.items core.new }
     ensures unchanged { IfFault result (core.new ≡ core.old) }
 {
     let gift = KeptOutcome::of(core.alloc, &outcome)?;

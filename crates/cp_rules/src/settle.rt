@@ -4,22 +4,21 @@ ghost use Rattle.std.specs.Prelude.{◌≡◌, ◌∷◌, [], Some, None, IfOk, 
 ghost use Rattle.std.specs.FinMap as map;
 ghost use Rattle.cp_tables.specs.Table.{with_change};
 ghost use Rattle.cp_machine.specs.State.{State, with_exports};
-ghost use Rattle.cp_machine.specs.Give.{ResolvesEnd, Settle, SettleTied, Tells, value_for};
+ghost use Rattle.cp_machine.specs.Give.{ResolvesEnd, Settle, Tells, value_for};
 ghost use Rattle.cp_machine.specs.InUse.{caps_of};
 ghost use Rattle.cp_machine.specs.Resolving.{given_back};
-ghost use Rattle.cp_refs.specs.At.{failed};
 ghost use Rattle.cp_refs.specs.Route.{HasRoute};
 ghost use Rattle.cp_state.specs.Halts.{Acts, IfFault, Leaves};
 ghost use Rattle.cp_state.specs.Queue.{with_over};
 ghost use Rattle.cp_state.specs.StateOf.{state_of};
 ghost use Rattle.cp_rules.specs.Ungiven.{AllEnd, AreOpenOnce};
-ghost use Rattle.cp_rules.specs.Settling.{Settles, SettlesBy, lowered_back, over_settled, raised_by, reopened};
+ghost use Rattle.cp_rules.specs.Settling.{Settles, SettlesBy, SettlesTied, TellsOf, lowered_back, over_settled, raised_by, reopened};
 
 use crate::come_to::come_to;
 use crate::say::{mention, say_end};
 use cp_machine::{Effect, Tied};
-use cp_refs::{Cap, KeptOutcome, PromiseId};
-use cp_rpc::{Exception, ExceptionKind, Message, Resolution, Resolve, Text};
+use cp_refs::{Cap, KeptOutcome, PromiseId, failed};
+use cp_rpc::{Message, Resolution, Resolve};
 use cp_state::{Core, Exported, Gates, Gift, Halt, Hosted, NumberedValues};
 use std::alloc::{AllocError, Global};
 
@@ -69,7 +68,7 @@ pub(crate) fn settle_tied(
 ) -> Result<Vec<Settled>, Halt>
     requires unsettled { AreOpenOnce values.old.promises tied.now }
     requires ends { AllEnd values.old (caps_of outcome.now) }
-    ensures settled { SettlesBy (λ s. SettleTied s outcome.now tied.now) values.old exports.old result effects.old.items effects.new.items values.new exports.new (λ v. v.items) }
+    ensures settled { SettlesTied outcome.now tied.now values.old exports.old result effects.old.items effects.new.items values.new exports.new (λ v. v.items) }
     ensures promises { IfOk result (λ _. values.new ≡ record values.old { promises = values.new.promises }) }
     ensures unchanged { IfFault result ((values.new ≡ values.old) × (exports.new ≡ exports.old)) }
 {
@@ -100,17 +99,6 @@ pub(crate) fn end_gates(
         gates.end(Gift::Promise(one.promise, value))?;
     }
     Ok(())
-}
-
-/// An exception of type failed.
-pub fn failed(alloc: Global, reason: &str) -> Result<Exception, AllocError>
-    ensures { IfOk result (λ e. e ≡ failed reason.now) }
-{
-    Ok(Exception {
-        kind: ExceptionKind::Failed,
-        reason: Text::new(String::from_str(alloc, reason)?),
-        trace: Text::new(String::new(alloc)),
-    })
 }
 
 /// Settles a promise, whose gate is still to be ended. One whose value leads back to it is broken.
@@ -168,7 +156,7 @@ fn tell(
     last: &Cap,
     effects: &mut Vec<Effect>,
 ) -> Result<Option<u32>, Halt>
-    ensures told { (s : State) → Settles (Tells (with_exports s exports.old) promise last.now) result effects.old.items effects.new.items (λ _. with_exports s exports.new) }
+    ensures told { TellsOf promise last.now exports.old result effects.old.items effects.new.items exports.new }
     ensures back { IfOk result (λ raised. lowered_back exports.new (option_to_list raised) ≡ exports.old) }
     ensures unchanged { IfFault result (exports.new ≡ exports.old) }
 {

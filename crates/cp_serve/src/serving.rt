@@ -1,16 +1,14 @@
 //! Serving a connection.
 
-ghost use Rattle.std.specs.Prelude.{◌≡◌, ◌<◌, ◌+◌, ◌-◌, ◌^◌, ◌++◌, ◌⊎◌, min, ℕ, List, Option, IfOk, IfErr, IfSome, IfNone, OnOk, OnErr, length, map, [], ◌∷◌, None, false};
-ghost use Rattle.std.specs.Io.KnownBytes.{Consumes, IsAtEnd};
+ghost use Rattle.std.specs.Prelude.{◌≡◌, ◌<◌, ◌+◌, ◌-◌, ◌^◌, min, ℕ, List, Option, IfOk, IfErr, IfSome, IfNone, OnOk, OnErr, length, [], ◌∷◌, None, false};
 ghost use Rattle.cp_words.specs.Limits.{standard};
 ghost use Rattle.cp_rpc.specs.Told.{told};
 ghost use Rattle.cp_frame.specs.declared.mode.Mode.{Mode};
 ghost use Rattle.cp_stream.specs.declared.fault.StreamFault.TheVariants.{Refused};
 ghost use Rattle.cp_stream.specs.declared.fault.StreamFault.TheVariants as faults;
-ghost use Rattle.cp_stream.specs.Tap.{inner_of, failures_of};
+ghost use Rattle.cp_stream.specs.Tap.{failures_of};
 ghost use Rattle.cp_stream.specs.Write.{Sends};
 ghost use Rattle.cp_stream.specs.Stream.{Holds, HoldsNone};
-ghost use Rattle.cp_frame.specs.Reader.{StandsFor, new_reader};
 ghost use Rattle.cp_stream.specs.Reader.{IsAt};
 ghost use Rattle.cp_sizes.specs.Sizes.{IsWritable};
 ghost use Rattle.cp_servants.specs.Servant.{On, Seen};
@@ -90,7 +88,7 @@ impl Server {
         Server {
             alloc,
             mode,
-            frames: frame_reader(alloc, mode),
+            frames: FrameReader::new(alloc, mode, Limits::standard()),
             at: 0,
             session: Session::new(alloc),
             messages: 0,
@@ -405,16 +403,4 @@ fn write_out<W: Write>(to: &mut Tap<W>, bytes: &[u8]) -> Result<(), StreamFault>
         return Ok(());
     }
     to.flush().map_err(|_| StreamFault::Device)
-}
-
-/// A reader of frames to which nothing has come.
-fn frame_reader(alloc: Global, mode: Mode) -> FrameReader
-    ensures fresh { result ≡ new_reader mode standard }
-    ensures stands { StandsFor result [] }
-{
-    let limits = Limits::standard();
-    match mode {
-        Mode::Plain => FrameReader::plain(alloc, limits),
-        Mode::Packed => FrameReader::packed(alloc, limits),
-    }
 }

@@ -1,5 +1,5 @@
 -- The calls that wait, with the ticket of the next call.
-use Rattle.std.specs.Prelude.{refl, ℕ}
+use Rattle.std.specs.Prelude.{◌≡◌, refl, ℕ, Option, MatchOption}
 use Rattle.std.specs.Coded.{Coded, code_by, coded×, coded_ℕ}
 use Rattle.std.specs.FinMap as map
 use Rattle.cp_tables.specs.Table.{Table}
@@ -10,6 +10,7 @@ use Rattle.cp_refs.specs.contracts.outcome.Outcome as outcome
 use Rattle.cp_refs.specs.declared.call.Held.{Held}
 use Rattle.cp_refs.specs.contracts.call.Held as held
 use Rattle.cp_machine.specs.State.{Over, Waiting}
+use Rattle.cp_state.specs.declared.gates.Next.{Next}
 
 -- the calls that wait and the gates that ended, and the ticket of the next call
 pub record Queue : Type 0 where
@@ -22,6 +23,10 @@ with_calls q calls = record q { waiting = record q.waiting { calls = calls } }
 
 abbrev pub with_over : Queue → Over → Queue
 with_over q over = record q { waiting = record q.waiting { over = over } }
+
+-- the call that was found was taken out, if one was
+abbrev pub TakesOut : Queue → Option Next → Queue → Type 0
+TakesOut old next new = MatchOption next (new ≡ old) (λ found. new ≡ with_calls old (map.remove old.waiting.calls found.call.ticket))
 
 -- they are stored as their parts
 abbrev table_code : {X : Type 0} → Coded X → Coded (Table X)

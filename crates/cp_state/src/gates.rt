@@ -78,7 +78,7 @@ impl Model for Gates {
 
 impl Gates {
     ghost use Rattle.std.specs.Prelude.{◌≡◌, None};
-    ghost use Rattle.cp_state.specs.Queue.{with_calls, with_over};
+    ghost use Rattle.cp_state.specs.Queue.{TakesOut, with_calls, with_over};
 
     /// No calls.
     pub fn new(alloc: Global) -> Gates
@@ -204,7 +204,7 @@ impl Gates {
     /// gave.
     pub fn next(&mut self) -> Result<Option<Next>, AllocError>
         ensures left { IfOk result (λ next. MatchOption next (NoneOverIn self.old.waiting) (λ found. IsNextIn self.old.waiting found.call found.cap)) }
-        ensures rest { IfOk result (λ next. MatchOption next (self.new ≡ self.old) (λ found. self.new ≡ with_calls self.old (map.remove self.old.waiting.calls found.call.ticket))) }
+        ensures rest { IfOk result (λ next. TakesOut self.old next self.new) }
         ensures given { IfOk result (λ next. IfSome next (λ found. found.call.ticket < self.old.next_ticket)) }
     {
         if self.is_torn {

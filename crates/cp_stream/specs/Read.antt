@@ -6,6 +6,7 @@ use Rattle.cp_frame.specs.declared.mode.Mode.{Mode}
 use Rattle.cp_frame.specs.declared.fault.FrameFault.{FrameFault}
 use Rattle.cp_frame.specs.declared.fault.FrameFault.TheVariants as frames
 use Rattle.cp_frame.specs.Frame.{Frame}
+use Rattle.cp_packed.specs.Words.{AreBytes}
 use Rattle.cp_frame.specs.Stream as streams
 use Rattle.cp_rpc.specs.declared.message.Message.{Message}
 use Rattle.cp_stream.specs.declared.fault.Refusal.{Refusal}
@@ -14,6 +15,8 @@ use Rattle.cp_stream.specs.declared.fault.StreamFault.{StreamFault}
 use Rattle.cp_stream.specs.declared.fault.StreamFault.TheVariants as faults
 use Rattle.cp_stream.specs.Stream.{IsFrameOf, HoldsNone, Front, HasFault}
 use Rattle.cp_stream.specs.Reader.{IsMemory}
+use Rattle.cp_stream.specs.Tap.{inner_of, failures_of}
+use Rattle.cp_stream.specs.declared.tap.Tap.{Tap}
 
 -- exactly these bytes were read, and nothing is left
 abbrev pub ReadsAll : Option (List ℕ) → Option (List ℕ) → List ℕ → Type 0
@@ -53,6 +56,14 @@ FailedOnce old new = new ≡ (old + 1) % 2 ^ 64
 abbrev pub StopsAt : (List ℕ → Refusal → Type 0) → Option (List ℕ) → Option (List ℕ) → ℕ → ℕ → StreamFault → Type 0
 StopsAt why old new failures failed (faults.Refused at refusal) = (at ≡ 0) × (failed ≡ failures) × (b : List ℕ) × Consumes old new b × why b refusal
 StopsAt why old new failures failed faults.Device = FailedOnce failures failed × (b : List ℕ) × Consumes old new b
+
+-- so of a reader, by what it tells of its bytes
+abbrev pub StopsReading : {T : Type 0} → (T → Option (List ℕ)) → (Option (List ℕ) → List ℕ → Refusal → Type 0) → Tap T → Tap T → StreamFault → Type 0
+StopsReading known why old new = StopsAt (why (known (inner_of new))) (known (inner_of old)) (known (inner_of new)) (failures_of old) (failures_of new)
+
+-- what holds of a reader whose bytes are known, before and after
+abbrev pub OfKnown : {T : Type 0} → (T → Option (List ℕ)) → Tap T → Tap T → (List ℕ → Option (List ℕ) → Option (List ℕ) → Type 0) → Type 0
+OfKnown known old new holds = (b : List ℕ) → AreBytes b → known (inner_of old) ≡ Some b → holds b (known (inner_of old)) (known (inner_of new))
 
 -- the device failed, or memory ran out
 abbrev pub IsExcused : StreamFault → Type 0

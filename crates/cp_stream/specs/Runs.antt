@@ -1,10 +1,15 @@
 -- A stream of messages has one reading, and it doesn't matter in which pieces it comes.
-use Rattle.std.specs.Prelude.{◌≡◌, ℕ, ◌^◌, ◌<◌, List, [], ◌∷◌, ◌++◌}
-use Rattle.cp_words.specs.Limits.{Bounds}
+use Rattle.std.specs.Prelude.{◌≡◌, ℕ, ◌^◌, ◌<◌, ◌≤◌, List, [], ◌∷◌, ◌++◌, length}
+use Rattle.cp_words.specs.Limits.{Bounds, IsAllowed}
+use Rattle.cp_tree.specs.Node.{Node, IsStruct, depth, cost}
+use Rattle.cp_tree.specs.Shaped.{Shaped}
+use Rattle.cp_reading.specs.Denotes.{Root}
+use Rattle.cp_writing.specs.Layout.{Layout, Capacity}
 use Rattle.cp_frame.specs.declared.mode.Mode.{Mode}
 use Rattle.cp_frame.specs.Runs.{joined}
 use Rattle.cp_rpc.specs.declared.message.Message.{Message}
 use Rattle.cp_stream.specs.Stream.{Front, Stream, HasFault}
+use Rattle.cp_stream.specs.Write.{IsWrittenAs}
 use Rattle.cp_stream.specs.Reader.{Reader, StandsFor, IsReading, IsMemory, Reads, Gives, Reports}
 use Rattle.cp_stream.specs.declared.fault.Refusal.{Refusal}
 use Rattle.cp_stream.specs.declared.fault.StreamFault.TheVariants as faults
@@ -41,3 +46,13 @@ abbrev pub GivesSame : Type 0
 GivesSame = (old new other : Reader) (pieces others : List (List ℕ)) (given gotten : List Message) (b : List ℕ)
     → old.at < 2 ^ 64 → StandsFor old b → Fed old pieces given new → Fed old others gotten other → joined pieces ≡ joined others
     → (given ≡ gotten) × (new.at ≡ other.at) × (rest : List ℕ) × StandsFor new rest × StandsFor other rest
+
+-- the segments that a struct is laid into are read as that struct, where it is within the limits
+abbrev pub ReadsLayouts : Type 0
+ReadsLayouts = (S : List (List ℕ)) (capacity : Capacity) (limits : Bounds) (t : Node)
+    → Shaped t → IsStruct t → depth t ≤ limits.nesting → cost t ≤ limits.traversal → Layout S capacity t → Root S limits t
+
+-- a message that is written is read back, whatever follows it
+abbrev pub ReadsWritten : Type 0
+ReadsWritten = (mode : Mode) (limits : Bounds) (words segments : ℕ) (m : Message) (b rest : List ℕ)
+    → IsAllowed limits → IsWrittenAs mode limits words segments m b → Front mode limits (b ++ rest) (length b) m

@@ -1,16 +1,13 @@
 //! What holds of every stream, and of every tree and of every message that is written.
 
-ghost use Rattle.std.specs.Prelude.{◌≡◌, ◌≤◌, ◌++◌, ℕ, List, length};
-ghost use Rattle.cp_words.specs.Limits.{Bounds, IsAllowed};
-ghost use Rattle.cp_tree.specs.Node.{Node, IsStruct, depth, cost};
+ghost use Rattle.std.specs.Prelude.{◌≡◌, ℕ, List};
+ghost use Rattle.cp_words.specs.Limits.{Bounds};
+ghost use Rattle.cp_tree.specs.Node.{Node};
 ghost use Rattle.cp_tree.specs.Shaped.{Shaped};
 ghost use Rattle.cp_reading.specs.Denotes.{Denotes, Root};
 ghost use Rattle.cp_writing.specs.Layout.{Layout, Capacity};
 ghost use Rattle.cp_frame.specs.declared.mode.Mode.{Mode};
-ghost use Rattle.cp_rpc.specs.declared.message.Message.{Message};
-ghost use Rattle.cp_stream.specs.Runs.{HasOneFront, IsOneStream, GivesStream, ReportsRest, GivesSame};
-ghost use Rattle.cp_stream.specs.Stream.{Front};
-ghost use Rattle.cp_stream.specs.Write.{IsWrittenAs};
+ghost use Rattle.cp_stream.specs.Runs.{HasOneFront, IsOneStream, GivesStream, ReportsRest, GivesSame, ReadsLayouts, ReadsWritten};
 
 /// A stream begins with one message at most, and is one list of messages and one rest.
 pub fn one_front()
@@ -34,11 +31,11 @@ pub fn layout_denotes()
 /// The segments that a struct is laid into are read as that struct, where it is within the limits,
 /// and as no other tree.
 pub fn written_is_read()
-    ensures root { (S : List (List ℕ)) (capacity : Capacity) (limits : Bounds) (t : Node) → Shaped t → IsStruct t → depth t ≤ limits.nesting → cost t ≤ limits.traversal → Layout S capacity t → Root S limits t }
+    ensures root { ReadsLayouts }
     ensures only { (S : List (List ℕ)) (capacity : Capacity) (limits : Bounds) (t u : Node) → Shaped t → Layout S capacity t → Root S limits u → u ≡ t }
 {}
 
 /// A message that is written is read back, whatever follows it.
 pub fn read_back()
-    ensures { (mode : Mode) (limits : Bounds) (words segments : ℕ) (m : Message) (b rest : List ℕ) → IsAllowed limits → IsWrittenAs mode limits words segments m b → Front mode limits (b ++ rest) (length b) m }
+    ensures { ReadsWritten }
 {}

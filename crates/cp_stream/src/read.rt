@@ -2,13 +2,12 @@
 
 ghost use Rattle.std.specs.Prelude.{◌≡◌, ◌≢◌, ◌<◌, ◌≤◌, ℕ, List, [], IfOk, IfErr, OnOk, OnErr, Some, None, length, take};
 ghost use Rattle.std.specs.Io.KnownBytes.{Consumes, IsAtEnd};
-ghost use Rattle.cp_packed.specs.Words.{AreBytes};
-ghost use Rattle.cp_frame.specs.Reader.{StandsFor, IsReading, new_reader as fresh_reader};
+ghost use Rattle.cp_frame.specs.Reader.{StandsFor, IsReading};
 ghost use Rattle.cp_frame.specs.declared.fault.FrameFault.TheVariants.{Truncated};
 ghost use Rattle.cp_stream.specs.declared.fault.Refusal.TheVariants as refusals;
 ghost use Rattle.cp_stream.specs.declared.fault.StreamFault.TheVariants.{Device, Refused};
 ghost use Rattle.cp_stream.specs.Tap.{inner_of, failures_of};
-ghost use Rattle.cp_stream.specs.Read.{ReadsFrame, ReadsMessage, RefusesFrame, RefusesMessage, FailedOnce, StopsAt, OnlyFrame, OnlyMessage};
+ghost use Rattle.cp_stream.specs.Read.{FailedOnce, OfKnown, OnlyFrame, OnlyMessage, ReadsFrame, ReadsMessage, RefusesFrame, RefusesMessage, StopsReading};
 
 use crate::fault::{Refusal, StreamFault, refused};
 use crate::tap::Tap;
@@ -38,9 +37,9 @@ pub fn read_segments<R: Read>(
 ) -> Result<Option<Segments>, StreamFault>
     ensures read { IfOk result (ReadsFrame mode limits (R.remaining (inner_of from.old)) (R.remaining (inner_of from.new))) }
     ensures counted { OnOk result (failures_of from.new ≡ failures_of from.old) }
-    ensures stopped { IfErr result (StopsAt (RefusesFrame mode limits (R.remaining (inner_of from.new))) (R.remaining (inner_of from.old)) (R.remaining (inner_of from.new)) (failures_of from.old) (failures_of from.new)) }
+    ensures stopped { IfErr result (StopsReading R.remaining (RefusesFrame mode limits) from.old from.new) }
     // Bytes that are known leave one answer.
-    ensures only { (b : List ℕ) → AreBytes b → R.remaining (inner_of from.old) ≡ Some b → OnlyFrame mode limits b (R.remaining (inner_of from.old)) (R.remaining (inner_of from.new)) result }
+    ensures only { OfKnown R.remaining from.old from.new (λ b old new. OnlyFrame mode limits b old new result) }
 {
     take_frame(alloc, from, mode, limits)
 }
@@ -55,9 +54,9 @@ pub fn read_message<R: Read>(
 ) -> Result<Option<Message>, StreamFault>
     ensures read { IfOk result (ReadsMessage mode limits (R.remaining (inner_of from.old)) (R.remaining (inner_of from.new))) }
     ensures counted { OnOk result (failures_of from.new ≡ failures_of from.old) }
-    ensures stopped { IfErr result (StopsAt (RefusesMessage mode limits (R.remaining (inner_of from.new))) (R.remaining (inner_of from.old)) (R.remaining (inner_of from.new)) (failures_of from.old) (failures_of from.new)) }
+    ensures stopped { IfErr result (StopsReading R.remaining (RefusesMessage mode limits) from.old from.new) }
     // Bytes that are known leave one answer.
-    ensures only { (b : List ℕ) → AreBytes b → R.remaining (inner_of from.old) ≡ Some b → OnlyMessage mode limits b (R.remaining (inner_of from.old)) (R.remaining (inner_of from.new)) result }
+    ensures only { OfKnown R.remaining from.old from.new (λ b old new. OnlyMessage mode limits b old new result) }
 {
     take_message(alloc, from, mode, limits)
 }
@@ -71,9 +70,9 @@ fn take_frame<R: Read>(
 ) -> Result<Option<Segments>, StreamFault>
     ensures read { IfOk result (ReadsFrame mode limits (R.remaining (inner_of from.old)) (R.remaining (inner_of from.new))) }
     ensures counted { OnOk result (failures_of from.new ≡ failures_of from.old) }
-    ensures stopped { IfErr result (StopsAt (RefusesFrame mode limits (R.remaining (inner_of from.new))) (R.remaining (inner_of from.old)) (R.remaining (inner_of from.new)) (failures_of from.old) (failures_of from.new)) }
+    ensures stopped { IfErr result (StopsReading R.remaining (RefusesFrame mode limits) from.old from.new) }
 {
-    let mut frames = frame_reader(alloc, mode, limits);
+    let mut frames = FrameReader::new(alloc, mode, limits);
     let mut buffer = [0u8; PIECE];
     'reading: while frames.taken() < MOST {
         let most = frames.needs().min(PIECE);
@@ -91,17 +90,6 @@ fn take_frame<R: Read>(
         }
     }
     unreachable!()
-}
-
-/// A reader of frames of which nothing has come.
-fn frame_reader(alloc: Global, mode: Mode, limits: Limits) -> FrameReader
-    ensures fresh { result ≡ fresh_reader mode limits }
-    ensures stands { StandsFor result [] }
-{
-    match mode {
-        Mode::Plain => FrameReader::plain(alloc, limits),
-        Mode::Packed => FrameReader::packed(alloc, limits),
-    }
 }
 
 /// Reads at most this many bytes into a buffer, and says how many: 0 at the end alone.
@@ -149,7 +137,7 @@ fn take_message<R: Read>(
 ) -> Result<Option<Message>, StreamFault>
     ensures read { IfOk result (ReadsMessage mode limits (R.remaining (inner_of from.old)) (R.remaining (inner_of from.new))) }
     ensures counted { OnOk result (failures_of from.new ≡ failures_of from.old) }
-    ensures stopped { IfErr result (StopsAt (RefusesMessage mode limits (R.remaining (inner_of from.new))) (R.remaining (inner_of from.old)) (R.remaining (inner_of from.new)) (failures_of from.old) (failures_of from.new)) }
+    ensures stopped { IfErr result (StopsReading R.remaining (RefusesMessage mode limits) from.old from.new) }
 {
     let Some(segments) = take_frame(alloc, from, mode, limits)? else {
         return Ok(None);

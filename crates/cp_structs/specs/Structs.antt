@@ -68,12 +68,6 @@ RefusesTree mode limits new b (refusals.Frame fault) = (fault ≡ frames.OutOfMe
 RefusesTree mode limits new b (refusals.Tree fault) = (S : List (List ℕ)) × Frame mode limits S b × IsFirstFault S limits fault
 RefusesTree mode limits new b other = ⊥
 
--- a fault is reported at 0, and what was read is refused for it; or the device failed in this call
-abbrev pub StopsReading : {T : Type 0} → (T → Option (List ℕ)) → Mode → Bounds → Tap T → Tap T → StreamFault → Type 0
-StopsReading remaining mode limits old new fault =
-    let after : Option (List ℕ) = remaining (inner_of new) in
-    StopsAt (RefusesTree mode limits after) (remaining (inner_of old)) after (failures_of old) (failures_of new) fault
-
 -- the root that was given is this tree; or memory ran out
 abbrev pub IsThe : Node → Result Node Refusal → Type 0
 IsThe t (Ok root) = root ≡ t

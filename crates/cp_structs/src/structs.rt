@@ -7,9 +7,10 @@ ghost use Rattle.cp_frame.specs.declared.fault.FrameFault.TheVariants as frames;
 ghost use Rattle.cp_reading.specs.Denotes.{Root};
 ghost use Rattle.cp_reading.specs.FirstFault.{IsFirstFault};
 ghost use Rattle.cp_reading.specs.declared.fault.TreeFault.{TreeFault};
+ghost use Rattle.cp_stream.specs.Read.{StopsReading};
 ghost use Rattle.cp_stream.specs.Tap.{inner_of, failures_of};
 ghost use Rattle.cp_stream.specs.declared.fault.Refusal.TheVariants as refusals;
-ghost use Rattle.cp_structs.specs.Structs.{IsWrittenAs, IsUnwrittenFor, IsSent, IsCutShort, IsNoRoot, IsRefusedFor, IsThe, ReadsOnly, ReadsTree, StopsReading};
+ghost use Rattle.cp_structs.specs.Structs.{IsWrittenAs, IsUnwrittenFor, IsSent, IsCutShort, IsNoRoot, IsRefusedFor, IsThe, ReadsOnly, ReadsTree, RefusesTree};
 
 use cp_frame::{FrameFault, Mode, write_frame};
 use cp_reading::View;
@@ -53,7 +54,7 @@ pub fn read_struct<R: Read>(
 ) -> Result<Option<Whole>, StreamFault>
     ensures read { IfOk result (ReadsTree mode limits (R.remaining (inner_of from.old)) (R.remaining (inner_of from.new))) }
     ensures counted { OnOk result (failures_of from.new ≡ failures_of from.old) }
-    ensures stopped { IfErr result (StopsReading R.remaining mode limits from.old from.new) }
+    ensures stopped { IfErr result (StopsReading R.remaining (RefusesTree mode limits) from.old from.new) }
     // Bytes that are known leave one answer.
     ensures only { ReadsOnly mode limits (R.remaining (inner_of from.old)) (R.remaining (inner_of from.new)) result }
 {

@@ -36,3 +36,7 @@ node_of = fold-Tree Node (List ℕ × Nodes) tree_step body_step
 -- the words of a struct, and its pointers
 abbrev pub body_of : Body → List ℕ × Nodes
 body_of = fold-Body Node (List ℕ × Nodes) tree_step body_step
+
+-- the struct of a body
+abbrev pub struct_of : Body → Node
+struct_of b = struct (body_of b).0 (body_of b).1

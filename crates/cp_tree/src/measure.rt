@@ -3,9 +3,9 @@
 ghost use Rattle.std.specs.Prelude.{◌≡◌, ◌≤◌, ◌+◌, ◌*◌, Decides};
 ghost use Rattle.std.specs.Bool.{OnTrue};
 ghost use Rattle.cp_tree.specs.Lent.{node_in, row_in, bodies_in};
-ghost use Rattle.cp_tree.specs.Node.{depth, greatest_depth, deepest_body, cost, total_cost, body_cost, number_of};
+ghost use Rattle.cp_tree.specs.Node.{depth, greatest_depth, deepest_body, cost, total_cost};
 ghost use Rattle.cp_tree.specs.NodeOf.{node_of, nodes_of, bodies_of};
-ghost use Rattle.cp_tree.specs.Spent.{spent};
+ghost use Rattle.cp_tree.specs.Spent.{elements_cost, spent};
 
 use crate::lent::{BodiesRef, RowRef, Top, TreeRef};
 use crate::tree::Tree;
@@ -65,7 +65,7 @@ fn row_nests(trees: RowRef, levels: u32, budget: &mut Option<u64>) -> bool
 #[cycle(measure)]
 fn bodies_nest(bodies: BodiesRef, price: u64, levels: u32, budget: &mut Option<u64>) -> bool
     ensures deep { Decides result (deepest_body (bodies_of (bodies_in bodies.entry)) ≤ levels) }
-    ensures budget { OnTrue result (budget.new ≡ spent budget.old (number_of (bodies_of (bodies_in bodies.entry)) * price + body_cost (bodies_of (bodies_in bodies.entry)))) }
+    ensures budget { OnTrue result (budget.new ≡ spent budget.old (elements_cost (bodies_of (bodies_in bodies.entry)) price)) }
 {
     for body in bodies {
         spend(budget, price);

@@ -2,7 +2,7 @@
 
 ghost use Rattle.std.specs.Prelude.{◌≡◌, MatchOption};
 ghost use Rattle.cp_tree.specs.Node.{null, struct, data_of};
-ghost use Rattle.cp_tree.specs.NodeOf.{node_of, body_of};
+ghost use Rattle.cp_tree.specs.NodeOf.{node_of, struct_of};
 ghost use Rattle.cp_tree.specs.Seen.{pointee_of};
 
 /// What a pointer word stands for (encoding specification, "Structs", "Lists", "Capabilities").
@@ -65,7 +65,7 @@ impl Tree {
 impl Body {
     /// What pointer `i` stands for. `None` is past the end.
     pub fn pointer(&self, i: u32) -> Option<&Tree>
-        ensures { MatchOption result (pointee_of (struct (body_of self.now).0 (body_of self.now).1) i ≡ null) (λ t. node_of t.now ≡ pointee_of (struct (body_of self.now).0 (body_of self.now).1) i) }
+        ensures { MatchOption result (pointee_of (struct_of self.now) i ≡ null) (λ t. node_of t.now ≡ pointee_of (struct_of self.now) i) }
     {
         let ptrs = self.ptrs.as_slice();
         if i as usize >= ptrs.len() {

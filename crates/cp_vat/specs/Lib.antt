@@ -1,5 +1,6 @@
 pub mod Judging
 pub mod Stepping
+pub mod Doing
 pub mod StateCode
 pub mod Ways
 pub mod Returning

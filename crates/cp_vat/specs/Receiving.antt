@@ -1,7 +1,8 @@
 -- What is left to do of a Call or a Return, once it was checked.
-use Rattle.std.specs.Prelude.{◌≡◌, [], Option, Result, Ok, Err}
+use Rattle.std.specs.Prelude.{◌≡◌, ℕ, Bool, [], Option, Result, Ok, Err}
 use Rattle.cp_tree.specs.Node.{Node}
 use Rattle.cp_rpc.specs.declared.returned.Return.{Return}
+use Rattle.cp_rpc.specs.declared.returned.Returned.{Returned}
 use Rattle.cp_rpc.specs.declared.target.Target.{Target}
 use Rattle.cp_refs.specs.declared.call.Origin.{Origin}
 use Rattle.cp_refs.specs.declared.route.Route.{Route}
@@ -28,6 +29,11 @@ Begins old r (Ok (rests.Settle forwards)) new =
     × ((out : Result Done PeerFault) → Then (TakeReturned new r.returned) (λ taken. Settles taken.1 r.answer_id forwards taken.0) out → OnReturn old r out)
 Begins old r (Err (halts.Fault fault)) new = OnReturn old r (Err fault)
 Begins old r (Err halts.OutOfMemory) new = Unit {0}
+
+-- so whatever the Return of this question says was returned
+abbrev pub BeginsReturn : State → ℕ → Bool → Result Rest Halt → State → Type 0
+BeginsReturn old id release_param_caps result new =
+    (returned : Returned) → Begins old (record { answer_id = id; release_param_caps = release_param_caps; returned = returned }) result new
 
 -- This holds within an event, with a call in hand or with none.
 abbrev pub HoldsWithin : State → Type 0

@@ -5,7 +5,7 @@ ghost use Rattle.cp_machine.specs.Doing.{DoAnswer, DoResolve};
 ghost use Rattle.cp_machine.specs.Local.{Local};
 ghost use Rattle.cp_machine.specs.declared.event.Value.TheVariants as values;
 ghost use Rattle.cp_state.specs.StateOf.{state_of};
-ghost use Rattle.cp_vat.specs.Stepping.{Calls};
+ghost use Rattle.cp_vat.specs.Doing.{CallsOn};
 
 use crate::refusals::{check_answer, check_resolve, check_value};
 use cp_machine::{Effect, VatFault};
@@ -23,7 +23,7 @@ pub(crate) fn answer(
     effects: &mut Vec<Effect>,
 ) -> Result<(), VatFault>
     requires { Local (state_of core.old) }
-    ensures { Calls (DoAnswer (state_of core.old) origin outcome) (λ _. values.Nothing) (state_of core.old) result effects.old.items effects.new.items (state_of core.new) }
+    ensures { CallsOn (λ s. DoAnswer s origin outcome) (λ _. values.Nothing) core.old result effects.old.items effects.new.items core.new }
 {
     check_answer(core, origin, &outcome)?;
     give(core, origin, outcome, effects)?;
@@ -38,7 +38,7 @@ pub(crate) fn resolve(
     effects: &mut Vec<Effect>,
 ) -> Result<(), VatFault>
     requires { Local (state_of core.old) }
-    ensures { Calls (DoResolve (state_of core.old) promise value) (λ _. values.Nothing) (state_of core.old) result effects.old.items effects.new.items (state_of core.new) }
+    ensures { CallsOn (λ s. DoResolve s promise value) (λ _. values.Nothing) core.old result effects.old.items effects.new.items core.new }
 {
     check_resolve(core, promise, &value)?;
     let last = come_to(core.alloc, core.values.values(), &value)?;

@@ -6,10 +6,10 @@ ghost use Rattle.cp_machine.specs.Calling.{DoCall, Opens, call_refusals, called,
 ghost use Rattle.cp_machine.specs.Local.{Local};
 ghost use Rattle.cp_machine.specs.Capacity.{Fresh};
 ghost use Rattle.cp_machine.specs.declared.event.Value.TheVariants as values;
-ghost use Rattle.cp_state.specs.Halts.{IfFault, Owns};
+ghost use Rattle.cp_state.specs.Halts.{IfFault};
 ghost use Rattle.cp_state.specs.StateOf.{state_of};
 ghost use Rattle.cp_rules.specs.Going.{underway_of};
-ghost use Rattle.cp_vat.specs.Stepping.{Calls};
+ghost use Rattle.cp_vat.specs.Doing.{CallsOn, OwnsOn};
 ghost use Rattle.cp_vat.specs.Ways.{taken_back};
 
 use crate::asking::ask;
@@ -28,7 +28,7 @@ pub(crate) fn call(
     effects: &mut Vec<Effect>,
 ) -> Result<u32, VatFault>
     requires { Local (state_of core.old) }
-    ensures { Calls (DoCall (state_of core.old) cap request) (λ q. values.Question q) (state_of core.old) result effects.old.items effects.new.items (state_of core.new) }
+    ensures { CallsOn (λ s. DoCall s cap request) (λ q. values.Question q) core.old result effects.old.items effects.new.items core.new }
 {
     check_call(core, &cap, &request)?;
     Ok(open_call(core, &cap, request, effects)?)
@@ -43,7 +43,7 @@ fn open_call(
 ) -> Result<u32, Halt>
     requires local { Local (state_of core.old) }
     requires passed { call_refusals (state_of core.old) cap.now request ≡ [] }
-    ensures { Owns (Opens (state_of core.old) cap.now request) (λ q. values.Question q) (state_of core.old) result effects.old.items effects.new.items (state_of core.new) }
+    ensures { OwnsOn (λ s. Opens s cap.now request) (λ q. values.Question q) core.old result effects.old.items effects.new.items core.new }
 {
     let reference = reference_of(core.alloc, core.values.values(), cap)?;
     let (question, call) = enter(core, kind_of(&reference), request)?;

@@ -7,9 +7,9 @@ ghost use Rattle.cp_state.specs.StateOf.{state_of};
 ghost use Rattle.cp_vat.specs.Stepping.{CallEnds, Ends, MessageEnds};
 
 use cp_machine::{Acted, Effect, Effects, PeerFault, Reason, VatFault};
+use cp_refs::failed;
 use cp_rpc::Message;
 use cp_rules::leave::leave;
-use cp_rules::settle::failed;
 use cp_state::{Core, Halt};
 use std::alloc::{AllocError, Global};
 

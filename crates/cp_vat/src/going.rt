@@ -6,6 +6,7 @@ ghost use Rattle.cp_machine.specs.Calling.{FirstEmbargoed, GoBack, GoByValue, Go
 ghost use Rattle.cp_state.specs.Halts.{Acts, IfFault};
 ghost use Rattle.cp_state.specs.StateOf.{state_of};
 ghost use Rattle.cp_rules.specs.Going.{MayGo, underway_of};
+ghost use Rattle.cp_vat.specs.Doing.{ActsOn};
 ghost use Rattle.cp_vat.specs.Ways.{GoMarked, GoesBy, WayEnds, kind_of, seen, value_kind};
 
 use cp_machine::Effect;
@@ -153,7 +154,7 @@ fn go_back(
 ) -> Result<(), Halt>
     requires may { MayGo (state_of core.old) (underway_of call) }
     requires ends { HasRoute core.old.values value }
-    ensures acts { Acts (GoBack (state_of core.old) (underway_of call) cap.now value (mark_of (state_of core.old) cap.now)) result effects.old.items effects.new.items (state_of core.new) }
+    ensures acts { ActsOn (λ s. GoBack s (underway_of call) cap.now value (mark_of s cap.now)) core.old result effects.old.items effects.new.items core.new }
     ensures unchanged { IfFault result (core.new ≡ core.old) }
 {
     match core.marks.mark(cap) {

@@ -20,7 +20,6 @@ mod on_unimplemented;
 mod receiving;
 mod refusals;
 mod running;
-mod short_lists;
 mod sizes;
 mod supported;
 mod vat;

@@ -7,9 +7,8 @@ ghost use Rattle.cp_state.specs.Halts.{Acts, OnlyAllocationFails};
 ghost use Rattle.cp_state.specs.StateOf.{state_of};
 
 use cp_machine::{AnswerEntry, Effect, Mentions, PeerFault, TiedPromises};
-use cp_refs::{Cap, Caps, Outcome};
+use cp_refs::{Cap, Caps, Outcome, failed};
 use cp_rules::give::give_answer;
-use cp_rules::settle::failed;
 use cp_state::{Core, Halt};
 use cp_tables::LIMIT;
 use cp_tree::{Tree, Whole};

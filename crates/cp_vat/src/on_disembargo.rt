@@ -2,7 +2,7 @@
 
 ghost use Rattle.std.specs.Prelude.{◌≡◌, ◌≢◌, [], None, true};
 ghost use Rattle.std.specs.FinMap as map;
-ghost use Rattle.cp_rpc.specs.Told.{told_target};
+ghost use Rattle.cp_rpc.specs.Told.{told_disembargo, told_target};
 ghost use Rattle.cp_refs.specs.Route.{HasRoute};
 ghost use Rattle.cp_machine.specs.Answering.{target_faults};
 ghost use Rattle.cp_machine.specs.Local.{Local};
@@ -11,6 +11,7 @@ ghost use Rattle.cp_machine.specs.Take.{answer_of};
 ghost use Rattle.cp_machine.specs.Supported.{is_supported_context, is_supported_target};
 ghost use Rattle.cp_state.specs.Halts.{Acts, Quiet};
 ghost use Rattle.cp_state.specs.StateOf.{state_of};
+ghost use Rattle.cp_vat.specs.Doing.{ActsOn, Disembargoes};
 
 use crate::checks::{check_target, check_target_view};
 use cp_machine::{Effect, PeerFault};
@@ -54,7 +55,7 @@ pub(crate) fn on_disembargo_view(
     requires context { is_supported_context message.now.context ≡ true }
     requires target { is_supported_target (told_target (λ t. t) message.now.target) ≡ true }
     requires local { Local (state_of core.old) }
-    ensures { Acts (OnDisembargo (state_of core.old) message.now.context (told_target (λ t. t) message.now.target)) result effects.old.items effects.new.items (state_of core.new) }
+    ensures { ActsOn (λ s. Disembargoes s (told_disembargo (λ t. t) message.now)) core.old result effects.old.items effects.new.items core.new }
 {
     match message.context {
         Context::SenderLoopback(number) => {

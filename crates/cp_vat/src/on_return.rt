@@ -9,7 +9,7 @@ ghost use Rattle.cp_machine.specs.Supported.{is_supported_returned};
 ghost use Rattle.cp_machine.specs.Take.{lower};
 ghost use Rattle.cp_state.specs.Halts.{Acts, Leaves, leaving};
 ghost use Rattle.cp_state.specs.StateOf.{state_of};
-ghost use Rattle.cp_vat.specs.Receiving.{Begins};
+ghost use Rattle.cp_vat.specs.Receiving.{BeginsReturn};
 ghost use Rattle.cp_vat.specs.Returning.{MaySettle};
 
 use cp_machine::{Effect, PeerFault};
@@ -75,7 +75,7 @@ pub(crate) fn on_return_view(
 /// application finished.
 fn begin(core: &mut Core, id: u32, release_param_caps: bool) -> Result<Rest, Halt>
     requires { Local (state_of core.old) }
-    ensures { (returned : Returned) → Begins (state_of core.old) (record { answer_id = id; release_param_caps = release_param_caps; returned = returned }) result (state_of core.new) }
+    ensures { BeginsReturn (state_of core.old) id release_param_caps result (state_of core.new) }
 {
     let Some(question) = core.questions.get(id) else {
         return Err(Halt::Fault(PeerFault::UnknownQuestion));

@@ -8,7 +8,6 @@ ghost use Rattle.cp_state.specs.Halts.{Acts, Quiet};
 ghost use Rattle.cp_state.specs.StateOf.{state_of};
 
 use crate::on_resolve::{given_back, given_back_view};
-use crate::short_lists::are_short;
 use cp_machine::{Effect, PeerFault};
 use cp_reading::View;
 use cp_rpc::{Message, MessageIn, MessageView, SchemaFault, message_of, message_view, tree_of};
@@ -56,7 +55,7 @@ const ECHO_COST: u64 = 8_388_605;
 pub(crate) fn echo(core: &Core, message: &Message, effects: &mut Vec<Effect>) -> Result<(), Halt>
     ensures { Acts (λ out. out ≡ echoed (state_of core.now) message.now) result effects.old.items effects.new.items (state_of core.now) }
 {
-    if !are_short(message) {
+    if !message.fits() {
         return Err(Halt::Fault(PeerFault::EchoTooLarge));
     }
     let root = match tree_of(core.alloc, message) {

@@ -8,14 +8,6 @@ use cp_stream::{MessageReader, Tap, view_of, write_message_in};
 use cp_words::{Limits, Segments};
 use std::alloc::Global;
 
-/// A new reader of frames.
-fn reader_of(alloc: Global, mode: Mode) -> FrameReader {
-    match mode {
-        Mode::Plain => FrameReader::plain(alloc, Limits::standard()),
-        Mode::Packed => FrameReader::packed(alloc, Limits::standard()),
-    }
-}
-
 /// Adds the line of a frame's message.
 fn push_frame(alloc: Global, segments: &Segments, lines: &mut String) -> Result<(), Fault> {
     Ok(push_line(alloc, lines, &view_of(segments, Limits::standard())?)?)
@@ -36,7 +28,7 @@ fn push_lines(
 
 /// The lines of the messages of two pieces, which end where a frame does.
 pub fn lines_of(alloc: Global, first: &[u8], rest: &[u8], mode: Mode) -> Result<String, Fault> {
-    let mut reader = reader_of(alloc, mode);
+    let mut reader = FrameReader::new(alloc, mode, Limits::standard());
     let mut lines = String::new(alloc);
     push_lines(alloc, &mut reader, first, &mut lines)?;
     push_lines(alloc, &mut reader, rest, &mut lines)?;
@@ -46,7 +38,7 @@ pub fn lines_of(alloc: Global, first: &[u8], rest: &[u8], mode: Mode) -> Result<
 
 /// Whether the bytes end inside a frame.
 pub fn is_truncated(alloc: Global, bytes: &[u8], mode: Mode) -> bool {
-    let mut reader = reader_of(alloc, mode);
+    let mut reader = FrameReader::new(alloc, mode, Limits::standard());
     match reader.feed(bytes) {
         Ok(frames) => { frames.is_empty() && matches!(reader.finish(), Err(FrameFault::Truncated)) }
         Err(_) => false,
@@ -56,7 +48,8 @@ pub fn is_truncated(alloc: Global, bytes: &[u8], mode: Mode) -> bool {
 /// The frames of the bytes, in another form.
 pub fn in_form(alloc: Global, bytes: &[u8], from: Mode, to: Mode) -> Result<Vec<u8>, Fault> {
     let mut written = Vec::new(alloc);
-    for frame in &reader_of(alloc, from).feed(bytes)? {
+    let mut reader = FrameReader::new(alloc, from, Limits::standard());
+    for frame in &reader.feed(bytes)? {
         let bytes = write_frame(alloc, &frame.1, to, Limits::standard())?;
         written.extend_from_slice(&bytes)?;
     }
