@@ -9,6 +9,7 @@ ghost use Rattle.cp_tree.specs.NodeOf.{node_of, nodes_of, body_of};
 ghost use Rattle.cp_fields.specs.Constants.{constant_of, constant_body_of};
 ghost use Rattle.cp_fields.specs.Items.{bit_number, numbers_of};
 ghost use Rattle.cp_fields.specs.Kinds.{kind_of};
+ghost use Rattle.cp_fields.specs.Rows.{body_item};
 
 use crate::kind::Kind;
 use cp_tree::{Body, ListRef, Tree};
@@ -45,7 +46,7 @@ pub struct ConstantBody<'a> {
 impl<'a> ConstantBody<'a> {
     /// What pointer `i` stands for. `None` is past the end.
     pub(crate) fn pointer(&self, i: u32) -> Option<&'a Constant<'a>>
-        ensures { MatchOption result (pointee_of (struct (constant_body_of self.now).0 (constant_body_of self.now).1) i ≡ null) (λ t. constant_of t.now ≡ pointee_of (struct (constant_body_of self.now).0 (constant_body_of self.now).1) i) }
+        ensures { MatchOption result (pointee_of (body_item self.now) i ≡ null) (λ t. constant_of t.now ≡ pointee_of (body_item self.now) i) }
     {
         let ptrs = self.ptrs;
         if i as usize >= ptrs.len() {

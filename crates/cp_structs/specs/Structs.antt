@@ -20,8 +20,7 @@ use Rattle.cp_stream.specs.declared.fault.StreamFault.{StreamFault}
 use Rattle.cp_stream.specs.declared.fault.StreamFault.TheVariants as faults
 use Rattle.cp_stream.specs.declared.tap.Tap.{Tap}
 use Rattle.cp_stream.specs.Reader.{IsMemory}
-use Rattle.cp_stream.specs.Tap.{inner_of, failures_of}
-use Rattle.cp_stream.specs.Read.{ReadsAll, RefusesFrame, StopsAt, GivesOnly, GivesNone, ReportsOnly}
+use Rattle.cp_stream.specs.Read.{ReadsAll, RefusesFrame, GivesOnly, GivesNone, ReportsOnly}
 use Rattle.cp_stream.specs.Write.{Sends, Breaks}
 
 -- These words are the one segment that a tree is laid out in, within the limits.
