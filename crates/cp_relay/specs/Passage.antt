@@ -13,7 +13,7 @@ use Rattle.cp_relay.specs.declared.fault.RelayFault.{RelayFault}
 use Rattle.cp_relay.specs.declared.fault.Why.{Why}
 use Rattle.cp_relay.specs.declared.fault.Why.TheVariants as whys
 use Rattle.cp_relay.specs.declared.passage.Passage.{Passage}
-use Rattle.cp_relay.specs.Relay.{Relay, StandsFor, IsSentFor, StopsFor}
+use Rattle.cp_relay.specs.Relay.{Relay, StandsFor, IsSentFor, StopsFor, GivesNext, GivesNone}
 
 -- a relay by its parts
 abbrev pub seen : Passage → Option RelayFault → Relay
@@ -82,3 +82,11 @@ StopsAtFrame says p S before after whys.Forbidden = (m : Message) × Holds p.lim
 -- nothing of the piece goes through
 abbrev pub Refuses : {V : Type 0} → (V → Message → Bool → V → Type 0) → Relay → List ℕ → V → V → Why → Type 0
 Refuses says r piece before after why = (b : List ℕ) → StandsFor r b → StopsFor says r.output r.frames.mode r.frames.limits (b ++ piece) before after why
+
+-- the piece was read up to the end of a frame, whose message went out
+abbrev pub PassesNext : {V : Type 0} → (V → Message → Bool → V → Type 0) → Passage → List ℕ → Passage → V → V → List ℕ → List ℕ → List ℕ → Type 0
+PassesNext says old piece new before after out now back = GivesNext says (seen old None) piece (seen new None) before after out now back
+
+-- the piece was read, and nothing ends in it
+abbrev pub PassesNone : {V : Type 0} → (V → Message → Bool → V → Type 0) → Passage → List ℕ → Passage → V → V → List ℕ → List ℕ → Type 0
+PassesNone says old piece new before after out now = GivesNone says (seen old None) piece (seen new None) before after out now

@@ -3,8 +3,7 @@
 ghost use Rattle.std.specs.Prelude.{◌≡◌, ◌++◌, [], IfOk, IfErr, IfNone, IfSome, OnOk, None};
 ghost use Rattle.cp_rpc.specs.Told.{told};
 ghost use Rattle.cp_stream.specs.Stream.{Holds, HoldsNone};
-ghost use Rattle.cp_relay.specs.Relay.{GivesNext, GivesNone};
-ghost use Rattle.cp_relay.specs.Passage.{seen, kept_with, IsOpen, IsMemoryFor, OnlyKeeps, Refuses, PutsFrame, StopsAtFrame, Makes, IsUnmade};
+ghost use Rattle.cp_relay.specs.Passage.{seen, kept_with, IsOpen, IsMemoryFor, OnlyKeeps, Refuses, PassesNext, PassesNone, PutsFrame, StopsAtFrame, Makes, IsUnmade};
 
 use crate::fault::{RelayFault, Why};
 use crate::output::Output;
@@ -46,8 +45,8 @@ impl Passage {
     ) -> Result<Option<&'a [u8]>, Why>
         requires { IsOpen self.old }
         ensures open { OnOk result (IsOpen self.new) }
-        ensures given { IfOk result (λ next. IfSome next (λ back. GivesNext V.says (seen self.old None) piece.now (seen self.new None) visitor.old visitor.new out.old.items out.new.items back.now)) }
-        ensures none { IfOk result (λ next. IfNone next (GivesNone V.says (seen self.old None) piece.now (seen self.new None) visitor.old visitor.new out.old.items out.new.items)) }
+        ensures given { IfOk result (λ next. IfSome next (λ back. PassesNext V.says self.old piece.now self.new visitor.old visitor.new out.old.items out.new.items back.now)) }
+        ensures none { IfOk result (λ next. IfNone next (PassesNone V.says self.old piece.now self.new visitor.old visitor.new out.old.items out.new.items)) }
         ensures refused { IfErr result (Refuses V.says (seen self.old None) piece.now visitor.old visitor.new) }
         ensures nothing { IfErr result (λ why. out.new.items ≡ out.old.items) }
         ensures counts { IfErr result (λ why. self.new.at ≡ self.old.at) }
