@@ -1,6 +1,7 @@
 //! Exchanges, in each way in which they are played.
 
 use crate::bytes::sent;
+use crate::connecting::{connected, wanted};
 use crate::pairs::{End, both_played};
 use crate::playing::{Player, played};
 use crate::running::ran;
@@ -19,9 +20,9 @@ pub struct Fault {
 pub fn failure(alloc: Global, players: &str, script: &Lines) -> Option<Fault> {
     let script = script.text().unwrap_or(UNREAD);
     let players = Players::of(players);
-    for way in WAYS {
-        let lines = players.lines(alloc, way, script);
-        if !way.is_right(script, lines.text().unwrap_or(UNREAD)) {
+    for way in players.ways() {
+        let lines = players.lines(alloc, *way, script);
+        if !way.is_right(alloc, script, lines.text().unwrap_or(UNREAD)) {
             let way = way.name();
             return Some(Fault { way, lines });
         }
@@ -55,10 +56,20 @@ impl Players {
         }
     }
 
+    /// The ways in which they play.
+    fn ways(self) -> &'static [Way] {
+        match self {
+            Players::One(_) => &WAYS,
+            Players::Two(..) => &WAYS[1..3],
+            Players::Sender(_) | Players::Nobody => &WAYS[..1],
+        }
+    }
+
     /// What they do.
     fn lines(self, alloc: Global, way: Way, script: &str) -> Lines {
         match (self, way) {
             (Players::One(vat), Way::Listed) => ran(alloc, vat, script),
+            (Players::One(vat), Way::Connected(piece)) => connected(alloc, vat, piece, script),
             (Players::One(vat), _) => played(alloc, Player::new(alloc, vat, way.taken()), script),
             (Players::Sender(vat), _) => sent(alloc, vat, script),
             (Players::Two(first, second), _) => {
@@ -82,12 +93,16 @@ enum Way {
     Listed,
     /// One by one.
     Each(Taken),
+    /// One by one, through a connection, whose bytes come in pieces of this length.
+    Connected(usize),
 }
 
-const WAYS: [Way; 3] = [
+static WAYS: [Way; 5] = [
     Way::Listed,
     Way::Each(Taken::Owned),
     Way::Each(Taken::InPlace),
+    Way::Connected(usize::MAX),
+    Way::Connected(1),
 ];
 
 impl Way {
@@ -96,23 +111,26 @@ impl Way {
             Way::Listed => "by run",
             Way::Each(Taken::Owned) => "with messages as values",
             Way::Each(Taken::InPlace) => "with messages in place",
+            Way::Connected(1) => "through a connection, byte by byte",
+            Way::Connected(_) => "through a connection",
         }
     }
 
     fn taken(self) -> Taken {
         match self {
-            Way::Listed => Taken::Owned,
             Way::Each(taken) => taken,
+            Way::Listed | Way::Connected(_) => Taken::Owned,
         }
     }
 
     /// Whether these are the lines of a script. A list of events ends at the first that is refused, and there the lines end.
-    fn is_right(self, script: &str, lines: &str) -> bool {
+    fn is_right(self, alloc: Global, script: &str, lines: &str) -> bool {
         match self {
             Way::Listed => script
                 .strip_prefix(lines)
                 .is_some_and(|rest| rest.is_empty() || ends_refused(lines)),
             Way::Each(_) => lines == script,
+            Way::Connected(_) => wanted(alloc, script).text() == Some(lines),
         }
     }
 }

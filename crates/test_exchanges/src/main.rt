@@ -3,6 +3,7 @@
 #![tactic(auto)]
 
 mod bytes;
+mod connecting;
 mod exchange;
 mod pairs;
 mod playing;

@@ -1,0 +1,242 @@
+//! Scripts, played through a connection: each message comes as the bytes of its frame, in pieces, and what is sent goes out as bytes.
+//! A connection has what it sends apart from what happens, and so have these lines: after each event the frames that it leads to,
+//! and then the script without its messages that are sent.
+
+use crate::playing::{is_reported, said};
+use crate::script::UNREAD;
+use cp_connection::{Connection, ConnectionFault, Happening};
+use cp_frame::Mode;
+use cp_machine::{Acted, Effect, Effects, Event, Idle, Value, VatFault};
+use cp_rpc::Message;
+use cp_scripts::{Lines, event_of};
+use cp_stream::{Tap, write_message};
+use cp_words::Limits;
+use std::alloc::Global;
+
+/// The lines that a script asks for.
+pub fn wanted(alloc: Global, script: &str) -> Lines {
+    let mut lines = Lines::new(alloc);
+    for line in script.lines() {
+        match line.strip_prefix("> ") {
+            Some(message) => push_sent(alloc, &mut lines, message),
+            None => {
+                if !is_reported(line) {
+                    begin(&mut lines, line);
+                }
+            }
+        }
+    }
+    for line in script.lines() {
+        if !line.starts_with("> ") {
+            lines.push_line(line);
+        }
+    }
+    lines
+}
+
+/// The lines of what a new connection does. The bytes of a frame come in pieces of this length.
+pub fn connected(alloc: Global, bootstrap: Option<u32>, piece: usize, script: &str) -> Lines {
+    let mut wire = Wire::new(alloc, bootstrap, piece);
+    for line in script.lines() {
+        if !is_reported(line) {
+            wire.turn(line);
+        }
+    }
+    wire.into_lines()
+}
+
+/// A connection, and what it did.
+#[derive(Drop)]
+struct Wire {
+    alloc: Global,
+    piece: usize,
+    connection: Connection,
+    sent: Lines,
+    happened: Lines,
+}
+
+impl Wire {
+    fn new(alloc: Global, bootstrap: Option<u32>, piece: usize) -> Wire {
+        Wire {
+            alloc,
+            piece,
+            connection: Connection::new(alloc, Mode::Plain, Limits::standard(), bootstrap),
+            sent: Lines::new(alloc),
+            happened: Lines::new(alloc),
+        }
+    }
+
+    /// Plays the event of a line.
+    fn turn(&mut self, line: &str) {
+        begin(&mut self.sent, line);
+        self.happened.push_line(line);
+        let (line, is_said) = said(line);
+        match event_of(self.alloc, line) {
+            Some(event) => self.play(event, is_said),
+            None => self.happened.push(UNREAD),
+        }
+    }
+
+    /// Plays an event, and adds what follows it, if that is said.
+    fn play(&mut self, event: Event, is_said: bool) {
+        let given = act(self.alloc, &mut self.connection, event, self.piece);
+        let effects = happened(self.alloc, &mut self.connection);
+        if is_said {
+            push_digits(self.alloc, &mut self.sent, self.connection.outgoing());
+        }
+        self.connection.wrote(self.connection.outgoing().len());
+        match given {
+            Ok(value) => {
+                let acted = Acted { value, effects };
+                if is_said {
+                    self.happened.push_acted(&acted);
+                }
+                drop(acted);
+            }
+            Err(fault) => push_fault(&mut self.happened, fault),
+        }
+    }
+
+    fn into_lines(self) -> Lines {
+        let Wire {
+            connection,
+            mut sent,
+            happened,
+            ..
+        } = self;
+        drop(connection);
+        sent.push(happened.text().unwrap_or(UNREAD));
+        sent
+    }
+}
+
+/// Begins what follows an event.
+fn begin(lines: &mut Lines, event: &str) {
+    lines.push("\n");
+    lines.push_line(event);
+}
+
+/// What a connection does at an event.
+fn act(
+    alloc: Global,
+    connection: &mut Connection,
+    event: Event,
+    piece: usize,
+) -> Result<Value, ConnectionFault> {
+    match event {
+        Event::Receive(message) => {
+            let frame = frame_of(alloc, message).ok_or(ConnectionFault::OutOfMemory)?;
+            receive(connection, &frame, piece)
+        }
+        Event::Bootstrap => connection.bootstrap().map(Value::Question),
+        Event::Call(cap, request) => connection.call(cap, request).map(Value::Question),
+        Event::Answer(origin, outcome) => nothing(connection.answer(origin, outcome)),
+        Event::Promise => connection.promise().map(Value::Promise),
+        Event::Resolve(promise, value) => nothing(connection.resolve(promise, value)),
+        Event::Finish(question) => nothing(connection.finish(question)),
+        Event::Release(import) => nothing(connection.release(import)),
+        Event::Forget(promise) => nothing(connection.forget(promise)),
+        Event::Idle => connection.idle().map(idle),
+    }
+}
+
+fn nothing(given: Result<(), ConnectionFault>) -> Result<Value, ConnectionFault> {
+    given.map(|()| Value::Nothing)
+}
+
+fn idle(given: Idle) -> Value {
+    let Idle { imports, promises } = given;
+    Value::Idle { imports, promises }
+}
+
+/// The bytes of a frame come, in pieces.
+fn receive(
+    connection: &mut Connection,
+    frame: &[u8],
+    piece: usize,
+) -> Result<Value, ConnectionFault> {
+    for bytes in frame.chunks(piece.max(1)) {
+        let _ = connection.receive(bytes)?;
+    }
+    Ok(Value::Nothing)
+}
+
+/// What happened.
+fn happened(alloc: Global, connection: &mut Connection) -> Effects {
+    let mut effects = Vec::new(alloc);
+    for _ in 0..u64::MAX {
+        let Some(happening) = connection.next() else {
+            break;
+        };
+        let _ = effects.push(effect_of(happening));
+    }
+    Effects::new(effects)
+}
+
+fn effect_of(happening: Happening) -> Effect {
+    match happening {
+        Happening::Delivered {
+            object,
+            origin,
+            ticket,
+            call,
+        } => Effect::Deliver {
+            object,
+            origin,
+            ticket,
+            call,
+        },
+        Happening::Settled { question, outcome } => Effect::Settled { question, outcome },
+        Happening::Closed(reason) => Effect::Closed(reason),
+    }
+}
+
+fn push_fault(lines: &mut Lines, fault: ConnectionFault) {
+    match fault {
+        ConnectionFault::Refused(fault) => lines.push_fault(fault),
+        ConnectionFault::Closed => lines.push_fault(VatFault::Closed),
+        _ => lines.push(UNREAD),
+    }
+}
+
+/// Adds the frame of a message that a script writes.
+fn push_sent(alloc: Global, lines: &mut Lines, message: &str) {
+    let mut line = Lines::new(alloc);
+    line.push("< ");
+    line.push(message);
+    let event = event_of(alloc, line.text().unwrap_or(""));
+    match event.and_then(message_of) {
+        Some(message) => push_frame(alloc, lines, message),
+        None => lines.push(UNREAD),
+    }
+}
+
+fn message_of(event: Event) -> Option<Message> {
+    match event {
+        Event::Receive(message) => Some(message),
+        _other => None,
+    }
+}
+
+fn push_frame(alloc: Global, lines: &mut Lines, message: Message) {
+    match frame_of(alloc, message) {
+        Some(frame) => push_digits(alloc, lines, &frame),
+        None => lines.push(UNREAD),
+    }
+}
+
+/// The bytes of a message's frame. `None` where it can't be written.
+fn frame_of(alloc: Global, message: Message) -> Option<Vec<u8>> {
+    let mut to = Tap::new(Vec::new(alloc));
+    let written = write_message(alloc, &mut to, &message, Mode::Plain, Limits::standard());
+    drop(message);
+    let frame = to.into_inner();
+    written.ok().map(|_| frame)
+}
+
+fn push_digits(alloc: Global, lines: &mut Lines, bytes: &[u8]) {
+    match hex::encode(alloc, bytes) {
+        Ok(digits) => lines.push(digits.as_str()),
+        Err(_) => lines.push(UNREAD),
+    }
+}
