@@ -5,7 +5,7 @@
 #
 #   part      what it runs                                                     what it takes
 #   look      the first look, in a clean copy                                  half a minute
-#   memory    each test of allocation failures, once for each allocation       the proofs of five crates with their tests, and minutes
+#   memory    each test of allocation failures, once for each allocation       the proofs of three crates with their tests, and minutes
 #   moves     100 seeds of 120 random moves of two vats                        a minute
 #   peers     sessions of C++ clients, and of peers at fault                   15 seconds
 #   relay     sessions of C++ clients and of peers at fault through a relay    a minute

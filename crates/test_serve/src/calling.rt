@@ -2,13 +2,14 @@
 
 use crate::connected::Session;
 use crate::frames::{BOOTSTRAP, LATER};
-use crate::serving::{boxed, bytes_of, expect_lines, pair};
+use crate::servants::Object;
+use crate::serving::{bytes_of, expect_lines};
 use crate::sessions::WAITING;
 use cp_frame::Mode;
 use cp_machine::Ids;
 use cp_objects::Objects;
 use cp_refs::{Cap, Caps, Outcome, Request};
-use cp_servants::{Ask, Cell, Reply, Servant, Settled};
+use cp_servants::{Ask, Reply, Settled};
 use cp_tree::{Body, Tree, Whole};
 use std::alloc::{AllocError, Global};
 use std::process::Abort;
@@ -21,28 +22,32 @@ return a=1 releaseParamCaps=false results {(0500000000000000;) caps[]}
 
 /// Adds 5 to object 1, a Cell, for each call, and answers with what that gives.
 #[derive(Drop)]
-struct Adder {
+pub struct Adder {
     alloc: Global,
     /// The ticket of the call for which it is to call.
     to_call: Option<u64>,
     settled: Option<Settled>,
 }
 
-impl Servant for Adder {
-    ghost use Rattle.cp_servants.specs.Servant.{other};
+impl Adder {
+    pub fn new(alloc: Global) -> Adder {
+        Adder {
+            alloc,
+            to_call: None,
+            settled: None,
+        }
+    }
 
-    ghost seen = { λ _. other };
-
-    fn call(&mut self, ticket: u64, _request: Request) -> Result<Reply, AllocError> {
+    pub fn call(&mut self, ticket: u64) -> Reply {
         self.to_call = Some(ticket);
-        Ok(Reply::Later)
+        Reply::Later
     }
 
-    fn poll(&mut self) -> Result<Option<Settled>, AllocError> {
-        Ok(self.settled.take())
+    pub fn poll(&mut self) -> Option<Settled> {
+        self.settled.take()
     }
 
-    fn ask(&mut self) -> Result<Option<Ask>, AllocError> {
+    pub fn ask(&mut self) -> Result<Option<Ask>, AllocError> {
         let Some(mark) = self.to_call.take() else {
             return Ok(None);
         };
@@ -53,13 +58,12 @@ impl Servant for Adder {
         }))
     }
 
-    fn told(&mut self, mark: u64, outcome: Outcome) -> Result<(), AllocError> {
+    pub fn told(&mut self, mark: u64, outcome: Outcome) {
         self.settled = Some(Settled {
             ticket: mark,
             outcome,
             gives_up: Ids::new(Vec::new(self.alloc)),
         });
-        Ok(())
     }
 }
 
@@ -78,14 +82,8 @@ fn add_five(alloc: Global) -> Result<Request, AllocError> {
 
 /// A call of an Adder leads to these lines.
 fn expect_sent(rt: &impl Abort, alloc: Global, owed: Objects, lines: &str) {
-    let adder = Adder {
-        alloc,
-        to_call: None,
-        settled: None,
-    };
-    let first = boxed(rt, alloc, adder);
-    let objects = pair(rt, alloc, first, boxed(rt, alloc, Cell::new(alloc)));
-    let mut session = Session::new(alloc, owed, objects);
+    let adder = Object::Adder(Adder::new(alloc));
+    let mut session = Session::new(rt, alloc, owed, adder);
     let bytes = bytes_of(rt, alloc, &[BOOTSTRAP, LATER]);
     session.take(rt, &bytes).expect(rt, "memory");
     session.end().expect(rt, "memory");

@@ -1,13 +1,13 @@
 //! Sessions by a connection with objects, in the order of a server: each message, and a round after it.
 
 use crate::frames::{BOOTSTRAP, LATER};
-use crate::servants::Starved;
-use crate::serving::{boxed, bytes_of, expect_lines, pair};
+use crate::servants::Object;
+use crate::serving::{bytes_of, expect_lines};
 use crate::sessions::WAITING;
 use cp_connection::Connection;
 use cp_frame::Mode;
 use cp_objects::Objects;
-use cp_servants::{Cell, Desk, Servant, any_again};
+use cp_servants::any_again;
 use cp_words::Limits;
 use std::alloc::{AllocError, Global};
 use std::process::Abort;
@@ -20,15 +20,17 @@ const PIECE: usize = 7;
 pub struct Session {
     pub connection: Connection,
     owed: Objects,
-    objects: Vec<Box<dyn Servant>>,
+    objects: Vec<Object>,
 }
 
 impl Session {
-    pub fn new(alloc: Global, owed: Objects, objects: Vec<Box<dyn Servant>>) -> Session {
+    /// A session with this object and a Cell.
+    pub fn new(rt: &impl Abort, alloc: Global, owed: Objects, object: Object) -> Session {
+        let objects = vec![in alloc; object, Object::cell(alloc)];
         Session {
             connection: Connection::new(alloc, Mode::Plain, Limits::standard(), Some(0)),
             owed,
-            objects,
+            objects: objects.ok().expect(rt, "memory"),
         }
     }
 
@@ -78,12 +80,10 @@ impl Session {
 #[test]
 fn an_object_may_fail(rt: HostRuntime) {
     let alloc = rt.alloc();
-    let first = boxed(&rt, alloc, Starved);
-    let objects = pair(&rt, alloc, first, boxed(&rt, alloc, Cell::new(alloc)));
-    let mut session = Session::new(alloc, Objects::new(alloc), objects);
+    let mut session = Session::new(&rt, alloc, Objects::new(alloc), Object::Starved);
     let bytes = bytes_of(&rt, alloc, &[BOOTSTRAP, LATER]);
     let taken = session.take(&rt, &bytes);
-    assert!(&rt; taken.is_err());
+    check!(&rt; taken.is_err());
     let outgoing = session.connection.outgoing();
     expect_lines(&rt, alloc, outgoing, Mode::Plain, WAITING);
     drop(session);
@@ -93,14 +93,12 @@ fn an_object_may_fail(rt: HostRuntime) {
 #[test]
 fn a_desk_goes_on_by_itself(rt: HostRuntime) {
     let alloc = rt.alloc();
-    let first = boxed(&rt, alloc, Desk::new(alloc));
-    let objects = pair(&rt, alloc, first, boxed(&rt, alloc, Cell::new(alloc)));
-    let mut session = Session::new(alloc, Objects::new(alloc), objects);
+    let mut session = Session::new(&rt, alloc, Objects::new(alloc), Object::desk(alloc));
     let bytes = bytes_of(&rt, alloc, &[BOOTSTRAP, LATER]);
     session.take(&rt, &bytes).expect(&rt, "memory");
     let waits = any_again(&session.objects);
     session.end().expect(&rt, "memory");
     let waits_still = any_again(&session.objects);
     drop(session);
-    assert!(&rt; waits && !waits_still);
+    check!(&rt; waits && !waits_still);
 }

@@ -1,7 +1,8 @@
 //! Readers and writers that fail, and allocations that fail.
 
-use crate::frames::{ADD_FIVE, BOOTSTRAP, FIRST_FINISH, Frame, LATER};
-use crate::serving::{boxed, bytes_of, decoded, pair, prepared, served};
+use crate::frames::{ADD_FIVE, ANSWER, BOOTSTRAP, FIRST_FINISH, Frame, LATER};
+use crate::servants::Object;
+use crate::serving::{boxed, bytes_of, pair, prepared, report_of, served};
 use cp_frame::{FrameFault, Mode};
 use cp_rpc::SchemaFault;
 use cp_servants::{Cell, Desk, Servant};
@@ -66,29 +67,51 @@ impl<W: Write> Write for Failing<W> {
     }
 }
 
-/// The calls of a reader and a writer that fail, and what the others move.
+/// The calls of a reader and a writer that fail, and the most bytes that the others move.
 #[derive(Clone, Copy)]
 struct Trial {
     read: u64,
     write: u64,
     with_error: bool,
-    most: usize,
+    most_read: usize,
+    most_written: usize,
 }
 
-/// Serves a Desk and a Cell over such devices. Where a call fails, the answer is `Device`, no call
-/// follows, and a beginning of the whole was written. Says whether one fails.
-fn fails(rt: &impl Abort, alloc: Global, bytes: &[u8], whole: &[u8], trial: Trial) -> bool {
-    let Trial {
-        read,
-        write,
-        with_error,
-        most,
-    } = trial;
-    let mut from = Tap::new(Failing::new(bytes, read, true, most));
-    let mut to = Tap::new(Failing::new(Vec::new(alloc), write, with_error, most));
+/// A call that no device is asked for.
+const NEVER: u64 = u64::MAX;
+
+/// No call fails.
+const SOUND: Trial = Trial {
+    read: NEVER,
+    write: NEVER,
+    with_error: true,
+    most_read: 40,
+    most_written: 40,
+};
+
+/// How a Desk and a Cell were served over such devices, and the calls of these.
+#[derive(Drop)]
+struct Tried {
+    fault: Option<ServeFault>,
+    failures: u64,
+    reads: u64,
+    writes: u64,
+    written: Vec<u8>,
+}
+
+fn over(rt: &impl Abort, alloc: Global, bytes: &[u8], trial: Trial) -> Tried {
+    let from = Failing::new(bytes, trial.read, true, trial.most_read);
+    let to = Failing::new(
+        Vec::new(alloc),
+        trial.write,
+        trial.with_error,
+        trial.most_written,
+    );
+    let (mut from, mut to) = (Tap::new(from), Tap::new(to));
     let first = boxed(rt, alloc, Desk::new(alloc));
     let mut objects = pair(rt, alloc, first, boxed(rt, alloc, Cell::new(alloc)));
     let ended = serve(alloc, &mut from, &mut to, &mut objects, Mode::Plain);
+    drop(objects);
     let fault = ended.err();
     let failures = from.failures().saturating_add(to.failures());
     let Failing { calls: reads, .. } = from.into_inner();
@@ -97,55 +120,60 @@ fn fails(rt: &impl Abort, alloc: Global, bytes: &[u8], whole: &[u8], trial: Tria
         calls: writes,
         ..
     } = to.into_inner();
-    assert!(rt; reads <= read && writes <= write);
-    if failures == 0 {
-        assert!(rt; fault.is_none());
-        assert!(rt; written.as_slice() == whole);
-        return false;
+    Tried {
+        fault,
+        failures,
+        reads,
+        writes,
+        written,
     }
-    assert!(rt; failures == 1);
-    assert!(rt; fault == Some(ServeFault::Stream(StreamFault::Device)));
-    assert!(rt; whole.starts_with(&written));
-    true
 }
 
-/// A call that no device is asked for.
-const NEVER: u64 = u64::MAX;
+/// Serves a Desk and a Cell over such devices. Where a call fails, the answer is `Device`, no call
+/// follows, and a beginning of the whole was written. Says whether one fails.
+fn fails(rt: &impl Abort, alloc: Global, bytes: &[u8], whole: &[u8], trial: Trial) -> bool {
+    let tried = over(rt, alloc, bytes, trial);
+    check!(rt; tried.reads <= trial.read && tried.writes <= trial.write);
+    let fails = tried.failures > 0;
+    if fails {
+        check!(rt; tried.failures == 1);
+        check!(rt; tried.fault == Some(ServeFault::Stream(StreamFault::Device)));
+        check!(rt; whole.starts_with(&tried.written));
+    } else {
+        check!(rt; tried.fault.is_none());
+        check!(rt; tried.written.as_slice() == whole);
+    }
+    drop(tried);
+    fails
+}
 
 /// The trial in which the call of this number fails: a read, a write by an error, a write that takes
 /// no byte.
 fn trials(call: u64) -> [Trial; 3] {
-    let most = 40;
-    let (read, write) = (NEVER, NEVER);
+    let (read, write) = (call, call);
+    let with_error = false;
     [
+        Trial { read, ..SOUND },
+        Trial { write, ..SOUND },
         Trial {
-            read: call,
             write,
-            with_error: true,
-            most,
-        },
-        Trial {
-            read,
-            write: call,
-            with_error: true,
-            most,
-        },
-        Trial {
-            read,
-            write: call,
-            with_error: false,
-            most,
+            with_error,
+            ..SOUND
         },
     ]
+}
+
+/// What is written where no device fails.
+fn written(rt: &impl Abort, alloc: Global, bytes: &[u8]) -> Vec<u8> {
+    let (whole, ended) = served(rt, alloc, Object::desk(alloc), bytes, Mode::Plain);
+    drop(report_of(rt, ended));
+    whole
 }
 
 /// Each call of the devices fails in turn, until none fails.
 fn expect_each(rt: &impl Abort, alloc: Global, frames: &[Frame]) {
     let bytes = bytes_of(rt, alloc, frames);
-    let first = boxed(rt, alloc, Desk::new(alloc));
-    let objects = pair(rt, alloc, first, boxed(rt, alloc, Cell::new(alloc)));
-    let (whole, ended) = served(alloc, objects, &bytes, Mode::Plain);
-    assert!(rt; ended.is_ok());
+    let whole = written(rt, alloc, &bytes);
     for call in 1..1_000 {
         let mut failed = false;
         for trial in trials(call) {
@@ -174,39 +202,42 @@ fn each_call_of_a_device_may_fail(rt: HostRuntime) {
 fn one_byte_a_call_is_enough(rt: HostRuntime) {
     let alloc = rt.alloc();
     let bytes = bytes_of(&rt, alloc, &[BOOTSTRAP, LATER, ADD_FIVE]);
-    let first = boxed(&rt, alloc, Desk::new(alloc));
-    let objects = pair(&rt, alloc, first, boxed(&rt, alloc, Cell::new(alloc)));
-    let (whole, ended) = served(alloc, objects, &bytes, Mode::Plain);
-    assert!(rt; ended.is_ok());
+    let whole = written(&rt, alloc, &bytes);
     let trial = Trial {
-        read: NEVER,
-        write: NEVER,
-        with_error: true,
-        most: 1,
+        most_read: 1,
+        most_written: 1,
+        ..SOUND
     };
-    assert!(rt; !fails(&rt, alloc, &bytes, &whole, trial));
+    check!(&rt; !fails(&rt, alloc, &bytes, &whole, trial));
+    drop(whole);
+    drop(bytes);
 }
 
-/// The calls of the writer in which a Desk and a Cell are served, and whether all was written.
-fn writes_of(rt: &impl Abort, alloc: Global, bytes: &[u8], most: usize, whole: &[u8]) -> u64 {
-    let mut from = Tap::new(Failing::new(bytes, NEVER, true, most));
-    let mut to = Tap::new(Failing::new(Vec::new(alloc), NEVER, true, usize::MAX));
-    let first = boxed(rt, alloc, Desk::new(alloc));
-    let mut objects = pair(rt, alloc, first, boxed(rt, alloc, Cell::new(alloc)));
-    assert!(rt; serve(alloc, &mut from, &mut to, &mut objects, Mode::Plain).is_ok());
-    let Failing { inner, calls, .. } = to.into_inner();
-    assert!(rt; inner.as_slice() == whole);
-    calls
+/// The calls of the writer in which a Desk and a Cell are served, which write all.
+fn writes_of(rt: &impl Abort, alloc: Global, bytes: &[u8], most_read: usize, whole: &[u8]) -> u64 {
+    let trial = Trial {
+        most_read,
+        most_written: usize::MAX,
+        ..SOUND
+    };
+    let tried = over(rt, alloc, bytes, trial);
+    check!(rt; tried.fault.is_none());
+    check!(rt; tried.written.as_slice() == whole);
+    let writes = tried.writes;
+    drop(tried);
+    writes
 }
 
 #[test]
 fn a_piece_is_answered_in_one_write(rt: HostRuntime) {
     let alloc = rt.alloc();
     let bytes = bytes_of(&rt, alloc, &[BOOTSTRAP, LATER, ADD_FIVE]);
-    let whole = decoded(&rt, alloc, ANSWERS);
-    assert!(rt; writes_of(&rt, alloc, &bytes, usize::MAX, &whole) == 1);
+    let whole = prepared(alloc, &ANSWERS).expect(&rt, "hexadecimal");
+    check!(&rt; writes_of(&rt, alloc, &bytes, usize::MAX, &whole) == 1);
     // Each read brings at most one frame. The second is answered with the third, by the second poll.
-    assert!(rt; writes_of(&rt, alloc, &bytes, 40, &whole) == 2);
+    check!(&rt; writes_of(&rt, alloc, &bytes, 40, &whole) == 2);
+    drop(whole);
+    drop(bytes);
 }
 
 /// A writer that keeps what is written until it is flushed.
@@ -229,19 +260,32 @@ impl Write for Keeping {
     }
 }
 
-#[test]
-fn a_writer_that_keeps_bytes_is_flushed(rt: HostRuntime) {
-    let alloc = rt.alloc();
-    let bytes = bytes_of(&rt, alloc, &[BOOTSTRAP, LATER, ADD_FIVE]);
-    let mut from = Tap::new(bytes.as_slice());
+/// What a writer that keeps bytes has flushed.
+fn flushed(rt: &impl Abort, alloc: Global, bytes: &[u8]) -> Vec<u8> {
+    let mut from = Tap::new(bytes);
     let mut to = Tap::new(Keeping {
         kept: Vec::new(alloc),
         out: Vec::new(alloc),
     });
-    let first = boxed(&rt, alloc, Desk::new(alloc));
-    let mut objects = pair(&rt, alloc, first, boxed(&rt, alloc, Cell::new(alloc)));
-    assert!(rt; serve(alloc, &mut from, &mut to, &mut objects, Mode::Plain).is_ok());
-    assert!(rt; to.into_inner().out.as_slice() == decoded(&rt, alloc, ANSWERS).as_slice());
+    let first = boxed(rt, alloc, Desk::new(alloc));
+    let mut objects = pair(rt, alloc, first, boxed(rt, alloc, Cell::new(alloc)));
+    let ended = serve(alloc, &mut from, &mut to, &mut objects, Mode::Plain);
+    drop(objects);
+    drop(report_of(rt, ended));
+    let Keeping { out, .. } = to.into_inner();
+    out
+}
+
+#[test]
+fn a_writer_that_keeps_bytes_is_flushed(rt: HostRuntime) {
+    let alloc = rt.alloc();
+    let bytes = bytes_of(&rt, alloc, &[BOOTSTRAP, LATER, ADD_FIVE]);
+    let out = flushed(&rt, alloc, &bytes);
+    drop(bytes);
+    let wanted = prepared(alloc, &ANSWERS).expect(&rt, "hexadecimal");
+    check!(&rt; out.as_slice() == wanted.as_slice());
+    drop(wanted);
+    drop(out);
 }
 
 /// A writer that takes all, keeps none of it, and compares it with what is wanted.
@@ -268,14 +312,14 @@ impl<'a> Write for Compared<'a> {
 }
 
 /// What is sent for a bootstrap, a call of the Desk and one of the Cell.
-const ANSWERS: &str = "\
-    000000000b000000 0000000001000100 0300000000000000 0000000002000100 0000000001000000 \
-    0000000000000000 0000000000000200 0300000000000000 0100000017000000 0400000001000100 \
-    0100000000000000 0000000000000000 000000000c000000 0000000001000100 0300000000000000 \
-    0000000002000100 0100000001000000 0000000000000000 0000000000000200 0400000000000100 \
-    0500000017000000 0300000000000000 0400000001000100 0100000001000000 0000000000000000 \
-    0000000009000000 0000000001000100 0300000000000000 0000000002000100 0200000001000000 \
-    0000000000000000 0000000000000200 0400000001000000 0000000000000000 0500000000000000";
+const ANSWERS: [&str; 3] = [
+    ANSWER,
+    "000000000c000000 0000000001000100 0300000000000000 0000000002000100 0100000001000000 \
+     0000000000000000 0000000000000200 0400000000000100 0500000017000000 0300000000000000 \
+     0400000001000100 0100000001000000 0000000000000000",
+    "0000000009000000 0000000001000100 0300000000000000 0000000002000100 0200000001000000 \
+     0000000000000000 0000000000000200 0400000001000000 0000000000000000 0500000000000000",
+];
 
 /// Whether an allocation failed.
 fn is_memory(fault: ServeFault) -> bool {
@@ -311,12 +355,12 @@ fn expect_whole_or_memory(rt: &impl Abort, alloc: Global, bytes: &[u8], answers:
         differs: false,
     });
     let ended = serve_both(alloc, bytes, &mut to);
-    assert!(rt; to.failures() == 0);
+    check!(rt; to.failures() == 0);
     let Compared { left, differs } = to.into_inner();
-    assert!(rt; !differs);
+    check!(rt; !differs);
     match ended {
-        Some(Ok(())) => assert!(rt; left.is_empty()),
-        Some(Err(fault)) => assert!(rt; is_memory(fault)),
+        Some(Ok(())) => check!(rt; left.is_empty()),
+        Some(Err(fault)) => check!(rt; is_memory(fault)),
         None => {}
     }
 }
@@ -326,7 +370,7 @@ fn expect_whole_or_memory(rt: &impl Abort, alloc: Global, bytes: &[u8], answers:
 fn allocation_failure_is_reported(rt: HostRuntime) {
     let alloc = rt.alloc();
     let calls = [BOOTSTRAP.1, LATER.1, ADD_FIVE.1];
-    let (Some(bytes), Some(answers)) = (prepared(alloc, &calls), prepared(alloc, &[ANSWERS])) else {
+    let (Some(bytes), Some(answers)) = (prepared(alloc, &calls), prepared(alloc, &ANSWERS)) else {
         return;
     };
     expect_whole_or_memory(&rt, alloc, &bytes, &answers);

@@ -1,12 +1,13 @@
 //! Sessions over bytes in memory, and what they gave.
 
 use crate::frames::Frame;
+use crate::servants::Object;
 use cp_frame::{FrameReader, Mode};
 use cp_lines::push_line;
-use cp_servants::Servant;
+use cp_servants::{Cell, Servant};
 use cp_serve::{Report, ServeFault, serve};
 use cp_stream::{Tap, view_of};
-use cp_words::Limits;
+use cp_words::{Limits, Segments};
 use std::alloc::Global;
 use std::process::Abort;
 
@@ -56,35 +57,39 @@ pub fn pair(
         .expect(rt, "memory")
 }
 
-/// Serves objects to a peer that sends these bytes.
-pub fn served(
-    alloc: Global,
-    mut objects: Vec<Box<dyn Servant>>,
-    bytes: &[u8],
-    mode: Mode,
-) -> Served {
+/// Serves an object and a Cell to a peer that sends these bytes.
+pub fn served(rt: &impl Abort, alloc: Global, object: Object, bytes: &[u8], mode: Mode) -> Served {
+    let first = boxed(rt, alloc, object);
+    let mut objects = pair(rt, alloc, first, boxed(rt, alloc, Cell::new(alloc)));
     let mut from = Tap::new(bytes);
     let mut to = Tap::new(Vec::new(alloc));
     let ended = serve(alloc, &mut from, &mut to, &mut objects, mode);
+    drop(objects);
     (to.into_inner(), ended)
+}
+
+/// Adds the lines of frames.
+fn push_lines(rt: &impl Abort, alloc: Global, lines: &mut String, frames: &[(u64, Segments)]) {
+    for (_, segments) in frames {
+        let view = view_of(segments, Limits::standard());
+        push_line(alloc, lines, &view.ok().expect(rt, "a message"))
+            .ok()
+            .expect(rt, "memory");
+    }
 }
 
 /// The messages of a stream, as lines.
 fn lines_of(rt: &impl Abort, alloc: Global, bytes: &[u8], mode: Mode) -> String {
-    let limits = Limits::standard();
     let mut reader = match mode {
-        Mode::Plain => FrameReader::plain(alloc, limits),
-        Mode::Packed => FrameReader::packed(alloc, limits),
+        Mode::Plain => FrameReader::plain(alloc, Limits::standard()),
+        Mode::Packed => FrameReader::packed(alloc, Limits::standard()),
     };
     let frames = reader.feed(bytes).ok().expect(rt, "frames");
-    assert!(rt; reader.finish().is_ok());
+    check!(rt; reader.finish().is_ok());
+    drop(reader);
     let mut lines = String::new(alloc);
-    for (_, segments) in &frames {
-        let view = view_of(segments, limits).ok().expect(rt, "a message");
-        push_line(alloc, &mut lines, &view)
-            .ok()
-            .expect(rt, "memory");
-    }
+    push_lines(rt, alloc, &mut lines, &frames);
+    drop(frames);
     lines
 }
 
@@ -94,30 +99,32 @@ pub fn expect_lines(rt: &impl Abort, alloc: Global, bytes: &[u8], mode: Mode, wa
     if lines.as_str() != wanted {
         panic!(rt; "it went so:\n{lines}");
     }
+    drop(lines);
 }
 
 /// This many messages were taken, and this many sent.
 pub fn expect_report(rt: &impl Abort, report: &Report, messages: usize, wanted: &str) {
-    assert!(rt; report.messages == messages as u64);
-    assert!(rt; report.sent == wanted.lines().count() as u64);
+    check!(rt; report.messages == messages as u64);
+    check!(rt; report.sent == wanted.lines().count() as u64);
+}
+
+/// How a session ended that no fault ended.
+pub fn report_of(rt: &impl Abort, ended: Result<Report, ServeFault>) -> Report {
+    match ended {
+        Ok(report) => report,
+        Err(fault) => panic!(rt; "{fault:?}"),
+    }
 }
 
 /// All frames are taken, these lines are sent, and the vat stays open.
-pub fn expect(
-    rt: &impl Abort,
-    alloc: Global,
-    objects: Vec<Box<dyn Servant>>,
-    frames: &[Frame],
-    wanted: &str,
-) {
+pub fn expect(rt: &impl Abort, alloc: Global, object: Object, frames: &[Frame], wanted: &str) {
     let bytes = bytes_of(rt, alloc, frames);
-    let (written, ended) = served(alloc, objects, &bytes, Mode::Plain);
+    let (written, ended) = served(rt, alloc, object, &bytes, Mode::Plain);
+    drop(bytes);
     expect_lines(rt, alloc, &written, Mode::Plain, wanted);
-    match ended {
-        Ok(report) => {
-            expect_report(rt, &report, frames.len(), wanted);
-            assert!(rt; report.closed.is_none());
-        }
-        Err(fault) => panic!(rt; "{fault:?}"),
-    }
+    drop(written);
+    let report = report_of(rt, ended);
+    expect_report(rt, &report, frames.len(), wanted);
+    check!(rt; report.closed.is_none());
+    drop(report);
 }

@@ -1,12 +1,12 @@
 //! Sessions that the peer ends.
 
 use crate::frames::*;
-use crate::servants::{Echo, Late, nothing};
-use crate::serving::{boxed, bytes_of, decoded, expect, expect_lines, pair, served};
+use crate::servants::{Late, Object, nothing};
+use crate::serving::{bytes_of, decoded, expect, expect_lines, report_of, served};
 use cp_frame::Mode;
 use cp_machine::Ids;
 use cp_refs::{Cap, Caps, Outcome};
-use cp_servants::{Cell, Desk, Reply, Script, Settled};
+use cp_servants::{Reply, Script, Settled};
 use cp_tree::{Body, Tree, Whole};
 use std::alloc::Global;
 use std::process::Abort;
@@ -17,6 +17,8 @@ fn expect_frame(rt: &impl Abort, alloc: Global, frame: Frame) {
     let bytes = bytes_of(rt, alloc, &[frame]);
     let wanted = format!(in alloc; "{line}\n").expect(rt, "memory");
     expect_lines(rt, alloc, &bytes, Mode::Plain, wanted.as_str());
+    drop(wanted);
+    drop(bytes);
 }
 
 #[test]
@@ -101,9 +103,7 @@ fn a_desk_and_a_cell_are_served(rt: HostRuntime) {
         (&counting, COUNTED),
         (&[BOOTSTRAP, GIVING, ADD_GIVING], GIVEN_UP),
     ] {
-        let first = boxed(&rt, alloc, Desk::new(alloc));
-        let objects = pair(&rt, alloc, first, boxed(&rt, alloc, Cell::new(alloc)));
-        expect(&rt, alloc, objects, frames, wanted);
+        expect(&rt, alloc, Object::desk(alloc), frames, wanted);
     }
 }
 
@@ -111,11 +111,11 @@ fn a_desk_and_a_cell_are_served(rt: HostRuntime) {
 fn packed_sessions_are_served(rt: HostRuntime) {
     let alloc = rt.alloc();
     let bytes = decoded(&rt, alloc, PACKED_SESSION);
-    let first = boxed(&rt, alloc, Desk::new(alloc));
-    let objects = pair(&rt, alloc, first, boxed(&rt, alloc, Cell::new(alloc)));
-    let (written, ended) = served(alloc, objects, &bytes, Mode::Packed);
-    assert!(rt; ended.is_ok());
+    let (written, ended) = served(&rt, alloc, Object::desk(alloc), &bytes, Mode::Packed);
+    drop(bytes);
+    drop(report_of(&rt, ended));
     expect_lines(&rt, alloc, &written, Mode::Packed, ADDED);
+    drop(written);
 }
 
 /// A call on what was given goes back to the peer. What was given is in use until its answer is finished.
@@ -131,9 +131,7 @@ release id=2 count=1
 fn an_object_answers_at_once(rt: HostRuntime) {
     let alloc = rt.alloc();
     let frames = [BOOTSTRAP, GIVING, ADD_FIVE, FINISH];
-    let first = boxed(&rt, alloc, Echo { alloc });
-    let objects = pair(&rt, alloc, first, boxed(&rt, alloc, Cell::new(alloc)));
-    expect(&rt, alloc, objects, &frames, ECHOED);
+    expect(&rt, alloc, Object::Echo(alloc), &frames, ECHOED);
 }
 
 /// The second call fails, on what the first is answered with by the poll of its message.
@@ -148,10 +146,8 @@ return a=3 releaseParamCaps=false results {null caps[]}
 fn an_object_answers_later(rt: HostRuntime) {
     let alloc = rt.alloc();
     let frames = [BOOTSTRAP, LATER, ADD_FIVE, AT_ONCE];
-    let tickets = Vec::new(alloc);
-    let first = boxed(&rt, alloc, Late { alloc, tickets });
-    let objects = pair(&rt, alloc, first, boxed(&rt, alloc, Cell::new(alloc)));
-    expect(&rt, alloc, objects, &frames, LATE);
+    let object = Object::Late(Late::new(alloc));
+    expect(&rt, alloc, object, &frames, LATE);
 }
 
 /// A call that isn't answered.
@@ -166,17 +162,17 @@ return a=1 releaseParamCaps=false results {null caps[]}
 ";
 
 /// A Script that settles calls under these tickets, one a poll.
-pub fn settling(rt: &impl Abort, alloc: Global, tickets: &[u64]) -> Script {
+pub fn settling(rt: &impl Abort, alloc: Global, tickets: &[u64]) -> Object {
     let mut settled = Vec::new(alloc);
     for ticket in tickets {
         let call = Settled {
             ticket: *ticket,
-            outcome: nothing(Vec::new(alloc)),
+            outcome: nothing(alloc),
             gives_up: Ids::new(Vec::new(alloc)),
         };
         settled.push(Some(call)).ok().expect(rt, "memory");
     }
-    Script::new(Vec::new(alloc), settled)
+    Object::Script(Script::new(Vec::new(alloc), settled))
 }
 
 #[test]
@@ -190,9 +186,7 @@ fn a_strangers_ticket_is_dropped(rt: HostRuntime) {
         ([9, 0, 9, 9], SETTLED),
     ] {
         let object = settling(&rt, alloc, &tickets);
-        let first = boxed(&rt, alloc, object);
-        let objects = pair(&rt, alloc, first, boxed(&rt, alloc, Cell::new(alloc)));
-        expect(&rt, alloc, objects, &[BOOTSTRAP, LATER], wanted);
+        expect(&rt, alloc, object, &[BOOTSTRAP, LATER], wanted);
     }
 }
 
@@ -209,11 +203,11 @@ pub fn one(rt: &impl Abort, alloc: Global, cap: Cap) -> Outcome {
 }
 
 /// A Script of one reply, at once.
-pub fn replying(rt: &impl Abort, alloc: Global, outcome: Outcome, imports: &[u32]) -> Script {
+pub fn replying(rt: &impl Abort, alloc: Global, outcome: Outcome, imports: &[u32]) -> Object {
     let gives_up = Ids::new(imports.to_vec(alloc).ok().expect(rt, "memory"));
     let reply = Reply::Now { outcome, gives_up };
     let replies = vec![in alloc; reply].ok().expect(rt, "memory");
-    Script::new(replies, Vec::new(alloc))
+    Object::Script(Script::new(replies, Vec::new(alloc)))
 }
 
 /// Imports that are given up are released once, and only those that exist.
@@ -227,10 +221,8 @@ release id=2 count=1
 #[test]
 fn an_object_gives_up_imports(rt: HostRuntime) {
     let alloc = rt.alloc();
-    let object = replying(&rt, alloc, nothing(Vec::new(alloc)), &[4, 77, 4, 2]);
-    let first = boxed(&rt, alloc, object);
-    let objects = pair(&rt, alloc, first, boxed(&rt, alloc, Cell::new(alloc)));
-    expect(&rt, alloc, objects, &[BOOTSTRAP, GIVING], RELEASED);
+    let object = replying(&rt, alloc, nothing(alloc), &[4, 77, 4, 2]);
+    expect(&rt, alloc, object, &[BOOTSTRAP, GIVING], RELEASED);
 }
 
 /// Results that name an object past the list, and a call on it.
@@ -250,17 +242,7 @@ return a=1 releaseParamCaps=false exception failed \"bad outcome\"
 fn results_may_name_what_is_not_there(rt: HostRuntime) {
     let alloc = rt.alloc();
     let object = replying(&rt, alloc, one(&rt, alloc, Cap::Object(2)), &[]);
-    let first = boxed(&rt, alloc, object);
-    let objects = pair(&rt, alloc, first, boxed(&rt, alloc, Cell::new(alloc)));
-    expect(
-        &rt,
-        alloc,
-        objects,
-        &[BOOTSTRAP, LATER, ADD_FIVE],
-        NO_OBJECT,
-    );
+    expect(&rt, alloc, object, &[BOOTSTRAP, LATER, ADD_FIVE], NO_OBJECT);
     let object = replying(&rt, alloc, one(&rt, alloc, Cap::Promise(5)), &[]);
-    let first = boxed(&rt, alloc, object);
-    let objects = pair(&rt, alloc, first, boxed(&rt, alloc, Cell::new(alloc)));
-    expect(&rt, alloc, objects, &[BOOTSTRAP, LATER], BAD);
+    expect(&rt, alloc, object, &[BOOTSTRAP, LATER], BAD);
 }

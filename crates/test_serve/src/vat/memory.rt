@@ -38,15 +38,15 @@ fn play(rt: &impl Abort, vat: &mut Vat, event: Event, was_closed: bool) -> bool 
     match vat.act(event) {
         Ok(acted) => {
             drop(acted);
-            assert!(rt; !was_closed);
+            check!(rt; !was_closed);
             false
         }
         Err(VatFault::Closed) => {
-            assert!(rt; was_closed);
+            check!(rt; was_closed);
             true
         }
         Err(fault) => {
-            assert!(rt; !was_closed && fault == VatFault::OutOfMemory);
+            check!(rt; !was_closed && fault == VatFault::OutOfMemory);
             true
         }
     }

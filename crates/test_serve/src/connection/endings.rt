@@ -1,8 +1,8 @@
 //! How connections end, and what is left then.
 
-use crate::bytes::{
-    ABORT, ABORTED, ANSWER, BOOTSTRAP, STRANGE_FINISH, bytes, expect_outgoing, feed,
-};
+use crate::connection::bytes::{expect_outgoing, feed};
+use crate::frames::{ABORT, ABORTED, ANSWER, BOOTSTRAP, Frame, STRANGE_FINISH};
+use crate::serving::{bytes_of, decoded};
 use cp_connection::{Connection, ConnectionFault, Happening};
 use cp_frame::{FrameFault, Mode};
 use cp_machine::{PeerFault, Reason, VatFault};
@@ -16,8 +16,9 @@ use std::process::Abort;
 /// A connection to which a Bootstrap came, whose answer wasn't written.
 fn begun(rt: &impl Abort, alloc: Global) -> Connection {
     let mut connection = Connection::new(alloc, Mode::Plain, Limits::standard(), Some(0));
-    let frame = bytes(rt, alloc, BOOTSTRAP);
+    let frame = bytes_of(rt, alloc, &[BOOTSTRAP]);
     feed(rt, &mut connection, &frame, 48);
+    drop(frame);
     connection
 }
 
@@ -27,28 +28,29 @@ fn expect_over(
     alloc: Global,
     connection: &mut Connection,
     fault: ConnectionFault,
-    outgoing: &str,
+    outgoing: &[&str],
 ) {
-    assert!(rt; connection.fault() == Some(fault));
-    assert!(rt; connection.receive(&[0]) == Err(fault));
-    assert!(rt; connection.end() == Err(fault));
-    assert!(rt; connection.bootstrap() == Err(fault));
-    assert!(rt; connection.finish(0) == Err(fault));
-    assert!(rt; connection.release(0) == Err(fault));
+    check!(rt; connection.fault() == Some(fault));
+    check!(rt; connection.receive(&[0]) == Err(fault));
+    check!(rt; connection.end() == Err(fault));
+    check!(rt; connection.bootstrap() == Err(fault));
+    check!(rt; connection.finish(0) == Err(fault));
+    check!(rt; connection.release(0) == Err(fault));
     expect_outgoing(rt, alloc, connection, outgoing);
 }
 
 /// Bytes after a Bootstrap are refused so, and nothing that was to go out is lost.
 fn expect_refused(rt: &impl Abort, alloc: Global, digits: &str, refusal: Refusal) {
     let mut connection = begun(rt, alloc);
-    let piece = bytes(rt, alloc, digits);
+    let piece = decoded(rt, alloc, digits);
     let fault = ConnectionFault::Unreadable { at: 48, refusal };
     let given = connection.receive(&piece);
-    assert!(rt; given == Err(fault));
-    expect_over(rt, alloc, &mut connection, fault, ANSWER);
+    drop(piece);
+    check!(rt; given == Err(fault));
+    expect_over(rt, alloc, &mut connection, fault, &[ANSWER]);
     let tally = connection.tally();
     drop(connection);
-    assert!(rt; tally.bytes == 48 && tally.messages == 1 && tally.sent == 1);
+    check!(rt; tally.bytes == 48 && tally.messages == 1 && tally.sent == 1);
 }
 
 #[test]
@@ -79,18 +81,24 @@ fn the_end_may_be_inside_a_frame(rt: HostRuntime) {
         refusal: Refusal::Frame(FrameFault::Truncated),
     };
     let ended = connection.end();
-    expect_over(&rt, alloc, &mut connection, fault, ANSWER);
+    expect_over(&rt, alloc, &mut connection, fault, &[ANSWER]);
     drop(connection);
-    assert!(&rt; taken == Ok(3) && held.came == 3 && ended == Err(fault));
+    check!(&rt; taken == Ok(3) && held.came == 3 && ended == Err(fault));
+}
+
+/// Nothing more happened.
+fn expect_nothing(rt: &impl Abort, connection: &mut Connection) {
+    check!(rt; connection.next().is_none());
 }
 
 /// The vat closed for a reason, as the last that happened, and each call says so.
-fn closed(rt: &impl Abort, alloc: Global, digits: &str, outgoing: &str) -> Option<Reason> {
+fn closed(rt: &impl Abort, alloc: Global, frame: Frame, outgoing: &[&str]) -> Option<Reason> {
     let mut connection = begun(rt, alloc);
-    let frame = bytes(rt, alloc, digits);
+    let frame = bytes_of(rt, alloc, &[frame]);
     feed(rt, &mut connection, &frame, frame.len());
+    drop(frame);
     let happened = connection.next();
-    assert!(rt; connection.next().is_none());
+    expect_nothing(rt, &mut connection);
     expect_over(
         rt,
         alloc,
@@ -107,15 +115,15 @@ fn closed(rt: &impl Abort, alloc: Global, digits: &str, outgoing: &str) -> Optio
 
 #[test]
 fn the_peer_may_abort(rt: HostRuntime) {
-    let reason = closed(&rt, rt.alloc(), ABORT, ANSWER);
-    assert!(&rt; matches!(reason, Some(Reason::Peer(_))));
+    let reason = closed(&rt, rt.alloc(), ABORT, &[ANSWER]);
+    check!(&rt; matches!(reason, Some(Reason::Peer(_))));
     drop(reason);
 }
 
 #[test]
 fn the_peer_may_be_at_fault(rt: HostRuntime) {
-    let reason = closed(&rt, rt.alloc(), STRANGE_FINISH, ABORTED);
-    assert!(&rt; matches!(reason, Some(Reason::Fault(PeerFault::UnknownAnswer))));
+    let reason = closed(&rt, rt.alloc(), STRANGE_FINISH, &[ANSWER, ABORTED]);
+    check!(&rt; matches!(reason, Some(Reason::Fault(PeerFault::UnknownAnswer))));
     drop(reason);
 }
 
@@ -129,8 +137,8 @@ fn a_refusal_changes_nothing(rt: HostRuntime) {
     let again = connection.finish(0);
     let fault = connection.fault();
     drop(connection);
-    assert!(&rt; refused == Err(ConnectionFault::Refused(VatFault::UnknownImport)));
-    assert!(&rt; asked == Ok(0) && finished == Ok(()));
-    assert!(&rt; again == Err(ConnectionFault::Refused(VatFault::UnknownQuestion)));
-    assert!(&rt; fault.is_none());
+    check!(&rt; refused == Err(ConnectionFault::Refused(VatFault::UnknownImport)));
+    check!(&rt; asked == Ok(0) && finished == Ok(()));
+    check!(&rt; again == Err(ConnectionFault::Refused(VatFault::UnknownQuestion)));
+    check!(&rt; fault.is_none());
 }

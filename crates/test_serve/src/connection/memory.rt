@@ -1,7 +1,8 @@
-//! Allocation failures. With ample memory there are none: bench/memory/sweep.sh fails each allocation of
-//! the test.
+//! Allocation failures. With ample memory there are none: nightly/memory/sweep.sh fails each allocation
+//! of the test.
 
-use crate::bytes::{ANSWER, BOOTSTRAP};
+use crate::frames::BOOTSTRAP;
+use crate::serving::prepared;
 use cp_connection::{Connection, ConnectionFault};
 use cp_frame::Mode;
 use cp_words::Limits;
@@ -28,9 +29,9 @@ fn play(connection: &mut Connection, frame: &[u8]) -> (u64, Option<ConnectionFau
 
 /// The bytes of the first Bootstrap.
 fn frame(rt: &impl Abort, alloc: Global) -> Vec<u8> {
-    match hex::decode(alloc, BOOTSTRAP) {
-        Ok(bytes) => bytes,
-        Err(_) => hex::decode(alloc, BOOTSTRAP).expect(rt, "memory"),
+    match prepared(alloc, &[BOOTSTRAP.1]) {
+        Some(bytes) => bytes,
+        None => prepared(alloc, &[BOOTSTRAP.1]).expect(rt, "memory"),
     }
 }
 
@@ -45,19 +46,17 @@ fn an_allocation_failure_ends_it(rt: HostRuntime) {
     let again = connection.bootstrap();
     let happened = connection.next();
     drop(connection);
-    assert!(&rt; happened.is_none());
+    let is_quiet = happened.is_none();
     drop(happened);
-    assert_eq!(&rt; sent, done);
-    // What goes out is the answer, and a Bootstrap of 48 bytes for each question that was asked.
-    let answered = if done == 0 {
-        0
-    } else {
-        ANSWER.len() as u64 / 2
-    };
+    drop(frame);
+    check!(&rt; is_quiet);
+    check!(&rt; sent == done);
+    // What goes out is the answer, of 96 bytes, and a Bootstrap of 48 bytes for each question that was asked.
+    let answered = if done == 0 { 0u64 } else { 96 };
     let asked = done.saturating_sub(1).saturating_mul(48);
-    assert!(&rt; outgoing as u64 == answered.saturating_add(asked));
+    check!(&rt; outgoing as u64 == answered.saturating_add(asked));
     match fault {
-        None => assert!(&rt; again == Ok(2)),
-        Some(fault) => assert!(&rt; fault == ConnectionFault::OutOfMemory && again == Err(fault)),
+        None => check!(&rt; again == Ok(2)),
+        Some(fault) => check!(&rt; fault == ConnectionFault::OutOfMemory && again == Err(fault)),
     }
 }

@@ -96,10 +96,10 @@ fn fault_of(rt: &impl Abort, acted: &Acted<()>) -> PeerFault {
 fn expect_fault(rt: &impl Abort, alloc: Global, segments: &Segments, fault: PeerFault) {
     match receive(rt, alloc, segments) {
         Ok(acted) => {
-            assert!(rt; fault_of(rt, &acted) == fault);
+            check!(rt; fault_of(rt, &acted) == fault);
             drop(acted);
         }
-        Err(refusal) => assert!(rt; refusal == VatFault::OutOfMemory),
+        Err(refusal) => check!(rt; refusal == VatFault::OutOfMemory),
     }
 }
 
@@ -119,7 +119,7 @@ fn expect_nothing(rt: &impl Abort, alloc: Global, segments: &Segments) {
         let view = view_of(segments, Limits::standard()).expect(rt, "a message");
         let acted = vat.receive_view(view).expect(rt, "no memory is taken");
         drop(vat);
-        assert!(rt; acted.effects.effects().is_empty());
+        check!(rt; acted.effects.effects().is_empty());
         drop(acted);
     }
 }
@@ -165,12 +165,12 @@ fn expect_settled(rt: &impl Abort, vat: &mut Vat, segments: &Segments) {
     let view = view_of(segments, Limits::standard()).expect(rt, "a message");
     match vat.receive_view(view) {
         Ok(acted) => {
-            assert!(rt; acted.effects.effects().len() == 1);
+            check!(rt; acted.effects.effects().len() == 1);
             drop(acted);
         }
         Err(refusal) => {
-            assert!(rt; refusal == VatFault::OutOfMemory);
-            assert!(rt; is_closed(vat));
+            check!(rt; refusal == VatFault::OutOfMemory);
+            check!(rt; is_closed(vat));
         }
     }
 }

@@ -1,0 +1,4 @@
+//! Allocation failures of a vat.
+
+mod in_place;
+mod memory;
