@@ -243,7 +243,7 @@ def one_that_does_not_read():
     deaf, other = server.peer(4096).send(bootstrap(0)), server.peer().send(bootstrap(0))
     assert other.kinds(1) == [RETURN]
     deaf.socket.setblocking(False)
-    block = b"".join(call(question) for question in range(1, 60_000))
+    block = b"".join(call(question) + finish(question) for question in range(1, 200_000))
     sent, worst, question, start = 0, 0, 0, time.time()
     while time.time() - start < 2:
         try:
@@ -251,13 +251,26 @@ def one_that_does_not_read():
         except BlockingIOError:
             pass
         began, question = time.time(), question + 1
-        assert other.send(call(question)).kinds(1) == [RETURN]
+        assert other.send(call(question), finish(question)).kinds(1) == [RETURN]
         worst = max(worst, time.time() - began)
     assert sent < len(block), "it was read on"
     assert worst < 1, worst
     assert server.memory() < 40_000, server.memory()
     other.close()
     server.ended(1, "closed: no byte moved in time")
+
+
+def one_that_finishes_nothing():
+    server = Server(1, "--at-once", "2")
+    peer = server.peer().send(bootstrap(0))
+    assert peer.kinds(1) == [RETURN]
+    for question in range(1, 6_000):
+        assert peer.send(call(question)).kinds(1) == [RETURN]
+    try:
+        peer.send(*(call(question) for question in range(6_000, 7_000)))
+    except ConnectionError:
+        pass
+    server.ended(1, "closed: too many bytes are kept")
 
 
 def silent_and_half_open():
@@ -327,6 +340,7 @@ TRIALS = [
     a_reset_has_its_cause,
     idle,
     one_that_does_not_read,
+    one_that_finishes_nothing,
     silent_and_half_open,
     opened_and_closed,
     a_path,
