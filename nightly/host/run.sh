@@ -6,11 +6,11 @@ command=$1 build=$2 port=17121 peers=()
 here=$(cd "$(dirname "${BASH_SOURCE[0]}")" && pwd)
 . "$here/../begin.sh"
 python3 "$here/host.py" "$command"
-"$here/../peers/run.sh" "$command" "$build" 1000 --at-once 64
+"$here/../peers/run.sh" "$command" "$build" 10000 --at-once 64
 
-begin "$port" "$command" serve --at-once 64 "$port" 260
+begin "$port" "$command" serve --at-once 64 "$port" 240
 for turn in $(seq 10); do
-    "$build/hostile" "$port" & peers+=($!)
+    "$build/hostile" "$port" few & peers+=($!)
 done
 for it in "${peers[@]}"; do wait "$it"; done
 wait "$pid"

@@ -1,6 +1,7 @@
 #!/usr/bin/env bash
 # run.sh SERVER BUILD [COUNT [WORD..]]    sessions of peers at fault, and of a C++ client, with `SERVER serve WORD..`, plain, and packed
-#                                         through a relay; then COUNT sessions (10,000 by default) with one server, whose memory may not grow
+#                                         through a relay; then COUNT sessions (10,000 by default) with one server, whose memory may not grow.
+#                                         With WORD.. without the two peers that open a whole table of answers: a host closes these before
 set -eu
 build=$2 count=${3:-10000}
 serve=("$1" serve "${@:4}")
@@ -9,8 +10,10 @@ here=$(cd "$(dirname "${BASH_SOURCE[0]}")" && pwd)
 . "$here/../begin.sh"
 make -s -C "$here" BUILD="$build"
 
-begin "$port" "${serve[@]}" "$port" 26
-"$build/hostile" "$port"
+few=${4:+few} peers=26
+[ -z "$few" ] || peers=24
+begin "$port" "${serve[@]}" "$port" "$peers"
+"$build/hostile" "$port" $few
 wait "$pid"
 echo "hostile: each fault has its Abort, and each limit its edge"
 
@@ -41,7 +44,7 @@ part=$((count / 10))
 for turn in $(seq 10); do
     "$build/client" "$port" many "$part"
     now=$(memory "$pid")
-    first=${first:-$now}
+    [ "$turn" -lt 3 ] || first=${first:-$now} # (until then buffers grow to what they need)
     echo "$((turn * part)) sessions: $now kB"
 done
 "$build/client" "$port" first 1
