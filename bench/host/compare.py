@@ -9,33 +9,18 @@ the 99th in a hundred, and the kB that a connection takes. Each server runs on o
 import argparse
 import os
 import pathlib
-import socket
 import statistics
 import subprocess
 import sys
-import time
 
 HERE = pathlib.Path(__file__).resolve().parent
+sys.path.insert(0, str(HERE.parent))
+from servers import free_port, wait_for
+
 COMMAND = HERE.parent.parent / "crates/cp_cli/out/cp_cli"
 
 # Connections that call, and silent ones.
 ROWS = [(1, 0), (100, 0), (1000, 0), (1, 1000)]
-
-
-def free_port():
-    with socket.socket() as it:
-        it.bind(("127.0.0.1", 0))
-        return it.getsockname()[1]
-
-
-def wait_for(server, port):
-    for _ in range(500):
-        if f":{port:04X} 00000000:0000 0A" in pathlib.Path("/proc/net/tcp").read_text():
-            return
-        if server.poll() is not None:
-            break
-        time.sleep(0.01)
-    sys.exit("the server doesn't listen")
 
 
 def run(words, row, args):

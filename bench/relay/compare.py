@@ -9,31 +9,23 @@ it holds each frame until all of it has come. With --enforce the status is 1 whe
 """
 import argparse
 import pathlib
-import socket
 import statistics
 import subprocess
 import sys
-import time
 
 HERE = pathlib.Path(__file__).resolve().parent
+sys.path.insert(0, str(HERE.parent))
+from servers import free_port, wait_for
+
 COMMAND = HERE.parent.parent / "crates/cp_cli/out/cp_cli"
 GOAL = 1.5
 
 
-def free_port():
-    with socket.socket() as it:
-        it.bind(("127.0.0.1", 0))
-        return it.getsockname()[1]
-
-
 def start(cpu, words, port):
-    """Runs it, and returns once it listens. (It takes one connection, so a try to connect would use that up.)"""
+    """Runs it, and returns once it listens."""
     process = subprocess.Popen(["taskset", "-c", cpu, *words])
-    for _ in range(200):
-        if f":{port:04X} 00000000:0000 0A" in pathlib.Path("/proc/net/tcp").read_text():
-            return process
-        time.sleep(0.01)
-    sys.exit(f"{words[0]} doesn't listen")
+    wait_for(process, port)
+    return process
 
 
 def run(relay, mode, args):

@@ -15,7 +15,8 @@ import statistics
 import subprocess
 import sys
 
-from compare import free_port, wait_for
+sys.path.insert(0, str(pathlib.Path(__file__).resolve().parent.parent))
+from servers import free_port, wait_for
 
 # The greatest ratio that is asked for.
 GOALS = {"seq": 0.9, "window": 0.9, "pipeline": 0.9}

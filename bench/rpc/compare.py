@@ -10,34 +10,18 @@ reference's. With --enforce the status is 1 where a ratio passes its goal. `clie
 import argparse
 import os
 import pathlib
-import socket
 import statistics
 import subprocess
 import sys
-import time
 
 HERE = pathlib.Path(__file__).resolve().parent
+sys.path.insert(0, str(HERE.parent))
+from servers import free_port, wait_for
+
 COMMAND = HERE.parent.parent / "crates/cp_cli/out/cp_cli"
 
 # The greatest ratio that is asked for.
 GOALS = {"seq": 0.85, "window": 0.9, "pipeline": 0.85, "large": 1.2, "raw-seq": 0.75, "raw-window": 0.45, "raw-full": 0.75}
-
-
-def free_port():
-    with socket.socket() as it:
-        it.bind(("127.0.0.1", 0))
-        return it.getsockname()[1]
-
-
-def wait_for(server, port):
-    """Returns once it listens. (It takes one connection, so a try to connect would use that up.)"""
-    for _ in range(200):
-        if f":{port:04X} 00000000:0000 0A" in pathlib.Path("/proc/net/tcp").read_text():
-            return
-        if server.poll() is not None:
-            break
-        time.sleep(0.01)
-    sys.exit("the server doesn't listen")
 
 
 def run(words, mode, args):
