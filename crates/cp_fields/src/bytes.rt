@@ -47,6 +47,7 @@ impl<'a> DataView<'a> {
     ghost use Rattle.cp_fields.specs.Pointers.{data_field, ends_in_zero};
 
     /// The bytes that a pointer stands for; null stands for the default.
+    #[inline(always)]
     #[tactic(auto, using(crate::proofs::Pointed::no_data))]
     pub fn of(at: Pointee<'a>, default: &'a [u8]) -> Result<DataView<'a>, WrongKind>
         ensures { result ≡ data_field default.now at.entry }
@@ -64,6 +65,7 @@ impl<'a> DataView<'a> {
     }
 
     /// Bytes that a program has.
+    #[inline(always)]
     pub fn of_slice(bytes: &'a [u8]) -> DataView<'a>
         ensures { result ≡ bytes.now }
     {
@@ -73,7 +75,7 @@ impl<'a> DataView<'a> {
     }
 
     /// The number of bytes.
-    #[inline]
+    #[inline(always)]
     pub fn len(&self) -> usize
         ensures { result ≡ length self.now }
     {
@@ -91,7 +93,7 @@ impl<'a> DataView<'a> {
     }
 
     /// Byte `i`.
-    #[inline]
+    #[inline(always)]
     pub fn get(&self, i: usize) -> u8
         requires { i < length self.now }
         ensures { result ≡ slice_index self.now i }
@@ -120,7 +122,7 @@ impl<'a> DataView<'a> {
     }
 
     /// The bytes but for the last, if that is zero.
-    #[inline]
+    #[inline(always)]
     pub(crate) fn before_zero(&self) -> Option<DataView<'a>>
         ensures { result ≡ (if ends_in_zero self.now then Some (take (length self.now - 1) self.now) else None) }
     {
@@ -135,7 +137,7 @@ impl<'a> DataView<'a> {
     }
 
     /// The first bytes, this many.
-    #[inline]
+    #[inline(always)]
     fn front(&self, count: usize) -> DataView<'a>
         requires { count ≤ length self.now }
         ensures { result ≡ take count self.now }
@@ -147,7 +149,7 @@ impl<'a> DataView<'a> {
     }
 
     /// The first bytes that words hold, this many.
-    #[inline]
+    #[inline(always)]
     fn of_words(words: &'a [u64], count: usize) -> DataView<'a>
         requires { count < 2 ^ 32 }
         ensures { result ≡ numbers words.now 8 count }
@@ -159,7 +161,7 @@ impl<'a> DataView<'a> {
 }
 
 /// The bytes of a list of bytes. `None` is anything else.
-#[inline]
+#[inline(always)]
 pub(crate) fn bytes_at<'a>(at: &Pointee<'a>) -> Option<DataView<'a>>
     ensures { MatchOption result ((bs : List ℕ) → at.now ≡ list (bytes bs) → ⊥) (λ d. at.now ≡ list (bytes d)) }
 {
@@ -178,7 +180,7 @@ pub(crate) fn bytes_at<'a>(at: &Pointee<'a>) -> Option<DataView<'a>>
 }
 
 /// The bytes of a list of bytes that is read in place. `None` is anything else.
-#[inline]
+#[inline(always)]
 #[tactic(auto, using(crate::proofs::Pointed::bytes_read, crate::proofs::Pointed::bytes_shape))]
 fn bytes_in_place<'a>(view: &View<'a>) -> Option<DataView<'a>>
     ensures { MatchOption result ((bs : List ℕ) → view.now ≡ list (bytes bs) → ⊥) (λ d. view.now ≡ list (bytes d)) }

@@ -62,6 +62,7 @@ impl fmt::Display for WrongKind {
 impl Error for WrongKind {}
 
 /// Whether elements of a size are read from those of another.
+#[inline(always)]
 pub(crate) fn reads_from(wanted: ElementSize, found: ElementSize) -> bool
     ensures { result ≡ reads wanted found }
 {
@@ -76,6 +77,7 @@ pub(crate) fn reads_from(wanted: ElementSize, found: ElementSize) -> bool
 }
 
 /// Whether elements of a size are read from structs of this many data words and pointers.
+#[inline(always)]
 pub(crate) fn reads_from_structs(wanted: ElementSize, words: u16, pointers: u16) -> bool
     ensures { result ≡ reads_structs wanted words pointers }
 {
@@ -88,6 +90,7 @@ pub(crate) fn reads_from_structs(wanted: ElementSize, words: u16, pointers: u16)
 }
 
 /// The number of bits of an element.
+#[inline(always)]
 pub(crate) fn element_bits(size: ElementSize) -> u64
     ensures { result ≡ bits_of size }
 {

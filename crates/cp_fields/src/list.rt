@@ -44,7 +44,7 @@ impl<'a, T> List<'a, T> {
     ghost use Rattle.std.specs.Prelude.{◌≡◌, ◌==◌, length};
 
     /// The number of elements.
-    #[inline]
+    #[inline(always)]
     pub fn len(&self) -> usize
         ensures { result ≡ length self.now }
     {
@@ -65,6 +65,7 @@ impl<'a, T: Item<'a>> List<'a, T> {
     ghost use Rattle.cp_fields.specs.Pointers.{list_field};
 
     /// The list that a pointer stands for; null stands for the empty list.
+    #[inline(always)]
     pub fn of(at: Pointee<'a>) -> Result<List<'a, T>, WrongKind>
         ensures { result ≡ list_field T.SIZE at.entry }
     {
@@ -75,7 +76,7 @@ impl<'a, T: Item<'a>> List<'a, T> {
     }
 
     /// Element `i`.
-    #[inline]
+    #[inline(always)]
     pub fn get(&self, i: usize) -> T
         requires { i < length self.now }
         ensures { result ≡ T.read (slice_index_or self.now i null) }
@@ -89,6 +90,7 @@ impl<'a, T: Item<'a>> IntoIterator for List<'a, T> {
 
     type IntoIter = Items<'a, T>;
 
+    #[inline(always)]
     fn into_iter(self) -> Items<'a, T> {
         Items {
             list: self,
@@ -111,6 +113,7 @@ impl<'a, T: Item<'a>> Iterator for Items<'a, T> {
 
     ghost remaining = { item_count (λ it. drop it.next it.list) };
 
+    #[inline(always)]
     fn next(&mut self) -> Option<T> {
         if self.next >= self.list.len() {
             return None;
@@ -122,6 +125,7 @@ impl<'a, T: Item<'a>> Iterator for Items<'a, T> {
 }
 
 /// The elements of a list, where elements of a size are wanted.
+#[inline(always)]
 fn elements_of(at: Pointee<'_>, wanted: ElementSize) -> Result<Elements<'_>, WrongKind>
     ensures { result ≡ list_field wanted at.entry }
 {
@@ -134,6 +138,7 @@ fn elements_of(at: Pointee<'_>, wanted: ElementSize) -> Result<Elements<'_>, Wro
 }
 
 /// The elements of a list that is read in place, where elements of a size are wanted.
+#[inline(always)]
 fn elements_in_place<'a>(view: View<'a>, wanted: ElementSize) -> Result<Elements<'a>, WrongKind>
     ensures { result ≡ list_field wanted view.entry }
 {

@@ -51,6 +51,7 @@ impl<'a> Pointee<'a> {
     ghost use Rattle.cp_fields.specs.Pointers.{cap_field, or_default};
 
     /// A null pointer.
+    #[inline(always)]
     pub fn null() -> Pointee<'a>
         ensures { result ≡ null }
     {
@@ -58,7 +59,7 @@ impl<'a> Pointee<'a> {
     }
 
     /// What is read in place.
-    #[inline]
+    #[inline(always)]
     pub fn of_view(view: View<'a>) -> Pointee<'a>
         ensures { result ≡ view.entry }
     {
@@ -124,6 +125,7 @@ impl<'a> Pointee<'a> {
     }
 
     /// Whether it is null.
+    #[inline(always)]
     pub fn is_null(&self) -> bool
         ensures { IsTrue result ↔ (self.now ≡ null) }
     {

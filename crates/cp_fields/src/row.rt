@@ -68,6 +68,7 @@ impl<'a> Elements<'a> {
     ghost use Rattle.cp_fields.specs.Rows.{row_items, IsRow};
 
     /// None.
+    #[inline(always)]
     pub(crate) fn empty() -> Elements<'a>
         ensures { result ≡ [] }
     {
@@ -78,6 +79,7 @@ impl<'a> Elements<'a> {
     }
 
     /// Those of a list that is read in place.
+    #[inline(always)]
     pub(crate) fn of_view(view: View<'a>) -> Elements<'a>
         ensures { result ≡ items_of view.entry }
     {
@@ -116,6 +118,7 @@ impl<'a> Elements<'a> {
     }
 
     /// A row of this many elements.
+    #[inline(always)]
     fn new(row: Row<'a>, count: usize) -> Elements<'a>
         requires { IsRow row count }
         ensures { result ≡ row_items row.entry count }
@@ -124,7 +127,7 @@ impl<'a> Elements<'a> {
     }
 
     /// The number of elements.
-    #[inline]
+    #[inline(always)]
     pub(crate) fn len(&self) -> usize
         ensures { result ≡ length self.now }
     {
@@ -132,7 +135,7 @@ impl<'a> Elements<'a> {
     }
 
     /// Element `i`.
-    #[inline]
+    #[inline(always)]
     pub(crate) fn get(&self, i: usize) -> StructView<'a>
         requires { i < length self.now }
         ensures { result ≡ slice_index_or self.now i null }

@@ -75,6 +75,7 @@ impl<'a> StructView<'a> {
 
     /// The struct that a pointer stands for. Null stands for the struct whose fields are all as by
     /// default.
+    #[inline(always)]
     pub fn of(at: Pointee<'a>) -> Result<StructView<'a>, WrongKind>
         ensures { result ≡ struct_field at.entry }
     {
@@ -108,7 +109,7 @@ impl<'a> StructView<'a> {
     }
 
     /// What pointer `i` stands for.
-    #[inline]
+    #[inline(always)]
     pub fn pointer(&self, i: u32) -> Pointee<'a>
         ensures { result ≡ pointee_of self.now i }
     {
@@ -259,7 +260,7 @@ impl<'a> StructView<'a> {
     }
 
     /// An element of a list of numbers.
-    #[inline]
+    #[inline(always)]
     pub(crate) fn of_number(number: u64) -> StructView<'a>
         ensures { result ≡ number_item number }
     {
@@ -270,7 +271,7 @@ impl<'a> StructView<'a> {
     }
 
     /// The struct that has this as its one pointer, as an element of a list of pointers is read.
-    #[inline]
+    #[inline(always)]
     pub fn of_pointer(pointer: Pointee<'a>) -> StructView<'a>
         ensures { result ≡ pointer_item pointer.entry }
     {
@@ -281,7 +282,7 @@ impl<'a> StructView<'a> {
     }
 
     /// An owned struct.
-    #[inline]
+    #[inline(always)]
     pub(crate) fn of_body(body: &'a Body) -> StructView<'a>
         ensures { result ≡ struct (body_of body.now).0 (body_of body.now).1 }
     {
@@ -302,7 +303,7 @@ impl<'a> StructView<'a> {
     }
 
     /// A struct that is read in place.
-    #[inline]
+    #[inline(always)]
     pub(crate) fn of_struct(view: View<'a>) -> StructView<'a>
         requires { IsStruct view }
         ensures { result ≡ view.entry }
@@ -374,7 +375,7 @@ fn row_copy(alloc: Global, trees: &[Tree]) -> Result<Vec<Tree>, AllocError>
 }
 
 /// The data words of a struct; any other tree has none.
-#[inline]
+#[inline(always)]
 fn struct_words<'a>(view: &View<'a>) -> &'a [u64]
     ensures { result.now ≡ data_of view.now }
 {
@@ -385,7 +386,7 @@ fn struct_words<'a>(view: &View<'a>) -> &'a [u64]
 }
 
 /// The struct that is read in place.
-#[inline]
+#[inline(always)]
 fn of_view<'a>(view: View<'a>) -> Result<StructView<'a>, WrongKind>
     ensures { result ≡ struct_field view.entry }
 {

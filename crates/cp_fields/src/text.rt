@@ -63,7 +63,7 @@ impl<'a> TextView<'a> {
     ghost use Rattle.cp_fields.specs.declared.text.TextFault.TheVariants.{NotUtf8};
 
     /// The text that a pointer stands for; null stands for the default.
-    #[inline]
+    #[inline(always)]
     #[tactic(auto, using(crate::proofs::Pointed::no_text))]
     pub fn of(at: Pointee<'a>, default: &'a str) -> Result<TextView<'a>, WrongKind>
         ensures { result ≡ text_field default.now at.entry }
@@ -86,7 +86,7 @@ impl<'a> TextView<'a> {
     }
 
     /// The number of bytes.
-    #[inline]
+    #[inline(always)]
     pub fn len(&self) -> usize
         ensures { result ≡ length self.now }
     {

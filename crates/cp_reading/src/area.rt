@@ -45,6 +45,7 @@ impl Form {
 
     /// How many words at the body's start are data: a struct's data words, or all words of a list
     /// without pointers.
+    #[inline(always)]
     pub(crate) fn lent_words(self) -> usize
         ensures count { result ≡ lent_words self }
         ensures within { result ≤ body_words self }

@@ -1,6 +1,6 @@
 //! Trees that are read in place.
 
-ghost use Rattle.std.specs.Prelude.{◌≡◌, ◌<◌, ◌≤◌, ◌+◌, ◌*◌, ◌^◌, length, true, is_ok, IfOk, IfErr, Ok, Err};
+ghost use Rattle.std.specs.Prelude.{◌≡◌, ◌<◌, ◌≤◌, ◌+◌, ◌*◌, ◌^◌, length, take, drop, true, is_ok, IfOk, IfErr, Ok, Err};
 ghost use Rattle.cp_words.specs.Targets.{segment, words_at};
 ghost use Rattle.cp_reading.specs.Denotes.{Root};
 ghost use Rattle.cp_reading.specs.Faults.{IsFaultOf};
@@ -9,7 +9,7 @@ ghost use Rattle.cp_reading.specs.declared.fault.TreeFault.{TreeFault};
 ghost use Rattle.cp_tree.specs.Node.{Node};
 ghost use Rattle.cp_words.specs.Segments.{words_of};
 ghost use Rattle.cp_reading.specs.Reading.{tree_read, pointer_read, node_in};
-ghost use Rattle.cp_reading.specs.Viewed.{form_shape_of, viewed_node, IsViewed};
+ghost use Rattle.cp_reading.specs.Viewed.{form_shape_of, viewed_node, IsViewed, IsHere};
 ghost use Rattle.cp_tree.specs.Seen.{part_of};
 ghost use Rattle.cp_reading.specs.declared.view.Viewed.TheVariants.{Body};
 
@@ -18,7 +18,7 @@ use crate::build::whole_of;
 use crate::check::Checker;
 use crate::fault::TreeFault;
 use crate::fit::segments_fit;
-use crate::target::{pointer_at, segment_at, target_of};
+use crate::target::{pointer_in, segment_at, target_of};
 use crate::visits::Visits;
 use cp_tree::{Shape, Whole};
 use cp_words::{ElementSize, Limits, Place, Pointer, Segments};
@@ -38,6 +38,8 @@ pub(crate) enum Viewed {
 #[derive(Drop)]
 pub struct View<'a> {
     segments: &'a [Vec<u64>],
+    /// The words of the segment that the body lies in.
+    here: &'a [u64],
     part: Viewed,
 }
 
@@ -50,12 +52,12 @@ impl<'a> Model for View<'a> {
     ghost coded = { tree_code };
 
     ghost use Rattle.cp_words.specs.Segments.{words_of};
-    ghost use Rattle.cp_reading.specs.Viewed.{viewed_node, IsViewed};
+    ghost use Rattle.cp_reading.specs.Viewed.{viewed_node, IsViewed, IsHere};
     ghost use Rattle.cp_tree.specs.Shaped.{Shaped};
 
     ghost view = { λ v. viewed_node (words_of v.segments.now) v.part };
 
-    ghost invariant = { λ v. IsViewed (words_of v.segments.now) v.part × Shaped (viewed_node (words_of v.segments.now) v.part) };
+    ghost invariant = { λ v. IsViewed (words_of v.segments.now) v.part × Shaped (viewed_node (words_of v.segments.now) v.part) × IsHere (words_of v.segments.now) v.here.now v.part };
 }
 
 impl<'a> View<'a> {
@@ -117,22 +119,25 @@ impl<'a> View<'a> {
         let area = checker.check_root(limits.nesting())?;
         Ok(View {
             segments,
+            here: segment_at(segments, area.segment),
             part: Viewed::Body(area),
         })
     }
 
     /// The same view once more.
+    #[inline(always)]
     pub fn again(&self) -> View<'a>
         ensures { result ≡ self.now }
     {
         View {
             segments: self.segments,
+            here: self.here,
             part: self.part,
         }
     }
 
     /// The tree's kind and sizes.
-    #[inline]
+    #[inline(always)]
     pub fn shape(&self) -> Shape
         ensures { result ≡ shape_of self.now }
     {
@@ -145,33 +150,34 @@ impl<'a> View<'a> {
 
     /// A struct's data words, or the words that hold a list's elements of one bit to eight bytes
     /// (encoding specification, "Lists"); else none.
-    #[inline]
+    #[inline(always)]
     pub fn words(&self) -> &'a [u64]
         ensures { AreWordsOf result.now self.now }
     {
         let Viewed::Body(area) = self.part else {
             return &[];
         };
-        words_at(
-            self.segments,
-            area.segment,
-            area.start,
-            area.form.lent_words(),
-        )
+        words_in(self.here, area.start, area.form.lent_words())
     }
 
     /// Part `i` of the tree: a struct's pointer, or an element of a list of pointers or of a
     /// composite list. Past the end it is null.
-    #[inline]
+    #[inline(always)]
     pub fn child(&self, i: u32) -> View<'a>
         ensures { result ≡ part_of self.now i }
     {
+        let Viewed::Body(area) = self.part else {
+            return View {
+                segments: self.segments,
+                here: &[],
+                part: Viewed::Null,
+            };
+        };
+        let part = child_in(self.segments, self.here, area, i);
         View {
             segments: self.segments,
-            part: match self.part {
-                Viewed::Body(area) => child_in(self.segments, area, i),
-                Viewed::Null | Viewed::Cap(_) => Viewed::Null,
-            },
+            here: words_of_part(self.segments, self.here, area.segment, part),
+            part,
         }
     }
 
@@ -194,12 +200,22 @@ impl<'a> View<'a> {
 }
 
 /// This many words of a segment.
+#[inline(always)]
 pub(crate) fn words_at(segments: &[Vec<u64>], index: usize, start: usize, count: usize) -> &[u64]
     requires exists { index < length segments.now }
     requires within { start + count ≤ length (segment (words_of segments.now) index) }
     ensures { result.now ≡ words_at (words_of segments.now) index start count }
 {
     &segment_at(segments, index)[start..start + count]
+}
+
+/// This many words of those of a segment.
+#[inline(always)]
+fn words_in(here: &[u64], start: usize, count: usize) -> &[u64]
+    requires { start + count ≤ length here.now }
+    ensures { result.now ≡ take count (drop start here.now) }
+{
+    &here[start..start + count]
 }
 
 /// What a pointer word that was checked stands for.
@@ -211,10 +227,47 @@ pub(crate) fn viewed_at(segments: &[Vec<u64>], at: Place) -> Viewed
     ensures node { viewed_node (words_of segments.now) result ≡ node_in (tree_read (words_of segments.now) at.segment at.word) }
     ensures part { IsViewed (words_of segments.now) result }
 {
-    match pointer_at(segments, at) {
+    viewed_in(segments, segment_at(segments, at.segment), at)
+}
+
+/// What a pointer word that was checked stands for, by the words of its segment.
+#[inline(always)]
+fn viewed_in(segments: &[Vec<u64>], here: &[u64], at: Place) -> Viewed
+    requires exists { at.segment < length segments.now }
+    requires here { here.now ≡ segment (words_of segments.now) at.segment }
+    requires within { at.word < length (segment (words_of segments.now) at.segment) }
+    requires checked { is_ok (tree_read (words_of segments.now) at.segment at.word) ≡ true }
+    ensures node { viewed_node (words_of segments.now) result ≡ node_in (tree_read (words_of segments.now) at.segment at.word) }
+    ensures part { IsViewed (words_of segments.now) result }
+{
+    match pointer_in(here[at.word]) {
         None | Some(Pointer::Null) => Viewed::Null,
         Some(Pointer::Cap(index)) => Viewed::Cap(index),
-        Some(pointer) => body_at(segments, at, pointer),
+        Some(pointer) => body_at(segments, here, at, pointer),
+    }
+}
+
+/// The words of the segment that a part's body lies in, where those of another segment are known.
+#[inline(always)]
+fn words_of_part<'a>(
+    segments: &'a [Vec<u64>],
+    here: &'a [u64],
+    index: usize,
+    part: Viewed,
+) -> &'a [u64]
+    requires here { here.now ≡ segment (words_of segments.now) index }
+    requires part { IsViewed (words_of segments.now) part }
+    ensures { IsHere (words_of segments.now) result.now part }
+{
+    match part {
+        Viewed::Body(area) => {
+            if area.segment == index {
+                here
+            } else {
+                segment_at(segments, area.segment)
+            }
+        }
+        Viewed::Null | Viewed::Cap(_) => here,
     }
 }
 
@@ -237,6 +290,7 @@ fn root_uncounted<'a, L: Ledger>(
 }
 
 /// The kind and sizes of a tree that has a body.
+#[inline(always)]
 fn form_shape(form: Form) -> Shape
     ensures { result ≡ form_shape_of form }
 {
@@ -248,8 +302,10 @@ fn form_shape(form: Form) -> Shape
 }
 
 /// Part `i` of a body that was checked.
-fn child_in(segments: &[Vec<u64>], area: Area, i: u32) -> Viewed
-    requires { IsViewed (words_of segments.now) (Body area) }
+#[inline(always)]
+fn child_in(segments: &[Vec<u64>], here: &[u64], area: Area, i: u32) -> Viewed
+    requires part { IsViewed (words_of segments.now) (Body area) }
+    requires here { here.now ≡ segment (words_of segments.now) area.segment }
     ensures node { viewed_node (words_of segments.now) result ≡ part_of (viewed_node (words_of segments.now) (Body area)) i }
     ensures part { IsViewed (words_of segments.now) result }
 {
@@ -260,7 +316,7 @@ fn child_in(segments: &[Vec<u64>], area: Area, i: u32) -> Viewed
                 return Viewed::Null;
             }
             let word = area.start + words as usize + i as usize;
-            viewed_at(segments, Place { segment, word })
+            viewed_in(segments, here, Place { segment, word })
         }
         Form::List { size, count } => match size {
             ElementSize::Pointer => {
@@ -268,7 +324,7 @@ fn child_in(segments: &[Vec<u64>], area: Area, i: u32) -> Viewed
                     return Viewed::Null;
                 }
                 let word = area.start + i as usize;
-                viewed_at(segments, Place { segment, word })
+                viewed_in(segments, here, Place { segment, word })
             }
             _ => Viewed::Null,
         },
@@ -299,17 +355,17 @@ fn tree_uncounted<L: Ledger>(alloc: Global, view: &View, blank: Blank) -> Result
 
 /// The body of a struct, list or far pointer that was checked.
 #[inline(always)]
-fn body_at(segments: &[Vec<u64>], at: Place, pointer: Pointer) -> Viewed
+fn body_at(segments: &[Vec<u64>], here: &[u64], at: Place, pointer: Pointer) -> Viewed
     requires exists { at.segment < length segments.now }
+    requires here { here.now ≡ segment (words_of segments.now) at.segment }
     requires small { at.word < 2 ^ 63 }
     requires checked { is_ok (pointer_read (words_of segments.now) at pointer) ≡ true }
     ensures node { viewed_node (words_of segments.now) result ≡ node_in (pointer_read (words_of segments.now) at pointer) }
     ensures part { IsViewed (words_of segments.now) result }
 {
-    let words = segment_at(segments, at.segment);
     match pointer {
-        Pointer::Struct { .. } => Viewed::Body(area_again(words, at, pointer)),
-        Pointer::List { .. } => Viewed::Body(area_again(words, at, pointer)),
+        Pointer::Struct { .. } => Viewed::Body(area_again(here, at, pointer)),
+        Pointer::List { .. } => Viewed::Body(area_again(here, at, pointer)),
         _ => far_body(segments, at, pointer),
     }
 }
