@@ -1,4 +1,5 @@
 pub mod Pointed
+pub mod Blocks
 pub mod RowItems
 pub mod Owned
 pub mod Constants

@@ -5,3 +5,4 @@ pub mod Pointers
 pub mod Constants
 pub mod Parts
 pub mod Rows
+pub mod Blocks

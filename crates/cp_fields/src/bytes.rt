@@ -1,6 +1,6 @@
 //! Lists of bytes that are read where they lie.
 
-ghost use Rattle.std.specs.Prelude.{◌≡◌, ◌==◌, ◌<◌, ◌≤◌, ◌-◌, ◌^◌, if◌then◌else◌, Some, None, MatchOption, List, ℕ, length, take, slice_index, IfOk};
+ghost use Rattle.std.specs.Prelude.{◌≡◌, ◌==◌, ◌<◌, ◌≤◌, ◌-◌, ◌^◌, ◌↔◌, if◌then◌else◌, Some, None, MatchOption, List, ℕ, length, take, slice_index, IfOk, IsTrue, IsUtf8};
 ghost use Rattle.cp_tree.specs.Elements.{numbers};
 ghost use Rattle.cp_tree.specs.Node.{bytes, list};
 ghost use Rattle.cp_tree.specs.NodeOf.{node_of};
@@ -10,6 +10,7 @@ use crate::constant::Constant;
 use crate::data::number_at;
 use crate::kind::{Kind, WrongKind};
 use crate::pointee::{Part, Pointee};
+use crate::utf8;
 use cp_reading::View;
 use cp_tree::{ListRef, Shape, Tree};
 use cp_words::ElementSize;
@@ -42,7 +43,7 @@ impl<'a> Model for DataView<'a> {
 }
 
 impl<'a> DataView<'a> {
-    ghost use Rattle.std.specs.Prelude.{◌≡◌, ◌==◌, ◌<◌, ◌≤◌, ◌-◌, ◌^◌, if◌then◌else◌, Some, None, length, take, slice_index, IfOk};
+    ghost use Rattle.std.specs.Prelude.{◌≡◌, ◌==◌, ◌<◌, ◌≤◌, ◌-◌, ◌^◌, ◌↔◌, if◌then◌else◌, Some, None, length, take, slice_index, IfOk, IsTrue, IsUtf8};
     ghost use Rattle.cp_tree.specs.Elements.{numbers};
     ghost use Rattle.cp_fields.specs.Pointers.{data_field, ends_in_zero};
 
@@ -111,6 +112,16 @@ impl<'a> DataView<'a> {
         match self.bytes {
             Lent::Words(words, count) => copy_of(alloc, words, count),
             Lent::Slice(bytes) => bytes.to_vec(alloc),
+        }
+    }
+
+    /// Whether the bytes are UTF-8.
+    pub(crate) fn is_utf8(&self) -> bool
+        ensures { IsTrue result ↔ IsUtf8 self.now }
+    {
+        match self.bytes {
+            Lent::Words(words, count) => utf8::is_utf8(words, count),
+            Lent::Slice(bytes) => simdutf8::is_utf8(bytes),
         }
     }
 

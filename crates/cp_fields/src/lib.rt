@@ -14,6 +14,7 @@ mod pointee;
 mod row;
 mod structure;
 mod text;
+mod utf8;
 
 pub use bytes::DataView;
 pub use constant::{Constant, ConstantBody};

@@ -30,10 +30,18 @@ impl<const LAST: u16> Past<LAST> {
         ensures known { IfNone result (number ≤ LAST) }
     {
         if number > LAST {
-            Some(Past { number })
+            Some(Past::of(number))
         } else {
             None
         }
+    }
+
+    /// A number that is known to be past the last.
+    pub fn of(number: u16) -> Past<LAST>
+        requires { LAST < number }
+        ensures { result ≡ number }
+    {
+        Past { number }
     }
 
     /// The number.

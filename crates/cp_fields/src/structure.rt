@@ -91,10 +91,7 @@ impl<'a> StructView<'a> {
     pub fn empty() -> StructView<'a>
         ensures { result ≡ struct [] no_nodes }
     {
-        StructView {
-            data: Data::Words(&[]),
-            pointers: Pointers::Nulls,
-        }
+        StructView::of_data(&[])
     }
 
     /// The same once more.
@@ -257,6 +254,17 @@ impl<'a> StructView<'a> {
     {
         let bit = index as usize * width;
         (self.word(bit / 64) >> (bit % 64)) % (1 << width)
+    }
+
+    /// The struct that has these data words, and no pointers.
+    #[inline(always)]
+    pub fn of_data(words: &'a [u64]) -> StructView<'a>
+        ensures { result ≡ struct words.now no_nodes }
+    {
+        StructView {
+            data: Data::Words(words),
+            pointers: Pointers::Nulls,
+        }
     }
 
     /// An element of a list of numbers.

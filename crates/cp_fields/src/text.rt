@@ -1,6 +1,6 @@
 //! Texts that are read where they lie.
 
-ghost use Rattle.std.specs.Prelude.{◌≡◌, IfOk, IsUtf8, string_bytes, Err};
+ghost use Rattle.std.specs.Prelude.{◌≡◌, ◌↔◌, IfOk, IsTrue, IsUtf8, string_bytes, Err};
 ghost use Rattle.cp_fields.specs.declared.text.TextFault.TheVariants.{NotUtf8, OutOfMemory};
 
 use crate::bytes::{DataView, bytes_at};
@@ -58,7 +58,7 @@ impl<'a> Model for TextView<'a> {
 }
 
 impl<'a> TextView<'a> {
-    ghost use Rattle.std.specs.Prelude.{◌≡◌, ◌==◌, length, IfOk, IsUtf8, string_bytes, Err};
+    ghost use Rattle.std.specs.Prelude.{◌≡◌, ◌==◌, ◌↔◌, length, IfOk, IsTrue, IsUtf8, string_bytes, Err};
     ghost use Rattle.cp_fields.specs.Pointers.{text_field};
     ghost use Rattle.cp_fields.specs.declared.text.TextFault.TheVariants.{NotUtf8};
 
@@ -105,6 +105,13 @@ impl<'a> TextView<'a> {
         ensures { result ≡ self.now }
     {
         self.data.again()
+    }
+
+    /// Whether the bytes are UTF-8, as those of a text should be. Nothing is copied.
+    pub fn is_utf8(&self) -> bool
+        ensures { IsTrue result ↔ IsUtf8 self.now }
+    {
+        self.data.is_utf8()
     }
 
     /// The text, owned.

@@ -1,15 +1,11 @@
 -- The structs of a composite list, one by one.
-use Rattle.std.proofs.lemmas.Str.{IsUtf8-from_is_utf8}
 use Rattle.std.proofs.lemmas.List.{length-take-le}
-use Rattle.std.proofs.Common.{◌≡◌, Bool, true, false, ◌&&◌, [], ◌∷◌, take, ℕ, zero, suc, ◌-◌, ◌<◌, List, length, get_or, IsUtf8, refl, ap, ◌∙◌, sym, arith}
-use Rattle.cp_words.specs.declared.pointer.ElementSize.{ElementSize}
-use Rattle.cp_tree.specs.Elements.{numbers}
-use Rattle.cp_rpc.proofs.Blocks.{but_last, text-numbers}
+use Rattle.std.proofs.Common.{◌≡◌, Bool, true, false, ◌&&◌, [], ◌∷◌, ℕ, zero, suc, ◌-◌, ◌<◌, List, length, get_or, refl, ap, ◌∙◌, sym, arith}
 use Rattle.cp_tree.specs.Node.{voids, bits, bytes, halves, quads, words, Node, null, cap, struct, list, ptrs, structs, Bodies, no_bodies, body, number_of}
-use Rattle.cp_tree.specs.Seen.{shape_of, part_of, body_at, AreWordsOf}
+use Rattle.cp_tree.specs.Seen.{shape_of, part_of, body_at}
 use Rattle.cp_tree.specs.declared.shape.Shape.{Shape}
 use Rattle.cp_tree.specs.declared.shape.Shape.TheVariants as shapes
-use Rattle.cp_rpc.specs.Fields.{items_of, structs_in, bytes_of, text_of, is_text, look_of, IsTextField, IsStructField}
+use Rattle.cp_rpc.specs.Fields.{items_of, structs_in, text_of, is_text, look_of, IsTextField, IsStructField}
 use Rattle.cp_rpc.specs.declared.source.Look.{Look}
 use Rattle.cp_rpc.specs.declared.source.Look.TheVariants as looks
 
@@ -44,10 +40,6 @@ abbrev pub count_in : Shape → ℕ
 count_in (shapes.Structs d n c) = c
 count_in other = 0
 
-abbrev pub count_of : Shape → ℕ
-count_of (shapes.List size n) = n
-count_of other = 0
-
 -- what holds a text isn't empty
 text-some : (bs : List ℕ) → is_text bs ≡ true → 0 < length bs
 text-some [] h = cc
@@ -56,28 +48,6 @@ text-some (b ∷ bs) h = omega arith
 pub and-right : (a b : Bool) → (a && b) ≡ true → b ≡ true
 and-right true b h = h
 and-right false b h = cc
-
--- the words of a text field hold its text
-pub words-text : (t : Node) (size : ElementSize) (n : ℕ) (lent : List ℕ) → shapes.List size n ≡ shape_of t → IsTextField t → AreWordsOf lent t → (0 < n) × IsUtf8 (numbers lent 8 (n - 1)) × (text_of t ≡ numbers lent 8 (n - 1))
-words-text (list (bytes bs)) size n lent e field held =
-    let is : bs ≡ numbers lent 8 (length bs) = ap (λ es. bytes_of (list es)) held.1 in
-    let counted : n ≡ length bs = ap count_of e in
-    let some = text-some bs field in
-    let tests = sym (text-numbers lent (length bs) some) ∙ ap is_text (sym is) ∙ field in (
-      rw counted some,
-      rw counted (IsUtf8-from_is_utf8 _ (and-right _ _ tests)),
-      rw counted (ap (λ xs. take (length bs - 1) xs) is ∙ but_last lent (length bs)),
-    )
-words-text null size n lent e field held = cc
-words-text (cap k) size n lent e field held = absurd field
-words-text (struct ws ts) size n lent e field held = absurd field
-words-text (list (voids k)) size n lent e field held = absurd field
-words-text (list (bits bs)) size n lent e field held = absurd field
-words-text (list (halves ns)) size n lent e field held = absurd field
-words-text (list (quads ns)) size n lent e field held = absurd field
-words-text (list (words ns)) size n lent e field held = absurd field
-words-text (ptrs ts) size n lent e field held = absurd field
-words-text (structs d k bs) size n lent e field held = absurd field
 
 pub item-struct : (t : Node) (i : ℕ) → i < length (items_of t) → IsStructField (get_or (items_of t) i null)
 item-struct (structs d n bs) i h = go bs i h

@@ -4,7 +4,6 @@ pub mod Names
 pub mod Fields
 pub mod Said
 pub mod Faulty
-pub mod Blocks
 pub mod Others
 pub mod Made
 pub mod Held

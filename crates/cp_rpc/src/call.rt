@@ -15,10 +15,10 @@ use crate::data::{u16_at, u16_part, u32_at, u32_part, u64_at, u64_part};
 use crate::draft::{lent, null, triple_of};
 use crate::fault::{Field, SchemaFault};
 use crate::field::struct_field;
-use crate::past::Past;
 use crate::payload::{Payload, PayloadView};
 use crate::source::Source;
 use crate::target::{Target, TargetView};
+use cp_fields::Past;
 use cp_tree::{Draft, Whole};
 use std::alloc::{AllocError, Global};
 
@@ -74,13 +74,13 @@ pub struct CallView<S: Source> {
 
 impl Call {
     /// `questionId @0 :QuestionId`, u32.
-    const QUESTION_ID: usize = 0;
+    const QUESTION_ID: u32 = 0;
     /// `methodId @3 :UInt16`.
-    const METHOD_ID: usize = 2;
+    const METHOD_ID: u32 = 2;
     /// The number of `sendResultsTo :union`, u16.
-    const SEND_RESULTS_TO: usize = 3;
+    const SEND_RESULTS_TO: u32 = 3;
     /// `interfaceId @2 :UInt64`.
-    const INTERFACE_ID: usize = 1;
+    const INTERFACE_ID: u32 = 1;
     /// `target @1 :MessageTarget`, a pointer.
     const TARGET: u32 = 0;
     /// `params @4 :Payload`, a pointer.

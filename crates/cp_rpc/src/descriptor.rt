@@ -15,9 +15,9 @@ use crate::data::{u16_at, u16_part, u32_at, u32_part};
 use crate::draft::{body_of, lent, null};
 use crate::fault::{Field, SchemaFault};
 use crate::field::struct_field;
-use crate::past::Past;
 use crate::promised_answer::{PromisedAnswer, PromisedAnswerView};
 use crate::source::Source;
+use cp_fields::Past;
 use cp_tree::{Draft, DraftBody, Whole};
 use std::alloc::{AllocError, Global};
 
@@ -54,10 +54,10 @@ pub enum DescriptorView<S: Source> {
 
 impl Descriptor {
     /// The union's number, u16.
-    const WHICH: usize = 0;
+    const WHICH: u32 = 0;
     /// `senderHosted @1 :ExportId`, `senderPromise @2 :ExportId` and `receiverHosted @3 :ImportId`,
     /// u32.
-    const ID: usize = 1;
+    const ID: u32 = 1;
     /// `receiverAnswer @4 :PromisedAnswer` and `thirdPartyHosted @5`, a pointer.
     const POINTER: u32 = 0;
 

@@ -14,9 +14,9 @@ use crate::data::{u16_at, u16_part, u32_at, u32_part};
 use crate::draft::struct_of;
 use crate::fault::{Field, SchemaFault};
 use crate::field::struct_field;
-use crate::past::Past;
 use crate::source::Source;
 use crate::target::{Target, TargetView};
+use cp_fields::Past;
 use cp_tree::Draft;
 use std::alloc::{AllocError, Global};
 
@@ -85,9 +85,9 @@ impl Context {
 impl Disembargo {
     /// `senderLoopback @1 :EmbargoId`, `receiverLoopback @2 :EmbargoId` and
     /// `provide @4 :QuestionId`, u32.
-    const NUMBER: usize = 0;
+    const NUMBER: u32 = 0;
     /// The number of `context :union`, u16.
-    const CONTEXT: usize = 2;
+    const CONTEXT: u32 = 2;
     /// `target @0 :MessageTarget`, a pointer.
     const TARGET: u32 = 0;
 

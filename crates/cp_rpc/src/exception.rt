@@ -15,9 +15,9 @@ use crate::data::{u16_at, u16_part};
 use crate::draft::pair_of;
 use crate::fault::{Field, SchemaFault};
 use crate::field::text_field;
-use crate::past::Past;
 use crate::source::Source;
 use crate::text::{Text, TextView};
+use cp_fields::Past;
 use cp_tree::Draft;
 use std::alloc::{AllocError, Global};
 use std::fmt;
@@ -77,7 +77,7 @@ pub struct ExceptionView<S: Source> {
 
 impl Exception {
     /// `type @3 :Type`, u16.
-    const KIND: usize = 2;
+    const KIND: u32 = 2;
     /// `reason @0 :Text`, a pointer.
     const REASON: u32 = 0;
     /// `trace @4 :Text`, a pointer.

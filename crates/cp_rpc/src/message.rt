@@ -124,7 +124,7 @@ pub type MessageView<'a> = MessageIn<View<'a>>;
 
 impl Message {
     /// The member's number, u16.
-    const WHICH: usize = 0;
+    const WHICH: u32 = 0;
     /// The member, a pointer.
     const MEMBER: u32 = 0;
 

@@ -6,8 +6,8 @@ ghost use Rattle.cp_rpc.specs.Fields.{items_of, look_of};
 ghost use Rattle.cp_rpc.specs.OwnedNode.{body_node};
 
 use crate::source::{Look, Source};
-use crate::text::Text;
-use crate::utf8;
+use crate::text::{Text, is_text, text_at};
+use cp_fields::Pointee;
 use cp_tree::{Body, Tree, Whole};
 use std::alloc::{AllocError, Global};
 use std::marker::Model;
@@ -112,15 +112,15 @@ impl<'a> Source for Owned<'a> {
 
     fn is_text(&self) -> bool {
         match self.part {
-            Part::Tree(Tree::Bytes(bytes)) => utf8::are_text(bytes),
-            _ => false,
+            Part::Tree(tree) => is_text(Pointee::of_tree(tree)),
+            Part::Null | Part::Body(_) => false,
         }
     }
 
     fn text(&self, alloc: Global) -> Result<Text, AllocError> {
         match self.part {
-            Part::Tree(Tree::Bytes(bytes)) => utf8::text_of(alloc, bytes),
-            _ => Ok(Text::new(String::new(alloc))),
+            Part::Tree(tree) => text_at(alloc, Pointee::of_tree(tree)),
+            Part::Null | Part::Body(_) => Ok(Text::new(String::new(alloc))),
         }
     }
 

@@ -17,8 +17,8 @@ use crate::data::{u16_at, u16_part, u32_at, u32_part};
 use crate::draft::{list_of, null, struct_of, words_of};
 use crate::fault::{Field, SchemaFault};
 use crate::field::{item_count, list_field};
-use crate::past::Past;
 use crate::source::Source;
+use cp_fields::Past;
 use cp_tree::{Draft, DraftBody};
 use std::alloc::{AllocError, Global};
 use std::marker::Model;
@@ -36,9 +36,9 @@ pub enum Op {
 
 impl Op {
     /// The union's number, u16.
-    const WHICH: usize = 0;
+    const WHICH: u32 = 0;
     /// `getPointerField @1 :UInt16`.
-    const FIELD: usize = 1;
+    const FIELD: u32 = 1;
 
     /// The step that a struct's data words say.
     fn of(words: &[u64]) -> Op
@@ -194,7 +194,7 @@ pub struct PromisedAnswer {
 
 impl PromisedAnswer {
     /// `questionId @0 :QuestionId`, u32.
-    const QUESTION_ID: usize = 0;
+    const QUESTION_ID: u32 = 0;
     /// `transform @1 :List(Op)`, a pointer.
     const TRANSFORM: u32 = 0;
 

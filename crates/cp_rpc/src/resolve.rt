@@ -17,8 +17,8 @@ use crate::draft::{null, struct_of};
 use crate::exception::{Exception, ExceptionView};
 use crate::fault::{Field, SchemaFault};
 use crate::field::struct_field;
-use crate::past::Past;
 use crate::source::Source;
+use cp_fields::Past;
 use cp_tree::Draft;
 use std::alloc::{AllocError, Global};
 
@@ -59,9 +59,9 @@ pub struct ResolveView<S: Source> {
 
 impl Resolve {
     /// `promiseId @0 :ExportId`, u32.
-    const PROMISE_ID: usize = 0;
+    const PROMISE_ID: u32 = 0;
     /// The union's number, u16.
-    const WHICH: usize = 2;
+    const WHICH: u32 = 2;
     /// `cap @1 :CapDescriptor` and `exception @2 :Exception`, a pointer.
     const MEMBER: u32 = 0;
 

@@ -16,9 +16,9 @@ use crate::draft::{lent, null, struct_of};
 use crate::exception::{Exception, ExceptionView};
 use crate::fault::{Field, SchemaFault};
 use crate::field::struct_field;
-use crate::past::Past;
 use crate::payload::{Payload, PayloadView};
 use crate::source::Source;
+use cp_fields::Past;
 use cp_tree::{Draft, Whole};
 use std::alloc::{AllocError, Global};
 
@@ -74,13 +74,13 @@ pub struct ReturnView<S: Source> {
 
 impl Return {
     /// `answerId @0 :AnswerId`, u32.
-    const ANSWER_ID: usize = 0;
+    const ANSWER_ID: u32 = 0;
     /// `releaseParamCaps @1 :Bool = true`, a bit whose default is true.
-    const RELEASE_PARAM_CAPS: usize = 32;
+    const RELEASE_PARAM_CAPS: u32 = 32;
     /// The union's number, u16.
-    const WHICH: usize = 3;
+    const WHICH: u32 = 3;
     /// `takeFromOtherQuestion @6 :QuestionId`, u32.
-    const TAKE_FROM_OTHER_QUESTION: usize = 2;
+    const TAKE_FROM_OTHER_QUESTION: u32 = 2;
     /// `results @2 :Payload`, `exception @3 :Exception` and `acceptFromThirdParty @7`, a pointer.
     const MEMBER: u32 = 0;
 

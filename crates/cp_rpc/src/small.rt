@@ -38,7 +38,7 @@ pub struct Release {
 
 impl Bootstrap {
     /// `questionId @0 :QuestionId`, u32.
-    const QUESTION_ID: usize = 0;
+    const QUESTION_ID: u32 = 0;
 
     /// The bootstrap that a struct's data words say.
     pub(crate) fn of(words: &[u64]) -> Bootstrap
@@ -61,9 +61,9 @@ impl Bootstrap {
 
 impl Finish {
     /// `questionId @0 :QuestionId`, u32.
-    const QUESTION_ID: usize = 0;
+    const QUESTION_ID: u32 = 0;
     /// `releaseResultCaps @1 :Bool = true`, a bit whose default is true.
-    const RELEASE_RESULT_CAPS: usize = 32;
+    const RELEASE_RESULT_CAPS: u32 = 32;
 
     /// The finish that a struct's data words say.
     pub(crate) fn of(words: &[u64]) -> Finish
@@ -88,9 +88,9 @@ impl Finish {
 
 impl Release {
     /// `id @0 :ImportId`, u32.
-    const ID: usize = 0;
+    const ID: u32 = 0;
     /// `referenceCount @1 :UInt32`.
-    const REFERENCE_COUNT: usize = 1;
+    const REFERENCE_COUNT: u32 = 1;
 
     /// The release that a struct's data words say.
     pub(crate) fn of(words: &[u64]) -> Release

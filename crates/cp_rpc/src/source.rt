@@ -5,8 +5,8 @@ ghost use Rattle.cp_tree.specs.Node.{Node, null, data_of};
 ghost use Rattle.cp_tree.specs.Seen.{pointee_of};
 ghost use Rattle.cp_rpc.specs.Fields.{IsStructField, IsTextField, items_of, look_of, bytes_of, text_of, is_text};
 
-use crate::text::Text;
-use crate::utf8;
+use crate::text::{Text, is_text, text_at};
+use cp_fields::Pointee;
 use cp_reading::View;
 use cp_tree::{Shape, Whole};
 use cp_words::ElementSize;
@@ -98,20 +98,11 @@ impl<'a> Source for View<'a> {
     }
 
     fn is_text(&self) -> bool {
-        match self.shape() {
-            Shape::List { size, count } => match size {
-                ElementSize::Byte => utf8::is_text(self.words(), count as usize),
-                _ => false,
-            },
-            _ => false,
-        }
+        is_text(Pointee::of_view(self.again()))
     }
 
     fn text(&self, alloc: Global) -> Result<Text, AllocError> {
-        let Shape::List { count, .. } = self.shape() else {
-            return Ok(Text::new(String::new(alloc)));
-        };
-        utf8::text_in(alloc, self.words(), count as usize - 1)
+        text_at(alloc, Pointee::of_view(self.again()))
     }
 
     fn whole(&self, alloc: Global) -> Result<Whole, AllocError> {

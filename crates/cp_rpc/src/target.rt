@@ -15,9 +15,9 @@ use crate::data::{u16_at, u16_part, u32_at, u32_part};
 use crate::draft::{null, struct_of};
 use crate::fault::{Field, SchemaFault};
 use crate::field::struct_field;
-use crate::past::Past;
 use crate::promised_answer::{PromisedAnswer, PromisedAnswerView};
 use crate::source::Source;
+use cp_fields::Past;
 use cp_tree::Draft;
 use std::alloc::{AllocError, Global};
 
@@ -42,9 +42,9 @@ pub enum TargetView<S: Source> {
 
 impl Target {
     /// The union's number, u16.
-    const WHICH: usize = 2;
+    const WHICH: u32 = 2;
     /// `importedCap @0 :ImportId`, u32.
-    const IMPORTED_CAP: usize = 0;
+    const IMPORTED_CAP: u32 = 0;
     /// `promisedAnswer @1 :PromisedAnswer`, a pointer.
     const PROMISED_ANSWER: u32 = 0;
 

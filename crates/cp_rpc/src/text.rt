@@ -2,12 +2,13 @@
 
 ghost use Rattle.std.specs.Prelude.{◌≡◌, ◌==◌, ◌<◌, ◌^◌, ◌++◌, ◌∷◌, [], true, length, IfOk, string_bytes};
 ghost use Rattle.cp_tree.specs.DraftOf.{draft_of};
-ghost use Rattle.cp_rpc.specs.Fields.{IsTextField, text_of};
+ghost use Rattle.cp_rpc.specs.Fields.{IsTextField, bytes_of, is_text, text_of};
 ghost use Rattle.cp_rpc.specs.Fitting.{text_fits};
 ghost use Rattle.cp_rpc.specs.Held.{IsText};
 ghost use Rattle.cp_rpc.specs.Made.{text_made};
 
 use crate::source::{Look, Source};
+use cp_fields::{Pointee, TextFault};
 use cp_tree::{Draft, Tree};
 use std::alloc::{AllocError, Global};
 use std::marker::Model;
@@ -126,6 +127,34 @@ impl<S: Source> TextView<S> {
         ensures { IfOk result (λ t. t ≡ self.now) }
     {
         self.source.text(alloc)
+    }
+}
+
+/// Whether a pointer stands for a text: a list of bytes that ends in a zero byte, and is UTF-8 before that.
+pub(crate) fn is_text(at: Pointee<'_>) -> bool
+    ensures { result ≡ is_text (bytes_of at.entry) }
+{
+    if at.is_null() {
+        return false;
+    }
+    match cp_fields::TextView::of(at, "") {
+        Ok(text) => text.is_utf8(),
+        Err(_) => false,
+    }
+}
+
+/// The text that a pointer stands for; null stands for the empty text.
+pub(crate) fn text_at(alloc: Global, at: Pointee<'_>) -> Result<Text, AllocError>
+    requires { IsTextField at }
+    ensures { IfOk result (λ t. t ≡ text_of at.entry) }
+{
+    let Ok(text) = cp_fields::TextView::of(at, "") else {
+        unreachable!();
+    };
+    match text.text(alloc) {
+        Ok(string) => Ok(Text::new(string)),
+        Err(TextFault::NotUtf8) => unreachable!(),
+        Err(TextFault::OutOfMemory) => Err(AllocError),
     }
 }
 

@@ -1,10 +1,11 @@
 //! Messages, as `show` prints them, or as their frames in hexadecimal.
 
 use crate::reader::Reader;
+use cp_fields::Past;
 use cp_frame::Mode;
 use cp_rpc::{
     Bootstrap, Call, CapTable, Context, Descriptor, Disembargo, Exception, ExceptionKind, Finish,
-    Message, Op, OtherWhich, Past, Payload, PromisedAnswer, Release, Resolution, Resolve, Return,
+    Message, Op, OtherWhich, Payload, PromisedAnswer, Release, Resolution, Resolve, Return,
     Returned, SendResultsTo, Target, Text, Transform,
 };
 use cp_stream::{Tap, read_message};

@@ -255,15 +255,16 @@
 //! # The layers
 //!
 //! ```text
-//! words ── tree ─┬─ reading ── message ─┬─ vat ────┬─ server
-//!                └─ writing ────────────┤          ├─ connection ── client
-//! packed ── frame ──────────────────────┴─ stream ─┴─ relay
+//! words ── tree ─┬─ reading ── fields ── message ─┬─ vat ────┬─ server
+//!                └─ writing ──────────────────────┤          ├─ connection ── client
+//! packed ── frame ────────────────────────────────┴─ stream ─┴─ relay
 //! ```
 //!
 //! - `words`: pointer words, segments and limits.
 //! - `tree`: the values that a message holds, owned or with lent parts.
 //! - `reading`, `writing`: from segments to trees, in place or owned, and from trees to segments.
 //! - `packed`, `frame`: the packed form, and the frames of a stream in any pieces.
+//! - `fields`: the fields of any struct by their places, and `Past`, a number that only a newer schema knows.
 //! - `message`: the messages of rpc.capnp, owned or read in place.
 //! - `stream`: messages read from and written to streams.
 //! - `relay`: one direction of a connection, and which of its messages go on.
@@ -288,6 +289,7 @@ pub mod connection;
 pub mod server;
 pub mod vat;
 
+pub use cp_fields as fields;
 pub use cp_frame as frame;
 pub use cp_frame::{FrameReader, Mode, send_frame};
 pub use cp_packed as packed;

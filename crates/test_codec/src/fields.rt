@@ -1,7 +1,9 @@
 //! Each kind of field, read by its place.
 
-use crate::look::is_text;
-use cp_fields::{DataView, Kind, StructView, WrongKind};
+use crate::look::{is_text, root_of};
+use crate::samples::one_segment;
+use cp_fields::{DataView, Kind, Past, Pointee, StructView, TextView, WrongKind};
+use cp_tree::Tree;
 use cp_words::ElementSize;
 use std::alloc::Global;
 use std::process::Abort;
@@ -120,4 +122,34 @@ fn expect_default_pointers(rt: &impl Abort, alloc: Global, root: &StructView) {
     expect_data(rt, alloc, root.data_or(1, b"\x01"), &[1]);
     check!(rt; root.list::<u32>(7).expect(rt, "a list").is_empty());
     check!(rt; root.cap(0).expect(rt, "null") == None);
+}
+
+#[test]
+fn texts_say_whether_they_are_utf8(rt: HostRuntime) {
+    check!(&rt; is_utf8_in_place(&rt, rt.alloc(), 0xa9c3));
+    check!(&rt; !is_utf8_in_place(&rt, rt.alloc(), 0x28c3));
+    let bytes = Vec::from_slice(rt.alloc(), b"\xc3\x28\x00").expect(&rt, "memory");
+    let tree = Tree::Bytes(bytes);
+    let text = TextView::of(Pointee::of_tree(&tree), "").expect(&rt, "a text");
+    check!(&rt; !text.is_utf8());
+}
+
+/// Whether a text of two bytes is UTF-8, where it is read in place.
+fn is_utf8_in_place(rt: &impl Abort, alloc: Global, bytes: u64) -> bool {
+    let words = [0x0001_0000_0000_0000, 0x0000_001a_0000_0001, bytes];
+    let segments = one_segment(rt, alloc, &words);
+    root_of(rt, &segments)
+        .text(0)
+        .expect(rt, "a text")
+        .is_utf8()
+}
+
+#[test]
+fn data_words_and_known_numbers_are_as_they_are(rt: HostRuntime) {
+    let root = StructView::of_data(&[0x0002_0001, 7]);
+    check!(&rt; root.u16(1) == 2);
+    check!(&rt; root.u64(1) == 7);
+    check!(&rt; root.u64(2) == 0);
+    check!(&rt; root.pointer(0).is_null());
+    check!(&rt; Past::<3>::of(4).number() == 4);
 }

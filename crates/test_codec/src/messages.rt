@@ -2,10 +2,9 @@
 //! Messages are let go by `drop`, which is proved once, where the end of a scope is proved each time.
 
 use crate::samples::one_segment;
+use cp_fields::Past;
 use cp_reading::View;
-use cp_rpc::{
-    Field, Message, OtherWhich, Past, SchemaFault, check_message, message_of, message_view,
-};
+use cp_rpc::{Field, Message, OtherWhich, SchemaFault, check_message, message_of, message_view};
 use cp_tree::Object;
 use cp_words::{Limits, Segments};
 use std::alloc::Global;

@@ -1,7 +1,7 @@
 use Rattle.std.proofs.Common.{◌≡◌, ◌+◌, ◌*◌, arith}
-use Rattle.cp_rpc.specs.Blocks.{byte_before}
-use Rattle.cp_rpc.proofs.Blocks.{range-append, padded, blocks-hold}
-use Rattle.cp_rpc.proofs.utf8.is_utf8.Goals as goal
+use Rattle.cp_fields.specs.Blocks.{byte_before}
+use Rattle.cp_fields.proofs.Blocks.{range-append, padded, blocks-hold}
+use Rattle.cp_fields.proofs.utf8.is_utf8.Goals as goal
 
 pub loop-i-preserved : goal.loop-i-preserved
 loop-i-preserved c =

@@ -1,15 +1,14 @@
 -- Bytes that are tested block by block, with zeros after the last.
-use Rattle.std.proofs.Common.{◌≡◌, ℕ, zero, suc, ◌+◌, ◌-◌, ◌*◌, ◌<◌, ◌≤◌, ◌==◌, ◌&&◌, nat_lt, Bool, true, false, List, [], ◌∷◌, ◌++◌, length, map, take, drop, get_or, IsUtf8, IsTrue, ◌↔◌, refl, sym, ap, ◌∙◌, subst, arith}
+use Rattle.std.proofs.Common.{◌≡◌, ℕ, zero, suc, ◌+◌, ◌-◌, ◌*◌, ◌<◌, ◌≤◌, nat_lt, true, false, List, ◌∷◌, ◌++◌, map, take, drop, get_or, IsUtf8, ◌↔◌, refl, sym, ap, ◌∙◌, subst, arith}
 use Rattle.std.proofs.lemmas.Bool.Decides.{nat_tests}
 use Rattle.std.proofs.lemmas.List.{get_or-drop, take-append-drop}
 use Rattle.std.specs.Int.{div_ceil}
-use Rattle.std.proofs.lemmas.List.FromFn.{take-map-range_with_len, length-map-range_with_len, get_or-map-range_with_len}
-use Rattle.std.proofs.lemmas.Str.{IsUtf8-append, IsUtf8-take, IsUtf8-from_ascii, IsUtf8-from_is_utf8, is_utf8-from_IsUtf8}
+use Rattle.std.proofs.lemmas.List.FromFn.{take-map-range_with_len, length-map-range_with_len}
+use Rattle.std.proofs.lemmas.Str.{IsUtf8-append, IsUtf8-take, IsUtf8-from_ascii}
 use Rattle.std.specs.List.{range_with_len}
-use Rattle.std.specs.Str.{IsAscii, IsCharBoundary, is_utf8}
+use Rattle.std.specs.Str.{IsAscii, IsCharBoundary}
 use Rattle.cp_tree.specs.Elements.{numbers, element}
-use Rattle.cp_rpc.specs.Blocks.{byte_before}
-use Rattle.cp_rpc.specs.Fields.{is_text}
+use Rattle.cp_fields.specs.Blocks.{byte_before}
 
 shift : {X : Type 0} (f : ℕ → X) (a b n : ℕ) → map f (range_with_len (a + b) n) ≡ map (λ k. f (a + k)) (range_with_len b n)
 shift f a b zero = refl
@@ -76,43 +75,3 @@ padded ws n m h =
 -- as many blocks as hold n bytes
 pub blocks-hold : (n i : ℕ) → div_ceil n 64 ≤ i → n ≤ i * 64
 blocks-hold n i h = omega (arith, h)
-
--- all bytes but the last
-pub but_last : (ws : List ℕ) (n : ℕ) → take (n - 1) (numbers ws 8 n) ≡ numbers ws 8 (n - 1)
-but_last ws n = take-map-range_with_len (element ws 8) 0 n (n - 1) (omega arith)
-
--- whether the first n bytes hold a text
-pub text-numbers : (ws : List ℕ) (n : ℕ) → 0 < n → is_text (numbers ws 8 n) ≡ ((element ws 8 (n - 1) == 0) && is_utf8 (numbers ws 8 (n - 1)))
-text-numbers ws n h =
-    let within : n - 1 < n = omega arith in
-    rw (length-map-range_with_len (element ws 8) 0 n, but_last ws n, get_or-map-range_with_len (element ws 8) 0 n (n - 1) (n - 1) 1 within (omega arith)) refl
-
-agree : (b : Bool) (bs : List ℕ) → IsTrue b ↔ IsUtf8 bs → b ≡ is_utf8 bs
-agree true bs h = sym (is_utf8-from_IsUtf8 bs (h.0 refl))
-agree false bs h = go (is_utf8 bs) refl
-  where
-    go : (t : Bool) → is_utf8 bs ≡ t → false ≡ t
-    go true e = h.1 (IsUtf8-from_is_utf8 bs e)
-    go false e = refl
-
-pub test-both : (x : ℕ) (b : Bool) (bs : List ℕ) → x ≡ 0 → IsTrue b ↔ IsUtf8 bs → b ≡ ((x == 0) && is_utf8 bs)
-test-both x b bs e h = rw e (agree b bs h)
-
-pub test-last : (x : ℕ) (b : Bool) → (x ≡ 0 → ⊥) → false ≡ ((x == 0) && b)
-test-last x b n = let t : (x == 0) ≡ false = grind (arith, nat_tests) in rw t refl
-
-any-default : (xs : List ℕ) (i d e : ℕ) → i < length xs → get_or xs i d ≡ get_or xs i e
-any-default [] i d e h = absurd (omega arith)
-any-default (x ∷ xs) zero d e h = refl
-any-default (x ∷ xs) (suc i) d e h = any-default xs i d e (omega arith)
-
-some-length : (n : ℕ) → false ≡ (n == 0) → 0 < n
-some-length zero h = cc
-some-length (suc n) h = omega arith
-
--- what ends in a zero byte is a text where the rest is UTF-8
-pub text-ends : (bs : List ℕ) (b : Bool) → false ≡ (length bs == 0) → get_or bs (length bs - 1) 0 ≡ 0 → IsTrue b ↔ IsUtf8 (take (length bs - 1) bs) → b ≡ is_text bs
-text-ends bs b s z h =
-    let some = some-length (length bs) s in
-    let within : length bs - 1 < length bs = omega (arith, some) in
-    test-both (get_or bs (length bs - 1) 1) b (take (length bs - 1) bs) (any-default bs (length bs - 1) 1 0 within ∙ z) h

@@ -1,0 +1,44 @@
+//! Whether the bytes that words hold are UTF-8.
+
+ghost use Rattle.std.specs.Prelude.{◌≡◌, ◌+◌, ◌<◌, ◌≤◌, ◌^◌, ◌↔◌, IsTrue, IsUtf8, map};
+ghost use Rattle.std.specs.List.{range_with_len};
+ghost use Rattle.cp_tree.specs.Elements.{numbers};
+ghost use Rattle.cp_fields.specs.Blocks.{byte_before};
+
+use crate::data::number_at;
+use simdutf8::Checker;
+use std::simd::prelude::*;
+
+/// The bytes that are tested at a time.
+const BLOCK: usize = 64;
+
+/// Whether the first bytes that words hold, this many, are UTF-8.
+pub(crate) fn is_utf8(words: &[u64], count: usize) -> bool
+    requires small { count ≤ 2 ^ 32 }
+    ensures { IsTrue result ↔ IsUtf8 (numbers words.now 8 count) }
+{
+    let mut checker = Checker::new();
+    for i in 0..count.div_ceil(BLOCK) {
+        let block = block_at(words, i * BLOCK, count);
+        checker = checker.step(u8x64::from_array(block));
+    }
+    checker.finish()
+}
+
+/// Bytes from number `first` on, as many as are tested at a time; those from number `end` on are
+/// zero.
+fn block_at(words: &[u64], first: usize, end: usize) -> [u8; 64]
+    requires begins { first < end }
+    requires small { end ≤ 2 ^ 32 }
+    ensures { result ≡ map (λ k. byte_before words.now end (first + k)) (range_with_len 0 64) }
+{
+    let mut block = [0; BLOCK];
+    for i in 0..BLOCK {
+        block[i] = if first + i < end {
+            number_at(words, 8, first + i) as u8
+        } else {
+            0
+        };
+    }
+    block
+}
