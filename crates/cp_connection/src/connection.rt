@@ -74,7 +74,7 @@ impl Model for Connection {
 }
 
 impl Connection {
-    ghost use Rattle.std.specs.Prelude.{◌≡◌, [], ℕ, List, OnOk, IfOk, IfErr, length};
+    ghost use Rattle.std.specs.Prelude.{◌≡◌, ◌<◌, [], ℕ, List, OnOk, IfOk, IfErr, length};
     ghost use Rattle.cp_frame.specs.Reader.{taken_of};
     ghost use Rattle.cp_machine.specs.declared.event.Event.TheVariants as events;
     ghost use Rattle.cp_machine.specs.declared.event.Value.TheVariants as values;
@@ -94,7 +94,8 @@ impl Connection {
         }
     }
 
-    /// Takes bytes of the peer, up to the end of the next message, and says how many. The vat receives the message.
+    /// Takes bytes of the peer, up to the end of the next message, and says how many: one at least, where there is one.
+    /// The vat receives the message.
     ///
     /// # Errors
     ///
@@ -102,6 +103,7 @@ impl Connection {
     /// whatever follows them.
     pub fn receive(&mut self, piece: &[u8]) -> Result<usize, ConnectionFault>
         ensures received { IfOk result (λ count. Receives self.old piece.now count self.new) }
+        ensures goes_on { IfOk result (λ count. 0 < length piece.now → 0 < count) }
         ensures unreceived { IfErr result (λ fault. (taken : List ℕ) × IsUnreceived self.old piece.now taken fault self.new) }
     {
         self.parts.receive(piece)

@@ -1,6 +1,6 @@
 //! What a connection is made of.
 
-ghost use Rattle.std.specs.Prelude.{◌≡◌, [], ℕ, List, Some, None, IfOk, IfErr, OnOk};
+ghost use Rattle.std.specs.Prelude.{◌≡◌, ◌<◌, [], ℕ, List, Some, None, IfOk, IfErr, OnOk, length};
 ghost use Rattle.cp_rpc.specs.Told.{told};
 ghost use Rattle.cp_stream.specs.Stream.{Holds, HoldsNone};
 ghost use Rattle.cp_machine.specs.declared.event.Event.TheVariants as events;
@@ -65,6 +65,7 @@ impl Parts {
         requires keeps { KeepsUp self.old }
         ensures keeps { KeepsUp self.new }
         ensures received { IfOk result (λ count. Receives (link_of self.old) piece.now count (link_of self.new)) }
+        ensures goes_on { IfOk result (λ count. 0 < length piece.now → 0 < count) }
         ensures unreceived { IfErr result (λ fault. (taken : List ℕ) × IsUnreceived (link_of self.old) piece.now taken fault (link_of self.new)) }
     {
         if let Some(fault) = self.fault {

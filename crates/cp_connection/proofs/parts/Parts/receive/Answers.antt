@@ -53,3 +53,8 @@ returns-clause-received c =
     let reads = reads_one c.args.self.now on c.next.new.self c.saturating_add-self.result c.saturating_add-self-2.result c.args.piece.now next.2.now next.0 next.1 _ c.in_default.is gives c.in-Ok.ensures.found c.saturating_add-self.ensures c.saturating_add-self-2.ensures in
     let count : length c.args.piece.now - length next.2.now ≡ length gives.front = omega (arith, ap (λ (b : List ℕ). length b) gives.whole, length-append gives.front next.2.now) in
     rw c.reuse.ensures.stays (inr (gives.front, next.2.now, _, _, gives.whole, count, reads, c.in_ok-take_in.ensures.acts))
+
+pub returns-clause-goes_on : goal.returns-clause-goes_on
+returns-clause-goes_on c =
+    let gives = rw c.in-Ok-Some.field-0-is at c.in-Ok-Some.ensures.given in
+    λ some. omega (arith, gives.shorter)
