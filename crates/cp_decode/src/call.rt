@@ -56,10 +56,10 @@ impl<'s> Named<'s> {
     fn find(schema: &'s Schema, number: MethodNumber) -> Option<Named<'s>> {
         let node = schema.find(number.interface)?;
         match &node.kind {
-            NodeKind::Interface(methods) => Some(Named {
+            NodeKind::Interface(of) => Some(Named {
                 schema,
                 interface: node.name(),
-                method: methods.get(number.method as usize)?,
+                method: of.methods.get(number.method as usize)?,
             }),
             _ => None,
         }

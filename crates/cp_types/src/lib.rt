@@ -11,5 +11,5 @@ mod value;
 pub use fault::RequestFault;
 pub use field::{Field, FieldKind, Slot};
 pub use kind::{Base, Type};
-pub use node::{Comments, Constant, File, Method, Node, NodeKind, Schema, Structure};
+pub use node::{Comments, Constant, File, Interface, Method, Node, NodeKind, Schema, Structure};
 pub use value::Value;

@@ -10,8 +10,9 @@ use cp_frame::FrameReader;
 use cp_reading::View;
 use cp_schemas::{
     CodeGeneratorRequestRequestedFileImportView, CodeGeneratorRequestRequestedFileView,
-    CodeGeneratorRequestView, EnumerantView, MethodView, NodeConstView, NodeSourceInfoMemberView,
-    NodeSourceInfoView, NodeStructView, NodeView, NodeWhich,
+    CodeGeneratorRequestView, EnumerantView, MethodView, NodeConstView, NodeInterfaceView,
+    NodeSourceInfoMemberView, NodeSourceInfoView, NodeStructView, NodeView, NodeWhich,
+    SuperclassView,
 };
 use cp_words::{Limits, Segments};
 use std::alloc::Global;
@@ -59,7 +60,7 @@ pub enum NodeKind {
     Struct(Structure),
     /// An enum, with the names of its values.
     Enum(Vec<String>),
-    Interface(Vec<Method>),
+    Interface(Interface),
     Const(Constant),
     /// An annotation, or what a newer schema.capnp has.
     Other,
@@ -77,6 +78,14 @@ pub struct Structure {
     /// Where the number of the member is that is set.
     pub tag_place: u32,
     pub fields: Vec<Field>,
+}
+
+/// An interface.
+#[derive(Drop)]
+pub struct Interface {
+    /// The interfaces that it extends.
+    pub supers: Vec<u64>,
+    pub methods: Vec<Method>,
 }
 
 /// A method of an interface.
@@ -169,10 +178,7 @@ fn kind_of(alloc: Global, view: &NodeView<'_>) -> Result<NodeKind, RequestFault>
             Ok(items) => load_all(alloc, items).map(NodeKind::Enum),
             Err(fault) => Err(RequestFault::WrongKind(fault)),
         },
-        NodeWhich::Interface => match view.interface().methods() {
-            Ok(methods) => load_all(alloc, methods).map(NodeKind::Interface),
-            Err(fault) => Err(RequestFault::WrongKind(fault)),
-        },
+        NodeWhich::Interface => interface_of(alloc, &view.interface()),
         NodeWhich::Const => constant_of(alloc, &view.const_()),
         _ => Ok(NodeKind::Other),
     }
@@ -187,6 +193,16 @@ fn structure_of(alloc: Global, view: &NodeStructView<'_>) -> Result<NodeKind, Re
         tags: view.discriminant_count(),
         tag_place: view.discriminant_offset(),
         fields: load_all(alloc, view.fields()?)?,
+    }))
+}
+
+/// An interface.
+fn interface_of(alloc: Global, view: &NodeInterfaceView<'_>) -> Result<NodeKind, RequestFault> {
+    let (supers, methods) = (view.superclasses()?, view.methods()?);
+    let supers = load_all(alloc, supers)?;
+    Ok(NodeKind::Interface(Interface {
+        supers,
+        methods: load_all(alloc, methods)?,
     }))
 }
 
@@ -216,6 +232,12 @@ impl<'n> Load<CodeGeneratorRequestRequestedFileImportView<'n>> for u64 {
         _alloc: Global,
         view: &CodeGeneratorRequestRequestedFileImportView<'n>,
     ) -> Result<u64, RequestFault> {
+        Ok(view.id())
+    }
+}
+
+impl<'n> Load<SuperclassView<'n>> for u64 {
+    fn load(_alloc: Global, view: &SuperclassView<'n>) -> Result<u64, RequestFault> {
         Ok(view.id())
     }
 }
