@@ -2,6 +2,7 @@
 
 use crate::names::{is_ambiguous, is_taken};
 use crate::out::{Arg, Out};
+use crate::reach::{Line, lines, naming};
 use cp_types::{Node, NodeKind, Schema};
 use std::alloc::Global;
 
@@ -20,7 +21,7 @@ pub struct Named {
     pub module: Out,
     /// The name of its file's crate.
     pub krate: Out,
-    /// Whether it is a struct, an enum or a constant, which alone are written.
+    /// Whether it is written: a struct, an enum or a constant, and an interface where interfaces are.
     pub is_written: bool,
 }
 
@@ -32,6 +33,12 @@ pub struct Book<'s> {
     pub names: Vec<Named>,
     /// Whether drafts are written beside the views.
     pub drafts: bool,
+    /// Whether interfaces are written.
+    pub interfaces: bool,
+    /// The interfaces with all that they extend.
+    pub lines: Vec<Line>,
+    /// The structs and groups that can name a capability.
+    pub naming: Vec<u64>,
 }
 
 impl<'s> Book<'s> {
@@ -52,6 +59,9 @@ impl<'s> Book<'s> {
             schema,
             names,
             drafts: false,
+            interfaces: false,
+            lines: lines(alloc, schema)?,
+            naming: naming(alloc, schema)?,
         })
     }
 
@@ -63,6 +73,27 @@ impl<'s> Book<'s> {
             }
         }
         None
+    }
+
+    /// Has interfaces written too.
+    pub fn write_interfaces(&mut self) {
+        self.drafts = true;
+        self.interfaces = true;
+        for named in self.names.iter_mut() {
+            if has_line(self.lines.as_slice(), named.id) {
+                named.is_written = true;
+            }
+        }
+    }
+
+    /// All interfaces that the one of this number extends.
+    pub fn supers(&self, id: u64) -> &[u64] {
+        for line in &self.lines {
+            if line.id == id {
+                return line.supers.as_slice();
+            }
+        }
+        &[]
     }
 
     /// The comment of a node, and that of a member of it.
@@ -87,6 +118,16 @@ impl<'s> Book<'s> {
         }
         ""
     }
+}
+
+/// Whether one of the interfaces has this number.
+fn has_line(lines: &[Line], id: u64) -> bool {
+    for line in lines {
+        if line.id == id {
+            return true;
+        }
+    }
+    false
 }
 
 /// A node's names.

@@ -4,9 +4,10 @@ use crate::book::{Book, Named};
 use crate::comments::about;
 use crate::getters::node_in;
 use crate::out::{Arg, Out};
+use crate::promises::{cap_setter, client_of};
 use crate::setters::{Setter, SetterKind, set_of};
 use crate::sheet::Sheet;
-use crate::structs::{is_void, signature};
+use crate::structs::{has_name, is_void, signature};
 use cp_types::{Base, Field, FieldKind, Node, NodeKind, Slot, Structure};
 use std::alloc::Global;
 
@@ -109,7 +110,6 @@ pub fn draft<'b>(
         Arg::Number(of.pointers as u64),
     ];
     sheet.export("$0Draft", named.name.as_str());
-    sheet.export("$0ListDraft", named.name.as_str());
     sheet.code.fill(TYPE, &args);
     signature(sheet, NEW, NEW_WIDE, &args);
     sheet.code.fill(NEW_BODY, &args);
@@ -124,9 +124,12 @@ pub fn draft<'b>(
         },
     );
     sheet.code.put("}\n");
-    sheet.code.fill(LIST, &args);
-    signature(sheet, PUSH, PUSH_WIDE, &args);
-    sheet.code.fill(PUSH_BODY, &args);
+    if has_name(node) {
+        sheet.export("$0ListDraft", named.name.as_str());
+        sheet.code.fill(LIST, &args);
+        signature(sheet, PUSH, PUSH_WIDE, &args);
+        sheet.code.fill(PUSH_BODY, &args);
+    }
 }
 
 /// Writes the methods that set the fields of a struct or a group.
@@ -245,9 +248,27 @@ fn slot_setter<'b>(
             clauses(sheet, part, field, &setter);
             code(sheet, part, field, &setter);
             cite(book, sheet, slot);
+            by_client(book, sheet, part, (i, field), slot);
         }
         Err(why) => sheet.refuse(part.node.name(), field.name.as_str(), why),
     }
+}
+
+/// Writes the method that sets a field to a capability by name, if it is one.
+fn by_client<'b>(
+    book: &'b Book<'_>,
+    sheet: &mut Sheet<'b>,
+    part: &Part<'_>,
+    (i, field): (usize, &Field),
+    slot: &Slot,
+) {
+    if client_of(book, slot).is_none() {
+        return;
+    }
+    let name = joined(sheet.alloc, part.prefix, field.name.as_str());
+    let body = chosen(sheet, part, field);
+    comment(book, sheet, part, (i, field));
+    cap_setter(book, sheet, (name.as_str(), body.as_str()), slot);
 }
 
 /// Writes the signature of a method that sets a field.

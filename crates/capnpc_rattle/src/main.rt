@@ -2,22 +2,29 @@
 //! writes a crate of views for each requested file into the current folder.
 //!
 //!     capnp compile -oFOLDER/capnpc_rattle:OUT X.capnp
-//!     capnp compile -o- X.capnp | capnpc_rattle [--crate=NAME] [--drafts] [--print]
+//!     capnp compile -o- X.capnp | capnpc_rattle [--crate=NAME] [--drafts] [--interfaces] [--print]
 //!
 //! With `--crate=NAME` the crate has this name, and not the file's; with `--drafts` it has drafts too, by which structs are
-//! written; with `--print` its files go to standard output.
+//! written; with `--interfaces` it has typed clients and objects of its interfaces besides; with `--print` its files go to standard output.
 #![tactic(auto)]
 
 mod book;
+mod clients;
 mod comments;
 mod constants;
 mod defaults;
+mod dispatch;
 mod drafts;
 mod enums;
 mod getters;
+mod interfaces;
+mod methods;
 mod names;
 mod out;
 mod pages;
+mod promises;
+mod reach;
+mod servers;
 mod setters;
 mod sheet;
 mod structs;
@@ -41,6 +48,8 @@ struct Task {
     krate: String,
     /// Whether the crate has drafts.
     drafts: bool,
+    /// Whether the crate has interfaces, and so drafts too.
+    interfaces: bool,
     /// Whether the files are printed, and not written.
     prints: bool,
 }
@@ -51,6 +60,7 @@ impl Task {
         let mut task = Task {
             krate: String::new(rt.alloc()),
             drafts: false,
+            interfaces: false,
             prints: false,
         };
         for word in env::args(rt)?.skip(1) {
@@ -59,10 +69,12 @@ impl Task {
                 task.krate.push_str(name)?;
             } else if word == "--drafts" {
                 task.drafts = true;
+            } else if word == "--interfaces" {
+                task.interfaces = true;
             } else if word == "--print" {
                 task.prints = true;
             } else {
-                bail!("{word}: neither --crate=NAME nor --drafts nor --print");
+                bail!("{word}: neither --crate=NAME nor --drafts nor --interfaces nor --print");
             }
         }
         Ok(task)
@@ -157,6 +169,9 @@ fn make_crate(rt: &HostRuntime, task: &Task, schema: &Schema, file: &Node) -> an
     let name = crate_name(rt.alloc(), file.path(), task.krate.as_str());
     let mut book = Book::of(rt.alloc(), schema, file.path(), name.as_str())?;
     book.drafts = task.drafts;
+    if task.interfaces {
+        book.write_interfaces();
+    }
     put_crate(rt, task, &book, file.path(), name.as_str())
 }
 

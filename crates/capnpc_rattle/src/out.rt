@@ -11,6 +11,8 @@ pub const WIDTH: usize = 100;
 pub enum Arg<'t> {
     Text(&'t str),
     Number(u64),
+    /// A number as code has it in hexadecimal, with 16 digits.
+    Hex(u64),
     /// A name in snake case.
     Snake(&'t str),
     /// A field's name, as its method is called: in snake case, and none of the words that have another meaning.
@@ -108,6 +110,7 @@ impl Out {
         match arg {
             Arg::Text(text) => self.put(text),
             Arg::Number(number) => self.number(number),
+            Arg::Hex(number) => self.hex(number),
             Arg::Snake(name) => self.snake(name),
             Arg::Method(name) => self.method(name),
             Arg::Camel(name) => self.camel(name),
@@ -169,6 +172,13 @@ impl Out {
     /// Adds a number.
     fn number(&mut self, number: u64) {
         if write!(self.text, "{number}").is_err() {
+            self.is_full = true;
+        }
+    }
+
+    /// Adds a number in hexadecimal.
+    fn hex(&mut self, number: u64) {
+        if write!(self.text, "{number:#018x}").is_err() {
             self.is_full = true;
         }
     }

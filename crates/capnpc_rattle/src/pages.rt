@@ -3,12 +3,23 @@
 use crate::book::{Book, Named};
 use crate::constants::constant;
 use crate::enums::enum_code;
+use crate::interfaces::interface;
 use crate::out::{Arg, Out, name_of};
 use crate::sheet::Sheet;
 use crate::structs::structure;
 use crate::uses::{of_clauses, of_code, of_specs};
 use cp_types::{Node, NodeKind};
 use std::alloc::AllocError;
+
+/// The libraries that the code of interfaces stands on, besides those of drafts.
+const STUBS: &str = "\
+cp_machine
+cp_refs
+cp_rpc
+cp_servants
+cp_stubs
+cp_tables
+";
 
 /// The modules of a crate, in the order of their names.
 pub fn sheets<'b>(book: &'b Book<'_>, krate: &'b str) -> Result<Vec<Sheet<'b>>, AllocError> {
@@ -47,6 +58,7 @@ fn write_node<'b>(book: &'b Book<'_>, sheet: &mut Sheet<'b>, node: &'b Node, nam
         NodeKind::Struct(of) => structure(book, sheet, node, named, of),
         NodeKind::Enum(items) => enum_code(book, sheet, node, named, items.as_slice()),
         NodeKind::Const(of) => constant(book, sheet, node, of),
+        NodeKind::Interface(of) if book.interfaces => interface(book, sheet, node, named, of),
         _ => {}
     }
 }
@@ -128,6 +140,9 @@ pub fn line_of(book: &Book<'_>, sheets: &[Sheet<'_>], krate: &str) -> Out {
     let mut crates = Out::new(book.alloc);
     if book.drafts {
         crates.put("cp_drafts\n");
+    }
+    if book.interfaces {
+        crates.put(STUBS);
     }
     for sheet in sheets {
         crates.put(sheet.crates.as_str());

@@ -6,6 +6,7 @@ use crate::defaults::{constant, definition};
 use crate::drafts::draft;
 use crate::getters::{Getter, node_in, read_of};
 use crate::out::{Arg, Out};
+use crate::promises::{cap_getter, promise};
 use crate::sheet::Sheet;
 use crate::unions::{union_code, union_method};
 use cp_types::{Base, Field, FieldKind, Node, Slot, Structure};
@@ -87,6 +88,20 @@ pub fn structure<'b>(
     if book.drafts && !of.is_group {
         draft(book, sheet, node, named, of);
     }
+    if book.interfaces && !of.is_group && !is_params(node) {
+        promise(book, sheet, node, named, of);
+    }
+}
+
+/// Whether a struct is the params of a method, which has no name in its schema.
+fn is_params(node: &Node) -> bool {
+    node.name().ends_with("$Params")
+}
+
+/// Whether a struct has a name in its schema, so that a list of it can be a field's type: not the params or results of a
+/// method.
+pub fn has_name(node: &Node) -> bool {
+    !node.name().contains("$")
 }
 
 /// Writes the type of a view, and for a struct how it is read of a list.
@@ -107,7 +122,7 @@ fn declaration<'n>(
     about(&mut sheet.code, "", text, "`$1 $2`.", &args);
     sheet.code.fill(VIEW, &args);
     sheet.export("$0View", named.name.as_str());
-    if !is_group {
+    if !is_group && has_name(node) {
         sheet.code.fill(ITEM, &args);
     }
 }
@@ -238,6 +253,7 @@ fn slot_method<'b>(
             about(&mut sheet.code, "    ", text, "`$0 @$1`.", &args);
             getter_method(sheet, name, &getter);
             cite_type(book, sheet, slot);
+            cap_getter(book, sheet, field, slot);
             if let Some(tree) = getter.tree {
                 definition(sheet, named, field, tree);
                 constant(sheet, named, field, tree);

@@ -7,7 +7,7 @@ use crate::sheet::Sheet;
 type Module = (&'static str, &'static [&'static str]);
 
 /// The words of the libraries that generated text cites.
-const LIBRARY: [Module; 10] = [
+const LIBRARY: [Module; 13] = [
     (
         "std.specs.Int",
         &["cast_signed", "cast_unsigned", "w16", "w32", "w64", "w8"],
@@ -53,6 +53,23 @@ const LIBRARY: [Module; 10] = [
             "words_tree",
         ],
     ),
+    ("cp_stubs.specs.Calls", &["Makes", "request_of"]),
+    (
+        "cp_stubs.specs.Dispatch",
+        &[
+            "Gives",
+            "IsElsewhere",
+            "IsOf",
+            "IsPast",
+            "Method",
+            "Passes",
+            "Refuses",
+        ],
+    ),
+    (
+        "cp_stubs.specs.Promises",
+        &["Finds", "along", "promised_cap"],
+    ),
 ];
 
 /// Where definitions have the kinds that a pointer may be of from.
@@ -90,7 +107,7 @@ const CONSTANTS: [&str; 3] = [
 ];
 
 /// Parts of a text, and the words of the prelude that it has where it has them.
-const PRELUDE: [(&str, &str); 23] = [
+const PRELUDE: [(&str, &str); 26] = [
     ("ℕ", "ℕ"),
     (" ≡ ", "◌≡◌"),
     (" == ", "◌==◌"),
@@ -109,7 +126,10 @@ const PRELUDE: [(&str, &str); 23] = [
     (" ≤ ", "◌≤◌"),
     ("2 ^ ", "◌^◌"),
     ("length value", "length"),
-    (" + ", "◌+◌"),
+    ("length table", "length"),
+    ("now + 1", "◌+◌"),
+    ("HoldsOneMore self", "◌+◌"),
+    (" ++ ", "◌++◌"),
     (" ∷ ", "◌∷◌"),
     ("[]", "[]"),
     ("true ∷ ", "true"),
@@ -177,10 +197,20 @@ fn found(list: &mut Out, text: &str, words: &[&str]) {
 /// Adds the words of the prelude that a text has.
 fn prelude(list: &mut Out, text: &str) {
     for (part, word) in &PRELUDE {
-        if has_part(text, part) {
+        if has_part(text, part) && !has_item(list.as_str(), word) {
             add(list, word);
         }
     }
+}
+
+/// Whether a list with commas between has a word.
+fn has_item(list: &str, word: &str) -> bool {
+    for item in list.split(", ") {
+        if item == word {
+            return true;
+        }
+    }
+    false
 }
 
 /// Adds what a text imports of the libraries, a line each, with this beginning and this end, but for one module.
@@ -201,12 +231,22 @@ fn libraries<'n>(
         );
     }
     for (module, names) in &LIBRARY {
-        if *module != skipped {
+        if *module != skipped && (!is_of_stubs(module) || cites_stubs(sheet)) {
             let mut words = Out::new(sheet.alloc);
             found(&mut words, text, names);
             line_of(out, module, words.as_str(), ends);
         }
     }
+}
+
+/// Whether a module has words for interfaces alone.
+fn is_of_stubs(module: &str) -> bool {
+    module.starts_with("cp_stubs.")
+}
+
+/// Whether a module's code stands on what code of interfaces stands on.
+fn cites_stubs(sheet: &Sheet<'_>) -> bool {
+    sheet.libraries.as_str().contains("cp_stubs::")
 }
 
 /// Adds the import of these words, if there are some.
@@ -262,7 +302,7 @@ fn has_type(sheet: &Sheet<'_>, name: &str) -> bool {
     let path = Out::of(sheet.alloc, "$0::", &args);
     has_part(code, of.as_str())
         || has_part(code, path.as_str())
-        || name == "WrongKind" && has_word(code, name)
+        || name == "WrongKind" && has_part(code, "WrongKind>")
 }
 
 /// Adds the imports of a module's code.

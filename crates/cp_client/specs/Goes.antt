@@ -1,9 +1,11 @@
 -- What a client does with its peer.
-use Rattle.std.specs.Prelude.{◌≡◌, ℕ, List, [], ◌∷◌, ◌++◌, Option, Some, None, Result, Ok, Err}
+use Rattle.std.specs.Prelude.{◌≡◌, ◌⊎◌, ℕ, List, [], ◌∷◌, ◌++◌, Option, Some, None, Result, Ok, Err}
 use Rattle.std.specs.Io.KnownBytes.{Appends, Consumes}
 use Rattle.std.specs.FinMap.{insert, remove}
 use Rattle.cp_tables.specs.Table.{with_change}
 use Rattle.cp_stream.specs.Read.{FailedOnce}
+use Rattle.cp_refs.specs.declared.call.Request.{Request}
+use Rattle.cp_refs.specs.declared.cap.Cap.{Cap}
 use Rattle.cp_refs.specs.declared.outcome.Outcome.{Outcome}
 use Rattle.cp_machine.specs.declared.effect.Reason.{Reason}
 use Rattle.cp_machine.specs.declared.event.Event.{Event}
@@ -103,3 +105,8 @@ Finishes old q new = Did old (events.Finish q) (Ok values.Nothing) (remove old.a
 -- an import was given back
 abbrev pub Releases : Seat → ℕ → Seat → Type 0
 Releases old import new = Did old (events.Release import) (Ok values.Nothing) old.asked new
+
+-- A capability was called, and a question was asked by it; or none was: the client refuses it, or memory ran out before.
+abbrev pub AsksOrNot : Seat → Cap → Request → Result ℕ ClientFault → Seat → Type 0
+AsksOrNot old cap request (Ok q) new = Asks old (events.Call cap request) q new
+AsksOrNot old cap request (Err fault) new = IsUnasked old (events.Call cap request) fault new ⊎ ((fault ≡ client_faults.Connection faults.OutOfMemory) × (new ≡ old))

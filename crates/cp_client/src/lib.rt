@@ -1,6 +1,7 @@
 //! A client: asks questions over a connection's reader and writer, and waits for their outcomes.
 #![tactic(auto)]
 
+mod caller;
 mod client;
 mod contents;
 mod fault;

@@ -1,0 +1,96 @@
+//! What interfaces extend, and by which structs capabilities can be named.
+
+use cp_types::{Base, Field, FieldKind, Node, NodeKind, Schema};
+use std::alloc::{AllocError, Global};
+
+/// An interface, and all that it extends, those of them too that they extend.
+#[derive(Drop)]
+pub struct Line {
+    pub id: u64,
+    pub supers: Vec<u64>,
+}
+
+/// The interfaces of a schema with all that they extend.
+pub fn lines(alloc: Global, schema: &Schema) -> Result<Vec<Line>, AllocError> {
+    let mut lines = Vec::new(alloc);
+    for node in &schema.nodes {
+        if let NodeKind::Interface(of) = &node.kind {
+            lines.push(Line {
+                id: node.id,
+                supers: all_supers(alloc, schema, of.supers.as_slice())?,
+            })?;
+        }
+    }
+    Ok(lines)
+}
+
+/// These interfaces, and all that they extend, each once.
+fn all_supers(alloc: Global, schema: &Schema, first: &[u64]) -> Result<Vec<u64>, AllocError> {
+    let mut all = Vec::from_slice(alloc, first)?;
+    for i in 0..schema.nodes.len() {
+        let Some(id) = all.get(i).copied() else {
+            break;
+        };
+        for each in supers_of(schema, id) {
+            if !all.contains(each) {
+                all.push(*each)?;
+            }
+        }
+    }
+    Ok(all)
+}
+
+/// The interfaces that the interface of this number extends itself.
+fn supers_of(schema: &Schema, id: u64) -> &[u64] {
+    match schema.find(id) {
+        Some(node) => match &node.kind {
+            NodeKind::Interface(of) => of.supers.as_slice(),
+            _ => &[],
+        },
+        None => &[],
+    }
+}
+
+/// The structs and groups of a schema that can name a capability: by a field of their own, or by a struct, a group or a list
+/// in them.
+pub fn naming(alloc: Global, schema: &Schema) -> Result<Vec<u64>, AllocError> {
+    let mut found: Vec<u64> = Vec::new(alloc);
+    for _ in 0..schema.nodes.len() {
+        let before = found.len();
+        for node in &schema.nodes {
+            if !found.contains(&node.id) && names_one(node, found.as_slice()) {
+                found.push(node.id)?;
+            }
+        }
+        if found.len() == before {
+            break;
+        }
+    }
+    Ok(found)
+}
+
+/// Whether a node has a field that can name a capability, where these structs and groups can.
+fn names_one(node: &Node, found: &[u64]) -> bool {
+    let NodeKind::Struct(of) = &node.kind else {
+        return false;
+    };
+    for field in &of.fields {
+        if can_name(field, found) {
+            return true;
+        }
+    }
+    false
+}
+
+/// Whether a field can name a capability, where these structs and groups can.
+fn can_name(field: &Field, found: &[u64]) -> bool {
+    match &field.kind {
+        FieldKind::Group(id) => found.contains(id),
+        FieldKind::Slot(slot) => match slot.of.of {
+            Base::Interface(_) | Base::AnyPointer => true,
+            Base::Struct(id) => found.contains(&id),
+            _ => false,
+        },
+        FieldKind::Unknown => false,
+    }
+}

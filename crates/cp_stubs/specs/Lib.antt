@@ -1,0 +1,5 @@
+pub mod Replies
+pub mod Dispatch
+pub mod Promises
+pub mod Calls
+pub mod Payloads

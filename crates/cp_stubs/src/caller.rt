@@ -1,0 +1,21 @@
+//! What makes calls.
+
+use cp_refs::{Cap, Request};
+use std::alloc::Global;
+
+/// One end of a connection by which typed clients call, as a `Client`.
+pub trait Caller {
+    /// Why a call isn't made.
+    type Fault: Drop;
+
+    ghost use Rattle.std.specs.Prelude.{ℕ, Result};
+    ghost use Rattle.cp_refs.specs.declared.cap.Cap.{Cap};
+    ghost use Rattle.cp_refs.specs.declared.call.Request.{Request};
+
+    /// What a call makes of it: the question's number, or why none is asked.
+    ghost asks: { Self → Cap → Request → Result ℕ Self.Fault → Self → Type 0 };
+
+    /// Calls a capability, and gives the number of the question.
+    fn ask(&mut self, alloc: Global, cap: &Cap, request: Request) -> Result<u32, Self::Fault>
+        ensures { asks self.old cap.now request result self.new };
+}

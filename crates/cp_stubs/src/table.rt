@@ -1,0 +1,70 @@
+//! The capabilities that a draft names.
+
+ghost use Rattle.std.specs.Prelude.{◌≡◌, ◌++◌, ◌∷◌, [], length, IfOk, OnOk, OnErr};
+
+use cp_refs::{Cap, Caps};
+use std::alloc::{AllocError, Global};
+use std::marker::Model;
+
+/// The number of capabilities that a table has at most.
+const MOST: usize = 0xffff_ffff;
+
+/// The table of the capabilities that a draft names, each by its place. Contracts see it as the list of them.
+pub struct Table {
+    caps: Vec<Cap>,
+}
+
+impl Model for Table {
+    ghost use Rattle.std.specs.Prelude.{List};
+    ghost use Rattle.cp_refs.specs.declared.cap.Cap.{Cap};
+
+    ghost Value = { List Cap };
+
+    ghost use Rattle.std.specs.Coded.{coded_list};
+    ghost use Rattle.cp_refs.specs.contracts.cap.Cap.{the_row};
+
+    ghost coded = { coded_list the_row.coded };
+
+    ghost view = { λ t. t.caps.items };
+}
+
+// Not derived: a crate that lets one go calls this function, and need not prove the drop of all that it holds.
+impl Drop for Table {
+    fn drop(self) {
+        let Table { caps: _ } = self;
+    }
+}
+
+impl Table {
+    /// No capabilities.
+    pub fn new(alloc: Global) -> Table
+        ensures { result ≡ [] }
+    {
+        Table {
+            caps: Vec::new(alloc),
+        }
+    }
+
+    /// Adds a capability, and gives its place. `Err`: memory ran out, or the table is full.
+    pub fn add(&mut self, cap: Cap) -> Result<u32, AllocError>
+        ensures place { IfOk result (λ place. place ≡ length self.old) }
+        ensures added { OnOk result (self.new ≡ self.old ++ cap ∷ []) }
+        ensures left { OnErr result (self.new ≡ self.old) }
+    {
+        let place = self.caps.len();
+        if place >= MOST {
+            drop(cap);
+            return Err(AllocError);
+        }
+        self.caps.push(cap)?;
+        Ok(place as u32)
+    }
+
+    /// The table, as a call or an outcome has it.
+    pub fn into_caps(self) -> Caps
+        ensures { result ≡ self }
+    {
+        let Table { caps } = self;
+        Caps::new(caps)
+    }
+}

@@ -1,0 +1,147 @@
+//! What is called.
+
+ghost use Rattle.std.specs.Prelude.{◌≡◌, [], IfOk, slice_index_or};
+ghost use Rattle.cp_refs.specs.declared.cap.Cap.TheVariants.{None};
+ghost use Rattle.cp_stubs.specs.Calls.{Calls, ask_of, import_of, request_of};
+ghost use Rattle.cp_stubs.specs.Promises.{named};
+
+use crate::caller::Caller;
+use crate::promised::Promised;
+use crate::table::Table;
+use cp_refs::{Cap, Caps, Request};
+use cp_servants::Ask;
+use cp_tree::Whole;
+use std::alloc::{AllocError, Global};
+use std::marker::Model;
+
+/// A capability that is called. Contracts see it as the capability.
+pub struct Target {
+    alloc: Global,
+    cap: Cap,
+}
+
+impl Model for Target {
+    ghost use Rattle.cp_refs.specs.declared.cap.Cap.{Cap};
+    ghost use Rattle.cp_refs.specs.contracts.cap.Cap.{the_row};
+
+    ghost Value = { Cap };
+
+    ghost coded = { the_row.coded };
+
+    ghost view = { λ t. t.cap };
+}
+
+// Not derived: a crate that lets one go calls this function, and need not prove the drop of all that it holds.
+impl Drop for Target {
+    fn drop(self) {
+        let Target { alloc: _, cap: _ } = self;
+    }
+}
+
+impl Target {
+    /// This capability.
+    pub fn new(alloc: Global, cap: Cap) -> Target
+        ensures { result ≡ cap }
+    {
+        Target { alloc, cap }
+    }
+
+    /// The capability that a field names, by its place in the table that goes with the field's message. A field that names
+    /// none, or none of the table, is null.
+    pub fn of_field(alloc: Global, place: Option<u32>, caps: &Caps) -> Result<Target, AllocError>
+        ensures { IfOk result (λ t. t ≡ named place caps.now) }
+    {
+        match place {
+            Some(place) => Target::at(alloc, place, caps),
+            None => Ok(Target::new(alloc, Cap::None)),
+        }
+    }
+
+    /// The capability, lent.
+    pub fn cap(&self) -> &Cap
+        ensures { result.now ≡ self.now }
+    {
+        &self.cap
+    }
+
+    /// The capability itself.
+    pub fn into_cap(self) -> Cap
+        ensures { result ≡ self }
+    {
+        let Target { alloc: _, cap } = self;
+        cap
+    }
+
+    /// An equal one.
+    pub fn copy(&self) -> Result<Target, AllocError>
+        ensures { IfOk result (λ t. t ≡ self.now) }
+    {
+        Ok(Target::new(self.alloc, self.cap.copy(self.alloc)?))
+    }
+
+    /// The import that it is, if it is one: an object keeps it, and a client releases it.
+    pub fn import(&self) -> Option<u32>
+        ensures { result ≡ import_of self.now }
+    {
+        match &self.cap {
+            Cap::Import(import) => Some(*import),
+            _ => None,
+        }
+    }
+
+    /// A call of it that an object makes, with the mark by which the object is told what it came to.
+    pub fn ask(&self, request: Request, mark: u64) -> Result<Ask, AllocError>
+        ensures { IfOk result (λ ask. ask ≡ ask_of self.now request mark) }
+    {
+        let cap = self.cap.copy(self.alloc)?;
+        Ok(Ask { cap, request, mark })
+    }
+
+    /// A call of a method whose params name no capability.
+    pub fn request(&self, interface: u64, method: u16, content: Whole) -> Request
+        ensures { result ≡ request_of interface method content [] }
+    {
+        Request {
+            interface,
+            method,
+            content,
+            caps: Caps::new(Vec::new(self.alloc)),
+        }
+    }
+
+    /// A call of a method whose params name the capabilities of a table.
+    pub fn request_naming(
+        &self,
+        interface: u64,
+        method: u16,
+        content: Whole,
+        table: Table,
+    ) -> Request
+        ensures { result ≡ request_of interface method content table }
+    {
+        Request {
+            interface,
+            method,
+            content,
+            caps: table.into_caps(),
+        }
+    }
+
+    /// Calls it.
+    pub fn call<C: Caller>(&self, caller: &mut C, request: Request) -> Result<Promised, C::Fault>
+        ensures { Calls (λ p. p) C.asks caller.old self.now request result caller.new }
+    {
+        let question = caller.ask(self.alloc, &self.cap, request)?;
+        Ok(Promised::of(self.alloc, question))
+    }
+
+    /// The capability at a place of a table. Past the table it is null.
+    fn at(alloc: Global, place: u32, caps: &Caps) -> Result<Target, AllocError>
+        ensures { IfOk result (λ t. t ≡ slice_index_or caps.now place None) }
+    {
+        match caps.caps().get(place as usize) {
+            Some(cap) => Ok(Target::new(alloc, cap.copy(alloc)?)),
+            None => Ok(Target::new(alloc, Cap::None)),
+        }
+    }
+}
