@@ -8,12 +8,12 @@ ghost use Rattle.bench_c.specs.Serve.{IsUnserved, GivesServed, mode_of, how_ende
 
 use crate::fill::fill;
 use cp_frame::Mode;
-use cp_machine::Ids;
 use cp_refs::{Cap, Caps, Outcome};
 use cp_servants::{Cell, Desk, Reply, Script, Servant};
 use cp_serve::{Report, ServeFault, serve};
 use cp_stream::{StreamFault, Tap};
 use cp_tree::{Tree, Whole};
+use cp_vat_machine::Ids;
 use std::alloc::{AllocError, Global};
 use std::io::{self, Read};
 

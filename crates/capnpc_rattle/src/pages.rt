@@ -13,7 +13,7 @@ use std::alloc::AllocError;
 
 /// The libraries that the code of interfaces stands on, besides those of drafts.
 const STUBS: &str = "\
-cp_machine
+cp_vat_machine
 cp_refs
 cp_rpc
 cp_servants

@@ -7,7 +7,7 @@ use Rattle.cp_frame.specs.declared.mode.Mode.{Mode}
 use Rattle.cp_stream.specs.Read.{FailedOnce}
 use Rattle.cp_stream.specs.Tap.{CountsWrite, inner_of, failures_of}
 use Rattle.cp_stream.specs.declared.tap.Tap.{Tap}
-use Rattle.cp_machine.specs.declared.effect.Reason.{Reason}
+use Rattle.cp_vat_machine.specs.declared.effect.Reason.{Reason}
 use Rattle.cp_connection.specs.declared.fault.ConnectionFault.{ConnectionFault}
 use Rattle.cp_connection.specs.declared.happening.Happening.{Happening}
 use Rattle.cp_connection.specs.declared.happening.Happening.TheVariants as happenings

@@ -10,7 +10,7 @@ use Rattle.cp_connection.specs.declared.happening.Happening.TheVariants as happe
 use Rattle.cp_connection.specs.Lives.{hands, Life}
 use Rattle.cp_client.specs.declared.fault.ClientFault.{ClientFault}
 use Rattle.cp_client.specs.declared.fault.ClientFault.TheVariants as client_faults
-use Rattle.cp_machine.specs.declared.effect.Reason.{Reason}
+use Rattle.cp_vat_machine.specs.declared.effect.Reason.{Reason}
 use Rattle.cp_client.specs.Seat.{Asked, Seat}
 use Rattle.cp_client.specs.Goes.{Goes, NoneFailed, asked_after, closed_after, came}
 use Rattle.cp_client.specs.Reading.{StopsReading, IsConnections}

@@ -7,7 +7,7 @@ use Rattle.cp_stream.specs.declared.tap.Tap.{Tap}
 use Rattle.cp_stream.specs.Tap.{inner_of, failures_of}
 use Rattle.cp_tables.specs.Table.{Table}
 use Rattle.cp_refs.specs.declared.outcome.Outcome.{Outcome}
-use Rattle.cp_machine.specs.declared.effect.Reason.{Reason}
+use Rattle.cp_vat_machine.specs.declared.effect.Reason.{Reason}
 use Rattle.cp_connection.specs.declared.fault.ConnectionFault.{ConnectionFault}
 use Rattle.cp_connection.specs.Link.{Link, new_link}
 

@@ -1,7 +1,7 @@
 //! A client.
 
 ghost use Rattle.std.specs.Prelude.{◌≡◌, ◌<◌, [], None, Some, IfOk, IfErr, OnOk, option_copied, length};
-ghost use Rattle.cp_machine.specs.declared.event.Event.TheVariants as events;
+ghost use Rattle.cp_vat_machine.specs.declared.event.Event.TheVariants as events;
 ghost use Rattle.cp_stream.specs.Read.{FailedOnce};
 ghost use Rattle.cp_stream.specs.Tap.{failures_of};
 ghost use Rattle.cp_client.specs.Seat.{fresh, new_seat, seat_with};
@@ -16,9 +16,9 @@ use crate::question::Question;
 use crate::session::Session;
 use cp_connection::{ConnectionFault, Tally};
 use cp_frame::Mode;
-use cp_machine::Reason;
 use cp_refs::{Cap, Outcome, Request};
 use cp_stream::Tap;
+use cp_vat_machine::Reason;
 use cp_words::Limits;
 use std::alloc::Global;
 use std::io::{Read, Write};

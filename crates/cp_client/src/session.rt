@@ -2,8 +2,8 @@
 
 ghost use Rattle.std.specs.Prelude.{◌≡◌, [], Ok, Err, None, IfOk, IfErr, OnOk, OnErr};
 ghost use Rattle.std.specs.FinMap.{get};
-ghost use Rattle.cp_machine.specs.declared.event.Event.TheVariants as events;
-ghost use Rattle.cp_machine.specs.declared.event.Value.TheVariants as values;
+ghost use Rattle.cp_vat_machine.specs.declared.event.Event.TheVariants as events;
+ghost use Rattle.cp_vat_machine.specs.declared.event.Value.TheVariants as values;
 ghost use Rattle.cp_connection.specs.Lives.{Life};
 ghost use Rattle.cp_client.specs.Seat.{Device, seat_with};
 ghost use Rattle.cp_client.specs.SeatOf.{seat_of, Between};
@@ -16,10 +16,10 @@ use crate::fault::ClientFault;
 use crate::piece::Piece;
 use cp_connection::{Connection, ConnectionFault, Happening};
 use cp_frame::Mode;
-use cp_machine::Reason;
 use cp_refs::{Cap, Origin, Outcome, Request};
 use cp_servants::no_such_object;
 use cp_tables::Entries;
+use cp_vat_machine::Reason;
 use cp_words::Limits;
 use std::alloc::Global;
 

@@ -6,7 +6,7 @@ use Rattle.cp_frame.specs.Stream.{Open}
 use Rattle.cp_rpc.specs.declared.message.Message.{Message}
 use Rattle.cp_stream.specs.Stream.{Messages, Stream}
 use Rattle.cp_stream.proofs.Runs.{is_one_stream}
-use Rattle.cp_sizes.proofs.Stepping.{runs_write}
+use Rattle.cp_vat_laws.proofs.writable.Stepping.{runs_write}
 use Rattle.cp_connection.specs.declared.happening.Happening.{Happening}
 use Rattle.cp_connection.specs.Effects.{received}
 use Rattle.cp_connection.specs.Link.{Link, new_link}

@@ -3,8 +3,8 @@ use Rattle.std.proofs.Common.{◌≡◌, ℕ, ◌+◌, ◌-◌, ◌^◌, min, tr
 use Rattle.std.proofs.Math.Seq.{take-append_seam}
 use Rattle.cp_frame.specs.declared.mode.Mode.{Mode}
 use Rattle.cp_rpc.specs.declared.message.Message.{Message}
-use Rattle.cp_machine.specs.declared.effect.Effect.{Effect}
-use Rattle.cp_machine.specs.declared.effect.Effect.TheVariants as effects
+use Rattle.cp_vat_machine.specs.declared.effect.Effect.{Effect}
+use Rattle.cp_vat_machine.specs.declared.effect.Effect.TheVariants as effects
 use Rattle.cp_connection.specs.declared.agenda.Agenda.{Agenda}
 use Rattle.cp_connection.specs.declared.happening.Happening.{Happening}
 use Rattle.cp_connection.specs.Effects.{sent_by, happening_by, closes, AreFramesOf}

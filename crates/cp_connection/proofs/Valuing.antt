@@ -5,20 +5,20 @@ use Rattle.cp_refs.specs.declared.cap.Cap.{Cap}
 use Rattle.cp_refs.specs.declared.call.Origin.{Origin}
 use Rattle.cp_refs.specs.declared.call.Request.{Request}
 use Rattle.cp_refs.specs.declared.outcome.Outcome.{Outcome}
-use Rattle.cp_machine.specs.State.{State}
-use Rattle.cp_machine.specs.Then.{Done, OrFull}
-use Rattle.cp_machine.specs.Capacity.{Fresh}
-use Rattle.cp_machine.specs.Give.{Give, Settle}
-use Rattle.cp_machine.specs.Calling.{OwnDone, reference_of, GoFrom, Opens, call_refusals, DoCall}
-use Rattle.cp_machine.specs.Doing.{Quietly, answer_refusals, resolve_refusals, value_refusals, Resolves}
-use Rattle.cp_machine.specs.Step.{Does, Step, did, received, faulted}
-use Rattle.cp_machine.specs.declared.effect.Effect.{Effect}
-use Rattle.cp_machine.specs.declared.event.Event.{Event}
-use Rattle.cp_machine.specs.declared.event.Event.TheVariants as events
-use Rattle.cp_machine.specs.declared.event.Value.{Value}
-use Rattle.cp_machine.specs.declared.event.Value.TheVariants as values
-use Rattle.cp_machine.specs.declared.fault.PeerFault.{PeerFault}
-use Rattle.cp_machine.proofs.Basics.{ok_in, ok_out, then_out, unless_out, or_full_out}
+use Rattle.cp_vat_machine.specs.State.{State}
+use Rattle.cp_vat_machine.specs.Then.{Done, OrFull}
+use Rattle.cp_vat_machine.specs.Capacity.{Fresh}
+use Rattle.cp_vat_machine.specs.Give.{Give, Settle}
+use Rattle.cp_vat_machine.specs.Calling.{OwnDone, reference_of, GoFrom, Opens, call_refusals, DoCall}
+use Rattle.cp_vat_machine.specs.Doing.{Quietly, answer_refusals, resolve_refusals, value_refusals, Resolves}
+use Rattle.cp_vat_machine.specs.Step.{Does, Step, did, received, faulted}
+use Rattle.cp_vat_machine.specs.declared.effect.Effect.{Effect}
+use Rattle.cp_vat_machine.specs.declared.event.Event.{Event}
+use Rattle.cp_vat_machine.specs.declared.event.Event.TheVariants as events
+use Rattle.cp_vat_machine.specs.declared.event.Value.{Value}
+use Rattle.cp_vat_machine.specs.declared.event.Value.TheVariants as values
+use Rattle.cp_vat_machine.specs.declared.fault.PeerFault.{PeerFault}
+use Rattle.cp_vat_machine.proofs.Basics.{ok_in, ok_out, then_out, unless_out, or_full_out}
 use Rattle.cp_connection.specs.declared.fault.ConnectionFault.{ConnectionFault}
 use Rattle.cp_connection.specs.Doing.{Acts}
 use Rattle.cp_connection.specs.Link.{Link}

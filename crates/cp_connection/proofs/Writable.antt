@@ -9,7 +9,7 @@ use Rattle.cp_writing.proofs.CostWords.{not_too_many}
 use Rattle.cp_rpc.specs.Made.{member_made, message_made, message_number, u16_part}
 use Rattle.cp_rpc.specs.declared.message.Message.{Message}
 use Rattle.cp_stream.specs.Write.{IsNotLaidOut}
-use Rattle.cp_sizes.specs.Sizes.{IsWritable}
+use Rattle.cp_vat_laws.specs.Sizes.{IsWritable}
 use Rattle.cp_vat.proofs.Costing.{message_cost}
 
 both_true : (a b : Bool) → (a && b) ≡ true → (a ≡ true) × (b ≡ true)

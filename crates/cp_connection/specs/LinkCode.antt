@@ -7,7 +7,7 @@ use Rattle.cp_frame.specs.declared.fault.FrameFault.{FrameFault}
 use Rattle.cp_frame.specs.contracts.fault.FrameFault as frame_fault
 use Rattle.cp_frame.specs.declared.mode.Mode.{Mode}
 use Rattle.cp_frame.specs.contracts.mode.Mode as mode
-use Rattle.cp_machine.specs.State.{State}
+use Rattle.cp_vat_machine.specs.State.{State}
 use Rattle.cp_vat.specs.StateCode.{state_code}
 use Rattle.cp_connection.specs.declared.fault.ConnectionFault.{ConnectionFault}
 use Rattle.cp_connection.specs.contracts.fault.ConnectionFault as fault

@@ -4,12 +4,12 @@ use Rattle.cp_words.specs.Limits.{Bounds}
 use Rattle.cp_frame.specs.declared.mode.Mode.{Mode}
 use Rattle.cp_frame.specs.Stream.{Open}
 use Rattle.cp_stream.specs.Stream.{Messages}
-use Rattle.cp_machine.specs.Run.{Moment, Steps}
-use Rattle.cp_machine.specs.State.{new_state}
-use Rattle.cp_machine.specs.declared.event.Event.{Event}
-use Rattle.cp_machine.specs.declared.event.Event.TheVariants as events
-use Rattle.cp_machine.specs.declared.event.Value.{Value}
-use Rattle.cp_sizes.specs.Sizes.{AllWritable}
+use Rattle.cp_vat_machine.specs.Run.{Moment, Steps}
+use Rattle.cp_vat_machine.specs.State.{new_state}
+use Rattle.cp_vat_machine.specs.declared.event.Event.{Event}
+use Rattle.cp_vat_machine.specs.declared.event.Event.TheVariants as events
+use Rattle.cp_vat_machine.specs.declared.event.Value.{Value}
+use Rattle.cp_vat_laws.specs.Sizes.{AllWritable}
 use Rattle.cp_connection.specs.declared.fault.ConnectionFault.{ConnectionFault}
 use Rattle.cp_connection.specs.declared.happening.Happening.{Happening}
 use Rattle.cp_connection.specs.Effects.{AreFramesOf, received, sent, happened}

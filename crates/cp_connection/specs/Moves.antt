@@ -2,7 +2,7 @@
 use Rattle.std.specs.Prelude.{◌≡◌, ℕ, List, [], ◌++◌, Some, None}
 use Rattle.cp_frame.specs.Stream.{Open}
 use Rattle.cp_stream.specs.Stream.{Messages}
-use Rattle.cp_machine.specs.Run.{Moment, Steps}
+use Rattle.cp_vat_machine.specs.Run.{Moment, Steps}
 use Rattle.cp_connection.specs.declared.fault.ConnectionFault.{ConnectionFault}
 use Rattle.cp_connection.specs.declared.happening.Happening.{Happening}
 use Rattle.cp_connection.specs.Effects.{AreFramesOf, received, sent, happened}

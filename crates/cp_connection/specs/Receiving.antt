@@ -4,8 +4,8 @@ use Rattle.cp_frame.specs.declared.fault.FrameFault.TheVariants as frames
 use Rattle.cp_rpc.specs.declared.message.Message.{Message}
 use Rattle.cp_stream.specs.declared.fault.Refusal.TheVariants as refusals
 use Rattle.cp_stream.specs.Stream.{IsFrameOf, HasFault}
-use Rattle.cp_machine.specs.declared.event.Event.TheVariants as events
-use Rattle.cp_machine.specs.declared.event.Value.TheVariants as values
+use Rattle.cp_vat_machine.specs.declared.event.Event.TheVariants as events
+use Rattle.cp_vat_machine.specs.declared.event.Value.TheVariants as values
 use Rattle.cp_connection.specs.declared.fault.ConnectionFault.{ConnectionFault}
 use Rattle.cp_connection.specs.declared.fault.ConnectionFault.TheVariants as faults
 use Rattle.cp_connection.specs.declared.happening.Tally.{Tally}

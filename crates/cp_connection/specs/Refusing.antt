@@ -1,6 +1,6 @@
 -- What a refusal of a vat is to a connection.
-use Rattle.cp_machine.specs.declared.fault.VatFault.{VatFault}
-use Rattle.cp_machine.specs.declared.fault.VatFault.TheVariants as refusals
+use Rattle.cp_vat_machine.specs.declared.fault.VatFault.{VatFault}
+use Rattle.cp_vat_machine.specs.declared.fault.VatFault.TheVariants as refusals
 use Rattle.cp_connection.specs.declared.fault.ConnectionFault.{ConnectionFault}
 use Rattle.cp_connection.specs.declared.fault.ConnectionFault.TheVariants as faults
 

@@ -1,6 +1,6 @@
 -- The kinds of values that calls give. No public clause names these.
-use Rattle.cp_machine.specs.declared.event.Value.{Value}
-use Rattle.cp_machine.specs.declared.event.Value.TheVariants as values
+use Rattle.cp_vat_machine.specs.declared.event.Value.{Value}
+use Rattle.cp_vat_machine.specs.declared.event.Value.TheVariants as values
 
 abbrev pub IsQuestion : Value → Type 0
 IsQuestion (values.Question q) = Unit {0}

@@ -3,15 +3,15 @@
 ghost use Rattle.std.specs.Prelude.{◌≡◌, ◌∷◌, [], IfOk, OnOk, OnErr};
 ghost use Rattle.cp_connection.specs.Effects.{closes};
 ghost use Rattle.cp_connection.specs.Noting.{Notes, IsTold, Grows, Stays, IsNew};
-ghost use Rattle.cp_machine.specs.declared.effect.Effect.{Effect};
-ghost use Rattle.cp_machine.specs.declared.effect.Effect.TheVariants.{Send};
-ghost use Rattle.cp_sizes.specs.Sizes.{AreWritable, IsWritable, IsWritten};
+ghost use Rattle.cp_vat_machine.specs.declared.effect.Effect.{Effect};
+ghost use Rattle.cp_vat_machine.specs.declared.effect.Effect.TheVariants.{Send};
+ghost use Rattle.cp_vat_laws.specs.Sizes.{AreWritable, IsWritable, IsWritten};
 
 use crate::happening::Happening;
 use crate::outgoing::Outgoing;
 use cp_frame::Mode;
-use cp_machine::{Effect, Effects};
 use cp_rpc::Message;
+use cp_vat_machine::{Effect, Effects};
 use std::alloc::{AllocError, Global};
 use std::collections::VecDeque;
 

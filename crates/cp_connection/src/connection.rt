@@ -1,7 +1,7 @@
 //! A connection without devices.
 
 ghost use Rattle.std.specs.Prelude.{◌≡◌, IfOk};
-ghost use Rattle.cp_machine.specs.declared.event.Value.TheVariants as values;
+ghost use Rattle.cp_vat_machine.specs.declared.event.Value.TheVariants as values;
 ghost use Rattle.cp_connection.specs.Doing.{answered};
 ghost use Rattle.cp_connection.specs.Valued.{IsQuestion, IsPromise, IsIdle, IsNothing};
 
@@ -9,8 +9,8 @@ use crate::fault::ConnectionFault;
 use crate::happening::{Happening, Held, Tally};
 use crate::parts::Parts;
 use cp_frame::Mode;
-use cp_machine::{Event, Idle, Value};
 use cp_refs::{Cap, Origin, Outcome, PromiseId, Request};
+use cp_vat_machine::{Event, Idle, Value};
 use cp_words::Limits;
 use std::alloc::Global;
 use std::marker::Model;
@@ -76,8 +76,8 @@ impl Model for Connection {
 impl Connection {
     ghost use Rattle.std.specs.Prelude.{◌≡◌, ◌<◌, [], ℕ, List, OnOk, IfOk, IfErr, length};
     ghost use Rattle.cp_frame.specs.Reader.{taken_of};
-    ghost use Rattle.cp_machine.specs.declared.event.Event.TheVariants as events;
-    ghost use Rattle.cp_machine.specs.declared.event.Value.TheVariants as values;
+    ghost use Rattle.cp_vat_machine.specs.declared.event.Event.TheVariants as events;
+    ghost use Rattle.cp_vat_machine.specs.declared.event.Value.TheVariants as values;
     ghost use Rattle.cp_vat.specs.Kept.{entries_of};
     ghost use Rattle.cp_connection.specs.Link.{HasCome, new_link};
     ghost use Rattle.cp_connection.specs.Doing.{Acts, answered};

@@ -4,8 +4,8 @@ ghost use Rattle.std.specs.Prelude.{◌≡◌};
 ghost use Rattle.cp_connection.specs.declared.fault.ConnectionFault.TheVariants.{OutOfMemory};
 ghost use Rattle.cp_connection.specs.Refusing.{refusal_of};
 
-use cp_machine::VatFault;
 use cp_stream::Refusal;
+use cp_vat_machine::VatFault;
 use std::alloc::AllocError;
 use std::error::Error;
 use std::fmt;

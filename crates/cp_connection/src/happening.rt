@@ -1,7 +1,7 @@
 //! What happened on a connection.
 
-use cp_machine::Reason;
 use cp_refs::{Origin, Outcome, Request};
+use cp_vat_machine::Reason;
 
 /// What the user of a connection is told, in the order in which it happened.
 #[derive(Drop)]

@@ -3,7 +3,7 @@
 ghost use Rattle.std.specs.Prelude.{◌≡◌, [], OnOk, OnErr, length, take, drop};
 ghost use Rattle.cp_words.specs.Limits.{standard};
 ghost use Rattle.cp_stream.specs.Write.{IsNotLaidOut, IsUnwrittenFor};
-ghost use Rattle.cp_sizes.specs.Sizes.{IsWritable};
+ghost use Rattle.cp_vat_laws.specs.Sizes.{IsWritable};
 ghost use Rattle.cp_connection.specs.Effects.{Puts};
 ghost use Rattle.cp_connection.specs.Noting.{IsUnput};
 

@@ -3,9 +3,9 @@
 ghost use Rattle.std.specs.Prelude.{◌≡◌, ◌<◌, [], ℕ, List, Some, None, IfOk, IfErr, OnOk, length};
 ghost use Rattle.cp_rpc.specs.Told.{told};
 ghost use Rattle.cp_stream.specs.Stream.{Holds, HoldsNone};
-ghost use Rattle.cp_machine.specs.declared.event.Event.TheVariants as events;
-ghost use Rattle.cp_machine.specs.declared.event.Value.TheVariants as values;
-ghost use Rattle.cp_sizes.specs.Sizes.{AreWritable};
+ghost use Rattle.cp_vat_machine.specs.declared.event.Event.TheVariants as events;
+ghost use Rattle.cp_vat_machine.specs.declared.event.Value.TheVariants as values;
+ghost use Rattle.cp_vat_laws.specs.Sizes.{AreWritable};
 ghost use Rattle.cp_vat.specs.Stepping.{effects_of};
 ghost use Rattle.cp_connection.specs.Refusing.{refusal_of};
 ghost use Rattle.cp_connection.specs.Link.{new_link, HasCome};
@@ -17,10 +17,10 @@ ghost use Rattle.cp_connection.specs.declared.fault.ConnectionFault.TheVariants.
 use crate::agenda::Agenda;
 use crate::fault::ConnectionFault;
 use cp_frame::{FrameFault, FrameReader, Mode};
-use cp_machine::{Acted, Event, Value, VatFault};
 use cp_rpc::MessageView;
 use cp_stream::{Refusal, StreamFault, view_of};
 use cp_vat::Vat;
+use cp_vat_machine::{Acted, Event, Value, VatFault};
 use cp_words::{Limits, Segments};
 use std::alloc::Global;
 

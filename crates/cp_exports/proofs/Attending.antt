@@ -2,7 +2,7 @@
 use Rattle.std.proofs.Common.{◌≡◌, ◌∷◌, ◌++◌, ℕ, Bool, true, false, List, [], Option, Some, inr, refl, sym, ap, ◌∙◌, subst, append-nil, map, take, drop, length}
 use Rattle.std.proofs.Math.Seq.{take-append_seam}
 use Rattle.std.proofs.KnownBytes.{Appends-nil, Consumes-nil}
-use Rattle.cp_machine.specs.declared.effect.Reason.{Reason}
+use Rattle.cp_vat_machine.specs.declared.effect.Reason.{Reason}
 use Rattle.cp_connection.specs.Link.{Link}
 use Rattle.cp_servants.specs.Servant.{Seen, SomeMaySayMore}
 use Rattle.cp_objects.specs.declared.notice.Notice.{Notice}

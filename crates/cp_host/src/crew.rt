@@ -6,10 +6,10 @@ ghost use Rattle.cp_host.specs.Feeding.{KeepsRest};
 use crate::feeding::feed;
 use crate::plan::Plan;
 use cp_connection::{Connection, ConnectionFault};
-use cp_machine::Reason;
 use cp_objects::{Notice, Objects};
 use cp_seats::HostLimits;
 use cp_servants::{Servant, any_again};
+use cp_vat_machine::Reason;
 use std::alloc::Global;
 
 /// The bytes that an entry of a vat takes at most, its content aside.

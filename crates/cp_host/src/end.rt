@@ -1,9 +1,9 @@
 //! How a connection ended.
 
 use cp_connection::ConnectionFault;
-use cp_machine::Reason;
 use cp_seats::Limit;
 use cp_sockets::Peer;
+use cp_vat_machine::Reason;
 use std::{fmt, io};
 
 /// How a connection ended.

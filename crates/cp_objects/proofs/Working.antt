@@ -7,7 +7,7 @@ use Rattle.cp_tables.specs.Table.{Table}
 use Rattle.cp_tables.proofs.TableLemmas.{is_remove}
 use Rattle.cp_refs.specs.declared.call.Origin.{Origin}
 use Rattle.cp_refs.specs.declared.outcome.Outcome.{Outcome}
-use Rattle.cp_machine.specs.declared.event.Event.TheVariants as events
+use Rattle.cp_vat_machine.specs.declared.event.Event.TheVariants as events
 use Rattle.cp_connection.specs.Link.{Link}
 use Rattle.cp_servants.specs.declared.servant.Settled.{Settled}
 use Rattle.cp_servants.specs.Servant.{Seen}

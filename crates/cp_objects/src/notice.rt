@@ -1,7 +1,7 @@
 //! What happens on a connection that is no object's business.
 
-use cp_machine::Reason;
 use cp_refs::Outcome;
+use cp_vat_machine::Reason;
 
 /// What the user of a connection is told beside its objects, in the order in which it happened.
 #[derive(Drop)]

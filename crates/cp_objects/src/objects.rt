@@ -1,7 +1,7 @@
 //! What is done for the objects of a connection.
 
 ghost use Rattle.std.specs.Prelude.{◌≡◌, ◌∷◌, ◌↔◌, [], true, false, IfOk, IsSome, IsTrue, OnOk};
-ghost use Rattle.cp_machine.specs.declared.event.Event.TheVariants as events;
+ghost use Rattle.cp_vat_machine.specs.declared.event.Event.TheVariants as events;
 ghost use Rattle.cp_connection.specs.Link.{Link};
 ghost use Rattle.cp_servants.specs.Outcomes.{bad_outcome};
 ghost use Rattle.cp_servants.specs.Servant.{On};
@@ -13,13 +13,13 @@ ghost use Rattle.cp_objects.specs.WorkOf.{work_of};
 use crate::asker::Asker;
 use crate::notice::Notice;
 use cp_connection::{Connection, ConnectionFault, Happening};
-use cp_machine::{Ids, VatFault};
 use cp_refs::{Origin, Outcome, Request};
 use cp_servants::{
     Ask, Awaited, Reply, Servant, Settled, ask_at, bad_outcome, call_at, no_such_object, poll_at,
     refused_call, tell_at,
 };
 use cp_tables::Entries;
+use cp_vat_machine::{Ids, VatFault};
 use std::alloc::{AllocError, Global};
 use std::collections::VecDeque;
 use std::mem;

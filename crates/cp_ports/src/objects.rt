@@ -1,10 +1,10 @@
 //! Serving the Desk and the Cell.
 
 use cp_frame::Mode;
-use cp_machine::Reason;
 use cp_servants::{Cell, Desk, Servant};
 use cp_serve::{ServeFault, serve};
 use cp_stream::Tap;
+use cp_vat_machine::Reason;
 use std::alloc::Global;
 use std::io::{Read, Write};
 

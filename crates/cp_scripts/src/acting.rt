@@ -1,10 +1,10 @@
 //! Events, played.
 
 use crate::lines::segments_of;
-use cp_machine::{Acted, Event, Value, VatFault};
 use cp_rpc::Message;
 use cp_stream::view_of;
 use cp_vat::Vat;
+use cp_vat_machine::{Acted, Event, Value, VatFault};
 use cp_words::Limits;
 use std::alloc::Global;
 

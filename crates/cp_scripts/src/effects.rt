@@ -1,9 +1,9 @@
 //! What a vat did, as lines.
 
 use crate::lines::Lines;
-use cp_machine::{Acted, Effect, Reason, Value, VatFault};
 use cp_refs::{Cap, Origin, Outcome, Path, Request};
 use cp_tree::Whole;
+use cp_vat_machine::{Acted, Effect, Reason, Value, VatFault};
 
 /// What a call of a vat gave.
 impl Lines {

@@ -2,9 +2,9 @@
 
 use crate::reader::Reader;
 use crate::wrong::Wrong;
-use cp_machine::Event;
 use cp_refs::{Cap, Caps, Origin, Outcome, Path, Request};
 use cp_tree::Whole;
+use cp_vat_machine::Event;
 use std::alloc::Global;
 
 /// An event's line. `None` where it isn't one, or memory runs out.

@@ -2,10 +2,10 @@
 
 use cp_frame::{Mode, write_frame};
 use cp_lines::push_line;
-use cp_machine::VatFault;
 use cp_rpc::{Exception, Message, tree_of};
 use cp_stream::view_of;
 use cp_tree::Whole;
+use cp_vat_machine::VatFault;
 use cp_words::{Limits, Segments};
 use cp_writing::write_root;
 use std::alloc::{AllocError, Global};

@@ -5,8 +5,8 @@ ghost use Rattle.cp_servants.specs.Servant.{polled, take_due};
 
 use crate::outcomes::{named_imports, no_such_method, object_results};
 use crate::servant::{Reply, Servant, Settled};
-use cp_machine::Ids;
 use cp_refs::Request;
+use cp_vat_machine::Ids;
 use std::alloc::{AllocError, Global};
 
 /// The Desk's interface.

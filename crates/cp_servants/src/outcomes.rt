@@ -5,10 +5,10 @@ ghost use Rattle.cp_tree.specs.Node.{struct};
 ghost use Rattle.cp_tree.specs.NodeOf.{node_of, nodes_of};
 ghost use Rattle.cp_servants.specs.Outcomes.{exception_of, no_such_object, bad_outcome, no_such_method, word_results, object_results, named_imports, noted_with, refused_call};
 
-use cp_machine::Ids;
 use cp_refs::{Cap, Caps, Outcome};
 use cp_rpc::{Exception, ExceptionKind, Text};
 use cp_tree::{Body, Tree, Whole};
+use cp_vat_machine::Ids;
 use std::alloc::{AllocError, Global};
 
 /// The exception of a call that goes to an object which doesn't exist: failed, `no such object`.

@@ -3,8 +3,8 @@
 ghost use Rattle.cp_servants.specs.Servant.{Seen, other, Takes, Polls, MayGoOn, Asks, IsTold};
 ghost use Rattle.std.specs.Prelude.{◌≡◌, true};
 
-use cp_machine::Ids;
 use cp_refs::{Cap, Outcome, Request};
+use cp_vat_machine::Ids;
 use std::alloc::AllocError;
 
 /// What an object answers to a call.

@@ -2,8 +2,8 @@
 use Rattle.std.proofs.Common.{◌≡◌, if◌then◌else◌, Bool, true, false, List, [], ◌∷◌, ◌++◌, Option, Some, None, IfSome, option_to_list, sym, subst}
 use Rattle.std.specs.List.{AllByRecursion}
 use Rattle.cp_rpc.specs.declared.message.Message.{Message}
-use Rattle.cp_machine.specs.declared.effect.Effect.{Effect}
-use Rattle.cp_sizes.specs.Sizes.{AreWritable, IsWritable, IsWritten}
+use Rattle.cp_vat_machine.specs.declared.effect.Effect.{Effect}
+use Rattle.cp_vat_laws.specs.Sizes.{AreWritable, IsWritable, IsWritten}
 use Rattle.cp_serve.proofs.Writable.{effects_both, messages_both}
 
 -- where memory runs out nothing is added

@@ -14,7 +14,7 @@ use Rattle.cp_stream.specs.declared.fault.StreamFault.{StreamFault}
 use Rattle.cp_stream.specs.declared.fault.StreamFault.TheVariants as streams
 use Rattle.cp_frame.specs.Frame.{Frame}
 use Rattle.cp_stream.specs.Stream.{Messages, IsFrameOf, Holds, HoldsNone}
-use Rattle.cp_machine.specs.declared.effect.Reason.{Reason}
+use Rattle.cp_vat_machine.specs.declared.effect.Reason.{Reason}
 use Rattle.cp_stream.specs.Reader.{CountsOn, IsAt}
 use Rattle.cp_stream.specs.Read.{FailedOnce}
 use Rattle.cp_stream.proofs.Reading.{messages_push}

@@ -8,7 +8,7 @@ use Rattle.std.specs.FinMap.{get, remove}
 use Rattle.cp_tables.specs.Table.{Table}
 use Rattle.cp_tables.proofs.TableLemmas.{is_remove}
 use Rattle.cp_refs.specs.declared.call.Origin.{Origin}
-use Rattle.cp_machine.specs.State.{State}
+use Rattle.cp_vat_machine.specs.State.{State}
 use Rattle.cp_servants.specs.declared.servant.Settled.{Settled}
 use Rattle.cp_servants.specs.Servant.{Seen}
 use Rattle.cp_serve.specs.Work.{Work, Did, Answers, Tries, TriesEach}

@@ -11,8 +11,8 @@ use Rattle.cp_rpc.specs.declared.message.Message.{Message}
 use Rattle.cp_stream.specs.declared.fault.Refusal.{Refusal}
 use Rattle.cp_stream.specs.declared.fault.Refusal.TheVariants as refusals
 use Rattle.cp_stream.specs.Write.{IsUnwrittenFor}
-use Rattle.cp_machine.specs.declared.effect.Effect.{Effect}
-use Rattle.cp_sizes.specs.Sizes.{IsWritable, AreWritable}
+use Rattle.cp_vat_machine.specs.declared.effect.Effect.{Effect}
+use Rattle.cp_vat_laws.specs.Sizes.{IsWritable, AreWritable}
 use Rattle.cp_vat.proofs.Costing.{message_cost}
 use Rattle.cp_serve.specs.Output.{IsAllocationFailure}
 

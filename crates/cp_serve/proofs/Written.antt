@@ -14,7 +14,7 @@ use Rattle.cp_stream.specs.Write.{IsWrittenAs, IsSent, IsCutShort, IsUnwrittenFo
 use Rattle.cp_serve.specs.declared.fault.ServeFault.{ServeFault}
 use Rattle.cp_serve.specs.Reached.{ahead, unput, IsUnput}
 use Rattle.cp_serve.specs.Output.{Device, AreWrittenAs, Writes, Begin, WritesPart}
-use Rattle.cp_sizes.specs.Sizes.{IsWritable}
+use Rattle.cp_vat_laws.specs.Sizes.{IsWritable}
 use Rattle.cp_serve.proofs.Writable.{for_memory}
 
 are_both : (mode : Mode) (a b : List Message) (x y : List ℕ) → AreWrittenAs mode a x → AreWrittenAs mode b y → AreWrittenAs mode (a ++ b) (x ++ y)

@@ -1,13 +1,13 @@
 -- What a server's vat did, event by event.
 use Rattle.std.specs.Prelude.{◌≡◌, List, [], ◌∷◌, ◌++◌, Option, Some, None}
 use Rattle.cp_rpc.specs.declared.message.Message.{Message}
-use Rattle.cp_machine.specs.Run.{Moment, Steps}
-use Rattle.cp_machine.specs.State.{new_state}
-use Rattle.cp_machine.specs.declared.effect.Effect.{Effect}
-use Rattle.cp_machine.specs.declared.effect.Effect.TheVariants as effects
-use Rattle.cp_machine.specs.declared.effect.Reason.{Reason}
-use Rattle.cp_machine.specs.declared.event.Event.{Event}
-use Rattle.cp_machine.specs.declared.event.Event.TheVariants as events
+use Rattle.cp_vat_machine.specs.Run.{Moment, Steps}
+use Rattle.cp_vat_machine.specs.State.{new_state}
+use Rattle.cp_vat_machine.specs.declared.effect.Effect.{Effect}
+use Rattle.cp_vat_machine.specs.declared.effect.Effect.TheVariants as effects
+use Rattle.cp_vat_machine.specs.declared.effect.Reason.{Reason}
+use Rattle.cp_vat_machine.specs.declared.event.Event.{Event}
+use Rattle.cp_vat_machine.specs.declared.event.Event.TheVariants as events
 use Rattle.cp_serve.specs.Work.{Work}
 
 -- the message that an event is, before others

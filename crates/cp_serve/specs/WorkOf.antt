@@ -3,7 +3,7 @@ use Rattle.std.specs.Prelude.{ℕ, Bool, List}
 use Rattle.cp_rpc.specs.declared.message.Message.{Message}
 use Rattle.cp_refs.specs.declared.call.Origin.{Origin}
 use Rattle.cp_refs.specs.declared.call.Request.{Request}
-use Rattle.cp_machine.specs.declared.effect.Effect.{Effect}
+use Rattle.cp_vat_machine.specs.declared.effect.Effect.{Effect}
 use Rattle.cp_servants.specs.Servant.{Seen}
 use Rattle.cp_serve.specs.Service.{Acts, Delivers, PollsFrom, Rounds, TakesMessage, WorksOff}
 use Rattle.cp_serve.specs.Work.{Work}

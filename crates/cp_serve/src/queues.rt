@@ -2,10 +2,10 @@
 
 ghost use Rattle.std.specs.Prelude.{◌≡◌, ◌++◌, ◌∷◌, [], IfSome, IfNone, OnOk};
 ghost use Rattle.std.specs.List.{AllByRecursion};
-ghost use Rattle.cp_sizes.specs.Sizes.{AreWritable, IsWritable, IsWritten};
+ghost use Rattle.cp_vat_laws.specs.Sizes.{AreWritable, IsWritable, IsWritten};
 
-use cp_machine::{Effect, Effects};
 use cp_rpc::Message;
+use cp_vat_machine::{Effect, Effects};
 use std::alloc::{AllocError, Global};
 use std::collections::VecDeque;
 use std::marker::Model;
@@ -20,14 +20,14 @@ pub(crate) struct Queue {
 impl Model for Queue {
     ghost use Rattle.std.specs.Prelude.{List};
     ghost use Rattle.std.specs.Coded.{coded_list};
-    ghost use Rattle.cp_machine.specs.declared.effect.Effect.{Effect};
-    ghost use Rattle.cp_machine.specs.contracts.effect.Effect.{the_row};
+    ghost use Rattle.cp_vat_machine.specs.declared.effect.Effect.{Effect};
+    ghost use Rattle.cp_vat_machine.specs.contracts.effect.Effect.{the_row};
 
     ghost Value = { List Effect };
 
     ghost coded = { coded_list the_row.coded };
 
-    ghost use Rattle.cp_sizes.specs.Sizes.{AreWritable};
+    ghost use Rattle.cp_vat_laws.specs.Sizes.{AreWritable};
 
     ghost view = { λ q. q.effects.items };
 
@@ -88,7 +88,7 @@ impl Model for Outbox {
     ghost coded = { coded_list the_row.coded };
 
     ghost use Rattle.std.specs.List.{AllByRecursion};
-    ghost use Rattle.cp_sizes.specs.Sizes.{IsWritable};
+    ghost use Rattle.cp_vat_laws.specs.Sizes.{IsWritable};
 
     ghost view = { λ o. o.messages.items };
 

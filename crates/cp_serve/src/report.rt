@@ -1,6 +1,6 @@
 //! What a server did.
 
-use cp_machine::Reason;
+use cp_vat_machine::Reason;
 
 /// What a server did until its run ended. Counts stay at `u64::MAX`.
 #[derive(Drop)]

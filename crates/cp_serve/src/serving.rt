@@ -10,7 +10,7 @@ ghost use Rattle.cp_stream.specs.Tap.{failures_of};
 ghost use Rattle.cp_stream.specs.Write.{Sends};
 ghost use Rattle.cp_stream.specs.Stream.{Holds, HoldsNone};
 ghost use Rattle.cp_stream.specs.Reader.{IsAt};
-ghost use Rattle.cp_sizes.specs.Sizes.{IsWritable};
+ghost use Rattle.cp_vat_laws.specs.Sizes.{IsWritable};
 ghost use Rattle.cp_servants.specs.Servant.{On, Seen};
 ghost use Rattle.cp_serve.specs.Service.{written};
 ghost use Rattle.cp_serve.specs.Output.{Device, device, Writes, WritesPart, IsServedAt, IsStoppedAt, ReadsUpTo, ends};

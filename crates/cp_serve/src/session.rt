@@ -3,8 +3,8 @@
 ghost use Rattle.std.specs.Prelude.{◌≡◌, ◌<◌, ◌++◌, ◌∷◌, [], Some, None, Ok, IfOk, IfSome, OnOk, IsTrue, IsSome, ◌↔◌, length, map};
 ghost use Rattle.std.specs.List.{AllByRecursion};
 ghost use Rattle.cp_rpc.specs.Told.{told};
-ghost use Rattle.cp_machine.specs.declared.event.Event.TheVariants as events;
-ghost use Rattle.cp_sizes.specs.Sizes.{AreWritable, IsWritable, IsWritten};
+ghost use Rattle.cp_vat_machine.specs.declared.event.Event.TheVariants as events;
+ghost use Rattle.cp_vat_laws.specs.Sizes.{AreWritable, IsWritable, IsWritten};
 ghost use Rattle.cp_servants.specs.Outcomes.{bad_outcome};
 ghost use Rattle.cp_servants.specs.Servant.{On};
 ghost use Rattle.cp_serve.specs.Work.{Answers, IsDone, Replies, Tries, Releases};
@@ -12,13 +12,13 @@ ghost use Rattle.cp_serve.specs.Service.{Settles, new_work, written};
 ghost use Rattle.cp_serve.specs.WorkOf.{work_of, Acted, Delivered, Polled, Rounded, Took, WorkedOff};
 
 use crate::queues::{Outbox, Queue};
-use cp_machine::{Effect, Effects, Ids, Reason, VatFault};
 use cp_refs::{Origin, Outcome, Request};
 use cp_rpc::{Message, MessageView};
 use cp_servants::{
     Awaited, Reply, Servant, Settled, bad_outcome, call_at, no_such_object, poll_at,
 };
 use cp_vat::Vat;
+use cp_vat_machine::{Effect, Effects, Ids, Reason, VatFault};
 use std::alloc::{AllocError, Global};
 use std::mem;
 

@@ -9,10 +9,10 @@ ghost use Rattle.cp_stubs.specs.Calls.{import_of};
 use crate::replies::{at_once, outcome_of};
 use crate::table::Table;
 use crate::target::Target;
-use cp_machine::Ids;
 use cp_refs::Caps;
 use cp_servants::Reply;
 use cp_tree::Whole;
+use cp_vat_machine::Ids;
 use std::alloc::{AllocError, Global};
 
 /// The results of a method, to be written.

@@ -9,9 +9,9 @@ use crate::answer::{Answer, Results};
 use crate::call::Call;
 use crate::fault::MethodFault;
 use crate::table::Table;
-use cp_machine::Ids;
 use cp_refs::{Cap, Caps, Outcome};
 use cp_servants::Reply;
+use cp_vat_machine::Ids;
 use std::alloc::{AllocError, Global};
 
 /// What goes to the peer for what a method answered. `Err`: memory ran out.

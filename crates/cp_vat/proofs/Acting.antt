@@ -1,12 +1,12 @@
 -- What follows for one rule from what was done by another.
 use Rattle.std.proofs.Common.{List, Result, Ok, Err}
-use Rattle.cp_machine.specs.State.{State}
-use Rattle.cp_machine.specs.Then.{Done}
-use Rattle.cp_machine.specs.declared.effect.Effect.{Effect}
-use Rattle.cp_machine.specs.declared.fault.PeerFault.{PeerFault}
-use Rattle.cp_state.specs.Halts.{Acts}
-use Rattle.cp_state.specs.declared.halt.Halt.{Halt}
-use Rattle.cp_state.specs.declared.halt.Halt.TheVariants as halts
+use Rattle.cp_vat_machine.specs.State.{State}
+use Rattle.cp_vat_machine.specs.Then.{Done}
+use Rattle.cp_vat_machine.specs.declared.effect.Effect.{Effect}
+use Rattle.cp_vat_machine.specs.declared.fault.PeerFault.{PeerFault}
+use Rattle.cp_vat_state.specs.Halts.{Acts}
+use Rattle.cp_vat_state.specs.declared.halt.Halt.{Halt}
+use Rattle.cp_vat_state.specs.declared.halt.Halt.TheVariants as halts
 
 -- what meets one rule meets another that it follows from
 pub acts_by : (R Q : Result Done PeerFault → Type 0) (r : Result (Unit {0}) Halt) (before after : List Effect) (new : State) → ((out : Result Done PeerFault) → R out → Q out)

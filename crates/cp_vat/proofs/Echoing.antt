@@ -6,10 +6,10 @@ use Rattle.cp_rpc.specs.Made.{message_made}
 use Rattle.cp_rpc.specs.Fitting.{message_fits}
 use Rattle.cp_rpc.specs.declared.message.Message.{Message}
 use Rattle.cp_rpc.specs.declared.message.Message.TheVariants as messages
-use Rattle.cp_machine.specs.State.{State}
-use Rattle.cp_machine.specs.Step.{echo_fits, echoed}
-use Rattle.cp_machine.specs.declared.effect.Effect.TheVariants as effects
-use Rattle.cp_machine.specs.declared.fault.PeerFault.TheVariants as faults
+use Rattle.cp_vat_machine.specs.State.{State}
+use Rattle.cp_vat_machine.specs.Step.{echo_fits, echoed}
+use Rattle.cp_vat_machine.specs.declared.effect.Effect.TheVariants as effects
+use Rattle.cp_vat_machine.specs.declared.fault.PeerFault.TheVariants as faults
 use Rattle.cp_vat.proofs.Costing.{message_cost}
 
 at_most : (a b : ℕ) → a ≤ b → leb a b ≡ true

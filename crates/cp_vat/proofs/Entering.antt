@@ -7,19 +7,19 @@ use Rattle.cp_rpc.specs.declared.target.Target.{Target}
 use Rattle.cp_tree.specs.Node.{Node}
 use Rattle.cp_refs.specs.declared.route.Route.{Route}
 use Rattle.cp_refs.specs.declared.route.Route.TheVariants as routes
-use Rattle.cp_machine.specs.Go.{Go, Underway}
+use Rattle.cp_vat_machine.specs.Go.{Go, Underway}
 use Rattle.cp_rpc.proofs.Firsts.{none-left, none-right}
 use Rattle.cp_refs.specs.declared.cap.Cap.{Cap}
-use Rattle.cp_machine.specs.State.{State}
-use Rattle.cp_machine.specs.Then.{Then, fault_if}
-use Rattle.cp_machine.specs.Capacity.{has_capacity, has_ticket}
-use Rattle.cp_machine.specs.Take.{TakeAll}
-use Rattle.cp_machine.specs.Answering.{OnCall, GoToTarget, call_faults, entered, is_answering, peer_call, target_faults}
-use Rattle.cp_machine.specs.declared.effect.Effect.{Effect}
-use Rattle.cp_machine.specs.declared.fault.PeerFault.TheVariants as faults
-use Rattle.cp_state.specs.Halts.{Acts, Leaves}
-use Rattle.cp_state.specs.declared.halt.Halt.{Halt}
-use Rattle.cp_state.specs.declared.halt.Halt.TheVariants as halts
+use Rattle.cp_vat_machine.specs.State.{State}
+use Rattle.cp_vat_machine.specs.Then.{Then, fault_if}
+use Rattle.cp_vat_machine.specs.Capacity.{has_capacity, has_ticket}
+use Rattle.cp_vat_machine.specs.Take.{TakeAll}
+use Rattle.cp_vat_machine.specs.Answering.{OnCall, GoToTarget, call_faults, entered, is_answering, peer_call, target_faults}
+use Rattle.cp_vat_machine.specs.declared.effect.Effect.{Effect}
+use Rattle.cp_vat_machine.specs.declared.fault.PeerFault.TheVariants as faults
+use Rattle.cp_vat_state.specs.Halts.{Acts, Leaves}
+use Rattle.cp_vat_state.specs.declared.halt.Halt.{Halt}
+use Rattle.cp_vat_state.specs.declared.halt.Halt.TheVariants as halts
 use Rattle.cp_vat.specs.Judging.{judged}
 use Rattle.cp_vat.specs.Receiving.{Carries, Leads}
 use Rattle.cp_vat.proofs.Judged.{none_judged, unless_passed}

@@ -1,19 +1,19 @@
 -- What a call of the application is refused for where a rule meets a fault.
 use Rattle.std.proofs.Common.{◌≡◌, List, Result, Ok, Err, refl, ap}
-use Rattle.cp_machine.specs.State.{State}
-use Rattle.cp_machine.specs.Then.{Done, Then, Unless, OrFull}
-use Rattle.cp_machine.specs.Calling.{OwnDone}
-use Rattle.cp_machine.specs.Doing.{Quietly}
-use Rattle.cp_machine.specs.declared.effect.Effect.{Effect}
-use Rattle.cp_machine.specs.declared.event.Value.{Value}
-use Rattle.cp_machine.specs.declared.event.Value.TheVariants as values
-use Rattle.cp_machine.specs.declared.fault.PeerFault.{PeerFault}
-use Rattle.cp_machine.specs.declared.fault.VatFault.{VatFault}
-use Rattle.cp_state.specs.Halts.{Acts, IfFault, Meets, Owns, refusal_of}
-use Rattle.cp_state.specs.StateOf.{state_of}
-use Rattle.cp_state.specs.declared.halt.Halt.{Halt}
-use Rattle.cp_state.specs.declared.halt.Halt.TheVariants as halts
-use Rattle.cp_state.specs.declared.parts.Core.{Core}
+use Rattle.cp_vat_machine.specs.State.{State}
+use Rattle.cp_vat_machine.specs.Then.{Done, Then, Unless, OrFull}
+use Rattle.cp_vat_machine.specs.Calling.{OwnDone}
+use Rattle.cp_vat_machine.specs.Doing.{Quietly}
+use Rattle.cp_vat_machine.specs.declared.effect.Effect.{Effect}
+use Rattle.cp_vat_machine.specs.declared.event.Value.{Value}
+use Rattle.cp_vat_machine.specs.declared.event.Value.TheVariants as values
+use Rattle.cp_vat_machine.specs.declared.fault.PeerFault.{PeerFault}
+use Rattle.cp_vat_machine.specs.declared.fault.VatFault.{VatFault}
+use Rattle.cp_vat_state.specs.Halts.{Acts, IfFault, Meets, Owns, refusal_of}
+use Rattle.cp_vat_state.specs.StateOf.{state_of}
+use Rattle.cp_vat_state.specs.declared.halt.Halt.{Halt}
+use Rattle.cp_vat_state.specs.declared.halt.Halt.TheVariants as halts
+use Rattle.cp_vat_state.specs.declared.parts.Core.{Core}
 use Rattle.cp_vat.specs.Judging.{judged}
 use Rattle.cp_vat.specs.Stepping.{Calls}
 use Rattle.cp_vat.proofs.Judged.{unless_passed}

@@ -1,6 +1,6 @@
 -- What follows from a check of an event.
 use Rattle.std.proofs.Common.{◌≡◌, refl, List, [], ◌∷◌, Result, Ok, Err}
-use Rattle.cp_machine.specs.Then.{Unless}
+use Rattle.cp_vat_machine.specs.Then.{Unless}
 use Rattle.cp_vat.specs.Judging.{judged}
 
 -- without a fault the rule is met

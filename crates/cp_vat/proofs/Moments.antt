@@ -1,15 +1,15 @@
 -- Events that a vat does, one after another.
 use Rattle.std.proofs.Common.{◌≡◌, inr, ℕ, ◌+◌, ◌≤◌, List, [], ◌∷◌, ◌++◌, length, drop, Option, Some, refl, sym, ap, arith, subst}
 use Rattle.std.proofs.lemmas.List.{append_assoc, drop_at, length-append}
-use Rattle.cp_machine.specs.State.{State, new_state}
-use Rattle.cp_machine.specs.Step.{Step}
-use Rattle.cp_machine.specs.Run.{Moment, Steps, Run}
-use Rattle.cp_machine.specs.declared.acted.Acted.{Acted}
-use Rattle.cp_machine.specs.declared.event.Event.{Event}
-use Rattle.cp_machine.specs.declared.event.Value.{Value}
-use Rattle.cp_machine.specs.declared.fault.VatFault.{VatFault}
-use Rattle.cp_machine.specs.declared.fault.VatFault.TheVariants as refusals
-use Rattle.cp_order.proofs.telling.Runs.{runs_are_in_order}
+use Rattle.cp_vat_machine.specs.State.{State, new_state}
+use Rattle.cp_vat_machine.specs.Step.{Step}
+use Rattle.cp_vat_machine.specs.Run.{Moment, Steps, Run}
+use Rattle.cp_vat_machine.specs.declared.acted.Acted.{Acted}
+use Rattle.cp_vat_machine.specs.declared.event.Event.{Event}
+use Rattle.cp_vat_machine.specs.declared.event.Value.{Value}
+use Rattle.cp_vat_machine.specs.declared.fault.VatFault.{VatFault}
+use Rattle.cp_vat_machine.specs.declared.fault.VatFault.TheVariants as refusals
+use Rattle.cp_vat_laws.proofs.telling.Runs.{runs_are_in_order}
 use Rattle.cp_vat.specs.Running.{moment_of, moments, EndsBy, Continues, Runs}
 
 -- one more step

@@ -25,38 +25,38 @@ use Rattle.cp_refs.specs.declared.call.Origin.TheVariants as origins
 use Rattle.cp_refs.specs.declared.call.Request.{Request}
 use Rattle.cp_refs.specs.declared.outcome.Outcome.{Outcome}
 use Rattle.cp_refs.specs.declared.values.QuestionKind.{QuestionKind}
-use Rattle.cp_machine.specs.State.{State, none_over, with_exports}
-use Rattle.cp_machine.specs.Then.{fault_if}
-use Rattle.cp_machine.specs.Capacity.{cap_fits, has_capacity, has_ticket, outcome_fits, request_fits}
-use Rattle.cp_machine.specs.InUse.{caps_of, has_question, has_promise, has_import, is_local_path, is_pipelined}
-use Rattle.cp_machine.specs.Take.{TakeAll, answer_of, lower}
-use Rattle.cp_machine.specs.Give.{without_question}
-use Rattle.cp_machine.specs.Go.{Underway}
-use Rattle.cp_machine.specs.Calling.{called, own_call, call_refusals, not_all, reference_of}
-use Rattle.cp_machine.specs.Answering.{call_faults, entered, is_answering, peer_call, target_faults, with_answer}
-use Rattle.cp_machine.specs.Asking.{TakeReturned, is_asked}
-use Rattle.cp_machine.specs.Doing.{awaits, answer_refusals, is_made, is_settled, is_ungiven_answer, is_ungiven_question, resolve_refusals}
-use Rattle.cp_machine.specs.Doing as machine
-use Rattle.cp_machine.specs.Local.{Local, is_open_stage, ForwardsRightly, IsExportable, IsThere}
-use Rattle.cp_machine.specs.declared.entry.AnswerEntry.{AnswerEntry}
-use Rattle.cp_machine.specs.declared.entry.QuestionEntry.{QuestionEntry}
-use Rattle.cp_machine.specs.declared.fault.PeerFault.{PeerFault}
-use Rattle.cp_machine.specs.declared.fault.PeerFault.TheVariants as faults
-use Rattle.cp_machine.specs.declared.fault.VatFault.TheVariants as refusals
-use Rattle.cp_machine.proofs.Basics.{not_false, put_at}
-use Rattle.cp_order.specs.Within.{Within, IsFit, IsInHand}
-use Rattle.cp_order.proofs.Tables.{there_of, all_of, front_empty, back_empty, not_met}
-use Rattle.cp_order.proofs.within.Between.{local_is_within}
-use Rattle.cp_order.proofs.within.Follows.{there_ends, forwards_open}
-use Rattle.cp_order.proofs.within.Exports.{fewer_exports, lower_if}
-use Rattle.cp_order.proofs.within.Take.{Grows, export_fit, fit_at, fit_table, answer_given, take_all_keeps, get_put}
-use Rattle.cp_order.proofs.within.CallComes.{next_free, entered_within, peer_in_hand}
-use Rattle.cp_order.proofs.within.ReturnComes.{returned_keeps, back_in_hand, back_fit}
-use Rattle.cp_order.proofs.within.Asks.{own_asked_ends, own_stays}
-use Rattle.cp_order.proofs.within.Call.{all_pass, all_named, came_fit, named_there}
-use Rattle.cp_rules.specs.Going.{MayGo}
-use Rattle.cp_rules.specs.Ungiven.{AllEnd, IsUngiven}
-use Rattle.cp_rules.proofs.Ready.{is_ungiven, tied_once}
+use Rattle.cp_vat_machine.specs.State.{State, none_over, with_exports}
+use Rattle.cp_vat_machine.specs.Then.{fault_if}
+use Rattle.cp_vat_machine.specs.Capacity.{cap_fits, has_capacity, has_ticket, outcome_fits, request_fits}
+use Rattle.cp_vat_machine.specs.InUse.{caps_of, has_question, has_promise, has_import, is_local_path, is_pipelined}
+use Rattle.cp_vat_machine.specs.Take.{TakeAll, answer_of, lower}
+use Rattle.cp_vat_machine.specs.Give.{without_question}
+use Rattle.cp_vat_machine.specs.Go.{Underway}
+use Rattle.cp_vat_machine.specs.Calling.{called, own_call, call_refusals, not_all, reference_of}
+use Rattle.cp_vat_machine.specs.Answering.{call_faults, entered, is_answering, peer_call, target_faults, with_answer}
+use Rattle.cp_vat_machine.specs.Asking.{TakeReturned, is_asked}
+use Rattle.cp_vat_machine.specs.Doing.{awaits, answer_refusals, is_made, is_settled, is_ungiven_answer, is_ungiven_question, resolve_refusals}
+use Rattle.cp_vat_machine.specs.Doing as machine
+use Rattle.cp_vat_machine.specs.Local.{Local, is_open_stage, ForwardsRightly, IsExportable, IsThere}
+use Rattle.cp_vat_machine.specs.declared.entry.AnswerEntry.{AnswerEntry}
+use Rattle.cp_vat_machine.specs.declared.entry.QuestionEntry.{QuestionEntry}
+use Rattle.cp_vat_machine.specs.declared.fault.PeerFault.{PeerFault}
+use Rattle.cp_vat_machine.specs.declared.fault.PeerFault.TheVariants as faults
+use Rattle.cp_vat_machine.specs.declared.fault.VatFault.TheVariants as refusals
+use Rattle.cp_vat_machine.proofs.Basics.{not_false, put_at}
+use Rattle.cp_vat_laws.specs.Within.{Within, IsFit, IsInHand}
+use Rattle.cp_vat_laws.proofs.Tables.{there_of, all_of, front_empty, back_empty, not_met}
+use Rattle.cp_vat_laws.proofs.within.Between.{local_is_within}
+use Rattle.cp_vat_laws.proofs.within.Follows.{there_ends, forwards_open}
+use Rattle.cp_vat_laws.proofs.within.Exports.{fewer_exports, lower_if}
+use Rattle.cp_vat_laws.proofs.within.Take.{Grows, export_fit, fit_at, fit_table, answer_given, take_all_keeps, get_put}
+use Rattle.cp_vat_laws.proofs.within.CallComes.{next_free, entered_within, peer_in_hand}
+use Rattle.cp_vat_laws.proofs.within.ReturnComes.{returned_keeps, back_in_hand, back_fit}
+use Rattle.cp_vat_laws.proofs.within.Asks.{own_asked_ends, own_stays}
+use Rattle.cp_vat_laws.proofs.within.Call.{all_pass, all_named, came_fit, named_there}
+use Rattle.cp_vat_rules.specs.Going.{MayGo}
+use Rattle.cp_vat_rules.specs.Ungiven.{AllEnd, IsUngiven}
+use Rattle.cp_vat_rules.proofs.Ready.{is_ungiven, tied_once}
 use Rattle.cp_vat.specs.Judging.{judged}
 use Rattle.cp_vat.specs.Returning.{AwaitsReturn, MaySettle}
 use Rattle.cp_vat.specs.Ways.{WayEnds, seen}

@@ -3,13 +3,13 @@ use Rattle.std.proofs.Common.{◌≡◌, Bool, true, false, true≢false, ℕ, z
 use Rattle.cp_refs.specs.Route.{Way, ends, leads, missing, way}
 use Rattle.cp_refs.specs.Values.{ValueMaps}
 use Rattle.cp_refs.specs.declared.cap.Cap.{Cap}
-use Rattle.cp_machine.specs.State.{State}
-use Rattle.cp_machine.specs.Say.{end_by, end_within, ComesTo}
-use Rattle.cp_machine.specs.Calling.{OwnDone}
-use Rattle.cp_machine.specs.declared.effect.Effect.{Effect}
-use Rattle.cp_machine.specs.declared.event.Value.{Value}
-use Rattle.cp_machine.specs.declared.fault.VatFault.{VatFault}
-use Rattle.cp_machine.specs.declared.fault.VatFault.TheVariants as refusals
+use Rattle.cp_vat_machine.specs.State.{State}
+use Rattle.cp_vat_machine.specs.Say.{end_by, end_within, ComesTo}
+use Rattle.cp_vat_machine.specs.Calling.{OwnDone}
+use Rattle.cp_vat_machine.specs.declared.effect.Effect.{Effect}
+use Rattle.cp_vat_machine.specs.declared.event.Value.{Value}
+use Rattle.cp_vat_machine.specs.declared.fault.VatFault.{VatFault}
+use Rattle.cp_vat_machine.specs.declared.fault.VatFault.TheVariants as refusals
 use Rattle.cp_vat.specs.Stepping.{Calls}
 
 -- a call that is refused changes nothing

@@ -4,12 +4,12 @@ use Rattle.std.specs.FinMap.{get}
 use Rattle.cp_tables.specs.declared.counted.Counted.{Counted}
 use Rattle.cp_rpc.specs.declared.resolve.Resolve.{Resolve}
 use Rattle.cp_refs.specs.declared.cap.Cap.{Cap}
-use Rattle.cp_machine.specs.State.{State}
-use Rattle.cp_machine.specs.Resolving.{ResolveOf, OnResolve, TakeResolution, is_open_promise, resolved}
-use Rattle.cp_machine.specs.Then.{Done, Unless, Then, fault_if}
-use Rattle.cp_machine.specs.declared.entry.ImportKind.{ImportKind}
-use Rattle.cp_machine.specs.declared.fault.PeerFault.{PeerFault}
-use Rattle.cp_machine.specs.declared.fault.PeerFault.TheVariants as faults
+use Rattle.cp_vat_machine.specs.State.{State}
+use Rattle.cp_vat_machine.specs.Resolving.{ResolveOf, OnResolve, TakeResolution, is_open_promise, resolved}
+use Rattle.cp_vat_machine.specs.Then.{Done, Unless, Then, fault_if}
+use Rattle.cp_vat_machine.specs.declared.entry.ImportKind.{ImportKind}
+use Rattle.cp_vat_machine.specs.declared.fault.PeerFault.{PeerFault}
+use Rattle.cp_vat_machine.specs.declared.fault.PeerFault.TheVariants as faults
 use Rattle.std.specs.Prelude.{not}
 
 resolve_of_open : (old mid : State) (r : Resolve) (entry : Counted ImportKind) (value : Cap) → true ≡ is_open_promise entry.kept (get old.values.imports r.promise_id)

@@ -8,17 +8,17 @@ use Rattle.cp_tables.specs.declared.exchange.Stage.TheVariants as stages
 use Rattle.cp_rpc.specs.declared.returned.Return.{Return}
 use Rattle.cp_refs.specs.declared.cap.Cap.{Cap}
 use Rattle.cp_refs.specs.declared.outcome.Outcome.{Outcome}
-use Rattle.cp_machine.specs.State.{State, with_exports}
-use Rattle.cp_machine.specs.Then.{Done, Then, Unless, fault_if}
-use Rattle.cp_machine.specs.Take.{lower}
-use Rattle.cp_machine.specs.Asking.{OnReturn, ReturnOf, ReturnBy, Settles, TakeReturned, is_asked}
-use Rattle.cp_machine.specs.declared.effect.Effect.{Effect}
-use Rattle.cp_machine.specs.declared.entry.QuestionEntry.{QuestionEntry}
-use Rattle.cp_machine.specs.declared.fault.PeerFault.{PeerFault}
-use Rattle.cp_machine.specs.declared.fault.PeerFault.TheVariants as faults
-use Rattle.cp_state.specs.Halts.{Acts, Leaves}
-use Rattle.cp_state.specs.declared.halt.Halt.{Halt}
-use Rattle.cp_state.specs.declared.halt.Halt.TheVariants as halts
+use Rattle.cp_vat_machine.specs.State.{State, with_exports}
+use Rattle.cp_vat_machine.specs.Then.{Done, Then, Unless, fault_if}
+use Rattle.cp_vat_machine.specs.Take.{lower}
+use Rattle.cp_vat_machine.specs.Asking.{OnReturn, ReturnOf, ReturnBy, Settles, TakeReturned, is_asked}
+use Rattle.cp_vat_machine.specs.declared.effect.Effect.{Effect}
+use Rattle.cp_vat_machine.specs.declared.entry.QuestionEntry.{QuestionEntry}
+use Rattle.cp_vat_machine.specs.declared.fault.PeerFault.{PeerFault}
+use Rattle.cp_vat_machine.specs.declared.fault.PeerFault.TheVariants as faults
+use Rattle.cp_vat_state.specs.Halts.{Acts, Leaves}
+use Rattle.cp_vat_state.specs.declared.halt.Halt.{Halt}
+use Rattle.cp_vat_state.specs.declared.halt.Halt.TheVariants as halts
 use Rattle.cp_vat.specs.Receiving.{Begins}
 use Rattle.cp_vat.proofs.Acting.{acts_by}
 

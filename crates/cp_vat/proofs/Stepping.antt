@@ -1,23 +1,23 @@
 -- Calls of the application, and messages, are steps of the machine.
 use Rattle.std.proofs.Common.{◌≡◌, ◌≢◌, ◌⊎◌, inl, inr, false, List, [], ◌++◌, None, Result, Ok, Err, IfOk, refl, ap, ◌∙◌}
 use Rattle.cp_rpc.specs.declared.message.Message.{Message}
-use Rattle.cp_machine.specs.State.{State}
-use Rattle.cp_machine.specs.Step.{Does, Receives, Step, ran_out, refused, did, received, faulted}
-use Rattle.cp_machine.specs.declared.acted.Acted.{Acted}
-use Rattle.cp_machine.specs.declared.effect.Effect.{Effect}
-use Rattle.cp_machine.specs.declared.event.Event.{Event}
-use Rattle.cp_machine.specs.declared.event.Event.TheVariants as events
-use Rattle.cp_machine.specs.declared.event.Value.{Value}
-use Rattle.cp_machine.specs.declared.event.Value.TheVariants as values
-use Rattle.cp_machine.specs.declared.fault.VatFault.{VatFault}
-use Rattle.cp_machine.specs.declared.fault.VatFault.TheVariants as refusals
-use Rattle.cp_order.specs.Within.{Within}
-use Rattle.cp_sizes.specs.Sizes.{AreWritable, FitsOpen}
-use Rattle.cp_sizes.proofs.Stepping.{steps_write}
-use Rattle.cp_order.proofs.within.Step.{does_within, receives_within, step_keeps}
-use Rattle.cp_state.specs.Halts.{Acts}
-use Rattle.cp_state.specs.declared.halt.Halt.{Halt}
-use Rattle.cp_state.specs.declared.halt.Halt.TheVariants as halts
+use Rattle.cp_vat_machine.specs.State.{State}
+use Rattle.cp_vat_machine.specs.Step.{Does, Receives, Step, ran_out, refused, did, received, faulted}
+use Rattle.cp_vat_machine.specs.declared.acted.Acted.{Acted}
+use Rattle.cp_vat_machine.specs.declared.effect.Effect.{Effect}
+use Rattle.cp_vat_machine.specs.declared.event.Event.{Event}
+use Rattle.cp_vat_machine.specs.declared.event.Event.TheVariants as events
+use Rattle.cp_vat_machine.specs.declared.event.Value.{Value}
+use Rattle.cp_vat_machine.specs.declared.event.Value.TheVariants as values
+use Rattle.cp_vat_machine.specs.declared.fault.VatFault.{VatFault}
+use Rattle.cp_vat_machine.specs.declared.fault.VatFault.TheVariants as refusals
+use Rattle.cp_vat_laws.specs.Within.{Within}
+use Rattle.cp_vat_laws.specs.Sizes.{AreWritable, FitsOpen}
+use Rattle.cp_vat_laws.proofs.writable.Stepping.{steps_write}
+use Rattle.cp_vat_laws.proofs.within.Step.{does_within, receives_within, step_keeps}
+use Rattle.cp_vat_state.specs.Halts.{Acts}
+use Rattle.cp_vat_state.specs.declared.halt.Halt.{Halt}
+use Rattle.cp_vat_state.specs.declared.halt.Halt.TheVariants as halts
 use Rattle.cp_vat.specs.Stepping.{answered, effects_of, Calls, Ends, CallEnds, MessageEnds, Rests, Stays}
 
 module _ {A : Type 0} (value : A → Value) (event : Event) (old : State) where

@@ -11,13 +11,13 @@ use Rattle.cp_rpc.specs.declared.descriptor.Descriptor.{Descriptor}
 use Rattle.cp_rpc.specs.declared.descriptor.Descriptor.TheVariants as descriptors
 use Rattle.cp_refs.specs.declared.cap.Cap.{Cap}
 use Rattle.cp_refs.specs.declared.outcome.Outcome.{Outcome}
-use Rattle.cp_machine.specs.State.{State}
-use Rattle.cp_machine.specs.Then.{Then, After}
-use Rattle.cp_machine.specs.Take.{Take, TakeAll, TakeAnswer, answer_by, answer_of, path_of, held_import, held_once_more, taken_export, tie, tied}
-use Rattle.cp_machine.specs.declared.entry.AnswerEntry.{AnswerEntry}
-use Rattle.cp_machine.specs.declared.entry.ImportKind.{ImportKind}
-use Rattle.cp_machine.specs.declared.fault.PeerFault.{PeerFault}
-use Rattle.cp_machine.specs.declared.fault.PeerFault.TheVariants as faults
+use Rattle.cp_vat_machine.specs.State.{State}
+use Rattle.cp_vat_machine.specs.Then.{Then, After}
+use Rattle.cp_vat_machine.specs.Take.{Take, TakeAll, TakeAnswer, answer_by, answer_of, path_of, held_import, held_once_more, taken_export, tie, tied}
+use Rattle.cp_vat_machine.specs.declared.entry.AnswerEntry.{AnswerEntry}
+use Rattle.cp_vat_machine.specs.declared.entry.ImportKind.{ImportKind}
+use Rattle.cp_vat_machine.specs.declared.fault.PeerFault.{PeerFault}
+use Rattle.cp_vat_machine.specs.declared.fault.PeerFault.TheVariants as faults
 
 -- Whether this answer is kept, and what it came to, how many are kept, and the next ticket are as they were.
 abbrev pub Keeps : ℕ → State → State → Type 0

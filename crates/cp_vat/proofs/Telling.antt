@@ -10,11 +10,11 @@ use Rattle.cp_rpc.specs.declared.fault.SchemaFault.TheVariants as schema_faults
 use Rattle.cp_rpc.specs.declared.message.Message.{Message}
 use Rattle.cp_rpc.specs.declared.message.Message.TheVariants as messages
 use Rattle.cp_rpc.specs.declared.resolve.Resolve.{Resolve}
-use Rattle.cp_machine.specs.State.{State}
-use Rattle.cp_machine.specs.Resolving.{OnUnimplemented, UnknownToPeer, told, told_by}
-use Rattle.cp_machine.specs.declared.fault.PeerFault.TheVariants as faults
-use Rattle.cp_state.specs.Halts.{Quiet}
-use Rattle.cp_state.specs.declared.halt.Halt.{Halt}
+use Rattle.cp_vat_machine.specs.State.{State}
+use Rattle.cp_vat_machine.specs.Resolving.{OnUnimplemented, UnknownToPeer, told, told_by}
+use Rattle.cp_vat_machine.specs.declared.fault.PeerFault.TheVariants as faults
+use Rattle.cp_vat_state.specs.Halts.{Quiet}
+use Rattle.cp_vat_state.specs.declared.halt.Halt.{Halt}
 
 -- A tree that is no struct says a message that isn't a Resolve.
 not_struct : (old : State) (t : Node) → (IsStruct t → ⊥) → OnUnimplemented old t (Err faults.PeerLacksLevelOne)

@@ -11,25 +11,25 @@ use Rattle.cp_refs.specs.declared.call.Origin.TheVariants as origins
 use Rattle.cp_refs.specs.declared.call.Request.{Request}
 use Rattle.cp_refs.specs.declared.values.QuestionKind.{QuestionKind}
 use Rattle.cp_refs.specs.declared.values.QuestionKind.TheVariants as kinds
-use Rattle.cp_machine.specs.State.{State, Marks}
-use Rattle.cp_machine.specs.Then.{Done}
-use Rattle.cp_machine.specs.Go.{GoTo, Underway}
-use Rattle.cp_machine.specs.Calling.{GoByValue, GoFrom, Opens, called, has_mark_capacity, mark_of, marked, own_call, with_mark}
-use Rattle.cp_machine.specs.Capacity.{Fresh, free}
-use Rattle.cp_machine.specs.declared.effect.Effect.{Effect}
-use Rattle.cp_machine.specs.declared.event.Value.{Value}
-use Rattle.cp_machine.specs.declared.fault.PeerFault.{PeerFault}
-use Rattle.cp_machine.specs.declared.fault.PeerFault.TheVariants as faults
-use Rattle.cp_state.specs.Halts.{Acts, Becomes, IfFault, Owns}
-use Rattle.cp_state.specs.Marking.{with_marks, without_mark}
-use Rattle.cp_state.specs.StateOf.{state_of}
-use Rattle.cp_state.specs.declared.halt.Halt.{Halt}
-use Rattle.cp_state.specs.declared.halt.Halt.TheVariants as halts
-use Rattle.cp_state.specs.declared.parts.Core.{Core}
-use Rattle.cp_state.proofs.Under.{put-gone}
-use Rattle.cp_rules.specs.Going.{MayGo}
-use Rattle.cp_rules.specs.Ungiven.{IsUngiven}
-use Rattle.cp_rules.specs.declared.go.Underway as go
+use Rattle.cp_vat_machine.specs.State.{State, Marks}
+use Rattle.cp_vat_machine.specs.Then.{Done}
+use Rattle.cp_vat_machine.specs.Go.{GoTo, Underway}
+use Rattle.cp_vat_machine.specs.Calling.{GoByValue, GoFrom, Opens, called, has_mark_capacity, mark_of, marked, own_call, with_mark}
+use Rattle.cp_vat_machine.specs.Capacity.{Fresh, free}
+use Rattle.cp_vat_machine.specs.declared.effect.Effect.{Effect}
+use Rattle.cp_vat_machine.specs.declared.event.Value.{Value}
+use Rattle.cp_vat_machine.specs.declared.fault.PeerFault.{PeerFault}
+use Rattle.cp_vat_machine.specs.declared.fault.PeerFault.TheVariants as faults
+use Rattle.cp_vat_state.specs.Halts.{Acts, Becomes, IfFault, Owns}
+use Rattle.cp_vat_state.specs.Marking.{with_marks, without_mark}
+use Rattle.cp_vat_state.specs.StateOf.{state_of}
+use Rattle.cp_vat_state.specs.declared.halt.Halt.{Halt}
+use Rattle.cp_vat_state.specs.declared.halt.Halt.TheVariants as halts
+use Rattle.cp_vat_state.specs.declared.parts.Core.{Core}
+use Rattle.cp_vat_state.proofs.Under.{put-gone}
+use Rattle.cp_vat_rules.specs.Going.{MayGo}
+use Rattle.cp_vat_rules.specs.Ungiven.{IsUngiven}
+use Rattle.cp_vat_rules.specs.declared.go.Underway as go
 use Rattle.cp_vat.specs.Ways.{GoMarked, seen, taken_back, value_kind}
 use Rattle.cp_vat.specs.declared.going.Reference.TheVariants as references
 use Rattle.cp_vat.proofs.Acting.{acts_by}

@@ -1,18 +1,18 @@
 -- What the parts of a vat do, as a rule on the state that they are.
 use Rattle.std.specs.Prelude.{List, Result}
 use Rattle.cp_rpc.specs.declared.disembargo.Disembargo.{Disembargo}
-use Rattle.cp_machine.specs.State.{State}
-use Rattle.cp_machine.specs.Then.{Done}
-use Rattle.cp_machine.specs.Calling.{OwnDone}
-use Rattle.cp_machine.specs.Resolving.{OnDisembargo}
-use Rattle.cp_machine.specs.declared.effect.Effect.{Effect}
-use Rattle.cp_machine.specs.declared.event.Value.{Value}
-use Rattle.cp_machine.specs.declared.fault.PeerFault.{PeerFault}
-use Rattle.cp_machine.specs.declared.fault.VatFault.{VatFault}
-use Rattle.cp_state.specs.Halts.{Acts, Owns}
-use Rattle.cp_state.specs.StateOf.{state_of}
-use Rattle.cp_state.specs.declared.halt.Halt.{Halt}
-use Rattle.cp_state.specs.declared.parts.Core.{Core}
+use Rattle.cp_vat_machine.specs.State.{State}
+use Rattle.cp_vat_machine.specs.Then.{Done}
+use Rattle.cp_vat_machine.specs.Calling.{OwnDone}
+use Rattle.cp_vat_machine.specs.Resolving.{OnDisembargo}
+use Rattle.cp_vat_machine.specs.declared.effect.Effect.{Effect}
+use Rattle.cp_vat_machine.specs.declared.event.Value.{Value}
+use Rattle.cp_vat_machine.specs.declared.fault.PeerFault.{PeerFault}
+use Rattle.cp_vat_machine.specs.declared.fault.VatFault.{VatFault}
+use Rattle.cp_vat_state.specs.Halts.{Acts, Owns}
+use Rattle.cp_vat_state.specs.StateOf.{state_of}
+use Rattle.cp_vat_state.specs.declared.halt.Halt.{Halt}
+use Rattle.cp_vat_state.specs.declared.parts.Core.{Core}
 use Rattle.cp_vat.specs.Stepping.{Calls}
 
 -- they act by a rule

@@ -1,7 +1,7 @@
 -- How much a vat keeps.
 use Rattle.std.specs.Prelude.{ℕ, ◌+◌}
 use Rattle.std.specs.FinMap.{len}
-use Rattle.cp_machine.specs.State.{State}
+use Rattle.cp_vat_machine.specs.State.{State}
 
 -- the number of its questions, answers and imports
 abbrev pub entries_of : State → ℕ

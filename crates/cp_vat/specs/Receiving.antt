@@ -7,15 +7,15 @@ use Rattle.cp_rpc.specs.declared.target.Target.{Target}
 use Rattle.cp_refs.specs.declared.call.Origin.{Origin}
 use Rattle.cp_refs.specs.declared.route.Route.{Route}
 use Rattle.cp_refs.specs.declared.route.Route.TheVariants as routes
-use Rattle.cp_machine.specs.State.{State}
-use Rattle.cp_machine.specs.Then.{Done, Then}
-use Rattle.cp_machine.specs.Go.{Go, Underway}
-use Rattle.cp_machine.specs.Answering.{GoToTarget}
-use Rattle.cp_machine.specs.Asking.{OnReturn, Settles, TakeReturned}
-use Rattle.cp_machine.specs.declared.fault.PeerFault.{PeerFault}
-use Rattle.cp_order.specs.Within.{Within}
-use Rattle.cp_state.specs.declared.halt.Halt.{Halt}
-use Rattle.cp_state.specs.declared.halt.Halt.TheVariants as halts
+use Rattle.cp_vat_machine.specs.State.{State}
+use Rattle.cp_vat_machine.specs.Then.{Done, Then}
+use Rattle.cp_vat_machine.specs.Go.{Go, Underway}
+use Rattle.cp_vat_machine.specs.Answering.{GoToTarget}
+use Rattle.cp_vat_machine.specs.Asking.{OnReturn, Settles, TakeReturned}
+use Rattle.cp_vat_machine.specs.declared.fault.PeerFault.{PeerFault}
+use Rattle.cp_vat_laws.specs.Within.{Within}
+use Rattle.cp_vat_state.specs.declared.halt.Halt.{Halt}
+use Rattle.cp_vat_state.specs.declared.halt.Halt.TheVariants as halts
 use Rattle.cp_vat.specs.Returning.{AwaitsReturn}
 use Rattle.cp_vat.specs.declared.on_return.Rest.{Rest}
 use Rattle.cp_vat.specs.declared.on_return.Rest.TheVariants as rests

@@ -4,11 +4,11 @@ use Rattle.std.specs.List.{AllByRecursion}
 use Rattle.std.specs.FinMap.{get}
 use Rattle.cp_tables.specs.declared.exchange.Exchange.{Exchange}
 use Rattle.cp_refs.specs.declared.outcome.Outcome.{Outcome}
-use Rattle.cp_machine.specs.State.{State, none_over}
-use Rattle.cp_machine.specs.InUse.{caps_of}
-use Rattle.cp_machine.specs.Local.{is_open_stage}
-use Rattle.cp_machine.specs.declared.entry.QuestionEntry.{QuestionEntry}
-use Rattle.cp_order.specs.Within.{Within, IsFit}
+use Rattle.cp_vat_machine.specs.State.{State, none_over}
+use Rattle.cp_vat_machine.specs.InUse.{caps_of}
+use Rattle.cp_vat_machine.specs.Local.{is_open_stage}
+use Rattle.cp_vat_machine.specs.declared.entry.QuestionEntry.{QuestionEntry}
+use Rattle.cp_vat_laws.specs.Within.{Within, IsFit}
 
 -- A question awaits its Return: it was sent and isn't settled, and no gate is over.
 pub record AwaitsReturn (s : State) (q : ℕ) (forwards : Option ℕ) : Type 0 where

@@ -1,15 +1,15 @@
 -- What a list of events gives that one vat does.
 use Rattle.std.specs.Prelude.{◌≡◌, ◌⊎◌, ℕ, ◌≤◌, List, [], ◌∷◌, length, drop, Option, Some, None, Result, Ok, Err}
-use Rattle.cp_machine.specs.State.{State}
-use Rattle.cp_machine.specs.Step.{Step}
-use Rattle.cp_machine.specs.Run.{Moment, Steps, Run}
-use Rattle.cp_machine.specs.Trace.{trace_of}
-use Rattle.cp_machine.specs.InOrder.{InOrder}
-use Rattle.cp_machine.specs.declared.acted.Acted.{Acted}
-use Rattle.cp_machine.specs.declared.event.Event.{Event}
-use Rattle.cp_machine.specs.declared.event.Value.{Value}
-use Rattle.cp_machine.specs.declared.fault.VatFault.{VatFault}
-use Rattle.cp_machine.specs.declared.fault.VatFault.TheVariants as refusals
+use Rattle.cp_vat_machine.specs.State.{State}
+use Rattle.cp_vat_machine.specs.Step.{Step}
+use Rattle.cp_vat_machine.specs.Run.{Moment, Steps, Run}
+use Rattle.cp_vat_machine.specs.Trace.{trace_of}
+use Rattle.cp_vat_machine.specs.InOrder.{InOrder}
+use Rattle.cp_vat_machine.specs.declared.acted.Acted.{Acted}
+use Rattle.cp_vat_machine.specs.declared.event.Event.{Event}
+use Rattle.cp_vat_machine.specs.declared.event.Value.{Value}
+use Rattle.cp_vat_machine.specs.declared.fault.VatFault.{VatFault}
+use Rattle.cp_vat_machine.specs.declared.fault.VatFault.TheVariants as refusals
 use Rattle.cp_vat.specs.Stepping.{answered, effects_of}
 
 -- the same answer and the same effects, with the value as one of all

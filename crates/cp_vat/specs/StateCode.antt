@@ -14,15 +14,15 @@ use Rattle.cp_refs.specs.declared.cap.Cap.{Cap}
 use Rattle.cp_refs.specs.contracts.cap.Cap as cap
 use Rattle.cp_refs.specs.declared.call.Held.{Held}
 use Rattle.cp_refs.specs.contracts.call.Held as held
-use Rattle.cp_machine.specs.State.{State, Entries, Counts, Marks, Waiting, Over}
-use Rattle.cp_machine.specs.declared.entry.QuestionEntry.{QuestionEntry}
-use Rattle.cp_machine.specs.contracts.entry.QuestionEntry as question_entry
-use Rattle.cp_machine.specs.declared.entry.AnswerEntry.{AnswerEntry}
-use Rattle.cp_machine.specs.contracts.entry.AnswerEntry as answer_entry
-use Rattle.cp_machine.specs.declared.entry.ImportKind.{ImportKind}
-use Rattle.cp_machine.specs.contracts.entry.ImportKind as import_kind
-use Rattle.cp_state.specs.MarksCode.{marks_code}
-use Rattle.cp_state.specs.Queue.{over_code}
+use Rattle.cp_vat_machine.specs.State.{State, Entries, Counts, Marks, Waiting, Over}
+use Rattle.cp_vat_machine.specs.declared.entry.QuestionEntry.{QuestionEntry}
+use Rattle.cp_vat_machine.specs.contracts.entry.QuestionEntry as question_entry
+use Rattle.cp_vat_machine.specs.declared.entry.AnswerEntry.{AnswerEntry}
+use Rattle.cp_vat_machine.specs.contracts.entry.AnswerEntry as answer_entry
+use Rattle.cp_vat_machine.specs.declared.entry.ImportKind.{ImportKind}
+use Rattle.cp_vat_machine.specs.contracts.entry.ImportKind as import_kind
+use Rattle.cp_vat_state.specs.MarksCode.{marks_code}
+use Rattle.cp_vat_state.specs.Queue.{over_code}
 
 abbrev table_code : {X : Type 0} → Coded X → Coded (Table X)
 table_code code = map.code coded_ℕ code

@@ -1,17 +1,17 @@
 -- What a call of a vat gave, as the machine says it.
 use Rattle.std.specs.Prelude.{◌≡◌, ◌≢◌, true, false, List, [], ◌++◌, Result, Ok, Err}
-use Rattle.cp_machine.specs.State.{State}
-use Rattle.cp_machine.specs.Local.{Local}
-use Rattle.cp_machine.specs.Calling.{OwnDone}
-use Rattle.cp_machine.specs.Step.{Follows, aborts}
-use Rattle.cp_machine.specs.declared.acted.Acted.{Acted}
-use Rattle.cp_machine.specs.declared.effect.Effect.{Effect}
-use Rattle.cp_machine.specs.declared.event.Value.{Value}
-use Rattle.cp_machine.specs.declared.fault.VatFault.{VatFault}
-use Rattle.cp_machine.specs.declared.fault.VatFault.TheVariants as refusals
-use Rattle.cp_sizes.specs.Sizes.{FitsOpen}
-use Rattle.cp_state.specs.declared.halt.Halt.{Halt}
-use Rattle.cp_state.specs.declared.halt.Halt.TheVariants as halts
+use Rattle.cp_vat_machine.specs.State.{State}
+use Rattle.cp_vat_machine.specs.Local.{Local}
+use Rattle.cp_vat_machine.specs.Calling.{OwnDone}
+use Rattle.cp_vat_machine.specs.Step.{Follows, aborts}
+use Rattle.cp_vat_machine.specs.declared.acted.Acted.{Acted}
+use Rattle.cp_vat_machine.specs.declared.effect.Effect.{Effect}
+use Rattle.cp_vat_machine.specs.declared.event.Value.{Value}
+use Rattle.cp_vat_machine.specs.declared.fault.VatFault.{VatFault}
+use Rattle.cp_vat_machine.specs.declared.fault.VatFault.TheVariants as refusals
+use Rattle.cp_vat_laws.specs.Sizes.{FitsOpen}
+use Rattle.cp_vat_state.specs.declared.halt.Halt.{Halt}
+use Rattle.cp_vat_state.specs.declared.halt.Halt.TheVariants as halts
 
 -- The vat rests: it holds what it keeps between events, unless it is closed.
 abbrev pub Rests : State → Type 0

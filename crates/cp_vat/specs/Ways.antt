@@ -8,19 +8,19 @@ use Rattle.cp_refs.specs.declared.cap.Cap.{Cap}
 use Rattle.cp_refs.specs.declared.cap.Cap.TheVariants as caps
 use Rattle.cp_refs.specs.declared.values.QuestionKind.{QuestionKind}
 use Rattle.cp_refs.specs.declared.values.QuestionKind.TheVariants as kinds
-use Rattle.cp_machine.specs.State.{State}
-use Rattle.cp_machine.specs.Then.{Done, Then}
-use Rattle.cp_machine.specs.Go.{GoTo, Underway}
-use Rattle.cp_machine.specs.Calling.{called, mark_of, marked, own_call}
-use Rattle.cp_machine.specs.Calling as machine
-use Rattle.cp_machine.specs.declared.effect.Effect.{Effect}
-use Rattle.cp_machine.specs.declared.fault.PeerFault.{PeerFault}
-use Rattle.cp_state.specs.Halts.{Acts}
-use Rattle.cp_state.specs.StateOf.{state_of}
-use Rattle.cp_state.specs.declared.halt.Halt.{Halt}
-use Rattle.cp_state.specs.declared.parts.Core.{Core}
-use Rattle.cp_rules.specs.Going.{underway_of}
-use Rattle.cp_rules.specs.declared.go.Underway as rules
+use Rattle.cp_vat_machine.specs.State.{State}
+use Rattle.cp_vat_machine.specs.Then.{Done, Then}
+use Rattle.cp_vat_machine.specs.Go.{GoTo, Underway}
+use Rattle.cp_vat_machine.specs.Calling.{called, mark_of, marked, own_call}
+use Rattle.cp_vat_machine.specs.Calling as machine
+use Rattle.cp_vat_machine.specs.declared.effect.Effect.{Effect}
+use Rattle.cp_vat_machine.specs.declared.fault.PeerFault.{PeerFault}
+use Rattle.cp_vat_state.specs.Halts.{Acts}
+use Rattle.cp_vat_state.specs.StateOf.{state_of}
+use Rattle.cp_vat_state.specs.declared.halt.Halt.{Halt}
+use Rattle.cp_vat_state.specs.declared.parts.Core.{Core}
+use Rattle.cp_vat_rules.specs.Going.{underway_of}
+use Rattle.cp_vat_rules.specs.declared.go.Underway as rules
 use Rattle.cp_vat.specs.declared.going.Reference.{Reference}
 use Rattle.cp_vat.specs.declared.going.Reference.TheVariants as references
 

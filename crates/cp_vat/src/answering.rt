@@ -1,19 +1,19 @@
 //! What `answer` and `resolve` do.
 
 ghost use Rattle.std.specs.Prelude.{◌≡◌, IsTrue};
-ghost use Rattle.cp_machine.specs.Doing.{DoAnswer, DoResolve};
-ghost use Rattle.cp_machine.specs.Local.{Local};
-ghost use Rattle.cp_machine.specs.declared.event.Value.TheVariants as values;
-ghost use Rattle.cp_state.specs.StateOf.{state_of};
+ghost use Rattle.cp_vat_machine.specs.Doing.{DoAnswer, DoResolve};
+ghost use Rattle.cp_vat_machine.specs.Local.{Local};
+ghost use Rattle.cp_vat_machine.specs.declared.event.Value.TheVariants as values;
+ghost use Rattle.cp_vat_state.specs.StateOf.{state_of};
 ghost use Rattle.cp_vat.specs.Doing.{CallsOn};
 
 use crate::refusals::{check_answer, check_resolve, check_value};
-use cp_machine::{Effect, VatFault};
 use cp_refs::{Cap, Origin, Outcome, PromiseId};
-use cp_rules::come_to::come_to;
-use cp_rules::give::give;
-use cp_rules::settle::settle;
-use cp_state::Core;
+use cp_vat_machine::{Effect, VatFault};
+use cp_vat_rules::come_to::come_to;
+use cp_vat_rules::give::give;
+use cp_vat_rules::settle::settle;
+use cp_vat_state::Core;
 
 /// Gives the outcome of a call that was delivered.
 pub(crate) fn answer(

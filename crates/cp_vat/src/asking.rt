@@ -2,20 +2,20 @@
 
 ghost use Rattle.std.specs.Prelude.{◌≡◌, ◌≢◌, [], None, IfOk};
 ghost use Rattle.std.specs.FinMap as map;
-ghost use Rattle.cp_machine.specs.Calling.{asked};
-ghost use Rattle.cp_machine.specs.Doing.{DoBootstrap, DoPromise};
-ghost use Rattle.cp_machine.specs.Local.{Local};
-ghost use Rattle.cp_machine.specs.Capacity.{Fresh};
-ghost use Rattle.cp_machine.specs.declared.event.Value.TheVariants as values;
-ghost use Rattle.cp_state.specs.Halts.{IfFault, Meets};
-ghost use Rattle.cp_state.specs.StateOf.{state_of};
+ghost use Rattle.cp_vat_machine.specs.Calling.{asked};
+ghost use Rattle.cp_vat_machine.specs.Doing.{DoBootstrap, DoPromise};
+ghost use Rattle.cp_vat_machine.specs.Local.{Local};
+ghost use Rattle.cp_vat_machine.specs.Capacity.{Fresh};
+ghost use Rattle.cp_vat_machine.specs.declared.event.Value.TheVariants as values;
+ghost use Rattle.cp_vat_state.specs.Halts.{IfFault, Meets};
+ghost use Rattle.cp_vat_state.specs.StateOf.{state_of};
 ghost use Rattle.cp_vat.specs.Stepping.{Calls};
 
-use cp_machine::{Effect, Mentions, PeerFault, QuestionEntry, VatFault};
 use cp_refs::{PromiseId, QuestionKind};
 use cp_rpc::{Bootstrap, Message};
-use cp_state::{Core, Halt};
 use cp_tables::LIMIT;
+use cp_vat_machine::{Effect, Mentions, PeerFault, QuestionEntry, VatFault};
+use cp_vat_state::{Core, Halt};
 
 /// Asks for the peer's bootstrap capability.
 pub(crate) fn bootstrap(core: &mut Core, effects: &mut Vec<Effect>) -> Result<u32, VatFault>

@@ -2,23 +2,23 @@
 
 ghost use Rattle.std.specs.Prelude.{◌≡◌, ◌<◌, ◌-◌, ◌^◌, [], None, Ok, Err, IfOk};
 ghost use Rattle.std.specs.FinMap as map;
-ghost use Rattle.cp_machine.specs.Calling.{DoCall, Opens, call_refusals, called, own_call};
-ghost use Rattle.cp_machine.specs.Local.{Local};
-ghost use Rattle.cp_machine.specs.Capacity.{Fresh};
-ghost use Rattle.cp_machine.specs.declared.event.Value.TheVariants as values;
-ghost use Rattle.cp_state.specs.Halts.{IfFault};
-ghost use Rattle.cp_state.specs.StateOf.{state_of};
-ghost use Rattle.cp_rules.specs.Going.{underway_of};
+ghost use Rattle.cp_vat_machine.specs.Calling.{DoCall, Opens, call_refusals, called, own_call};
+ghost use Rattle.cp_vat_machine.specs.Local.{Local};
+ghost use Rattle.cp_vat_machine.specs.Capacity.{Fresh};
+ghost use Rattle.cp_vat_machine.specs.declared.event.Value.TheVariants as values;
+ghost use Rattle.cp_vat_state.specs.Halts.{IfFault};
+ghost use Rattle.cp_vat_state.specs.StateOf.{state_of};
+ghost use Rattle.cp_vat_rules.specs.Going.{underway_of};
 ghost use Rattle.cp_vat.specs.Doing.{CallsOn, OwnsOn};
 ghost use Rattle.cp_vat.specs.Ways.{taken_back};
 
 use crate::asking::ask;
 use crate::going::{go_from, kind_of, reference_of};
 use crate::refusals::check_call;
-use cp_machine::{Effect, PeerFault, VatFault};
 use cp_refs::{Cap, Origin, QuestionKind, Request};
-use cp_rules::go::Underway;
-use cp_state::{Core, Halt};
+use cp_vat_machine::{Effect, PeerFault, VatFault};
+use cp_vat_rules::go::Underway;
+use cp_vat_state::{Core, Halt};
 
 /// Calls a capability: the call opens a question, and goes.
 pub(crate) fn call(

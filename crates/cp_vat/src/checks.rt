@@ -2,16 +2,16 @@
 
 ghost use Rattle.std.specs.Prelude.{◌≡◌};
 ghost use Rattle.cp_rpc.specs.Told.{told_call, told_target};
-ghost use Rattle.cp_machine.specs.Answering.{call_faults, target_faults};
-ghost use Rattle.cp_state.specs.StateOf.{state_of};
+ghost use Rattle.cp_vat_machine.specs.Answering.{call_faults, target_faults};
+ghost use Rattle.cp_vat_state.specs.StateOf.{state_of};
 ghost use Rattle.cp_vat.specs.Judging.{judged};
 
-use cp_machine::PeerFault;
 use cp_reading::View;
 use cp_rpc::{Call, CallView, Target, TargetView};
-use cp_rules::take::answer_of;
-use cp_state::Core;
 use cp_tables::LIMIT;
+use cp_vat_machine::PeerFault;
+use cp_vat_rules::take::answer_of;
+use cp_vat_state::Core;
 
 /// The first fault of a Call: its number, its target, whether the answers and the tickets are full.
 pub(crate) fn check_call(core: &Core, call: &Call) -> Result<(), PeerFault>

@@ -1,16 +1,16 @@
 //! What follows an event's own part.
 
 ghost use Rattle.std.specs.Prelude.{◌≡◌, ◌++◌, [], None, IfOk, OnOk};
-ghost use Rattle.cp_machine.specs.Step.{aborts};
-ghost use Rattle.cp_order.specs.Within.{Within};
-ghost use Rattle.cp_state.specs.StateOf.{state_of};
+ghost use Rattle.cp_vat_machine.specs.Step.{aborts};
+ghost use Rattle.cp_vat_laws.specs.Within.{Within};
+ghost use Rattle.cp_vat_state.specs.StateOf.{state_of};
 ghost use Rattle.cp_vat.specs.Stepping.{CallEnds, Ends, MessageEnds};
 
-use cp_machine::{Acted, Effect, Effects, PeerFault, Reason, VatFault};
 use cp_refs::failed;
 use cp_rpc::Message;
-use cp_rules::leave::leave;
-use cp_state::{Core, Halt};
+use cp_vat_machine::{Acted, Effect, Effects, PeerFault, Reason, VatFault};
+use cp_vat_rules::leave::leave;
+use cp_vat_state::{Core, Halt};
 use std::alloc::{AllocError, Global};
 
 /// Ends a call of the application.

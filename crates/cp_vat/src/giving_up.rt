@@ -3,20 +3,20 @@
 ghost use Rattle.std.specs.Prelude.{◌≡◌, ◌++◌, [], OnOk, IsSome};
 ghost use Rattle.std.specs.FinMap as map;
 ghost use Rattle.cp_tables.specs.Counted.{count_of};
-ghost use Rattle.cp_machine.specs.Doing.{DoFinish, DoForget, DoIdle, DoRelease, told_if, without_import};
-ghost use Rattle.cp_machine.specs.Go.{finish_of};
-ghost use Rattle.cp_machine.specs.declared.event.Value.TheVariants as values;
-ghost use Rattle.cp_state.specs.StateOf.{state_of};
+ghost use Rattle.cp_vat_machine.specs.Doing.{DoFinish, DoForget, DoIdle, DoRelease, told_if, without_import};
+ghost use Rattle.cp_vat_machine.specs.Go.{finish_of};
+ghost use Rattle.cp_vat_machine.specs.declared.event.Value.TheVariants as values;
+ghost use Rattle.cp_vat_state.specs.StateOf.{state_of};
 ghost use Rattle.cp_vat.specs.Stepping.{Calls};
 
 use crate::on_resolve::release_effect;
 use crate::refusals::is_own_question;
-use cp_machine::{Effect, Idle, VatFault};
 use cp_refs::PromiseId;
-use cp_rules::entry::remove_question;
-use cp_rules::go::finish_effect;
-use cp_state::Core;
 use cp_tables::Stage;
+use cp_vat_machine::{Effect, Idle, VatFault};
+use cp_vat_rules::entry::remove_question;
+use cp_vat_rules::go::finish_effect;
+use cp_vat_state::Core;
 use std::alloc::AllocError;
 
 /// Gives a question up. After its outcome the question is gone; before it, it stays until then. The

@@ -2,19 +2,19 @@
 
 ghost use Rattle.std.specs.Prelude.{◌≡◌, Some, None, IfOk, option_copied};
 ghost use Rattle.cp_refs.specs.Route.{HasRoute};
-ghost use Rattle.cp_machine.specs.Calling.{FirstEmbargoed, GoBack, GoByValue, GoFrom, mark_of, old_target, question_reference, reference_of};
-ghost use Rattle.cp_state.specs.Halts.{Acts, IfFault};
-ghost use Rattle.cp_state.specs.StateOf.{state_of};
-ghost use Rattle.cp_rules.specs.Going.{MayGo, underway_of};
+ghost use Rattle.cp_vat_machine.specs.Calling.{FirstEmbargoed, GoBack, GoByValue, GoFrom, mark_of, old_target, question_reference, reference_of};
+ghost use Rattle.cp_vat_state.specs.Halts.{Acts, IfFault};
+ghost use Rattle.cp_vat_state.specs.StateOf.{state_of};
+ghost use Rattle.cp_vat_rules.specs.Going.{MayGo, underway_of};
 ghost use Rattle.cp_vat.specs.Doing.{ActsOn};
 ghost use Rattle.cp_vat.specs.Ways.{GoMarked, GoesBy, WayEnds, kind_of, seen, value_kind};
 
-use cp_machine::Effect;
 use cp_refs::{Cap, Gate, Path, Question, QuestionKind, Route, Values};
 use cp_rpc::{Context, Disembargo, Message, Target};
-use cp_rules::go::{Underway, go, go_to};
-use cp_rules::promised::promised_answer;
-use cp_state::{Core, Halt};
+use cp_vat_machine::Effect;
+use cp_vat_rules::go::{Underway, go, go_to};
+use cp_vat_rules::promised::promised_answer;
+use cp_vat_state::{Core, Halt};
 use std::alloc::{AllocError, Global};
 
 /// What a capability is that the application calls.

@@ -1,6 +1,6 @@
 //! One end of a Cap'n Proto RPC connection between two parties (rpc.capnp, levels 0 and 1), without
 //! the connection: messages and calls of the application come in, effects go out. Each call is a step
-//! of the machine of cp_machine.
+//! of the machine of cp_vat_machine.
 #![tactic(auto)]
 
 mod answering;

@@ -2,16 +2,16 @@
 
 ghost use Rattle.std.specs.Prelude.{◌≡◌, ◌≢◌, None, IfOk, OnOk};
 ghost use Rattle.std.specs.FinMap as map;
-ghost use Rattle.cp_machine.specs.Answering.{bootstrap_outcome, with_answer, OnBootstrap};
-ghost use Rattle.cp_state.specs.Halts.{Acts, OnlyAllocationFails};
-ghost use Rattle.cp_state.specs.StateOf.{state_of};
+ghost use Rattle.cp_vat_machine.specs.Answering.{bootstrap_outcome, with_answer, OnBootstrap};
+ghost use Rattle.cp_vat_state.specs.Halts.{Acts, OnlyAllocationFails};
+ghost use Rattle.cp_vat_state.specs.StateOf.{state_of};
 
-use cp_machine::{AnswerEntry, Effect, Mentions, PeerFault, TiedPromises};
 use cp_refs::{Cap, Caps, Outcome, failed};
-use cp_rules::give::give_answer;
-use cp_state::{Core, Halt};
 use cp_tables::LIMIT;
 use cp_tree::{Tree, Whole};
+use cp_vat_machine::{AnswerEntry, Effect, Mentions, PeerFault, TiedPromises};
+use cp_vat_rules::give::give_answer;
+use cp_vat_state::{Core, Halt};
 use std::alloc::{AllocError, Global};
 
 /// A Bootstrap is answered at once.

@@ -2,27 +2,27 @@
 
 ghost use Rattle.std.specs.Prelude.{◌≡◌, ◌<◌, ◌^◌, ◌-◌, ◌≢◌, [], None, OnOk, IfOk, true};
 ghost use Rattle.std.specs.FinMap as map;
-ghost use Rattle.cp_machine.specs.Answering.{GoToAnswer, GoToExport, OnCall, entered, target_faults};
-ghost use Rattle.cp_machine.specs.Local.{Local};
-ghost use Rattle.cp_machine.specs.Take.{answer_of};
-ghost use Rattle.cp_machine.specs.Supported.{is_supported, is_supported_target};
+ghost use Rattle.cp_vat_machine.specs.Answering.{GoToAnswer, GoToExport, OnCall, entered, target_faults};
+ghost use Rattle.cp_vat_machine.specs.Local.{Local};
+ghost use Rattle.cp_vat_machine.specs.Take.{answer_of};
+ghost use Rattle.cp_vat_machine.specs.Supported.{is_supported, is_supported_target};
 ghost use Rattle.cp_rpc.specs.Told.{told_call, told_target};
 ghost use Rattle.cp_rpc.specs.declared.message.Message.TheVariants as messages;
-ghost use Rattle.cp_state.specs.Halts.{Acts, OnlyAllocationFails};
-ghost use Rattle.cp_state.specs.StateOf.{state_of};
+ghost use Rattle.cp_vat_state.specs.Halts.{Acts, OnlyAllocationFails};
+ghost use Rattle.cp_vat_state.specs.StateOf.{state_of};
 ghost use Rattle.cp_vat.specs.Receiving.{Carries, HoldsWithin, Leads, LeadsBy};
 
 use crate::checks::{check_call, check_call_view};
 use crate::on_bootstrap::open_answer;
-use cp_machine::Effect;
 use cp_reading::View;
 use cp_refs::{Gate, Origin, Path, Request, Route};
 use cp_rpc::{Call, CallView, Payload, Target, TargetView};
-use cp_rules::go::{Underway, go};
-use cp_rules::promised::{path_of, path_of_view};
-use cp_rules::take::{answer_of, take_all, take_all_view};
-use cp_state::{Core, Halt};
 use cp_tree::Whole;
+use cp_vat_machine::Effect;
+use cp_vat_rules::go::{Underway, go};
+use cp_vat_rules::promised::{path_of, path_of_view};
+use cp_vat_rules::take::{answer_of, take_all, take_all_view};
+use cp_vat_state::{Core, Halt};
 use std::alloc::{AllocError, Global};
 
 /// A Call's capability table is taken in, it opens an answer and has the next ticket, and goes by its

@@ -4,24 +4,24 @@ ghost use Rattle.std.specs.Prelude.{◌≡◌, ◌≢◌, [], None, true};
 ghost use Rattle.std.specs.FinMap as map;
 ghost use Rattle.cp_rpc.specs.Told.{told_disembargo, told_target};
 ghost use Rattle.cp_refs.specs.Route.{HasRoute};
-ghost use Rattle.cp_machine.specs.Answering.{target_faults};
-ghost use Rattle.cp_machine.specs.Local.{Local};
-ghost use Rattle.cp_machine.specs.Resolving.{Echoes, EchoesAnswer, EchoesExport, EchoesTarget, OnDisembargo, ended_by};
-ghost use Rattle.cp_machine.specs.Take.{answer_of};
-ghost use Rattle.cp_machine.specs.Supported.{is_supported_context, is_supported_target};
-ghost use Rattle.cp_state.specs.Halts.{Acts, Quiet};
-ghost use Rattle.cp_state.specs.StateOf.{state_of};
+ghost use Rattle.cp_vat_machine.specs.Answering.{target_faults};
+ghost use Rattle.cp_vat_machine.specs.Local.{Local};
+ghost use Rattle.cp_vat_machine.specs.Resolving.{Echoes, EchoesAnswer, EchoesExport, EchoesTarget, OnDisembargo, ended_by};
+ghost use Rattle.cp_vat_machine.specs.Take.{answer_of};
+ghost use Rattle.cp_vat_machine.specs.Supported.{is_supported_context, is_supported_target};
+ghost use Rattle.cp_vat_state.specs.Halts.{Acts, Quiet};
+ghost use Rattle.cp_vat_state.specs.StateOf.{state_of};
 ghost use Rattle.cp_vat.specs.Doing.{ActsOn, Disembargoes};
 
 use crate::checks::{check_target, check_target_view};
-use cp_machine::{Effect, PeerFault};
 use cp_reading::View;
 use cp_refs::{Cap, Path};
 use cp_rpc::{Context, Disembargo, DisembargoView, Message, Target, TargetView};
-use cp_rules::come_to::come_to;
-use cp_rules::promised::{path_of, path_of_view};
-use cp_rules::take::answer_of;
-use cp_state::{Core, Gift, Halt};
+use cp_vat_machine::{Effect, PeerFault};
+use cp_vat_rules::come_to::come_to;
+use cp_vat_rules::promised::{path_of, path_of_view};
+use cp_vat_rules::take::answer_of;
+use cp_vat_state::{Core, Gift, Halt};
 
 /// A senderLoopback is echoed, and a receiverLoopback ends its embargo, whatever its target.
 pub(crate) fn on_disembargo(

@@ -1,16 +1,16 @@
 //! What a Finish and a Release do.
 
-ghost use Rattle.cp_machine.specs.Answering.{OnFinish};
-ghost use Rattle.cp_machine.specs.Resolving.{OnRelease};
-ghost use Rattle.cp_state.specs.Halts.{Quiet};
-ghost use Rattle.cp_state.specs.StateOf.{state_of};
+ghost use Rattle.cp_vat_machine.specs.Answering.{OnFinish};
+ghost use Rattle.cp_vat_machine.specs.Resolving.{OnRelease};
+ghost use Rattle.cp_vat_state.specs.Halts.{Quiet};
+ghost use Rattle.cp_vat_state.specs.StateOf.{state_of};
 
-use cp_machine::PeerFault;
 use cp_rpc::{Finish, Release};
-use cp_rules::entry::remove_answer;
-use cp_rules::lower::lower;
-use cp_state::{Core, Halt};
 use cp_tables::Stage;
+use cp_vat_machine::PeerFault;
+use cp_vat_rules::entry::remove_answer;
+use cp_vat_rules::lower::lower;
+use cp_vat_state::{Core, Halt};
 
 /// A Finish of an answer that was given takes it out, and lowers the exports that its results named if
 /// the peer asks for it. An answer that isn't given stays until it is.

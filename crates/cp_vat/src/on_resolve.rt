@@ -3,19 +3,19 @@
 ghost use Rattle.std.specs.Prelude.{◌≡◌, true, option_to_list};
 ghost use Rattle.std.specs.FinMap as map;
 ghost use Rattle.cp_rpc.specs.Told.{told_resolution, told_resolve};
-ghost use Rattle.cp_machine.specs.Resolving.{OnResolve, TakeResolution, given_back, is_open_promise, release_of};
-ghost use Rattle.cp_machine.specs.Supported.{is_supported_resolution};
-ghost use Rattle.cp_state.specs.Halts.{Acts, Leaves};
-ghost use Rattle.cp_state.specs.StateOf.{state_of};
+ghost use Rattle.cp_vat_machine.specs.Resolving.{OnResolve, TakeResolution, given_back, is_open_promise, release_of};
+ghost use Rattle.cp_vat_machine.specs.Supported.{is_supported_resolution};
+ghost use Rattle.cp_vat_state.specs.Halts.{Acts, Leaves};
+ghost use Rattle.cp_vat_state.specs.StateOf.{state_of};
 
-use cp_machine::{Effect, ImportKind, PeerFault};
 use cp_reading::View;
 use cp_refs::Cap;
 use cp_rpc::{
     Descriptor, DescriptorView, Message, Release, Resolution, ResolutionView, Resolve, ResolveView,
 };
-use cp_rules::take::{take, take_view};
-use cp_state::{Core, Halt};
+use cp_vat_machine::{Effect, ImportKind, PeerFault};
+use cp_vat_rules::take::{take, take_view};
+use cp_vat_state::{Core, Halt};
 
 /// A Resolve says what an import came to. What that of an import names which isn't held any more is
 /// given back.

@@ -3,27 +3,27 @@
 ghost use Rattle.std.specs.Prelude.{◌≡◌, Ok, true, if◌then◌else◌};
 ghost use Rattle.cp_rpc.specs.Told.{told_return, told_returned};
 ghost use Rattle.cp_rpc.specs.declared.returned.Returned.{Returned};
-ghost use Rattle.cp_machine.specs.Local.{Local};
-ghost use Rattle.cp_machine.specs.Asking.{OnReturn, Settles, TakeReturned, is_asked};
-ghost use Rattle.cp_machine.specs.Supported.{is_supported_returned};
-ghost use Rattle.cp_machine.specs.Take.{lower};
-ghost use Rattle.cp_state.specs.Halts.{Acts, Leaves, leaving};
-ghost use Rattle.cp_state.specs.StateOf.{state_of};
+ghost use Rattle.cp_vat_machine.specs.Local.{Local};
+ghost use Rattle.cp_vat_machine.specs.Asking.{OnReturn, Settles, TakeReturned, is_asked};
+ghost use Rattle.cp_vat_machine.specs.Supported.{is_supported_returned};
+ghost use Rattle.cp_vat_machine.specs.Take.{lower};
+ghost use Rattle.cp_vat_state.specs.Halts.{Acts, Leaves, leaving};
+ghost use Rattle.cp_vat_state.specs.StateOf.{state_of};
 ghost use Rattle.cp_vat.specs.Receiving.{BeginsReturn};
 ghost use Rattle.cp_vat.specs.Returning.{MaySettle};
 
-use cp_machine::{Effect, PeerFault};
 use cp_reading::View;
 use cp_refs::Outcome;
 use cp_rpc::{Return, ReturnView, Returned, ReturnedView};
-use cp_rules::entry::remove_question;
-use cp_rules::give::give_answer;
-use cp_rules::give_own::give_own;
-use cp_rules::go::finish_effect;
-use cp_rules::lower::lower;
-use cp_rules::take::{take_all, take_all_view};
-use cp_state::{Core, Exported, Halt};
 use cp_tables::Stage;
+use cp_vat_machine::{Effect, PeerFault};
+use cp_vat_rules::entry::remove_question;
+use cp_vat_rules::give::give_answer;
+use cp_vat_rules::give_own::give_own;
+use cp_vat_rules::go::finish_effect;
+use cp_vat_rules::lower::lower;
+use cp_vat_rules::take::{take_all, take_all_view};
+use cp_vat_state::{Core, Exported, Halt};
 
 /// What is left to do of a Return.
 enum Rest {

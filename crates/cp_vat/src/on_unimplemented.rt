@@ -2,18 +2,18 @@
 
 ghost use Rattle.std.specs.Prelude.{◌≡◌, Some};
 ghost use Rattle.cp_rpc.specs.Told.{told};
-ghost use Rattle.cp_machine.specs.Resolving.{OnUnimplemented, UnknownToPeer};
-ghost use Rattle.cp_machine.specs.Step.{echoed};
-ghost use Rattle.cp_state.specs.Halts.{Acts, Quiet};
-ghost use Rattle.cp_state.specs.StateOf.{state_of};
+ghost use Rattle.cp_vat_machine.specs.Resolving.{OnUnimplemented, UnknownToPeer};
+ghost use Rattle.cp_vat_machine.specs.Step.{echoed};
+ghost use Rattle.cp_vat_state.specs.Halts.{Acts, Quiet};
+ghost use Rattle.cp_vat_state.specs.StateOf.{state_of};
 
 use crate::on_resolve::{given_back, given_back_view};
-use cp_machine::{Effect, PeerFault};
 use cp_reading::View;
 use cp_rpc::{Message, MessageIn, MessageView, SchemaFault, message_of, message_view, tree_of};
-use cp_rules::lower::lower;
-use cp_state::{Core, Halt};
 use cp_tree::{Shape, Whole, WriteFault, fits};
+use cp_vat_machine::{Effect, PeerFault};
+use cp_vat_rules::lower::lower;
+use cp_vat_state::{Core, Halt};
 
 /// A Resolve that the peer doesn't know gives back what it named. Any other message is one that this
 /// vat needs.

@@ -2,12 +2,12 @@
 
 ghost use Rattle.std.specs.Prelude.{◌≡◌, true};
 ghost use Rattle.cp_rpc.specs.Told.{told};
-ghost use Rattle.cp_machine.specs.Local.{Local};
-ghost use Rattle.cp_machine.specs.Step.{On, Receives};
-ghost use Rattle.cp_machine.specs.Supported.{is_supported};
-ghost use Rattle.cp_machine.specs.Resolving.{OnAbort};
-ghost use Rattle.cp_state.specs.Halts.{Acts};
-ghost use Rattle.cp_state.specs.StateOf.{state_of};
+ghost use Rattle.cp_vat_machine.specs.Local.{Local};
+ghost use Rattle.cp_vat_machine.specs.Step.{On, Receives};
+ghost use Rattle.cp_vat_machine.specs.Supported.{is_supported};
+ghost use Rattle.cp_vat_machine.specs.Resolving.{OnAbort};
+ghost use Rattle.cp_vat_state.specs.Halts.{Acts};
+ghost use Rattle.cp_vat_state.specs.StateOf.{state_of};
 
 use crate::on_bootstrap::on_bootstrap;
 use crate::on_call::{on_call, on_call_view};
@@ -18,9 +18,9 @@ use crate::on_return::{on_return, on_return_view};
 use crate::on_unimplemented::{echo, on_unimplemented, on_unimplemented_view};
 use crate::sizes::{message_fits, message_fits_view};
 use crate::supported::{is_supported, is_supported_view};
-use cp_machine::{Effect, PeerFault, Reason};
 use cp_rpc::{Exception, Message, MessageIn, MessageView};
-use cp_state::{Core, Halt};
+use cp_vat_machine::{Effect, PeerFault, Reason};
+use cp_vat_state::{Core, Halt};
 
 /// A message that isn't supported is sent back. Of another one the sizes are looked at, and then it is
 /// acted on.

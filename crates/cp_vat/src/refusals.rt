@@ -2,17 +2,17 @@
 
 ghost use Rattle.std.specs.Prelude.{◌≡◌};
 ghost use Rattle.std.specs.List.{list_any, list_all};
-ghost use Rattle.cp_machine.specs.Calling.{call_refusals};
-ghost use Rattle.cp_machine.specs.Doing.{answer_refusals, awaits, resolve_refusals, value_refusals};
-ghost use Rattle.cp_machine.specs.InUse.{caps_of, has_import, has_promise, has_question, is_local_path, is_own_question, is_pipelined};
-ghost use Rattle.cp_state.specs.StateOf.{state_of};
+ghost use Rattle.cp_vat_machine.specs.Calling.{call_refusals};
+ghost use Rattle.cp_vat_machine.specs.Doing.{answer_refusals, awaits, resolve_refusals, value_refusals};
+ghost use Rattle.cp_vat_machine.specs.InUse.{caps_of, has_import, has_promise, has_question, is_local_path, is_own_question, is_pipelined};
+ghost use Rattle.cp_vat_state.specs.StateOf.{state_of};
 ghost use Rattle.cp_vat.specs.Judging.{judged};
 
 use crate::sizes::{cap_fits, outcome_fits, request_fits};
-use cp_machine::VatFault;
 use cp_refs::{Cap, Origin, Outcome, PromiseId, QuestionKind, Request};
-use cp_state::Core;
 use cp_tables::{LIMIT, Stage};
+use cp_vat_machine::VatFault;
+use cp_vat_state::Core;
 
 /// What `call` is refused for, before full tables on its route are looked at.
 pub(crate) fn check_call(core: &Core, cap: &Cap, request: &Request) -> Result<(), VatFault>

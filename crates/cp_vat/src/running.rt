@@ -1,15 +1,15 @@
 //! A list of events, done by one vat.
 
 ghost use Rattle.std.specs.Prelude.{◌≡◌, ◌≤◌, [], vec_len, vec_capacity};
-ghost use Rattle.cp_machine.specs.Step.{Step};
-ghost use Rattle.cp_machine.specs.declared.event.Value.TheVariants as values;
-ghost use Rattle.cp_sizes.specs.Sizes.{AreWritable};
+ghost use Rattle.cp_vat_machine.specs.Step.{Step};
+ghost use Rattle.cp_vat_machine.specs.declared.event.Value.TheVariants as values;
+ghost use Rattle.cp_vat_laws.specs.Sizes.{AreWritable};
 ghost use Rattle.cp_vat.specs.Running.{Continues, Restates, Runs};
 ghost use Rattle.cp_vat.specs.Stepping.{answered, effects_of};
 
 use crate::vat::Vat;
-use cp_machine::{Acted, Event, Idle, Ran, Value, VatFault};
 use cp_refs::PromiseId;
+use cp_vat_machine::{Acted, Event, Idle, Ran, Value, VatFault};
 use std::alloc::Global;
 
 /// Does events in order on a new vat, which gives this object to a Bootstrap, and stops at the first

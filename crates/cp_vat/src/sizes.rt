@@ -3,7 +3,7 @@
 ghost use Rattle.std.specs.Prelude.{◌≡◌};
 ghost use Rattle.std.specs.List.{list_all};
 ghost use Rattle.cp_rpc.specs.Told.{told, told_descriptor, told_exception, told_payload, told_resolution, told_returned, told_target};
-ghost use Rattle.cp_machine.specs.Capacity.{cap_fits, caps_fit, content_fits, descriptor_fits, exception_fits, message_fits, outcome_fits, payload_fits, request_fits, resolution_fits, returned_fits, target_fits, transform_fits};
+ghost use Rattle.cp_vat_machine.specs.Capacity.{cap_fits, caps_fit, content_fits, descriptor_fits, exception_fits, message_fits, outcome_fits, payload_fits, request_fits, resolution_fits, returned_fits, target_fits, transform_fits};
 
 use cp_reading::View;
 use cp_refs::{Cap, Outcome, Request};

@@ -3,7 +3,7 @@
 ghost use Rattle.std.specs.Prelude.{◌≡◌};
 ghost use Rattle.std.specs.List.{list_all};
 ghost use Rattle.cp_rpc.specs.Told.{told, told_descriptor, told_resolution, told_returned, told_target};
-ghost use Rattle.cp_machine.specs.Supported.{is_supported, is_supported_context, is_supported_descriptor, is_supported_resolution, is_supported_returned, is_supported_target, is_supported_transform};
+ghost use Rattle.cp_vat_machine.specs.Supported.{is_supported, is_supported_context, is_supported_descriptor, is_supported_resolution, is_supported_returned, is_supported_target, is_supported_transform};
 
 use cp_reading::View;
 use cp_rpc::{

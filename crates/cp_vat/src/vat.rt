@@ -2,20 +2,20 @@
 
 ghost use Rattle.std.specs.Prelude.{◌≡◌};
 ghost use Rattle.cp_rpc.specs.Told.{told};
-ghost use Rattle.cp_machine.specs.State.{new_state};
-ghost use Rattle.cp_machine.specs.Step.{Step};
-ghost use Rattle.cp_machine.specs.declared.event.Event.TheVariants as events;
-ghost use Rattle.cp_machine.specs.declared.event.Value.TheVariants as values;
-ghost use Rattle.cp_sizes.specs.Sizes.{AreWritable};
+ghost use Rattle.cp_vat_machine.specs.State.{new_state};
+ghost use Rattle.cp_vat_machine.specs.Step.{Step};
+ghost use Rattle.cp_vat_machine.specs.declared.event.Event.TheVariants as events;
+ghost use Rattle.cp_vat_machine.specs.declared.event.Value.TheVariants as values;
+ghost use Rattle.cp_vat_laws.specs.Sizes.{AreWritable};
 ghost use Rattle.cp_vat.specs.Kept.{entries_of};
 ghost use Rattle.cp_vat.specs.Stepping.{answered, effects_of};
 
 use crate::ending::{end_call, end_message};
 use crate::{answering, asking, calling, giving_up, receiving};
-use cp_machine::{Acted, Idle, VatFault};
 use cp_refs::{Cap, Origin, Outcome, PromiseId, Request};
 use cp_rpc::{Message, MessageView};
-use cp_state::Core;
+use cp_vat_machine::{Acted, Idle, VatFault};
+use cp_vat_state::Core;
 use std::alloc::Global;
 use std::marker::Model;
 
@@ -71,14 +71,14 @@ impl Drop for Vat {
 }
 
 impl Model for Vat {
-    ghost use Rattle.cp_machine.specs.State.{State};
+    ghost use Rattle.cp_vat_machine.specs.State.{State};
     ghost use Rattle.cp_vat.specs.StateCode.{state_code};
 
     ghost Value = { State };
 
     ghost coded = { state_code };
 
-    ghost use Rattle.cp_state.specs.StateOf.{state_of};
+    ghost use Rattle.cp_vat_state.specs.StateOf.{state_of};
 
     ghost view = { λ v. state_of v.core };
 

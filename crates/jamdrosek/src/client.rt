@@ -26,5 +26,5 @@ pub use cp_client::{Client, ClientFault, Question, request_of, word_at};
 pub use cp_connection::ConnectionFault;
 pub use cp_contents::{Content, data_in, results_of, text_in, word_in};
 pub use cp_exports::Exports;
-pub use cp_machine::Reason;
 pub use cp_refs::{Cap, Caps, Outcome, Path, Request};
+pub use cp_vat_machine::Reason;

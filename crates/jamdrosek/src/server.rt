@@ -27,7 +27,7 @@
 //! The reader and the writer may be the two ends of a `TcpStream`, `&stream` twice, or bytes in memory.
 
 pub use cp_contents::{Content, data_in, text_in, word_in};
-pub use cp_machine::{Ids, PeerFault, Reason};
 pub use cp_refs::{Cap, Caps, Outcome, Request};
 pub use cp_servants::{Ask, Cell, Desk, Reply, Script, Servant, Settled};
 pub use cp_serve::{Report, ServeFault, serve};
+pub use cp_vat_machine::{Ids, PeerFault, Reason};

@@ -19,8 +19,8 @@
 //! yours, and `resolve` settles it. `release` gives an import back, and `forget` drops a settled promise;
 //! `idle` says which of these nothing uses any more.
 
-pub use cp_machine::{
-    Acted, Effect, Effects, Event, Idle, Ids, PeerFault, Reason, Value, VatFault,
-};
 pub use cp_refs::{Cap, Caps, Origin, Outcome, Path, PromiseId, Request};
 pub use cp_vat::Vat;
+pub use cp_vat_machine::{
+    Acted, Effect, Effects, Event, Idle, Ids, PeerFault, Reason, Value, VatFault,
+};

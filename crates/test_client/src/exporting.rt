@@ -5,9 +5,9 @@ use cp_client::{Client, ClientFault, word_at};
 use cp_contents::Content;
 use cp_exports::Exports;
 use cp_frame::Mode;
-use cp_machine::Ids;
 use cp_refs::{Cap, Outcome, Request};
 use cp_servants::{Ask, Cell, Reply, Servant, Settled};
+use cp_vat_machine::Ids;
 use cp_words::Limits;
 use std::alloc::{AllocError, Global};
 

@@ -3,11 +3,11 @@
 use crate::playing::is_reported;
 use crate::script::UNREAD;
 use cp_frame::Mode;
-use cp_machine::{Acted, Effect, Value};
 use cp_rpc::Message;
 use cp_scripts::{Lines, event_of};
 use cp_stream::{Tap, write_message};
 use cp_vat::Vat;
+use cp_vat_machine::{Acted, Effect, Value};
 use cp_words::Limits;
 use std::alloc::Global;
 

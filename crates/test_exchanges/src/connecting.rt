@@ -6,10 +6,10 @@ use crate::playing::{is_reported, said};
 use crate::script::UNREAD;
 use cp_connection::{Connection, ConnectionFault, Happening};
 use cp_frame::Mode;
-use cp_machine::{Acted, Effect, Effects, Event, Idle, Value, VatFault};
 use cp_rpc::Message;
 use cp_scripts::{Lines, event_of};
 use cp_stream::{Tap, write_message};
+use cp_vat_machine::{Acted, Effect, Effects, Event, Idle, Value, VatFault};
 use cp_words::Limits;
 use std::alloc::Global;
 

@@ -1,9 +1,9 @@
 //! Scripts, played event by event.
 
 use crate::script::UNREAD;
-use cp_machine::{Acted, Value, VatFault};
 use cp_scripts::{Lines, Taken, act, event_of};
 use cp_vat::Vat;
+use cp_vat_machine::{Acted, Value, VatFault};
 use std::alloc::Global;
 
 /// A vat, which takes in messages in one way.

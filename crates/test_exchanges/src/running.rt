@@ -1,9 +1,9 @@
 //! Scripts, played by `run` as one list of events.
 
 use crate::playing::{is_reported, said};
-use cp_machine::{Event, Ran};
 use cp_scripts::{Lines, event_of};
 use cp_vat::run;
+use cp_vat_machine::{Event, Ran};
 use std::alloc::Global;
 
 /// The lines of what a new vat does when it runs all events of a script, up to the first that it refuses.

@@ -6,11 +6,11 @@ use crate::servants::Object;
 use crate::serving::{bytes_of, expect_lines};
 use crate::sessions::WAITING;
 use cp_frame::Mode;
-use cp_machine::Ids;
 use cp_objects::Objects;
 use cp_refs::{Cap, Caps, Outcome, Request};
 use cp_servants::{Ask, Reply, Settled};
 use cp_tree::{Body, Tree, Whole};
+use cp_vat_machine::Ids;
 use std::alloc::{AllocError, Global};
 use std::process::Abort;
 

@@ -4,11 +4,11 @@ use crate::frames::{ABORT, BOOTSTRAP, BOOTSTRAP_AGAIN, Frame, LATER, STRANGE_FIN
 use crate::servants::Object;
 use crate::serving::{bytes_of, decoded, expect_lines, expect_report, report_of, served};
 use cp_frame::{FrameFault, Mode};
-use cp_machine::{PeerFault, Reason};
 use cp_reading::TreeFault;
 use cp_rpc::{Field, SchemaFault};
 use cp_serve::ServeFault;
 use cp_stream::{Refusal, StreamFault};
+use cp_vat_machine::{PeerFault, Reason};
 use cp_words::Place;
 use std::alloc::Global;
 use std::process::Abort;

@@ -1,10 +1,10 @@
 //! What a server's faults print.
 
 use cp_frame::FrameFault;
-use cp_machine::{PeerFault, Reason};
 use cp_rpc::{Exception, ExceptionKind, Text};
 use cp_serve::ServeFault;
 use cp_stream::{Refusal, StreamFault};
+use cp_vat_machine::{PeerFault, Reason};
 use std::alloc::Global;
 use std::fmt::Display;
 use std::process::Abort;

@@ -1,10 +1,10 @@
 //! Objects of the tests.
 
 use crate::calling::Adder;
-use cp_machine::Ids;
 use cp_refs::{Cap, Caps, Outcome, Request};
 use cp_servants::{Ask, Cell, Desk, Reply, Script, Servant, Settled};
 use cp_tree::Whole;
+use cp_vat_machine::Ids;
 use std::alloc::{AllocError, Global};
 
 /// Results of no content.

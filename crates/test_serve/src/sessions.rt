@@ -4,10 +4,10 @@ use crate::frames::*;
 use crate::servants::{Late, Object, nothing};
 use crate::serving::{bytes_of, decoded, expect, expect_lines, report_of, served};
 use cp_frame::Mode;
-use cp_machine::Ids;
 use cp_refs::{Cap, Caps, Outcome};
 use cp_servants::{Reply, Script, Settled};
 use cp_tree::{Body, Tree, Whole};
+use cp_vat_machine::Ids;
 use std::alloc::Global;
 use std::process::Abort;
 

@@ -1,7 +1,7 @@
 //! What each fault prints.
 
-use cp_machine::{PeerFault, VatFault};
 use cp_tables::TableFault;
+use cp_vat_machine::{PeerFault, VatFault};
 use std::alloc::Global;
 use std::fmt::Display;
 use std::process::Abort;

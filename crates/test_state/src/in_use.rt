@@ -1,10 +1,10 @@
 //! What is in use.
 
 use crate::marks::embargo;
-use cp_machine::ImportKind;
 use cp_refs::{Cap, Caps, Gate, Held, KeptOutcome, Origin, Outcome, Path, PromiseId, Request};
-use cp_state::{Core, Gift, Hosted};
 use cp_tree::Whole;
+use cp_vat_machine::ImportKind;
+use cp_vat_state::{Core, Gift, Hosted};
 use std::alloc::Global;
 use std::process::Abort;
 

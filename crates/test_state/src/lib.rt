@@ -1,4 +1,4 @@
-//! Tests of cp_refs and cp_state, over their libraries. They are one crate, since what std and these libraries say is read anew for
+//! Tests of cp_refs and cp_vat_state, over their libraries. They are one crate, since what std and these libraries say is read anew for
 //! each.
 #![tactic(auto)]
 

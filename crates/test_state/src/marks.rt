@@ -1,7 +1,7 @@
 //! Marks and embargoes.
 
 use cp_refs::{Cap, Path};
-use cp_state::{Halt, Marks, PathMarks};
+use cp_vat_state::{Halt, Marks, PathMarks};
 use std::alloc::Global;
 use std::process::Abort;
 

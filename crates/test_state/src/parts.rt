@@ -1,9 +1,9 @@
 //! The parts on their happy paths.
 
-use cp_machine::PeerFault;
 use cp_refs::{Cap, Caps, Gate, Held, Origin, PromiseId, Request};
-use cp_state::{Exported, Gates, Gift, Hosted};
 use cp_tree::{Tree, Whole};
+use cp_vat_machine::PeerFault;
+use cp_vat_state::{Exported, Gates, Gift, Hosted};
 use std::alloc::Global;
 use std::process::Abort;
 

@@ -1,9 +1,9 @@
 //! What promises, imports, answers and questions came to, and the application's own promises.
 
-use cp_machine::PeerFault;
 use cp_refs::{Cap, KeptOutcome, Outcome, PromiseId, QuestionKind};
-use cp_state::{Halt, NumberedValues, OwnPromises};
 use cp_tables::TableFault;
+use cp_vat_machine::PeerFault;
+use cp_vat_state::{Halt, NumberedValues, OwnPromises};
 use std::alloc::Global;
 use std::process::Abort;
 

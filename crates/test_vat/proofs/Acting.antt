@@ -15,21 +15,21 @@ use Rattle.cp_refs.specs.declared.call.Origin.{Origin}
 use Rattle.cp_refs.specs.declared.call.Origin.TheVariants as origins
 use Rattle.cp_refs.specs.declared.outcome.Outcome.{Outcome}
 use Rattle.cp_refs.specs.declared.values.QuestionKind.TheVariants as kinds
-use Rattle.cp_machine.specs.State.{with_questions}
-use Rattle.cp_machine.specs.Then.{Done, fault_if}
-use Rattle.cp_machine.specs.Capacity.{cap_fits, outcome_fits}
-use Rattle.cp_machine.specs.Say.{end_by}
-use Rattle.cp_machine.specs.Go.{finish_of}
-use Rattle.cp_machine.specs.InUse.{caps_of, is_own, is_pipelined, is_unsettled}
-use Rattle.cp_machine.specs.Calling.{not_all}
-use Rattle.cp_machine.specs.Resolving.{release_of}
-use Rattle.cp_machine.specs.Doing.{Quietly, DoBootstrap, is_ungiven_answer, is_ungiven_question, awaits, answer_refusals, DoAnswer, DoPromise, is_settled, resolve_refusals, Resolves, DoResolve, told_if, FinishBy, Finishes, DoFinish, without_import, DoRelease, without_promise, DoForget, DoIdle}
-use Rattle.cp_machine.specs.declared.effect.Effect.TheVariants as effects
-use Rattle.cp_machine.specs.declared.entry.QuestionEntry.{QuestionEntry}
-use Rattle.cp_machine.specs.declared.event.Value.TheVariants as values
-use Rattle.cp_machine.specs.declared.fault.PeerFault.{PeerFault}
-use Rattle.cp_machine.specs.declared.fault.VatFault.{VatFault}
-use Rattle.cp_machine.specs.declared.fault.VatFault.TheVariants as refusals
+use Rattle.cp_vat_machine.specs.State.{with_questions}
+use Rattle.cp_vat_machine.specs.Then.{Done, fault_if}
+use Rattle.cp_vat_machine.specs.Capacity.{cap_fits, outcome_fits}
+use Rattle.cp_vat_machine.specs.Say.{end_by}
+use Rattle.cp_vat_machine.specs.Go.{finish_of}
+use Rattle.cp_vat_machine.specs.InUse.{caps_of, is_own, is_pipelined, is_unsettled}
+use Rattle.cp_vat_machine.specs.Calling.{not_all}
+use Rattle.cp_vat_machine.specs.Resolving.{release_of}
+use Rattle.cp_vat_machine.specs.Doing.{Quietly, DoBootstrap, is_ungiven_answer, is_ungiven_question, awaits, answer_refusals, DoAnswer, DoPromise, is_settled, resolve_refusals, Resolves, DoResolve, told_if, FinishBy, Finishes, DoFinish, without_import, DoRelease, without_promise, DoForget, DoIdle}
+use Rattle.cp_vat_machine.specs.declared.effect.Effect.TheVariants as effects
+use Rattle.cp_vat_machine.specs.declared.entry.QuestionEntry.{QuestionEntry}
+use Rattle.cp_vat_machine.specs.declared.event.Value.TheVariants as values
+use Rattle.cp_vat_machine.specs.declared.fault.PeerFault.{PeerFault}
+use Rattle.cp_vat_machine.specs.declared.fault.VatFault.{VatFault}
+use Rattle.cp_vat_machine.specs.declared.fault.VatFault.TheVariants as refusals
 use Rattle.test_vat.proofs.Known.{Known, state, at, get_is, without, remove_is}
 use Rattle.test_vat.proofs.Found.{Finds, lacks, found, beside, moved, unless, follow, so}
 use Rattle.test_vat.proofs.Finding.{find_fresh, way_of, end_of, end_is, is_promise, same_promise, no_promise}

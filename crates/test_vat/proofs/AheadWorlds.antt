@@ -12,13 +12,13 @@ use Rattle.cp_refs.specs.Route.{promise_way}
 use Rattle.cp_refs.specs.Values.{ValueMaps}
 use Rattle.cp_refs.specs.declared.cap.Cap.TheVariants as caps
 use Rattle.cp_refs.specs.declared.outcome.Outcome.TheVariants as outcomes
-use Rattle.cp_machine.specs.Say.{ComesTo, end_by, end_within}
-use Rattle.cp_machine.specs.Calling.{plain, on_wire, came_to, reference_of, question_reference}
-use Rattle.cp_machine.specs.Calling as calling
-use Rattle.cp_machine.specs.InUse.{is_question_here}
-use Rattle.cp_worlds.specs.Lane.{cap_of}
-use Rattle.cp_worlds.specs.Naming.{answered_cap, place_of}
-use Rattle.cp_worlds.specs.Phases.{EndsAt, IsOnly, tells, told_by, Phase, absent, unopened, unsettled, told, free, marked, embargoed, echoed, local_open, ToldOther}
+use Rattle.cp_vat_machine.specs.Say.{ComesTo, end_by, end_within}
+use Rattle.cp_vat_machine.specs.Calling.{plain, on_wire, came_to, reference_of, question_reference}
+use Rattle.cp_vat_machine.specs.Calling as calling
+use Rattle.cp_vat_machine.specs.InUse.{is_question_here}
+use Rattle.cp_vat_worlds.specs.Lane.{cap_of}
+use Rattle.cp_vat_worlds.specs.Naming.{answered_cap, place_of}
+use Rattle.cp_vat_worlds.specs.Phases.{EndsAt, IsOnly, tells, told_by, Phase, absent, unopened, unsettled, told, free, marked, embargoed, echoed, local_open, ToldOther}
 use Rattle.test_vat.specs.RowWords.{return_message, resolve_message, results, one_object}
 use Rattle.test_vat.specs.LaneRows.{given_reference}
 use Rattle.test_vat.specs.LaneWorlds.{settled_ahead, IsToldAhead, SettledAhead}

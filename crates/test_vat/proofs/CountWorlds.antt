@@ -12,18 +12,18 @@ use Rattle.cp_refs.specs.declared.cap.Cap.{Cap}
 use Rattle.cp_refs.specs.declared.call.Held.{Held}
 use Rattle.cp_refs.specs.declared.call.Origin.TheVariants as origins
 use Rattle.cp_refs.specs.declared.route.Gate.TheVariants as gates
-use Rattle.cp_machine.specs.InUse.{is_import, caps_given, value_unless}
-use Rattle.cp_machine.specs.Take.{times, less_by}
-use Rattle.cp_machine.specs.Step.{Receives}
-use Rattle.cp_machine.specs.declared.fault.PeerFault.{PeerFault}
-use Rattle.cp_machine.specs.declared.fault.PeerFault.TheVariants as faults
-use Rattle.cp_worlds.specs.Accounts.{accounts_of, asked_account, kept_account, is_given_up, results_in}
-use Rattle.cp_worlds.specs.Owed.{owed, named_on_way}
-use Rattle.cp_worlds.specs.World.{at_second, World}
-use Rattle.cp_worlds.specs.Orderly.{IsHeldBack, IsPlainValue, IsPlainAnswer, IsPlainExport, IsOrderly}
-use Rattle.cp_worlds.specs.Numbers.{IsHeldThere}
-use Rattle.cp_worlds.specs.Expected.{stage_of, IsAwaited, IsKept}
-use Rattle.cp_worlds.proofs.counts.Moves.{holds_of}
+use Rattle.cp_vat_machine.specs.InUse.{is_import, caps_given, value_unless}
+use Rattle.cp_vat_machine.specs.Take.{times, less_by}
+use Rattle.cp_vat_machine.specs.Step.{Receives}
+use Rattle.cp_vat_machine.specs.declared.fault.PeerFault.{PeerFault}
+use Rattle.cp_vat_machine.specs.declared.fault.PeerFault.TheVariants as faults
+use Rattle.cp_vat_worlds.specs.Accounts.{accounts_of, asked_account, kept_account, is_given_up, results_in}
+use Rattle.cp_vat_worlds.specs.Owed.{owed, named_on_way}
+use Rattle.cp_vat_worlds.specs.World.{at_second, World}
+use Rattle.cp_vat_worlds.specs.Orderly.{IsHeldBack, IsPlainValue, IsPlainAnswer, IsPlainExport, IsOrderly}
+use Rattle.cp_vat_worlds.specs.Numbers.{IsHeldThere}
+use Rattle.cp_vat_worlds.specs.Expected.{stage_of, IsAwaited, IsKept}
+use Rattle.cp_vat_worlds.proofs.counts.Moves.{holds_of}
 use Rattle.test_vat.specs.CountWorlds.{crossing, IsOwedByFinish, IsNextExpected, with_more, IsTooMuch, Crossing, ignored, IgnoredIsOwed, answered_with_own, IsLeftForAnswer, AnswerKeepsExport, sent_for_ignored, waiting_call, IsOrderlyAsItIs, WaitingIsOrderly}
 use Rattle.test_vat.specs.RowWords.{release_message, small_request}
 use Rattle.test_vat.proofs.Known.{get_is, entries_is}

@@ -6,13 +6,13 @@ use Rattle.cp_refs.specs.declared.cap.Cap.{Cap}
 use Rattle.cp_refs.specs.declared.cap.Cap.TheVariants as caps
 use Rattle.cp_refs.specs.declared.call.Origin.{Origin}
 use Rattle.cp_refs.specs.declared.call.Origin.TheVariants as origins
-use Rattle.cp_machine.specs.Calling.{came_to, reference_of}
-use Rattle.cp_machine.specs.Calling as calling
-use Rattle.cp_machine.specs.Run.{Moment}
-use Rattle.cp_machine.specs.declared.effect.Effect.{Effect}
-use Rattle.cp_machine.specs.declared.effect.Effect.TheVariants as effects
-use Rattle.cp_worlds.specs.World.{World, Side, at_first, at_second, across, end_of}
-use Rattle.cp_worlds.specs.Lane.{Reference, cap_of, is_side, made, own_ticket, answer_forwarded, ticket_borne, Delivery, delivery_of, deliveries_of, deliveries, delivered_among}
+use Rattle.cp_vat_machine.specs.Calling.{came_to, reference_of}
+use Rattle.cp_vat_machine.specs.Calling as calling
+use Rattle.cp_vat_machine.specs.Run.{Moment}
+use Rattle.cp_vat_machine.specs.declared.effect.Effect.{Effect}
+use Rattle.cp_vat_machine.specs.declared.effect.Effect.TheVariants as effects
+use Rattle.cp_vat_worlds.specs.World.{World, Side, at_first, at_second, across, end_of}
+use Rattle.cp_vat_worlds.specs.Lane.{Reference, cap_of, is_side, made, own_ticket, answer_forwarded, ticket_borne, Delivery, delivery_of, deliveries_of, deliveries, delivered_among}
 use Rattle.test_vat.specs.WorldRows.{turn_of}
 use Rattle.test_vat.specs.LaneRows.{delivered_at, IsLane}
 use Rattle.test_vat.proofs.Known.{Known, state, at, get_is}

@@ -29,23 +29,23 @@ use Rattle.cp_refs.specs.declared.route.Route.{Route}
 use Rattle.cp_refs.specs.declared.route.Route.TheVariants as routes
 use Rattle.cp_refs.specs.declared.values.Question.{Question}
 use Rattle.cp_refs.specs.declared.values.QuestionKind.TheVariants as kinds
-use Rattle.cp_machine.specs.State.{State, new_state, none_over, with_over, with_exports}
-use Rattle.cp_machine.specs.Then.{Done, Then, OrFull}
-use Rattle.cp_machine.specs.Capacity.{Fresh}
-use Rattle.cp_machine.specs.Say.{SayAll, promised}
-use Rattle.cp_machine.specs.Take.{Take, TakeAll, taken_export}
-use Rattle.cp_machine.specs.Give.{GiveOwn, GiveOwnBy, question_settled}
-use Rattle.cp_machine.specs.Go.{Underway, Go, GoTo, GoOut, call_of, sent}
-use Rattle.cp_machine.specs.Asking.{TakeReturned, Settles, ReturnBy, ReturnOf, OnReturn}
-use Rattle.cp_machine.specs.Calling.{OwnDone, Reference, on_wire, came_to, reference_of, asked, called, own_call, mark_of, with_mark, marked, disembargo_of, FirstEmbargoed, GoBack, GoFrom, Opens, call_refusals, DoCall}
-use Rattle.cp_machine.specs.Step.{Step}
-use Rattle.cp_machine.specs.declared.effect.Effect.{Effect}
-use Rattle.cp_machine.specs.declared.effect.Effect.TheVariants as effects
-use Rattle.cp_machine.specs.declared.entry.QuestionEntry.{QuestionEntry}
-use Rattle.cp_machine.specs.declared.event.Event.TheVariants as events
-use Rattle.cp_machine.specs.declared.event.Value.{Value}
-use Rattle.cp_machine.specs.declared.event.Value.TheVariants as values
-use Rattle.cp_machine.specs.declared.fault.PeerFault.{PeerFault}
+use Rattle.cp_vat_machine.specs.State.{State, new_state, none_over, with_over, with_exports}
+use Rattle.cp_vat_machine.specs.Then.{Done, Then, OrFull}
+use Rattle.cp_vat_machine.specs.Capacity.{Fresh}
+use Rattle.cp_vat_machine.specs.Say.{SayAll, promised}
+use Rattle.cp_vat_machine.specs.Take.{Take, TakeAll, taken_export}
+use Rattle.cp_vat_machine.specs.Give.{GiveOwn, GiveOwnBy, question_settled}
+use Rattle.cp_vat_machine.specs.Go.{Underway, Go, GoTo, GoOut, call_of, sent}
+use Rattle.cp_vat_machine.specs.Asking.{TakeReturned, Settles, ReturnBy, ReturnOf, OnReturn}
+use Rattle.cp_vat_machine.specs.Calling.{OwnDone, Reference, on_wire, came_to, reference_of, asked, called, own_call, mark_of, with_mark, marked, disembargo_of, FirstEmbargoed, GoBack, GoFrom, Opens, call_refusals, DoCall}
+use Rattle.cp_vat_machine.specs.Step.{Step}
+use Rattle.cp_vat_machine.specs.declared.effect.Effect.{Effect}
+use Rattle.cp_vat_machine.specs.declared.effect.Effect.TheVariants as effects
+use Rattle.cp_vat_machine.specs.declared.entry.QuestionEntry.{QuestionEntry}
+use Rattle.cp_vat_machine.specs.declared.event.Event.TheVariants as events
+use Rattle.cp_vat_machine.specs.declared.event.Value.{Value}
+use Rattle.cp_vat_machine.specs.declared.event.Value.TheVariants as values
+use Rattle.cp_vat_machine.specs.declared.fault.PeerFault.{PeerFault}
 use Rattle.test_vat.specs.Rows.{small_request}
 use Rattle.test_vat.specs.OrderRows.{IsNoRun, bootstrap_cap, with_object, object_3, object_returned, embargo_skipped}
 use Rattle.test_vat.proofs.OneWaits.{none_waits}

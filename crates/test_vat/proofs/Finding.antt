@@ -10,10 +10,10 @@ use Rattle.cp_refs.specs.declared.cap.Cap.{Cap}
 use Rattle.cp_refs.specs.declared.cap.Cap.TheVariants as caps
 use Rattle.cp_refs.specs.declared.route.Route.{Route}
 use Rattle.cp_rpc.specs.declared.descriptor.Descriptor.TheVariants as descriptors
-use Rattle.cp_machine.specs.Capacity.{Fresh, free, full, has_capacity}
-use Rattle.cp_machine.specs.Say.{end_by, end_within, ComesTo, HasNoExport, Raise, counted, opened, has_no_capacity, SayEnd, Say, SayAll}
-use Rattle.cp_machine.specs.Say.{promised as promised_answer}
-use Rattle.cp_machine.specs.declared.fault.PeerFault.TheVariants as faults
+use Rattle.cp_vat_machine.specs.Capacity.{Fresh, free, full, has_capacity}
+use Rattle.cp_vat_machine.specs.Say.{end_by, end_within, ComesTo, HasNoExport, Raise, counted, opened, has_no_capacity, SayEnd, Say, SayAll}
+use Rattle.cp_vat_machine.specs.Say.{promised as promised_answer}
+use Rattle.cp_vat_machine.specs.declared.fault.PeerFault.TheVariants as faults
 use Rattle.test_vat.proofs.Known.{Listed, tabled, Known, state, at, get_is, size, len_is}
 use Rattle.test_vat.proofs.Found.{Finds, lacks, found, beside, plain, follow, find_each}
 

@@ -16,12 +16,12 @@ use Rattle.cp_refs.specs.declared.call.Origin.{Origin}
 use Rattle.cp_refs.specs.declared.call.Origin.TheVariants as origins
 use Rattle.cp_refs.specs.declared.outcome.Outcome.{Outcome}
 use Rattle.cp_refs.specs.declared.outcome.Outcome.TheVariants as outcomes
-use Rattle.cp_machine.specs.State.{State}
-use Rattle.cp_machine.specs.Then.{Then, after}
-use Rattle.cp_machine.specs.Give.{return_of, resolve_of, ResolvesEnd, Tells, value_for, last_for, Settle, SettleTied, Returns, returned_mentions, gone, GiveBy, GiveAnswer, question_settled, is_path_of, without_question, GiveOwnBy, GiveOwn, Give}
-use Rattle.cp_machine.specs.declared.effect.Effect.TheVariants as effects
-use Rattle.cp_machine.specs.declared.entry.AnswerEntry.{AnswerEntry}
-use Rattle.cp_machine.specs.declared.entry.Tied.{Tied}
+use Rattle.cp_vat_machine.specs.State.{State}
+use Rattle.cp_vat_machine.specs.Then.{Then, after}
+use Rattle.cp_vat_machine.specs.Give.{return_of, resolve_of, ResolvesEnd, Tells, value_for, last_for, Settle, SettleTied, Returns, returned_mentions, gone, GiveBy, GiveAnswer, question_settled, is_path_of, without_question, GiveOwnBy, GiveOwn, Give}
+use Rattle.cp_vat_machine.specs.declared.effect.Effect.TheVariants as effects
+use Rattle.cp_vat_machine.specs.declared.entry.AnswerEntry.{AnswerEntry}
+use Rattle.cp_vat_machine.specs.declared.entry.Tied.{Tied}
 use Rattle.test_vat.proofs.Known.{Known, state, without, remove_is, retain_path_is}
 use Rattle.test_vat.proofs.Found.{Finds, lacks, found, beside, moved, follow, so, holding}
 use Rattle.test_vat.proofs.Finding.{ending, under, nowhere, unknown, Promised, promised, find_said_end, find_all_said}

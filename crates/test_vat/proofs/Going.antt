@@ -21,14 +21,14 @@ use Rattle.cp_refs.specs.declared.route.Gate.{Gate}
 use Rattle.cp_refs.specs.declared.route.Gate.TheVariants as gates
 use Rattle.cp_refs.specs.declared.route.Route.{Route}
 use Rattle.cp_refs.specs.declared.route.Route.TheVariants as routes
-use Rattle.cp_machine.specs.State.{gave}
-use Rattle.cp_machine.specs.Say.{promised}
-use Rattle.cp_machine.specs.Say.{mentions_of}
-use Rattle.cp_machine.specs.Go.{Underway, delivered, call_of, forwarding, sent, finish_after, GoOut, Go, GoTo, NoneOver, IsNext, without_call, underway, Leave, stays, leaves, finds_table_full}
-use Rattle.cp_machine.specs.declared.effect.Effect.{Effect}
-use Rattle.cp_machine.specs.declared.effect.Effect.TheVariants as effects
-use Rattle.cp_machine.specs.declared.entry.QuestionEntry.{QuestionEntry}
-use Rattle.cp_machine.specs.declared.fault.PeerFault.{PeerFault}
+use Rattle.cp_vat_machine.specs.State.{gave}
+use Rattle.cp_vat_machine.specs.Say.{promised}
+use Rattle.cp_vat_machine.specs.Say.{mentions_of}
+use Rattle.cp_vat_machine.specs.Go.{Underway, delivered, call_of, forwarding, sent, finish_after, GoOut, Go, GoTo, NoneOver, IsNext, without_call, underway, Leave, stays, leaves, finds_table_full}
+use Rattle.cp_vat_machine.specs.declared.effect.Effect.{Effect}
+use Rattle.cp_vat_machine.specs.declared.effect.Effect.TheVariants as effects
+use Rattle.cp_vat_machine.specs.declared.entry.QuestionEntry.{QuestionEntry}
+use Rattle.cp_vat_machine.specs.declared.fault.PeerFault.{PeerFault}
 use Rattle.test_vat.proofs.Known.{Listed, at, get_is, Known, state, rested, without, remove_is}
 use Rattle.test_vat.proofs.Found.{Finds, lacks, found, seen, beside, moved, follow, holding}
 use Rattle.test_vat.proofs.Finding.{find_fresh, find_all_said, routing}

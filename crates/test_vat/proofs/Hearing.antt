@@ -21,16 +21,16 @@ use Rattle.cp_refs.specs.At.{cap_at}
 use Rattle.cp_refs.specs.declared.cap.Cap.{Cap}
 use Rattle.cp_refs.specs.declared.cap.Cap.TheVariants as caps
 use Rattle.cp_refs.specs.declared.outcome.Outcome.{Outcome}
-use Rattle.cp_machine.specs.Then.{fault_if}
-use Rattle.cp_machine.specs.Capacity.{message_fits}
-use Rattle.cp_machine.specs.Supported.{is_supported}
-use Rattle.cp_machine.specs.Take.{path_of}
-use Rattle.cp_machine.specs.Resolving.{OnRelease, given_back, releases_of, is_open_promise, TakeResolution, ResolveOf, OnResolve, echo_to, Echoes, EchoesExport, EchoesAnswer, EchoesTarget, is_under, embargo_ended, ended_by, OnDisembargo, told, UnknownToPeer}
-use Rattle.cp_machine.specs.Step.{On, echo_fits, ReceivesIf, Receives}
-use Rattle.cp_machine.specs.declared.effect.Effect.TheVariants as effects
-use Rattle.cp_machine.specs.declared.effect.Reason.TheVariants as reasons
-use Rattle.cp_machine.specs.declared.entry.ImportKind.{ImportKind}
-use Rattle.cp_machine.specs.declared.fault.PeerFault.TheVariants as faults
+use Rattle.cp_vat_machine.specs.Then.{fault_if}
+use Rattle.cp_vat_machine.specs.Capacity.{message_fits}
+use Rattle.cp_vat_machine.specs.Supported.{is_supported}
+use Rattle.cp_vat_machine.specs.Take.{path_of}
+use Rattle.cp_vat_machine.specs.Resolving.{OnRelease, given_back, releases_of, is_open_promise, TakeResolution, ResolveOf, OnResolve, echo_to, Echoes, EchoesExport, EchoesAnswer, EchoesTarget, is_under, embargo_ended, ended_by, OnDisembargo, told, UnknownToPeer}
+use Rattle.cp_vat_machine.specs.Step.{On, echo_fits, ReceivesIf, Receives}
+use Rattle.cp_vat_machine.specs.declared.effect.Effect.TheVariants as effects
+use Rattle.cp_vat_machine.specs.declared.effect.Reason.TheVariants as reasons
+use Rattle.cp_vat_machine.specs.declared.entry.ImportKind.{ImportKind}
+use Rattle.cp_vat_machine.specs.declared.fault.PeerFault.TheVariants as faults
 use Rattle.test_vat.proofs.Known.{Known, state, tabled, pathed, at, at_path, get_is, get_path_is, without, remove_is, retain_is, retain_path_is}
 use Rattle.test_vat.proofs.Found.{Finds, lacks, found, beside, moved, decide, unless, follow}
 use Rattle.test_vat.proofs.Finding.{ending}

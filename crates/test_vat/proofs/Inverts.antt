@@ -5,19 +5,19 @@ use Rattle.std.specs.FinMap.{get}
 use Rattle.std.proofs.Common.{sym, ap, ◌∙◌, true≢false, inl, inr}
 use Rattle.cp_refs.specs.declared.cap.Cap.{Cap}
 use Rattle.cp_refs.specs.declared.call.Held.{Held}
-use Rattle.cp_machine.specs.State.{State, gave, none_over, with_over}
-use Rattle.cp_machine.specs.Then.{Done, Then, Unless, OrFull}
-use Rattle.cp_machine.specs.Calling.{OwnDone}
-use Rattle.cp_machine.specs.Doing.{quietly, Quietly}
-use Rattle.cp_machine.specs.Go.{Leave, IsNext, NoneOver, GoTo, without_call, underway, stays, leaves, finds_table_full}
-use Rattle.cp_machine.specs.Step.{Receives, Does, Follows, all_left, found_full, Step, aborts, was_closed, ran_out, refused, did, received, faulted}
-use Rattle.cp_machine.specs.declared.effect.Effect.{Effect}
-use Rattle.cp_machine.specs.declared.effect.Effect.TheVariants as effects
-use Rattle.cp_machine.specs.declared.event.Event.{Event}
-use Rattle.cp_machine.specs.declared.event.Event.TheVariants as events
-use Rattle.cp_machine.specs.declared.event.Value.{Value}
-use Rattle.cp_machine.specs.declared.fault.PeerFault.{PeerFault}
-use Rattle.cp_machine.specs.declared.fault.VatFault.{VatFault}
+use Rattle.cp_vat_machine.specs.State.{State, gave, none_over, with_over}
+use Rattle.cp_vat_machine.specs.Then.{Done, Then, Unless, OrFull}
+use Rattle.cp_vat_machine.specs.Calling.{OwnDone}
+use Rattle.cp_vat_machine.specs.Doing.{quietly, Quietly}
+use Rattle.cp_vat_machine.specs.Go.{Leave, IsNext, NoneOver, GoTo, without_call, underway, stays, leaves, finds_table_full}
+use Rattle.cp_vat_machine.specs.Step.{Receives, Does, Follows, all_left, found_full, Step, aborts, was_closed, ran_out, refused, did, received, faulted}
+use Rattle.cp_vat_machine.specs.declared.effect.Effect.{Effect}
+use Rattle.cp_vat_machine.specs.declared.effect.Effect.TheVariants as effects
+use Rattle.cp_vat_machine.specs.declared.event.Event.{Event}
+use Rattle.cp_vat_machine.specs.declared.event.Event.TheVariants as events
+use Rattle.cp_vat_machine.specs.declared.event.Value.{Value}
+use Rattle.cp_vat_machine.specs.declared.fault.PeerFault.{PeerFault}
+use Rattle.cp_vat_machine.specs.declared.fault.VatFault.{VatFault}
 
 -- results and options apart, and alike
 pub err_not_ok : {A F : Type 0} {fault : F} {x : A} → ◌≡◌ {A = Result A F} (Err fault) (Ok x) → ⊥

@@ -13,10 +13,10 @@ use Rattle.cp_refs.specs.declared.cap.Cap.{Cap}
 use Rattle.cp_refs.specs.declared.call.Held.{Held}
 use Rattle.cp_refs.specs.declared.outcome.Outcome.{Outcome}
 use Rattle.cp_refs.specs.declared.values.Question.{Question}
-use Rattle.cp_machine.specs.State.{State}
-use Rattle.cp_machine.specs.declared.entry.AnswerEntry.{AnswerEntry}
-use Rattle.cp_machine.specs.declared.entry.ImportKind.{ImportKind}
-use Rattle.cp_machine.specs.declared.entry.QuestionEntry.{QuestionEntry}
+use Rattle.cp_vat_machine.specs.State.{State}
+use Rattle.cp_vat_machine.specs.declared.entry.AnswerEntry.{AnswerEntry}
+use Rattle.cp_vat_machine.specs.declared.entry.ImportKind.{ImportKind}
+use Rattle.cp_vat_machine.specs.declared.entry.QuestionEntry.{QuestionEntry}
 
 -- entries by their numbers, the last put first
 abbrev pub Listed : Type 0 → Type 0

@@ -1,14 +1,14 @@
 -- Worlds of two vats whose tables are known entry by entry, and their moves, found by computing.
 use Rattle.std.specs.Prelude.{◌≡◌, refl, ℕ, List, [], ◌∷◌, ◌++◌, map, Option, Result}
 use Rattle.cp_rpc.specs.declared.message.Message.{Message}
-use Rattle.cp_machine.specs.Step.{Step}
-use Rattle.cp_machine.specs.Run.{Moment}
-use Rattle.cp_machine.specs.declared.effect.Effect.{Effect}
-use Rattle.cp_machine.specs.declared.event.Event.{Event}
-use Rattle.cp_machine.specs.declared.event.Event.TheVariants as events
-use Rattle.cp_machine.specs.declared.event.Value.{Value}
-use Rattle.cp_machine.specs.declared.fault.VatFault.{VatFault}
-use Rattle.cp_worlds.specs.World.{End, World, Side, at_first, at_second, Move, messages_sent, Takes, Makes, Moves, last_of}
+use Rattle.cp_vat_machine.specs.Step.{Step}
+use Rattle.cp_vat_machine.specs.Run.{Moment}
+use Rattle.cp_vat_machine.specs.declared.effect.Effect.{Effect}
+use Rattle.cp_vat_machine.specs.declared.event.Event.{Event}
+use Rattle.cp_vat_machine.specs.declared.event.Event.TheVariants as events
+use Rattle.cp_vat_machine.specs.declared.event.Value.{Value}
+use Rattle.cp_vat_machine.specs.declared.fault.VatFault.{VatFault}
+use Rattle.cp_vat_worlds.specs.World.{End, World, Side, at_first, at_second, Move, messages_sent, Takes, Makes, Moves, last_of}
 use Rattle.test_vat.specs.WorldRows.{turn_of, Plays}
 use Rattle.test_vat.proofs.Known.{Known, state, new_known}
 use Rattle.test_vat.proofs.Playing.{Stepped, stepped, unstepped, step_if}

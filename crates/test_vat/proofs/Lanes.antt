@@ -1,6 +1,6 @@
 -- The lanes that two vats make.
 use Rattle.std.specs.Prelude.{refl, List, [], ◌∷◌, map, Some}
-use Rattle.cp_worlds.specs.World.{at_first}
+use Rattle.cp_vat_worlds.specs.World.{at_first}
 use Rattle.test_vat.specs.LaneRows.{given_reference, lane_of_three_calls, lane_without_embargo, lane_again, ThreeInOrder, LaneOfThreeCalls, LaneWithoutEmbargo, LaneAgain}
 use Rattle.test_vat.proofs.KnownWorlds.{KnownWorld, new_worlds, KnownMove, move, find_moves, moves_of, last_known, last_is}
 use Rattle.test_vat.proofs.Delivering.{is_lane}

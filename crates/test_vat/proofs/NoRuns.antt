@@ -18,20 +18,20 @@ use Rattle.cp_refs.specs.declared.call.Origin.TheVariants as origins
 use Rattle.cp_refs.specs.declared.cap.Cap.{Cap}
 use Rattle.cp_refs.specs.declared.cap.Cap.TheVariants as caps
 use Rattle.cp_refs.specs.declared.outcome.Outcome.{Outcome}
-use Rattle.cp_machine.specs.State.{State, new_state, with_exports}
-use Rattle.cp_machine.specs.Then.{Done, OrFull}
-use Rattle.cp_machine.specs.Take.{released}
-use Rattle.cp_machine.specs.Give.{Give, GiveAnswer, GiveBy, given, return_of}
-use Rattle.cp_machine.specs.Go.{Leave}
-use Rattle.cp_machine.specs.Doing.{DoAnswer, Quietly, answer_refusals}
-use Rattle.cp_machine.specs.Step.{Step}
-use Rattle.cp_machine.specs.declared.entry.AnswerEntry.{AnswerEntry}
-use Rattle.cp_machine.specs.declared.effect.Effect.{Effect}
-use Rattle.cp_machine.specs.declared.effect.Effect.TheVariants as effects
-use Rattle.cp_machine.specs.declared.event.Event.TheVariants as events
-use Rattle.cp_machine.specs.declared.event.Value.{Value}
-use Rattle.cp_machine.specs.declared.event.Value.TheVariants as values
-use Rattle.cp_machine.specs.declared.fault.PeerFault.TheVariants as faults
+use Rattle.cp_vat_machine.specs.State.{State, new_state, with_exports}
+use Rattle.cp_vat_machine.specs.Then.{Done, OrFull}
+use Rattle.cp_vat_machine.specs.Take.{released}
+use Rattle.cp_vat_machine.specs.Give.{Give, GiveAnswer, GiveBy, given, return_of}
+use Rattle.cp_vat_machine.specs.Go.{Leave}
+use Rattle.cp_vat_machine.specs.Doing.{DoAnswer, Quietly, answer_refusals}
+use Rattle.cp_vat_machine.specs.Step.{Step}
+use Rattle.cp_vat_machine.specs.declared.entry.AnswerEntry.{AnswerEntry}
+use Rattle.cp_vat_machine.specs.declared.effect.Effect.{Effect}
+use Rattle.cp_vat_machine.specs.declared.effect.Effect.TheVariants as effects
+use Rattle.cp_vat_machine.specs.declared.event.Event.TheVariants as events
+use Rattle.cp_vat_machine.specs.declared.event.Value.{Value}
+use Rattle.cp_vat_machine.specs.declared.event.Value.TheVariants as values
+use Rattle.cp_vat_machine.specs.declared.fault.PeerFault.TheVariants as faults
 use Rattle.test_vat.specs.Rows.{small_call, on_answer, small_request, one_object}
 use Rattle.test_vat.specs.OrderRows.{IsNoRun, given_to_another, released_twice, waiting_dropped, other_way_round}
 use Rattle.test_vat.proofs.OneWaits.{returned_0}

@@ -10,16 +10,16 @@ use Rattle.cp_tables.specs.Exchange.{new_exchange}
 use Rattle.cp_tables.specs.declared.counted.Counted.{Counted}
 use Rattle.cp_tables.specs.declared.exchange.Exchange.{Exchange}
 use Rattle.cp_tree.specs.Node.{cap, no_nodes, struct}
-use Rattle.cp_machine.specs.Answering.{GoToTarget, OnBootstrap, OnCall, bootstrap_outcome, entered, peer_call, with_answer}
-use Rattle.cp_machine.specs.Doing.{DoAnswer, answer_refusals}
-use Rattle.cp_machine.specs.Give.{GiveAnswer, given, return_of}
-use Rattle.cp_machine.specs.Go.{IsNext, Leave, NoneOver, delivered, held_at, leaves, stays, without_call}
-use Rattle.cp_machine.specs.Capacity.{Fresh, free}
-use Rattle.cp_machine.specs.Run.{Run}
-use Rattle.cp_machine.specs.Say.{HasNoExport, Raise, Say, SayAll, opened}
-use Rattle.cp_machine.specs.State.{State, gave, new_state, none_over, with_exports, with_over}
-use Rattle.cp_machine.specs.Step.{Step, all_left, did, received}
-use Rattle.cp_machine.specs.declared.entry.AnswerEntry.{AnswerEntry}
+use Rattle.cp_vat_machine.specs.Answering.{GoToTarget, OnBootstrap, OnCall, bootstrap_outcome, entered, peer_call, with_answer}
+use Rattle.cp_vat_machine.specs.Doing.{DoAnswer, answer_refusals}
+use Rattle.cp_vat_machine.specs.Give.{GiveAnswer, given, return_of}
+use Rattle.cp_vat_machine.specs.Go.{IsNext, Leave, NoneOver, delivered, held_at, leaves, stays, without_call}
+use Rattle.cp_vat_machine.specs.Capacity.{Fresh, free}
+use Rattle.cp_vat_machine.specs.Run.{Run}
+use Rattle.cp_vat_machine.specs.Say.{HasNoExport, Raise, Say, SayAll, opened}
+use Rattle.cp_vat_machine.specs.State.{State, gave, new_state, none_over, with_exports, with_over}
+use Rattle.cp_vat_machine.specs.Step.{Step, all_left, did, received}
+use Rattle.cp_vat_machine.specs.declared.entry.AnswerEntry.{AnswerEntry}
 use Rattle.test_vat.specs.Rows.{bootstrap_answered, on_answer, one_object, pipelined, pipelined_waits, small_call, small_request}
 use Rattle.std.proofs.Common.{Option, ap, arith, is_some, sym, true≢false, ◌∙◌}
 use Rattle.std.proofs.lemmas.Bool.Decides.{nat_tests}
@@ -38,9 +38,9 @@ use Rattle.cp_rpc.specs.declared.message.Message.TheVariants as messages
 use Rattle.cp_rpc.specs.declared.returned.Returned.TheVariants as returns
 use Rattle.cp_rpc.specs.declared.target.Target.TheVariants as targets
 use Rattle.cp_tables.specs.declared.exchange.Stage.TheVariants as stages
-use Rattle.cp_machine.specs.declared.effect.Effect.TheVariants as effects
-use Rattle.cp_machine.specs.declared.event.Event.TheVariants as events
-use Rattle.cp_machine.specs.declared.event.Value.TheVariants as values
+use Rattle.cp_vat_machine.specs.declared.effect.Effect.TheVariants as effects
+use Rattle.cp_vat_machine.specs.declared.event.Event.TheVariants as events
+use Rattle.cp_vat_machine.specs.declared.event.Value.TheVariants as values
 
 -- nothing waits, so nothing leaves
 pub none_waits : (s : State) → s.waiting.calls ≡ empty → NoneOver s

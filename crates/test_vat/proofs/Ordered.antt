@@ -16,18 +16,18 @@ use Rattle.cp_rpc.specs.declared.target.Target.TheVariants as targets
 use Rattle.cp_refs.specs.declared.outcome.Outcome.{Outcome}
 use Rattle.cp_refs.specs.declared.route.Gate.TheVariants as gates
 use Rattle.cp_refs.specs.declared.route.Route.TheVariants as routes
-use Rattle.cp_machine.specs.declared.effect.Effect.TheVariants as effects
-use Rattle.cp_machine.specs.declared.entry.AnswerEntry.{AnswerEntry}
-use Rattle.cp_machine.specs.declared.event.Event.TheVariants as events
-use Rattle.cp_machine.specs.declared.event.Value.TheVariants as values
-use Rattle.cp_machine.specs.Answering.{bootstrap_outcome}
-use Rattle.cp_machine.specs.Give.{return_of}
-use Rattle.cp_machine.specs.State.{State, new_state, with_over, none_over}
-use Rattle.cp_machine.specs.Trace.{Turn, own_part, goes, rests}
-use Rattle.cp_machine.specs.Ports.{Port, answer_path, capability, absences, calls_of, PortRoute}
-use Rattle.cp_machine.specs.Exits.{exits_of}
-use Rattle.cp_machine.specs.Telling.{TellsItsGift}
-use Rattle.cp_machine.specs.InOrder.{EachPair, EachTurn, ExitsByPorts, AtRest, InOrder, RunsInOrder}
+use Rattle.cp_vat_machine.specs.declared.effect.Effect.TheVariants as effects
+use Rattle.cp_vat_machine.specs.declared.entry.AnswerEntry.{AnswerEntry}
+use Rattle.cp_vat_machine.specs.declared.event.Event.TheVariants as events
+use Rattle.cp_vat_machine.specs.declared.event.Value.TheVariants as values
+use Rattle.cp_vat_machine.specs.Answering.{bootstrap_outcome}
+use Rattle.cp_vat_machine.specs.Give.{return_of}
+use Rattle.cp_vat_machine.specs.State.{State, new_state, with_over, none_over}
+use Rattle.cp_vat_machine.specs.Trace.{Turn, own_part, goes, rests}
+use Rattle.cp_vat_machine.specs.Ports.{Port, answer_path, capability, absences, calls_of, PortRoute}
+use Rattle.cp_vat_machine.specs.Exits.{exits_of}
+use Rattle.cp_vat_machine.specs.Telling.{TellsItsGift}
+use Rattle.cp_vat_machine.specs.InOrder.{EachPair, EachTurn, ExitsByPorts, AtRest, InOrder, RunsInOrder}
 use Rattle.test_vat.specs.Rows.{bootstrap_answered, pipelined_waits, small_call, on_answer, small_request}
 use Rattle.test_vat.specs.OrderRows.{one_in_order}
 use Rattle.test_vat.proofs.OneWaits.{given_0, returned_0, bootstrap_is, bootstrap_step}

@@ -10,17 +10,17 @@ use Rattle.cp_refs.specs.declared.route.Gate.TheVariants as gates
 use Rattle.cp_refs.specs.declared.route.Route.TheVariants as routes
 use Rattle.cp_refs.specs.declared.values.QuestionKind.{QuestionKind}
 use Rattle.cp_refs.specs.declared.values.QuestionKind.TheVariants as kinds
-use Rattle.cp_machine.specs.Then.{fault_if, OrFull}
-use Rattle.cp_machine.specs.Capacity.{has_ticket, cap_fits, request_fits}
-use Rattle.cp_machine.specs.Go.{Underway, held_at}
-use Rattle.cp_machine.specs.Calling.{Reference, plain, on_wire, came_to, import_reference, question_reference, reference_of, own_call, mark_of, with_mark, marked, has_mark_capacity, disembargo_of, FirstEmbargoed, GoBack, GoByValue, GoFrom, OwnDone, Opens, not_all, call_refusals, DoCall}
-use Rattle.cp_machine.specs.declared.effect.Effect.{Effect}
-use Rattle.cp_machine.specs.declared.event.Value.{Value}
-use Rattle.cp_machine.specs.declared.event.Value.TheVariants as values
-use Rattle.cp_machine.specs.declared.fault.PeerFault.{PeerFault}
-use Rattle.cp_machine.specs.declared.fault.PeerFault.TheVariants as faults
-use Rattle.cp_machine.specs.declared.fault.VatFault.{VatFault}
-use Rattle.cp_machine.specs.declared.fault.VatFault.TheVariants as refusals
+use Rattle.cp_vat_machine.specs.Then.{fault_if, OrFull}
+use Rattle.cp_vat_machine.specs.Capacity.{has_ticket, cap_fits, request_fits}
+use Rattle.cp_vat_machine.specs.Go.{Underway, held_at}
+use Rattle.cp_vat_machine.specs.Calling.{Reference, plain, on_wire, came_to, import_reference, question_reference, reference_of, own_call, mark_of, with_mark, marked, has_mark_capacity, disembargo_of, FirstEmbargoed, GoBack, GoByValue, GoFrom, OwnDone, Opens, not_all, call_refusals, DoCall}
+use Rattle.cp_vat_machine.specs.declared.effect.Effect.{Effect}
+use Rattle.cp_vat_machine.specs.declared.event.Value.{Value}
+use Rattle.cp_vat_machine.specs.declared.event.Value.TheVariants as values
+use Rattle.cp_vat_machine.specs.declared.fault.PeerFault.{PeerFault}
+use Rattle.cp_vat_machine.specs.declared.fault.PeerFault.TheVariants as faults
+use Rattle.cp_vat_machine.specs.declared.fault.VatFault.{VatFault}
+use Rattle.cp_vat_machine.specs.declared.fault.VatFault.TheVariants as refusals
 use Rattle.test_vat.proofs.Known.{Known, state, at, at_path, get_is, get_path_is, size, path_size, path_len_is}
 use Rattle.test_vat.proofs.Found.{Finds, lacks, found, beside, moved, unless, follow}
 use Rattle.test_vat.proofs.Finding.{find_fresh, room_is}

@@ -24,14 +24,14 @@ use Rattle.cp_refs.specs.declared.outcome.Outcome.{Outcome}
 use Rattle.cp_refs.specs.declared.outcome.Outcome.TheVariants as outcomes
 use Rattle.cp_refs.specs.declared.route.Route.{Route}
 use Rattle.cp_refs.specs.declared.route.Route.TheVariants as routes
-use Rattle.cp_machine.specs.State.{State, gave, with_exports, with_over, none_over}
-use Rattle.cp_machine.specs.Then.{Done, Then, OrFull, after, fault_if}
-use Rattle.cp_machine.specs.Capacity.{has_capacity}
-use Rattle.cp_machine.specs.Say.{Raise, counted, counted_out, opened, has_no_capacity, ComesTo, SayEnd, SayAll}
-use Rattle.cp_machine.specs.Doing.{DoAnswer, Quietly, answer_refusals}
-use Rattle.cp_machine.specs.Give.{Give, SettleTied, given, GiveAnswer, GiveBy, return_of, returned_mentions}
-use Rattle.cp_machine.specs.Go.{Underway, underway, without_call, Leave, NoneOver, Go, GoTo, held_at, delivered}
-use Rattle.cp_machine.specs.Answering.{with_answer, GoToAnswer, GoToTarget, peer_call, entered, call_faults, OnCall}
+use Rattle.cp_vat_machine.specs.State.{State, gave, with_exports, with_over, none_over}
+use Rattle.cp_vat_machine.specs.Then.{Done, Then, OrFull, after, fault_if}
+use Rattle.cp_vat_machine.specs.Capacity.{has_capacity}
+use Rattle.cp_vat_machine.specs.Say.{Raise, counted, counted_out, opened, has_no_capacity, ComesTo, SayEnd, SayAll}
+use Rattle.cp_vat_machine.specs.Doing.{DoAnswer, Quietly, answer_refusals}
+use Rattle.cp_vat_machine.specs.Give.{Give, SettleTied, given, GiveAnswer, GiveBy, return_of, returned_mentions}
+use Rattle.cp_vat_machine.specs.Go.{Underway, underway, without_call, Leave, NoneOver, Go, GoTo, held_at, delivered}
+use Rattle.cp_vat_machine.specs.Answering.{with_answer, GoToAnswer, GoToTarget, peer_call, entered, call_faults, OnCall}
 use Rattle.test_vat.specs.OrderRows.{delivered_to}
 use Rattle.cp_rpc.specs.declared.call.Call.{Call}
 use Rattle.cp_rpc.specs.declared.call.SendResultsTo.TheVariants as results_to
@@ -42,18 +42,18 @@ use Rattle.cp_rpc.specs.declared.message.Message.TheVariants as messages
 use Rattle.cp_refs.specs.declared.call.Held.{Held}
 use Rattle.cp_refs.specs.declared.call.Origin.TheVariants as origins
 use Rattle.cp_refs.specs.declared.route.Gate.TheVariants as gates
-use Rattle.cp_machine.specs.Take.{TakeAll, released}
-use Rattle.cp_machine.specs.declared.effect.Effect.{Effect}
-use Rattle.cp_machine.specs.declared.effect.Effect.TheVariants as effects
-use Rattle.cp_machine.specs.declared.entry.AnswerEntry.{AnswerEntry}
-use Rattle.cp_machine.specs.declared.entry.Tied.{Tied}
-use Rattle.cp_machine.specs.declared.fault.PeerFault.{PeerFault}
-use Rattle.cp_machine.specs.State.{new_state}
-use Rattle.cp_machine.specs.Answering.{bootstrap_outcome, is_answering, OnBootstrap}
-use Rattle.cp_machine.specs.declared.fault.PeerFault.TheVariants as faults
-use Rattle.cp_machine.specs.Step.{Receives, Step}
-use Rattle.cp_machine.specs.declared.event.Event.TheVariants as events
-use Rattle.cp_machine.specs.declared.event.Value.TheVariants as values
+use Rattle.cp_vat_machine.specs.Take.{TakeAll, released}
+use Rattle.cp_vat_machine.specs.declared.effect.Effect.{Effect}
+use Rattle.cp_vat_machine.specs.declared.effect.Effect.TheVariants as effects
+use Rattle.cp_vat_machine.specs.declared.entry.AnswerEntry.{AnswerEntry}
+use Rattle.cp_vat_machine.specs.declared.entry.Tied.{Tied}
+use Rattle.cp_vat_machine.specs.declared.fault.PeerFault.{PeerFault}
+use Rattle.cp_vat_machine.specs.State.{new_state}
+use Rattle.cp_vat_machine.specs.Answering.{bootstrap_outcome, is_answering, OnBootstrap}
+use Rattle.cp_vat_machine.specs.declared.fault.PeerFault.TheVariants as faults
+use Rattle.cp_vat_machine.specs.Step.{Receives, Step}
+use Rattle.cp_vat_machine.specs.declared.event.Event.TheVariants as events
+use Rattle.cp_vat_machine.specs.declared.event.Value.TheVariants as values
 use Rattle.test_vat.specs.Rows.{small_call, on_answer, small_request}
 use Rattle.test_vat.proofs.OneWaits.{returned_0, none_waits}
 use Rattle.test_vat.proofs.OneWaits.{s_1, s_2, s_2', s_3, s_3', entry_1, held_2, export_0, kept_1_after, ungiven_1_after, none_ended}

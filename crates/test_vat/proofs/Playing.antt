@@ -2,16 +2,16 @@
 use Rattle.std.specs.Prelude.{◌≡◌, refl, ℕ, Bool, true, false, List, [], ◌∷◌, ◌++◌, map, is_some, Option, Some, None, Result, Ok, Err}
 use Rattle.std.proofs.Common.{sym, ap, subst, unwrap_or, true≢false}
 use Rattle.cp_rpc.specs.declared.message.Message.{Message}
-use Rattle.cp_machine.specs.State.{State}
-use Rattle.cp_machine.specs.Step.{Receives, Does, aborts, Follows, all_left, found_full, Step, was_closed, refused, did, received, faulted}
-use Rattle.cp_machine.specs.Run.{Moment, Steps, Run}
-use Rattle.cp_machine.specs.declared.effect.Effect.{Effect}
-use Rattle.cp_machine.specs.declared.event.Event.{Event}
-use Rattle.cp_machine.specs.declared.event.Event.TheVariants as events
-use Rattle.cp_machine.specs.declared.event.Value.{Value}
-use Rattle.cp_machine.specs.declared.event.Value.TheVariants as values
-use Rattle.cp_machine.specs.declared.fault.VatFault.{VatFault}
-use Rattle.cp_machine.specs.declared.fault.VatFault.TheVariants as refusals
+use Rattle.cp_vat_machine.specs.State.{State}
+use Rattle.cp_vat_machine.specs.Step.{Receives, Does, aborts, Follows, all_left, found_full, Step, was_closed, refused, did, received, faulted}
+use Rattle.cp_vat_machine.specs.Run.{Moment, Steps, Run}
+use Rattle.cp_vat_machine.specs.declared.effect.Effect.{Effect}
+use Rattle.cp_vat_machine.specs.declared.event.Event.{Event}
+use Rattle.cp_vat_machine.specs.declared.event.Event.TheVariants as events
+use Rattle.cp_vat_machine.specs.declared.event.Value.{Value}
+use Rattle.cp_vat_machine.specs.declared.event.Value.TheVariants as values
+use Rattle.cp_vat_machine.specs.declared.fault.VatFault.{VatFault}
+use Rattle.cp_vat_machine.specs.declared.fault.VatFault.TheVariants as refusals
 use Rattle.test_vat.proofs.Known.{Known, state, new_known}
 use Rattle.test_vat.proofs.Found.{Finds, lacks, found, beside}
 use Rattle.test_vat.proofs.Going.{Left, left, stuck, find_left}

@@ -19,18 +19,18 @@ use Rattle.cp_refs.specs.declared.outcome.Outcome.{Outcome}
 use Rattle.cp_refs.specs.declared.outcome.Outcome.TheVariants as outcomes
 use Rattle.cp_refs.specs.declared.route.Gate.TheVariants as gates
 use Rattle.cp_refs.specs.declared.route.Route.TheVariants as routes
-use Rattle.cp_machine.specs.State.{with_answers}
-use Rattle.cp_machine.specs.Then.{Then, fault_if, after}
-use Rattle.cp_machine.specs.Capacity.{has_ticket}
-use Rattle.cp_machine.specs.Take.{path_of}
-use Rattle.cp_machine.specs.Give.{GiveAnswer}
-use Rattle.cp_machine.specs.Go.{Underway, finish_of}
-use Rattle.cp_machine.specs.Answering.{bootstrap_outcome, OnBootstrap, target_faults, GoToExport, GoToAnswer, GoToTarget, peer_call, OnCall, without_answer, AtStage, FinishedBy, OnFinish}
-use Rattle.cp_machine.specs.Asking.{TakeReturned, Settles, ReturnBy, is_asked, ReturnOf, OnReturn}
-use Rattle.cp_machine.specs.declared.entry.AnswerEntry.{AnswerEntry}
-use Rattle.cp_machine.specs.declared.entry.QuestionEntry.{QuestionEntry}
-use Rattle.cp_machine.specs.declared.fault.PeerFault.{PeerFault}
-use Rattle.cp_machine.specs.declared.fault.PeerFault.TheVariants as faults
+use Rattle.cp_vat_machine.specs.State.{with_answers}
+use Rattle.cp_vat_machine.specs.Then.{Then, fault_if, after}
+use Rattle.cp_vat_machine.specs.Capacity.{has_ticket}
+use Rattle.cp_vat_machine.specs.Take.{path_of}
+use Rattle.cp_vat_machine.specs.Give.{GiveAnswer}
+use Rattle.cp_vat_machine.specs.Go.{Underway, finish_of}
+use Rattle.cp_vat_machine.specs.Answering.{bootstrap_outcome, OnBootstrap, target_faults, GoToExport, GoToAnswer, GoToTarget, peer_call, OnCall, without_answer, AtStage, FinishedBy, OnFinish}
+use Rattle.cp_vat_machine.specs.Asking.{TakeReturned, Settles, ReturnBy, is_asked, ReturnOf, OnReturn}
+use Rattle.cp_vat_machine.specs.declared.entry.AnswerEntry.{AnswerEntry}
+use Rattle.cp_vat_machine.specs.declared.entry.QuestionEntry.{QuestionEntry}
+use Rattle.cp_vat_machine.specs.declared.fault.PeerFault.{PeerFault}
+use Rattle.cp_vat_machine.specs.declared.fault.PeerFault.TheVariants as faults
 use Rattle.test_vat.proofs.Known.{Known, state, at, get_is, size, without, remove_is}
 use Rattle.test_vat.proofs.Found.{Finds, lacks, found, beside, moved, unless, follow}
 use Rattle.test_vat.proofs.Finding.{room_is}

@@ -13,12 +13,12 @@ use Rattle.cp_refs.specs.declared.cap.Cap.TheVariants as caps
 use Rattle.cp_refs.specs.declared.outcome.Outcome.{Outcome}
 use Rattle.cp_rpc.specs.declared.descriptor.Descriptor.{Descriptor}
 use Rattle.cp_rpc.specs.declared.descriptor.Descriptor.TheVariants as descriptors
-use Rattle.cp_machine.specs.State.{State}
-use Rattle.cp_machine.specs.Take.{path_of, held_once_more, held_import, answer_by, answer_of, tie, tied, TakeAnswer, taken_export, Take, TakeAll, less_by, lowered_by, lowered, times, lower, released}
-use Rattle.cp_machine.specs.declared.entry.ImportKind.{ImportKind}
-use Rattle.cp_machine.specs.declared.entry.ImportKind.TheVariants as kinds
-use Rattle.cp_machine.specs.declared.fault.PeerFault.{PeerFault}
-use Rattle.cp_machine.specs.declared.fault.PeerFault.TheVariants as faults
+use Rattle.cp_vat_machine.specs.State.{State}
+use Rattle.cp_vat_machine.specs.Take.{path_of, held_once_more, held_import, answer_by, answer_of, tie, tied, TakeAnswer, taken_export, Take, TakeAll, less_by, lowered_by, lowered, times, lower, released}
+use Rattle.cp_vat_machine.specs.declared.entry.ImportKind.{ImportKind}
+use Rattle.cp_vat_machine.specs.declared.entry.ImportKind.TheVariants as kinds
+use Rattle.cp_vat_machine.specs.declared.fault.PeerFault.{PeerFault}
+use Rattle.cp_vat_machine.specs.declared.fault.PeerFault.TheVariants as faults
 use Rattle.test_vat.proofs.Known.{Listed, tabled, Known, state, at, get_is, size, without, remove_is}
 use Rattle.test_vat.proofs.Found.{Finds, lacks, found, beside, moved, decide, follow, find_each}
 use Rattle.test_vat.proofs.Finding.{find_fresh, room_is}

@@ -13,17 +13,17 @@ use Rattle.cp_refs.specs.declared.call.Held.{Held}
 use Rattle.cp_refs.specs.declared.route.Gate.TheVariants as gates
 use Rattle.cp_refs.specs.declared.route.Route.TheVariants as routes
 use Rattle.cp_refs.specs.declared.outcome.Outcome.{Outcome}
-use Rattle.cp_machine.specs.declared.entry.AnswerEntry.{AnswerEntry}
-use Rattle.cp_machine.specs.State.{State, none_over, with_over, with_exports}
-use Rattle.cp_machine.specs.Go.{Leave, IsNext, NoneOver, delivered, without_call, stays, leaves}
-use Rattle.cp_machine.specs.Give.{given, GiveAnswer, return_of}
-use Rattle.cp_machine.specs.Say.{Raise, opened, SayAll}
-use Rattle.cp_machine.specs.Doing.{DoAnswer, answer_refusals}
-use Rattle.cp_machine.specs.Answering.{OnCall}
-use Rattle.cp_machine.specs.Step.{Step, received, did, all_left}
-use Rattle.cp_machine.specs.Run.{Run}
-use Rattle.cp_machine.specs.declared.event.Event.TheVariants as events
-use Rattle.cp_machine.specs.declared.event.Value.TheVariants as values
+use Rattle.cp_vat_machine.specs.declared.entry.AnswerEntry.{AnswerEntry}
+use Rattle.cp_vat_machine.specs.State.{State, none_over, with_over, with_exports}
+use Rattle.cp_vat_machine.specs.Go.{Leave, IsNext, NoneOver, delivered, without_call, stays, leaves}
+use Rattle.cp_vat_machine.specs.Give.{given, GiveAnswer, return_of}
+use Rattle.cp_vat_machine.specs.Say.{Raise, opened, SayAll}
+use Rattle.cp_vat_machine.specs.Doing.{DoAnswer, answer_refusals}
+use Rattle.cp_vat_machine.specs.Answering.{OnCall}
+use Rattle.cp_vat_machine.specs.Step.{Step, received, did, all_left}
+use Rattle.cp_vat_machine.specs.Run.{Run}
+use Rattle.cp_vat_machine.specs.declared.event.Event.TheVariants as events
+use Rattle.cp_vat_machine.specs.declared.event.Value.TheVariants as values
 use Rattle.test_vat.specs.Rows.{small_call, on_answer, small_request}
 use Rattle.test_vat.specs.OrderRows.{delivered_to, two_in_order}
 use Rattle.test_vat.proofs.OneWaits.{bootstrap_step}

@@ -12,14 +12,14 @@ use Rattle.cp_refs.specs.declared.call.Origin.TheVariants as origins
 use Rattle.cp_refs.specs.declared.outcome.Outcome.{Outcome}
 use Rattle.cp_refs.specs.declared.route.Gate.TheVariants as gates
 use Rattle.cp_refs.specs.declared.route.Route.TheVariants as routes
-use Rattle.cp_machine.specs.declared.event.Event.TheVariants as events
-use Rattle.cp_machine.specs.declared.event.Value.TheVariants as values
-use Rattle.cp_machine.specs.Give.{return_of}
-use Rattle.cp_machine.specs.Trace.{Turn, own_part, goes, rests}
-use Rattle.cp_machine.specs.Ports.{answer_path, absences, calls_of, port_of, PortRoute}
-use Rattle.cp_machine.specs.Exits.{exits_of}
-use Rattle.cp_machine.specs.Telling.{TellsItsGift}
-use Rattle.cp_machine.specs.InOrder.{Rises, has_left, ExitsByPorts, AtRest, InOrder, RunsInOrder}
+use Rattle.cp_vat_machine.specs.declared.event.Event.TheVariants as events
+use Rattle.cp_vat_machine.specs.declared.event.Value.TheVariants as values
+use Rattle.cp_vat_machine.specs.Give.{return_of}
+use Rattle.cp_vat_machine.specs.Trace.{Turn, own_part, goes, rests}
+use Rattle.cp_vat_machine.specs.Ports.{answer_path, absences, calls_of, port_of, PortRoute}
+use Rattle.cp_vat_machine.specs.Exits.{exits_of}
+use Rattle.cp_vat_machine.specs.Telling.{TellsItsGift}
+use Rattle.cp_vat_machine.specs.InOrder.{Rises, has_left, ExitsByPorts, AtRest, InOrder, RunsInOrder}
 use Rattle.test_vat.specs.Rows.{small_call, on_answer}
 use Rattle.test_vat.specs.OrderRows.{IsOrderedUnless, other_way, delivered_to, two_in_order}
 use Rattle.test_vat.proofs.OneWaits.{bootstrap_step}

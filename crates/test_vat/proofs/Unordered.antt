@@ -8,13 +8,13 @@ use Rattle.cp_refs.specs.declared.call.Origin.TheVariants as origins
 use Rattle.cp_refs.specs.declared.outcome.Outcome.{Outcome}
 use Rattle.cp_refs.specs.declared.route.Route.{Route}
 use Rattle.cp_refs.specs.declared.route.Route.TheVariants as routes
-use Rattle.cp_machine.specs.declared.effect.Effect.{Effect}
-use Rattle.cp_machine.specs.declared.effect.Effect.TheVariants as effects
-use Rattle.cp_machine.specs.Trace.{Turn}
-use Rattle.cp_machine.specs.Ports.{Port, calls_of, port_of, PortRoute}
-use Rattle.cp_machine.specs.Exits.{exits_of}
-use Rattle.cp_machine.specs.Telling.{Gift, TellsItsGift, GiftTold, AnswerTold, was_finished}
-use Rattle.cp_machine.specs.InOrder.{has_left, OtherTicket, GoesByItsPort, LeftOrWaits, InOrder}
+use Rattle.cp_vat_machine.specs.declared.effect.Effect.{Effect}
+use Rattle.cp_vat_machine.specs.declared.effect.Effect.TheVariants as effects
+use Rattle.cp_vat_machine.specs.Trace.{Turn}
+use Rattle.cp_vat_machine.specs.Ports.{Port, calls_of, port_of, PortRoute}
+use Rattle.cp_vat_machine.specs.Exits.{exits_of}
+use Rattle.cp_vat_machine.specs.Telling.{Gift, TellsItsGift, GiftTold, AnswerTold, was_finished}
+use Rattle.cp_vat_machine.specs.InOrder.{has_left, OtherTicket, GoesByItsPort, LeftOrWaits, InOrder}
 use Rattle.test_vat.specs.Rows.{small_request}
 use Rattle.test_vat.specs.OrderRows.{IsOrderedUnless, one_in_order, going_twice, going_elsewhere, never_going, telling_nothing}
 use Rattle.test_vat.proofs.OneWaits.{s_5, held_2, outcome_1, bootstrap_step, step_1, step_2, step_3, delivers_2, pipelined_is}

@@ -9,7 +9,7 @@ use Rattle.std.specs.FinMap.{values, nat_cmp-IsAntisymmetric}
 use Rattle.std.specs.FinSet as set
 use Rattle.cp_refs.specs.declared.cap.Cap.{Cap}
 use Rattle.cp_refs.specs.declared.cap.Cap.TheVariants as caps
-use Rattle.cp_machine.specs.InUse.{is_promise, is_import, is_pipelined_of, caps_given, kept_caps, value_unless, is_import_used, is_at_promise, is_at_question, is_unsettled, is_promise_used, is_question_used, idle_imports, idle_promises, is_own, has_question, has_promise, has_import, is_question_here, is_local_path}
+use Rattle.cp_vat_machine.specs.InUse.{is_promise, is_import, is_pipelined_of, caps_given, kept_caps, value_unless, is_import_used, is_at_promise, is_at_question, is_unsettled, is_promise_used, is_question_used, idle_imports, idle_promises, is_own, has_question, has_promise, has_import, is_question_here, is_local_path}
 use Rattle.test_vat.proofs.Known.{Listed, tabled, Known, state, at, get_is, rising, entries_is}
 
 -- the capability's question is the application's, its promise is there, its import is held, its path is of this end

@@ -8,21 +8,21 @@ use Rattle.cp_tables.specs.declared.exchange.Stage.TheVariants as stages
 use Rattle.cp_rpc.specs.declared.descriptor.Descriptor.TheVariants as descriptors
 use Rattle.cp_rpc.specs.declared.message.Message.{Message}
 use Rattle.cp_refs.specs.declared.cap.Cap.TheVariants as caps
-use Rattle.cp_machine.specs.State.{State, with_exports, with_questions}
-use Rattle.cp_machine.specs.Run.{Moment}
+use Rattle.cp_vat_machine.specs.State.{State, with_exports, with_questions}
+use Rattle.cp_vat_machine.specs.Run.{Moment}
 use Rattle.cp_refs.specs.declared.call.Origin.TheVariants as origins
 use Rattle.cp_refs.specs.declared.outcome.Outcome.TheVariants as outcomes
-use Rattle.cp_machine.specs.declared.effect.Effect.{Effect}
-use Rattle.cp_machine.specs.declared.effect.Effect.TheVariants as effects
-use Rattle.cp_machine.specs.declared.event.Event.TheVariants as events
-use Rattle.cp_machine.specs.declared.event.Value.TheVariants as values
-use Rattle.cp_worlds.specs.Accounts.{accounts_of, lowerable}
-use Rattle.cp_worlds.specs.Owed.{named_on_way, lowered_on_way, owed}
-use Rattle.cp_worlds.specs.World.{World, Side, at_first, at_second, new_world, Move, last_of, with_mail, AreQuiet}
-use Rattle.cp_worlds.specs.Numbers.{IsHeldThere, IsNumberOf, HasReleased, IsNamedByAnswer, IsValueOfAnother}
-use Rattle.cp_worlds.specs.Orderly.{IsOrderly}
-use Rattle.cp_worlds.specs.Expected.{LowersFit, stage_of, IsExpected}
-use Rattle.cp_worlds.specs.Spared.{AreSpared}
+use Rattle.cp_vat_machine.specs.declared.effect.Effect.{Effect}
+use Rattle.cp_vat_machine.specs.declared.effect.Effect.TheVariants as effects
+use Rattle.cp_vat_machine.specs.declared.event.Event.TheVariants as events
+use Rattle.cp_vat_machine.specs.declared.event.Value.TheVariants as values
+use Rattle.cp_vat_worlds.specs.Accounts.{accounts_of, lowerable}
+use Rattle.cp_vat_worlds.specs.Owed.{named_on_way, lowered_on_way, owed}
+use Rattle.cp_vat_worlds.specs.World.{World, Side, at_first, at_second, new_world, Move, last_of, with_mail, AreQuiet}
+use Rattle.cp_vat_worlds.specs.Numbers.{IsHeldThere, IsNumberOf, HasReleased, IsNamedByAnswer, IsValueOfAnother}
+use Rattle.cp_vat_worlds.specs.Orderly.{IsOrderly}
+use Rattle.cp_vat_worlds.specs.Expected.{LowersFit, stage_of, IsExpected}
+use Rattle.cp_vat_worlds.specs.Spared.{AreSpared}
 use Rattle.test_vat.specs.RowWords.{comes, does, bootstrap_message, return_message, finish_message, release_message, sends, results, small_request, bootstrap_comes, bootstrap_does, small_call, on_import, one_object}
 use Rattle.test_vat.specs.LaneRows.{two_vats}
 use Rattle.test_vat.specs.WorldRows.{Plays}

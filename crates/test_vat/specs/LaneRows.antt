@@ -9,12 +9,12 @@ use Rattle.cp_refs.specs.declared.cap.Cap.{Cap}
 use Rattle.cp_refs.specs.declared.cap.Cap.TheVariants as caps
 use Rattle.cp_refs.specs.declared.call.Origin.TheVariants as origins
 use Rattle.cp_refs.specs.declared.outcome.Outcome.TheVariants as outcomes
-use Rattle.cp_machine.specs.Run.{Moment}
-use Rattle.cp_machine.specs.declared.effect.Effect.TheVariants as effects
-use Rattle.cp_machine.specs.declared.event.Event.TheVariants as events
-use Rattle.cp_machine.specs.declared.event.Value.TheVariants as values
-use Rattle.cp_worlds.specs.World.{World, Side, at_first, at_second, end_of, new_world, Move, last_of, AreOpen, AreQuiet}
-use Rattle.cp_worlds.specs.Lane.{Reference, path_to, CameTo, made, Delivery, delivered_on}
+use Rattle.cp_vat_machine.specs.Run.{Moment}
+use Rattle.cp_vat_machine.specs.declared.effect.Effect.TheVariants as effects
+use Rattle.cp_vat_machine.specs.declared.event.Event.TheVariants as events
+use Rattle.cp_vat_machine.specs.declared.event.Value.TheVariants as values
+use Rattle.cp_vat_worlds.specs.World.{World, Side, at_first, at_second, end_of, new_world, Move, last_of, AreOpen, AreQuiet}
+use Rattle.cp_vat_worlds.specs.Lane.{Reference, path_to, CameTo, made, Delivery, delivered_on}
 use Rattle.test_vat.specs.RowWords.{comes, does, call_message, return_message, finish_message, release_message, disembargo_message, sends, on_import, on_answer, on_whole_answer, results, one_object, request, small_request, small_call, bootstrap_comes, bootstrap_does}
 use Rattle.test_vat.specs.WorldRows.{Plays}
 

@@ -6,15 +6,15 @@ use Rattle.cp_rpc.specs.declared.resolve.Resolution.TheVariants as resolutions
 use Rattle.cp_refs.specs.declared.cap.Cap.TheVariants as caps
 use Rattle.cp_refs.specs.declared.call.Origin.TheVariants as origins
 use Rattle.cp_refs.specs.declared.outcome.Outcome.TheVariants as outcomes
-use Rattle.cp_machine.specs.Run.{Moment}
-use Rattle.cp_machine.specs.Say.{IsExport}
-use Rattle.cp_machine.specs.declared.effect.Effect.TheVariants as effects
-use Rattle.cp_machine.specs.declared.event.Event.TheVariants as events
-use Rattle.cp_machine.specs.declared.event.Value.TheVariants as values
-use Rattle.cp_worlds.specs.Accounts.{accounts_of, is_given_up}
-use Rattle.cp_worlds.specs.World.{World, Side, at_first, at_second, Move, last_of}
-use Rattle.cp_worlds.specs.Naming.{EachOnWay, table_of, IsOfKindAfter, looked_at, place_of}
-use Rattle.cp_worlds.specs.Phases.{EndsAt, Phase, CameToOther, ToldOther, HostedThere}
+use Rattle.cp_vat_machine.specs.Run.{Moment}
+use Rattle.cp_vat_machine.specs.Say.{IsExport}
+use Rattle.cp_vat_machine.specs.declared.effect.Effect.TheVariants as effects
+use Rattle.cp_vat_machine.specs.declared.event.Event.TheVariants as events
+use Rattle.cp_vat_machine.specs.declared.event.Value.TheVariants as values
+use Rattle.cp_vat_worlds.specs.Accounts.{accounts_of, is_given_up}
+use Rattle.cp_vat_worlds.specs.World.{World, Side, at_first, at_second, Move, last_of}
+use Rattle.cp_vat_worlds.specs.Naming.{EachOnWay, table_of, IsOfKindAfter, looked_at, place_of}
+use Rattle.cp_vat_worlds.specs.Phases.{EndsAt, Phase, CameToOther, ToldOther, HostedThere}
 use Rattle.test_vat.specs.RowWords.{comes, does, call_message, return_message, finish_message, resolve_message, sends, on_whole_answer, results, one_object, request, small_request, small_call, bootstrap_comes, bootstrap_does}
 use Rattle.test_vat.specs.WorldRows.{Plays}
 use Rattle.test_vat.specs.LaneRows.{two_vats, given_reference}

@@ -13,18 +13,18 @@ use Rattle.cp_refs.specs.declared.call.Request.{Request}
 use Rattle.cp_refs.specs.declared.outcome.Outcome.{Outcome}
 use Rattle.cp_refs.specs.declared.call.Origin.TheVariants as origins
 use Rattle.cp_refs.specs.declared.outcome.Outcome.TheVariants as outcomes
-use Rattle.cp_machine.specs.Say.{promised}
-use Rattle.cp_machine.specs.Take.{answer_of}
-use Rattle.cp_machine.specs.Telling.{EachHasItsOwn}
-use Rattle.cp_machine.specs.Give.{return_of}
-use Rattle.cp_machine.specs.Go.{call_of}
-use Rattle.cp_machine.specs.Run.{Moment, Run}
-use Rattle.cp_machine.specs.Trace.{Turn, trace_of}
-use Rattle.cp_machine.specs.InOrder.{InOrder}
-use Rattle.cp_machine.specs.declared.effect.Effect.{Effect}
-use Rattle.cp_machine.specs.declared.effect.Effect.TheVariants as effects
-use Rattle.cp_machine.specs.declared.event.Event.TheVariants as events
-use Rattle.cp_machine.specs.declared.event.Value.TheVariants as values
+use Rattle.cp_vat_machine.specs.Say.{promised}
+use Rattle.cp_vat_machine.specs.Take.{answer_of}
+use Rattle.cp_vat_machine.specs.Telling.{EachHasItsOwn}
+use Rattle.cp_vat_machine.specs.Give.{return_of}
+use Rattle.cp_vat_machine.specs.Go.{call_of}
+use Rattle.cp_vat_machine.specs.Run.{Moment, Run}
+use Rattle.cp_vat_machine.specs.Trace.{Turn, trace_of}
+use Rattle.cp_vat_machine.specs.InOrder.{InOrder}
+use Rattle.cp_vat_machine.specs.declared.effect.Effect.{Effect}
+use Rattle.cp_vat_machine.specs.declared.effect.Effect.TheVariants as effects
+use Rattle.cp_vat_machine.specs.declared.event.Event.TheVariants as events
+use Rattle.cp_vat_machine.specs.declared.event.Value.TheVariants as values
 use Rattle.test_vat.specs.Rows.{comes, bootstrap_asked, bootstrap_answered, call_comes, pipelined_waits, small_call, on_answer, small_request, one_object}
 
 -- no run is these moments

@@ -4,14 +4,14 @@ use Rattle.cp_rpc.specs.declared.descriptor.Descriptor.TheVariants as descriptor
 use Rattle.cp_refs.specs.declared.cap.Cap.TheVariants as caps
 use Rattle.cp_refs.specs.declared.call.Origin.TheVariants as origins
 use Rattle.cp_refs.specs.declared.outcome.Outcome.TheVariants as outcomes
-use Rattle.cp_machine.specs.Run.{Moment}
+use Rattle.cp_vat_machine.specs.Run.{Moment}
 use Rattle.test_vat.specs.RowWords.{does, return_message, sends, on_import, results, bootstrap_comes, bootstrap_does}
 pub use Rattle.test_vat.specs.RowWords.{comes, refusal, on_answer, one_object, small_request, small_call, x_failed}
-use Rattle.cp_machine.specs.declared.effect.Effect.{Effect}
-use Rattle.cp_machine.specs.declared.effect.Effect.TheVariants as effects
-use Rattle.cp_machine.specs.declared.event.Event.TheVariants as events
-use Rattle.cp_machine.specs.declared.event.Value.TheVariants as values
-use Rattle.cp_machine.specs.declared.fault.VatFault.TheVariants as refusals
+use Rattle.cp_vat_machine.specs.declared.effect.Effect.{Effect}
+use Rattle.cp_vat_machine.specs.declared.effect.Effect.TheVariants as effects
+use Rattle.cp_vat_machine.specs.declared.event.Event.TheVariants as events
+use Rattle.cp_vat_machine.specs.declared.event.Value.TheVariants as values
+use Rattle.cp_vat_machine.specs.declared.fault.VatFault.TheVariants as refusals
 
 abbrev pub bootstrap_answered : List Moment
 bootstrap_answered = bootstrap_comes ∷ []

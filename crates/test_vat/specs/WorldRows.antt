@@ -3,10 +3,10 @@ use Rattle.std.specs.Prelude.{◌≡◌, true, List, [], ◌∷◌, map, Some, N
 use Rattle.std.specs.FinMap.{get}
 use Rattle.cp_tree.specs.Node.{cap}
 use Rattle.cp_rpc.specs.declared.descriptor.Descriptor.TheVariants as descriptors
-use Rattle.cp_machine.specs.Run.{Moment}
-use Rattle.cp_machine.specs.declared.event.Event.TheVariants as events
-use Rattle.cp_machine.specs.declared.event.Value.TheVariants as values
-use Rattle.cp_worlds.specs.World.{World, Side, at_first, at_second, new_world, Move, Moves, last_of}
+use Rattle.cp_vat_machine.specs.Run.{Moment}
+use Rattle.cp_vat_machine.specs.declared.event.Event.TheVariants as events
+use Rattle.cp_vat_machine.specs.declared.event.Value.TheVariants as values
+use Rattle.cp_vat_worlds.specs.World.{World, Side, at_first, at_second, new_world, Move, Moves, last_of}
 use Rattle.test_vat.specs.RowWords.{comes, does, return_message, finish_message, sends, results, bootstrap_comes, bootstrap_does}
 
 -- a move without the world after it

@@ -2,7 +2,7 @@
 
 ghost use Rattle.std.specs.Prelude.{◌≡◌, Some, None};
 ghost use Rattle.cp_tables.specs.declared.exchange.Stage.TheVariants as stages;
-ghost use Rattle.cp_machine.specs.Run.{Run};
+ghost use Rattle.cp_vat_machine.specs.Run.{Run};
 ghost use Rattle.test_vat.specs.LedgerRows as rows;
 ghost use Rattle.test_vat.specs.LedgerRows.{exported, imported, asked, answered, promise_exported};
 

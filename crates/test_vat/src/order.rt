@@ -1,7 +1,7 @@
 //! Exchanges in order, each a run whose calls leave in the order of their tickets.
 
 ghost use Rattle.std.specs.Prelude.{Some};
-ghost use Rattle.cp_machine.specs.InOrder.{RunsInOrder};
+ghost use Rattle.cp_vat_machine.specs.InOrder.{RunsInOrder};
 ghost use Rattle.test_vat.specs.Rows as rows;
 ghost use Rattle.test_vat.specs.OrderRows as order_rows;
 ghost use Rattle.test_vat.specs.OrderRows.{IsOrderedUnless, TwoAreNotOne};

@@ -12,6 +12,6 @@ rm -rf "$room/crates"
 copy_sources "$room/crates" "${order[@]}"
 for it in "${order[@]}"; do mkdir "$room/crates/$it/out" && link "$root/crates/$it/out/rlib" "$room/crates/$it/out/rlib"; done
 mkdir -p "$room/crates/answering/src" && cp "$here/main.code" "$room/crates/answering/src/main.rt"
-{ cat "$root/crates.txt" | awk -v of=" ${order[*]} " '{ name = $1; sub(/[:#].*/, "", name) } name && index(of, " " name " ")'; echo "answering: cp_words cp_frame cp_machine cp_refs cp_servants cp_client cp_exports cp_contents anyhow"; } >"$room/crates.txt"
+{ cat "$root/crates.txt" | awk -v of=" ${order[*]} " '{ name = $1; sub(/[:#].*/, "", name) } name && index(of, " " name " ")'; echo "answering: cp_words cp_frame cp_vat_machine cp_refs cp_servants cp_client cp_exports cp_contents anyhow"; } >"$room/crates.txt"
 (cd "$room/crates/answering" && rt run -- 0) || true # (which builds it, and then has no trials)
 cp "$room/crates/answering/out/answering" "$room/../answering"

@@ -2,8 +2,8 @@
 
 use cp_connection::ConnectionFault;
 use cp_frame::FrameFault;
-use cp_machine::VatFault;
 use cp_stream::Refusal;
+use cp_vat_machine::VatFault;
 
 #[test]
 fn texts(rt: HostRuntime) {

@@ -1,8 +1,8 @@
 //! What memory is taken for messages that are read in place.
 
-use cp_machine::{Acted, Effect, PeerFault, Reason, VatFault};
 use cp_stream::view_of;
 use cp_vat::Vat;
+use cp_vat_machine::{Acted, Effect, PeerFault, Reason, VatFault};
 use cp_words::{Limits, Segments};
 use std::alloc::Global;
 use std::process::Abort;

@@ -1,8 +1,8 @@
 //! What a vat does where an allocation fails.
 
-use cp_machine::{Event, VatFault};
 use cp_scripts::event_of;
 use cp_vat::Vat;
+use cp_vat_machine::{Event, VatFault};
 use std::alloc::Global;
 use std::process::Abort;
 

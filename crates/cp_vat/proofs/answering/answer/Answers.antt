@@ -1,14 +1,14 @@
 use Rattle.std.proofs.Common.{Ok, refl}
 use Rattle.std.proofs.lemmas.Result.{err_from_is_err_and}
-use Rattle.cp_machine.specs.Then.{OrFull}
-use Rattle.cp_machine.specs.Doing.{DoAnswer, Quietly, answer_refusals, quietly}
-use Rattle.cp_machine.specs.Give.{Give}
-use Rattle.cp_machine.specs.declared.event.Value.TheVariants as values
-use Rattle.cp_state.specs.StateOf.{state_of}
+use Rattle.cp_vat_machine.specs.Then.{OrFull}
+use Rattle.cp_vat_machine.specs.Doing.{DoAnswer, Quietly, answer_refusals, quietly}
+use Rattle.cp_vat_machine.specs.Give.{Give}
+use Rattle.cp_vat_machine.specs.declared.event.Value.TheVariants as values
+use Rattle.cp_vat_state.specs.StateOf.{state_of}
 use Rattle.cp_vat.proofs.Judged.{unless_passed, unless_failed}
 use Rattle.cp_vat.proofs.Faulting.{acts_refused}
 use Rattle.cp_vat.proofs.Refusing.{calls_refused}
-use Rattle.cp_order.proofs.within.Between.{local_is_within}
+use Rattle.cp_vat_laws.proofs.within.Between.{local_is_within}
 use Rattle.cp_vat.proofs.Ready.{answer_ungiven, answer_ends}
 use Rattle.cp_vat.proofs.answering.answer.Goals as goal
 

@@ -1,16 +1,16 @@
 use Rattle.std.proofs.Common.{Ok, refl, sym, inl, inr, true≢false, ◌∙◌}
 use Rattle.std.proofs.lemmas.Result.{err_from_is_err_and}
 use Rattle.cp_refs.specs.declared.cap.Cap.TheVariants as caps
-use Rattle.cp_machine.specs.Then.{OrFull, Unless}
-use Rattle.cp_machine.specs.Doing.{DoResolve, Quietly, Resolves, quietly, resolve_refusals, value_refusals}
-use Rattle.cp_machine.specs.Give.{Settle}
-use Rattle.cp_machine.specs.declared.event.Value.TheVariants as values
-use Rattle.cp_machine.specs.declared.fault.VatFault.TheVariants as refusals
-use Rattle.cp_state.specs.StateOf.{state_of}
+use Rattle.cp_vat_machine.specs.Then.{OrFull, Unless}
+use Rattle.cp_vat_machine.specs.Doing.{DoResolve, Quietly, Resolves, quietly, resolve_refusals, value_refusals}
+use Rattle.cp_vat_machine.specs.Give.{Settle}
+use Rattle.cp_vat_machine.specs.declared.event.Value.TheVariants as values
+use Rattle.cp_vat_machine.specs.declared.fault.VatFault.TheVariants as refusals
+use Rattle.cp_vat_state.specs.StateOf.{state_of}
 use Rattle.cp_vat.proofs.Judged.{unless_passed, unless_failed}
 use Rattle.cp_vat.proofs.Faulting.{acts_refused, refused_on}
 use Rattle.cp_vat.proofs.Refusing.{calls_refused, comes_once}
-use Rattle.cp_order.proofs.within.Between.{local_is_within}
+use Rattle.cp_vat_laws.proofs.within.Between.{local_is_within}
 use Rattle.cp_vat.proofs.Ready.{resolve_ends, resolve_unsettled}
 use Rattle.cp_vat.proofs.answering.resolve.Goals as goal
 

@@ -1,7 +1,7 @@
 use Rattle.std.proofs.Common.{rules, sym, ◌∙◌}
-use Rattle.cp_order.proofs.within.Between.{local_is_within}
-use Rattle.cp_order.proofs.within.Follows.{none_valued}
-use Rattle.cp_state.proofs.Numbering.{is_fresh, none_fresh}
+use Rattle.cp_vat_laws.proofs.within.Between.{local_is_within}
+use Rattle.cp_vat_laws.proofs.within.Follows.{none_valued}
+use Rattle.cp_vat_state.proofs.Numbering.{is_fresh, none_fresh}
 use Rattle.cp_vat.proofs.asking.ask.Goals as goal
 
 pub returns-then-len-eq-LIMIT-clause-fresh : goal.returns-then-len-eq-LIMIT-clause-fresh

@@ -1,8 +1,8 @@
 use Rattle.std.proofs.Common.{refl, Ok, [], ℕ}
 use Rattle.std.proofs.lemmas.Result.{err_from_is_err_and}
-use Rattle.cp_machine.specs.Capacity.{Fresh}
-use Rattle.cp_state.specs.StateOf.{state_of}
-use Rattle.cp_machine.specs.declared.event.Value.TheVariants as values
+use Rattle.cp_vat_machine.specs.Capacity.{Fresh}
+use Rattle.cp_vat_state.specs.StateOf.{state_of}
+use Rattle.cp_vat_machine.specs.declared.event.Value.TheVariants as values
 use Rattle.cp_vat.proofs.Faulting.{first_halts, refused_by}
 use Rattle.cp_vat.proofs.asking.promise.Goals as goal
 

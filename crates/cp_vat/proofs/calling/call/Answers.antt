@@ -1,9 +1,9 @@
 use Rattle.std.proofs.Common.{Ok, refl, ℕ}
 use Rattle.std.proofs.lemmas.Result.{err_from_is_err_and}
-use Rattle.cp_machine.specs.Then.{OrFull}
-use Rattle.cp_machine.specs.Calling.{DoCall, Opens, call_refusals}
-use Rattle.cp_machine.specs.declared.event.Value.TheVariants as values
-use Rattle.cp_state.specs.StateOf.{state_of}
+use Rattle.cp_vat_machine.specs.Then.{OrFull}
+use Rattle.cp_vat_machine.specs.Calling.{DoCall, Opens, call_refusals}
+use Rattle.cp_vat_machine.specs.declared.event.Value.TheVariants as values
+use Rattle.cp_vat_state.specs.StateOf.{state_of}
 use Rattle.cp_vat.proofs.Judged.{none_judged, unless_passed, unless_failed}
 use Rattle.cp_vat.proofs.Faulting.{owns_refused}
 use Rattle.cp_vat.proofs.Refusing.{calls_refused}

@@ -1,8 +1,8 @@
 use Rattle.std.proofs.Common.{◌≡◌, Ok, Err, refl, sym, ap, ◌∙◌, subst}
 use Rattle.std.proofs.lemmas.Result.{err_from_is_err_and}
-use Rattle.cp_machine.specs.Calling.{GoFrom, called, reference_of}
-use Rattle.cp_machine.specs.declared.event.Value.TheVariants as values
-use Rattle.cp_state.specs.StateOf.{state_of}
+use Rattle.cp_vat_machine.specs.Calling.{GoFrom, called, reference_of}
+use Rattle.cp_vat_machine.specs.declared.event.Value.TheVariants as values
+use Rattle.cp_vat_state.specs.StateOf.{state_of}
 use Rattle.cp_vat.specs.Ways.{WayEnds, seen, taken_back}
 use Rattle.cp_vat.proofs.Ways.{opens_full, call_taken_back, fresh_free}
 use Rattle.cp_vat.proofs.Ready.{call_ticket, call_may, call_ends}

@@ -1,5 +1,5 @@
 use Rattle.std.proofs.Common.{refl, ◌∙◌, ap, append_assoc, ◌++◌}
-use Rattle.cp_machine.specs.Step.{aborts, all_left, found_full}
+use Rattle.cp_vat_machine.specs.Step.{aborts, all_left, found_full}
 use Rattle.cp_vat.proofs.ending.follow.Goals as goal
 use Rattle.cp_vat.proofs.ending.follow.Goals.{in-Ok, in-Err-Fault+in_ok-abort-in-Err-Fault}
 

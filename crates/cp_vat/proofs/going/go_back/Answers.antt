@@ -1,12 +1,12 @@
 use Rattle.std.proofs.Common.{Some, sym, ap, ◌∙◌, subst, Option, ℕ, Result}
 use Rattle.cp_refs.specs.declared.route.Gate.TheVariants as gates
 use Rattle.cp_refs.specs.declared.route.Route.TheVariants as routes
-use Rattle.cp_machine.specs.Then.{Done}
-use Rattle.cp_machine.specs.Go.{Go, GoTo}
-use Rattle.cp_machine.specs.Calling.{FirstEmbargoed, GoBack, mark_of}
-use Rattle.cp_machine.specs.declared.fault.PeerFault.{PeerFault}
-use Rattle.cp_state.specs.StateOf.{state_of}
-use Rattle.cp_rules.specs.Going.{underway_of}
+use Rattle.cp_vat_machine.specs.Then.{Done}
+use Rattle.cp_vat_machine.specs.Go.{Go, GoTo}
+use Rattle.cp_vat_machine.specs.Calling.{FirstEmbargoed, GoBack, mark_of}
+use Rattle.cp_vat_machine.specs.declared.fault.PeerFault.{PeerFault}
+use Rattle.cp_vat_state.specs.StateOf.{state_of}
+use Rattle.cp_vat_rules.specs.Going.{underway_of}
 use Rattle.cp_vat.proofs.Acting.{acts_by}
 use Rattle.cp_vat.proofs.going.go_back.Goals as goal
 

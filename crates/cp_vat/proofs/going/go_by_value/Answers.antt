@@ -1,8 +1,8 @@
 use Rattle.std.proofs.Common.{subst}
-use Rattle.cp_machine.specs.Calling.{GoByValue, called}
-use Rattle.cp_machine.specs.Go.{GoTo}
-use Rattle.cp_state.specs.StateOf.{state_of}
-use Rattle.cp_rules.specs.Going.{underway_of}
+use Rattle.cp_vat_machine.specs.Calling.{GoByValue, called}
+use Rattle.cp_vat_machine.specs.Go.{GoTo}
+use Rattle.cp_vat_state.specs.StateOf.{state_of}
+use Rattle.cp_vat_rules.specs.Going.{underway_of}
 use Rattle.cp_vat.specs.Ways.{value_kind}
 use Rattle.cp_vat.proofs.Acting.{acts_by}
 use Rattle.cp_vat.proofs.Ways.{other_goes}

@@ -1,7 +1,7 @@
 use Rattle.std.proofs.Common.{ap, ◌∙◌}
-use Rattle.cp_machine.specs.Calling.{called}
-use Rattle.cp_state.specs.StateOf.{state_of}
-use Rattle.cp_rules.specs.Going.{underway_of}
+use Rattle.cp_vat_machine.specs.Calling.{called}
+use Rattle.cp_vat_state.specs.StateOf.{state_of}
+use Rattle.cp_vat_rules.specs.Going.{underway_of}
 use Rattle.cp_vat.specs.Ways.{kind_of}
 use Rattle.cp_vat.proofs.Ways.{from_wire}
 use Rattle.cp_vat.proofs.going.go_from.Goals as goal

@@ -1,9 +1,9 @@
 use Rattle.std.proofs.Common.{◌≡◌, Ok, false, true, sym, ap, ◌∙◌, is_some}
 use Rattle.std.proofs.lemmas.Result.{err_from_is_err_and}
-use Rattle.cp_machine.specs.Calling.{mark_of}
-use Rattle.cp_state.specs.Marking.{with_marks}
-use Rattle.cp_state.specs.StateOf.{state_of}
-use Rattle.cp_rules.specs.Going.{underway_of}
+use Rattle.cp_vat_machine.specs.Calling.{mark_of}
+use Rattle.cp_vat_state.specs.Marking.{with_marks}
+use Rattle.cp_vat_state.specs.StateOf.{state_of}
+use Rattle.cp_vat_rules.specs.Going.{underway_of}
 use Rattle.cp_vat.proofs.Ways.{may_marked, mark_stops, marked_stops, unmarked_as_it_was, marked_as_it_was}
 use Rattle.cp_vat.proofs.going.go_marked.Goals as goal
 

@@ -1,7 +1,7 @@
 use Rattle.std.proofs.Common.{None, sym, subst}
 use Rattle.cp_refs.specs.declared.call.Origin.TheVariants as origins
-use Rattle.cp_state.specs.StateOf.{state_of}
-use Rattle.cp_rules.specs.Ungiven.{IsUngiven}
+use Rattle.cp_vat_state.specs.StateOf.{state_of}
+use Rattle.cp_vat_rules.specs.Ungiven.{IsUngiven}
 use Rattle.cp_vat.proofs.Ready.{opened_ungiven}
 use Rattle.cp_vat.proofs.on_bootstrap.on_bootstrap.Goals as goal
 

@@ -1,12 +1,12 @@
 use Rattle.std.proofs.Common.{List, Some, Ok, Err, subst}
 use Rattle.std.proofs.lemmas.Result.{err_from_is_err_and}
-use Rattle.cp_machine.specs.Answering.{call_faults, peer_call}
-use Rattle.cp_machine.specs.Take.{TakeAll}
+use Rattle.cp_vat_machine.specs.Answering.{call_faults, peer_call}
+use Rattle.cp_vat_machine.specs.Take.{TakeAll}
 use Rattle.cp_rpc.specs.declared.descriptor.Descriptor.{Descriptor}
 use Rattle.cp_refs.specs.declared.call.Origin.TheVariants as origins
-use Rattle.cp_rules.proofs.Ready.{may_go}
-use Rattle.cp_state.specs.Halts.{Leaves}
-use Rattle.cp_state.specs.StateOf.{state_of}
+use Rattle.cp_vat_rules.proofs.Ready.{may_go}
+use Rattle.cp_vat_state.specs.Halts.{Leaves}
+use Rattle.cp_vat_state.specs.StateOf.{state_of}
 use Rattle.cp_vat.proofs.Judged.{unless_failed}
 use Rattle.cp_vat.proofs.Entering.{call_free, call_few, call_ticket, call_goes, call_fails, goes_to_target}
 use Rattle.cp_vat.proofs.Ready.{call_within, call_in_hand_as, call_target}

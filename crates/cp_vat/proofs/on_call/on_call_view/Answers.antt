@@ -1,10 +1,10 @@
 use Rattle.std.proofs.Common.{Some}
 use Rattle.std.proofs.lemmas.Result.{err_from_is_err_and}
 use Rattle.cp_rpc.specs.Told.{told_call}
-use Rattle.cp_machine.specs.Answering.{call_faults, peer_call}
+use Rattle.cp_vat_machine.specs.Answering.{call_faults, peer_call}
 use Rattle.cp_refs.specs.declared.call.Origin.TheVariants as origins
-use Rattle.cp_rules.proofs.Ready.{may_go}
-use Rattle.cp_state.specs.StateOf.{state_of}
+use Rattle.cp_vat_rules.proofs.Ready.{may_go}
+use Rattle.cp_vat_state.specs.StateOf.{state_of}
 use Rattle.cp_vat.proofs.Judged.{unless_failed}
 use Rattle.cp_vat.proofs.Entering.{call_free, call_few, call_ticket, call_goes, call_fails, goes_to_target, goes_carrying}
 use Rattle.cp_vat.proofs.Ready.{call_within, call_in_hand_as, call_target, may_go_carrying}

@@ -1,5 +1,5 @@
 use Rattle.std.proofs.Common.{sym}
-use Rattle.cp_state.specs.StateOf.{state_of}
+use Rattle.cp_vat_state.specs.StateOf.{state_of}
 use Rattle.cp_vat.proofs.Ready.{export_ends}
 use Rattle.cp_vat.proofs.on_call.route_to_export.Goals as goal
 

@@ -1,6 +1,6 @@
 use Rattle.std.proofs.Common.{Some, None, sym, ap, ◌∙◌}
-use Rattle.cp_order.proofs.within.Between.{local_is_within}
-use Rattle.cp_state.specs.StateOf.{state_of}
+use Rattle.cp_vat_laws.proofs.within.Between.{local_is_within}
+use Rattle.cp_vat_state.specs.StateOf.{state_of}
 use Rattle.cp_vat.proofs.Ready.{given_ends}
 use Rattle.cp_vat.proofs.on_disembargo.echo_answer.Goals as goal
 

@@ -1,5 +1,5 @@
 use Rattle.std.proofs.Common.{[], sym, ◌∙◌, append-nil}
-use Rattle.cp_state.specs.StateOf.{state_of}
+use Rattle.cp_vat_state.specs.StateOf.{state_of}
 use Rattle.cp_vat.proofs.Resolving.{resolves_open}
 use Rattle.cp_vat.proofs.on_resolve.on_resolve.Goals as goal
 

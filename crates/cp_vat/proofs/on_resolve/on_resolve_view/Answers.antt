@@ -1,6 +1,6 @@
 use Rattle.std.proofs.Common.{[], sym, ◌∙◌, append-nil}
 use Rattle.cp_rpc.specs.Told.{told_resolve}
-use Rattle.cp_state.specs.StateOf.{state_of}
+use Rattle.cp_vat_state.specs.StateOf.{state_of}
 use Rattle.cp_vat.proofs.Resolving.{resolves_open}
 use Rattle.cp_vat.proofs.on_resolve.on_resolve_view.Goals as goal
 

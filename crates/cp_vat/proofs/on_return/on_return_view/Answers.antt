@@ -1,7 +1,7 @@
 use Rattle.std.proofs.Common.{[], Ok, sym, append-nil}
 use Rattle.std.proofs.lemmas.Result.{err_from_is_err_and}
 use Rattle.cp_rpc.specs.Told.{told_return}
-use Rattle.cp_state.specs.StateOf.{state_of}
+use Rattle.cp_vat_state.specs.StateOf.{state_of}
 use Rattle.cp_vat.specs.Receiving.{Begins}
 use Rattle.cp_vat.specs.declared.on_return.Rest.TheVariants as rests
 use Rattle.cp_vat.proofs.Ready.{returned_may}

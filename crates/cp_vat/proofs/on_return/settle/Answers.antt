@@ -1,8 +1,8 @@
 use Rattle.std.proofs.Common.{sym, subst}
 use Rattle.cp_refs.specs.declared.call.Origin.TheVariants as origins
-use Rattle.cp_machine.specs.InUse.{caps_of}
-use Rattle.cp_rules.specs.Ungiven.{AllEnd, IsUngiven}
-use Rattle.cp_state.specs.StateOf.{state_of}
+use Rattle.cp_vat_machine.specs.InUse.{caps_of}
+use Rattle.cp_vat_rules.specs.Ungiven.{AllEnd, IsUngiven}
+use Rattle.cp_vat_state.specs.StateOf.{state_of}
 use Rattle.cp_vat.proofs.Ready.{settles_own, settles_answer, settles_ends}
 use Rattle.cp_vat.proofs.on_return.settle.Goals as goal
 

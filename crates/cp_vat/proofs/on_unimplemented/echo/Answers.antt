@@ -1,5 +1,5 @@
 use Rattle.std.proofs.Common.{sym, ◌∙◌}
-use Rattle.cp_state.specs.StateOf.{state_of}
+use Rattle.cp_vat_state.specs.StateOf.{state_of}
 use Rattle.cp_vat.proofs.Echoing.{is_echoed, is_too_long}
 use Rattle.cp_vat.proofs.on_unimplemented.echo.Goals as goal
 

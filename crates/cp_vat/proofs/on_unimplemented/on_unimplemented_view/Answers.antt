@@ -1,4 +1,4 @@
-use Rattle.cp_state.specs.StateOf.{state_of}
+use Rattle.cp_vat_state.specs.StateOf.{state_of}
 use Rattle.cp_vat.proofs.Telling.{none_told}
 use Rattle.cp_vat.proofs.on_unimplemented.on_unimplemented_view.Goals as goal
 

@@ -1,7 +1,7 @@
 use Rattle.std.proofs.Common.{◌≡◌, true, take}
 use Rattle.std.specs.List.{list_all}
-use Rattle.cp_machine.specs.InUse.{has_promise}
-use Rattle.cp_state.specs.StateOf.{state_of}
+use Rattle.cp_vat_machine.specs.InUse.{has_promise}
+use Rattle.cp_vat_state.specs.StateOf.{state_of}
 use Rattle.cp_vat.proofs.refusals.have_promises.Given as goal
 
 abbrev pub invariant-loop-cap : goal.invariant-loop-cap

@@ -1,6 +1,6 @@
 use Rattle.std.proofs.Common.{◌≡◌, false, take}
 use Rattle.std.specs.List.{list_any}
-use Rattle.cp_machine.specs.InUse.{is_pipelined}
+use Rattle.cp_vat_machine.specs.InUse.{is_pipelined}
 use Rattle.cp_vat.proofs.refusals.names_path.Given as goal
 
 abbrev pub invariant-loop-cap : goal.invariant-loop-cap

@@ -1,6 +1,6 @@
 use Rattle.std.proofs.Common.{◌≡◌, ◌∷◌, [], ◌++◌, None, rules, arith, sym, ap, length, inl, subst}
 use Rattle.std.proofs.lemmas.List.{length_push, nil_from_length}
-use Rattle.cp_machine.specs.Run.{Steps}
+use Rattle.cp_vat_machine.specs.Run.{Steps}
 use Rattle.cp_vat.specs.Running.{moments}
 use Rattle.cp_vat.proofs.Moments.{one_more, ended, splits_more, some_left}
 use Rattle.cp_vat.proofs.running.act_on_all.Goals as goal

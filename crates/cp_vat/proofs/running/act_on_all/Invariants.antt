@@ -1,5 +1,5 @@
 use Rattle.std.proofs.Common.{◌≡◌, ◌≤◌, ◌++◌, length, vec_len, vec_capacity}
-use Rattle.cp_machine.specs.Run.{Steps}
+use Rattle.cp_vat_machine.specs.Run.{Steps}
 use Rattle.cp_vat.specs.Running.{moments}
 use Rattle.cp_vat.proofs.running.act_on_all.Given as goal
 

@@ -1,6 +1,6 @@
 use Rattle.std.proofs.Common.{◌≡◌, true, take}
 use Rattle.std.specs.List.{list_all}
-use Rattle.cp_machine.specs.Supported.{is_supported_descriptor}
+use Rattle.cp_vat_machine.specs.Supported.{is_supported_descriptor}
 use Rattle.cp_vat.proofs.supported.are_supported.Given as goal
 
 abbrev pub invariant-loop-descriptor : goal.invariant-loop-descriptor

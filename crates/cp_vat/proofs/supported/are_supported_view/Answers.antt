@@ -1,6 +1,6 @@
 use Rattle.std.proofs.Common.{sym, ◌∙◌}
 use Rattle.cp_rpc.specs.Told.{told_descriptor}
-use Rattle.cp_machine.specs.Supported.{is_supported_descriptor}
+use Rattle.cp_vat_machine.specs.Supported.{is_supported_descriptor}
 use Rattle.cp_vat.proofs.Listing.{all_more, all_fails}
 use Rattle.cp_vat.proofs.supported.are_supported_view.Goals as goal
 

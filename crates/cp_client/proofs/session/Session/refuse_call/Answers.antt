@@ -1,5 +1,5 @@
 use Rattle.std.proofs.Common.{refl}
-use Rattle.cp_machine.specs.declared.event.Event.TheVariants as events
+use Rattle.cp_vat_machine.specs.declared.event.Event.TheVariants as events
 use Rattle.cp_connection.specs.Lives.{acts}
 use Rattle.cp_client.proofs.Living.{life_still, lives_one}
 use Rattle.cp_client.proofs.session.Session.refuse_call.Goals as goal

@@ -1,6 +1,6 @@
 use Rattle.std.proofs.Common.{◌≡◌, List, [], ◌∷◌, false, rules, refl, sym, ap, ◌∙◌, subst}
-use Rattle.cp_machine.specs.declared.effect.Effect.{Effect}
-use Rattle.cp_sizes.specs.Sizes.{AreWritable}
+use Rattle.cp_vat_machine.specs.declared.effect.Effect.{Effect}
+use Rattle.cp_vat_laws.specs.Sizes.{AreWritable}
 use Rattle.cp_connection.specs.Effects.{closes}
 use Rattle.cp_connection.specs.Noting.{Notes}
 use Rattle.cp_connection.proofs.Noting.{notes_next, split_closes, grows_none, grows_by, grows_both}

@@ -1,5 +1,5 @@
 use Rattle.std.proofs.Common.{◌≡◌}
-use Rattle.cp_sizes.specs.Sizes.{AreWritable}
+use Rattle.cp_vat_laws.specs.Sizes.{AreWritable}
 use Rattle.cp_connection.specs.declared.agenda.Agenda.{Agenda}
 use Rattle.cp_connection.specs.Effects.{closes}
 use Rattle.cp_connection.specs.Noting.{Notes, Grows}

@@ -1,5 +1,5 @@
 use Rattle.std.proofs.Common.{sym, ◌∙◌, subst}
-use Rattle.cp_sizes.specs.Sizes.{AreWritable}
+use Rattle.cp_vat_laws.specs.Sizes.{AreWritable}
 use Rattle.cp_serve.proofs.Adding.{effects_added}
 use Rattle.cp_serve.proofs.queues.Queue.add.Goals as goal
 

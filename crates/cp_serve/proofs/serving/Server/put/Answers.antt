@@ -3,7 +3,7 @@ use Rattle.std.specs.List.{AllByRecursion}
 use Rattle.std.proofs.lemmas.Result.{err_from_is_err_and}
 use Rattle.cp_frame.specs.declared.mode.Mode.{Mode}
 use Rattle.cp_rpc.specs.declared.message.Message.{Message}
-use Rattle.cp_sizes.specs.Sizes.{IsWritable}
+use Rattle.cp_vat_laws.specs.Sizes.{IsWritable}
 use Rattle.cp_serve.specs.declared.serving.Server.{Server}
 use Rattle.cp_serve.specs.Output.{Writes, WritesPart}
 use Rattle.cp_serve.specs.Reached.{IsUnput, ahead}

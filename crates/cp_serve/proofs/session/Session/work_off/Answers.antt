@@ -1,5 +1,5 @@
 use Rattle.std.proofs.Common.{List, sym, ap, ◌∙◌}
-use Rattle.cp_machine.specs.declared.effect.Effect.{Effect}
+use Rattle.cp_vat_machine.specs.declared.effect.Effect.{Effect}
 use Rattle.cp_serve.specs.Service.{acts}
 use Rattle.cp_serve.specs.WorkOf.{work_of}
 use Rattle.cp_serve.proofs.Working.{works_off_none}

@@ -1,6 +1,6 @@
 use Rattle.std.proofs.Common.{sym, subst}
-use Rattle.cp_machine.proofs.NewVats.{new_local}
-use Rattle.cp_sizes.proofs.Stepping.{new_fits}
+use Rattle.cp_vat_machine.proofs.NewVats.{new_local}
+use Rattle.cp_vat_laws.proofs.writable.Stepping.{new_fits}
 use Rattle.cp_vat.specs.Stepping.{Stays}
 use Rattle.cp_vat.proofs.vat.Vat.new.Goals as goal
 

@@ -1,7 +1,7 @@
 use Rattle.cp_rpc.specs.Told.{told}
-use Rattle.cp_machine.specs.Step.{was_closed}
-use Rattle.cp_machine.specs.declared.event.Event.TheVariants as events
-use Rattle.cp_state.specs.StateOf.{state_of}
+use Rattle.cp_vat_machine.specs.Step.{was_closed}
+use Rattle.cp_vat_machine.specs.declared.event.Event.TheVariants as events
+use Rattle.cp_vat_state.specs.StateOf.{state_of}
 use Rattle.cp_vat.proofs.Stepping.{message_steps, message_stays, message_within, message_writes}
 use Rattle.cp_vat.proofs.vat.Vat.receive_view.Goals as goal
 

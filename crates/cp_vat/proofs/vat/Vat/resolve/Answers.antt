@@ -1,7 +1,7 @@
-use Rattle.cp_machine.specs.Step.{was_closed}
-use Rattle.cp_machine.specs.declared.event.Event.TheVariants as events
-use Rattle.cp_machine.specs.declared.event.Value.TheVariants as values
-use Rattle.cp_state.specs.StateOf.{state_of}
+use Rattle.cp_vat_machine.specs.Step.{was_closed}
+use Rattle.cp_vat_machine.specs.declared.event.Event.TheVariants as events
+use Rattle.cp_vat_machine.specs.declared.event.Value.TheVariants as values
+use Rattle.cp_vat_state.specs.StateOf.{state_of}
 use Rattle.cp_vat.proofs.Stepping.{call_steps, call_stays, call_within, call_writes}
 use Rattle.cp_vat.proofs.vat.Vat.resolve.Goals as goal
 

@@ -1,4 +1,0 @@
-pub mod Tables
-pub mod within
-pub mod order
-pub mod telling

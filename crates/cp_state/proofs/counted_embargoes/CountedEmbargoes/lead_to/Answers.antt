@@ -1,6 +1,0 @@
-use Rattle.std.proofs.Common.{◌∙◌}
-use Rattle.cp_state.proofs.Asking.{leads_to}
-use Rattle.cp_state.proofs.counted_embargoes.CountedEmbargoes.lead_to.Goals as goal
-
-pub returns : goal.returns
-returns c = rw (← c.self.view_is) (c.has.ensures ∙ leads_to c.self.inside.embargoes c.self.inside.led_to c.args.id c.self.invariant)

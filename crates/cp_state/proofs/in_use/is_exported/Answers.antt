@@ -1,6 +1,0 @@
-use Rattle.std.proofs.Common.{◌∙◌}
-use Rattle.cp_state.proofs.Using.{is_exported}
-use Rattle.cp_state.proofs.in_use.is_exported.Goals as goal
-
-pub returns : goal.returns
-returns c = c.is_some.ensures ∙ is_exported c.args.exports.now c.args.id c.number.result c.number.ensures

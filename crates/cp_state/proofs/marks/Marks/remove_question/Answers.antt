@@ -1,5 +1,0 @@
-use Rattle.cp_state.proofs.Under.{under-question-gone}
-use Rattle.cp_state.proofs.marks.Marks.remove_question.Goals as goal
-
-pub invariant_of-self : goal.invariant_of-self
-invariant_of-self c = rw c.remove_question.ensures (under-question-gone c.self.inside.imports c.self.inside.paths c.self.inside.embargoes c.self.inside.references c.self.invariant c.args.id)

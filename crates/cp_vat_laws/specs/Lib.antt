@@ -1,0 +1,4 @@
+pub mod Within
+pub mod Keeping
+pub mod OrderKept
+pub mod Sizes

@@ -1,0 +1,6 @@
+//! One vat over whole runs: what holds of it between events, that its turns are in order, and that what it sends can be written.
+#![tactic(auto)]
+
+pub mod keeping;
+pub mod runs;
+pub mod sizes;

@@ -1,0 +1,35 @@
+use Rattle.std.proofs.Common.{Err, [], refl, sym, ap, ◌∙◌}
+use Rattle.std.proofs.lemmas.Result.{err_from_is_err_and}
+use Rattle.cp_vat_machine.specs.Give.{Settle, Tells, settled, value_for}
+use Rattle.cp_vat_rules.specs.Settling.{settling}
+use Rattle.cp_vat_rules.proofs.Giving.{settles_on, settle_by}
+use Rattle.cp_vat_rules.proofs.Backing.{comes_same}
+use Rattle.cp_vat_rules.proofs.Opening.{settled_ends}
+use Rattle.cp_vat_rules.proofs.settle.settle_value.Goals as goal
+
+pub returns-in_err-raised-clause-settled : goal.returns-in_err-raised-clause-settled
+returns-in_err-raised-clause-settled c s same =
+    let p = err_from_is_err_and c.from_residual-in_err-raised.result c.from_residual-in_err-raised.ensures.1 in
+    let old = settling s c.args.values.now.promises c.args.exports.now [] in
+    let v = c.in_ok-value.value in
+    let mid = settled old c.args.promise v in
+    let came = comes_same c.args.values.now old.values refl (sym same) c.args.value c.in_ok-reached.reached (rw c.values.ensures at c.in_ok-reached.ensures) in
+    let by = settle_by old c.args.promise c.args.value c.in_ok-reached.reached v c.in_ok-last.last came c.in_ok-value.ensures (c.in_ok-last.ensures ∙ ap (λ k. value_for c.args.promise k c.in_ok-reached.reached) c.in_ok-known.ensures) in
+    rw (p.1, p.2) (settles_on _ _ (Tells mid c.args.promise c.in_ok-last.last) (Settle old c.args.promise c.args.value) _ _ _ _ _ _ _ (λ f t. by (Err f) t) (c.in_err-raised.ensures.told mid))
+
+pub returns-clause-settled : goal.returns-clause-settled
+returns-clause-settled c s same =
+    let old = settling s c.args.values.now.promises c.args.exports.now [] in
+    let v = c.in_ok-value.value in
+    let mid = settled old c.args.promise v in
+    let came = comes_same c.args.values.now old.values refl (sym same) c.args.value c.in_ok-reached.reached (rw c.values.ensures at c.in_ok-reached.ensures) in
+    let by = settle_by old c.args.promise c.args.value c.in_ok-reached.reached v c.in_ok-last.last came c.in_ok-value.ensures (c.in_ok-last.ensures ∙ ap (λ k. value_for c.args.promise k c.in_ok-reached.reached) c.in_ok-known.ensures) in
+    let told = c.in_ok-raised.ensures.told mid in
+    rw (c.in_ok-settle_promise.ensures.put, c.in_ok-copy.ensures) (told.0, told.1, by _ told.2)
+
+pub come_to-requires : goal.come_to-requires
+come_to-requires c = rw c.values.ensures c.requires.ends
+
+pub returns-clause-ends : goal.returns-clause-ends
+returns-clause-ends c =
+    settled_ends c.args.values.now c.settle_promise.new.self c.args.promise c.args.value c.in_ok-reached.reached c.in_ok-value.value c.in_ok-copy.field-0 c.requires.unsettled (rw c.values.ensures at c.in_ok-reached.ensures) c.in_ok-value.ensures c.in_ok-copy.ensures c.in_ok-settle_promise.ensures.put

@@ -1,0 +1,188 @@
+//! How outcomes are given to answers.
+
+ghost use Rattle.std.specs.Prelude.{◌≡◌, Some, IfOk, OnOk};
+ghost use Rattle.cp_tables.specs.declared.exchange.Stage.TheVariants as stages;
+ghost use Rattle.cp_vat_machine.specs.State.{State};
+ghost use Rattle.cp_vat_machine.specs.Give.{Give, GiveAnswer, Returns, return_of, returned_mentions};
+ghost use Rattle.cp_vat_machine.specs.InUse.{caps_of};
+ghost use Rattle.cp_vat_state.specs.Halts.{Acts, IfFault, Leaves};
+ghost use Rattle.cp_vat_state.specs.StateOf.{state_of};
+ghost use Rattle.cp_vat_rules.specs.Giving.{GivesAnswer};
+ghost use Rattle.cp_vat_rules.specs.Leading.{with_parts};
+ghost use Rattle.cp_vat_rules.specs.Ungiven.{AllEnd, IsUngiven};
+ghost use Rattle.cp_vat_rules.specs.Settling.{OnlySettles, SettlesTiedTo, lowered_back};
+
+use crate::entry::{note_given, remove_answer};
+use crate::give_own::give_own;
+use crate::lower::lower_back;
+use crate::say::{mentioned, say_all};
+use crate::settle::{Settled, end_gates, settle_tied};
+use cp_refs::{KeptOutcome, Origin, Outcome, Values};
+use cp_rpc::{Message, Payload, Return, Returned};
+use cp_tables::Stage;
+use cp_vat_machine::{Effect, Mentions};
+use cp_vat_state::{Core, Exported, Gift, Halt};
+use std::alloc::{AllocError, Global};
+
+/// Gives an outcome to whom a call's outcome is for. Where a table is full nothing changes.
+pub fn give(
+    core: &mut Core,
+    origin: Origin,
+    outcome: Outcome,
+    effects: &mut Vec<Effect>,
+) -> Result<(), Halt>
+    requires ungiven { IsUngiven (state_of core.old) origin }
+    requires ends { AllEnd core.old.values (caps_of outcome) }
+    ensures acts { Acts (Give (state_of core.old) origin outcome) result effects.old.items effects.new.items (state_of core.new) }
+    ensures unchanged { IfFault result (core.new ≡ core.old) }
+{
+    match origin {
+        Origin::Answer(id) => give_answer(core, id, outcome, effects),
+        Origin::Own(id) => give_own(core, id, outcome, effects),
+    }
+}
+
+/// Gives an answer: its Return goes out, and the promises tied to it are settled. Where a table is full
+/// nothing changes.
+pub fn give_answer(
+    core: &mut Core,
+    id: u32,
+    outcome: Outcome,
+    effects: &mut Vec<Effect>,
+) -> Result<(), Halt>
+    requires ungiven { IsUngiven (state_of core.old) (Origin.Answer id) }
+    requires ends { AllEnd core.old.values (caps_of outcome) }
+    ensures acts { Acts (GiveAnswer (state_of core.old) id outcome) result effects.old.items effects.new.items (state_of core.new) }
+    ensures unchanged { IfFault result (core.new ≡ core.old) }
+{
+    let Some(answer) = core.answers.get(id) else {
+        unreachable!()
+    };
+    match answer.stage {
+        Stage::Open => give_open(core, id, outcome, effects),
+        Stage::Finished => give_finished(core, id, outcome, effects),
+        Stage::Returned => unreachable!(),
+    }
+}
+
+/// Gives an answer that wasn't finished.
+fn give_open(
+    core: &mut Core,
+    id: u32,
+    outcome: Outcome,
+    effects: &mut Vec<Effect>,
+) -> Result<(), Halt>
+    requires ungiven { IsUngiven (state_of core.old) (Origin.Answer id) }
+    requires ends { AllEnd core.old.values (caps_of outcome) }
+    ensures acts { GivesAnswer stages.Open core.old id outcome result effects.old.items effects.new.items core.new }
+    ensures unchanged { IfFault result (core.new ≡ core.old) }
+{
+    let kept = KeptOutcome::of(core.alloc, &outcome)?;
+    let gift = KeptOutcome::of(core.alloc, &outcome)?;
+    let said = returned(core.alloc, core.values.values(), &mut core.exports, outcome)?;
+    let ids = mentions(core.alloc, &said)?;
+    effects.push(return_effect(id, said))?;
+    let settled = match settle_promises(core, id, &kept, effects) {
+        Ok(settled) => settled,
+        Err(halt) => {
+            lower_back(&mut core.exports, ids.ids());
+            return Err(halt);
+        }
+    };
+    core.gates.end(Gift::Answer(id, gift))?;
+    core.values.put_answer(id, Some(kept))?;
+    note_given(core.alloc, &mut core.answers, id, ids);
+    end_gates(core.alloc, &mut core.gates, &settled)?;
+    Ok(())
+}
+
+/// Gives an answer after its Finish: its Return says that it was canceled.
+fn give_finished(
+    core: &mut Core,
+    id: u32,
+    outcome: Outcome,
+    effects: &mut Vec<Effect>,
+) -> Result<(), Halt>
+    requires ungiven { IsUngiven (state_of core.old) (Origin.Answer id) }
+    requires ends { AllEnd core.old.values (caps_of outcome) }
+    ensures acts { GivesAnswer stages.Finished core.old id outcome result effects.old.items effects.new.items core.new }
+    ensures unchanged { IfFault result (core.new ≡ core.old) }
+{
+    let kept = KeptOutcome::of(core.alloc, &outcome)?;
+    effects.push(return_effect(id, Returned::Canceled))?;
+    let settled = settle_promises(core, id, &kept, effects)?;
+    core.gates.end(Gift::Answer(id, kept))?;
+    remove_answer(core, id);
+    end_gates(core.alloc, &mut core.gates, &settled)?;
+    Ok(())
+}
+
+/// Settles the promises tied to an answer. Their gates are still to be ended. Where a table is full
+/// nothing changes.
+fn settle_promises(
+    core: &mut Core,
+    id: u32,
+    outcome: &KeptOutcome,
+    effects: &mut Vec<Effect>,
+) -> Result<Vec<Settled>, Halt>
+    requires ungiven { IsUngiven (state_of core.old) (Origin.Answer id) }
+    requires ends { AllEnd core.old.values (caps_of outcome.now) }
+    ensures settled { SettlesTiedTo core.old id outcome.now result effects.old.items effects.new.items core.new (λ v. v.items) }
+    ensures promises { OnOk result (OnlySettles core.old core.new) }
+    ensures unchanged { IfFault result (core.new ≡ core.old) }
+{
+    let Some(answer) = core.answers.get(id) else {
+        unreachable!()
+    };
+    settle_tied(
+        core.alloc,
+        &mut core.values,
+        &mut core.exports,
+        outcome,
+        answer.kept.tied.promises(),
+        effects,
+    )
+}
+
+/// The Return of an answer. It leaves the exports that the params named as they are.
+fn return_effect(answer_id: u32, returned: Returned) -> Effect
+    ensures { result ≡ return_of answer_id returned }
+{
+    Effect::Send(Message::Return(Return {
+        answer_id,
+        release_param_caps: false,
+        returned,
+    }))
+}
+
+/// How an outcome is returned. Its content goes into the Return.
+fn returned(
+    alloc: Global,
+    values: &Values,
+    exports: &mut Exported,
+    outcome: Outcome,
+) -> Result<Returned, Halt>
+    requires { AllEnd values.now (caps_of outcome) }
+    ensures said { (s : State) → Leaves (Returns (with_parts s values.now exports.old) outcome) result (with_parts s values.now exports.new) }
+    ensures back { IfOk result (λ r. lowered_back exports.new (returned_mentions r) ≡ exports.old) }
+    ensures unchanged { IfFault result (exports.new ≡ exports.old) }
+{
+    match outcome {
+        Outcome::Results { content, caps } => {
+            let cap_table = say_all(alloc, values, exports, caps.caps())?;
+            Ok(Returned::Results(Payload { content, cap_table }))
+        }
+        Outcome::Failed(x) => Ok(Returned::Exception(x)),
+        Outcome::Canceled => Ok(Returned::Canceled),
+    }
+}
+
+/// The exports that a Return names.
+fn mentions(alloc: Global, returned: &Returned) -> Result<Mentions, AllocError>
+    ensures { IfOk result (λ ids. ids ≡ returned_mentions returned.now) }
+{
+    match returned {
+        Returned::Results(payload) => mentioned(alloc, payload.cap_table.descriptors()),
+        _ => Ok(Mentions::new(Vec::new(alloc))),
+    }
+}

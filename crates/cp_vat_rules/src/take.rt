@@ -1,0 +1,158 @@
+//! How descriptors are taken in.
+
+ghost use Rattle.std.specs.Prelude.{◌≡◌, Some, None, Ok, true, option_copied};
+ghost use Rattle.std.specs.List.{list_all};
+ghost use Rattle.std.specs.FinMap as map;
+ghost use Rattle.cp_rpc.specs.Told.{told_descriptor};
+ghost use Rattle.cp_vat_machine.specs.Then.{Then};
+ghost use Rattle.cp_vat_machine.specs.Supported.{is_supported_descriptor};
+ghost use Rattle.cp_vat_machine.specs.Take.{Take, TakeAll, TakeAnswer, answer_of, held_import, taken_export};
+ghost use Rattle.cp_vat_state.specs.Halts.{Becomes, Leaves};
+ghost use Rattle.cp_vat_state.specs.StateOf.{state_of};
+
+use crate::promised::{path_of, path_of_view};
+use cp_reading::View;
+use cp_refs::{Cap, Caps, KeptOutcome, Path};
+use cp_rpc::{CapTableView, Descriptor, DescriptorView};
+use cp_tables::{LIMIT, Stage};
+use cp_vat_machine::{ImportKind, PeerFault, Tied};
+use cp_vat_state::{Core, Halt};
+
+/// Takes in a capability table, one descriptor after another.
+pub fn take_all(core: &mut Core, table: &[Descriptor]) -> Result<Caps, Halt>
+    requires { list_all is_supported_descriptor table.now ≡ true }
+    ensures { Leaves (TakeAll (state_of core.old) table.now) result (state_of core.new) }
+{
+    let mut caps = Vec::with_capacity(core.alloc, table.len())?;
+    for descriptor in table {
+        caps.push(take(core, descriptor)?)?;
+    }
+    Ok(Caps::new(caps))
+}
+
+/// The same of a table that is read in place.
+pub fn take_all_view(core: &mut Core, table: &CapTableView<View>) -> Result<Caps, Halt>
+    requires { list_all is_supported_descriptor table.now ≡ true }
+    ensures { Leaves (TakeAll (state_of core.old) table.now) result (state_of core.new) }
+{
+    let count = table.len();
+    let mut caps = Vec::with_capacity(core.alloc, count)?;
+    for i in 0..count {
+        caps.push(take_view(core, &table.descriptor(i))?)?;
+    }
+    Ok(Caps::new(caps))
+}
+
+/// Takes in a descriptor as a capability. The peer's own is imported, and held once more; this end's
+/// is what was exported.
+pub fn take(core: &mut Core, descriptor: &Descriptor) -> Result<Cap, Halt>
+    requires { is_supported_descriptor descriptor.now ≡ true }
+    ensures { Leaves (Take (state_of core.old) descriptor.now) result (state_of core.new) }
+{
+    match descriptor {
+        Descriptor::None => Ok(Cap::None),
+        Descriptor::SenderHosted(id) => take_import(core, *id, ImportKind::Hosted),
+        Descriptor::SenderPromise(id) => take_import(core, *id, ImportKind::Promise),
+        Descriptor::ReceiverHosted(id) => take_export(core, *id),
+        Descriptor::ReceiverAnswer(answer) => {
+            let path = path_of(core.alloc, &answer.transform)?;
+            take_answer(core, answer.question_id, path)
+        }
+        Descriptor::ThirdPartyHosted(_) | Descriptor::Unknown(_) => unreachable!(),
+    }
+}
+
+/// The same of a descriptor that is read in place.
+pub fn take_view(core: &mut Core, descriptor: &DescriptorView<View>) -> Result<Cap, Halt>
+    requires { is_supported_descriptor (told_descriptor (λ t. t) descriptor.now) ≡ true }
+    ensures { Leaves (Take (state_of core.old) (told_descriptor (λ t. t) descriptor.now)) result (state_of core.new) }
+{
+    match descriptor {
+        DescriptorView::None => Ok(Cap::None),
+        DescriptorView::SenderHosted(id) => take_import(core, *id, ImportKind::Hosted),
+        DescriptorView::SenderPromise(id) => take_import(core, *id, ImportKind::Promise),
+        DescriptorView::ReceiverHosted(id) => take_export(core, *id),
+        DescriptorView::ReceiverAnswer(answer) => {
+            let path = path_of_view(core.alloc, &answer.transform)?;
+            take_answer(core, answer.question_id, path)
+        }
+        DescriptorView::ThirdPartyHosted(_) | DescriptorView::Unknown(_) => unreachable!(),
+    }
+}
+
+/// What an answer came to that is kept and whose Finish hasn't come.
+pub fn answer_of(core: &Core, id: u32) -> Option<&Option<KeptOutcome>>
+    ensures { option_copied result ≡ answer_of (state_of core.now) id }
+{
+    let entry = core.answers.get(id)?;
+    if entry.stage == Stage::Finished {
+        return None;
+    }
+    core.values.values().answer(id)
+}
+
+fn take_import(core: &mut Core, id: u32, kind: ImportKind) -> Result<Cap, Halt>
+    ensures { Leaves (Then (λ held. held ≡ held_import (state_of core.old) id kind) (λ new out. out ≡ Ok (Cap.Import id, new))) result (state_of core.new) }
+{
+    hold_import(core, id, kind)?;
+    Ok(Cap::Import(id))
+}
+
+/// Holds an import once more, or from now on.
+fn hold_import(core: &mut Core, id: u32, kind: ImportKind) -> Result<(), Halt>
+    ensures { Becomes (held_import (state_of core.old) id kind) result (state_of core.new) }
+{
+    let Some(import) = core.imports.get(id) else {
+        return open_import(core, id, kind);
+    };
+    if import.count == u32::MAX {
+        return Err(Halt::Fault(PeerFault::TableFull));
+    }
+    let _ = core.imports.raise(id, kind);
+    Ok(())
+}
+
+fn open_import(core: &mut Core, id: u32, kind: ImportKind) -> Result<(), Halt>
+    requires { map.get core.old.imports id ≡ None }
+    ensures { Becomes (held_import (state_of core.old) id kind) result (state_of core.new) }
+{
+    if core.imports.len() == LIMIT {
+        return Err(Halt::Fault(PeerFault::TableFull));
+    }
+    core.imports.raise(id, kind)?;
+    core.values.put_import(id, None)?;
+    Ok(())
+}
+
+/// What the peer names by one of this end's exports.
+fn take_export(core: &mut Core, id: u32) -> Result<Cap, Halt>
+    ensures { Leaves (λ out. out ≡ taken_export (state_of core.old) (map.get core.old.exports id)) result (state_of core.new) }
+{
+    let Some(export) = core.exports.get(id) else {
+        return Err(Halt::Fault(PeerFault::UnknownExport));
+    };
+    Ok(export.kept.copy(core.alloc)?)
+}
+
+/// What the peer names by an answer and a path: what it gave there, or a new promise where it isn't
+/// given.
+fn take_answer(core: &mut Core, id: u32, path: Path) -> Result<Cap, Halt>
+    ensures { Leaves (TakeAnswer (state_of core.old) id path (answer_of (state_of core.old) id)) result (state_of core.new) }
+{
+    match answer_of(core, id) {
+        None => Err(Halt::Fault(PeerFault::UnknownAnswer)),
+        Some(None) => tie(core, id, path),
+        Some(Some(outcome)) => Ok(outcome.at(core.alloc, path.fields())?),
+    }
+}
+
+/// Opens a promise for what an answer will give at a path.
+fn tie(core: &mut Core, id: u32, path: Path) -> Result<Cap, Halt>
+    ensures { Leaves (TakeAnswer (state_of core.old) id path (Some None)) result (state_of core.new) }
+{
+    let promise = core.values.open_promise()?;
+    if let Some(kept) = core.answers.kept_mut(id) {
+        kept.tied.push(Tied { promise, path })?;
+    }
+    Ok(Cap::Promise(promise))
+}

@@ -1,0 +1,321 @@
+//! The calls that wait, what the gates gave that ended in this event, and the ticket of the next call.
+
+ghost use Rattle.std.specs.Prelude.{◌≡◌, ◌+◌, ◌-◌, ◌^◌, ◌<◌, ltb, is_some, None, IfOk, OnOk, IfSome, MatchOption, option_copied};
+ghost use Rattle.std.specs.Option.{option_map};
+ghost use Rattle.std.specs.List.{flat_map, list_any};
+ghost use Rattle.std.specs.FinMap as map;
+ghost use Rattle.cp_refs.specs.At.{cap_at};
+ghost use Rattle.cp_vat_machine.specs.InUse.{is_at_promise, is_at_question};
+ghost use Rattle.cp_vat_machine.specs.State.{gave, none_over};
+ghost use Rattle.cp_vat_state.specs.Sought.{is_sought};
+ghost use Rattle.cp_vat_state.specs.Overs.{over_of, gate_of, bare_gate, over_with, NoneOverIn, IsNextIn};
+
+use crate::counted_calls::CountedCalls;
+use crate::sought::Sought;
+use cp_refs::{Cap, Gate, Held, KeptOutcome, Path, PromiseId};
+use cp_tables::Entries;
+use std::alloc::{AllocError, Global};
+use std::collections::btree_map::Iter;
+use std::marker::Model;
+
+/// What ends a gate, with what the gate gives.
+#[derive(Drop)]
+pub enum Gift {
+    Answer(u32, KeptOutcome),
+    Promise(PromiseId, Cap),
+    Question(u32, KeptOutcome),
+    Embargo(u32, Cap),
+}
+
+impl Gift {
+    ghost use Rattle.std.specs.Prelude.{◌≡◌};
+    ghost use Rattle.cp_vat_state.specs.Overs.{gate_of};
+
+    /// The gate that ends, at no path.
+    fn gate(&self, alloc: Global) -> Gate
+        ensures { result ≡ gate_of self.now }
+    {
+        match self {
+            Gift::Answer(id, _) => Gate::Answer(*id, Path::new(Vec::new(alloc))),
+            Gift::Promise(id, _) => Gate::Promise(*id),
+            Gift::Question(id, _) => Gate::Question(*id, Path::new(Vec::new(alloc))),
+            Gift::Embargo(id, _) => Gate::Embargo(*id),
+        }
+    }
+}
+
+/// A call that waited at a gate that ended, with what the gate gave.
+#[derive(Drop)]
+pub struct Next {
+    pub call: Held,
+    pub cap: Cap,
+}
+
+/// The calls that wait, the gates that ended, and the ticket of the next call. Once an allocation
+/// failed in the middle of a change, each further change is refused.
+#[derive(Drop)]
+pub struct Gates {
+    alloc: Global,
+    calls: CountedCalls,
+    over: Overs,
+    next_ticket: u64,
+    is_torn: bool,
+}
+
+impl Model for Gates {
+    ghost use Rattle.cp_vat_state.specs.Queue.{Queue, queue_code};
+
+    ghost Value = { Queue };
+
+    ghost coded = { queue_code };
+
+    ghost use Rattle.cp_vat_state.specs.Overs.{AreGates, over_of};
+
+    ghost view = { λ g. record { waiting = record { calls = g.calls.calls; over = over_of g.over }; next_ticket = g.next_ticket } };
+
+    ghost invariant = { λ g. AreGates g.calls (over_of g.over) g.next_ticket g.is_torn };
+}
+
+impl Gates {
+    ghost use Rattle.std.specs.Prelude.{◌≡◌, None};
+    ghost use Rattle.cp_vat_state.specs.Queue.{TakesOut, with_calls, with_over};
+
+    /// No calls.
+    pub fn new(alloc: Global) -> Gates
+        ensures { result ≡ record { waiting = record { calls = map.empty; over = none_over }; next_ticket = 0 } }
+    {
+        Gates {
+            alloc,
+            calls: CountedCalls::new(alloc),
+            over: Overs::new(alloc),
+            next_ticket: 0,
+            is_torn: false,
+        }
+    }
+
+    /// The call with this ticket.
+    pub fn get(&self, ticket: u64) -> Option<&Held>
+        ensures { option_copied result ≡ map.get self.now.waiting.calls ticket }
+    {
+        self.calls.get(ticket)
+    }
+
+    /// The calls with their tickets, rising.
+    pub fn calls(&self) -> Iter<'_, u64, Held>
+        ensures { result ≡ map.entries self.now.waiting.calls }
+    {
+        self.calls.calls()
+    }
+
+    /// Whether it is in a waiting call's table.
+    pub(crate) fn is_named(&self, sought: Sought) -> bool
+        ensures { result ≡ list_any (is_sought sought) (flat_map (λ call. call.request.caps) (map.values self.now.waiting.calls)) }
+    {
+        self.calls.is_named(sought)
+    }
+
+    /// Whether calls wait at the promise.
+    pub(crate) fn is_at_promise(&self, id: PromiseId) -> bool
+        ensures { result ≡ list_any (λ call. is_at_promise id call.gate) (map.values self.now.waiting.calls) }
+    {
+        self.calls.is_at_promise(id)
+    }
+
+    /// Whether calls wait at a path of the question.
+    pub(crate) fn is_at_question(&self, id: u32) -> bool
+        ensures { result ≡ list_any (λ call. is_at_question id call.gate) (map.values self.now.waiting.calls) }
+    {
+        self.calls.is_at_question(id)
+    }
+
+    /// Whether there is a ticket for one more call.
+    pub fn has_ticket(&self) -> bool
+        ensures { result ≡ ltb self.now.next_ticket (2 ^ 64 - 1) }
+    {
+        self.next_ticket < u64::MAX
+    }
+
+    /// The ticket of the call that comes next.
+    pub fn next_ticket(&self) -> u64
+        ensures { result ≡ self.now.next_ticket }
+    {
+        self.next_ticket
+    }
+
+    /// The ticket of a call that comes now. No call that waits has it.
+    pub fn enter(&mut self) -> u64
+        requires { self.old.next_ticket < 2 ^ 64 - 1 }
+        ensures ticket { result ≡ self.old.next_ticket }
+        ensures entered { self.new ≡ record self.old { next_ticket = self.old.next_ticket + 1 } }
+        ensures free { map.get self.old.waiting.calls result ≡ None }
+    {
+        let ticket = self.next_ticket;
+        self.next_ticket += 1;
+        ticket
+    }
+
+    /// Takes the ticket that was given last back. No call that waits has it.
+    pub fn take_back(&mut self)
+        requires given { 0 < self.old.next_ticket }
+        requires free { map.get self.old.waiting.calls (self.old.next_ticket - 1) ≡ None }
+        ensures { self.new ≡ record self.old { next_ticket = self.old.next_ticket - 1 } }
+    {
+        self.next_ticket -= 1;
+    }
+
+    /// Takes in a call, whose ticket was given and no other one has.
+    pub fn hold(&mut self, held: Held) -> Result<(), AllocError>
+        requires free { map.get self.old.waiting.calls held.ticket ≡ None }
+        requires given { held.ticket < self.old.next_ticket }
+        ensures { OnOk result (self.new ≡ with_calls self.old (map.insert self.old.waiting.calls held.ticket held)) }
+    {
+        if self.is_torn {
+            return Err(AllocError);
+        }
+        let gate = without_path(self.alloc, &held.gate);
+        self.calls.hold(held)?;
+        if !self.over.has(&gate) {
+            return Ok(());
+        }
+        if let Err(error) = self.calls.end(&gate) {
+            self.is_torn = true;
+            return Err(error);
+        }
+        Ok(())
+    }
+
+    /// Ends a gate, with what it gives. An answer and a question end at every path.
+    pub fn end(&mut self, gift: Gift) -> Result<(), AllocError>
+        ensures { OnOk result (self.new ≡ with_over self.old (over_with self.old.waiting.over gift)) }
+    {
+        if self.is_torn {
+            return Err(AllocError);
+        }
+        let gate = gift.gate(self.alloc);
+        self.calls.end(&gate)?;
+        if let Err(error) = self.over.put(gift) {
+            self.is_torn = true;
+            return Err(error);
+        }
+        Ok(())
+    }
+
+    /// Takes out, of the calls whose gate ended, the one with the lowest ticket, with what its gate
+    /// gave.
+    pub fn next(&mut self) -> Result<Option<Next>, AllocError>
+        ensures left { IfOk result (λ next. MatchOption next (NoneOverIn self.old.waiting) (λ found. IsNextIn self.old.waiting found.call found.cap)) }
+        ensures rest { IfOk result (λ next. TakesOut self.old next self.new) }
+        ensures given { IfOk result (λ next. IfSome next (λ found. found.call.ticket < self.old.next_ticket)) }
+    {
+        if self.is_torn {
+            return Err(AllocError);
+        }
+        let Some(call) = self.calls.next() else {
+            return Ok(None);
+        };
+        let Some(cap) = self.over.gave(self.alloc, &call.gate)? else {
+            unreachable!()
+        };
+        Ok(Some(Next { call, cap }))
+    }
+
+    /// Forgets the gates that ended, where no call waits at one.
+    pub fn forget(&mut self)
+        requires { NoneOverIn self.old.waiting }
+        ensures { self.new ≡ with_over self.old none_over }
+    {
+        self.over = Overs::new(self.alloc);
+    }
+}
+
+/// What the gates gave that ended.
+#[derive(Drop)]
+struct Overs {
+    answers: Entries<KeptOutcome>,
+    promises: Entries<Cap>,
+    questions: Entries<KeptOutcome>,
+    embargoes: Entries<Cap>,
+}
+
+impl Overs {
+    fn new(alloc: Global) -> Overs
+        ensures { over_of result ≡ none_over }
+    {
+        Overs {
+            answers: Entries::new(alloc),
+            promises: Entries::new(alloc),
+            questions: Entries::new(alloc),
+            embargoes: Entries::new(alloc),
+        }
+    }
+
+    /// Whether the gate ended.
+    fn has(&self, gate: &Gate) -> bool
+        ensures { result ≡ is_some (gave (over_of self.now) gate.now) }
+    {
+        match gate {
+            Gate::Answer(id, _) => self.answers.get(*id).is_some(),
+            Gate::Promise(id) => self.promises.get(*id).is_some(),
+            Gate::Question(id, _) => self.questions.get(*id).is_some(),
+            Gate::Embargo(id) => self.embargoes.get(*id).is_some(),
+        }
+    }
+
+    /// What the gate gave.
+    fn gave(&self, alloc: Global, gate: &Gate) -> Result<Option<Cap>, AllocError>
+        ensures { IfOk result (λ given. given ≡ gave (over_of self.now) gate.now) }
+    {
+        match gate {
+            Gate::Answer(id, path) => given_at(alloc, self.answers.get(*id), path),
+            Gate::Promise(id) => given(alloc, self.promises.get(*id)),
+            Gate::Question(id, path) => given_at(alloc, self.questions.get(*id), path),
+            Gate::Embargo(id) => given(alloc, self.embargoes.get(*id)),
+        }
+    }
+
+    /// Puts what a gate gave.
+    fn put(&mut self, gift: Gift) -> Result<(), AllocError>
+        ensures { OnOk result (over_of self.new ≡ over_with (over_of self.old) gift) }
+    {
+        match gift {
+            Gift::Answer(id, outcome) => self.answers.put(id, outcome),
+            Gift::Promise(id, value) => self.promises.put(id, value),
+            Gift::Question(id, outcome) => self.questions.put(id, outcome),
+            Gift::Embargo(id, cap) => self.embargoes.put(id, cap),
+        }
+    }
+}
+
+fn given(alloc: Global, cap: Option<&Cap>) -> Result<Option<Cap>, AllocError>
+    ensures { IfOk result (λ given. given ≡ option_copied cap.entry) }
+{
+    match cap {
+        Some(cap) => Ok(Some(cap.copy(alloc)?)),
+        None => Ok(None),
+    }
+}
+
+fn given_at(
+    alloc: Global,
+    outcome: Option<&KeptOutcome>,
+    path: &Path,
+) -> Result<Option<Cap>, AllocError>
+    ensures { IfOk result (λ given. given ≡ option_map (λ outcome. cap_at outcome path.now) (option_copied outcome.entry)) }
+{
+    match outcome {
+        Some(outcome) => Ok(Some(outcome.at(alloc, path.fields())?)),
+        None => Ok(None),
+    }
+}
+
+/// The gate at no path.
+fn without_path(alloc: Global, gate: &Gate) -> Gate
+    ensures { result ≡ bare_gate gate.now }
+{
+    match gate {
+        Gate::Answer(id, _) => Gate::Answer(*id, Path::new(Vec::new(alloc))),
+        Gate::Promise(id) => Gate::Promise(*id),
+        Gate::Question(id, _) => Gate::Question(*id, Path::new(Vec::new(alloc))),
+        Gate::Embargo(id) => Gate::Embargo(*id),
+    }
+}

@@ -1,0 +1,126 @@
+//! How often imports, promises and questions are held.
+
+ghost use Rattle.std.specs.Prelude.{◌≡◌, ltb, option_to_list, OnOk, OnErr};
+ghost use Rattle.cp_vat_machine.specs.InUse.{caps_given};
+ghost use Rattle.cp_vat_state.specs.Counts.{number_of, times_named, times_in, IsMore, IsLess, IsSame};
+ghost use Rattle.cp_vat_state.specs.Sought.{question_caps};
+ghost use Rattle.cp_vat_state.specs.declared.sought.Sought.{Sought};
+
+use crate::counts::Counts;
+use crate::sought::Sought;
+use cp_refs::{Cap, KeptOutcome, Question};
+use std::alloc::{AllocError, Global};
+
+/// How often each import, each promise and each question's paths are held.
+#[derive(Drop)]
+pub(crate) struct Holders {
+    imports: Counts,
+    promises: Counts,
+    questions: Counts,
+}
+
+impl Holders {
+    /// Nothing is held.
+    pub(crate) fn new(alloc: Global) -> Holders
+        ensures { (s : Sought) → number_of result s ≡ 0 }
+    {
+        Holders {
+            imports: Counts::new(alloc),
+            promises: Counts::new(alloc),
+            questions: Counts::new(alloc),
+        }
+    }
+
+    /// How often it is held.
+    pub(crate) fn number(&self, sought: Sought) -> u64
+        ensures { result ≡ number_of self.now sought }
+    {
+        match sought {
+            Sought::Import(id) => self.imports.get(id),
+            Sought::Promise(id) => self.promises.get(id),
+            Sought::PathOf(id) => self.questions.get(id),
+        }
+    }
+
+    /// Whether it is held.
+    pub(crate) fn has(&self, sought: Sought) -> bool
+        ensures { result ≡ ltb 0 (number_of self.now sought) }
+    {
+        self.number(sought) > 0
+    }
+
+    /// Counts what is named once more. A count that can't rise is refused as a failed allocation is.
+    pub(crate) fn raise(&mut self, named: Option<Sought>) -> Result<(), AllocError>
+        ensures raised { OnOk result (IsMore self.old self.new (times_named named)) }
+        ensures err { OnErr result (IsSame self.old self.new) }
+    {
+        match named {
+            Some(Sought::Import(id)) => self.imports.raise(id),
+            Some(Sought::Promise(id)) => self.promises.raise(id),
+            Some(Sought::PathOf(id)) => self.questions.raise(id),
+            None => Ok(()),
+        }
+    }
+
+    /// Counts what is named once less.
+    pub(crate) fn lower(&mut self, named: Option<Sought>)
+        ensures { IsLess self.old self.new (times_named named) }
+    {
+        match named {
+            Some(Sought::Import(id)) => self.imports.lower(id),
+            Some(Sought::Promise(id)) => self.promises.lower(id),
+            Some(Sought::PathOf(id)) => self.questions.lower(id),
+            None => {}
+        }
+    }
+
+    /// Counts what the capabilities name once more each, or nothing where an allocation fails.
+    pub(crate) fn raise_all(&mut self, caps: &[Cap]) -> Result<(), AllocError>
+        ensures raised { OnOk result (IsMore self.old self.new (times_in caps.now)) }
+        ensures err { OnErr result (IsSame self.old self.new) }
+    {
+        for place in 0..caps.len() {
+            if let Err(error) = self.raise(Sought::named_by(&caps[place])) {
+                self.lower_all(&caps[..place]);
+                return Err(error);
+            }
+        }
+        Ok(())
+    }
+
+    /// Counts what the capabilities name once less each.
+    pub(crate) fn lower_all(&mut self, caps: &[Cap])
+        ensures { IsLess self.old self.new (times_in caps.now) }
+    {
+        for cap in caps {
+            self.lower(Sought::named_by(cap));
+        }
+    }
+}
+
+/// The capability that is a value, if there is one.
+pub(crate) fn caps_of_value(value: &Option<Cap>) -> &[Cap]
+    ensures { result.now ≡ option_to_list value.now }
+{
+    value.as_slice()
+}
+
+/// The capabilities of an outcome.
+pub(crate) fn caps_of_outcome(outcome: &Option<KeptOutcome>) -> &[Cap]
+    ensures { result.now ≡ caps_given outcome.now }
+{
+    match outcome {
+        Some(outcome) => outcome.caps(),
+        None => &[],
+    }
+}
+
+/// The capabilities of what a question came to.
+pub(crate) fn caps_of_question(question: &Option<Question>) -> &[Cap]
+    ensures { result.now ≡ question_caps question.now }
+{
+    match question {
+        Some(question) => caps_of_outcome(&question.outcome),
+        None => &[],
+    }
+}

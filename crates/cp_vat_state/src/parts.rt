@@ -1,0 +1,52 @@
+//! The parts of a vat.
+
+ghost use Rattle.std.specs.Prelude.{◌≡◌};
+ghost use Rattle.cp_vat_machine.specs.State.{new_state};
+ghost use Rattle.cp_vat_state.specs.StateOf.{state_of};
+
+use crate::exports::Exported;
+use crate::gates::Gates;
+use crate::marks::Marks;
+use crate::own_promises::OwnPromises;
+use crate::values::NumberedValues;
+use cp_tables::{Answers, Imports, Questions};
+use cp_vat_machine::{AnswerEntry, ImportKind, QuestionEntry};
+use std::alloc::Global;
+
+/// The parts of a vat. Contracts see them as the machine's state.
+#[derive(Drop)]
+pub struct Core {
+    pub alloc: Global,
+    pub values: NumberedValues,
+    pub questions: Questions<QuestionEntry>,
+    pub answers: Answers<AnswerEntry>,
+    pub own_promises: OwnPromises,
+    pub exports: Exported,
+    pub imports: Imports<ImportKind>,
+    pub gates: Gates,
+    pub marks: Marks,
+    /// The object that a Bootstrap gives.
+    pub bootstrap: Option<u32>,
+    pub is_closed: bool,
+}
+
+impl Core {
+    /// A new vat: nothing was sent, taken or called.
+    pub fn new(alloc: Global, bootstrap: Option<u32>) -> Core
+        ensures { state_of result ≡ new_state bootstrap }
+    {
+        Core {
+            alloc,
+            values: NumberedValues::new(alloc),
+            questions: Questions::new(alloc),
+            answers: Answers::new(alloc),
+            own_promises: OwnPromises::new(alloc),
+            exports: Exported::new(alloc),
+            imports: Imports::new(alloc),
+            gates: Gates::new(alloc),
+            marks: Marks::new(alloc),
+            bootstrap,
+            is_closed: false,
+        }
+    }
+}

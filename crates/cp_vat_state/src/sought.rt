@@ -1,0 +1,40 @@
+//! What is looked for among capabilities.
+
+use cp_refs::{Cap, Gate, PromiseId};
+
+/// What is looked for among capabilities, and at the gates where calls wait.
+#[derive(Clone, Copy)]
+pub(crate) enum Sought {
+    Import(u32),
+    Promise(PromiseId),
+    /// What the question gives at any path.
+    PathOf(u32),
+}
+
+impl Sought {
+    ghost use Rattle.std.specs.Prelude.{◌≡◌};
+    ghost use Rattle.cp_vat_state.specs.Sought.{named_by, awaited_at};
+
+    /// What a capability is found as.
+    pub(crate) fn named_by(cap: &Cap) -> Option<Sought>
+        ensures { result ≡ named_by cap.now }
+    {
+        match cap {
+            Cap::Import(id) => Some(Sought::Import(*id)),
+            Cap::Promise(id) => Some(Sought::Promise(*id)),
+            Cap::Pipelined(id, _) => Some(Sought::PathOf(*id)),
+            Cap::None | Cap::Object(_) | Cap::Broken(_) => None,
+        }
+    }
+
+    /// What a call waits for at a gate.
+    pub(crate) fn awaited_at(gate: &Gate) -> Option<Sought>
+        ensures { result ≡ awaited_at gate.now }
+    {
+        match gate {
+            Gate::Promise(id) => Some(Sought::Promise(*id)),
+            Gate::Question(id, _) => Some(Sought::PathOf(*id)),
+            Gate::Answer(_, _) | Gate::Embargo(_) => None,
+        }
+    }
+}
