@@ -1,5 +1,5 @@
 -- What is held back in a block goes out to a device, all of it or a beginning.
-use Rattle.std.proofs.Common.{◌≡◌, ◌⊎◌, inl, inr, ℕ, IsSome, List, [], ◌∷◌, ◌++◌, Option, Some, None, Result, Ok, Err, IfOk, IfErr, OnOk, OnErr, Vec, Global, refl, sym, ap, ◌∙◌, subst, append-nil, append_assoc, zero, suc, take, drop, length, arith}
+use Rattle.std.proofs.Common.{◌≡◌, ◌⊎◌, inl, inr, ℕ, IsSome, List, [], ◌∷◌, ◌++◌, Option, Some, None, Result, Ok, Err, IfOk, IfErr, refl, sym, ap, ◌∙◌, subst, append_assoc, drop, length, arith}
 use Rattle.std.proofs.lemmas.List.{append_cancel_left}
 use Rattle.std.proofs.Math.ListN.{drop_of_length-le}
 use Rattle.std.specs.Io.KnownBytes.{Appends, append_known}
@@ -9,15 +9,15 @@ use Rattle.cp_rpc.specs.declared.message.Message.{Message}
 use Rattle.cp_stream.specs.declared.fault.StreamFault.TheVariants as streams
 use Rattle.cp_stream.specs.Read.{FailedOnce}
 use Rattle.cp_stream.specs.Write.{IsWrittenAs}
+use Rattle.cp_connection.specs.Link.{Link}
 use Rattle.cp_serve.specs.declared.fault.ServeFault.{ServeFault}
 use Rattle.cp_serve.specs.declared.fault.ServeFault.TheVariants as faults
 use Rattle.cp_serve.specs.declared.serving.Server.{Server}
 use Rattle.cp_servants.specs.Servant.{Seen}
-use Rattle.cp_serve.specs.WorkOf.{work_of}
 use Rattle.cp_serve.specs.Output.{Device, AreWrittenAs, Begin, Writes, WritesPart, IsCutOff, StopsFor}
-use Rattle.cp_serve.specs.Reached.{Reached, Serves, GoesOn, Fills, IsUnput, IsUnwritten, ahead}
-use Rattle.cp_serve.proofs.Written.{writes_none, writes_all}
-use Rattle.cp_serve.proofs.Reaching.{cut_there, reached_none}
+use Rattle.cp_serve.specs.Reached.{Reached, GoesOn, Fills, AllOut, ahead, ready_of}
+use Rattle.cp_serve.proofs.Written.{ahead_none, writes_all}
+use Rattle.cp_serve.proofs.Reaching.{cut_there, reached_on, rests_as, is_all_ready}
 
 -- Two lists that are equal, each in two parts: the first part of one begins with that of the other.
 seam : (f u z v : List ℕ) → f ++ u ≡ z ++ v → ((t : List ℕ) × (f ≡ z ++ t)) ⊎ ((t : List ℕ) × (z ≡ f ++ t) × (u ≡ t ++ v))
@@ -43,10 +43,6 @@ begin_cut : (mode : Mode) (others : List Message) (z v : List ℕ) → Begin mod
 begin_cut mode [] z v h = front_nil z v h
 begin_cut mode (m ∷ more) z v (inl h) = inl (front_nil z v h)
 begin_cut mode (m ∷ more) z v (inr h) = inr (v ++ h.0, subst (λ (b : List ℕ). IsWrittenAs mode standard standard.frame_words 1 m b) (append_assoc z v h.0) h.1)
-
-begin_none : (mode : Mode) (others : List Message) → Begin mode others []
-begin_none mode [] = refl
-begin_none mode (m ∷ more) = inl refl
 
 -- The bytes are the frames of the first of these messages, and a beginning of the next.
 record Cut (mode : Mode) (sent : List Message) (z : List ℕ) : Type 0 where
@@ -120,55 +116,6 @@ lies (Some h) (Some y) (Some w) before x block gone left p q e r =
       r ∙ ap (λ (l : List ℕ). l ++ gone) p ∙ append_assoc h before gone,
     )
 
-known_none : (known : Option (List ℕ)) → append_known known [] ≡ known
-known_none None = refl
-known_none (Some x) = ap (λ (l : List ℕ). Some l) (append-nil x)
-
--- without a block it is the device
-pub ahead_none : (to : Device) (block : List ℕ) → block ≡ [] → ahead to block ≡ to
-ahead_none to block none =
-    ap (λ (x : List ℕ). ahead to x) none ∙ ap (λ (o : Option (List ℕ)). record { bytes = o; failures = to.failures }) (known_none to.bytes)
-
--- a block that stays as it was
-pub kept_block : {mode : Mode} {start : List Seen} {held : Device} (bytes rest : List ℕ) {s : Server} {objects : List Seen} (to : Device) (old new : Vec ℕ Global) → new ≡ old
-    → Reached mode start held bytes rest s objects (ahead to old.items) → Reached mode start held bytes rest s objects (ahead to new.items)
-kept_block {mode} {start} {held} bytes rest {s} {objects} to old new e r = subst (λ (b : Vec ℕ Global). Reached mode start held bytes rest s objects (ahead to b.items)) (sym e) r
-
--- nothing follows a whole list
-take_none : (n : ℕ) → ◌≡◌ {A = List ℕ} (take n []) []
-take_none zero = refl
-take_none (suc n) = refl
-
-pub nothing_after : (n : ℕ) (xs : List ℕ) → take n (drop (length xs) xs) ≡ []
-nothing_after n xs = ap (λ (l : List ℕ). take n l) (drop_of_length-le xs {i = length xs} (omega arith)) ∙ take_none n
-
--- a block is begun anew
-pub begun : (mode : Mode) (start : List Seen) (held : Device) (bytes : List ℕ) (s : Server) (block : Vec ℕ Global) {objects : List Seen} {to : Device} → block.items ≡ []
-    → Serves mode start held bytes s objects to → Serves mode start held bytes (record s { block = block }) objects (ahead to block.items)
-begun mode start held bytes s block {objects = objects} {to = to} none (rest, r, on) = (
-  rest,
-  subst (λ (d : Device). Reached mode start held bytes rest (record s { block = block }) objects d) (sym (ahead_none to block.items none))
-      (record {
-        taken = r.taken;
-        sent = r.sent;
-        messages = r.messages;
-        takes = r.takes;
-        writes = r.writes;
-        place = r.place;
-        counted = r.counted;
-        counted_sent = r.counted_sent;
-        same_mode = r.same_mode;
-      }),
-  record {
-    frames_mode = on.frames_mode;
-    frames_limits = on.frames_limits;
-    reading = on.reading;
-    stands = on.stands;
-    nothing = on.nothing;
-    is_open = on.is_open;
-  },
-)
-
 -- The block went out.
 module _ {mode : Mode} {held : Device} (to new : Device) (block : List ℕ) (moved : Appends to.bytes new.bytes block) (same : new.failures ≡ to.failures) where
   pub lands_writes : {sent : List Message} → Writes mode sent held (ahead to block) → Writes mode sent held new
@@ -188,23 +135,6 @@ module _ {mode : Mode} {held : Device} (to new : Device) (block : List ℕ) (mov
   }
 
   module _ {start : List Seen} where
-    lands_reached : (bytes rest : List ℕ) {s : Server} {objects : List Seen} → Reached mode start held bytes rest s objects (ahead to block) → Reached mode start held bytes rest s objects new
-    lands_reached bytes rest r = record {
-      taken = r.taken;
-      sent = r.sent;
-      messages = r.messages;
-      takes = r.takes;
-      writes = lands_writes r.writes;
-      place = r.place;
-      counted = r.counted;
-      counted_sent = r.counted_sent;
-      same_mode = r.same_mode;
-    }
-
-    pub lands_goes : (bytes : List ℕ) {s : Server} {objects : List Seen} → GoesOn mode start held bytes s objects (ahead to block) → GoesOn mode start held bytes s objects new
-    lands_goes bytes (inl h) = inl (h.0, lands_reached bytes h.0 h.1, h.2)
-    lands_goes bytes (inr h) = inr (h.0, lands_reached bytes h.0 h.1, h.2)
-
     abbrev lands_cut : (bytes : List ℕ) (left : Option (List ℕ)) → IsCutOff mode start bytes left held (ahead to block) → IsCutOff mode start bytes left held new
     lands_cut bytes left h = record {
       taken = h.taken;
@@ -294,45 +224,91 @@ module _ {mode : Mode} {start : List Seen} {held : Device} where
   cut_of_stops bytes from left objects faults.OutOfMemory h = h
 
   -- so is one that goes on
-  cut_of_goes : (bytes more : List ℕ) (left : Option (List ℕ)) {s : Server} {objects : List Seen} {to : Device} → GoesOn mode start held bytes s objects to → IsCutOff mode start (bytes ++ more) left held to
-  cut_of_goes bytes more left (inl h) = cut_there bytes h.0 more left h.1
-  cut_of_goes bytes more left (inr h) = cut_there bytes h.0 more left h.1
+  cut_of_goes : (bytes more : List ℕ) (left : Option (List ℕ)) {s : Server} {seen : List Seen} {to : Device} → GoesOn mode start held bytes s seen to → IsCutOff mode start (bytes ++ more) left held (ahead to (ready_of s))
+  cut_of_goes bytes more left {s = s} {seen = seen} {to = to} h = by h
+    where
+      there : (rest : List ℕ) → Reached mode start held bytes rest s seen to → IsCutOff mode start (bytes ++ more) left held (ahead to (ready_of s))
+      there rest r = subst (λ (x : List ℕ). IsCutOff mode start (bytes ++ more) left held (ahead to x)) (sym (is_all_ready bytes rest s r)) (cut_there bytes rest more left r)
 
-  pub cut_of_fills : (bytes fed left piece back : List ℕ) (upto : Option (List ℕ)) {s : Server} {objects : List Seen} {to : Device} → piece ≡ fed ++ left
-      → Fills mode start held (bytes ++ fed) left back s objects to → IsCutOff mode start (bytes ++ piece) upto held to
-  cut_of_fills bytes fed left piece back upto {to = to} e h =
-      subst (λ (x : List ℕ). IsCutOff mode start x upto held to) (whole bytes fed left h.0 back piece e h.1) (cut_of_goes ((bytes ++ fed) ++ h.0) back upto h.2)
+      by : GoesOn mode start held bytes s seen to → IsCutOff mode start (bytes ++ more) left held (ahead to (ready_of s))
+      by (inl r) = there r.0 r.1
+      by (inr r) = there r.0 r.1
+
+  pub cut_of_fills : (bytes fed left piece back : List ℕ) (upto : Option (List ℕ)) {s : Server} {seen : List Seen} {to : Device} → piece ≡ fed ++ left
+      → Fills mode start held (bytes ++ fed) left back s seen to → IsCutOff mode start (bytes ++ piece) upto held (ahead to (ready_of s))
+  cut_of_fills bytes fed left piece back upto {s = s} {to = to} e h =
+      subst (λ (x : List ℕ). IsCutOff mode start x upto held (ahead to (ready_of s))) (whole bytes fed left h.0 back piece e h.1) (cut_of_goes ((bytes ++ fed) ++ h.0) back upto h.2)
 
   pub cut_of_stopped : (bytes fed left piece : List ℕ) (from upto : Device) (objects : List Seen) {to : Device} → piece ≡ fed ++ left → (fault : ServeFault)
       → StopsFor mode start ((bytes ++ fed) ++ left) from upto held to objects fault → IsCutOff mode start (bytes ++ piece) upto.bytes held to
   cut_of_stopped bytes fed left piece from upto objects {to = to} e fault h =
       subst (λ (x : List ℕ). IsCutOff mode start x upto.bytes held to) (append_assoc bytes fed left ∙ ap (λ (x : List ℕ). bytes ++ x) (sym e)) (cut_of_stops ((bytes ++ fed) ++ left) from upto objects fault h)
 
-  -- the vat closed within the piece
-  pub goes_closed : (bytes fed left piece back : List ℕ) {s : Server} {objects : List Seen} {to : Device} → piece ≡ fed ++ left → Fills mode start held (bytes ++ fed) left back s objects to
-      → IsSome (work_of s.session).closed → GoesOn mode start held (bytes ++ piece) s objects to
-  goes_closed bytes fed left piece back {s = s} {objects = objects} {to = to} e h closed = by h.2
+  -- the connection ended within the piece
+  pub goes_ended : (bytes fed left piece back : List ℕ) {s : Server} {seen : List Seen} {to : Device} → piece ≡ fed ++ left → Fills mode start held (bytes ++ fed) left back s seen to
+      → IsSome s.connection.fault → GoesOn mode start held (bytes ++ piece) s seen to
+  goes_ended bytes fed left piece back {s = s} {seen = seen} {to = to} e h ended = by h.2
     where
-      there : (rest : List ℕ) → Reached mode start held ((bytes ++ fed) ++ h.0) rest s objects to → GoesOn mode start held (bytes ++ piece) s objects to
+      there : (rest : List ℕ) → Reached mode start held ((bytes ++ fed) ++ h.0) rest s seen to → GoesOn mode start held (bytes ++ piece) s seen to
       there rest r =
           inr (
             rest ++ back,
-            subst (λ (x : List ℕ). Reached mode start held x (rest ++ back) s objects to) (whole bytes fed left h.0 back piece e h.1) (reached_none ((bytes ++ fed) ++ h.0) rest back s s r refl refl refl refl refl),
-            closed,
+            subst (λ (x : List ℕ). Reached mode start held x (rest ++ back) s seen to) (whole bytes fed left h.0 back piece e h.1) (reached_on ((bytes ++ fed) ++ h.0) rest back s s.connection.reading r),
+            ended,
           )
 
-      by : GoesOn mode start held ((bytes ++ fed) ++ h.0) s objects to → GoesOn mode start held (bytes ++ piece) s objects to
+      by : GoesOn mode start held ((bytes ++ fed) ++ h.0) s seen to → GoesOn mode start held (bytes ++ piece) s seen to
       by (inl r) = there r.0 r.1
       by (inr r) = there r.0 r.1
 
-  -- a front more of the piece was taken
-  pub serves_front : (bytes fed left piece front back : List ℕ) {s : Server} {objects : List Seen} {to : Device} → piece ≡ fed ++ left → left ≡ front ++ back
-      → Serves mode start held ((bytes ++ fed) ++ front) s objects to → (more : List ℕ) × (piece ≡ more ++ back) × Serves mode start held (bytes ++ more) s objects to
-  serves_front bytes fed left piece front back {s = s} {objects = objects} {to = to} e f h = (
-    fed ++ front,
-    e ∙ ap (λ (x : List ℕ). fed ++ x) f ∙ sym (append_assoc fed front back),
-    subst (λ (x : List ℕ). Serves mode start held x s objects to) (append_assoc bytes fed front) h,
-  )
+-- a server of which all that was ready went out
+abbrev pub written_out : Server → Server
+written_out s = record s { connection = record s.connection { unwritten = [] }; ready = 0 }
+
+pub is_written_out : (s new : Server) → s.ready ≡ length s.connection.unwritten → new.connection ≡ record s.connection { unwritten = drop s.ready s.connection.unwritten }
+    → new ≡ record s { connection = new.connection; ready = 0 } → new ≡ written_out s
+is_written_out s new ready l e =
+    let none : drop s.ready s.connection.unwritten ≡ [] = drop_of_length-le s.connection.unwritten {i = s.ready} (omega (arith, ready)) in
+    e ∙ ap (λ (x : Link). record s { connection = x; ready = 0 }) (l ∙ ap (λ (u : List ℕ). record s.connection { unwritten = u }) none)
+
+module _ {mode : Mode} {start : List Seen} {held : Device} (s new : Server) (to after : Device) (l : new.connection ≡ record s.connection { unwritten = drop s.ready s.connection.unwritten })
+    (e : new ≡ record s { connection = new.connection; ready = 0 }) (moved : Appends to.bytes after.bytes (ready_of s)) (same : after.failures ≡ to.failures) where
+  lands_reached : (bytes rest : List ℕ) {seen : List Seen} → Reached mode start held bytes rest s seen to → Reached mode start held bytes rest (written_out s) seen after
+  lands_reached bytes rest r = record {
+    taken = r.taken;
+    sent = r.sent;
+    messages = r.messages;
+    last = r.last;
+    takes = r.takes;
+    rests = rests_as r.rests (record s.connection { unwritten = [] }) refl refl refl;
+    writes =
+        subst (λ (d : Device). Writes mode r.sent held d) (sym (ahead_none after [] refl))
+        (lands_writes to after (ready_of s) moved same (subst (λ (x : List ℕ). Writes mode r.sent held (ahead to x)) (sym (is_all_ready bytes rest s r)) r.writes));
+    all_ready = refl;
+    place = r.place;
+    counted = r.counted;
+    counted_sent = r.counted_sent;
+    same_mode = r.same_mode;
+    same_limits = r.same_limits;
+  }
+
+  -- what was reached is there once it went out
+  lands_goes : (bytes : List ℕ) {seen : List Seen} → GoesOn mode start held bytes s seen to → GoesOn mode start held bytes new seen after
+  lands_goes bytes {seen = seen} (inl h) =
+      subst (λ (x : Server). GoesOn mode start held bytes x seen after) (sym (is_written_out s new h.1.all_ready l e)) (inl (h.0, lands_reached bytes h.0 h.1, record { came = h.2.came; is_open = h.2.is_open }))
+  lands_goes bytes {seen = seen} (inr h) =
+      subst (λ (x : Server). GoesOn mode start held bytes x seen after) (sym (is_written_out s new h.1.all_ready l e)) (inr (h.0, lands_reached bytes h.0 h.1, h.2))
+
+  pub lands_fills : (bytes piece back : List ℕ) {seen : List Seen} → Fills mode start held bytes piece back s seen to → Fills mode start held bytes piece back new seen after
+  lands_fills bytes piece back h = (h.0, h.1, lands_goes (bytes ++ h.0) h.2)
+
+  -- and nothing is left to go out
+  pub lands_out : (bytes piece back : List ℕ) {seen : List Seen} → Fills mode start held bytes piece back s seen to → AllOut new
+  lands_out bytes piece back {seen = seen} h = by h.2
+    where
+      by : GoesOn mode start held (bytes ++ h.0) s seen to → AllOut new
+      by (inl r) = ap (λ (x : Server). x.connection.unwritten) (is_written_out s new r.1.all_ready l e)
+      by (inr r) = ap (λ (x : Server). x.connection.unwritten) (is_written_out s new r.1.all_ready l e)
 
 pub stops_whole : (mode : Mode) (start : List Seen) (held to : Device) (objects : List Seen) (bytes fed left piece : List ℕ) (from upto : Device) → piece ≡ fed ++ left → (fault : ServeFault)
     → StopsFor mode start ((bytes ++ fed) ++ left) from upto held to objects fault → StopsFor mode start (bytes ++ piece) from upto held to objects fault
@@ -343,32 +319,3 @@ stops_whole mode start held to objects bytes fed left piece from upto e fault h 
 pub either_way : {T E C : Type 0} {P : T → Type 0} {Q : E → Type 0} (r : Result T E) → IfOk r P → IfErr r Q → ((x : T) → P x → C) → ((e : E) → Q e → C) → C
 either_way (Ok x) h k f g = f x h
 either_way (Err e) h k f g = g e k
-
--- why messages weren't put is why they aren't written
-pub unput_unwritten : (place : ℕ) (old new : Device) (fault : ServeFault) → IsUnput place fault → IsUnwritten place old new fault
-unput_unwritten place old new (faults.Stream (streams.Refused at refusal)) h = h
-unput_unwritten place old new (faults.Stream streams.Device) h = absurd h
-unput_unwritten place old new faults.OutOfMemory h = tt
-
-pub after_err : {T E : Type 0} {P Q : Type 0} (r : Result T E) → OnErr r P → (P → Q) → OnErr r Q
-after_err (Ok x) h f = h
-after_err (Err e) h f = f h
-
-pub either_on : {T E C P Q : Type 0} (r : Result T E) → OnOk r P → OnErr r Q → (P → C) → (Q → C) → C
-either_on (Ok x) h k f g = f h
-either_on (Err e) h k f g = g k
-
--- What was put after a block that was begun anew is written.
-module _ (mode : Mode) (sent : List Message) (old new : Device) (before after : List ℕ) (none : before ≡ []) where
-  pub wrote_all : ((to : Device) → Writes mode sent (ahead to before) (ahead to after)) → Appends old.bytes new.bytes after → new.failures ≡ old.failures → Writes mode sent old new
-  wrote_all puts moved same =
-      lands_writes {held = old} old new after moved same (subst (λ (d : Device). Writes mode sent d (ahead old after)) (ahead_none old before none) (puts old))
-
-  pub wrote_part : ((to : Device) → WritesPart mode sent (ahead to before) (ahead to after)) → Appends old.bytes new.bytes after → new.failures ≡ old.failures → WritesPart mode sent old new
-  wrote_part puts moved same =
-      lands_part {held = old} old new after moved same (subst (λ (d : Device). WritesPart mode sent d (ahead old after)) (ahead_none old before none) (puts old))
-
-  -- a beginning of it
-  pub wrote_beginning : WritesPart mode sent (ahead old before) (ahead old after) → (gone left : List ℕ) → after ≡ gone ++ left → Appends old.bytes new.bytes gone → WritesPart mode sent old new
-  wrote_beginning put gone left splits moved =
-      breaks_part {held = old} old new after gone left splits moved (writes_none old) (subst (λ (d : Device). WritesPart mode sent d (ahead old after)) (ahead_none old before none) put)

@@ -1,8 +1,8 @@
 pub mod Objects
-pub mod Working
+pub mod Closing
+pub mod Simulating
 pub mod Written
 pub mod Running
-pub mod Writable
-pub mod Adding
 pub mod Reaching
 pub mod Landing
+pub mod Ending

@@ -254,12 +254,6 @@ works_polls place old new objects others gave (polls {mid = mid} {done = done} {
     works_both old mid new (works_adds old mid added)
     (works_both mid done new (works_off mid done between last (added.closed ∙ is_open) off) (works_polls _ done new last others more tail))
 
-rests_polls : (place : ℕ) (old new : Work) (objects others : List Seen) (gave : Bool) → PollsFrom place old objects gave new others → Rests old → Rests new
-rests_polls place old new objects others gave (none_left past) h = h
-rests_polls place old new objects others gave (is_closed closed) h = h
-rests_polls place old new objects others gave (polls {mid = mid} {done = done} {between = between} {last = last} settled first more is_open changes settles off tail e) h =
-    rests_polls _ done new last others more tail (λ k. rests_off mid done between last off)
-
 pub none_some : (o : Option Reason) → o ≡ None → IsSome o → ⊥
 none_some None e h = false≢true h
 none_some (Some x) e h = cc (e)

@@ -2,5 +2,6 @@ pub mod Work
 pub mod Service
 pub mod History
 pub mod Output
-pub mod WorkOf
+pub mod Faults
+pub mod Matching
 pub mod Reached

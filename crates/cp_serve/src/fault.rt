@@ -1,8 +1,10 @@
 //! Why a server stops.
 
 ghost use Rattle.std.specs.Prelude.{◌≡◌};
+ghost use Rattle.cp_serve.specs.Faults.{fault_of};
 ghost use Rattle.cp_serve.specs.declared.fault.ServeFault.TheVariants.{Stream, OutOfMemory};
 
+use cp_connection::ConnectionFault;
 use cp_stream::StreamFault;
 use std::alloc::{AllocError, AllocFailed};
 use std::error::Error;
@@ -11,11 +13,11 @@ use std::fmt;
 /// Why a server stopped before its run ended. Nothing is written after it.
 #[derive(Clone, Copy, PartialEq, Eq, Debug)]
 pub enum ServeFault {
-    /// The messages can't be read on, memory ran out for one, or a call of a device failed. A refusal
-    /// names the bytes of the frames whose messages were taken.
+    /// The messages can't be read on, or a call of a device failed. A refusal names the bytes of the
+    /// frames whose messages were taken.
     Stream(StreamFault),
-    /// V10: memory ran out, for the vat or for an object; or 2^64 - 1 rounds or effects followed one
-    /// another.
+    /// V10: memory ran out, for a message, for the vat or for an object; or 2^64 - 1 rounds or effects
+    /// followed one another.
     OutOfMemory,
 }
 
@@ -35,6 +37,19 @@ impl From<StreamFault> for ServeFault {
 
     fn from(fault: StreamFault) -> ServeFault {
         ServeFault::Stream(fault)
+    }
+}
+
+impl From<ConnectionFault> for ServeFault {
+    ghost from_gives = { λ fault r. r ≡ fault_of fault };
+
+    fn from(fault: ConnectionFault) -> ServeFault {
+        match fault {
+            ConnectionFault::Unreadable { at, refusal } => {
+                ServeFault::Stream(StreamFault::Refused { at, refusal })
+            }
+            _ => ServeFault::OutOfMemory,
+        }
     }
 }
 

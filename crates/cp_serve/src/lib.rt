@@ -3,10 +3,8 @@
 #![tactic(auto)]
 
 mod fault;
-mod queues;
 mod report;
 mod serving;
-mod session;
 
 pub use fault::ServeFault;
 pub use report::Report;

@@ -1,33 +1,26 @@
 //! Serving a connection.
 
-ghost use Rattle.std.specs.Prelude.{◌≡◌, ◌<◌, ◌+◌, ◌-◌, ◌^◌, min, ℕ, List, Option, IfOk, IfErr, IfSome, IfNone, OnOk, OnErr, length, [], ◌∷◌, None, false};
-ghost use Rattle.cp_words.specs.Limits.{standard};
-ghost use Rattle.cp_rpc.specs.Told.{told};
-ghost use Rattle.cp_frame.specs.declared.mode.Mode.{Mode};
-ghost use Rattle.cp_stream.specs.declared.fault.StreamFault.TheVariants.{Refused};
-ghost use Rattle.cp_stream.specs.declared.fault.StreamFault.TheVariants as faults;
+ghost use Rattle.std.specs.Prelude.{◌≡◌, ◌<◌, ◌↔◌, ◌∷◌, [], List, None, false, IfOk, IfErr, OnOk, OnErr, IsSome, IsTrue, length, drop};
 ghost use Rattle.cp_stream.specs.Tap.{failures_of};
 ghost use Rattle.cp_stream.specs.Write.{Sends};
-ghost use Rattle.cp_stream.specs.Stream.{Holds, HoldsNone};
-ghost use Rattle.cp_stream.specs.Reader.{IsAt};
-ghost use Rattle.cp_vat_laws.specs.Sizes.{IsWritable};
+ghost use Rattle.cp_stream.specs.declared.fault.StreamFault.TheVariants as faults;
 ghost use Rattle.cp_servants.specs.Servant.{On, Seen};
-ghost use Rattle.cp_serve.specs.Service.{written};
-ghost use Rattle.cp_serve.specs.Output.{Device, device, Writes, WritesPart, IsServedAt, IsStoppedAt, ReadsUpTo, ends};
-ghost use Rattle.cp_serve.specs.Reached.{BlockStops, BreaksOff, CountsMore, EndingStops, EndsAll, EndsInsideAt, FillsBlock, HasNext, HasNone, IsUnput, IsUnwritten, LeavesNext, OnlyWrites, PieceStops, Puts, PutsPart, ReadsOn, Runs, RunStops, RunsTo, RunsUnread, Serves, TakesPiece, TakesToEnd, TakesUnread, TakingStops, out, placed, report_of, sent_in, unput};
-ghost use Rattle.cp_serve.specs.WorkOf.{work_of};
+ghost use Rattle.cp_objects.specs.Work.{Lives};
+ghost use Rattle.cp_serve.specs.Matching.{reason_in};
+ghost use Rattle.cp_serve.specs.Output.{Device, IsServedAt, IsStoppedAt, ReadsUpTo, ends};
+ghost use Rattle.cp_serve.specs.Reached.{AllOut, BreaksOff, Concludes, EndingStops, EndsAll, FrontStops, PieceStops, Rounded, RunStops, Runs, RunsTo, RunsUnread, Serves, TakesFront, TakesPiece, TakesToEnd, TakesUnread, TakingStops, out, owed, ready_of, report_of};
 
 use crate::fault::ServeFault;
 use crate::report::Report;
-use crate::session::Session;
-use cp_frame::{FrameReader, Mode};
-use cp_rpc::{Message, MessageView};
+use cp_connection::Connection;
+use cp_frame::Mode;
+use cp_objects::{Notice, Objects};
 use cp_servants::Servant;
-use cp_stream::{Refusal, StreamFault, Tap, view_of, write_message, write_whole};
-use cp_words::{Limits, Segments};
-use std::alloc::Global;
+use cp_stream::{StreamFault, Tap, write_whole};
+use cp_vat_machine::Reason;
+use cp_words::Limits;
+use std::alloc::{AllocError, Global};
 use std::io::{Read, Write};
-use std::mem;
 
 /// The bytes that are asked for at once, and from which on a block goes out.
 const PIECE: usize = 65_536;
@@ -63,37 +56,27 @@ pub fn serve<R: Read, W: Write>(
     Server::new(alloc, mode).serve(from, to, objects.as_mut_slice())
 }
 
-/// A session, with what has come for it and what was done in it.
+/// One end of a connection, with what its objects owe.
 #[derive(Drop)]
 struct Server {
     alloc: Global,
-    mode: Mode,
-    frames: FrameReader,
-    /// The bytes of the frames whose messages were taken, at most `u64::MAX`.
-    at: u64,
-    session: Session,
-    /// The messages that were taken.
-    messages: u64,
-    /// The messages that were sent.
-    sent: u64,
-    /// The frames that go out in one write.
-    block: Vec<u8>,
+    connection: Connection,
+    objects: Objects,
+    /// How many of the bytes that go out are of messages that were taken to their end.
+    ready: usize,
 }
 
 impl Server {
     /// A server to which nothing has come.
     fn new(alloc: Global, mode: Mode) -> Server
-        ensures { (start : List Seen) (held : Device) → Serves mode start held [] result start held }
+        ensures serves { (start : List Seen) (held : Device) → Serves mode start held [] result start held }
+        ensures out { AllOut result }
     {
         Server {
             alloc,
-            mode,
-            frames: FrameReader::new(alloc, mode, Limits::standard()),
-            at: 0,
-            session: Session::new(alloc),
-            messages: 0,
-            sent: 0,
-            block: Vec::new(alloc),
+            connection: Connection::new(alloc, mode, Limits::standard(), Some(0)),
+            objects: Objects::new(alloc),
+            ready: 0,
         }
     }
 
@@ -134,14 +117,27 @@ impl Server {
     }
 
     /// What was done.
-    fn report(self) -> Report
+    fn report(mut self) -> Report
         ensures { result ≡ report_of self }
     {
+        let tally = self.connection.tally();
         Report {
-            messages: self.messages,
-            sent: self.sent,
-            closed: self.session.into_closed(),
+            messages: tally.messages,
+            sent: tally.sent,
+            closed: self.reason(),
         }
+    }
+
+    /// Why the vat closed, if it did. A server asks nothing, so it is told nothing else.
+    fn reason(&mut self) -> Option<Reason>
+        ensures { result ≡ reason_in (owed self.old).notices }
+    {
+        'noting: while let Some(notice) = self.objects.next() {
+            if let Some(reason) = reason_of(notice) {
+                return Some(reason);
+            }
+        }
+        None
     }
 
     /// Takes the messages, until they end or the vat closed.
@@ -163,10 +159,11 @@ impl Server {
                 return Err(ServeFault::Stream(StreamFault::Device));
             };
             if length == 0 {
-                return self.end_of_messages();
+                self.connection.end()?;
+                return Ok(());
             }
             self.take_piece(&buffer[..length], to, objects)?;
-            if self.session.is_closed() {
+            if self.has_ended() {
                 return Ok(());
             }
         }
@@ -186,19 +183,18 @@ impl Server {
     {
         let mut left = piece;
         'taking: while !left.is_empty() {
-            self.block.clear();
             let filled = self.fill_block(left, objects);
-            write_out(to, &self.block)?;
+            self.write(to)?;
             left = filled?;
-            if self.session.is_closed() {
+            if self.has_ended() {
                 return Ok(());
             }
         }
         Ok(())
     }
 
-    /// Takes messages whose frames end in a piece, until the block is full or the vat closed, and puts what
-    /// they send after the block. Gives what is left of the piece.
+    /// Takes messages whose frames end in a piece, until a block of bytes is to go out or the vat closed.
+    /// Gives what is left of the piece.
     fn fill_block<'a>(
         &mut self,
         piece: &'a [u8],
@@ -206,16 +202,12 @@ impl Server {
     ) -> Result<&'a [u8], ServeFault>
         requires { 0 < length piece.now }
         ensures shorter { IfOk result (λ left. length left.now < length piece.now) }
-        ensures taken { IfOk result (λ left. On (λ o. seen o) objects.old objects.new (FillsBlock self.old piece.now left.now self.new)) }
-        ensures stopped { IfErr result (λ fault. On (λ o. seen o) objects.old objects.new (BlockStops self.old piece.now self.new fault)) }
+        ensures taken { IfOk result (λ left. On (λ o. seen o) objects.old objects.new (TakesFront self.old piece.now left.now self.new)) }
+        ensures stopped { IfErr result (λ fault. On (λ o. seen o) objects.old objects.new (FrontStops self.old piece.now self.new fault)) }
     {
         let mut left = piece;
         'filling: while !left.is_empty() {
-            let Some(back) = self.take_next(left, objects)? else {
-                return Ok(&left[left.len()..]);
-            };
-            self.put()?;
-            left = back;
+            left = self.take_next(left, objects)?;
             if self.ends_block() {
                 return Ok(left);
             }
@@ -223,62 +215,57 @@ impl Server {
         Ok(left)
     }
 
-    /// Whether the block goes out: the vat closed, or the block is full.
+    /// Whether a block goes out: the connection ended, or the block is full.
     fn ends_block(&self) -> bool
-        ensures { result ≡ false → (work_of self.now.session).closed ≡ None }
+        ensures { result ≡ false → self.now.connection.fault ≡ None }
     {
-        if self.session.is_closed() {
+        if self.has_ended() {
             return true;
         }
-        self.block.len() >= PIECE
+        self.ready >= PIECE
     }
 
-    /// Reads a piece up to the end of a frame, takes its message, and gives what follows it.
+    /// Takes a piece up to the end of a frame, with what its message leads to, and gives what follows it.
     fn take_next<'a>(
         &mut self,
         piece: &'a [u8],
         objects: &mut [Box<dyn Servant>],
-    ) -> Result<Option<&'a [u8]>, ServeFault>
-        ensures shorter { IfOk result (λ next. IfSome next (λ back. length back.now < length piece.now)) }
-        ensures same { self.new.block ≡ self.old.block }
-        ensures next { IfOk result (λ next. IfSome next (λ back. On (λ o. seen o) objects.old objects.new (HasNext self.old piece.now back.now self.new))) }
-        ensures none { IfOk result (λ next. IfNone next (On (λ o. seen o) objects.old objects.new (HasNone self.old piece.now self.new))) }
-        ensures refused { IfErr result (λ fault. On (λ o. seen o) objects.old objects.new (LeavesNext self.old piece.now fault)) }
+    ) -> Result<&'a [u8], ServeFault>
+        requires { 0 < length piece.now }
+        ensures shorter { IfOk result (λ left. length left.now < length piece.now) }
+        ensures taken { IfOk result (λ left. On (λ o. seen o) objects.old objects.new (TakesFront self.old piece.now left.now self.new)) }
+        ensures stopped { IfErr result (λ fault. On (λ o. seen o) objects.old objects.new (FrontStops self.old piece.now self.new fault)) }
     {
-        let (taken, segments, back) = match self.frames.next(piece) {
-            Ok(Some(next)) => next,
-            Ok(None) => return Ok(None),
-            Err(fault) => return Err(ServeFault::Stream(self.refused(Refusal::Frame(fault)))),
-        };
-        let message = self.message_in(&segments)?;
-        self.at = self.at.saturating_add(taken);
-        self.messages = self.messages.saturating_add(1);
-        self.session.take(message, objects)?;
-        self.frames.reuse(segments);
-        Ok(Some(back))
+        let count = self.connection.receive(piece)?;
+        self.work_out(objects)?;
+        Ok(&piece[count..])
     }
 
-    /// The message that a frame holds, in place.
-    fn message_in<'a>(&self, segments: &'a Segments) -> Result<MessageView<'a>, StreamFault>
-        ensures found { IfOk result (λ view. Holds standard segments.now (told view)) }
-        ensures refused { IfErr result (IsAt self.now.at (HoldsNone standard segments.now)) }
+    /// Where a message has come, works off what it leads to, and a round follows.
+    fn work_out(&mut self, objects: &mut [Box<dyn Servant>]) -> Result<(), AllocError>
+        ensures done { OnOk result (On (λ o. seen o) objects.old objects.new (Concludes self.old self.new)) }
+        ensures kept { OnErr result (self.new.ready ≡ self.old.ready) }
+        ensures lives { Lives self.old.connection self.new.connection }
     {
-        match view_of(segments, Limits::standard()) {
-            Ok(view) => Ok(view),
-            Err(fault) => Err(self.placed(fault)),
+        // Bytes of an open frame have come, unless a frame ended with the last one.
+        if self.connection.held().came > 0 {
+            return Ok(());
         }
+        self.objects.work_off(&mut self.connection, objects)?;
+        let _ = self.round(objects)?;
+        Ok(())
     }
 
-    /// Ends the messages, where the reader's bytes ended.
-    fn end_of_messages(&mut self) -> Result<(), ServeFault>
-        ensures same { OnOk result (self.new ≡ self.old) }
-        ensures nothing { OnOk result ((rest : List ℕ) → ReadsOn rest self.old → rest ≡ []) }
-        ensures inside { IfErr result (EndsInsideAt self.old) }
+    /// A round of polls. Says whether an outcome was given that was awaited.
+    fn round(&mut self, objects: &mut [Box<dyn Servant>]) -> Result<bool, AllocError>
+        ensures done { IfOk result (λ gave. On (λ o. seen o) objects.old objects.new (Rounded self.old gave self.new)) }
+        ensures ready { OnOk result (self.new.ready ≡ length self.new.connection.unwritten) }
+        ensures kept { OnErr result (self.new.ready ≡ self.old.ready) }
+        ensures lives { Lives self.old.connection self.new.connection }
     {
-        match self.frames.finish() {
-            Ok(()) => Ok(()),
-            Err(fault) => Err(ServeFault::Stream(self.refused(Refusal::Frame(fault)))),
-        }
+        let gave = self.objects.round(&mut self.connection, objects)?;
+        self.ready = self.connection.outgoing().len();
+        Ok(gave)
     }
 
     /// Polls the objects until they give nothing that is awaited, or the vat closed.
@@ -287,15 +274,14 @@ impl Server {
         to: &mut Tap<W>,
         objects: &mut [Box<dyn Servant>],
     ) -> Result<(), ServeFault>
-        ensures same { OnOk result (self.new.messages ≡ self.old.messages) }
         ensures ends { OnOk result (EndsAll self.old (out (λ o. seen o) objects.old objects.new W.contents to.old to.new) self.new) }
         ensures stopped { IfErr result (EndingStops self.old (out (λ o. seen o) objects.old objects.new W.contents to.old to.new)) }
     {
         for _ in 0..u64::MAX {
-            if self.session.is_closed() {
+            if self.has_ended() {
                 return Ok(());
             }
-            let gave = self.session.round(objects)?;
+            let gave = self.round(objects)?;
             self.write(to)?;
             if !gave {
                 return Ok(());
@@ -304,91 +290,36 @@ impl Server {
         Err(ServeFault::OutOfMemory)
     }
 
-    /// Writes the messages that were sent.
-    fn write<W: Write>(&mut self, to: &mut Tap<W>) -> Result<(), ServeFault>
-        ensures only { OnOk result (OnlyWrites self.old self.new) }
-        ensures session { OnOk result (work_of self.new.session ≡ written (work_of self.old.session)) }
-        ensures counts { OnOk result (CountsMore self.old.sent (length (sent_in self.old)) self.new.sent) }
-        ensures writes { OnOk result (Writes self.old.mode (sent_in self.old) (device W.contents to.old) (device W.contents to.new)) }
-        ensures part { OnErr result (WritesPart self.old.mode (sent_in self.old) (device W.contents to.old) (device W.contents to.new)) }
-        ensures stopped { IfErr result (IsUnwritten self.old.at (device W.contents to.old) (device W.contents to.new)) }
+    /// Writes what is ready to go out.
+    fn write<W: Write>(&mut self, to: &mut Tap<W>) -> Result<(), StreamFault>
+        ensures sent { OnOk result (Sends W.contents to.old to.new (ready_of self.old)) }
+        ensures device { IfErr result (λ fault. fault ≡ faults.Device) }
+        ensures broken { IfErr result (λ _. BreaksOff W.contents to.old to.new (ready_of self.old)) }
+        ensures written { OnOk result (self.new.connection ≡ record self.old.connection { unwritten = drop self.old.ready self.old.connection.unwritten }) }
+        ensures same { OnOk result (self.new ≡ record self.old { connection = self.new.connection; ready = 0 }) }
     {
-        self.block.clear();
-        let put = self.put();
-        write_out(to, &self.block)?;
-        put
-    }
-
-    /// Puts the messages that were sent after the block.
-    fn put(&mut self) -> Result<(), ServeFault>
-        ensures only { OnOk result (OnlyWrites self.old self.new) }
-        ensures session { OnOk result (work_of self.new.session ≡ written (work_of self.old.session)) }
-        ensures counts { OnOk result (CountsMore self.old.sent (length (sent_in self.old)) self.new.sent) }
-        ensures puts { OnOk result (Puts (sent_in self.old) self.old self.new) }
-        ensures part { OnErr result (PutsPart (sent_in self.old) self.old self.new) }
-        ensures stopped { IfErr result (IsUnput self.old.at) }
-    {
-        let messages = self.session.take_sent();
-        for message in &messages {
-            self.put_one(message)?;
-        }
+        let outgoing = self.connection.outgoing();
+        write_out(to, &outgoing[..self.ready.min(outgoing.len())])?;
+        self.connection.wrote(self.ready);
+        self.ready = 0;
         Ok(())
     }
 
-    /// Puts a message after the block.
-    fn put_one(&mut self, message: &Message) -> Result<(), ServeFault>
-        requires { IsWritable message.now }
-        ensures same { OnOk result (self.new ≡ record self.old { sent = min (self.old.sent + 1) (2 ^ 64 - 1); block = self.new.block }) }
-        ensures puts { OnOk result (Puts (message.now ∷ []) self.old self.new) }
-        ensures part { OnErr result (PutsPart (message.now ∷ []) self.old self.new) }
-        ensures stopped { IfErr result (IsUnput self.old.at) }
+    /// Whether the connection ended.
+    fn has_ended(&self) -> bool
+        ensures { IsTrue result ↔ IsSome self.now.connection.fault }
     {
-        let mut after = Tap::new(mem::replace(&mut self.block, Vec::new(self.alloc)));
-        let written = write_message(
-            self.alloc,
-            &mut after,
-            message,
-            self.mode,
-            Limits::standard(),
-        );
-        self.block = after.into_inner();
-        match written {
-            Ok(()) => {
-                self.sent = self.sent.saturating_add(1);
-                Ok(())
-            }
-            Err(fault) => Err(self.unput(fault)),
-        }
+        self.connection.fault().is_some()
     }
+}
 
-    /// A fault of a block, which takes all bytes for which there is memory.
-    fn unput(&self, fault: StreamFault) -> ServeFault
-        ensures { result ≡ unput self.now.at fault }
-    {
-        match fault {
-            StreamFault::Refused { refusal, .. } => ServeFault::Stream(self.refused(refusal)),
-            StreamFault::Device => ServeFault::OutOfMemory,
-        }
-    }
-
-    /// A refusal, after the messages that were taken.
-    fn refused(&self, refusal: Refusal) -> StreamFault
-        ensures { result ≡ Refused self.now.at refusal }
-    {
-        StreamFault::Refused {
-            at: self.at,
-            refusal,
-        }
-    }
-
-    /// A fault, after the messages that were taken.
-    fn placed(&self, fault: StreamFault) -> StreamFault
-        ensures { result ≡ placed self.now.at fault }
-    {
-        match fault {
-            StreamFault::Refused { refusal, .. } => self.refused(refusal),
-            StreamFault::Device => StreamFault::Device,
-        }
+/// Why the vat closed, if a notice says so.
+fn reason_of(notice: Notice) -> Option<Reason>
+    ensures { result ≡ reason_in (notice ∷ []) }
+{
+    match notice {
+        Notice::Closed(reason) => Some(reason),
+        Notice::Settled { .. } => None,
     }
 }
 

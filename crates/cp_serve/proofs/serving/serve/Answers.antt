@@ -12,7 +12,7 @@ returns-clause-served g c =
     IfOk c.serve.result (λ report.
     IsServed c.args.mode old (device g.R.Read.remaining c.args.from.now) (device g.R.Read.remaining c.serve.new.from) (device g.W.Write.contents c.args.to.now) (device g.W.Write.contents c.serve.new.to) report new))
     c.args.objects.now.items c.as_mut_slice.result.now c.serve.new.objects _ c.as_mut_slice.ensures.value same
-    (IfOk-weaker c.serve.result _ _ (λ report served. served c.args.mode (c.new.ensures _ _)) c.serve.ensures.served)
+    (IfOk-weaker c.serve.result _ _ (λ report served. served c.args.mode (c.new.ensures.serves _ _) c.new.ensures.out) c.serve.ensures.served)
 
 pub returns-clause-stopped : goal.returns-clause-stopped
 returns-clause-stopped g c =
@@ -22,7 +22,7 @@ returns-clause-stopped g c =
     IfErr c.serve.result (λ fault.
     IsStopped c.args.mode old (device g.R.Read.remaining c.args.from.now) (device g.R.Read.remaining c.serve.new.from) (device g.W.Write.contents c.args.to.now) (device g.W.Write.contents c.serve.new.to) new fault))
     c.args.objects.now.items c.as_mut_slice.result.now c.serve.new.objects _ c.as_mut_slice.ensures.value same
-    (IfErr-weaker c.serve.result _ _ (λ fault stopped. stopped c.args.mode (c.new.ensures _ _)) c.serve.ensures.stopped)
+    (IfErr-weaker c.serve.result _ _ (λ fault stopped. stopped c.args.mode (c.new.ensures.serves _ _) c.new.ensures.out) c.serve.ensures.stopped)
 
 pub returns-clause-unread : goal.returns-clause-unread
 returns-clause-unread g c =
@@ -32,4 +32,4 @@ returns-clause-unread g c =
     IfErr c.serve.result (λ fault.
     ReadsTo c.args.mode old (device g.R.Read.remaining c.args.from.now) (device g.R.Read.remaining c.serve.new.from) (device g.W.Write.contents c.args.to.now) (device g.W.Write.contents c.serve.new.to) new fault))
     c.args.objects.now.items c.as_mut_slice.result.now c.serve.new.objects _ c.as_mut_slice.ensures.value same
-    (IfErr-weaker c.serve.result _ _ (λ fault unread. unread c.args.mode (c.new.ensures _ _)) c.serve.ensures.unread)
+    (IfErr-weaker c.serve.result _ _ (λ fault unread. unread c.args.mode (c.new.ensures.serves _ _) c.new.ensures.out) c.serve.ensures.unread)

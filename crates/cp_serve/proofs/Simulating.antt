@@ -1,0 +1,687 @@
+-- What is done for objects on a connection is what a server does by its queue of effects.
+use Rattle.std.proofs.Common.{◌≡◌, ◌≢◌, ◌⊎◌, inl, inr, ℕ, ◌+◌, ◌-◌, ◌^◌, min, ◌||◌, ◌&&◌, not, Bool, true, false, true≢false, IsSome, List, [], ◌∷◌, ◌++◌, Option, Some, None, Result, Ok, Err, refl, sym, ap, ◌∙◌, subst, length, append-nil, append_assoc, length-append, add_assoc, arith}
+use Rattle.std.proofs.lemmas.Bool.{false≢true}
+use Rattle.std.specs.List.{list_any}
+use Rattle.std.specs.Ordering.{nat_cmp}
+use Rattle.std.specs.FinMap.{get, insert, remove, get-empty}
+use Rattle.cp_frame.specs.declared.mode.Mode.{Mode}
+use Rattle.cp_tables.specs.Table.{Table}
+use Rattle.cp_rpc.specs.declared.message.Message.{Message}
+use Rattle.cp_refs.specs.declared.call.Origin.{Origin}
+use Rattle.cp_refs.specs.declared.call.Request.{Request}
+use Rattle.cp_refs.specs.declared.outcome.Outcome.{Outcome}
+use Rattle.cp_vat_machine.specs.State.{State}
+use Rattle.cp_vat_machine.specs.Then.{OrFull, Unless, fault_if}
+use Rattle.cp_vat_machine.specs.Step.{Step}
+use Rattle.cp_vat_machine.specs.Step as step
+use Rattle.cp_vat_machine.specs.Doing.{DoAnswer, Quietly, awaits}
+use Rattle.cp_vat_machine.specs.Calling.{OwnDone, not_all}
+use Rattle.cp_vat_machine.specs.Capacity.{outcome_fits}
+use Rattle.cp_vat_machine.specs.Give.{Give}
+use Rattle.cp_vat_machine.specs.InUse.{has_question, has_promise, has_import, is_pipelined, caps_of}
+use Rattle.cp_vat_machine.specs.declared.effect.Effect.{Effect}
+use Rattle.cp_vat_machine.specs.declared.effect.Effect.TheVariants as effects
+use Rattle.cp_vat_machine.specs.declared.effect.Reason.{Reason}
+use Rattle.cp_vat_machine.specs.declared.event.Event.{Event}
+use Rattle.cp_vat_machine.specs.declared.event.Event.TheVariants as events
+use Rattle.cp_vat_machine.specs.declared.event.Value.{Value}
+use Rattle.cp_vat_machine.specs.declared.event.Value.TheVariants as values
+use Rattle.cp_vat_machine.specs.declared.fault.PeerFault.{PeerFault}
+use Rattle.cp_vat_machine.specs.declared.fault.VatFault.{VatFault}
+use Rattle.cp_vat_machine.specs.declared.fault.VatFault.TheVariants as refusals
+use Rattle.cp_vat_machine.proofs.Basics.{none_out, ok_out, some_out}
+use Rattle.cp_connection.specs.declared.fault.ConnectionFault.{ConnectionFault}
+use Rattle.cp_connection.specs.declared.fault.ConnectionFault.TheVariants as faults
+use Rattle.cp_connection.specs.declared.happening.Happening.{Happening}
+use Rattle.cp_connection.specs.declared.happening.Happening.TheVariants as happenings
+use Rattle.cp_connection.specs.declared.happening.Tally.{Tally}
+use Rattle.cp_connection.specs.Doing.{Does, Acts}
+use Rattle.cp_connection.specs.Effects.{sent_by, happening_by, closes, AreFramesOf}
+use Rattle.cp_connection.specs.Link.{Link}
+use Rattle.cp_connection.specs.Receiving.{HandsOut}
+use Rattle.cp_connection.specs.Refusing.{refusal_of}
+use Rattle.cp_connection.proofs.Concluding.{refused_same, no_effects, was_still}
+use Rattle.cp_connection.proofs.Noting.{frames_both}
+use Rattle.cp_servants.specs.declared.servant.Ask.{Ask}
+use Rattle.cp_servants.specs.declared.servant.Reply.{Reply}
+use Rattle.cp_servants.specs.declared.servant.Reply.TheVariants as replies
+use Rattle.cp_servants.specs.declared.servant.Settled.{Settled}
+use Rattle.cp_servants.specs.Outcomes.{bad_outcome, no_such_object}
+use Rattle.cp_servants.specs.Servant.{Seen}
+use Rattle.cp_objects.specs.declared.asker.Asker.{Asker}
+use Rattle.cp_objects.specs.declared.notice.Notice.{Notice}
+use Rattle.cp_objects.specs.declared.notice.Notice.TheVariants as notices
+use Rattle.cp_objects.specs.Work as objects
+use Rattle.cp_objects.specs.Calling as calling
+use Rattle.cp_objects.specs.Rounds as rounds
+use Rattle.cp_serve.specs.Work.{Work, Did, IsDone, Answers, is_taken, was_closed, is_replaced, Replies, Tries, is_released, is_used, is_dropped, TriesEach, Releases}
+use Rattle.cp_serve.specs.Service.{Delivers, to_object, to_none, WorksOff, none_left, acts, Settles, gives_none, is_stranger, is_awaited, PollsFrom, Rounds, TakesMessage, takes, written}
+use Rattle.cp_serve.specs.Service as service
+use Rattle.cp_serve.specs.Matching.{reason_in, ended_if, is_over, ClosesBy, IsBetween, Matches, Rests}
+use Rattle.cp_serve.proofs.Closing.{closes_both, tells_closing}
+
+-- ---- effects one after another, of which the first don't close the vat
+
+sent_both : (a b : List Effect) → closes a ≡ false → sent_by (a ++ b) ≡ sent_by a ++ sent_by b
+sent_both [] b h = refl
+sent_both (effects.Send m ∷ a) b h = ap (λ (x : List Message). m ∷ x) (sent_both a b h)
+sent_both (effects.Deliver k origin ticket call ∷ a) b h = sent_both a b h
+sent_both (effects.Settled q outcome ∷ a) b h = sent_both a b h
+sent_both (effects.Closed reason ∷ a) b h = absurd (true≢false h)
+
+happening_both : (a b : List Effect) → closes a ≡ false → happening_by (a ++ b) ≡ happening_by a ++ happening_by b
+happening_both [] b h = refl
+happening_both (effects.Send m ∷ a) b h = happening_both a b h
+happening_both (effects.Deliver k origin ticket call ∷ a) b h = ap (λ (x : List Happening). happenings.Delivered k origin ticket call ∷ x) (happening_both a b h)
+happening_both (effects.Settled q outcome ∷ a) b h = ap (λ (x : List Happening). happenings.Settled q outcome ∷ x) (happening_both a b h)
+happening_both (effects.Closed reason ∷ a) b h = absurd (true≢false h)
+
+-- ---- why a connection ended
+
+not_ended : (b : Bool) → ended_if b ≡ None → b ≡ false
+not_ended false e = refl
+not_ended true e = none_out (sym e)
+
+is_shut : {fault : ConnectionFault} (b : Bool) → ended_if b ≡ Some fault → b ≡ true
+is_shut true e = refl
+is_shut false e = none_out e
+
+shut_if : (b : Bool) → IsSome (ended_if b) → b ≡ true
+shut_if true e = refl
+shut_if false e = absurd (false≢true e)
+
+abbrev is_refusal : ConnectionFault → Bool
+is_refusal (faults.Refused refusal) = true
+is_refusal other = false
+
+no_refusal : {refusal : VatFault} (b : Bool) → ended_if b ≡ Some (faults.Refused refusal) → ⊥
+no_refusal true e = true≢false (sym (ap is_refusal (some_out e)))
+no_refusal false e = none_out e
+
+-- an allocation failure, or a refusal that is reported as it is
+pub refusal_is : (refusal : VatFault) → (refusal ≡ refusals.OutOfMemory) ⊎ ((refusal ≢ refusals.OutOfMemory) × (refusal_of refusal ≡ faults.Refused refusal))
+refusal_is refusals.OutOfMemory = inl refl
+refusal_is refusals.UnknownQuestion = inr ((λ e. cc (e)), refl)
+refusal_is refusals.UnknownPromise = inr ((λ e. cc (e)), refl)
+refusal_is refusals.AlreadyResolved = inr ((λ e. cc (e)), refl)
+refusal_is refusals.PromiseCycle = inr ((λ e. cc (e)), refl)
+refusal_is refusals.Unsettled = inr ((λ e. cc (e)), refl)
+refusal_is refusals.InUse = inr ((λ e. cc (e)), refl)
+refusal_is refusals.TooLarge = inr ((λ e. cc (e)), refl)
+refusal_is refusals.Full = inr ((λ e. cc (e)), refl)
+refusal_is refusals.Closed = inr ((λ e. cc (e)), refl)
+refusal_is refusals.UnknownImport = inr ((λ e. cc (e)), refl)
+
+abbrev refused_or : VatFault → ConnectionFault → VatFault
+refused_or other (faults.Refused refusal) = refusal
+refused_or other fault = other
+
+-- what is reported as a refusal is that one
+refused_is : (told refusal : VatFault) → faults.Refused told ≡ refusal_of refusal → (refusal ≡ told) × (refusal ≢ refusals.OutOfMemory)
+refused_is told refusal e = by (refusal_is refusal)
+  where
+    by : (refusal ≡ refusals.OutOfMemory) ⊎ ((refusal ≢ refusals.OutOfMemory) × (refusal_of refusal ≡ faults.Refused refusal)) → (refusal ≡ told) × (refusal ≢ refusals.OutOfMemory)
+    by (inl full) = absurd (true≢false (ap is_refusal (e ∙ ap refusal_of full)))
+    by (inr h) = (ap (refused_or told) (sym h.1 ∙ sym e), h.0)
+
+-- no refusal says that a connection had ended
+no_end : (refusal : VatFault) → objects.IsEnd (refusal_of refusal) → ⊥
+no_end refusal h = by (refusal_is refusal)
+  where
+    by : (refusal ≡ refusals.OutOfMemory) ⊎ ((refusal ≢ refusals.OutOfMemory) × (refusal_of refusal ≡ faults.Refused refusal)) → ⊥
+    by (inl full) = subst objects.IsEnd (ap refusal_of full) h
+    by (inr k) = subst objects.IsEnd k.1 h
+
+-- ---- what a vat refuses
+
+refused_at : (old new vat : State) (event : Event) (refusal : VatFault) (all : List Effect) → Step old event (Err refusal) all new → refusal ≢ refusals.OutOfMemory → old ≡ vat → Step vat event (Err refusal) [] vat
+refused_at old new vat event refusal all s n e =
+    subst (λ (x : State). Step x event (Err refusal) [] x) e
+    (subst (λ (es : List Effect). Step old event (Err refusal) es old) (no_effects s) (subst (λ (x : State). Step old event (Err refusal) all x) (refused_same s n) s))
+
+abbrev is_full : VatFault → Bool
+is_full refusals.Full = true
+is_full other = false
+
+abbrev refusal_or : VatFault → Result OwnDone VatFault → VatFault
+refusal_or other (Ok done) = other
+refusal_or other (Err refusal) = refusal
+
+closes_none : (Rule : Result OwnDone PeerFault → Type 0) → OrFull Rule (Err refusals.Closed) → ⊥
+closes_none Rule (Ok x, r, is) = ok_out (sym is)
+closes_none Rule (Err fault, r, is) = true≢false (sym (ap is_full (ap (refusal_or refusals.Full) is)))
+
+other_refusal : (refusal : VatFault) → refusal ≢ refusals.Closed → ◌≡◌ {A = Result OwnDone VatFault} (Err refusals.Closed) (Err refusal) → ⊥
+other_refusal refusal n e = n (sym (ap (refusal_or refusals.Closed) e))
+
+-- an open vat doesn't refuse an answer as a closed one does
+answer_faults : (a b c d e : Bool) (Rule : Result OwnDone VatFault → Type 0)
+    → Unless (fault_if a refusals.UnknownQuestion ++ fault_if b refusals.UnknownPromise ++ fault_if c refusals.Unsettled ++ fault_if d refusals.TooLarge ++ fault_if e refusals.UnknownImport) Rule (Err refusals.Closed)
+    → Rule (Err refusals.Closed)
+answer_faults true b c d e Rule h = absurd (other_refusal refusals.UnknownQuestion (λ k. cc (k)) h)
+answer_faults false true c d e Rule h = absurd (other_refusal refusals.UnknownPromise (λ k. cc (k)) h)
+answer_faults false false true d e Rule h = absurd (other_refusal refusals.Unsettled (λ k. cc (k)) h)
+answer_faults false false false true e Rule h = absurd (other_refusal refusals.TooLarge (λ k. cc (k)) h)
+answer_faults false false false false true Rule h = absurd (other_refusal refusals.UnknownImport (λ k. cc (k)) h)
+answer_faults false false false false false Rule h = h
+
+answer_closed : (s : State) (origin : Origin) (outcome : Outcome) → DoAnswer s origin outcome (Err refusals.Closed) → ⊥
+answer_closed s origin outcome does =
+    closes_none (Quietly (Give s origin outcome))
+    (answer_faults (not (awaits s origin && not (not_all (has_question s) (caps_of outcome)))) (not_all (has_promise s) (caps_of outcome)) (list_any is_pipelined (caps_of outcome)) (not (outcome_fits outcome))
+    (not_all (has_import s) (caps_of outcome)) (OrFull (Quietly (Give s origin outcome))) does)
+
+was_shut : (s new : State) (origin : Origin) (outcome : Outcome) (all : List Effect) → Step s (events.Answer origin outcome) (Err refusals.Closed) all new → s.is_closed ≡ true
+was_shut s new origin outcome all (step.was_closed event shut) = shut
+was_shut s new origin outcome all (step.refused event still does) = absurd (answer_closed s origin outcome does)
+
+-- ---- why the vat closed, as notices say
+
+reason_settled : (ns : List Notice) (q : ℕ) (outcome : Outcome) → reason_in (ns ++ notices.Settled q outcome ∷ []) ≡ reason_in ns
+reason_settled [] q outcome = refl
+reason_settled (notices.Settled p other ∷ ns) q outcome = reason_settled ns q outcome
+reason_settled (notices.Closed reason ∷ ns) q outcome = refl
+
+reason_closed : (ns : List Notice) (reason : Reason) → reason_in ns ≡ None → reason_in (ns ++ notices.Closed reason ∷ []) ≡ Some reason
+reason_closed [] reason h = refl
+reason_closed (notices.Settled q outcome ∷ ns) reason h = reason_closed ns reason h
+reason_closed (notices.Closed other ∷ ns) reason h = none_out (sym h)
+
+-- the first notice says so, or the others do
+pub reason_first : (n : Notice) (more : List Notice) (reason : Reason) → Some reason ≡ reason_in (n ∷ []) → Some reason ≡ reason_in (n ∷ more)
+reason_first (notices.Settled q outcome) more reason e = none_out (sym e)
+reason_first (notices.Closed other) more reason e = e
+
+pub reason_later : (n : Notice) (more : List Notice) → None ≡ reason_in (n ∷ []) → reason_in (n ∷ more) ≡ reason_in more
+reason_later (notices.Settled q outcome) more e = refl
+reason_later (notices.Closed other) more e = none_out e
+
+-- ---- what is left to be worked off
+
+still_open : (c : Option Reason) (es : List Effect) → is_over c es ≡ false → (c ≡ None) × (closes es ≡ false)
+still_open None es e = (refl, e)
+still_open (Some reason) es e = absurd (true≢false e)
+
+-- where nothing is left, the vat closed for a reason that is known
+known_reason : (c : Option Reason) (es : List Effect) → is_over c es ≡ true → es ≡ [] → IsSome c
+known_reason None es says none = absurd (true≢false (sym says ∙ ap closes none))
+known_reason (Some reason) es says none = refl
+
+is_closed_by : (c : Option Reason) (es : List Effect) (b : Bool) → ClosesBy c es b → is_over c es ≡ true → b ≡ true
+is_closed_by None es b h says = h says
+is_closed_by (Some reason) es b h says = h.0
+
+closes_rest : (c : Option Reason) (effect : Effect) (es : List Effect) (b : Bool) → ClosesBy c (effect ∷ es) b → closes (effect ∷ es) ≡ closes es → ClosesBy c es b
+closes_rest None effect es b h e = λ says. h (e ∙ says)
+closes_rest (Some reason) effect es b h e = absurd (cc (h.1))
+
+over_rest : (c : Option Reason) (effect : Effect) (es : List Effect) → closes (effect ∷ es) ≡ closes es → is_over c es ≡ is_over c (effect ∷ es)
+over_rest None effect es e = sym e
+over_rest (Some reason) effect es e = refl
+
+not_closed_yet : (c : Option Reason) (effect : Effect) (es : List Effect) (b : Bool) → ClosesBy c (effect ∷ es) b → c ≡ None
+not_closed_yet None effect es b h = refl
+not_closed_yet (Some reason) effect es b h = absurd (cc (h.1))
+
+-- ---- works that match
+
+module _ (base : Link) (w : Work) (o : objects.Work) (h : Matches base w o) where
+  pub open_work : o.link.fault ≡ None → (w.closed ≡ None) × (closes w.effects ≡ false)
+  open_work e = still_open w.closed w.effects (not_ended (is_over w.closed w.effects) (sym h.ended ∙ e))
+
+  shut_work : {fault : ConnectionFault} → o.link.fault ≡ Some fault → w.vat.is_closed ≡ true
+  shut_work e = is_closed_by w.closed w.effects w.vat.is_closed h.closes_by (is_shut (is_over w.closed w.effects) (sym h.ended ∙ e))
+
+  pub closed_work : IsSome o.link.fault → w.effects ≡ [] → IsSome w.closed
+  closed_work some none = known_reason w.closed w.effects (shut_if (is_over w.closed w.effects) (subst (λ (f : Option ConnectionFault). IsSome f) h.ended some)) none
+
+  -- other calls are awaited, and other imports were given up
+  owes : (a b : Table Origin) (g i : List ℕ) → b ≡ a → i ≡ g → Matches base (record w { awaited = a; given_up = g }) (record o { awaited = b; given_up = i })
+  owes a b g i e f = record {
+    vat = h.vat;
+    awaited = e;
+    given_up = f;
+    none_call = h.none_call;
+    none_asked = h.none_asked;
+    happens = h.happens;
+    bytes = h.bytes;
+    frames = h.frames;
+    goes_out = h.goes_out;
+    counts = h.counts;
+    same_tally = h.same_tally;
+    same_mode = h.same_mode;
+    same_limits = h.same_limits;
+    same_reading = h.same_reading;
+    ended = h.ended;
+    closes_by = h.closes_by;
+    between = h.between;
+    reason = h.reason;
+  }
+
+  -- effects were worked off
+  worked : (es : List Effect) (sent : List Message) (c : Option Reason) (hs : List Happening) (ns : List Notice) → hs ≡ happening_by es → sent ++ sent_by es ≡ w.sent ++ sent_by w.effects
+      → ClosesBy c es w.vat.is_closed → is_over c es ≡ is_over w.closed w.effects → reason_in ns ≡ c
+      → Matches base (record w { effects = es; sent = sent; closed = c }) (record o { link = record o.link { happened = hs }; notices = ns })
+  worked es sent c hs ns happens all closes_by over reason = record {
+    vat = h.vat;
+    awaited = h.awaited;
+    given_up = h.given_up;
+    none_call = h.none_call;
+    none_asked = h.none_asked;
+    happens = happens;
+    bytes = h.bytes;
+    frames = subst (λ (ms : List Message). AreFramesOf base.mode ms h.bytes) (sym all) h.frames;
+    goes_out = h.goes_out;
+    counts = λ n e. h.counts n e ∙ ap (λ (ms : List Message). min (n + length ms) (2 ^ 64 - 1)) (sym all);
+    same_tally = h.same_tally;
+    same_mode = h.same_mode;
+    same_limits = h.same_limits;
+    same_reading = h.same_reading;
+    ended = h.ended ∙ ap ended_if (sym over);
+    closes_by = closes_by;
+    between = h.between;
+    reason = reason;
+  }
+
+  -- the vat did an event, and its effects are left
+  does : (event : Event) (value : Value) (link : Link) → (d : Does o.link event (Ok value) link) → Matches base (record w { vat = link.vat; effects = w.effects ++ d.effects }) (record o { link = link })
+  does event value link d =
+      let here = open_work d.was_open in
+      let law = tells_closing d.step (subst IsBetween (sym h.vat) h.between) in
+      let says : closes (w.effects ++ d.effects) ≡ closes d.effects = closes_both w.effects d.effects ∙ ap (λ (b : Bool). b || closes d.effects) here.1 in
+      let all : (w.sent ++ sent_by w.effects) ++ sent_by d.effects ≡ w.sent ++ sent_by (w.effects ++ d.effects) =
+      append_assoc w.sent (sent_by w.effects) (sent_by d.effects) ∙ ap (λ (x : List Message). w.sent ++ x) (sym (sent_both w.effects d.effects here.1)) in
+      record {
+        vat = refl;
+        awaited = h.awaited;
+        given_up = h.given_up;
+        none_call = h.none_call;
+        none_asked = h.none_asked;
+        happens = d.happens ∙ ap (λ (x : List Happening). x ++ happening_by d.effects) h.happens ∙ sym (happening_both w.effects d.effects here.1);
+        bytes = h.bytes ++ d.bytes;
+        frames =
+            subst (λ (ms : List Message). AreFramesOf base.mode ms (h.bytes ++ d.bytes)) all
+            (frames_both base.mode (w.sent ++ sent_by w.effects) (sent_by d.effects) h.bytes d.bytes h.frames (subst (λ (m : Mode). AreFramesOf m (sent_by d.effects) d.bytes) h.same_mode d.are_frames));
+        goes_out = d.goes_out ∙ ap (λ (x : List ℕ). x ++ d.bytes) h.goes_out ∙ append_assoc base.unwritten h.bytes d.bytes;
+        counts = λ n e.
+            d.counts (n + length (w.sent ++ sent_by w.effects)) (h.counts n e)
+            ∙ ap (λ (k : ℕ). min k (2 ^ 64 - 1)) (add_assoc n (length (w.sent ++ sent_by w.effects)) (length (sent_by d.effects)) ∙ ap (λ (k : ℕ). n + k) (sym (length-append (w.sent ++ sent_by w.effects) (sent_by d.effects)) ∙ ap (λ (ms : List Message). length ms) all));
+        same_tally = d.same_tally ∙ ap (λ (t : Tally). record t { sent = link.tally.sent }) h.same_tally;
+        same_mode = d.same_mode ∙ h.same_mode;
+        same_limits = d.same_limits ∙ h.same_limits;
+        same_reading = d.same_reading ∙ h.same_reading;
+        ended = d.ends ∙ ap ended_if (sym (ap (λ (c : Option Reason). is_over c (w.effects ++ d.effects)) here.0 ∙ says));
+        closes_by = subst (λ (c : Option Reason). ClosesBy c (w.effects ++ d.effects) link.vat.is_closed) (sym here.0) (λ e. law.0 (sym says ∙ e));
+        between = law.1;
+        reason = h.reason;
+      }
+
+  step_at : (event : Event) (value : Value) (link : Link) (all : List Effect) → Step o.link.vat event (Ok value) all link.vat → Step w.vat event (Ok value) all link.vat
+  step_at event value link all s = subst (λ (x : State). Step x event (Ok value) all link.vat) h.vat s
+
+  -- nothing changed
+  unchanged : (link : Link) → link ≡ o.link → Matches base w (record o { link = link })
+  unchanged link e = subst (λ (l : Link). Matches base w (record o { link = l })) (sym e) h
+
+  did_nothing : Did w w.vat [] w
+  did_nothing = ap (λ (es : List Effect). record w { effects = es }) (sym (append-nil w.effects))
+
+  pub follows_done : (event : Event) (link : Link) → objects.IsDone o.link event link → (next : Work) × IsDone w event next × Matches base next (record o { link = link })
+  follows_done event link done = by done.result done.memory done.acts
+    where
+      by : (result : Result Value ConnectionFault) → objects.HadMemory result → Acts o.link event result link → (next : Work) × IsDone w event next × Matches base next (record o { link = link })
+      by (Ok value) memory d = (
+        record w { vat = link.vat; effects = w.effects ++ d.effects },
+        record { result = Ok value; effects = d.effects; vat = link.vat; step = step_at event value link d.effects d.step; memory = tt; did = refl },
+        does event value link d,
+      )
+      by (Err fault) memory (inl ended) = (
+        w,
+        record { result = Err refusals.Closed; effects = []; vat = w.vat; step = step.was_closed event (shut_work ended.0); memory = λ e. cc (e); did = did_nothing },
+        unchanged link ended.1,
+      )
+      by (Err fault) memory (inr refuses) =
+          let fits : refuses.0 ≢ refusals.OutOfMemory = λ e. memory (refuses.1 ∙ ap refusal_of e) in (
+            w,
+            record {
+              result = Err refuses.0;
+              effects = [];
+              vat = w.vat;
+              step = refused_at o.link.vat link.vat w.vat event refuses.0 refuses.2.effects refuses.2.step fits h.vat;
+              memory = fits;
+              did = did_nothing;
+            },
+            unchanged link (refuses.3 fits),
+          )
+
+  -- a closed vat does nothing
+  nothing_done : (event : Event) (link : Link) → w.vat.is_closed ≡ true → objects.IsDone o.link event link → link ≡ o.link
+  nothing_done event link shut done = by done.result done.memory done.acts
+    where
+      by : (result : Result Value ConnectionFault) → objects.HadMemory result → Acts o.link event result link → link ≡ o.link
+      by (Ok value) memory d = absurd (true≢false (sym shut ∙ was_still (step_at event value link d.effects d.step)))
+      by (Err fault) memory (inl ended) = ended.1
+      by (Err fault) memory (inr refuses) = refuses.3 (λ e. memory (refuses.1 ∙ ap refusal_of e))
+
+  pub follows_answers : (origin : Origin) (outcome : Outcome) (link : Link) → objects.Answers o.link origin outcome link → (next : Work) × Answers w origin outcome next × Matches base next (record o { link = link })
+  follows_answers origin outcome link (objects.is_taken d) = (
+    record w { vat = link.vat; effects = w.effects ++ d.effects },
+    is_taken link.vat d.effects (step_at (events.Answer origin outcome) values.Nothing link d.effects d.step) refl,
+    does (events.Answer origin outcome) values.Nothing link d,
+  )
+  follows_answers origin outcome link (objects.had_ended fault is_end (inl ended)) = (w, was_closed w.vat (step.was_closed (events.Answer origin outcome) (shut_work ended.0)) refl, unchanged link ended.1)
+  follows_answers origin outcome link (objects.had_ended fault is_end (inr refuses)) = absurd (no_end refuses.0 (subst objects.IsEnd refuses.1 is_end))
+  follows_answers origin outcome link (objects.is_replaced refusal mid (inl ended) done) = absurd (no_refusal (is_over w.closed w.effects) (sym h.ended ∙ ended.0))
+  follows_answers origin outcome link (objects.is_replaced refusal mid (inr refuses) done) = by w.vat.is_closed refl
+    where
+      fits : refuses.0 ≢ refusals.OutOfMemory
+      fits = (refused_is refusal refuses.0 refuses.1).1
+
+      again : objects.IsDone o.link (events.Answer origin bad_outcome) link
+      again = subst (λ (l : Link). objects.IsDone l (events.Answer origin bad_outcome) link) (refuses.3 fits) done
+
+      stepped : Step w.vat (events.Answer origin outcome) (Err refuses.0) [] w.vat
+      stepped = refused_at o.link.vat mid.vat w.vat (events.Answer origin outcome) refuses.0 refuses.2.effects refuses.2.step fits h.vat
+
+      by : (b : Bool) → w.vat.is_closed ≡ b → (next : Work) × Answers w origin outcome next × Matches base next (record o { link = link })
+      by true shut = (w, was_closed w.vat (step.was_closed (events.Answer origin outcome) shut) refl, unchanged link (nothing_done (events.Answer origin bad_outcome) link shut again))
+      by false still =
+          let no_closing : refuses.0 ≢ refusals.Closed =
+          λ e. true≢false (sym (was_shut w.vat w.vat origin outcome [] (subst (λ (r : VatFault). Step w.vat (events.Answer origin outcome) (Err r) [] w.vat) e stepped)) ∙ still) in
+          let more = follows_done (events.Answer origin bad_outcome) link again in
+          (more.0, is_replaced refuses.0 w.vat (no_closing, fits) stepped more.1, more.2)
+
+  pub follows_tries : (i : ℕ) (new : objects.Work) → objects.Tries o i new → (next : Work) × Tries w i next × Matches base next new
+  follows_tries i new (objects.is_released link d e) = (
+    record w { vat = link.vat; effects = w.effects ++ d.effects },
+    is_released link.vat d.effects (step_at (events.Release i) values.Nothing link d.effects d.step) refl,
+    subst (λ (x : objects.Work). Matches base (record w { vat = link.vat; effects = w.effects ++ d.effects }) x) (sym e) (does (events.Release i) values.Nothing link d),
+  )
+  follows_tries i new (objects.is_refused refusal link (inl ended) stays) = absurd (no_refusal (is_over w.closed w.effects) (sym h.ended ∙ ended.0))
+  follows_tries i new (objects.is_refused refusal link (inr refuses) stays) = by stays
+    where
+      is : (refuses.0 ≡ refusal) × (refuses.0 ≢ refusals.OutOfMemory)
+      is = refused_is refusal refuses.0 refuses.1
+
+      stepped : Step w.vat (events.Release i) (Err refuses.0) [] w.vat
+      stepped = refused_at o.link.vat link.vat w.vat (events.Release i) refuses.0 refuses.2.effects refuses.2.step is.1 h.vat
+
+      same : link ≡ o.link
+      same = refuses.3 is.1
+
+      by : objects.Stays i refusal (record o { link = link }) new → (next : Work) × Tries w i next × Matches base next new
+      by (objects.is_used used gives) = (
+        record w { given_up = w.given_up ++ i ∷ [] },
+        is_used w.vat (subst (λ (r : VatFault). Step w.vat (events.Release i) (Err r) [] w.vat) (is.0 ∙ used) stepped) refl,
+        subst (λ (x : objects.Work). Matches base (record w { given_up = w.given_up ++ i ∷ [] }) x) (sym gives)
+            (subst (λ (l : Link). Matches base (record w { given_up = w.given_up ++ i ∷ [] }) (record o { link = l; given_up = o.given_up ++ i ∷ [] })) (sym same)
+            (owes w.awaited o.awaited (w.given_up ++ i ∷ []) (o.given_up ++ i ∷ []) h.awaited (ap (λ (x : List ℕ). x ++ i ∷ []) h.given_up))),
+      )
+      by (objects.is_dropped other e) = (w, is_dropped refuses.0 w.vat (λ k. other (sym is.0 ∙ k)) is.1 stepped refl, subst (λ (x : objects.Work). Matches base w x) (sym e) (unchanged link same))
+  follows_tries i new (objects.had_ended fault link is_end (inl ended) e) = (
+    w,
+    is_dropped refusals.Closed w.vat (λ k. cc (k)) (λ k. cc (k)) (step.was_closed (events.Release i) (shut_work ended.0)) refl,
+    subst (λ (x : objects.Work). Matches base w x) (sym e) (unchanged link ended.1),
+  )
+  follows_tries i new (objects.had_ended fault link is_end (inr refuses) e) = absurd (no_end refuses.0 (subst objects.IsEnd refuses.1 is_end))
+
+-- ---- what objects reply and settle
+
+follows_replies : {base : Link} {w : Work} {o new : objects.Work} → Matches base w o → (origin : Origin) (ticket : ℕ) (reply : Reply) → objects.Replies o origin ticket reply new
+    → (next : Work) × Replies w origin ticket reply next × Matches base next new
+follows_replies {base = base} {w = w} {o = o} h origin ticket (replies.Now outcome gives_up) r =
+    let more = follows_answers base (record w { given_up = w.given_up ++ gives_up }) (record o { given_up = o.given_up ++ gives_up })
+    (owes base w o h w.awaited o.awaited (w.given_up ++ gives_up) (o.given_up ++ gives_up) h.awaited (ap (λ (x : List ℕ). x ++ gives_up) h.given_up)) origin outcome r.0 r.1 in
+    (more.0, more.1, subst (λ (x : objects.Work). Matches base more.0 x) (sym r.2) more.2)
+follows_replies {base = base} {w = w} {o = o} h origin ticket replies.Later r =
+    let a : Table Origin = insert w.awaited ticket origin in (
+      record w { awaited = a },
+      refl,
+      subst (λ (x : objects.Work). Matches base (record w { awaited = a }) x) (sym r)
+          (owes base w o h a (insert o.awaited ticket origin) w.given_up o.given_up (ap (λ (t : Table Origin). insert t ticket origin) h.awaited) h.given_up),
+    )
+
+follows_settles : {base : Link} {w : Work} {o new : objects.Work} → Matches base w o → (settled : Option Settled) (gave : Bool) → rounds.Settles o settled gave new
+    → (next : Work) × Settles w settled gave next × Matches base next new
+follows_settles {w = w} h settled gave rounds.gives_none = (w, gives_none, h)
+follows_settles {w = w} h settled gave (rounds.is_stranger s none) = (w, is_stranger s (ap (λ (t : Table Origin). get t s.ticket) (sym h.awaited) ∙ none), h)
+follows_settles {base = base} {w = w} {o = o} h settled gave (rounds.is_awaited s origin link got answers e) =
+    let more = follows_answers base (record w { awaited = remove w.awaited s.ticket; given_up = w.given_up ++ s.gives_up }) (record o { awaited = remove o.awaited s.ticket; given_up = o.given_up ++ s.gives_up })
+    (owes base w o h (remove w.awaited s.ticket) (remove o.awaited s.ticket) (w.given_up ++ s.gives_up) (o.given_up ++ s.gives_up) (ap (λ (t : Table Origin). remove t s.ticket) h.awaited) (ap (λ (x : List ℕ). x ++ s.gives_up) h.given_up))
+    origin s.outcome link answers in
+    (more.0, is_awaited s origin (ap (λ (t : Table Origin). get t s.ticket) (sym h.awaited) ∙ got) more.1, subst (λ (x : objects.Work). Matches base more.0 x) (sym e) more.2)
+
+-- ---- objects that may not call make no calls
+
+next_none : {place : ℕ} {o : objects.Work} {ask : Option Ask} {seen others : List Seen} → o.may_call ≡ false → calling.NextCall place o ask seen others → (ask ≡ None) × (others ≡ seen)
+next_none off (calling.asks may still asked) = absurd (true≢false (sym may ∙ off))
+next_none off (calling.is_unasked why none same) = (none, same)
+
+no_calls : {place : ℕ} {o new : objects.Work} {seen others : List Seen} → o.may_call ≡ false → calling.MakesCalls place o new seen others → (new ≡ o) × (others ≡ seen)
+no_calls off (calling.makes_none next) = (refl, (next_none off next).1)
+no_calls off (calling.makes_one ask next made more) = none_out (sym (next_none off next).0)
+
+-- ---- effects that are worked off
+
+abbrev HasNoSend : List Effect → Type 0
+HasNoSend (effects.Send m ∷ more) = ⊥
+HasNoSend other = Unit {0}
+
+nothing_first : {first : Happening} {more : List Happening} → first ∷ more ≡ [] → ⊥
+nothing_first e = cc (e)
+
+first_none : (es : List Effect) → HasNoSend es → happening_by es ≡ [] → es ≡ []
+first_none [] n e = refl
+first_none (effects.Send m ∷ more) n e = absurd n
+first_none (effects.Deliver k origin ticket call ∷ more) n e = absurd (nothing_first e)
+first_none (effects.Settled q outcome ∷ more) n e = absurd (nothing_first e)
+first_none (effects.Closed reason ∷ more) n e = absurd (nothing_first e)
+
+-- The messages that come first among the effects are worked off, and what follows does so too.
+abbrev Led : Link → Work → objects.Work → List Seen → Type 0
+Led base w o seen = (v : Work) × ((next : Work) (last : List Seen) → WorksOff v seen next last → WorksOff w seen next last) × Matches base v o × HasNoSend v.effects
+
+sends_off : {base : Link} {o : objects.Work} (seen : List Seen) (es : List Effect) (w : Work) → w.effects ≡ es → Matches base w o → Led base w o seen
+sends_off seen [] w e h = (w, (λ next last k. k), h, subst HasNoSend (sym e) tt)
+sends_off {base = base} {o = o} seen (effects.Send m ∷ more) w e h =
+    let after : Matches base (record w { effects = more; sent = w.sent ++ m ∷ [] }) o =
+    worked base w o h more (w.sent ++ m ∷ []) w.closed o.link.happened o.notices (h.happens ∙ ap happening_by e)
+    (append_assoc w.sent (m ∷ []) (sent_by more) ∙ ap (λ (x : List Message). w.sent ++ x) (ap sent_by (sym e)))
+    (closes_rest w.closed (effects.Send m) more w.vat.is_closed (subst (λ (x : List Effect). ClosesBy w.closed x w.vat.is_closed) e h.closes_by) refl)
+    (over_rest w.closed (effects.Send m) more refl ∙ ap (is_over w.closed) (sym e)) h.reason in
+    let led = sends_off seen more (record w { effects = more; sent = w.sent ++ m ∷ [] }) refl after in
+    (led.0, (λ next last k. acts (effects.Send m) more e (refl, refl) (led.1 next last k)), led.2, led.3)
+sends_off seen (effects.Deliver k origin ticket call ∷ more) w e h = (w, (λ next last k. k), h, subst HasNoSend (sym e) tt)
+sends_off seen (effects.Settled q outcome ∷ more) w e h = (w, (λ next last k. k), h, subst HasNoSend (sym e) tt)
+sends_off seen (effects.Closed reason ∷ more) w e h = (w, (λ next last k. k), h, subst HasNoSend (sym e) tt)
+
+-- a call that is delivered
+delivers : {base : Link} {w : Work} {o mid new : objects.Work} {seen between others : List Seen} (k : ℕ) (origin : Origin) (ticket : ℕ) (call : Request) (reply : Reply) → Matches base w o
+    → rounds.Gives k ticket call reply seen between → objects.Replies o origin ticket reply mid → calling.MakesCalls k mid new between others
+    → (next : Work) × Delivers w seen k origin ticket call next others × Matches base next new
+delivers {base = base} {w = w} {seen = seen} {between = between} {others = others} k origin ticket call reply h gives replied called =
+    let more = follows_replies h origin ticket reply replied in
+    let none = no_calls more.2.none_call called in
+    (more.0, by more.0 more.1 none.1 gives, subst (λ (x : objects.Work). Matches base more.0 x) (sym none.0) more.2)
+  where
+    by : (next : Work) → Replies w origin ticket reply next → others ≡ between → rounds.Gives k ticket call reply seen between → Delivers w seen k origin ticket call next others
+    by next r same (rounds.by_object changes) = subst (λ (x : List Seen). Delivers w seen k origin ticket call next x) (sym same) (to_object reply changes r)
+    by next r same (rounds.by_none past is still) =
+        to_none past
+        (subst (λ (g : List ℕ). Answers (record w { given_up = g }) origin no_such_object next) (append-nil w.given_up) (subst (λ (x : Reply). Replies w origin ticket x next) is r)) (same ∙ still)
+
+-- what one happening asks
+abbrev Acted : Link → Work → objects.Work → List Seen → List Seen → Type 0
+Acted base v mid seen between = (effect : Effect) × (rest : List Effect) × (next : Work) × (v.effects ≡ effect ∷ rest) × service.Acts effect (record v { effects = rest }) seen next between × Matches base next mid
+
+module _ {base : Link} {o : objects.Work} (first : Happening) (link : Link) (out : HandsOut o.link (Some first) link) (v : Work) (h : Matches base v o) where
+  -- the first of what happened is that of the first effect, and the others are those of the others
+  happens_by : (effect : Effect) (rest : List Effect) → v.effects ≡ effect ∷ rest → first ∷ link.happened ≡ happening_by (effect ∷ rest)
+  happens_by effect rest e = sym out.0 ∙ h.happens ∙ ap happening_by e
+
+  -- that effect was taken
+  one_taken : (effect : Effect) (rest : List Effect) → v.effects ≡ effect ∷ rest → sent_by (effect ∷ rest) ≡ sent_by rest → closes (effect ∷ rest) ≡ closes rest → link.happened ≡ happening_by rest
+      → Matches base (record v { effects = rest }) (record o { link = link })
+  one_taken effect rest e sends shuts happens =
+      subst (λ (l : Link). Matches base (record v { effects = rest }) (record o { link = l })) (sym out.1)
+      (worked base v o h rest v.sent v.closed link.happened o.notices happens (ap (λ (x : List Message). v.sent ++ x) (sym sends ∙ ap sent_by (sym e)))
+      (closes_rest v.closed effect rest v.vat.is_closed (subst (λ (x : List Effect). ClosesBy v.closed x v.vat.is_closed) e h.closes_by) shuts)
+      (over_rest v.closed effect rest shuts ∙ ap (is_over v.closed) (sym e)) h.reason)
+
+  module _ {mid : objects.Work} {seen between : List Seen} (handled : rounds.Handles first (record o { link = link }) mid seen between) where
+    one_delivered : (k : ℕ) (origin : Origin) (ticket : ℕ) (call : Request) (rest : List Effect) → v.effects ≡ effects.Deliver k origin ticket call ∷ rest → Acted base v mid seen between
+    one_delivered k origin ticket call rest e =
+        let all : first ∷ link.happened ≡ happenings.Delivered k origin ticket call ∷ happening_by rest = happens_by (effects.Deliver k origin ticket call) rest e in
+        let heads : first ≡ happenings.Delivered k origin ticket call = cc (all) in
+        let tails : link.happened ≡ happening_by rest = cc (all) in
+        let parts = subst (λ (x : Happening). rounds.Handles x (record o { link = link }) mid seen between) heads handled in
+        let done = delivers k origin ticket call parts.0 (one_taken (effects.Deliver k origin ticket call) rest e refl refl tails) parts.3 parts.4 parts.5 in
+        (effects.Deliver k origin ticket call, rest, done.0, e, done.1, done.2)
+
+    one_settled : (q : ℕ) (outcome : Outcome) (rest : List Effect) → v.effects ≡ effects.Settled q outcome ∷ rest → Acted base v mid seen between
+    one_settled q outcome rest e = by (subst (λ (x : Happening). rounds.Handles x (record o { link = link }) mid seen between) heads handled)
+      where
+        all : first ∷ link.happened ≡ happenings.Settled q outcome ∷ happening_by rest
+        all = happens_by (effects.Settled q outcome) rest e
+
+        heads : first ≡ happenings.Settled q outcome
+        heads = cc (all)
+
+        tails : link.happened ≡ happening_by rest
+        tails = cc (all)
+
+        here : Matches base (record v { effects = rest }) (record o { link = link })
+        here = one_taken (effects.Settled q outcome) rest e refl refl tails
+
+        by : calling.HandsBack q outcome (record o { link = link }) mid seen between → Acted base v mid seen between
+        by (calling.to_user none notes same) = (
+          effects.Settled q outcome,
+          rest,
+          record v { effects = rest },
+          e,
+          (refl, same),
+          subst (λ (x : objects.Work). Matches base (record v { effects = rest }) x) (sym notes)
+              (worked base (record v { effects = rest }) (record o { link = link }) here rest v.sent v.closed link.happened (o.notices ++ notices.Settled q outcome ∷ []) tails refl here.closes_by refl
+              (reason_settled o.notices q outcome ∙ here.reason)),
+        )
+        by (calling.to_object asker other got done hears calls) = none_out (sym (get-empty nat_cmp q) ∙ ap (λ (t : Table Asker). get t q) (sym h.none_asked) ∙ got)
+
+    one_closed : (reason : Reason) (rest : List Effect) → v.effects ≡ effects.Closed reason ∷ rest → Acted base v mid seen between
+    one_closed reason rest e =
+        let all : first ∷ link.happened ≡ happenings.Closed reason ∷ [] = happens_by (effects.Closed reason) rest e in
+        let heads : first ≡ happenings.Closed reason = cc (all) in
+        let tails : link.happened ≡ [] = cc (all) in
+        let notes = subst (λ (x : Happening). rounds.Handles x (record o { link = link }) mid seen between) heads handled in
+        let by : ClosesBy v.closed (effects.Closed reason ∷ rest) v.vat.is_closed = subst (λ (x : List Effect). ClosesBy v.closed x v.vat.is_closed) e h.closes_by in
+        let none : v.closed ≡ None = not_closed_yet v.closed (effects.Closed reason) rest v.vat.is_closed by in
+        let shut : v.vat.is_closed ≡ true = subst (λ (c : Option Reason). ClosesBy c (effects.Closed reason ∷ rest) v.vat.is_closed) none by refl in (
+          effects.Closed reason,
+          rest,
+          record v { closed = Some reason; effects = [] },
+          e,
+          (refl, notes.1),
+          subst (λ (x : objects.Work). Matches base (record v { closed = Some reason; effects = [] }) x) (sym notes.0)
+              (subst (λ (l : Link). Matches base (record v { closed = Some reason; effects = [] }) (record o { link = l; notices = o.notices ++ notices.Closed reason ∷ [] })) (sym out.1)
+              (worked base v o h [] v.sent (Some reason) link.happened (o.notices ++ notices.Closed reason ∷ []) tails (ap (λ (x : List Message). v.sent ++ x) (ap sent_by (sym e))) (shut, refl)
+              (sym (ap (λ (c : Option Reason). is_over c v.effects) none ∙ ap closes e))
+              (reason_closed o.notices reason (h.reason ∙ none)))),
+        )
+
+    one_off : (es : List Effect) → v.effects ≡ es → HasNoSend es → Acted base v mid seen between
+    one_off [] e n = absurd (nothing_first (sym out.0 ∙ h.happens ∙ ap happening_by e))
+    one_off (effects.Send m ∷ rest) e n = absurd n
+    one_off (effects.Deliver k origin ticket call ∷ rest) e n = one_delivered k origin ticket call rest e
+    one_off (effects.Settled q outcome ∷ rest) e n = one_settled q outcome rest e
+    one_off (effects.Closed reason ∷ rest) e n = one_closed reason rest e
+
+pub follows_works_off : {base : Link} {o new : objects.Work} {seen others : List Seen} → rounds.WorksOff o new seen others → (w : Work) → Matches base w o
+    → (next : Work) × WorksOff w seen next others × Matches base next new × (next.effects ≡ [])
+follows_works_off {seen = seen} (rounds.none_left none) w h =
+    let led = sends_off seen w.effects w refl h in
+    let all : led.0.effects ≡ [] = first_none led.0.effects led.3 (sym led.2.happens ∙ none) in
+    (led.0, led.1 led.0 seen (none_left all), led.2, all)
+follows_works_off {seen = seen} {others = others} (rounds.handles first link out handled tail) w h =
+    let led = sends_off seen w.effects w refl h in
+    let one = one_off first link out led.0 led.2 handled led.0.effects refl led.3 in
+    let more = follows_works_off tail one.2 one.5 in
+    (more.0, led.1 more.0 others (acts one.0 one.1 one.3 one.4 more.1), more.2, more.3)
+
+-- ---- rounds
+
+pub follows_polls : {place : ℕ} {base : Link} {o new : objects.Work} {seen others : List Seen} {gave : Bool} → rounds.PollsFrom place o gave new seen others → (w : Work) → Matches base w o → w.effects ≡ []
+    → (next : Work) × PollsFrom place w seen gave next others × Matches base next new × (next.effects ≡ [])
+follows_polls (rounds.none_left past) w h rest = (w, service.none_left past, h, rest)
+follows_polls {base = base} {o = o} (rounds.has_ended some) w h rest = (w, service.is_closed (closed_work base w o h some rest), h, rest)
+follows_polls {base = base} {o = o} (rounds.polls {last = last} settled first more still polled settles calls off tail e) w h rest =
+    let one = follows_settles h settled first settles in
+    let none = no_calls one.2.none_call calls in
+    let two = follows_works_off off one.0 (subst (λ (x : objects.Work). Matches base one.0 x) (sym none.0) one.2) in
+    let three = follows_polls tail two.0 two.2 two.3 in
+    (three.0, service.polls {new = three.0} settled first more (open_work base w o h still).0 polled one.1 (subst (λ (x : List Seen). WorksOff one.0 x two.0 last) none.1 two.1) three.1 e, three.2, three.3)
+
+follows_each : {base : Link} (imports : List ℕ) {w : Work} {o new : objects.Work} → Matches base w o → objects.TriesEach o imports new → (next : Work) × TriesEach w imports next × Matches base next new
+follows_each {base = base} [] {w = w} h e = (w, refl, subst (λ (x : objects.Work). Matches base w x) (sym e) h)
+follows_each {base = base} (i ∷ more) {w = w} {o = o} h tries =
+    let one = follows_tries base w o h i tries.0 tries.1 in
+    let rest = follows_each more one.2 tries.2 in
+    (rest.0, (one.0, one.1, rest.1), rest.2)
+
+follows_releases : {base : Link} {w : Work} {o new : objects.Work} → Matches base w o → objects.Releases o new → (next : Work) × Releases w next × Matches base next new
+follows_releases {base = base} {w = w} {o = o} {new = new} h releases =
+    follows_each w.given_up (owes base w o h w.awaited o.awaited [] [] h.awaited refl) (subst (λ (x : List ℕ). objects.TriesEach (record o { given_up = [] }) x new) h.given_up releases)
+
+pub follows_round : {base : Link} {o new : objects.Work} {seen others : List Seen} {gave : Bool} → rounds.Rounds o gave new seen others → (w : Work) → Matches base w o → w.effects ≡ []
+    → (next : Work) × Rounds w seen gave next others × Matches base next new × (next.effects ≡ [])
+follows_round {base = base} {new = new} (rounds.has_ended polled some) w h rest =
+    let one = follows_polls polled w h rest in
+    (one.0, service.is_closed one.1 (closed_work base one.0 new one.2 some one.3), one.2, one.3)
+follows_round {base = base} (rounds.releases mid released between polled still tried off) w h rest =
+    let one = follows_polls polled w h rest in
+    let two = follows_releases one.2 tried in
+    let three = follows_works_off off two.0 two.2 in
+    (three.0, service.releases one.0 two.0 between one.1 (open_work base one.0 mid one.2 still).0 two.1 three.1, three.2, three.3)
+
+-- a message is taken
+pub follows_message : {base : Link} {o mid new : objects.Work} {seen between others : List Seen} (m : Message) (link : Link) (gave : Bool) → Does o.link (events.Receive m) (Ok values.Nothing) link
+    → rounds.WorksOff (record o { link = link }) mid seen between → rounds.Rounds mid gave new between others → (w : Work) → Matches base w o
+    → (next : Work) × TakesMessage w seen m next others × Matches base next new × (next.effects ≡ [])
+follows_message {base = base} {o = o} {between = between} m link gave d off round w h =
+    let received : Work = record w { vat = link.vat; effects = w.effects ++ d.effects } in
+    let done : IsDone w (events.Receive m) received =
+    record { result = Ok values.Nothing; effects = d.effects; vat = link.vat; step = step_at base w o h (events.Receive m) values.Nothing link d.effects d.step; memory = tt; did = refl } in
+    let one = follows_works_off off received (does base w o h (events.Receive m) values.Nothing link d) in
+    let two = follows_round round one.0 one.2 one.3 in
+    (two.0, takes received one.0 between gave done one.1 two.1, two.2, two.3)
+
+-- ---- between messages
+
+and_none : (n : ℕ) → n ≡ n + 0
+and_none n = omega arith
+
+-- Nothing is left to be done but to write, and the connection goes on as it was.
+pub rests_after : {base : Link} {w : Work} {o : objects.Work} → Matches base w o → w.effects ≡ [] → (link : Link) → link.vat ≡ o.link.vat → link.happened ≡ o.link.happened → link.fault ≡ o.link.fault
+    → Rests (written w) (record o { link = link })
+rests_after {w = w} {o = o} h none link vat happened fault = record {
+  matches = record {
+    vat = vat ∙ h.vat;
+    awaited = h.awaited;
+    given_up = h.given_up;
+    none_call = h.none_call;
+    none_asked = h.none_asked;
+    happens = happened ∙ h.happens;
+    bytes = [];
+    frames = subst (λ (es : List Effect). AreFramesOf link.mode (sent_by es) []) (sym none) refl;
+    goes_out = sym (append-nil link.unwritten);
+    counts = λ n e. e ∙ ap (λ (k : ℕ). min k (2 ^ 64 - 1)) (and_none n) ∙ ap (λ (es : List Effect). min (n + length (sent_by es)) (2 ^ 64 - 1)) (sym none);
+    same_tally = refl;
+    same_mode = refl;
+    same_limits = refl;
+    same_reading = refl;
+    ended = fault ∙ h.ended;
+    closes_by = h.closes_by;
+    between = h.between;
+    reason = h.reason;
+  };
+  none_left = none;
+  none_unsent = refl;
+}
