@@ -1,36 +1,61 @@
-//! Serves an object of its own to a client whose messages are in a file, and writes its answers.
+//! Serves a store of texts to a client whose messages are in a file, and writes its answers. Of crates/store/store.capnp
+//! capnpc_rattle made the crate store.
 #![tactic(auto)]
 
-use jamdrosek::server::{Content, Ids, Reply, Request, Servant, Settled, serve, word_in};
+use jamdrosek::interfaces::{Answer, Call, MethodFault, Object};
+use jamdrosek::server::{Servant, serve};
 use jamdrosek::{Mode, Tap};
-use std::alloc::{AllocError, Global};
+use std::alloc::Global;
+use std::collections::BTreeMap;
 use std::fs::File;
 use std::io;
+use store::{
+    StoreGetParamsView, StoreGetResultsDraft, StorePutParamsView, StorePutResultsDraft,
+    StoreServant, StoreServer,
+};
 
-/// Answers each call with twice the number that it is asked with.
+/// Texts by their keys.
 #[derive(Drop)]
-struct Doubler {
+struct Shelf {
     alloc: Global,
+    texts: BTreeMap<String, String>,
 }
 
-impl Servant for Doubler {
-    fn call(&mut self, _ticket: u64, request: Request) -> Result<Reply, AllocError> {
-        let number = word_in(&request.content, 0).saturating_mul(2);
-        Ok(Reply::Now {
-            outcome: Content::new(self.alloc).word(number)?.results(),
-            gives_up: Ids::new(Vec::new(self.alloc)),
-        })
+impl Object for Shelf {}
+
+impl StoreServer for Shelf {
+    fn put(
+        &mut self,
+        _call: &Call,
+        params: &StorePutParamsView<'_>,
+    ) -> Result<Answer<StorePutResultsDraft>, MethodFault> {
+        let key = params.key()?.text(self.alloc)?;
+        let value = params.value()?.text(self.alloc)?;
+        self.texts.insert(key, value)?;
+        let results = StorePutResultsDraft::new(self.alloc)?;
+        Ok(Answer::of(self.alloc, results))
     }
 
-    fn poll(&mut self) -> Result<Option<Settled>, AllocError> {
-        Ok(None)
+    fn get(
+        &mut self,
+        _call: &Call,
+        params: &StoreGetParamsView<'_>,
+    ) -> Result<Answer<StoreGetResultsDraft>, MethodFault> {
+        let key = params.key()?.text(self.alloc)?;
+        let mut results = StoreGetResultsDraft::new(self.alloc)?;
+        if let Some(value) = self.texts.get(&key) {
+            results.set_value(self.alloc, value.as_str())?;
+        }
+        Ok(Answer::of(self.alloc, results))
     }
 }
 
 fn main(rt: HostRuntime) -> anyhow::Result<()> {
     let alloc = rt.alloc();
+    let texts = BTreeMap::new(alloc);
+    let object = Shelf { alloc, texts };
     let mut objects: Vec<Box<dyn Servant>> = Vec::new(alloc);
-    objects.push(Box::new(alloc, Doubler { alloc })?)?;
+    objects.push(Box::new(alloc, StoreServant { alloc, object })?)?;
     let mut from = Tap::new(File::open(&rt, "client.bin")?);
     let mut to = Tap::new(io::writer(&rt));
     serve(alloc, &mut from, &mut to, &mut objects, Mode::Plain)?;

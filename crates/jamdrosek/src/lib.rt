@@ -119,24 +119,146 @@
 //!
 //! # Serve an object
 //!
-//! `serve` takes a connection's reader and writer, and the objects that its peer may call. An object of your own
-//! implements `Servant`. The program example_serve:
+//! `serve` takes a connection's reader and writer, and the objects that its peer may call. Of an interface of a schema
+//! `capnpc_rattle --interfaces` writes a trait, which an object of yours implements; module `interfaces` says how. The program
+//! example_serve, over the crate that the plugin wrote of store.capnp:
 //!
 //! ```
 //! #![tactic(auto)]
 //!
-//! use jamdrosek::server::{Content, Ids, Reply, Request, Servant, Settled, serve, word_in};
+//! use jamdrosek::interfaces::{Answer, Call, MethodFault, Object};
+//! use jamdrosek::server::{Servant, serve};
 //! use jamdrosek::{Mode, Tap};
-//! use std::alloc::{AllocError, Global};
+//! use std::alloc::Global;
+//! use std::collections::BTreeMap;
 //! use std::fs::File;
 //! use std::io;
+//! use store::{
+//!     StoreGetParamsView, StoreGetResultsDraft, StorePutParamsView, StorePutResultsDraft,
+//!     StoreServant, StoreServer,
+//! };
 //!
-//! /// Answers each call with twice the number that it is asked with.
+//! /// Texts by their keys.
 //! #[derive(Drop)]
-//! struct Doubler {
+//! struct Shelf {
 //!     alloc: Global,
+//!     texts: BTreeMap<String, String>,
 //! }
 //!
+//! impl Object for Shelf {}
+//!
+//! impl StoreServer for Shelf {
+//!     fn put(
+//!         &mut self,
+//!         _call: &Call,
+//!         params: &StorePutParamsView<'_>,
+//!     ) -> Result<Answer<StorePutResultsDraft>, MethodFault> {
+//!         let key = params.key()?.text(self.alloc)?;
+//!         let value = params.value()?.text(self.alloc)?;
+//!         self.texts.insert(key, value)?;
+//!         let results = StorePutResultsDraft::new(self.alloc)?;
+//!         Ok(Answer::of(self.alloc, results))
+//!     }
+//!
+//!     fn get(
+//!         &mut self,
+//!         _call: &Call,
+//!         params: &StoreGetParamsView<'_>,
+//!     ) -> Result<Answer<StoreGetResultsDraft>, MethodFault> {
+//!         let key = params.key()?.text(self.alloc)?;
+//!         let mut results = StoreGetResultsDraft::new(self.alloc)?;
+//!         if let Some(value) = self.texts.get(&key) {
+//!             results.set_value(self.alloc, value.as_str())?;
+//!         }
+//!         Ok(Answer::of(self.alloc, results))
+//!     }
+//! }
+//!
+//! fn main(rt: HostRuntime) -> anyhow::Result<()> {
+//!     let alloc = rt.alloc();
+//!     let texts = BTreeMap::new(alloc);
+//!     let object = Shelf { alloc, texts };
+//!     let mut objects: Vec<Box<dyn Servant>> = Vec::new(alloc);
+//!     objects.push(Box::new(alloc, StoreServant { alloc, object })?)?;
+//!     let mut from = Tap::new(File::open(&rt, "client.bin")?);
+//!     let mut to = Tap::new(io::writer(&rt));
+//!     serve(alloc, &mut from, &mut to, &mut objects, Mode::Plain)?;
+//!     Ok(())
+//! }
+//! ```
+//!
+//! # Call an object
+//!
+//! A `Client` asks the peer behind a reader and a writer, such as `&stream` twice of a `TcpStream`. The plugin writes a typed
+//! client of each interface, which calls by it. The program example_call puts a text into the store of example_serve and gets
+//! it back, in one round trip:
+//!
+//! ```
+//! #![tactic(auto)]
+//!
+//! use jamdrosek::client::{Client, Question};
+//! use jamdrosek::interfaces::payload_of;
+//! use jamdrosek::{Limits, Mode};
+//! use std::alloc::Global;
+//! use std::fs::File;
+//! use std::io::{self, Read, Write};
+//! use store::{StoreClient, StoreGetParamsDraft, StorePutParamsDraft};
+//!
+//! /// Puts a text and gets it back. Both calls are made before the store is known.
+//! fn kept<R: Read + Drop, W: Write + Drop>(
+//!     alloc: Global,
+//!     client: &mut Client<R, W>,
+//! ) -> anyhow::Result<String> {
+//!     let store = StoreClient::new(alloc, client.bootstrap()?.cap(alloc));
+//!     let mut put = StorePutParamsDraft::new(alloc)?;
+//!     put.set_key(alloc, "colour")?;
+//!     put.set_value(alloc, "blue")?;
+//!     store.put(client, put)?;
+//!     let mut get = StoreGetParamsDraft::new(alloc)?;
+//!     get.set_key(alloc, "colour")?;
+//!     let got = store.get(client, get)?;
+//!     let number = got.question();
+//!     let came = payload_of(client.wait(Question { number })?)?;
+//!     Ok(got.results(&came)?.value()?.text(alloc)?)
+//! }
+//!
+//! fn main(rt: HostRuntime) -> anyhow::Result<()> {
+//!     let alloc = rt.alloc();
+//!     let answers = File::open(&rt, "server.bin")?;
+//!     let (mode, limits) = (Mode::Plain, Limits::standard());
+//!     let mut client = Client::new(alloc, answers, io::sink(), mode, limits);
+//!     let text = kept(alloc, &mut client);
+//!     // A client that ends so, and isn't dropped, leaves this crate no vat's drop to prove.
+//!     let _ = client.into_devices();
+//!     println!(rt; "{}", text?.as_str())?;
+//!     Ok(())
+//! }
+//! ```
+//!
+//! What a call will give may be called before it came, by the names of its fields: of an interface that finds people,
+//! `directory.find(client, params)?.person()?.friend()?` is who speaks for a person that isn't found yet.
+//!
+//! # Let objects answer while a client waits
+//!
+//! A peer may call what a call gave it. `Exports` holds such objects, of one type that is a `server::Servant`, or
+//! boxed ones of several. They answer while `Exports::wait` waits, in the place of `Client::wait`:
+//!
+//! ```
+//! let object = Counter { alloc, count: 0 };
+//! let watcher = watchers.export(WatcherServant { alloc, object })?;
+//! let mut table = Table::new(alloc);
+//! let mut params = DirectoryWatchParamsDraft::new(alloc)?;
+//! params.set_watcher_client(&mut table, WatcherClient::new(alloc, watcher))?;
+//! directory.watch(client, params, table)?;
+//! ```
+//!
+//! # Without a schema
+//!
+//! An object may be a `Servant` itself, which takes requests as they come. A `Content` is the struct of its results, or of a
+//! call's params, with the capabilities that it names. Each call adds a data word, or a pointer to a text, to data, to a
+//! capability or to any other part:
+//!
+//! ```
 //! impl Servant for Doubler {
 //!     fn call(&mut self, _ticket: u64, request: Request) -> Result<Reply, AllocError> {
 //!         let number = word_in(&request.content, 0).saturating_mul(2);
@@ -150,27 +272,11 @@
 //!         Ok(None)
 //!     }
 //! }
-//!
-//! fn main(rt: HostRuntime) -> anyhow::Result<()> {
-//!     let alloc = rt.alloc();
-//!     let mut objects: Vec<Box<dyn Servant>> = Vec::new(alloc);
-//!     objects.push(Box::new(alloc, Doubler { alloc })?)?;
-//!     let mut from = Tap::new(File::open(&rt, "client.bin")?);
-//!     let mut to = Tap::new(io::writer(&rt));
-//!     serve(alloc, &mut from, &mut to, &mut objects, Mode::Plain)?;
-//!     Ok(())
-//! }
 //! ```
 //!
-//! # Call an object
-//!
-//! A `Client` asks the peer behind a reader and a writer. This adds 41 to a Cell that isn't known yet, over a socket, in one
-//! round trip. The program example_call calls the object of example_serve, over a file or a socket:
+//! A client calls by numbers then. This adds 41 to a Cell that isn't known yet:
 //!
 //! ```
-//! let stream = TcpStream::connect(&rt, "127.0.0.1:7000")?;
-//! stream.set_nodelay(true)?;
-//! let mut client = Client::new(alloc, &stream, &stream, Mode::Plain, Limits::standard());
 //! let desk = client.bootstrap()?;
 //! let given = client.call(desk.cap(alloc), Content::new(alloc).request(DESK, 0))?;
 //! let add = Content::new(alloc).word(41)?.request(CELL, 0);
@@ -179,33 +285,8 @@
 //! println!(rt; "sum {}", word_at(&outcome, 0).unwrap_or(0))?;
 //! ```
 //!
-//! # Params and results, field by field
-//!
-//! A `Content` is the struct of a call's params, or of an object's results, with the capabilities that it names. Each
-//! call adds a data word, or a pointer to a text, to data, to a capability or to any other part:
-//!
-//! ```
-//! let params = Content::new(alloc).word(7)?.text("Carol")?.data(&key)?.cap(cell)?;
-//! let question = client.call(cap, params.request(INTERFACE, METHOD))?;
-//! let reply = Content::new(alloc).text("done")?.results();
-//! ```
-//!
 //! `word_in`, `text_in` and `data_in` are the fields of a content that came: a request's own, or the one of `results_of` an
-//! outcome. `Outcome::at` is the capability at a path of its pointers. Structs whose fields have other widths are made by the
-//! drafts that capnpc_rattle writes of a schema, and given as `Content::pointer` or as a request's own content.
-//!
-//! # Let objects answer while a client waits
-//!
-//! A peer may call what a call gave it. `Exports` holds such objects, of one type that implements `server::Servant`, or
-//! boxed ones of several. They answer while `Exports::wait` waits, in the place of `Client::wait`:
-//!
-//! ```
-//! let mut exports = Exports::new(alloc);
-//! let cell = exports.export(Cell::new(alloc))?;
-//! let now = Content::new(alloc).cap(cell)?.request(DESK, 0);
-//! let given = client.call(desk.cap(alloc), now)?;
-//! let outcome = exports.wait(&mut client, given)?;
-//! ```
+//! outcome. `Outcome::at` is the capability at a path of its pointers.
 //!
 //! # Store and load messages
 //!
@@ -255,7 +336,7 @@
 //! # The layers
 //!
 //! ```text
-//! words ── tree ─┬─ reading ── fields ── message ─┬─ vat ────┬─ server
+//! words ── tree ─┬─ reading ── fields ── message ─┬─ vat ────┬─ server, interfaces
 //!                └─ writing ──────────────────────┤          ├─ connection ── client
 //! packed ── frame ────────────────────────────────┴─ stream ─┴─ relay
 //! ```
@@ -264,7 +345,8 @@
 //! - `tree`: the values that a message holds, owned or with lent parts.
 //! - `reading`, `writing`: from segments to trees, in place or owned, and from trees to segments.
 //! - `packed`, `frame`: the packed form, and the frames of a stream in any pieces.
-//! - `fields`: the fields of any struct by their places, and `Past`, a number that only a newer schema knows.
+//! - `fields`, `drafts`: the fields of any struct by their places, read and written; `Past`, a number that only a newer
+//!   schema knows.
 //! - `message`: the messages of rpc.capnp, owned or read in place.
 //! - `stream`: messages read from and written to streams.
 //! - `relay`: one direction of a connection, and which of its messages go on.
@@ -272,8 +354,9 @@
 //! - `connection`: that end with its frames: bytes come in, bytes go out.
 //! - `server`: objects served to the peer of one connection.
 //! - `client`: the peer's objects called over one connection.
+//! - `interfaces`: objects and calls by the names of a schema.
 //!
-//! Each module but `vat`, `connection`, `server` and `client` is one crate, whole: `words` is cp_words, `message` is
+//! Each module but `vat`, `connection`, `server`, `client` and `interfaces` is one crate, whole: `words` is cp_words, `message` is
 //! cp_rpc, and any other has its crate's name. The names that most programs need are here too. `docs/PROVED.md` says what
 //! is proved of each.
 //!
@@ -286,9 +369,11 @@
 
 pub mod client;
 pub mod connection;
+pub mod interfaces;
 pub mod server;
 pub mod vat;
 
+pub use cp_drafts as drafts;
 pub use cp_fields as fields;
 pub use cp_frame as frame;
 pub use cp_frame::{FrameReader, Mode, send_frame};
