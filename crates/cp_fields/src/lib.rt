@@ -18,6 +18,7 @@ mod utf8;
 
 pub use bytes::DataView;
 pub use constant::{Constant, ConstantBody};
+pub use data::{bit_at, u16_at, u32_at, u64_at};
 pub use item::Item;
 pub use kind::{Kind, WrongKind};
 pub use list::{Items, List};

@@ -11,14 +11,14 @@ ghost use Rattle.cp_rpc.specs.Held.{IsSendResultsTo, IsCall};
 ghost use Rattle.cp_rpc.specs.Made.{send_results_to_number, third_party_made, call_made};
 ghost use Rattle.cp_tree.specs.DraftOf.{draft_of};
 
-use crate::data::{u16_at, u16_part, u32_at, u32_part, u64_at, u64_part};
+use crate::data::{u16_part, u32_part, u64_part};
 use crate::draft::{lent, null, triple_of};
 use crate::fault::{Field, SchemaFault};
 use crate::field::struct_field;
 use crate::payload::{Payload, PayloadView};
 use crate::source::Source;
 use crate::target::{Target, TargetView};
-use cp_fields::Past;
+use cp_fields::{Past, u16_at, u32_at, u64_at};
 use cp_tree::{Draft, Whole};
 use std::alloc::{AllocError, Global};
 

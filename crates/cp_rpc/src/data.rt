@@ -1,38 +1,7 @@
-//! The fields of a struct's data section (encoding specification, "Structs").
+//! What the fields of a struct's data section add to its words (encoding specification, "Structs").
 
 ghost use Rattle.std.specs.Prelude.{◌≡◌, ◌==◌, ◌<◌, ◌^◌};
-ghost use Rattle.cp_tree.specs.Elements.{element};
 ghost use Rattle.cp_rpc.specs.Made.{u16_part as u16_made, u32_part as u32_made, bit_part as bit_made};
-
-use cp_fields::StructView;
-
-/// The `index`-th number of 16 bits, counted from the section's start. What lies past its end is zero.
-pub(crate) fn u16_at(words: &[u64], index: u32) -> u16
-    ensures { result ≡ element words.now 16 index }
-{
-    StructView::of_data(words).u16(index)
-}
-
-/// The `index`-th number of 32 bits.
-pub(crate) fn u32_at(words: &[u64], index: u32) -> u32
-    ensures { result ≡ element words.now 32 index }
-{
-    StructView::of_data(words).u32(index)
-}
-
-/// The `index`-th number of 64 bits.
-pub(crate) fn u64_at(words: &[u64], index: u32) -> u64
-    ensures { result ≡ element words.now 64 index }
-{
-    StructView::of_data(words).u64(index)
-}
-
-/// The `index`-th bit.
-pub(crate) fn bit_at(words: &[u64], index: u32) -> bool
-    ensures { result ≡ (element words.now 1 index == 1) }
-{
-    StructView::of_data(words).bit(index)
-}
 
 /// What the `index`-th number of 16 bits adds to the word that it is in.
 pub(crate) fn u16_part(index: u32, number: u16) -> u64

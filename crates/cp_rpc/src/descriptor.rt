@@ -11,13 +11,13 @@ ghost use Rattle.cp_rpc.specs.Held.{IsDescriptor};
 ghost use Rattle.cp_rpc.specs.Made.{body_made, descriptor_number, descriptor_id, descriptor_pointer, descriptor_made};
 ghost use Rattle.cp_tree.specs.DraftOf.{draft_of, draft_body_of};
 
-use crate::data::{u16_at, u16_part, u32_at, u32_part};
+use crate::data::{u16_part, u32_part};
 use crate::draft::{body_of, lent, null};
 use crate::fault::{Field, SchemaFault};
 use crate::field::struct_field;
 use crate::promised_answer::{PromisedAnswer, PromisedAnswerView};
 use crate::source::Source;
-use cp_fields::Past;
+use cp_fields::{Past, u16_at, u32_at};
 use cp_tree::{Draft, DraftBody, Whole};
 use std::alloc::{AllocError, Global};
 

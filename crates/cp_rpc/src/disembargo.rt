@@ -10,13 +10,13 @@ ghost use Rattle.cp_rpc.specs.Held.{IsContext, IsDisembargo};
 ghost use Rattle.cp_rpc.specs.Made.{context_number, context_id, disembargo_made};
 ghost use Rattle.cp_tree.specs.DraftOf.{draft_of};
 
-use crate::data::{u16_at, u16_part, u32_at, u32_part};
+use crate::data::{u16_part, u32_part};
 use crate::draft::struct_of;
 use crate::fault::{Field, SchemaFault};
 use crate::field::struct_field;
 use crate::source::Source;
 use crate::target::{Target, TargetView};
-use cp_fields::Past;
+use cp_fields::{Past, u16_at, u32_at};
 use cp_tree::Draft;
 use std::alloc::{AllocError, Global};
 

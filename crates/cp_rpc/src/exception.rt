@@ -11,13 +11,13 @@ ghost use Rattle.cp_rpc.specs.Held.{IsKind, IsException};
 ghost use Rattle.cp_rpc.specs.Made.{kind_number, exception_made};
 ghost use Rattle.cp_tree.specs.DraftOf.{draft_of};
 
-use crate::data::{u16_at, u16_part};
+use crate::data::u16_part;
 use crate::draft::pair_of;
 use crate::fault::{Field, SchemaFault};
 use crate::field::text_field;
 use crate::source::Source;
 use crate::text::{Text, TextView};
-use cp_fields::Past;
+use cp_fields::{Past, u16_at};
 use cp_tree::Draft;
 use std::alloc::{AllocError, Global};
 use std::fmt;

@@ -14,7 +14,7 @@ ghost use Rattle.cp_rpc.specs.Made.{message_number, member_made, message_made};
 ghost use Rattle.cp_tree.specs.DraftOf.{draft_of};
 
 use crate::call::{Call, CallView};
-use crate::data::{u16_at, u16_part};
+use crate::data::u16_part;
 use crate::disembargo::{Disembargo, DisembargoView};
 use crate::draft::{lent, struct_of};
 use crate::exception::{Exception, ExceptionView};
@@ -24,6 +24,7 @@ use crate::resolve::{Resolve, ResolveView};
 use crate::returned::{Return, ReturnView};
 use crate::small::{Bootstrap, Finish, Release};
 use crate::source::Source;
+use cp_fields::u16_at;
 use cp_reading::View;
 use cp_tree::{Draft, Whole};
 use std::alloc::{AllocError, Global};

@@ -13,12 +13,12 @@ ghost use Rattle.cp_rpc.specs.Made.{body_made, op_number, op_field, op_made, tra
 ghost use Rattle.cp_rpc.specs.Told.{told_promised_answer};
 ghost use Rattle.cp_rpc.specs.declared.promised_answer.Op.{Op};
 
-use crate::data::{u16_at, u16_part, u32_at, u32_part};
+use crate::data::{u16_part, u32_part};
 use crate::draft::{list_of, null, struct_of, words_of};
 use crate::fault::{Field, SchemaFault};
 use crate::field::{item_count, list_field};
 use crate::source::Source;
-use cp_fields::Past;
+use cp_fields::{Past, u16_at, u32_at};
 use cp_tree::{Draft, DraftBody};
 use std::alloc::{AllocError, Global};
 use std::marker::Model;

@@ -11,14 +11,14 @@ ghost use Rattle.cp_rpc.specs.Held.{IsResolution, IsResolve};
 ghost use Rattle.cp_rpc.specs.Made.{resolution_number, resolution_pointer, resolve_made};
 ghost use Rattle.cp_tree.specs.DraftOf.{draft_of};
 
-use crate::data::{u16_at, u16_part, u32_at, u32_part};
+use crate::data::{u16_part, u32_part};
 use crate::descriptor::{Descriptor, DescriptorView};
 use crate::draft::{null, struct_of};
 use crate::exception::{Exception, ExceptionView};
 use crate::fault::{Field, SchemaFault};
 use crate::field::struct_field;
 use crate::source::Source;
-use cp_fields::Past;
+use cp_fields::{Past, u16_at, u32_at};
 use cp_tree::Draft;
 use std::alloc::{AllocError, Global};
 

@@ -11,14 +11,14 @@ ghost use Rattle.cp_rpc.specs.Held.{IsReturned, IsReturn};
 ghost use Rattle.cp_rpc.specs.Made.{returned_number, returned_question, returned_pointer, return_made};
 ghost use Rattle.cp_tree.specs.DraftOf.{draft_of};
 
-use crate::data::{bit_at, bit_part, u16_at, u16_part, u32_at, u32_part};
+use crate::data::{bit_part, u16_part, u32_part};
 use crate::draft::{lent, null, struct_of};
 use crate::exception::{Exception, ExceptionView};
 use crate::fault::{Field, SchemaFault};
 use crate::field::struct_field;
 use crate::payload::{Payload, PayloadView};
 use crate::source::Source;
-use cp_fields::Past;
+use cp_fields::{Past, bit_at, u16_at, u32_at};
 use cp_tree::{Draft, Whole};
 use std::alloc::{AllocError, Global};
 

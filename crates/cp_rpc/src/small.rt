@@ -6,8 +6,9 @@ ghost use Rattle.cp_rpc.specs.Said.{bootstrap_said, finish_said, release_said};
 ghost use Rattle.cp_rpc.specs.Held.{IsBootstrap, IsFinish, IsRelease};
 ghost use Rattle.cp_rpc.specs.Made.{bootstrap_made, finish_made, release_made};
 
-use crate::data::{bit_at, bit_part, u32_at, u32_part};
+use crate::data::{bit_part, u32_part};
 use crate::draft::{null, struct_of, words_of};
+use cp_fields::{bit_at, u32_at};
 use cp_tree::Draft;
 use std::alloc::{AllocError, Global};
 
