@@ -1,6 +1,6 @@
 #!/usr/bin/env bash
 # tools/generated.sh    whether capnpc_rattle writes again what is kept: cp_schemas, of the request in crates/capnpc_rattle/stdin, and
-#                       addressbook and store, of their schemas, where `capnp` is installed. A plugin that isn't built runs unproved, by `rt try`.
+#                       addressbook, directory and store, of their schemas, where `capnp` is installed. A plugin that isn't built runs unproved, by `rt try`.
 #
 # The request is what `capnp compile -o-` printed of the schema.capnp that the reference library has beside it (0.9.2).
 set -eu
@@ -37,9 +37,11 @@ if command -v capnp >/dev/null; then
     (cd "$root/crates/addressbook" && capnp compile -o- addressbook.capnp) >"$room/request"
     generate "$room/request" --drafts
     compare addressbook
-    (cd "$root/crates/store" && capnp compile -o- store.capnp) >"$room/request"
-    generate "$room/request" --interfaces
-    compare store
+    for it in directory store; do
+        (cd "$root/crates/$it" && capnp compile -o- "$it.capnp") >"$room/request"
+        generate "$room/request" --interfaces
+        compare "$it"
+    done
 fi
 [ "$differ" -eq 0 ] || fail "the plugin writes otherwise than what is kept, as shown above"
 say "the plugin writes again what is kept"

@@ -1,0 +1,33 @@
+//! A watcher with a relation of its own.
+
+use cp_stubs::{Answer, Call, MethodFault, Object, StreamResultDraft};
+use directory::{WatcherAddedParamsView, WatcherServer};
+use std::alloc::Global;
+
+/// Counts of whom it is told.
+#[derive(Drop)]
+pub struct Counter {
+    pub alloc: Global,
+    pub count: u64,
+}
+
+impl Object for Counter {}
+
+impl WatcherServer for Counter {
+    ghost use Rattle.cp_tree.specs.Seen.{pointee_of};
+    ghost use Rattle.cp_fields.specs.Pointers.{struct_field};
+    ghost use Rattle.test_stubs.specs.Counter.{Counts};
+
+    ghost added_gives = { λ old call params reply new. Counts old.count (struct_field (pointee_of params 0)) new.count };
+
+    fn added(
+        &mut self,
+        _call: &Call,
+        params: &WatcherAddedParamsView<'_>,
+    ) -> Result<Answer<StreamResultDraft>, MethodFault> {
+        let _person = params.person()?;
+        self.count = self.count.saturating_add(1);
+        let results = StreamResultDraft::new(self.alloc)?;
+        Ok(Answer::of(self.alloc, results))
+    }
+}
