@@ -1,10 +1,8 @@
 -- What the parts of a vat do, as a rule on the state that they are.
 use Rattle.std.specs.Prelude.{List, Result}
-use Rattle.cp_rpc.specs.declared.disembargo.Disembargo.{Disembargo}
 use Rattle.cp_vat_machine.specs.State.{State}
 use Rattle.cp_vat_machine.specs.Then.{Done}
 use Rattle.cp_vat_machine.specs.Calling.{OwnDone}
-use Rattle.cp_vat_machine.specs.Resolving.{OnDisembargo}
 use Rattle.cp_vat_machine.specs.declared.effect.Effect.{Effect}
 use Rattle.cp_vat_machine.specs.declared.event.Value.{Value}
 use Rattle.cp_vat_machine.specs.declared.fault.PeerFault.{PeerFault}
@@ -18,10 +16,6 @@ use Rattle.cp_vat.specs.Stepping.{Calls}
 -- they act by a rule
 abbrev pub ActsOn : (State → Result Done PeerFault → Type 0) → Core → Result (Unit {0}) Halt → List Effect → List Effect → Core → Type 0
 ActsOn Rule old result before after new = Acts (Rule (state_of old)) result before after (state_of new)
-
--- what a Disembargo does
-abbrev pub Disembargoes : State → Disembargo → Result Done PeerFault → Type 0
-Disembargoes s message = OnDisembargo s message.context message.target
 
 module _ {A : Type 0} where
   -- they do a call of the application by a rule

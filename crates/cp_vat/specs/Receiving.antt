@@ -1,6 +1,7 @@
 -- What is left to do of a Call or a Return, once it was checked.
 use Rattle.std.specs.Prelude.{◌≡◌, ℕ, Bool, [], Option, Result, Ok, Err}
 use Rattle.cp_tree.specs.Node.{Node}
+use Rattle.cp_rpc.specs.declared.call.Call.{Call}
 use Rattle.cp_rpc.specs.declared.returned.Return.{Return}
 use Rattle.cp_rpc.specs.declared.returned.Returned.{Returned}
 use Rattle.cp_rpc.specs.declared.target.Target.{Target}
@@ -30,10 +31,13 @@ Begins old r (Ok (rests.Settle forwards)) new =
 Begins old r (Err (halts.Fault fault)) new = OnReturn old r (Err fault)
 Begins old r (Err halts.OutOfMemory) new = Unit {0}
 
--- so whatever the Return of this question says was returned
+-- the Return of a question that bears this
+abbrev pub bears : ℕ → Bool → Returned → Return
+bears id release_param_caps returned = record { answer_id = id; release_param_caps = release_param_caps; returned = returned }
+
+-- so whatever the Return of this question bears
 abbrev pub BeginsReturn : State → ℕ → Bool → Result Rest Halt → State → Type 0
-BeginsReturn old id release_param_caps result new =
-    (returned : Returned) → Begins old (record { answer_id = id; release_param_caps = release_param_caps; returned = returned }) result new
+BeginsReturn old id release_param_caps result new = (returned : Returned) → Begins old (bears id release_param_caps returned) result new
 
 -- This holds within an event, with a call in hand or with none.
 abbrev pub HoldsWithin : State → Type 0
@@ -51,3 +55,7 @@ Leads s target route = LeadsBy (λ call out. GoToTarget s call target out) s rou
 abbrev pub Carries : Route → Node → Node → Type 0
 Carries (routes.Fail x) t carried = Unit {0}
 Carries route t carried = carried ≡ t
+
+-- a Call with the content that comes beside it
+abbrev pub with_content : Call → Node → Call
+with_content c t = record c { params = record c.params { content = t } }

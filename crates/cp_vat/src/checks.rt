@@ -1,13 +1,11 @@
 //! What a message is checked for before it changes anything.
 
 ghost use Rattle.std.specs.Prelude.{◌≡◌};
-ghost use Rattle.cp_rpc.specs.Told.{told_call, told_target};
 ghost use Rattle.cp_vat_machine.specs.Answering.{call_faults, target_faults};
 ghost use Rattle.cp_vat_state.specs.StateOf.{state_of};
 ghost use Rattle.cp_vat.specs.Judging.{judged};
 
-use cp_reading::View;
-use cp_rpc::{Call, CallView, Target, TargetView};
+use cp_rpc::{Call, Target};
 use cp_tables::LIMIT;
 use cp_vat_machine::PeerFault;
 use cp_vat_rules::take::answer_of;
@@ -45,40 +43,5 @@ pub(crate) fn check_target(core: &Core, target: &Target) -> Result<(), PeerFault
             Ok(())
         }
         Target::Unknown(_) => Ok(()),
-    }
-}
-
-/// The first fault of a Call that is read in place.
-pub(crate) fn check_call_view(core: &Core, call: &CallView<View>) -> Result<(), PeerFault>
-    ensures { result ≡ judged (call_faults (state_of core.now) (told_call (λ t. t) call.now)) }
-{
-    if core.answers.get(call.question_id).is_some() {
-        return Err(PeerFault::QuestionInUse);
-    }
-    check_target_view(core, &call.target)?;
-    if core.answers.len() >= LIMIT || !core.gates.has_ticket() {
-        return Err(PeerFault::TableFull);
-    }
-    Ok(())
-}
-
-/// The fault of a target that is read in place.
-pub(crate) fn check_target_view(core: &Core, target: &TargetView<View>) -> Result<(), PeerFault>
-    ensures { result ≡ judged (target_faults (state_of core.now) (told_target (λ t. t) target.now)) }
-{
-    match target {
-        TargetView::ImportedCap(id) => {
-            if core.exports.get(*id).is_none() {
-                return Err(PeerFault::UnknownExport);
-            }
-            Ok(())
-        }
-        TargetView::PromisedAnswer(answer) => {
-            if answer_of(core, answer.question_id).is_none() {
-                return Err(PeerFault::UnknownAnswer);
-            }
-            Ok(())
-        }
-        TargetView::Unknown(_) => Ok(()),
     }
 }

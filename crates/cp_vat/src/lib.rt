@@ -7,6 +7,7 @@ mod answering;
 mod asking;
 mod calling;
 mod checks;
+mod content;
 mod ending;
 mod giving_up;
 mod going;

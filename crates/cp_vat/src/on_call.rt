@@ -6,38 +6,46 @@ ghost use Rattle.cp_vat_machine.specs.Answering.{GoToAnswer, GoToExport, OnCall,
 ghost use Rattle.cp_vat_machine.specs.Local.{Local};
 ghost use Rattle.cp_vat_machine.specs.Take.{answer_of};
 ghost use Rattle.cp_vat_machine.specs.Supported.{is_supported, is_supported_target};
-ghost use Rattle.cp_rpc.specs.Told.{told_call, told_target};
+ghost use Rattle.cp_rpc.specs.Told.{told_call};
 ghost use Rattle.cp_rpc.specs.declared.message.Message.TheVariants as messages;
 ghost use Rattle.cp_vat_state.specs.Halts.{Acts, OnlyAllocationFails};
 ghost use Rattle.cp_vat_state.specs.StateOf.{state_of};
-ghost use Rattle.cp_vat.specs.Receiving.{Carries, HoldsWithin, Leads, LeadsBy};
+ghost use Rattle.cp_vat.specs.Receiving.{Carries, HoldsWithin, Leads, LeadsBy, with_content};
 
-use crate::checks::{check_call, check_call_view};
+use crate::checks::check_call;
+use crate::content::Content;
 use crate::on_bootstrap::open_answer;
 use cp_reading::View;
 use cp_refs::{Gate, Origin, Path, Request, Route};
-use cp_rpc::{Call, CallView, Payload, Target, TargetView};
+use cp_rpc::{Call, CallView, Payload, Target};
 use cp_tree::Whole;
 use cp_vat_machine::Effect;
 use cp_vat_rules::go::{Underway, go};
-use cp_vat_rules::promised::{path_of, path_of_view};
-use cp_vat_rules::take::{answer_of, take_all, take_all_view};
+use cp_vat_rules::promised::path_of;
+use cp_vat_rules::take::{answer_of, take_all};
 use cp_vat_state::{Core, Halt};
 use std::alloc::{AllocError, Global};
 
 /// A Call's capability table is taken in, it opens an answer and has the next ticket, and goes by its
-/// target's route.
-pub(crate) fn on_call(core: &mut Core, call: Call, effects: &mut Vec<Effect>) -> Result<(), Halt>
+/// target's route. Its content comes beside it. One that is read in place is made last, once it is known
+/// where the call goes.
+pub(crate) fn on_call<C: Content>(
+    core: &mut Core,
+    call: Call,
+    content: C,
+    effects: &mut Vec<Effect>,
+) -> Result<(), Halt>
     requires supported { is_supported (messages.Call call) ≡ true }
     requires local { Local (state_of core.old) }
-    ensures { Acts (OnCall (state_of core.old) call) result effects.old.items effects.new.items (state_of core.new) }
+    ensures { Acts (OnCall (state_of core.old) (with_content call (C.seen content))) result effects.old.items effects.new.items (state_of core.new) }
 {
     if let Err(fault) = check_call(core, &call) {
         return Err(Halt::Fault(fault));
     }
-    let Payload { content, cap_table } = call.params;
-    let caps = take_all(core, cap_table.descriptors())?;
+    let caps = take_all(core, call.params.cap_table.descriptors())?;
     let ticket = enter(core, call.question_id)?;
+    let route = route_to(core, &call.target)?;
+    let content = content_for(core.alloc, &route, content)?;
     let underway = Underway {
         ticket,
         origin: Origin::Answer(call.question_id),
@@ -48,48 +56,33 @@ pub(crate) fn on_call(core: &mut Core, call: Call, effects: &mut Vec<Effect>) ->
             caps,
         },
     };
-    let route = route_to(core, &call.target)?;
     go(core, underway, route, effects)
 }
 
-/// The same of a Call that is read in place. Its content is made last: once its table was taken in, and it is
-/// known where the call goes.
-pub(crate) fn on_call_view(
-    core: &mut Core,
-    call: &CallView<View>,
-    effects: &mut Vec<Effect>,
-) -> Result<(), Halt>
-    requires supported { is_supported (messages.Call (told_call (λ t. t) call.now)) ≡ true }
-    requires local { Local (state_of core.old) }
-    ensures { Acts (OnCall (state_of core.old) (told_call (λ t. t) call.now)) result effects.old.items effects.new.items (state_of core.new) }
+/// A Call that is read in place, made but for its content.
+pub(crate) fn without_content(alloc: Global, call: &CallView<View>) -> Result<Call, AllocError>
+    ensures { IfOk result (λ c. with_content c call.now.params.content ≡ told_call (λ t. t) call.now) }
 {
-    if let Err(fault) = check_call_view(core, call) {
-        return Err(Halt::Fault(fault));
-    }
-    let caps = take_all_view(core, &call.params.cap_table)?;
-    let ticket = enter(core, call.question_id)?;
-    let route = route_to_view(core, &call.target)?;
-    let content = content_for(core.alloc, &route, &call.params.content)?;
-    let underway = Underway {
-        ticket,
-        origin: Origin::Answer(call.question_id),
-        request: Request {
-            interface: call.interface_id,
-            method: call.method_id,
-            content,
-            caps,
+    Ok(Call {
+        question_id: call.question_id,
+        method_id: call.method_id,
+        send_results_to: call.send_results_to.send_results_to(alloc)?,
+        interface_id: call.interface_id,
+        target: call.target.target(alloc)?,
+        params: Payload {
+            content: Whole::null(),
+            cap_table: call.params.cap_table.cap_table(alloc)?,
         },
-    };
-    go(core, underway, route, effects)
+    })
 }
 
 /// The content that a call carries which takes this route. One that fails needs none.
-fn content_for(alloc: Global, route: &Route, content: &View) -> Result<Whole, AllocError>
-    ensures { IfOk result (Carries route.now content.now) }
+fn content_for<C: Content>(alloc: Global, route: &Route, content: C) -> Result<Whole, AllocError>
+    ensures { IfOk result (Carries route.now (C.seen content)) }
 {
     match route {
         Route::Fail(_) => Ok(Whole::null()),
-        _ => content.tree(alloc),
+        _ => content.whole(alloc),
     }
 }
 
@@ -122,23 +115,6 @@ fn route_to(core: &Core, target: &Target) -> Result<Route, AllocError>
             route_to_answer(core, answer.question_id, path)
         }
         Target::Unknown(_) => unreachable!(),
-    }
-}
-
-/// The same of a target that is read in place.
-fn route_to_view(core: &Core, target: &TargetView<View>) -> Result<Route, AllocError>
-    requires within { HoldsWithin (state_of core.now) }
-    requires there { target_faults (state_of core.now) (told_target (λ t. t) target.now) ≡ [] }
-    requires supported { is_supported_target (told_target (λ t. t) target.now) ≡ true }
-    ensures { IfOk result (Leads (state_of core.now) (told_target (λ t. t) target.now)) }
-{
-    match target {
-        TargetView::ImportedCap(id) => route_to_export(core, *id),
-        TargetView::PromisedAnswer(answer) => {
-            let path = path_of_view(core.alloc, &answer.transform)?;
-            route_to_answer(core, answer.question_id, path)
-        }
-        TargetView::Unknown(_) => unreachable!(),
     }
 }
 

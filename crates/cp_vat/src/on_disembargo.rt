@@ -2,7 +2,6 @@
 
 ghost use Rattle.std.specs.Prelude.{◌≡◌, ◌≢◌, [], None, true};
 ghost use Rattle.std.specs.FinMap as map;
-ghost use Rattle.cp_rpc.specs.Told.{told_disembargo, told_target};
 ghost use Rattle.cp_refs.specs.Route.{HasRoute};
 ghost use Rattle.cp_vat_machine.specs.Answering.{target_faults};
 ghost use Rattle.cp_vat_machine.specs.Local.{Local};
@@ -11,15 +10,13 @@ ghost use Rattle.cp_vat_machine.specs.Take.{answer_of};
 ghost use Rattle.cp_vat_machine.specs.Supported.{is_supported_context, is_supported_target};
 ghost use Rattle.cp_vat_state.specs.Halts.{Acts, Quiet};
 ghost use Rattle.cp_vat_state.specs.StateOf.{state_of};
-ghost use Rattle.cp_vat.specs.Doing.{ActsOn, Disembargoes};
 
-use crate::checks::{check_target, check_target_view};
-use cp_reading::View;
+use crate::checks::check_target;
 use cp_refs::{Cap, Path};
-use cp_rpc::{Context, Disembargo, DisembargoView, Message, Target, TargetView};
+use cp_rpc::{Context, Disembargo, Message, Target};
 use cp_vat_machine::{Effect, PeerFault};
 use cp_vat_rules::come_to::come_to;
-use cp_vat_rules::promised::{path_of, path_of_view};
+use cp_vat_rules::promised::path_of;
 use cp_vat_rules::take::answer_of;
 use cp_vat_state::{Core, Gift, Halt};
 
@@ -40,29 +37,6 @@ pub(crate) fn on_disembargo(
                 return Err(Halt::Fault(fault));
             }
             echo_target(core, number, &message.target, effects)
-        }
-        Context::ReceiverLoopback(number) => end_embargo(core, number),
-        Context::Accept | Context::Provide(_) | Context::Unknown(_) => unreachable!(),
-    }
-}
-
-/// The same of a Disembargo that is read in place.
-pub(crate) fn on_disembargo_view(
-    core: &mut Core,
-    message: &DisembargoView<View>,
-    effects: &mut Vec<Effect>,
-) -> Result<(), Halt>
-    requires context { is_supported_context message.now.context ≡ true }
-    requires target { is_supported_target (told_target (λ t. t) message.now.target) ≡ true }
-    requires local { Local (state_of core.old) }
-    ensures { ActsOn (λ s. Disembargoes s (told_disembargo (λ t. t) message.now)) core.old result effects.old.items effects.new.items core.new }
-{
-    match message.context {
-        Context::SenderLoopback(number) => {
-            if let Err(fault) = check_target_view(core, &message.target) {
-                return Err(Halt::Fault(fault));
-            }
-            echo_target_view(core, number, &message.target, effects)
         }
         Context::ReceiverLoopback(number) => end_embargo(core, number),
         Context::Accept | Context::Provide(_) | Context::Unknown(_) => unreachable!(),
@@ -98,28 +72,6 @@ fn echo_target(
             echo_answer(core, number, answer.question_id, path, effects)
         }
         Target::Unknown(_) => unreachable!(),
-    }
-}
-
-/// The same of a target that is read in place.
-fn echo_target_view(
-    core: &mut Core,
-    number: u32,
-    target: &TargetView<View>,
-    effects: &mut Vec<Effect>,
-) -> Result<(), Halt>
-    requires supported { is_supported_target (told_target (λ t. t) target.now) ≡ true }
-    requires local { Local (state_of core.old) }
-    requires there { target_faults (state_of core.old) (told_target (λ t. t) target.now) ≡ [] }
-    ensures { Acts (EchoesTarget (state_of core.old) number (told_target (λ t. t) target.now)) result effects.old.items effects.new.items (state_of core.new) }
-{
-    match target {
-        TargetView::ImportedCap(id) => echo_export(core, number, *id, effects),
-        TargetView::PromisedAnswer(answer) => {
-            let path = path_of_view(core.alloc, &answer.transform)?;
-            echo_answer(core, number, answer.question_id, path, effects)
-        }
-        TargetView::Unknown(_) => unreachable!(),
     }
 }
 

@@ -2,7 +2,7 @@
 
 ghost use Rattle.std.specs.Prelude.{◌≡◌, true, option_to_list};
 ghost use Rattle.std.specs.FinMap as map;
-ghost use Rattle.cp_rpc.specs.Told.{told_resolution, told_resolve};
+ghost use Rattle.cp_rpc.specs.Told.{told_resolution};
 ghost use Rattle.cp_vat_machine.specs.Resolving.{OnResolve, TakeResolution, given_back, is_open_promise, release_of};
 ghost use Rattle.cp_vat_machine.specs.Supported.{is_supported_resolution};
 ghost use Rattle.cp_vat_state.specs.Halts.{Acts, Leaves};
@@ -10,11 +10,9 @@ ghost use Rattle.cp_vat_state.specs.StateOf.{state_of};
 
 use cp_reading::View;
 use cp_refs::Cap;
-use cp_rpc::{
-    Descriptor, DescriptorView, Message, Release, Resolution, ResolutionView, Resolve, ResolveView,
-};
+use cp_rpc::{Descriptor, DescriptorView, Message, Release, Resolution, ResolutionView, Resolve};
 use cp_vat_machine::{Effect, ImportKind, PeerFault};
-use cp_vat_rules::take::{take, take_view};
+use cp_vat_rules::take::take;
 use cp_vat_state::{Core, Halt};
 
 /// A Resolve says what an import came to. What that of an import names which isn't held any more is
@@ -39,30 +37,6 @@ pub(crate) fn on_resolve(
     }
     let value = take_resolution(core, message.resolution)?;
     core.values.put_import(id, Some(value))?;
-    Ok(())
-}
-
-/// The same of a Resolve that is read in place.
-pub(crate) fn on_resolve_view(
-    core: &mut Core,
-    message: &ResolveView<View>,
-    effects: &mut Vec<Effect>,
-) -> Result<(), Halt>
-    requires { is_supported_resolution (told_resolution (λ t. t) message.now.resolution) ≡ true }
-    ensures { Acts (OnResolve (state_of core.old) (told_resolve (λ t. t) message.now)) result effects.old.items effects.new.items (state_of core.new) }
-{
-    let id = message.promise_id;
-    let Some(import) = core.imports.get(id) else {
-        if let Some(export) = given_back_view(&message.resolution) {
-            effects.push(release_effect(export, 1))?;
-        }
-        return Ok(());
-    };
-    if !is_open_promise(core, id, import.kept) {
-        return Err(Halt::Fault(PeerFault::NotAnOpenPromise));
-    }
-    let cap = take_resolution_view(core, &message.resolution)?;
-    core.values.put_import(id, Some(cap))?;
     Ok(())
 }
 
@@ -116,17 +90,5 @@ fn take_resolution(core: &mut Core, resolution: Resolution) -> Result<Cap, Halt>
         Resolution::Cap(descriptor) => take(core, &descriptor),
         Resolution::Exception(exception) => Ok(Cap::Broken(exception)),
         Resolution::Unknown(_) => unreachable!(),
-    }
-}
-
-/// Takes in what an import was resolved to by a resolution that is read in place.
-fn take_resolution_view(core: &mut Core, resolution: &ResolutionView<View>) -> Result<Cap, Halt>
-    requires { is_supported_resolution (told_resolution (λ t. t) resolution.now) ≡ true }
-    ensures { Leaves (TakeResolution (state_of core.old) (told_resolution (λ t. t) resolution.now)) result (state_of core.new) }
-{
-    match resolution {
-        ResolutionView::Cap(descriptor) => take_view(core, descriptor),
-        ResolutionView::Exception(exception) => Ok(Cap::Broken(exception.exception(core.alloc)?)),
-        ResolutionView::Unknown(_) => unreachable!(),
     }
 }

@@ -1,7 +1,7 @@
 //! What a Return does.
 
 ghost use Rattle.std.specs.Prelude.{◌≡◌, Ok, true, if◌then◌else◌};
-ghost use Rattle.cp_rpc.specs.Told.{told_return, told_returned};
+ghost use Rattle.cp_rpc.specs.Told.{told_returned};
 ghost use Rattle.cp_rpc.specs.declared.returned.Returned.{Returned};
 ghost use Rattle.cp_vat_machine.specs.Local.{Local};
 ghost use Rattle.cp_vat_machine.specs.Asking.{OnReturn, Settles, TakeReturned, is_asked};
@@ -9,12 +9,12 @@ ghost use Rattle.cp_vat_machine.specs.Supported.{is_supported_returned};
 ghost use Rattle.cp_vat_machine.specs.Take.{lower};
 ghost use Rattle.cp_vat_state.specs.Halts.{Acts, Leaves, leaving};
 ghost use Rattle.cp_vat_state.specs.StateOf.{state_of};
-ghost use Rattle.cp_vat.specs.Receiving.{BeginsReturn};
+ghost use Rattle.cp_vat.specs.Receiving.{BeginsReturn, bears};
 ghost use Rattle.cp_vat.specs.Returning.{MaySettle};
 
 use cp_reading::View;
 use cp_refs::Outcome;
-use cp_rpc::{Return, ReturnView, Returned, ReturnedView};
+use cp_rpc::{Returned, ReturnedView};
 use cp_tables::Stage;
 use cp_vat_machine::{Effect, PeerFault};
 use cp_vat_rules::entry::remove_question;
@@ -22,7 +22,7 @@ use cp_vat_rules::give::give_answer;
 use cp_vat_rules::give_own::give_own;
 use cp_vat_rules::go::finish_effect;
 use cp_vat_rules::lower::lower;
-use cp_vat_rules::take::{take_all, take_all_view};
+use cp_vat_rules::take::take_all;
 use cp_vat_state::{Core, Exported, Halt};
 
 /// What is left to do of a Return.
@@ -33,40 +33,75 @@ enum Rest {
     Settle { forwards: Option<u32> },
 }
 
-/// A Return is taken in, unless the application finished the question.
-pub(crate) fn on_return(
+/// What a Return bears, owned or read in place.
+pub(crate) trait Bearing: Drop {
+    ghost told: { Self → Returned };
+
+    /// It is taken in as an outcome. Of one that is read in place a content or an exception is made once
+    /// nothing is at fault.
+    fn take_in(self, core: &mut Core) -> Result<Outcome, Halt>
+        requires { is_supported_returned (told self) ≡ true }
+        ensures { Leaves (TakeReturned (state_of core.old) (told self)) result (state_of core.new) };
+}
+
+/// What a Return bears is taken in, unless the application finished the question.
+pub(crate) fn on_return<B: Bearing>(
     core: &mut Core,
-    message: Return,
+    id: u32,
+    release_param_caps: bool,
+    bearing: B,
     effects: &mut Vec<Effect>,
 ) -> Result<(), Halt>
-    requires supported { is_supported_returned message.returned ≡ true }
+    requires supported { is_supported_returned (B.told bearing) ≡ true }
     requires local { Local (state_of core.old) }
-    ensures { Acts (OnReturn (state_of core.old) message) result effects.old.items effects.new.items (state_of core.new) }
+    ensures { Acts (OnReturn (state_of core.old) (bears id release_param_caps (B.told bearing))) result effects.old.items effects.new.items (state_of core.new) }
 {
-    match begin(core, message.answer_id, message.release_param_caps)? {
+    match begin(core, id, release_param_caps)? {
         Rest::Nothing => Ok(()),
         Rest::Settle { forwards } => {
-            let outcome = take_returned(core, message.returned)?;
-            settle(core, message.answer_id, forwards, outcome, effects)
+            let outcome = bearing.take_in(core)?;
+            settle(core, id, forwards, outcome, effects)
         }
     }
 }
 
-/// The same of a Return that is read in place.
-pub(crate) fn on_return_view(
-    core: &mut Core,
-    message: &ReturnView<View>,
-    effects: &mut Vec<Effect>,
-) -> Result<(), Halt>
-    requires supported { is_supported_returned (told_returned (λ t. t) message.now.returned) ≡ true }
-    requires local { Local (state_of core.old) }
-    ensures { Acts (OnReturn (state_of core.old) (told_return (λ t. t) message.now)) result effects.old.items effects.new.items (state_of core.new) }
-{
-    match begin(core, message.answer_id, message.release_param_caps)? {
-        Rest::Nothing => Ok(()),
-        Rest::Settle { forwards } => {
-            let outcome = take_returned_view(core, &message.returned)?;
-            settle(core, message.answer_id, forwards, outcome, effects)
+impl Bearing for Returned {
+    ghost told = { λ r. r };
+
+    fn take_in(self, core: &mut Core) -> Result<Outcome, Halt> {
+        match self {
+            Returned::Results(payload) => {
+                let caps = take_all(core, payload.cap_table.descriptors())?;
+                Ok(Outcome::Results {
+                    content: payload.content,
+                    caps,
+                })
+            }
+            Returned::Exception(exception) => Ok(Outcome::Failed(exception)),
+            Returned::Canceled => Ok(Outcome::Canceled),
+            _ => unreachable!(),
+        }
+    }
+}
+
+impl<'a> Bearing for &'a ReturnedView<View<'a>> {
+    ghost told = { λ r. told_returned (λ t. t) r.now };
+
+    fn take_in(self, core: &mut Core) -> Result<Outcome, Halt> {
+        match self {
+            ReturnedView::Results(payload) => {
+                let table = payload.cap_table.cap_table(core.alloc)?;
+                let caps = take_all(core, table.descriptors())?;
+                Ok(Outcome::Results {
+                    content: payload.content.tree(core.alloc)?,
+                    caps,
+                })
+            }
+            ReturnedView::Exception(exception) => {
+                Ok(Outcome::Failed(exception.exception(core.alloc)?))
+            }
+            ReturnedView::Canceled => Ok(Outcome::Canceled),
+            _ => unreachable!(),
         }
     }
 }
@@ -117,44 +152,6 @@ fn lower_if(is_asked_for: bool, exports: &mut Exported, ids: &[u32]) -> Result<(
         return lower(exports, ids);
     }
     Ok(())
-}
-
-/// Takes in what was returned as an outcome.
-fn take_returned(core: &mut Core, returned: Returned) -> Result<Outcome, Halt>
-    requires { is_supported_returned returned ≡ true }
-    ensures { Leaves (TakeReturned (state_of core.old) returned) result (state_of core.new) }
-{
-    match returned {
-        Returned::Results(payload) => {
-            let caps = take_all(core, payload.cap_table.descriptors())?;
-            Ok(Outcome::Results {
-                content: payload.content,
-                caps,
-            })
-        }
-        Returned::Exception(exception) => Ok(Outcome::Failed(exception)),
-        Returned::Canceled => Ok(Outcome::Canceled),
-        _ => unreachable!(),
-    }
-}
-
-/// The same of what is read in place. A content or an exception is made once nothing is at fault.
-fn take_returned_view(core: &mut Core, returned: &ReturnedView<View>) -> Result<Outcome, Halt>
-    requires { is_supported_returned (told_returned (λ t. t) returned.now) ≡ true }
-    ensures { Leaves (TakeReturned (state_of core.old) (told_returned (λ t. t) returned.now)) result (state_of core.new) }
-{
-    match returned {
-        ReturnedView::Results(payload) => {
-            let caps = take_all_view(core, &payload.cap_table)?;
-            Ok(Outcome::Results {
-                content: payload.content.tree(core.alloc)?,
-                caps,
-            })
-        }
-        ReturnedView::Exception(exception) => Ok(Outcome::Failed(exception.exception(core.alloc)?)),
-        ReturnedView::Canceled => Ok(Outcome::Canceled),
-        _ => unreachable!(),
-    }
 }
 
 /// Settles an own question. One that forwards a call of the peer's is finished, and answers that call.

@@ -10,17 +10,19 @@ ghost use Rattle.cp_vat_state.specs.Halts.{Acts};
 ghost use Rattle.cp_vat_state.specs.StateOf.{state_of};
 
 use crate::on_bootstrap::on_bootstrap;
-use crate::on_call::{on_call, on_call_view};
-use crate::on_disembargo::{on_disembargo, on_disembargo_view};
+use crate::on_call::{on_call, without_content};
+use crate::on_disembargo::on_disembargo;
 use crate::on_finish::{on_finish, on_release};
-use crate::on_resolve::{on_resolve, on_resolve_view};
-use crate::on_return::{on_return, on_return_view};
+use crate::on_resolve::on_resolve;
+use crate::on_return::on_return;
 use crate::on_unimplemented::{echo, on_unimplemented, on_unimplemented_view};
 use crate::sizes::{message_fits, message_fits_view};
 use crate::supported::{is_supported, is_supported_view};
 use cp_rpc::{Exception, Message, MessageIn, MessageView};
+use cp_tree::Whole;
 use cp_vat_machine::{Effect, PeerFault, Reason};
 use cp_vat_state::{Core, Halt};
+use std::mem;
 
 /// A message that isn't supported is sent back. Of another one the sizes are looked at, and then it is
 /// acted on.
@@ -41,8 +43,8 @@ pub(crate) fn receive(
     act_on(core, message, effects)
 }
 
-/// The same of a message that is read in place. Of its parts those are made that are kept or sent, once
-/// nothing is at fault. One that isn't supported is made, since it is sent back.
+/// The same of a message that is read in place, which is looked at in its view first. One that isn't
+/// supported is made, since it is sent back.
 pub(crate) fn receive_view(
     core: &mut Core,
     message: &MessageView,
@@ -69,8 +71,14 @@ fn act_on(core: &mut Core, message: Message, effects: &mut Vec<Effect>) -> Resul
     match message {
         Message::Unimplemented(tree) => on_unimplemented(core, tree),
         Message::Abort(exception) => on_abort(core, exception, effects),
-        Message::Call(call) => on_call(core, call, effects),
-        Message::Return(message) => on_return(core, message, effects),
+        Message::Call(mut call) => {
+            let content = mem::replace(&mut call.params.content, Whole::null());
+            on_call(core, call, content, effects)
+        }
+        Message::Return(message) => {
+            let release = message.release_param_caps;
+            on_return(core, message.answer_id, release, message.returned, effects)
+        }
         Message::Finish(finish) => on_finish(core, finish),
         Message::Resolve(resolve) => on_resolve(core, resolve, effects),
         Message::Release(release) => on_release(core, release),
@@ -80,7 +88,8 @@ fn act_on(core: &mut Core, message: Message, effects: &mut Vec<Effect>) -> Resul
     }
 }
 
-/// What a message that is read in place does, by its member.
+/// The same of a message that is read in place. Its small parts are made here, since they are within the
+/// vat's sizes. Contents are made where they are kept or sent.
 fn act_on_view(
     core: &mut Core,
     message: &MessageView,
@@ -96,13 +105,21 @@ fn act_on_view(
             let exception = exception.exception(core.alloc)?;
             on_abort(core, exception, effects)
         }
-        MessageIn::Call(call) => on_call_view(core, call, effects),
-        MessageIn::Return(message) => on_return_view(core, message, effects),
+        MessageIn::Call(call) => {
+            let content = call.params.content.again();
+            on_call(core, without_content(core.alloc, call)?, content, effects)
+        }
+        MessageIn::Return(message) => {
+            let release = message.release_param_caps;
+            on_return(core, message.answer_id, release, &message.returned, effects)
+        }
         MessageIn::Finish(finish) => on_finish(core, *finish),
-        MessageIn::Resolve(resolve) => on_resolve_view(core, resolve, effects),
+        MessageIn::Resolve(resolve) => on_resolve(core, resolve.resolve(core.alloc)?, effects),
         MessageIn::Release(release) => on_release(core, *release),
         MessageIn::Bootstrap(bootstrap) => on_bootstrap(core, bootstrap.question_id, effects),
-        MessageIn::Disembargo(disembargo) => on_disembargo_view(core, disembargo, effects),
+        MessageIn::Disembargo(disembargo) => {
+            on_disembargo(core, &disembargo.disembargo(core.alloc)?, effects)
+        }
         MessageIn::Other { .. } => unreachable!(),
     }
 }

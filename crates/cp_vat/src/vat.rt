@@ -118,8 +118,9 @@ impl Vat {
         end_message(&mut self.core, done, effects)
     }
 
-    /// Takes in a message of the peer's that is read in place. A tree or a text of it is made only for an
-    /// effect, a waiting call or a kept outcome, and after the message was checked.
+    /// Takes in a message of the peer's that is read in place. A tree of it is made only for an effect, a
+    /// waiting call or a kept outcome, and after the message was checked. Its table, target and texts are
+    /// made once they are known to be within the vat's sizes.
     pub fn receive_view(&mut self, message: MessageView) -> Result<Acted<()>, VatFault>
         ensures step { Step self.old (events.Receive (told message.entry)) (answered (λ _. values.Nothing) result) (effects_of result) self.new }
         ensures writable { AreWritable (effects_of result) }
