@@ -4,9 +4,8 @@ ghost use Rattle.std.specs.Prelude.{◌≡◌, IfOk};
 ghost use Rattle.cp_vat_machine.specs.Say.{promised};
 ghost use Rattle.cp_vat_machine.specs.Take.{path_of};
 
-use cp_reading::View;
 use cp_refs::Path;
-use cp_rpc::{Op, PromisedAnswer, Transform, TransformView};
+use cp_rpc::{Op, PromisedAnswer, Transform};
 use std::alloc::{AllocError, Global};
 
 /// What a question will give at a path, as the peer names it (rpc.capnp, `PromisedAnswer`).
@@ -35,19 +34,6 @@ pub fn path_of(alloc: Global, transform: &Transform) -> Result<Path, AllocError>
     for op in transform.ops() {
         if let Op::GetPointerField(field) = op {
             fields.push(*field)?;
-        }
-    }
-    Ok(Path::new(fields))
-}
-
-/// The same of a transform that is read in place.
-pub fn path_of_view(alloc: Global, transform: &TransformView<View>) -> Result<Path, AllocError>
-    ensures { IfOk result (λ path. path ≡ path_of transform.now) }
-{
-    let mut fields = Vec::new(alloc);
-    for i in 0..transform.len() {
-        if let Op::GetPointerField(field) = transform.op(i) {
-            fields.push(field)?;
         }
     }
     Ok(Path::new(fields))

@@ -3,17 +3,15 @@
 ghost use Rattle.std.specs.Prelude.{◌≡◌, Some, None, Ok, true, option_copied};
 ghost use Rattle.std.specs.List.{list_all};
 ghost use Rattle.std.specs.FinMap as map;
-ghost use Rattle.cp_rpc.specs.Told.{told_descriptor};
 ghost use Rattle.cp_vat_machine.specs.Then.{Then};
 ghost use Rattle.cp_vat_machine.specs.Supported.{is_supported_descriptor};
 ghost use Rattle.cp_vat_machine.specs.Take.{Take, TakeAll, TakeAnswer, answer_of, held_import, taken_export};
 ghost use Rattle.cp_vat_state.specs.Halts.{Becomes, Leaves};
 ghost use Rattle.cp_vat_state.specs.StateOf.{state_of};
 
-use crate::promised::{path_of, path_of_view};
-use cp_reading::View;
+use crate::promised::path_of;
 use cp_refs::{Cap, Caps, KeptOutcome, Path};
-use cp_rpc::{CapTableView, Descriptor, DescriptorView};
+use cp_rpc::Descriptor;
 use cp_tables::{LIMIT, Stage};
 use cp_vat_machine::{ImportKind, PeerFault, Tied};
 use cp_vat_state::{Core, Halt};
@@ -26,19 +24,6 @@ pub fn take_all(core: &mut Core, table: &[Descriptor]) -> Result<Caps, Halt>
     let mut caps = Vec::with_capacity(core.alloc, table.len())?;
     for descriptor in table {
         caps.push(take(core, descriptor)?)?;
-    }
-    Ok(Caps::new(caps))
-}
-
-/// The same of a table that is read in place.
-pub fn take_all_view(core: &mut Core, table: &CapTableView<View>) -> Result<Caps, Halt>
-    requires { list_all is_supported_descriptor table.now ≡ true }
-    ensures { Leaves (TakeAll (state_of core.old) table.now) result (state_of core.new) }
-{
-    let count = table.len();
-    let mut caps = Vec::with_capacity(core.alloc, count)?;
-    for i in 0..count {
-        caps.push(take_view(core, &table.descriptor(i))?)?;
     }
     Ok(Caps::new(caps))
 }
@@ -59,24 +44,6 @@ pub fn take(core: &mut Core, descriptor: &Descriptor) -> Result<Cap, Halt>
             take_answer(core, answer.question_id, path)
         }
         Descriptor::ThirdPartyHosted(_) | Descriptor::Unknown(_) => unreachable!(),
-    }
-}
-
-/// The same of a descriptor that is read in place.
-pub fn take_view(core: &mut Core, descriptor: &DescriptorView<View>) -> Result<Cap, Halt>
-    requires { is_supported_descriptor (told_descriptor (λ t. t) descriptor.now) ≡ true }
-    ensures { Leaves (Take (state_of core.old) (told_descriptor (λ t. t) descriptor.now)) result (state_of core.new) }
-{
-    match descriptor {
-        DescriptorView::None => Ok(Cap::None),
-        DescriptorView::SenderHosted(id) => take_import(core, *id, ImportKind::Hosted),
-        DescriptorView::SenderPromise(id) => take_import(core, *id, ImportKind::Promise),
-        DescriptorView::ReceiverHosted(id) => take_export(core, *id),
-        DescriptorView::ReceiverAnswer(answer) => {
-            let path = path_of_view(core.alloc, &answer.transform)?;
-            take_answer(core, answer.question_id, path)
-        }
-        DescriptorView::ThirdPartyHosted(_) | DescriptorView::Unknown(_) => unreachable!(),
     }
 }
 
