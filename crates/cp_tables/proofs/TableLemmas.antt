@@ -1,5 +1,5 @@
 -- Slabs and ordered maps, seen as finite maps.
-use Rattle.std.proofs.Common.{◌≡◌, ◌≢◌, Less, IsSome, IfSome, inl, inr, MutBor, ℕ, zero, suc, ◌+◌, ◌<◌, ◌≤◌, List, [], ◌∷◌, Option, Some, None, Bool, true, false, cond, get_or, is_some, length, true≢false, refl, sym, ap, ◌∙◌, arith}
+use Rattle.std.proofs.Common.{◌≡◌, ◌≢◌, ◌⊎◌, Less, IsSome, IfSome, inl, inr, MutBor, ℕ, zero, suc, ◌+◌, ◌<◌, ◌≤◌, List, [], ◌∷◌, Option, Some, None, Bool, true, false, cond, get_or, is_some, length, true≢false, refl, sym, ap, ◌∙◌, arith}
 use Rattle.std.proofs.lemmas.Bool.{cases_eq}
 use Rattle.std.proofs.lemmas.Bool.Decides.{nat_tests}
 use Rattle.std.specs.Ordering.{nat_cmp, eq_by_cmp, is_eq}
@@ -42,6 +42,10 @@ at_most_one false = omega arith
 pub IsSome-lent : {X : Type 0} (o : Option (MutBor X)) → IsSome (option_copied_mut o) → IsSome o
 IsSome-lent None h = h
 IsSome-lent (Some r) h = refl
+
+-- the same is lent where the lender ends as the same, whatever is written
+pub lends_same : {N V R : Type 0} (name : N) (f g : V → R) → ((w : V) → f w ≡ g w) → ◌≡◌ {A = (N × (V → R)) ⊎ R} (inl (name, f)) (inl (name, g))
+lends_same name f g same = λ i. inl (name, λ w. same w i)
 
 -- the empty table lists nothing
 no_entries : {X : Type 0} → map.entries {R = nat_cmp} (map.empty {X = X}) ≡ []

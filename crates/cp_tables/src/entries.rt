@@ -75,10 +75,9 @@ impl<V> Entries<V> {
         ensures* writes_back { sem 𝓛 (LendsIf (the_row V.row) V.row self.entry result (map.insert self.entry.now id) self.entry.now) }
         ensures value { option_copied_mut result ≡ map.get self.old id }
     {
-        if self.contains(id) {
-            Some(self.entry_mut(id))
-        } else {
-            None
+        match self.entries.get_mut(&id) {
+            Some(entry) => Some(entry),
+            None => None,
         }
     }
 

@@ -2,7 +2,7 @@
 
 ghost use Rattle.std.specs.Prelude.{◌≡◌, ◌≢◌, ◌≤◌, ◌<◌, ◌+◌, ◌-◌, ◌↔◌, None, IsTrue, IsOk, IsSome, IsSomeAnd, MatchOption, OnOk, IsOkAnd, IsOkUnless, IsErrOf, OnErr, Some, option_copied};
 ghost use Rattle.std.specs.Option.{option_map, option_copied_mut};
-ghost use Rattle.std.specs.Borrow.{Lends, LendsIf, sem};
+ghost use Rattle.std.specs.Borrow.{LendsIf, sem};
 ghost use Rattle.std.specs.FinMap as map;
 
 use crate::LIMIT;
@@ -84,24 +84,14 @@ impl<T: Drop> Imports<T> {
         self.entries.ids()
     }
 
-    /// What is kept with the import under a number that has one, for writing.
-    fn kept_of(&mut self, id: u32) -> &mut T
-        requires { IsSome (map.get self.old id) }
-        ensures* writes_back { sem 𝓛 (Lends (the_row T.row) T.row self.entry result (with_kept self.entry.now id)) }
-        ensures value { option_map (λ entry. entry.kept) (map.get self.old id) ≡ Some result.now }
-    {
-        &mut self.entries.entry_mut(id).kept
-    }
-
     /// What is kept with the import under this number, for writing.
     pub fn kept_mut(&mut self, id: u32) -> Option<&mut T>
         ensures* writes_back { sem 𝓛 (LendsIf (the_row T.row) T.row self.entry result (with_kept self.entry.now id) self.entry.now) }
         ensures value { option_copied_mut result ≡ option_map (λ entry. entry.kept) (map.get self.old id) }
     {
-        if self.entries.contains(id) {
-            Some(self.kept_of(id))
-        } else {
-            None
+        match self.entries.get_mut(id) {
+            Some(entry) => Some(&mut entry.kept),
+            None => None,
         }
     }
 

@@ -2,7 +2,7 @@
 
 ghost use Rattle.std.specs.Prelude.{◌≡◌, ◌≢◌, ◌≤◌, ◌↔◌, Some, None, IsTrue, IsSome, OnOk, IsOkUnless, IsErrOf, OnErr, option_copied};
 ghost use Rattle.std.specs.Option.{option_copied_mut};
-ghost use Rattle.std.specs.Borrow.{Lends, LendsIf, sem};
+ghost use Rattle.std.specs.Borrow.{LendsIf, sem};
 ghost use Rattle.std.specs.FinMap as map;
 
 use crate::LIMIT;
@@ -72,23 +72,14 @@ impl<V> Keyed<V> {
         self.entries.keys()
     }
 
-    /// The entry under a number that has one, for writing.
-    pub(crate) fn entry_mut(&mut self, id: u32) -> &mut V
-        requires { IsSome (map.get self.old id) }
-        ensures* writes_back { sem 𝓛 (Lends (the_row V.row) V.row self.entry result (map.insert self.entry.now id)) }
-        ensures value { map.get self.old id ≡ Some result.now }
-    {
-        self.entries.get_mut(&id).unwrap()
-    }
-
+    /// The entry under a number, for writing.
     pub(crate) fn get_mut(&mut self, id: u32) -> Option<&mut V>
         ensures* writes_back { sem 𝓛 (LendsIf (the_row V.row) V.row self.entry result (map.insert self.entry.now id) self.entry.now) }
         ensures value { option_copied_mut result ≡ map.get self.old id }
     {
-        if self.contains(id) {
-            Some(self.entry_mut(id))
-        } else {
-            None
+        match self.entries.get_mut(&id) {
+            Some(entry) => Some(entry),
+            None => None,
         }
     }
 

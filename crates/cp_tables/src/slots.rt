@@ -1,8 +1,8 @@
 //! Entries under numbers that `slab` picks.
 
-ghost use Rattle.std.specs.Prelude.{◌≡◌, ◌≢◌, ◌≤◌, ◌↔◌, Some, None, IsTrue, IsSome, IfNone, IfOk, IsOkUnless, IsErrOf, OnErr, option_copied};
+ghost use Rattle.std.specs.Prelude.{◌≡◌, ◌≢◌, ◌≤◌, ◌↔◌, Some, None, IfNone, IfOk, IsOkUnless, IsErrOf, OnErr, option_copied};
 ghost use Rattle.std.specs.Option.{option_copied_mut};
-ghost use Rattle.std.specs.Borrow.{Lends, LendsIf, sem};
+ghost use Rattle.std.specs.Borrow.{LendsIf, sem};
 ghost use Rattle.std.specs.FinMap as map;
 
 use crate::LIMIT;
@@ -58,12 +58,6 @@ impl<V> Slots<V> {
         self.slab.get(id as usize)
     }
 
-    pub(crate) fn contains(&self, id: u32) -> bool
-        ensures { IsTrue result ↔ IsSome (map.get self.now id) }
-    {
-        self.slab.contains(id as usize)
-    }
-
     /// The entries with their numbers, rising.
     pub(crate) fn iter(&self) -> Iter<'_, V>
         ensures { result ≡ map.entries self.now }
@@ -71,23 +65,14 @@ impl<V> Slots<V> {
         self.slab.iter()
     }
 
-    /// The entry under a number that has one, for writing.
-    pub(crate) fn entry_mut(&mut self, id: u32) -> &mut V
-        requires { IsSome (map.get self.old id) }
-        ensures* writes_back { sem 𝓛 (Lends (the_row V.row) V.row self.entry result (map.insert self.entry.now id)) }
-        ensures value { map.get self.old id ≡ Some result.now }
-    {
-        &mut self.slab[id as usize]
-    }
-
+    /// The entry under a number, for writing.
     pub(crate) fn get_mut(&mut self, id: u32) -> Option<&mut V>
         ensures* writes_back { sem 𝓛 (LendsIf (the_row V.row) V.row self.entry result (map.insert self.entry.now id) self.entry.now) }
         ensures value { option_copied_mut result ≡ map.get self.old id }
     {
-        if self.contains(id) {
-            Some(self.entry_mut(id))
-        } else {
-            None
+        match self.slab.get_mut(id as usize) {
+            Some(entry) => Some(entry),
+            None => None,
         }
     }
 
