@@ -1,8 +1,8 @@
 //! Entries under numbers.
 
-ghost use Rattle.std.specs.Prelude.{◌≡◌, ◌↔◌, Some, None, IsTrue, IsSome, IfErr, OnOk, OnErr, option_copied};
+ghost use Rattle.std.specs.Prelude.{◌≡◌, IfErr, OnOk, OnErr, option_copied};
 ghost use Rattle.std.specs.Option.{option_copied_mut};
-ghost use Rattle.std.specs.Borrow.{Lends, LendsIf, sem};
+ghost use Rattle.std.specs.Borrow.{LendsIf, sem};
 ghost use Rattle.std.specs.FinMap as map;
 
 use std::alloc::{AllocFailed, Global};
@@ -45,12 +45,6 @@ impl<V> Entries<V> {
         self.entries.get(&id)
     }
 
-    pub(crate) fn contains(&self, id: u64) -> bool
-        ensures { IsTrue result ↔ IsSome (map.get self.now id) }
-    {
-        self.get(id).is_some()
-    }
-
     /// The entries with their numbers, rising.
     pub(crate) fn iter(&self) -> Iter<'_, u64, V>
         ensures { result ≡ map.entries self.now }
@@ -58,24 +52,14 @@ impl<V> Entries<V> {
         self.entries.iter()
     }
 
-    /// The entry under a number that has one, for writing.
-    pub(crate) fn entry_mut(&mut self, id: u64) -> &mut V
-        requires { IsSome (map.get self.old id) }
-        ensures* writes_back { sem 𝓛 (Lends (the_row V.row) V.row self.entry result (map.insert self.entry.now id)) }
-        ensures value { map.get self.old id ≡ Some result.now }
-    {
-        self.entries.get_mut(&id).unwrap()
-    }
-
     /// The entry under a number, for writing.
     pub(crate) fn get_mut(&mut self, id: u64) -> Option<&mut V>
         ensures* writes_back { sem 𝓛 (LendsIf (the_row V.row) V.row self.entry result (map.insert self.entry.now id) self.entry.now) }
         ensures value { option_copied_mut result ≡ map.get self.old id }
     {
-        if self.contains(id) {
-            Some(self.entry_mut(id))
-        } else {
-            None
+        match self.entries.get_mut(&id) {
+            Some(entry) => Some(entry),
+            None => None,
         }
     }
 
