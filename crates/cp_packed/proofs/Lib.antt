@@ -11,3 +11,4 @@ pub mod Sparing
 pub mod Decoded
 pub mod Bulks
 pub mod Blocks
+pub mod Putting

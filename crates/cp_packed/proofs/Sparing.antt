@@ -175,6 +175,13 @@ front_more old out new words left back h g = record {
   goes = λ b k. subst (λ (c : List ℕ). Spelt words c) (sym (append_assoc h.front (spelling g.group) b)) (h.goes (spelling g.group ++ b) (spelt_more g.group left back b g.is g.sparing g.longest g.gives k));
 }
 
+pub front_both : (old out new words left back : List ℕ) → PutsFront old out words left → PutsFront out new left back → PutsFront old new words back
+front_both old out new words left back h k = record {
+  front = h.front ++ k.front;
+  text = k.text ∙ ap (λ (c : List ℕ). c ++ k.front) h.text ∙ append_assoc old h.front k.front;
+  goes = λ b s. subst (λ (c : List ℕ). Spelt words c) (sym (append_assoc h.front k.front b)) (h.goes (k.front ++ b) (k.goes b s));
+}
+
 pub front_all : (old out words left : List ℕ) → PutsFront old out words left → length left ≡ 0 → PutsSpelt old out words
 front_all old out words [] h e = (h.front, subst (λ (c : List ℕ). Spelt words c) (append-nil h.front) (h.goes [] spelt_none), h.text)
 front_all old out words (w ∷ left) h e = absurd (omega (arith, e))

@@ -1,5 +1,5 @@
 -- Words written as packed bytes after others.
-use Rattle.std.specs.Prelude.{◌≡◌, ℕ, ◌==◌, if◌then◌else◌, List, ◌++◌, map, Option, Some, None}
+use Rattle.std.specs.Prelude.{◌≡◌, ◌⊎◌, ℕ, ◌*◌, ◌≤◌, ◌==◌, if◌then◌else◌, List, ◌++◌, map, Option, Some, None}
 use Rattle.cp_packed.specs.Packed.{Group, IsGroup, IsSparing, IsLongest, spelling, words_of, Spelt}
 
 -- a word's bytes, of which those that aren't zero are written
@@ -24,3 +24,7 @@ pub record PutsFront (old out words left : List ℕ) : Type 0 where
 -- the words were appended packed
 abbrev pub PutsSpelt : List ℕ → List ℕ → List ℕ → Type 0
 PutsSpelt old new words = (bytes : List ℕ) × Spelt words bytes × (new ≡ old ++ bytes)
+
+-- There is room for groups of this many words: of all that there are, or of the most that can be taken.
+abbrev pub HasRoom : ℕ → ℕ → ℕ → Type 0
+HasRoom room words most = (10 * words ≤ room) ⊎ (10 * most ≤ room)

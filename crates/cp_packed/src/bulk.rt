@@ -4,8 +4,8 @@ ghost use Rattle.std.specs.Prelude.{◌≡◌, ◌<◌, ◌-◌, IfOk, length, r
 ghost use Rattle.cp_packed.specs.Groups.{TakesGroups, IsAtEnd, FillsFront};
 
 use crate::group::header;
-use crate::packing::LONGEST;
 use crate::scatter::scattered;
+use crate::spelling::LONGEST;
 use crate::words::{reserve_words, take_in};
 use std::alloc::AllocError;
 

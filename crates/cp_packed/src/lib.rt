@@ -9,11 +9,14 @@ mod decoding;
 mod gather;
 mod group;
 mod packing;
+mod runs;
 mod scatter;
+mod spelling;
 mod words;
 
 pub use bulk::take_groups;
 pub use decoding::decode;
 pub use group::{OpenGroup, Run};
-pub use packing::{LONGEST, push_groups, push_packed, push_plain};
+pub use packing::{push_groups, push_packed, push_plain};
+pub use spelling::LONGEST;
 pub use words::{reserve_words, take_in, word_of};

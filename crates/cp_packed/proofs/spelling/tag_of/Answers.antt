@@ -1,7 +1,7 @@
 use Rattle.std.proofs.Common.{◌≡◌, ◌≤◌, ◌-◌, ◌^◌, ℕ, eqb, ap, subst, sym, length, ◌∙◌, arith, w8}
 use Rattle.std.proofs.lemmas.Simd.{bitmask_splat}
 use Rattle.cp_packed.proofs.Masks.{tag_mask}
-use Rattle.cp_packed.proofs.packing.tag_of.Goals as goal
+use Rattle.cp_packed.proofs.spelling.tag_of.Goals as goal
 
 pub returns : goal.returns
 returns c =

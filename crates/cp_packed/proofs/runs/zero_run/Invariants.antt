@@ -1,5 +1,5 @@
 use Rattle.std.proofs.Common.{◌≡◌, ◌≤◌, take, replicate}
-use Rattle.cp_packed.proofs.packing.zero_run.Given as goal
+use Rattle.cp_packed.proofs.runs.zero_run.Given as goal
 
 abbrev pub invariant-loop-place : goal.invariant-loop-place
 invariant-loop-place l = record {

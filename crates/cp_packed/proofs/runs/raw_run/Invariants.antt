@@ -1,7 +1,7 @@
 use Rattle.std.proofs.Common.{◌≤◌, take}
 use Rattle.std.specs.List.{AllByRecursion}
 use Rattle.cp_packed.specs.Packed.{zero_bytes}
-use Rattle.cp_packed.proofs.packing.raw_run.Given as goal
+use Rattle.cp_packed.proofs.runs.raw_run.Given as goal
 
 abbrev pub invariant-loop-place : goal.invariant-loop-place
 invariant-loop-place l = record {

@@ -2,7 +2,7 @@ use Rattle.std.proofs.Common.{ℕ, List, eqb, ap, ◌∙◌, count_by, arith, w8
 use lib.Count.{ones}
 use Rattle.std.proofs.lemmas.Simd.{bitmask_splat}
 use Rattle.cp_packed.proofs.Masks.{zeros_counted}
-use Rattle.cp_packed.proofs.packing.count_zeros.Goals as goal
+use Rattle.cp_packed.proofs.runs.count_zeros.Goals as goal
 
 pub returns : goal.returns
 returns c =

@@ -1,0 +1,50 @@
+//! How far a run of words goes.
+
+ghost use Rattle.std.specs.Prelude.{◌≡◌, ◌≤◌, ◌⊎◌, length, take, drop, replicate};
+ghost use Rattle.std.specs.List.{AllByRecursion};
+ghost use Rattle.cp_packed.specs.Packed.{StartsWithout, zero_bytes};
+
+use std::simd::prelude::*;
+
+/// How many words a run has at most after its first.
+pub const MOST: usize = 255;
+
+/// How many of these words a run of zero words takes after its first.
+pub fn zero_run(words: &[u64]) -> usize
+    ensures few { result ≤ 255 }
+    ensures within { result ≤ length words.now }
+    ensures zeros { take result words.now ≡ replicate result 0 }
+    ensures ends { (result ≡ 255) ⊎ StartsWithout (λ w. w ≡ 0) (drop result words.now) }
+{
+    for (place, word) in words.iter().enumerate() {
+        if place == MOST || *word != 0 {
+            return place;
+        }
+    }
+    words.len()
+}
+
+/// How many of these words a raw run takes after its first.
+pub fn raw_run(words: &[u64]) -> usize
+    ensures few { result ≤ 255 }
+    ensures within { result ≤ length words.now }
+    ensures full { AllByRecursion (λ w. zero_bytes w ≤ 1) (take result words.now) }
+    ensures ends { (result ≡ 255) ⊎ StartsWithout (λ w. zero_bytes w ≤ 1) (drop result words.now) }
+{
+    for (place, word) in words.iter().enumerate() {
+        if place == MOST || 1 < count_zeros(*word) {
+            return place;
+        }
+    }
+    words.len()
+}
+
+/// How many of a word's bytes are zero.
+fn count_zeros(word: u64) -> usize
+    ensures { result ≡ zero_bytes word }
+{
+    u8x8::from_array(word.to_le_bytes())
+        .simd_eq(u8x8::splat(0))
+        .to_bitmask()
+        .count_ones() as usize
+}
