@@ -12,3 +12,4 @@ pub mod Decoded
 pub mod Bulks
 pub mod Blocks
 pub mod Putting
+pub mod Extents

@@ -9,6 +9,9 @@ use std::simd::prelude::*;
 /// How many words a run has at most after its first.
 pub const MOST: usize = 255;
 
+/// How many words of a raw run are looked at in a row.
+const STEP: usize = 8;
+
 /// How many of these words a run of zero words takes after its first.
 pub fn zero_run(words: &[u64]) -> usize
     ensures few { result ≤ 255 }
@@ -31,8 +34,27 @@ pub fn raw_run(words: &[u64]) -> usize
     ensures full { AllByRecursion (λ w. zero_bytes w ≤ 1) (take result words.now) }
     ensures ends { (result ≡ 255) ⊎ StartsWithout (λ w. zero_bytes w ≤ 1) (drop result words.now) }
 {
+    let most = words.len().min(MOST);
+    let mut run = 0;
+    // Of a known number of words at a time, so that the loop over them is unrolled.
+    'counting: while run + STEP <= most {
+        let count = count_full(&words[run..run + STEP]);
+        run += count;
+        if count < STEP {
+            return run;
+        }
+    }
+    run + count_full(&words[run..most])
+}
+
+/// How many of these words have at most one byte that is zero, up to the first that has more.
+fn count_full(words: &[u64]) -> usize
+    ensures within { result ≤ length words.now }
+    ensures full { AllByRecursion (λ w. zero_bytes w ≤ 1) (take result words.now) }
+    ensures ends { StartsWithout (λ w. zero_bytes w ≤ 1) (drop result words.now) }
+{
     for (place, word) in words.iter().enumerate() {
-        if place == MOST || 1 < count_zeros(*word) {
+        if 1 < count_zeros(*word) {
             return place;
         }
     }

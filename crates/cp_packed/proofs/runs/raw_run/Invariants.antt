@@ -1,10 +1,13 @@
-use Rattle.std.proofs.Common.{◌≤◌, take}
+use Rattle.std.proofs.Common.{◌≤◌, ◌-◌, take}
 use Rattle.std.specs.List.{AllByRecursion}
 use Rattle.cp_packed.specs.Packed.{zero_bytes}
 use Rattle.cp_packed.proofs.runs.raw_run.Given as goal
 
-abbrev pub invariant-loop-place : goal.invariant-loop-place
-invariant-loop-place l = record {
-  few : l.place ≤ 255;
-  full : AllByRecursion (λ w. zero_bytes w ≤ 1) (take l.place l.words);
+abbrev pub invariant-counting : goal.invariant-counting
+invariant-counting l = record {
+  within : l.run ≤ l.most;
+  full : AllByRecursion (λ w. zero_bytes w ≤ 1) (take l.run l.words);
 }
+
+abbrev pub decreases-counting : goal.decreases-counting
+decreases-counting l = l.most - l.run
