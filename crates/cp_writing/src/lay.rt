@@ -2,15 +2,15 @@
 
 ghost use Rattle.std.specs.Prelude.{◌≡◌, ◌<◌, ◌+◌, ◌*◌, ◌^◌, [], length};
 ghost use Rattle.cp_tree.specs.Lent.{node_in, row_in, bodies_in};
-ghost use Rattle.cp_tree.specs.Node.{count, number_of, struct, structs, ptrs as pointers};
+ghost use Rattle.cp_tree.specs.Node.{count, number_of, null, struct, structs, ptrs as pointers};
 ghost use Rattle.cp_tree.specs.NodeOf.{nodes_of, bodies_of};
 ghost use Rattle.cp_tree.specs.Shaped.{Shaped, EachShaped, EachEven, HasSizes};
 ghost use Rattle.cp_writing.specs.Sheets.{written, IsWithin, IsPlace, IsRun, Appends, Places};
 ghost use Rattle.cp_writing.specs.Writing.{body_blank, bodies_blank, tag_word, structs_begun, Begins, BeginsBodies, LaysTree, LaysRow, LaysBodies};
 
-use crate::lay_list::{lay_list, place_list};
+use crate::lay_list::{lay_bytes, lay_list, place_list};
 use crate::sheet::Sheet;
-use cp_tree::{BodiesRef, RowRef, StructsRef, Top, TreeRef, WriteFault};
+use cp_tree::{BodiesRef, RowRef, StructsRef, Top, Tree, TreeRef, WriteFault};
 use cp_words::{ElementSize, Kind, Place, Pointer, encode};
 
 /// Lays out a tree whose pointer is at a place, if it nests no deeper than this many levels and costs
@@ -68,9 +68,37 @@ fn lay_row(sheet: &mut Sheet, first: Place, trees: RowRef, levels: u32) -> Resul
 {
     let mut at = first;
     for tree in trees {
-        lay(sheet, at, tree, levels)?;
+        lay_pointer(sheet, at, tree, levels)?;
         at.word += 1;
     }
+    Ok(())
+}
+
+/// Lays out a tree as `lay` does. Most pointers of a struct are null, or lead to a text or data: these go without a
+/// look at the other kinds.
+#[cycle(lay)]
+#[inline(always)]
+fn lay_pointer(sheet: &mut Sheet, at: Place, tree: TreeRef, levels: u32) -> Result<(), WriteFault>
+    requires keeps { IsWithin sheet.old }
+    requires there { IsPlace (written sheet.old) at }
+    requires shaped { Shaped (node_in tree) }
+    ensures { LaysTree sheet.old sheet.new levels result at (node_in tree.entry) }
+{
+    match tree {
+        TreeRef::Tree(Tree::Null) => lay_null(sheet, at, levels),
+        TreeRef::Tree(Tree::Bytes(items)) => lay_bytes(sheet, at, items, levels),
+        _ => lay(sheet, at, tree, levels),
+    }
+}
+
+/// Writes a null pointer, which nests and costs nothing.
+#[inline(always)]
+fn lay_null(sheet: &mut Sheet, at: Place, _levels: u32) -> Result<(), WriteFault>
+    requires keeps { IsWithin sheet.old }
+    requires there { IsPlace (written sheet.old) at }
+    ensures { LaysTree sheet.old sheet.new _levels result at null }
+{
+    sheet.put(at, 0);
     Ok(())
 }
 

@@ -35,6 +35,7 @@ pub(crate) fn lay_list(
 }
 
 /// Lays out a list's body, and gives where its elements are to be written.
+#[inline(always)]
 pub(crate) fn place_list(
     sheet: &mut Sheet,
     at: Place,
@@ -82,7 +83,12 @@ fn lay_bits(sheet: &mut Sheet, at: Place, items: &[bool], levels: u32) -> Result
 }
 
 /// Lays out bytes.
-fn lay_bytes(sheet: &mut Sheet, at: Place, items: &[u8], levels: u32) -> Result<(), WriteFault>
+pub(crate) fn lay_bytes(
+    sheet: &mut Sheet,
+    at: Place,
+    items: &[u8],
+    levels: u32,
+) -> Result<(), WriteFault>
     requires keeps { IsWithin sheet.old }
     requires there { IsPlace (written sheet.old) at }
     requires few { length items.now < 2 ^ 29 }

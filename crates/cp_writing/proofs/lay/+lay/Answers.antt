@@ -133,29 +133,29 @@ lay-returns-in_ok-first-in-Structs t c =
     bodies_hung c.args.sheet.now c.charge-in-Structs.new.self c.args.levels _ _ c.in_ok-below-in-Structs.ensures c.begin_structs.new.sheet bodies.new.sheet c.args.at c.in_ok-first-in-Structs.first bodies.result _
     list.words list.ptrs (bodies_of (bodies_in list.items)) (sym c.in-Structs.ensures) c.in_ok-first-in-Structs.ensures (omega (arith, price)) bodies.ensures
 
-pub lay_row-lay-requires : goal.lay_row-lay-requires
-lay_row-lay-requires t c =
+pub lay_row-lay_pointer-requires : goal.lay_row-lay_pointer-requires
+lay_row-lay_pointer-requires t c =
     let l = c.loop-tree in
     let needs = tree_needs c.args.sheet.now l.sheet l.at _ _ _ _ (ap nodes_of c.in-Some.ensures.steps) l.invariant.0 in
     (omega (arith, c.decreases), (needs.0, (needs.1, needs.2)))
 
-pub lay_row-returns-in_err-lay : goal.lay_row-returns-in_err-lay
-lay_row-returns-in_err-lay t c =
+pub lay_row-returns-in_err-lay_pointer : goal.lay_row-returns-in_err-lay_pointer
+lay_row-returns-in_err-lay_pointer t c =
     let A = c.args.sheet.now in
     let l = c.loop-tree in
-    let e = c.in_err-lay.field-0.0 in
+    let e = c.in_err-lay_pointer.field-0.0 in
     let next = ap nodes_of c.in-Some.ensures.steps in
     let p = err_from_is_err_and c.from_residual.result c.from_residual.ensures.1 in
-    rw (p.1, p.2) (stops (Unit {0}) A l.sheet c.lay.new.sheet c.args.levels _ _ _ _ _ _ _ _ e _ _ (ap greatest_depth next) (ap total_cost next) l.invariant.1 c.in_err-lay.ensures (tree_refused A l.sheet l.at _ _ _ _ next l.invariant.0 e))
+    rw (p.1, p.2) (stops (Unit {0}) A l.sheet c.lay_pointer.new.sheet c.args.levels _ _ _ _ _ _ _ _ e _ _ (ap greatest_depth next) (ap total_cost next) l.invariant.1 c.in_err-lay_pointer.ensures (tree_refused A l.sheet l.at _ _ _ _ next l.invariant.0 e))
 
 pub lay_row-loop-tree-preserved : goal.lay_row-loop-tree-preserved
 lay_row-loop-tree-preserved t c =
     let A = c.args.sheet.now in
     let l = c.loop-tree in
     let next = ap nodes_of c.in-Some.ensures.steps in
-    let ok = c.in_ok-lay.ensures in
-    let row = row_next A l.sheet l.at _ _ _ _ next l.invariant.0 c.lay.new.sheet ok.2 ok.3 ok.4 in
-    (row, goes_on c.args.levels A.budget l.sheet.budget _ _ _ _ _ _ _ _ (ap greatest_depth next) (ap total_cost next) l.invariant.1 c.lay.new.sheet.budget ok.0 ok.1)
+    let ok = c.in_ok-lay_pointer.ensures in
+    let row = row_next A l.sheet l.at _ _ _ _ next l.invariant.0 c.lay_pointer.new.sheet ok.2 ok.3 ok.4 in
+    (row, goes_on c.args.levels A.budget l.sheet.budget _ _ _ _ _ _ _ _ (ap greatest_depth next) (ap total_cost next) l.invariant.1 c.lay_pointer.new.sheet.budget ok.0 ok.1)
 
 pub lay_bodies-returns-then-list-eq0 : goal.lay_bodies-returns-then-list-eq0
 lay_bodies-returns-then-list-eq0 t c =

@@ -25,8 +25,11 @@ invariant-lay_bodies-loop-body l =
 abbrev pub decreases-lay : goal.decreases-lay
 decreases-lay l = 4 * l.levels + 1
 
+abbrev pub decreases-lay_pointer : goal.decreases-lay_pointer
+decreases-lay_pointer l = 4 * l.levels + 2
+
 abbrev pub decreases-lay_row : goal.decreases-lay_row
-decreases-lay_row l = 4 * l.levels + 2
+decreases-lay_row l = 4 * l.levels + 3
 
 abbrev pub decreases-lay_bodies : goal.decreases-lay_bodies
-decreases-lay_bodies l = 4 * l.levels + 3
+decreases-lay_bodies l = 4 * l.levels + 4
