@@ -13,3 +13,4 @@ pub mod Bulks
 pub mod Blocks
 pub mod Putting
 pub mod Extents
+pub mod Masked

@@ -6,20 +6,10 @@ use Rattle.std.proofs.Math.Seq.{take-append-add, take-take}
 use borrow.Rule.Slice.PartMut.{put_mid, post_of, mid_len, same_len_mid}
 use Rattle.cp_packed.specs.Packed.{written}
 use Rattle.cp_packed.specs.Packing.{PutsFront, PutsGroup, HasRoom}
-use Rattle.cp_packed.proofs.Sparing.{front_more}
+use Rattle.cp_packed.proofs.Sparing.{front_none, front_more, front_both}
 use Rattle.cp_packed.proofs.Blocks.{tail_put}
 
 -- the same after other bytes
-pub group_after : (old new words back : List ℕ) → PutsGroup [] new words back → PutsGroup old (old ++ new) words back
-group_after old new words back g = record {
-  group = g.group;
-  is = g.is;
-  sparing = g.sparing;
-  longest = g.longest;
-  spells = ap (λ (b : List ℕ). old ++ b) g.spells;
-  gives = g.gives;
-}
-
 pub front_after : (old new words back : List ℕ) → PutsFront [] new words back → PutsFront old (old ++ new) words back
 front_after old new words back h = record { front = h.front; text = ap (λ (b : List ℕ). old ++ b) h.text; goes = h.goes }
 
@@ -27,12 +17,17 @@ front_after old new words back h = record { front = h.front; text = ap (λ (b : 
 taken_on : (n m : ℕ) (xs ys : List ℕ) → n ≤ length xs → take (n + m) (take n xs ++ ys) ≡ take n xs ++ take m ys
 taken_on n m xs ys h = ap (λ (k : ℕ). take (k + m) (take n xs ++ ys)) (sym (length-take-le n xs h)) ∙ take-append-add (take n xs) ys m
 
-pub front_puts : (filled count : ℕ) (block part words left back : List ℕ) → filled ≤ length block → PutsFront [] (take filled block) words left → PutsGroup [] (take count part) left back
+pub front_joins : (filled count : ℕ) (block part words left back : List ℕ) → filled ≤ length block → PutsFront [] (take filled block) words left → PutsFront [] (take count part) left back
     → PutsFront [] (take (filled + count) (put_mid filled (length block - filled) block part)) words back
-front_puts filled count block part words left back fits h g =
+front_joins filled count block part words left back fits h k =
     let text : take (filled + count) (put_mid filled (length block - filled) block part) ≡ take filled block ++ take count part =
     ap (λ (b : List ℕ). take (filled + count) b) (tail_put filled block part fits) ∙ taken_on filled count block part fits in
-    subst (λ (b : List ℕ). PutsFront [] b words back) (sym text) (front_more [] (take filled block) (take filled block ++ take count part) words left back h (group_after (take filled block) (take count part) left back g))
+    subst (λ (b : List ℕ). PutsFront [] b words back) (sym text)
+    (front_both [] (take filled block) (take filled block ++ take count part) words left back h (front_after (take filled block) (take count part) left back k))
+
+-- one group
+pub front_one : (new words back : List ℕ) → PutsGroup [] new words back → PutsFront [] new words back
+front_one new words back g = front_more [] [] new words words back (front_none [] words) g
 
 -- a block after what was written before
 pub front_kept : (start filled : ℕ) (old part new words back : List ℕ) → start ≡ length old → PutsFront [] (take filled part) words back → new ≡ take (start + filled) (old ++ part) → PutsFront old new words back
@@ -40,15 +35,15 @@ front_kept start filled old part new words back s h e =
     subst (λ (b : List ℕ). PutsFront old b words back) (sym (e ∙ ap (λ (n : ℕ). take (n + filled) (old ++ part)) s ∙ take-append-add old part filled)) (front_after old (take filled part) words back h)
 
 -- room that is left for groups
-pub room_left : (room words most filled left : ℕ) → HasRoom room words (words - most + 255) → filled + 10 * left ≤ 10 * words → most < left → HasRoom (room - filled) left 256
+pub room_left : (room words most filled left : ℕ) → HasRoom room words (words - most + 320) → filled + 10 * left ≤ 10 * words → most < left → HasRoom (room - filled) left 321
 room_left room words most filled left (inl h) f m = inl (omega (arith, h, f))
 room_left room words most filled left (inr h) f m = inr (omega (arith, h, f, m))
 
-pub room_within : (room words most filled left : ℕ) → HasRoom room words (words - most + 255) → filled + 10 * left ≤ 10 * words → most < left → filled ≤ room
+pub room_within : (room words most filled left : ℕ) → HasRoom room words (words - most + 320) → filled + 10 * left ≤ 10 * words → most < left → filled ≤ room
 room_within room words most filled left (inl h) f m = omega (arith, h, f)
 room_within room words most filled left (inr h) f m = omega (arith, h, f, m)
 
-pub room_made : (words most count : ℕ) → (count ≡ words) ⊎ (count ≡ 511) → words ≤ most + 256 → HasRoom (10 * count) words (words - most + 255)
+pub room_made : (words most count : ℕ) → (count ≡ words) ⊎ (count ≡ 1344) → words ≤ most + 1024 → HasRoom (10 * count) words (words - most + 320)
 room_made words most count (inl e) f = inl (omega (arith, e))
 room_made words most count (inr e) f = inr (omega (arith, e, f))
 

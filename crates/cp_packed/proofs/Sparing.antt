@@ -103,7 +103,7 @@ none_zero (x ∷ b) k = go (cases_eq x 0) (λ h. none_zero b h)
 le_small : (w : ℕ) → AllByRecursion (λ x. x < 256) (to_le_bytes w64 w)
 le_small w = (omega arith, (omega arith, (omega arith, (omega arith, (omega arith, (omega arith, (omega arith, (omega arith, tt))))))))
 
-zero_word : (w : ℕ) → w < 2 ^ 64 → tag (bytes_that_count (to_le_bytes w64 w)) ≡ 0 → w ≡ 0
+pub zero_word : (w : ℕ) → w < 2 ^ 64 → tag (bytes_that_count (to_le_bytes w64 w)) ≡ 0 → w ≡ 0
 zero_word w h k =
     sym (from_le_bytes-to_le_bytes_8 w h) ∙ ap (λ (b : List ℕ). from_le_bytes w64 b) (all_zero (to_le_bytes w64 w) k)
 

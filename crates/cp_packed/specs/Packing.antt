@@ -1,5 +1,6 @@
 -- Words written as packed bytes after others.
-use Rattle.std.specs.Prelude.{◌≡◌, ◌⊎◌, ℕ, ◌*◌, ◌≤◌, ◌==◌, if◌then◌else◌, List, ◌++◌, map, Option, Some, None}
+use Rattle.std.specs.Prelude.{◌≡◌, ◌⊎◌, ℕ, ◌*◌, ◌≤◌, ◌==◌, eqb, not, if◌then◌else◌, List, ◌++◌, map, take, Option, Some, None}
+use lib.Lanes.{mask_l}
 use Rattle.cp_packed.specs.Packed.{Group, IsGroup, IsSparing, IsLongest, spelling, words_of, Spelt}
 
 -- a word's bytes, of which those that aren't zero are written
@@ -28,3 +29,7 @@ PutsSpelt old new words = (bytes : List ℕ) × Spelt words bytes × (new ≡ ol
 -- There is room for groups of this many words: of all that there are, or of the most that can be taken.
 abbrev pub HasRoom : ℕ → ℕ → ℕ → Type 0
 HasRoom room words most = (10 * words ≤ room) ⊎ (10 * most ≤ room)
+
+-- a bit for each of the first 64 words that isn't zero, the first word's lowest
+abbrev pub IsMaskOf : List ℕ → ℕ → Type 0
+IsMaskOf words mask = mask ≡ mask_l (map (λ w. not (eqb w 0)) (take 64 words))

@@ -4,6 +4,7 @@
 //! The one error is an allocation failure. What the vector or the group holds then isn't promised, so the caller lets it go.
 #![tactic(auto)]
 
+mod ahead;
 mod bulk;
 mod decoding;
 mod gather;

@@ -4,16 +4,17 @@ ghost use Rattle.std.specs.Prelude.{◌≡◌, ◌≤◌, ◌<◌, ◌+◌, ◌-
 ghost use Rattle.cp_packed.specs.Words.{bytes_of};
 ghost use Rattle.cp_packed.specs.Packing.{PutsFront, PutsSpelt, HasRoom};
 
+use crate::ahead::{AHEAD, put_next};
 use crate::runs::MOST;
-use crate::spelling::{LONGEST, put_group};
+use crate::spelling::LONGEST;
 use byteorder::{ByteOrder, LittleEndian};
 use std::alloc::{AllocError, Global};
 
 /// How many words are written at once as they are.
 const BLOCK: usize = 64;
 
-/// How many words are packed at once, beside those of the last run.
-const STEP: usize = 256;
+/// How many words are packed at once, beside those of the last run and those that are looked at ahead.
+const STEP: usize = 1_024;
 
 /// Appends words as they are: eight bytes each, the lowest first. The error is an allocation failure.
 pub fn push_plain(out: &mut Vec<u8>, words: &[u64]) -> Result<(), AllocError>
@@ -62,12 +63,12 @@ pub fn push_packed(out: &mut Vec<u8>, words: &[u64]) -> Result<(), AllocError>
 /// written into capacity that is made for all of them.
 fn push_some<'a>(out: &mut Vec<u8>, words: &'a [u64], most: usize) -> Result<&'a [u64], AllocError>
     requires more { most < length words.now }
-    requires few { length words.now ≤ most + 256 }
+    requires few { length words.now ≤ most + 1024 }
     ensures front { IfOk result (λ back. PutsFront out.old.items out.new.items words.now back.now) }
     ensures few { IfOk result (λ back. length back.now ≤ most) }
 {
     let start = out.len();
-    let count = words.len().min(STEP + MOST);
+    let count = words.len().min(STEP + MOST + AHEAD + 1);
     out.resize(start + LONGEST * count, 0)?;
     let (filled, back) = put_groups(&mut out[start..], words, most);
     out.truncate(start + filled);
@@ -78,7 +79,7 @@ fn push_some<'a>(out: &mut Vec<u8>, words: &'a [u64], most: usize) -> Result<&'a
 /// many bytes they take, and these words.
 fn put_groups<'a>(block: &mut [u8], words: &'a [u64], most: usize) -> (usize, &'a [u64])
     requires more { most < length words.now }
-    requires room { HasRoom (length block.old) (length words.now) (length words.now - most + 255) }
+    requires room { HasRoom (length block.old) (length words.now) (length words.now - most + 320) }
     ensures front { PutsFront [] (take result.0 block.new) words.now result.1.now }
     ensures few { length result.1.now ≤ most }
     ensures within { result.0 ≤ length block.new }
@@ -86,7 +87,7 @@ fn put_groups<'a>(block: &mut [u8], words: &'a [u64], most: usize) -> (usize, &'
     let mut filled = 0;
     let mut left = words;
     'putting: while most < left.len() {
-        let (count, back) = put_group(&mut block[filled..], left);
+        let (count, back) = put_next(&mut block[filled..], left);
         filled += count;
         left = back;
     }

@@ -1,43 +1,19 @@
-//! The group that words begin with, written over the front of bytes.
+//! Groups of each kind, written over the front of bytes.
 
 ghost use Rattle.std.specs.Prelude.{◌≡◌, ◌≤◌, ◌<◌, ◌+◌, ◌*◌, ◌++◌, ◌∷◌, [], length, take};
 ghost use Rattle.cp_packed.specs.Words.{bytes_of};
 ghost use Rattle.cp_packed.specs.Packed.{tag, written};
-ghost use Rattle.cp_packed.specs.Packing.{PutsGroup, HasRoom, bytes_that_count};
+ghost use Rattle.cp_packed.specs.Packing.{bytes_that_count};
 
 use crate::gather::gathered;
-use crate::runs::{raw_run, zero_run};
 use byteorder::{ByteOrder, LittleEndian};
 use std::simd::prelude::*;
 
 /// How many bytes a packed word takes at most: a tag, eight bytes, and how many words a raw run has after it.
 pub const LONGEST: usize = 10;
 
-/// Writes the group that words begin with over the front of the block: how many bytes it takes, and the words after it.
-pub fn put_group<'a>(block: &mut [u8], words: &'a [u64]) -> (usize, &'a [u64])
-    requires some { 0 < length words.now }
-    requires room { HasRoom (length block.old) (length words.now) 256 }
-    ensures group { PutsGroup [] (take result.0 block.new) words.now result.1.now }
-    ensures little { result.0 + 10 * length result.1.now ≤ 10 * length words.now }
-    ensures shorter { length result.1.now < length words.now }
-    ensures within { result.0 ≤ length block.new }
-{
-    let bytes = words[0].to_le_bytes();
-    let tag = tag_of(&bytes);
-    let (_, after) = words.split_at(1);
-    if tag == 0 {
-        let (run, back) = after.split_at(zero_run(after));
-        return (put_zeros(block, run.len()), back);
-    }
-    if tag < 255 {
-        return (put_sparse(block, tag, &bytes), after);
-    }
-    let (run, back) = after.split_at(raw_run(after));
-    (put_raw(block, &bytes, run), back)
-}
-
 /// A bit for each byte that isn't zero, the first byte's lowest.
-fn tag_of(bytes: &[u8; 8]) -> u8
+pub fn tag_of(bytes: &[u8; 8]) -> u8
     ensures { result ≡ tag (bytes_that_count bytes.now) }
 {
     let zeros = u8x8::from_array(*bytes)
@@ -47,7 +23,7 @@ fn tag_of(bytes: &[u8; 8]) -> u8
 }
 
 /// Writes a run of zero words, this many after its first: how many bytes it takes.
-fn put_zeros(block: &mut [u8], more: usize) -> usize
+pub fn put_zeros(block: &mut [u8], more: usize) -> usize
     requires room { 2 ≤ length block.old }
     requires few { more < 256 }
     ensures text { take result block.new ≡ 0 ∷ more ∷ [] }
@@ -59,7 +35,7 @@ fn put_zeros(block: &mut [u8], more: usize) -> usize
 }
 
 /// Writes a group of one word that has bytes of both kinds, of which the mask has a bit each: how many bytes it takes.
-fn put_sparse(block: &mut [u8], mask: u8, bytes: &[u8; 8]) -> usize
+pub fn put_sparse(block: &mut [u8], mask: u8, bytes: &[u8; 8]) -> usize
     requires room { 9 ≤ length block.old }
     requires mask { mask ≡ tag (bytes_that_count bytes.now) }
     ensures text { take result block.new ≡ mask ∷ written (bytes_that_count bytes.now) }
@@ -71,7 +47,7 @@ fn put_sparse(block: &mut [u8], mask: u8, bytes: &[u8; 8]) -> usize
 }
 
 /// Writes a word with a raw run after it, as they are: how many bytes they take.
-fn put_raw(block: &mut [u8], bytes: &[u8; 8], run: &[u64]) -> usize
+pub fn put_raw(block: &mut [u8], bytes: &[u8; 8], run: &[u64]) -> usize
     requires few { length run.now < 256 }
     requires room { 10 + 8 * length run.now ≤ length block.old }
     ensures text { take result block.new ≡ 255 ∷ (bytes.now ++ (length run.now ∷ bytes_of run.now)) }
