@@ -12,7 +12,8 @@ use Rattle.cp_serve.specs.declared.fault.ServeFault.TheVariants as faults
 use Rattle.cp_serve.specs.declared.report.Report.{Report}
 use Rattle.cp_servants.specs.declared.servant.Reply.{Reply}
 use Rattle.cp_servants.specs.declared.servant.Reply.TheVariants as replies
-use Rattle.cp_servants.specs.Servant.{Seen}
+use Rattle.cp_samples.specs.declared.sample.Sample.{Sample}
+use Rattle.cp_samples.specs.Sample.{each_sample}
 use Rattle.cp_serve.specs.Output.{Device, IsServed, IsStopped}
 use Rattle.bench_c.specs.declared.serve.Served.{Served}
 use Rattle.bench_c.specs.Given.{Gives, GivesNone}
@@ -40,16 +41,16 @@ reply_of n = if n == 0 then replies.Later else replies.Now (outcomes.Results (ca
 abbrev pub of_bytes : List ℕ → ℕ → Device
 of_bytes bytes failures = record { bytes = Some bytes; failures = failures }
 
--- A server of some objects read of these bytes, and wrote those: it served what it read to its end, or stopped.
+-- A server of some samples read of these bytes, and wrote those: it served what it read to its end, or stopped.
 pub record IsAnswer (mode : Mode) (bytes written : List ℕ) (how : ℕ) : Type 0 where
-  pub objects : List Seen
-  pub others : List Seen
+  pub objects : List Sample
+  pub others : List Sample
   pub left : Device
   pub failures : ℕ
   pub ended : Result Report ServeFault
   pub ends : MatchResult ended
-      (λ report. IsServed mode objects (of_bytes bytes 0) left (of_bytes [] 0) (of_bytes written failures) report others)
-      (λ fault. IsStopped mode objects (of_bytes bytes 0) left (of_bytes [] 0) (of_bytes written failures) others fault)
+      (λ report. IsServed each_sample mode objects (of_bytes bytes 0) left (of_bytes [] 0) (of_bytes written failures) report others)
+      (λ fault. IsStopped each_sample mode objects (of_bytes bytes 0) left (of_bytes [] 0) (of_bytes written failures) others fault)
   pub how_is : how ≡ how_ended ended
 
 -- what a server wrote and how it ended, and what fits of that in the buffer

@@ -9,8 +9,9 @@ ghost use Rattle.bench_c.specs.Serve.{IsUnserved, GivesServed, mode_of, how_ende
 use crate::fill::fill;
 use cp_frame::Mode;
 use cp_refs::{Cap, Caps, Outcome};
-use cp_servants::{Cell, Desk, Reply, Script, Servant};
-use cp_serve::{Report, ServeFault, serve};
+use cp_samples::{Cell, Desk, Sample, Script};
+use cp_servants::Reply;
+use cp_serve::{Report, ServeFault, serve_each};
 use cp_stream::{StreamFault, Tap};
 use cp_tree::{Tree, Whole};
 use cp_vat_machine::Ids;
@@ -51,21 +52,12 @@ pub extern "C" fn cpb_serve(
     let Ok(written) = Vec::with_capacity(alloc, buffer.len()) else {
         return UNSERVED;
     };
-    let (Ok(script), Ok(cell), Ok(desk)) = (
-        script_of(alloc, named),
-        Box::new(alloc, Cell::new(alloc)),
-        Box::new(alloc, Desk::new(alloc)),
-    ) else {
+    let Ok(mut objects) = objects_of(alloc, named) else {
         return UNSERVED;
     };
-    let mut objects: Vec<Box<dyn Servant>> = Vec::new(alloc);
-    let first_two = objects.push(script).and(objects.push(cell));
-    if first_two.and(objects.push(desk)).is_err() {
-        return UNSERVED;
-    }
     let mut from = Tap::new(Pieces { left: bytes, piece });
     let mut to = Tap::new(written);
-    let ended = serve(alloc, &mut from, &mut to, &mut objects, mode_of(packed));
+    let ended = serve_each(alloc, &mut from, &mut to, &mut objects, mode_of(packed));
     let written = to.into_inner();
     fill(buffer, &written);
     Served {
@@ -98,10 +90,14 @@ impl<'a> Read for Pieces<'a> {
     }
 }
 
-/// The Script.
-fn script_of(alloc: Global, named: &[u64]) -> Result<Box<Script>, AllocError> {
+/// The objects, in order.
+fn objects_of(alloc: Global, named: &[u64]) -> Result<Vec<Sample>, AllocError> {
     let script = Script::new(replies_of(alloc, named)?, Vec::new(alloc));
-    Ok(Box::new(alloc, script)?)
+    let mut objects = Vec::new(alloc);
+    objects.push(Sample::Script(script))?;
+    objects.push(Sample::Cell(Cell::new(alloc)))?;
+    objects.push(Sample::Desk(Desk::new(alloc)))?;
+    Ok(objects)
 }
 
 /// What the Script answers its first calls with.

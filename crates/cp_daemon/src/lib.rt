@@ -2,6 +2,5 @@
 #![tactic(auto)]
 
 mod places;
-mod thing;
 
 pub use places::{Place, Service, serve_place};

@@ -1,11 +1,10 @@
 //! Serving connections of an address or of a path, many at once.
 
-use crate::thing::Thing;
 use cp_commands::{ACCEPTED, BROKEN, REFUSED};
 use cp_frame::Mode;
 use cp_host::{End, Host, News, Plan};
+use cp_samples::{Cell, Desk, Sample};
 use cp_seats::{Crowd, HostLimits};
-use cp_servants::{Cell, Desk};
 use cp_sockets::{Listener, Peer};
 use cp_words::Limits;
 use std::alloc::{AllocGlobal, Global};
@@ -97,7 +96,7 @@ where
 }
 
 /// Serves the connections of a host until the last has ended, and gives the status.
-fn run<N, E: Write>(rt: &N, host: &mut Host<Thing>, err: &mut E) -> io::Result<u8>
+fn run<N, E: Write>(rt: &N, host: &mut Host<Sample>, err: &mut E) -> io::Result<u8>
 where
     N: Net + Clock + AllocGlobal,
 {
@@ -117,7 +116,7 @@ where
 /// Does what news of a connection asks, and gives the status that it leads to.
 fn hear<E: Write>(
     alloc: Global,
-    host: &mut Host<Thing>,
+    host: &mut Host<Sample>,
     news: &News,
     err: &mut E,
 ) -> io::Result<u8> {
@@ -130,10 +129,10 @@ fn hear<E: Write>(
 }
 
 /// Serves the connection that came last with a Desk and a Cell.
-fn admit(alloc: Global, host: &mut Host<Thing>) -> io::Result<()> {
+fn admit(alloc: Global, host: &mut Host<Sample>) -> io::Result<()> {
     let mut objects = Vec::new(alloc);
-    objects.push(Thing::Desk(Desk::new(alloc)))?;
-    objects.push(Thing::Cell(Cell::new(alloc)))?;
+    objects.push(Sample::Desk(Desk::new(alloc)))?;
+    objects.push(Sample::Cell(Cell::new(alloc)))?;
     host.admit(objects)
 }
 

@@ -4,7 +4,7 @@ use Rattle.std.proofs.Math.Seq.{take-append_seam}
 use Rattle.std.proofs.KnownBytes.{Appends-nil, Consumes-nil}
 use Rattle.cp_vat_machine.specs.declared.effect.Reason.{Reason}
 use Rattle.cp_connection.specs.Link.{Link}
-use Rattle.cp_servants.specs.Servant.{Seen, SomeMaySayMore}
+use Rattle.cp_servants.specs.Servant.{Kind, SomeMaySayMore}
 use Rattle.cp_objects.specs.declared.notice.Notice.{Notice}
 use Rattle.cp_objects.specs.Rounds.{Rounds}
 use Rattle.cp_objects.specs.Work.{Work, Lives}
@@ -78,14 +78,13 @@ pub lent_back : {X : Type 0} (items new : List X) (len : ℕ) → len ≡ length
 lent_back items new len same = ap (λ (m : ℕ). take m (new ++ drop (length new) items)) same ∙ take-append_seam new (drop (length new) items)
 
 -- objects that were lent were worked with
-pub works_lent : {O : Type 0} (seen : O → Seen) (lent old new back : List O) {a b : Work} → lent ≡ old → back ≡ new → WorksOut a b (map seen lent) (map seen new)
-    → WorksOut a b (map seen old) (map seen back)
-works_lent seen lent old new back {a = a} {b = b} e f works =
-    subst (λ os. WorksOut a b (map seen os) (map seen back)) e (subst (λ os. WorksOut a b (map seen lent) (map seen os)) (sym f) works)
+pub works_lent : {O : Type 0} {kind : Kind O} (lent old new back : List O) {a b : Work} → lent ≡ old → back ≡ new → WorksOut kind a b lent new → WorksOut kind a b old back
+works_lent {kind = kind} lent old new back {a = a} {b = b} e f works =
+    subst (λ os. WorksOut kind a b os back) e (subst (λ os. WorksOut kind a b lent os) (sym f) works)
 
 -- one round, by what it gave and what the objects say
-pub polls_once : {old new : Work} {objects others : List Seen} (more : Bool) → Rounds old false new objects others → (more ≡ true → SomeMaySayMore others)
-    → PollsOnce old more new objects others
+pub polls_once : {O : Type 0} {kind : Kind O} {old new : Work} {objects others : List O} (more : Bool) → Rounds kind old false new objects others
+    → (more ≡ true → SomeMaySayMore kind others) → PollsOnce kind old more new objects others
 polls_once true rounds says = (false, rounds, inr (says refl))
 polls_once false rounds says = rounds
 
@@ -99,7 +98,7 @@ known_on first rest session =
     (sym (closed_both (happening_of first ∷ []) (map happening_of rest) session.closed))
 
 -- memory ran out, and nothing else was done
-pub loses_now : (old new : Party) (fault : ClientFault) → fault ≡ client_faults.Connection (first_fault old.seat.over)
+pub loses_now : {O : Type 0} (old new : Party O) (fault : ClientFault) → fault ≡ client_faults.Connection (first_fault old.seat.over)
     → new.seat ≡ record old.seat { over = Some (first_fault old.seat.over) } → Loses old new fault
 loses_now old new fault is same = record {
   is = is;
@@ -109,11 +108,11 @@ loses_now old new fault is same = record {
 
 -- ---- parties
 
-module _ {O : Type 0} (seen : O → Seen) (exports : Exports O) where
+module _ {O : Type 0} (exports : Exports O) where
   -- only what is no part of the connection changed
-  pub party_same : (old new : Seat) → new.link ≡ old.link → party_of seen exports new ≡ record (party_of seen exports old) { seat = new }
-  party_same old new same = ap (λ (l : Link). record (party_of seen exports old) { seat = new; work = owed_by exports l }) same
+  pub party_same : (old new : Seat) → new.link ≡ old.link → party_of exports new ≡ record (party_of exports old) { seat = new }
+  party_same old new same = ap (λ (l : Link). record (party_of exports old) { seat = new; work = owed_by exports l }) same
 
   -- bytes were exchanged
-  pub trades : (old same new : Seat) → same ≡ old → Exchanges same new → Trades (party_of seen exports old) (party_of seen exports new)
+  pub trades : (old same new : Seat) → same ≡ old → Exchanges same new → Trades (party_of exports old) (party_of exports new)
   trades old same new is x = record { exchanges = rw is at x; work = refl; objects = refl }

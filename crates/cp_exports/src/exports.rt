@@ -3,7 +3,6 @@
 ghost use Rattle.std.specs.Prelude.{◌≡◌, ◌∷◌, ◌++◌, [], true, Some, IfOk, IfErr, OnOk, length, map};
 ghost use Rattle.cp_refs.specs.declared.cap.Cap.TheVariants.{Object};
 ghost use Rattle.cp_connection.specs.Link.{Link};
-ghost use Rattle.cp_servants.specs.Servant.{On};
 ghost use Rattle.cp_objects.specs.Work.{begun, Lives};
 ghost use Rattle.cp_objects.specs.WorkOf.{work_of};
 ghost use Rattle.cp_client.specs.SeatOf.{seat};
@@ -87,8 +86,8 @@ impl<O: Servant> Exports<O> {
         client: &mut Client<R, W>,
         question: Question,
     ) -> Result<Outcome, ClientFault>
-        ensures waits { let at = party O.seen R.remaining W.contents in IfOk result (Waits question.number (at self.old client.old) (at self.new client.new)) }
-        ensures untold { let at = party O.seen R.remaining W.contents in IfErr result (IsUntold question.number (at self.old client.old) (at self.new client.new)) }
+        ensures waits { IfOk result (Waits O.kind question.number (party R.remaining W.contents self.old client.old) (party R.remaining W.contents self.new client.new)) }
+        ensures untold { IfErr result (IsUntold O.kind question.number (party R.remaining W.contents self.old client.old) (party R.remaining W.contents self.new client.new)) }
         ensures talks { let at = seat R.remaining W.contents in TalksOn (at client.old) (at client.new) }
     {
         for _ in 0..u64::MAX {
@@ -107,8 +106,8 @@ impl<O: Servant> Exports<O> {
         &mut self,
         client: &mut Client<R, W>,
     ) -> Result<(), ClientFault>
-        ensures serves { let at = party O.seen R.remaining W.contents in OnOk result (Halts (at self.old client.old) (at self.new client.new) Ended) }
-        ensures stops { let at = party O.seen R.remaining W.contents in IfErr result (Stops (at self.old client.old) (at self.new client.new)) }
+        ensures serves { OnOk result (Halts O.kind (party R.remaining W.contents self.old client.old) (party R.remaining W.contents self.new client.new) Ended) }
+        ensures stops { IfErr result (Stops O.kind (party R.remaining W.contents self.old client.old) (party R.remaining W.contents self.new client.new)) }
         ensures talks { let at = seat R.remaining W.contents in TalksOn (at client.old) (at client.new) }
     {
         for _ in 0..u64::MAX {
@@ -124,8 +123,8 @@ impl<O: Servant> Exports<O> {
 
     /// Has the objects do what happened asks for, and notes what is none of their business.
     fn turn(&mut self, session: &mut Session) -> Result<(), ClientFault>
-        ensures turns { OnOk result (Between O.seen self.old session.old self.new session.new Turns) }
-        ensures loses { IfErr result (λ fault. Between O.seen self.old session.old self.new session.new (λ old new. Loses old new fault)) }
+        ensures turns { OnOk result (Between self.old session.old self.new session.new (Turns O.kind)) }
+        ensures loses { IfErr result (λ fault. Between self.old session.old self.new session.new (λ old new. Loses old new fault)) }
         ensures lives { Lives session.old.connection session.new.connection }
     {
         match work_off(&mut self.work, &mut session.connection, &mut self.objects) {
@@ -155,7 +154,7 @@ fn work_off<O: Servant>(
     connection: &mut Connection,
     objects: &mut [O],
 ) -> Result<(), AllocError>
-    ensures works { OnOk result (On O.seen objects.old objects.new (WorksOut (work_of work.old connection.old) (work_of work.new connection.new))) }
+    ensures works { OnOk result (WorksOut O.kind (work_of work.old connection.old) (work_of work.new connection.new) objects.old objects.new) }
     ensures lives { Lives connection.old connection.new }
 {
     work.work_off(connection, objects)?;
@@ -174,7 +173,7 @@ fn poll<O: Servant>(
     connection: &mut Connection,
     objects: &mut [O],
 ) -> Result<bool, AllocError>
-    ensures polls { IfOk result (λ more. On O.seen objects.old objects.new (PollsOnce (work_of work.old connection.old) more (work_of work.new connection.new))) }
+    ensures polls { IfOk result (λ more. PollsOnce O.kind (work_of work.old connection.old) more (work_of work.new connection.new) objects.old objects.new) }
     ensures lives { Lives connection.old connection.new }
 {
     let gave = work.round(connection, objects)?;

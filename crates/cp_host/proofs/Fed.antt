@@ -1,5 +1,5 @@
 -- A connection that is fed, and goes on.
-use Rattle.std.proofs.Common.{◌≡◌, ◌≤◌, ◌+◌, ◌-◌, ◌∙◌, ℕ, List, [], ◌++◌, Option, Some, None, Result, Ok, Err, OnErr, refl, sym, ap, inl, inr, arith, rules, length, take, drop, length-drop, take_all, append-nil, append_assoc}
+use Rattle.std.proofs.Common.{◌≡◌, ◌≤◌, ◌+◌, ◌-◌, ◌∙◌, ℕ, List, [], ◌++◌, Result, Ok, Err, OnErr, refl, sym, ap, inl, inr, arith, length, take, drop, length-drop, take_all, append-nil, append_assoc}
 use Rattle.std.proofs.Math.Seq.{take-append_seam}
 use Rattle.std.proofs.lemmas.List.{take-append-drop, length-append}
 use Rattle.cp_connection.specs.declared.fault.ConnectionFault.{ConnectionFault}

@@ -10,7 +10,7 @@ use Rattle.cp_refs.specs.declared.outcome.Outcome.{Outcome}
 use Rattle.cp_vat_machine.specs.declared.event.Event.TheVariants as events
 use Rattle.cp_connection.specs.Link.{Link}
 use Rattle.cp_servants.specs.declared.servant.Settled.{Settled}
-use Rattle.cp_servants.specs.Servant.{Seen}
+use Rattle.cp_servants.specs.Servant.{Kind}
 use Rattle.cp_objects.specs.declared.asker.Asker.{Asker}
 use Rattle.cp_objects.specs.declared.notice.Notice.TheVariants as notices
 use Rattle.cp_objects.specs.Work.{Work, Answers, IsDone, Notes, Tries, TriesEach}
@@ -39,7 +39,8 @@ settles_awaited old w settled origin link a e got r answers p =
     rw e (is_awaited settled origin link got answers (p ∙ ap (λ (t : Table Origin). record old { link = link; awaited = t; given_up = old.given_up ++ settled.gives_up }) r))
 
 -- nothing more was given
-pub so_far : {place : ℕ} {old new : Work} {objects others : List Seen} (gave : Bool) → PollsFrom place old (gave || false) new objects others → PollsFrom place old gave new objects others
+pub so_far : {A : Type 0} {kind : Kind A} {place : ℕ} {old new : Work} {objects others : List A} (gave : Bool) → PollsFrom kind place old (gave || false) new objects others
+    → PollsFrom kind place old gave new objects others
 so_far true h = h
 so_far false h = h
 
@@ -48,16 +49,18 @@ pub tries_next : (items : List ℕ) (i d : ℕ) {old mid : Work} (last : Work) �
     → TriesEach old (drop i items) last
 tries_next items i d {mid = mid} last h tried rest = rw (drop-cons items i d h) (mid, tried, rw add-one at rest)
 
-pub works_off_none : (old : Work) (link : Link) (objects : List Seen) → link ≡ old.link → old.link.happened ≡ [] → WorksOff old (record old { link = link }) objects objects
+pub works_off_none : {A : Type 0} {kind : Kind A} (old : Work) (link : Link) (objects : List A) → link ≡ old.link → old.link.happened ≡ []
+    → WorksOff kind old (record old { link = link }) objects objects
 works_off_none old link objects e none = rw e (none_left none)
 
-pub hands_to_user : (old : Work) (asked : Table Asker) (question : ℕ) (outcome : Outcome) {new : Work} {objects : List Seen} → get old.asked question ≡ None
-    → asked ≡ remove old.asked question → Notes (notices.Settled question outcome) (record old { asked = asked }) new → HandsBack question outcome old new objects objects
+pub hands_to_user : {A : Type 0} {kind : Kind A} (old : Work) (asked : Table Asker) (question : ℕ) (outcome : Outcome) {new : Work} {objects : List A} → get old.asked question ≡ None
+    → asked ≡ remove old.asked question → Notes (notices.Settled question outcome) (record old { asked = asked }) new → HandsBack kind question outcome old new objects objects
 hands_to_user old asked question outcome none r noted =
     to_user none (rw (r, ← is_remove old.asked old.asked question none (λ q h. refl)) at noted) refl
 
-pub hands_to_object : (old : Work) (asked : Table Asker) (question : ℕ) (outcome : Outcome) (asker : Asker) (link : Link) {new : Work} {objects between others : List Seen}
+pub hands_to_object : {A : Type 0} {kind : Kind A} (old : Work) (asked : Table Asker) (question : ℕ) (outcome : Outcome) (asker : Asker) (link : Link) {new : Work}
+    {objects between others : List A}
     → get old.asked question ≡ Some asker → asked ≡ remove old.asked question → IsDone old.link (events.Finish question) link
-    → Hears asker.place asker.mark outcome objects between → MakesCalls asker.place (record old { link = link; asked = asked }) new between others
-    → HandsBack question outcome old new objects others
+    → Hears kind asker.place asker.mark outcome objects between → MakesCalls kind asker.place (record old { link = link; asked = asked }) new between others
+    → HandsBack kind question outcome old new objects others
 hands_to_object old asked question outcome asker link got r done heard calls = to_object asker link got done heard (rw r at calls)

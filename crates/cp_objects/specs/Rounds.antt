@@ -13,29 +13,9 @@ use Rattle.cp_servants.specs.declared.servant.Reply.{Reply}
 use Rattle.cp_servants.specs.declared.servant.Reply.TheVariants as replies
 use Rattle.cp_servants.specs.declared.servant.Settled.{Settled}
 use Rattle.cp_servants.specs.Outcomes.{no_such_object}
-use Rattle.cp_servants.specs.Servant.{Seen, CallsAt, PollsAt}
+use Rattle.cp_servants.specs.Servant.{Kind, CallsAt, PollsAt}
 use Rattle.cp_objects.specs.Work.{Work, Answers, Notes, Replies, Releases}
 use Rattle.cp_objects.specs.Calling.{HandsBack, MakesCalls}
-
--- The object at this place is called, and replies this; past the objects the call fails.
-pub data Gives (k ticket : ℕ) (call : Request) (reply : Reply) (objects others : List Seen) : Type 0 where
-  by_object : CallsAt k ticket call reply objects others → Gives k ticket call reply objects others
-  by_none : length objects ≤ k → reply ≡ replies.Now no_such_object [] → others ≡ objects → Gives k ticket call reply objects others
-
--- What a happening asks is done: a call goes to its object, whose reply counts, and which may make calls then; an outcome is handed back; and that the vat
--- closed is noted.
-abbrev pub Handles : Happening → Work → Work → List Seen → List Seen → Type 0
-Handles (happenings.Delivered k origin ticket call) old new objects others =
-    (reply : Reply) × (mid : Work) × (between : List Seen) × Gives k ticket call reply objects between × Replies old origin ticket reply mid
-    × MakesCalls k mid new between others
-Handles (happenings.Settled question outcome) old new objects others = HandsBack question outcome old new objects others
-Handles (happenings.Closed reason) old new objects others = Notes (notices.Closed reason) old new × (others ≡ objects)
-
--- What happened is worked off, in order, until nothing is left.
-pub data WorksOff : Work → Work → List Seen → List Seen → Type 0 where
-  none_left : {old : Work} {objects : List Seen} → old.link.happened ≡ [] → WorksOff old old objects objects
-  handles : {old mid new : Work} {objects between others : List Seen} (first : Happening) (link : Link) → HandsOut old.link (Some first) link
-      → Handles first (record old { link = link }) mid objects between → WorksOff mid new between others → WorksOff old new objects others
 
 -- What a poll gave settles a call that is awaited, and the imports that the object gives up are noted. A ticket that isn't awaited is dropped.
 pub data Settles (old : Work) : Option Settled → Bool → Work → Type 0 where
@@ -44,20 +24,42 @@ pub data Settles (old : Work) : Option Settled → Bool → Work → Type 0 wher
   is_awaited : (settled : Settled) (origin : Origin) (link : Link) {new : Work} → get old.awaited settled.ticket ≡ Some origin → Answers old.link origin settled.outcome link
       → new ≡ record old { link = link; awaited = remove old.awaited settled.ticket; given_up = old.given_up ++ settled.gives_up } → Settles old (Some settled) true new
 
--- The objects from this place on are polled, one after another. Each may make calls then, and what that leads to is worked off before the next. It is noted
--- whether one gave an outcome that was awaited. Once the connection ended, no more is polled.
-pub data PollsFrom : ℕ → Work → Bool → Work → List Seen → List Seen → Type 0 where
-  none_left : {place : ℕ} {old : Work} {objects : List Seen} → length objects ≤ place → PollsFrom place old false old objects objects
-  has_ended : {place : ℕ} {old : Work} {objects : List Seen} → IsSome old.link.fault → PollsFrom place old false old objects objects
-  polls : {place : ℕ} {old mid called done new : Work} {objects between asked last others : List Seen} {gave : Bool} (settled : Option Settled) (first more : Bool)
-      → old.link.fault ≡ None → PollsAt place settled objects between → Settles old settled first mid → MakesCalls place mid called between asked
-      → WorksOff called done asked last → PollsFrom (place + 1) done more new last others → gave ≡ (first || more) → PollsFrom place old gave new objects others
+-- Of objects of one kind.
+module _ {A : Type 0} (kind : Kind A) where
+  -- The object at this place is called, and replies this; past the objects the call fails.
+  pub data Gives (k ticket : ℕ) (call : Request) (reply : Reply) (objects others : List A) : Type 0 where
+    by_object : CallsAt kind k ticket call reply objects others → Gives k ticket call reply objects others
+    by_none : length objects ≤ k → reply ≡ replies.Now no_such_object [] → others ≡ objects → Gives k ticket call reply objects others
 
--- A round: each object is polled once, in order; then the imports that were given up are tried, and what that leads to is worked off.
-pub data Rounds (old : Work) (gave : Bool) (new : Work) (objects others : List Seen) : Type 0 where
-  has_ended : PollsFrom 0 old gave new objects others → IsSome new.link.fault → Rounds old gave new objects others
-  releases : (mid released : Work) (between : List Seen) → PollsFrom 0 old gave mid objects between → mid.link.fault ≡ None → Releases mid released
-      → WorksOff released new between others → Rounds old gave new objects others
+  -- What a happening asks is done: a call goes to its object, whose reply counts, and which may make calls then; an outcome is handed back; and that the vat
+  -- closed is noted.
+  abbrev pub Handles : Happening → Work → Work → List A → List A → Type 0
+  Handles (happenings.Delivered k origin ticket call) old new objects others =
+      (reply : Reply) × (mid : Work) × (between : List A) × Gives k ticket call reply objects between × Replies old origin ticket reply mid
+      × MakesCalls kind k mid new between others
+  Handles (happenings.Settled question outcome) old new objects others = HandsBack kind question outcome old new objects others
+  Handles (happenings.Closed reason) old new objects others = Notes (notices.Closed reason) old new × (others ≡ objects)
+
+  -- What happened is worked off, in order, until nothing is left.
+  pub data WorksOff : Work → Work → List A → List A → Type 0 where
+    none_left : {old : Work} {objects : List A} → old.link.happened ≡ [] → WorksOff old old objects objects
+    handles : {old mid new : Work} {objects between others : List A} (first : Happening) (link : Link) → HandsOut old.link (Some first) link
+        → Handles first (record old { link = link }) mid objects between → WorksOff mid new between others → WorksOff old new objects others
+
+  -- The objects from this place on are polled, one after another. Each may make calls then, and what that leads to is worked off before the next. It is noted
+  -- whether one gave an outcome that was awaited. Once the connection ended, no more is polled.
+  pub data PollsFrom : ℕ → Work → Bool → Work → List A → List A → Type 0 where
+    none_left : {place : ℕ} {old : Work} {objects : List A} → length objects ≤ place → PollsFrom place old false old objects objects
+    has_ended : {place : ℕ} {old : Work} {objects : List A} → IsSome old.link.fault → PollsFrom place old false old objects objects
+    polls : {place : ℕ} {old mid called done new : Work} {objects between asked last others : List A} {gave : Bool} (settled : Option Settled) (first more : Bool)
+        → old.link.fault ≡ None → PollsAt kind place settled objects between → Settles old settled first mid → MakesCalls kind place mid called between asked
+        → WorksOff called done asked last → PollsFrom (place + 1) done more new last others → gave ≡ (first || more) → PollsFrom place old gave new objects others
+
+  -- A round: each object is polled once, in order; then the imports that were given up are tried, and what that leads to is worked off.
+  pub data Rounds (old : Work) (gave : Bool) (new : Work) (objects others : List A) : Type 0 where
+    has_ended : PollsFrom 0 old gave new objects others → IsSome new.link.fault → Rounds old gave new objects others
+    releases : (mid released : Work) (between : List A) → PollsFrom 0 old gave mid objects between → mid.link.fault ≡ None → Releases mid released
+        → WorksOff released new between others → Rounds old gave new objects others
 
 -- the first notice that wasn't taken is handed out, if there is one
 abbrev pub HandsOver : Work → Option Notice → Work → Type 0

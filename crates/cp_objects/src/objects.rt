@@ -4,7 +4,6 @@ ghost use Rattle.std.specs.Prelude.{◌≡◌, ◌∷◌, ◌↔◌, [], true, f
 ghost use Rattle.cp_vat_machine.specs.declared.event.Event.TheVariants as events;
 ghost use Rattle.cp_connection.specs.Link.{Link};
 ghost use Rattle.cp_servants.specs.Outcomes.{bad_outcome};
-ghost use Rattle.cp_servants.specs.Servant.{On};
 ghost use Rattle.cp_objects.specs.Work.{begun, Answers, GivesUp, IsDone, Lives, Notes, Releases, Replies, Stays, Tries};
 ghost use Rattle.cp_objects.specs.Calling.{HandsBack, Hears, MakesCall, MakesCalls, NextCall};
 ghost use Rattle.cp_objects.specs.Rounds.{Gives, Handles, HandsOver, PollsFrom, Rounds, Settles, WorksOff};
@@ -104,7 +103,7 @@ impl Objects {
         connection: &mut Connection,
         objects: &mut [O],
     ) -> Result<(), AllocError>
-        ensures done { OnOk result (On O.seen objects.old objects.new (WorksOff (work_of self.old connection.old) (work_of self.new connection.new))) }
+        ensures done { OnOk result (WorksOff O.kind (work_of self.old connection.old) (work_of self.new connection.new) objects.old objects.new) }
         ensures lives { Lives connection.old connection.new }
     {
         for _ in 0..u64::MAX {
@@ -123,7 +122,7 @@ impl Objects {
         connection: &mut Connection,
         objects: &mut [O],
     ) -> Result<bool, AllocError>
-        ensures done { IfOk result (λ gave. On O.seen objects.old objects.new (Rounds (work_of self.old connection.old) gave (work_of self.new connection.new))) }
+        ensures done { IfOk result (λ gave. Rounds O.kind (work_of self.old connection.old) gave (work_of self.new connection.new) objects.old objects.new) }
         ensures lives { Lives connection.old connection.new }
     {
         let gave = self.poll_each(connection, objects)?;
@@ -163,7 +162,7 @@ impl Objects {
         objects: &mut [O],
         happening: Happening,
     ) -> Result<(), AllocError>
-        ensures done { OnOk result (On O.seen objects.old objects.new (Handles happening (work_of self.old connection.old) (work_of self.new connection.new))) }
+        ensures done { OnOk result (Handles O.kind happening (work_of self.old connection.old) (work_of self.new connection.new) objects.old objects.new) }
         ensures lives { Lives connection.old connection.new }
     {
         match happening {
@@ -201,7 +200,7 @@ impl Objects {
         question: u32,
         outcome: Outcome,
     ) -> Result<(), AllocError>
-        ensures done { OnOk result (On O.seen objects.old objects.new (HandsBack question outcome (work_of self.old connection.old) (work_of self.new connection.new))) }
+        ensures done { OnOk result (HandsBack O.kind question outcome (work_of self.old connection.old) (work_of self.new connection.new) objects.old objects.new) }
         ensures lives { Lives connection.old connection.new }
     {
         let Some(asker) = self.asked.remove(question) else {
@@ -219,7 +218,7 @@ impl Objects {
         objects: &mut [O],
         place: usize,
     ) -> Result<(), AllocError>
-        ensures done { OnOk result (On O.seen objects.old objects.new (MakesCalls place (work_of self.old connection.old) (work_of self.new connection.new))) }
+        ensures done { OnOk result (MakesCalls O.kind place (work_of self.old connection.old) (work_of self.new connection.new) objects.old objects.new) }
         ensures lives { Lives connection.old connection.new }
     {
         for _ in 0..u64::MAX {
@@ -238,7 +237,7 @@ impl Objects {
         objects: &mut [O],
         place: usize,
     ) -> Result<Option<Ask>, AllocError>
-        ensures { IfOk result (λ ask. On O.seen objects.old objects.new (NextCall place (work_of self.now connection.now) ask)) }
+        ensures { IfOk result (λ ask. NextCall O.kind place (work_of self.now connection.now) ask objects.old objects.new) }
     {
         if !self.may_call || place >= objects.len() || has_ended(connection) {
             return Ok(None);
@@ -255,7 +254,7 @@ impl Objects {
         place: usize,
         ask: Ask,
     ) -> Result<(), AllocError>
-        ensures done { OnOk result (On O.seen objects.old objects.new (MakesCall place ask (work_of self.old connection.old) (work_of self.new connection.new))) }
+        ensures done { OnOk result (MakesCall O.kind place ask (work_of self.old connection.old) (work_of self.new connection.new) objects.old objects.new) }
         ensures lives { Lives connection.old connection.new }
     {
         let mark = ask.mark;
@@ -304,7 +303,7 @@ impl Objects {
         connection: &mut Connection,
         objects: &mut [O],
     ) -> Result<bool, AllocError>
-        ensures done { IfOk result (λ gave. On O.seen objects.old objects.new (PollsFrom 0 (work_of self.old connection.old) gave (work_of self.new connection.new))) }
+        ensures done { IfOk result (λ gave. PollsFrom O.kind 0 (work_of self.old connection.old) gave (work_of self.new connection.new) objects.old objects.new) }
         ensures lives { Lives connection.old connection.new }
     {
         let mut gave = false;
@@ -397,7 +396,7 @@ fn reply_of<O: Servant>(
     ticket: u64,
     request: Request,
 ) -> Result<Reply, AllocError>
-    ensures { IfOk result (λ reply. On O.seen objects.old objects.new (Gives place ticket request reply)) }
+    ensures { IfOk result (λ reply. Gives O.kind place ticket request reply objects.old objects.new) }
 {
     if place < objects.len() {
         let reply = call_at(objects, place, ticket, request)?;
@@ -416,7 +415,7 @@ fn tell<O: Servant>(
     mark: u64,
     outcome: Outcome,
 ) -> Result<(), AllocError>
-    ensures { OnOk result (On O.seen objects.old objects.new (Hears place mark outcome)) }
+    ensures { OnOk result (Hears O.kind place mark outcome objects.old objects.new) }
 {
     if place < objects.len() {
         return tell_at(objects, place, mark, outcome);

@@ -1,8 +1,8 @@
 //! Serving the Desk and the Cell.
 
 use cp_frame::Mode;
-use cp_servants::{Cell, Desk, Servant};
-use cp_serve::{ServeFault, serve};
+use cp_samples::{Cell, Desk, Sample};
+use cp_serve::{ServeFault, serve_each};
 use cp_stream::Tap;
 use cp_vat_machine::Reason;
 use std::alloc::Global;
@@ -26,11 +26,11 @@ pub(crate) fn serve_objects<R: Read + Drop, W: Write + Drop>(
     to: W,
     mode: Mode,
 ) -> Result<Ending, ServeFault> {
-    let mut objects: Vec<Box<dyn Servant>> = Vec::new(alloc);
-    objects.push(Box::new(alloc, Desk::new(alloc))?)?;
-    objects.push(Box::new(alloc, Cell::new(alloc))?)?;
+    let mut objects = Vec::new(alloc);
+    objects.push(Sample::Desk(Desk::new(alloc)))?;
+    objects.push(Sample::Cell(Cell::new(alloc)))?;
     let (mut from, mut to) = (Tap::new(from), Tap::new(to));
-    let report = serve(alloc, &mut from, &mut to, &mut objects, mode)?;
+    let report = serve_each(alloc, &mut from, &mut to, &mut objects, mode)?;
     Ok(ending_of(&report.closed))
 }
 

@@ -1,2 +1,2 @@
-pub mod Trees
 pub mod Changing
+pub mod Boxed

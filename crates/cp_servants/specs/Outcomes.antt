@@ -1,7 +1,6 @@
 -- What calls come to, as servers and objects make it.
 use Rattle.std.specs.Prelude.{ℕ, List, [], ◌∷◌, ◌++◌, ◌==◌, codes, if◌then◌else◌}
 use Rattle.std.specs.List.{list_any}
-use Rattle.cp_tree.specs.Node.{cap, struct, node, no_nodes}
 use Rattle.cp_rpc.specs.declared.exception.Exception.{Exception}
 use Rattle.cp_rpc.specs.declared.exception.ExceptionKind.{ExceptionKind}
 use Rattle.cp_rpc.specs.declared.exception.ExceptionKind.TheVariants as kinds
@@ -29,14 +28,6 @@ refused_call = outcomes.Failed (exception_of kinds.Failed (codes "call refused")
 -- what a call fails with of a method that the object doesn't have
 abbrev pub no_such_method : Outcome
 no_such_method = outcomes.Failed (exception_of kinds.Unimplemented (codes "no such method"))
-
--- results of one data word
-abbrev pub word_results : ℕ → Outcome
-word_results word = outcomes.Results (struct (word ∷ []) no_nodes) []
-
--- results of one pointer, to this object
-abbrev pub object_results : ℕ → Outcome
-object_results k = outcomes.Results (struct [] (node (cap 0) no_nodes)) (caps.Object k ∷ [])
 
 -- one more capability was looked at: an import that wasn't noted before is
 abbrev pub noted_with : List ℕ → Cap → List ℕ

@@ -1,7 +1,7 @@
 //! Objects that answer calls.
 
-ghost use Rattle.cp_servants.specs.Servant.{Seen, other, Takes, Polls, MayGoOn, Asks, IsTold};
-ghost use Rattle.std.specs.Prelude.{◌≡◌, true};
+ghost use Rattle.std.specs.Prelude.{◌≡◌, true, IfOk, OnOk};
+ghost use Rattle.cp_servants.specs.Servant.{Kind, any, Asks, IsTold};
 
 use cp_refs::{Cap, Outcome, Request};
 use cp_vat_machine::Ids;
@@ -38,21 +38,21 @@ pub struct Ask {
 
 /// An object that answers calls, at once or when it is polled. `Err` ends the serving.
 pub trait Servant: Drop {
-    /// The object as it is seen. Of most objects nothing is said.
-    ghost seen: { Self → Seen } = { λ _. other };
+    /// What objects of this kind do. Of an object that doesn't say it nothing is known.
+    ghost kind: { Kind Self } = { any };
 
     /// Takes a call. No other call of the connection has its ticket.
     fn call(&mut self, ticket: u64, request: Request) -> Result<Reply, AllocError>
-        ensures { Takes (seen self.old) ticket request result (seen self.new) };
+        ensures { IfOk result (λ reply. kind.takes self.old ticket request reply self.new) };
 
     /// Says what one of the calls came to that were to be answered later, if any did.
     fn poll(&mut self) -> Result<Option<Settled>, AllocError>
-        ensures { Polls (seen self.old) result (seen self.new) };
+        ensures { IfOk result (λ settled. kind.polls self.old settled self.new) };
 
     /// Whether a further poll may give more, though nothing more comes to the object: then a driver that could wait
     /// for its peer polls again first. `serve` asks no object for this, as its rounds follow the messages.
     fn again(&self) -> bool
-        ensures { result ≡ true → MayGoOn (seen self.now) }
+        ensures { result ≡ true → kind.may_go_on self.now }
     {
         false
     }
@@ -60,7 +60,7 @@ pub trait Servant: Drop {
     /// The next call that the object makes, if it makes one more. A driver that lets objects call asks for these after
     /// each call, poll and outcome that the object got, until there is none. `serve` lets none call.
     fn ask(&mut self) -> Result<Option<Ask>, AllocError>
-        ensures { Asks (seen self.old) result (seen self.new) }
+        ensures { IfOk result (λ ask. Asks kind self.old ask self.new) }
     {
         Ok(None)
     }
@@ -68,16 +68,18 @@ pub trait Servant: Drop {
     /// What a call of the object's came to, with the call's mark. The question is finished then: its imports stay until
     /// the object gives them up.
     fn told(&mut self, mark: u64, outcome: Outcome) -> Result<(), AllocError>
-        ensures { IsTold (seen self.old) mark outcome result (seen self.new) }
+        ensures { OnOk result (IsTold kind self.old mark outcome self.new) }
     {
         let _ = (mark, outcome);
         Ok(())
     }
 }
 
-/// A boxed object is the object in the box: so objects of many kinds stand in one list.
+/// A boxed object is of the kind of the object in the box: so objects of many kinds stand in one list.
 impl Servant for Box<dyn Servant> {
-    ghost seen = { λ b. (Servant-box b).seen b.value };
+    ghost use Rattle.cp_servants.specs.Servant.{boxed};
+
+    ghost kind = { boxed (λ b. (Servant-box b).kind) };
 
     fn call(&mut self, ticket: u64, request: Request) -> Result<Reply, AllocError> {
         (**self).call(ticket, request)

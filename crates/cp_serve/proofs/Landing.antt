@@ -13,7 +13,7 @@ use Rattle.cp_connection.specs.Link.{Link}
 use Rattle.cp_serve.specs.declared.fault.ServeFault.{ServeFault}
 use Rattle.cp_serve.specs.declared.fault.ServeFault.TheVariants as faults
 use Rattle.cp_serve.specs.declared.serving.Server.{Server}
-use Rattle.cp_servants.specs.Servant.{Seen}
+use Rattle.cp_servants.specs.Servant.{Kind}
 use Rattle.cp_serve.specs.Output.{Device, AreWrittenAs, Begin, Writes, WritesPart, IsCutOff, StopsFor}
 use Rattle.cp_serve.specs.Reached.{Reached, GoesOn, Fills, AllOut, ahead, ready_of}
 use Rattle.cp_serve.proofs.Written.{ahead_none, writes_all}
@@ -134,8 +134,8 @@ module _ {mode : Mode} {held : Device} (to new : Device) (block : List ℕ) (mov
     appends = lands held.bytes to.bytes new.bytes block (h.bytes ++ h.part) h.appends moved;
   }
 
-  module _ {start : List Seen} where
-    abbrev lands_cut : (bytes : List ℕ) (left : Option (List ℕ)) → IsCutOff mode start bytes left held (ahead to block) → IsCutOff mode start bytes left held new
+  module _ {A : Type 0} {kind : Kind A} {start : List A} where
+    abbrev lands_cut : (bytes : List ℕ) (left : Option (List ℕ)) → IsCutOff kind mode start bytes left held (ahead to block) → IsCutOff kind mode start bytes left held new
     lands_cut bytes left h = record {
       taken = h.taken;
       rest = h.rest;
@@ -148,9 +148,9 @@ module _ {mode : Mode} {held : Device} (to new : Device) (block : List ℕ) (mov
 failed_there : (a b c : ℕ) → c ≡ b → FailedOnce a b → FailedOnce a c
 failed_there a b c same h = subst (λ (n : ℕ). FailedOnce a n) (sym same) h
 
-module _ (mode : Mode) (start : List Seen) (held to new : Device) (block : List ℕ) (moved : Appends to.bytes new.bytes block) (same : new.failures ≡ to.failures) where
-  pub lands_stops : (bytes : List ℕ) (from left : Device) (objects : List Seen) (fault : ServeFault) → StopsFor mode start bytes from left held (ahead to block) objects fault
-      → StopsFor mode start bytes from left held new objects fault
+module _ {A : Type 0} (kind : Kind A) (mode : Mode) (start : List A) (held to new : Device) (block : List ℕ) (moved : Appends to.bytes new.bytes block) (same : new.failures ≡ to.failures) where
+  pub lands_stops : (bytes : List ℕ) (from left : Device) (objects : List A) (fault : ServeFault) → StopsFor kind mode start bytes from left held (ahead to block) objects fault
+      → StopsFor kind mode start bytes from left held new objects fault
   lands_stops bytes from left objects (faults.Stream (streams.Refused at refusal)) (inl h) = inl (record {
     before = record {
       taken = h.before.taken;
@@ -188,8 +188,8 @@ module _ {mode : Mode} {held : Device} (to new : Device) (block gone left : List
         appends = subst (λ (x : List ℕ). Appends held.bytes new.bytes x) cut.is place.3;
       }
 
-  pub stops_broken : {start : List Seen} {before : List Message} (bytes : List ℕ) (from upto : Device) (others : List Seen) → Writes mode before held to
-      → IsCutOff mode start bytes upto.bytes held (ahead to block) → FailedOnce to.failures new.failures → StopsFor mode start bytes from upto held new others (faults.Stream streams.Device)
+  pub stops_broken : {A : Type 0} {kind : Kind A} {start : List A} {before : List Message} (bytes : List ℕ) (from upto : Device) (others : List A) → Writes mode before held to
+      → IsCutOff kind mode start bytes upto.bytes held (ahead to block) → FailedOnce to.failures new.failures → StopsFor kind mode start bytes from upto held new others (faults.Stream streams.Device)
   stops_broken bytes from upto others b h failed = (
     inr (subst (λ (n : ℕ). FailedOnce n new.failures) b.counted failed),
     record {
@@ -207,10 +207,10 @@ whole : (bytes fed left front back piece : List ℕ) → piece ≡ fed ++ left �
 whole bytes fed left front back piece e f =
     append_assoc (bytes ++ fed) front back ∙ ap (λ (x : List ℕ). (bytes ++ fed) ++ x) (sym f) ∙ append_assoc bytes fed left ∙ ap (λ (x : List ℕ). bytes ++ x) (sym e)
 
-module _ {mode : Mode} {start : List Seen} {held : Device} where
+module _ {A : Type 0} {kind : Kind A} {mode : Mode} {start : List A} {held : Device} where
   -- a run that stops was cut off
-  cut_of_stops : (bytes : List ℕ) (from left : Device) {to : Device} (objects : List Seen) (fault : ServeFault) → StopsFor mode start bytes from left held to objects fault
-      → IsCutOff mode start bytes left.bytes held to
+  cut_of_stops : (bytes : List ℕ) (from left : Device) {to : Device} (objects : List A) (fault : ServeFault) → StopsFor kind mode start bytes from left held to objects fault
+      → IsCutOff kind mode start bytes left.bytes held to
   cut_of_stops bytes from left {to = to} objects (faults.Stream (streams.Refused at refusal)) (inl h) = record {
     taken = h.before.taken;
     rest = h.before.rest;
@@ -224,40 +224,40 @@ module _ {mode : Mode} {start : List Seen} {held : Device} where
   cut_of_stops bytes from left objects faults.OutOfMemory h = h
 
   -- so is one that goes on
-  cut_of_goes : (bytes more : List ℕ) (left : Option (List ℕ)) {s : Server} {seen : List Seen} {to : Device} → GoesOn mode start held bytes s seen to → IsCutOff mode start (bytes ++ more) left held (ahead to (ready_of s))
+  cut_of_goes : (bytes more : List ℕ) (left : Option (List ℕ)) {s : Server} {seen : List A} {to : Device} → GoesOn kind mode start held bytes s seen to → IsCutOff kind mode start (bytes ++ more) left held (ahead to (ready_of s))
   cut_of_goes bytes more left {s = s} {seen = seen} {to = to} h = by h
     where
-      there : (rest : List ℕ) → Reached mode start held bytes rest s seen to → IsCutOff mode start (bytes ++ more) left held (ahead to (ready_of s))
-      there rest r = subst (λ (x : List ℕ). IsCutOff mode start (bytes ++ more) left held (ahead to x)) (sym (is_all_ready bytes rest s r)) (cut_there bytes rest more left r)
+      there : (rest : List ℕ) → Reached kind mode start held bytes rest s seen to → IsCutOff kind mode start (bytes ++ more) left held (ahead to (ready_of s))
+      there rest r = subst (λ (x : List ℕ). IsCutOff kind mode start (bytes ++ more) left held (ahead to x)) (sym (is_all_ready bytes rest s r)) (cut_there bytes rest more left r)
 
-      by : GoesOn mode start held bytes s seen to → IsCutOff mode start (bytes ++ more) left held (ahead to (ready_of s))
+      by : GoesOn kind mode start held bytes s seen to → IsCutOff kind mode start (bytes ++ more) left held (ahead to (ready_of s))
       by (inl r) = there r.0 r.1
       by (inr r) = there r.0 r.1
 
-  pub cut_of_fills : (bytes fed left piece back : List ℕ) (upto : Option (List ℕ)) {s : Server} {seen : List Seen} {to : Device} → piece ≡ fed ++ left
-      → Fills mode start held (bytes ++ fed) left back s seen to → IsCutOff mode start (bytes ++ piece) upto held (ahead to (ready_of s))
+  pub cut_of_fills : (bytes fed left piece back : List ℕ) (upto : Option (List ℕ)) {s : Server} {seen : List A} {to : Device} → piece ≡ fed ++ left
+      → Fills kind mode start held (bytes ++ fed) left back s seen to → IsCutOff kind mode start (bytes ++ piece) upto held (ahead to (ready_of s))
   cut_of_fills bytes fed left piece back upto {s = s} {to = to} e h =
-      subst (λ (x : List ℕ). IsCutOff mode start x upto held (ahead to (ready_of s))) (whole bytes fed left h.0 back piece e h.1) (cut_of_goes ((bytes ++ fed) ++ h.0) back upto h.2)
+      subst (λ (x : List ℕ). IsCutOff kind mode start x upto held (ahead to (ready_of s))) (whole bytes fed left h.0 back piece e h.1) (cut_of_goes ((bytes ++ fed) ++ h.0) back upto h.2)
 
-  pub cut_of_stopped : (bytes fed left piece : List ℕ) (from upto : Device) (objects : List Seen) {to : Device} → piece ≡ fed ++ left → (fault : ServeFault)
-      → StopsFor mode start ((bytes ++ fed) ++ left) from upto held to objects fault → IsCutOff mode start (bytes ++ piece) upto.bytes held to
+  pub cut_of_stopped : (bytes fed left piece : List ℕ) (from upto : Device) (objects : List A) {to : Device} → piece ≡ fed ++ left → (fault : ServeFault)
+      → StopsFor kind mode start ((bytes ++ fed) ++ left) from upto held to objects fault → IsCutOff kind mode start (bytes ++ piece) upto.bytes held to
   cut_of_stopped bytes fed left piece from upto objects {to = to} e fault h =
-      subst (λ (x : List ℕ). IsCutOff mode start x upto.bytes held to) (append_assoc bytes fed left ∙ ap (λ (x : List ℕ). bytes ++ x) (sym e)) (cut_of_stops ((bytes ++ fed) ++ left) from upto objects fault h)
+      subst (λ (x : List ℕ). IsCutOff kind mode start x upto.bytes held to) (append_assoc bytes fed left ∙ ap (λ (x : List ℕ). bytes ++ x) (sym e)) (cut_of_stops ((bytes ++ fed) ++ left) from upto objects fault h)
 
   -- the connection ended within the piece
-  pub goes_ended : (bytes fed left piece back : List ℕ) {s : Server} {seen : List Seen} {to : Device} → piece ≡ fed ++ left → Fills mode start held (bytes ++ fed) left back s seen to
-      → IsSome s.connection.fault → GoesOn mode start held (bytes ++ piece) s seen to
+  pub goes_ended : (bytes fed left piece back : List ℕ) {s : Server} {seen : List A} {to : Device} → piece ≡ fed ++ left → Fills kind mode start held (bytes ++ fed) left back s seen to
+      → IsSome s.connection.fault → GoesOn kind mode start held (bytes ++ piece) s seen to
   goes_ended bytes fed left piece back {s = s} {seen = seen} {to = to} e h ended = by h.2
     where
-      there : (rest : List ℕ) → Reached mode start held ((bytes ++ fed) ++ h.0) rest s seen to → GoesOn mode start held (bytes ++ piece) s seen to
+      there : (rest : List ℕ) → Reached kind mode start held ((bytes ++ fed) ++ h.0) rest s seen to → GoesOn kind mode start held (bytes ++ piece) s seen to
       there rest r =
           inr (
             rest ++ back,
-            subst (λ (x : List ℕ). Reached mode start held x (rest ++ back) s seen to) (whole bytes fed left h.0 back piece e h.1) (reached_on ((bytes ++ fed) ++ h.0) rest back s s.connection.reading r),
+            subst (λ (x : List ℕ). Reached kind mode start held x (rest ++ back) s seen to) (whole bytes fed left h.0 back piece e h.1) (reached_on ((bytes ++ fed) ++ h.0) rest back s s.connection.reading r),
             ended,
           )
 
-      by : GoesOn mode start held ((bytes ++ fed) ++ h.0) s seen to → GoesOn mode start held (bytes ++ piece) s seen to
+      by : GoesOn kind mode start held ((bytes ++ fed) ++ h.0) s seen to → GoesOn kind mode start held (bytes ++ piece) s seen to
       by (inl r) = there r.0 r.1
       by (inr r) = there r.0 r.1
 
@@ -271,9 +271,9 @@ is_written_out s new ready l e =
     let none : drop s.ready s.connection.unwritten ≡ [] = drop_of_length-le s.connection.unwritten {i = s.ready} (omega (arith, ready)) in
     e ∙ ap (λ (x : Link). record s { connection = x; ready = 0 }) (l ∙ ap (λ (u : List ℕ). record s.connection { unwritten = u }) none)
 
-module _ {mode : Mode} {start : List Seen} {held : Device} (s new : Server) (to after : Device) (l : new.connection ≡ record s.connection { unwritten = drop s.ready s.connection.unwritten })
+module _ {A : Type 0} {kind : Kind A} {mode : Mode} {start : List A} {held : Device} (s new : Server) (to after : Device) (l : new.connection ≡ record s.connection { unwritten = drop s.ready s.connection.unwritten })
     (e : new ≡ record s { connection = new.connection; ready = 0 }) (moved : Appends to.bytes after.bytes (ready_of s)) (same : after.failures ≡ to.failures) where
-  lands_reached : (bytes rest : List ℕ) {seen : List Seen} → Reached mode start held bytes rest s seen to → Reached mode start held bytes rest (written_out s) seen after
+  lands_reached : (bytes rest : List ℕ) {seen : List A} → Reached kind mode start held bytes rest s seen to → Reached kind mode start held bytes rest (written_out s) seen after
   lands_reached bytes rest r = record {
     taken = r.taken;
     sent = r.sent;
@@ -293,27 +293,28 @@ module _ {mode : Mode} {start : List Seen} {held : Device} (s new : Server) (to 
   }
 
   -- what was reached is there once it went out
-  lands_goes : (bytes : List ℕ) {seen : List Seen} → GoesOn mode start held bytes s seen to → GoesOn mode start held bytes new seen after
+  lands_goes : (bytes : List ℕ) {seen : List A} → GoesOn kind mode start held bytes s seen to → GoesOn kind mode start held bytes new seen after
   lands_goes bytes {seen = seen} (inl h) =
-      subst (λ (x : Server). GoesOn mode start held bytes x seen after) (sym (is_written_out s new h.1.all_ready l e)) (inl (h.0, lands_reached bytes h.0 h.1, record { came = h.2.came; is_open = h.2.is_open }))
+      subst (λ (x : Server). GoesOn kind mode start held bytes x seen after) (sym (is_written_out s new h.1.all_ready l e)) (inl (h.0, lands_reached bytes h.0 h.1, record { came = h.2.came; is_open = h.2.is_open }))
   lands_goes bytes {seen = seen} (inr h) =
-      subst (λ (x : Server). GoesOn mode start held bytes x seen after) (sym (is_written_out s new h.1.all_ready l e)) (inr (h.0, lands_reached bytes h.0 h.1, h.2))
+      subst (λ (x : Server). GoesOn kind mode start held bytes x seen after) (sym (is_written_out s new h.1.all_ready l e)) (inr (h.0, lands_reached bytes h.0 h.1, h.2))
 
-  pub lands_fills : (bytes piece back : List ℕ) {seen : List Seen} → Fills mode start held bytes piece back s seen to → Fills mode start held bytes piece back new seen after
+  pub lands_fills : (bytes piece back : List ℕ) {seen : List A} → Fills kind mode start held bytes piece back s seen to → Fills kind mode start held bytes piece back new seen after
   lands_fills bytes piece back h = (h.0, h.1, lands_goes (bytes ++ h.0) h.2)
 
   -- and nothing is left to go out
-  pub lands_out : (bytes piece back : List ℕ) {seen : List Seen} → Fills mode start held bytes piece back s seen to → AllOut new
+  pub lands_out : (bytes piece back : List ℕ) {seen : List A} → Fills kind mode start held bytes piece back s seen to → AllOut new
   lands_out bytes piece back {seen = seen} h = by h.2
     where
-      by : GoesOn mode start held (bytes ++ h.0) s seen to → AllOut new
+      by : GoesOn kind mode start held (bytes ++ h.0) s seen to → AllOut new
       by (inl r) = ap (λ (x : Server). x.connection.unwritten) (is_written_out s new r.1.all_ready l e)
       by (inr r) = ap (λ (x : Server). x.connection.unwritten) (is_written_out s new r.1.all_ready l e)
 
-pub stops_whole : (mode : Mode) (start : List Seen) (held to : Device) (objects : List Seen) (bytes fed left piece : List ℕ) (from upto : Device) → piece ≡ fed ++ left → (fault : ServeFault)
-    → StopsFor mode start ((bytes ++ fed) ++ left) from upto held to objects fault → StopsFor mode start (bytes ++ piece) from upto held to objects fault
-stops_whole mode start held to objects bytes fed left piece from upto e fault h =
-    subst (λ (x : List ℕ). StopsFor mode start x from upto held to objects fault) (append_assoc bytes fed left ∙ ap (λ (x : List ℕ). bytes ++ x) (sym e)) h
+module _ {A : Type 0} (kind : Kind A) where
+  pub stops_whole : (mode : Mode) (start : List A) (held to : Device) (objects : List A) (bytes fed left piece : List ℕ) (from upto : Device) → piece ≡ fed ++ left → (fault : ServeFault)
+      → StopsFor kind mode start ((bytes ++ fed) ++ left) from upto held to objects fault → StopsFor kind mode start (bytes ++ piece) from upto held to objects fault
+  stops_whole mode start held to objects bytes fed left piece from upto e fault h =
+      subst (λ (x : List ℕ). StopsFor kind mode start x from upto held to objects fault) (append_assoc bytes fed left ∙ ap (λ (x : List ℕ). bytes ++ x) (sym e)) h
 
 -- either way
 pub either_way : {T E C : Type 0} {P : T → Type 0} {Q : E → Type 0} (r : Result T E) → IfOk r P → IfErr r Q → ((x : T) → P x → C) → ((e : E) → Q e → C) → C

@@ -37,9 +37,8 @@ use Rattle.cp_connection.specs.Receiving as receiving
 use Rattle.cp_connection.specs.Refusing.{refusal_of}
 use Rattle.cp_connection.proofs.Living.{lives_move}
 use Rattle.cp_connection.proofs.Moving.{moves_received, moves_unreceived}
-use Rattle.cp_servants.specs.Servant.{Seen}
+use Rattle.cp_servants.specs.Servant.{Kind}
 use Rattle.cp_objects.specs.Work as objects
-use Rattle.cp_objects.specs.WorkOf.{work_of}
 use Rattle.cp_serve.specs.declared.fault.ServeFault.{ServeFault}
 use Rattle.cp_serve.specs.declared.fault.ServeFault.TheVariants as faults
 use Rattle.cp_serve.specs.declared.serving.Server.{Server}
@@ -48,7 +47,7 @@ use Rattle.cp_serve.specs.Service.{TakesAll, none_taken, takes_more, written, ne
 use Rattle.cp_serve.specs.Output.{Device, Writes, IsPlace, IsFaultOfRest, IsOver, HasTaken, IsCutOff, StopsFor, ReadsTo}
 use Rattle.cp_serve.specs.Faults.{fault_of}
 use Rattle.cp_serve.specs.Matching.{Matches, Rests}
-use Rattle.cp_serve.specs.Reached.{owed, ahead, ready_of, AllOut, Reached, ReadsOn, Serves, GoesOn, Fills, TakesFront, FrontStops, WorksOut, Concludes}
+use Rattle.cp_serve.specs.Reached.{owed, ahead, ready_of, AllOut, Reached, ReadsOn, Serves, GoesOn, Fills, TakesFront, FrontStops, WorksOut, Concludes, IsNew}
 use Rattle.cp_serve.proofs.Written.{ahead_none, queued, writes_none, writes_both, writes_all}
 use Rattle.cp_serve.proofs.Simulating.{refusal_is, open_work, closed_work, rests_after, follows_message}
 
@@ -88,9 +87,10 @@ moves_grow h = (h.bytes, sym h.goes_out)
 pub kept_front : (u v more : List ℕ) (n : ℕ) → v ≡ u ++ more → n ≡ length u → take n v ≡ u
 kept_front u v more n e f = ap (λ (k : ℕ). take k v) f ∙ ap (λ (x : List ℕ). take (length u) x) e ∙ take-append_seam u more
 
--- all that is to go out is ready
-pub is_all_ready : {mode : Mode} {start : List Seen} {held : Device} (bytes rest : List ℕ) (s : Server) {seen : List Seen} {to : Device} → Reached mode start held bytes rest s seen to → ready_of s ≡ s.connection.unwritten
-is_all_ready bytes rest s r = kept_front s.connection.unwritten s.connection.unwritten [] s.ready (sym (append-nil s.connection.unwritten)) r.all_ready
+module _ {A : Type 0} {kind : Kind A} where
+  -- all that is to go out is ready
+  pub is_all_ready : {mode : Mode} {start : List A} {held : Device} (bytes rest : List ℕ) (s : Server) {seen : List A} {to : Device} → Reached kind mode start held bytes rest s seen to → ready_of s ≡ s.connection.unwritten
+  is_all_ready bytes rest s r = kept_front s.connection.unwritten s.connection.unwritten [] s.ready (sym (append-nil s.connection.unwritten)) r.all_ready
 
 -- ---- connections that go on as they were
 
@@ -124,11 +124,11 @@ fault_of_rest mode rest left (refusals.Tree fault) h = h
 fault_of_rest mode rest left (refusals.Schema fault) h = h
 fault_of_rest mode rest left (refusals.Write fault) h = h
 
-module _ {mode : Mode} {start : List Seen} {held : Device} where
+module _ {A : Type 0} {kind : Kind A} {mode : Mode} {start : List A} {held : Device} where
   -- ---- bytes that end no frame
 
-  pub reached_on : (bytes rest more : List ℕ) (s : Server) (state : frames.State) {seen : List Seen} {to : Device} → Reached mode start held bytes rest s seen to
-      → Reached mode start held (bytes ++ more) (rest ++ more) (record s { connection = record s.connection { reading = state } }) seen to
+  pub reached_on : (bytes rest more : List ℕ) (s : Server) (state : frames.State) {seen : List A} {to : Device} → Reached kind mode start held bytes rest s seen to
+      → Reached kind mode start held (bytes ++ more) (rest ++ more) (record s { connection = record s.connection { reading = state } }) seen to
   reached_on bytes rest more s state r = record {
     taken = r.taken;
     sent = r.sent;
@@ -145,18 +145,18 @@ module _ {mode : Mode} {start : List Seen} {held : Device} where
     same_limits = r.same_limits;
   }
 
-  serves_on : (bytes rest piece : List ℕ) (s : Server) (link : Link) {seen : List Seen} {to : Device} → Reached mode start held bytes rest s seen to → HasCome s.connection rest
-      → receiving.ReadsOn s.connection piece link → Serves mode start held (bytes ++ piece) (record s { connection = link }) seen to
+  serves_on : (bytes rest piece : List ℕ) (s : Server) (link : Link) {seen : List A} {to : Device} → Reached kind mode start held bytes rest s seen to → HasCome s.connection rest
+      → receiving.ReadsOn s.connection piece link → Serves kind mode start held (bytes ++ piece) (record s { connection = link }) seen to
   serves_on bytes rest piece s link {seen = seen} {to = to} r came reads = (
     rest ++ piece,
-    subst (λ (l : Link). Reached mode start held (bytes ++ piece) (rest ++ piece) (record s { connection = l }) seen to) (sym reads.same) (reached_on bytes rest piece s link.reading r),
+    subst (λ (l : Link). Reached kind mode start held (bytes ++ piece) (rest ++ piece) (record s { connection = l }) seen to) (sym reads.same) (reached_on bytes rest piece s link.reading r),
     record { came = reads.came rest came; is_open = ap (λ (l : Link). l.fault) reads.same ∙ reads.was_open },
   )
 
   -- ---- a message more
 
-  module _ (bytes rest front : List ℕ) (s new : Server) (m : Message) (mid link : Link) {seen others : List Seen} {to : Device} (r : Reached mode start held bytes rest s seen to) (on : ReadsOn rest s)
-      (reads : Reads s.connection front m mid) (d : Does mid (events.Receive m) (Ok values.Nothing) link) (works : WorksOut (record s { connection = link }) new seen others)
+  module _ (bytes rest front : List ℕ) (s new : Server) (m : Message) (mid link : Link) {seen others : List A} {to : Device} (r : Reached kind mode start held bytes rest s seen to) (on : ReadsOn rest s)
+      (reads : Reads s.connection front m mid) (d : Does mid (events.Receive m) (Ok values.Nothing) link) (works : WorksOut kind (record s { connection = link }) new seen others)
       (ready : new.ready ≡ length new.connection.unwritten) where
     begins : Rests r.last (record (owed s) { link = mid })
     begins = rests_as r.rests mid (ap (λ (l : Link). l.vat) reads.same) (ap (λ (l : Link). l.happened) reads.same) (ap (λ (l : Link). l.fault) reads.same)
@@ -167,8 +167,8 @@ module _ {mode : Mode} {start : List Seen} {held : Device} where
     is_frame : IsFrameOf mode standard (rest ++ front) m
     is_frame = subst (λ (l : Bounds). IsFrameOf mode l (rest ++ front) m) r.same_limits (subst (λ (x : Mode). IsFrameOf x s.connection.limits (rest ++ front) m) r.same_mode (reads.is_frame rest on.came))
 
-    goes_on_after : (next : Work) → Matches mid next (owed new) → next.effects ≡ [] → TakesAll new_work start (r.taken ++ m ∷ []) (r.sent ++ next.sent) (written next) others
-        → GoesOn mode start held (bytes ++ front) new others to
+    goes_on_after : (next : Work) → Matches mid next (owed new) → next.effects ≡ [] → TakesAll kind new_work start (r.taken ++ m ∷ []) (r.sent ++ next.sent) (written next) others
+        → GoesOn kind mode start held (bytes ++ front) new others to
     goes_on_after next matches none takes = by new.connection.fault refl
       where
         same_mode : mid.mode ≡ mode
@@ -182,7 +182,7 @@ module _ {mode : Mode} {start : List Seen} {held : Device} where
         goes_out : new.connection.unwritten ≡ s.connection.unwritten ++ matches.bytes
         goes_out = matches.goes_out ∙ ap (λ (x : List ℕ). x ++ matches.bytes) (ap (λ (l : Link). l.unwritten) reads.same)
 
-        there : Reached mode start held (bytes ++ front) [] new others to
+        there : Reached kind mode start held (bytes ++ front) [] new others to
         there = record {
           taken = r.taken ++ m ∷ [];
           sent = r.sent ++ next.sent;
@@ -208,11 +208,11 @@ module _ {mode : Mode} {start : List Seen} {held : Device} where
         came : HasCome new.connection []
         came = rw (matches.same_mode, matches.same_limits, matches.same_reading) reads.fresh
 
-        by : (f : Option ConnectionFault) → new.connection.fault ≡ f → GoesOn mode start held (bytes ++ front) new others to
+        by : (f : Option ConnectionFault) → new.connection.fault ≡ f → GoesOn kind mode start held (bytes ++ front) new others to
         by None e = inl ([], there, record { came = came; is_open = e })
         by (Some fault) e = inr ([], there, subst (λ (f : Option ConnectionFault). IsSome f) (sym e) refl)
 
-    serves_more : GoesOn mode start held (bytes ++ front) new others to
+    serves_more : GoesOn kind mode start held (bytes ++ front) new others to
     serves_more =
         let more = follows_message m link works.2 d works.3 works.4 r.last begins.matches in
         let still = (open_work s.connection r.last (owed s) r.rests.matches on.is_open).0 in
@@ -221,8 +221,8 @@ module _ {mode : Mode} {start : List Seen} {held : Device} where
   -- ---- cut off
 
   -- what was reached, cut off there
-  abbrev pub cut_there : (bytes rest more : List ℕ) (left : Option (List ℕ)) {s : Server} {seen : List Seen} {to : Device} → Reached mode start held bytes rest s seen to
-      → IsCutOff mode start (bytes ++ more) left held (ahead to s.connection.unwritten)
+  abbrev pub cut_there : (bytes rest more : List ℕ) (left : Option (List ℕ)) {s : Server} {seen : List A} {to : Device} → Reached kind mode start held bytes rest s seen to
+      → IsCutOff kind mode start (bytes ++ more) left held (ahead to s.connection.unwritten)
   cut_there bytes rest more left {s = s} {to = to} r = record {
     taken = r.taken;
     rest = rest ++ more;
@@ -233,8 +233,8 @@ module _ {mode : Mode} {start : List Seen} {held : Device} where
   }
 
   -- what was reached, with bytes after it that end no frame
-  abbrev has_taken : (bytes rest more : List ℕ) {s : Server} {seen : List Seen} {to : Device} → Reached mode start held bytes rest s seen to → s.connection.fault ≡ None
-      → HasTaken mode start (bytes ++ more) held (ahead to s.connection.unwritten) seen
+  abbrev has_taken : (bytes rest more : List ℕ) {s : Server} {seen : List A} {to : Device} → Reached kind mode start held bytes rest s seen to → s.connection.fault ≡ None
+      → HasTaken kind mode start (bytes ++ more) held (ahead to s.connection.unwritten) seen
   has_taken bytes rest more {s = s} r is_open = record {
     taken = r.taken;
     rest = rest ++ more;
@@ -249,8 +249,8 @@ module _ {mode : Mode} {start : List Seen} {held : Device} where
   -- ---- a piece isn't taken
 
   -- the bytes can't be read on
-  stops_unread : (bytes rest piece : List ℕ) (from left : Device) (s : Server) {seen : List Seen} {to : Device} → Reached mode start held bytes rest s seen to → ReadsOn rest s → (fault : ConnectionFault)
-      → IsUnread s.connection piece fault → StopsFor mode start (bytes ++ piece) from left held (ahead to s.connection.unwritten) seen (fault_of fault)
+  stops_unread : (bytes rest piece : List ℕ) (from left : Device) (s : Server) {seen : List A} {to : Device} → Reached kind mode start held bytes rest s seen to → ReadsOn rest s → (fault : ConnectionFault)
+      → IsUnread s.connection piece fault → StopsFor kind mode start (bytes ++ piece) from left held (ahead to s.connection.unwritten) seen (fault_of fault)
   stops_unread bytes rest piece from left s r on (connections.Unreadable at refusal) h = inl (record {
     before = has_taken bytes rest piece r on.is_open;
     fault =
@@ -264,11 +264,11 @@ module _ {mode : Mode} {start : List Seen} {held : Device} where
 
   -- ---- all that was ready went out
 
-  pub all_written : (bytes rest : List ℕ) (s : Server) {seen : List Seen} {to : Device} → (r : Reached mode start held bytes rest s seen to) → AllOut s → Writes mode r.sent held to
+  pub all_written : (bytes rest : List ℕ) (s : Server) {seen : List A} {to : Device} → (r : Reached kind mode start held bytes rest s seen to) → AllOut s → Writes mode r.sent held to
   all_written bytes rest s {to = to} r out = subst (λ (d : Device). Writes mode r.sent held d) (ahead_none to s.connection.unwritten out) r.writes
 
   -- what was reached
-  abbrev pub taken_out : (bytes rest : List ℕ) (s : Server) {seen : List Seen} {to : Device} → Reached mode start held bytes rest s seen to → AllOut s → s.connection.fault ≡ None → HasTaken mode start bytes held to seen
+  abbrev pub taken_out : (bytes rest : List ℕ) (s : Server) {seen : List A} {to : Device} → Reached kind mode start held bytes rest s seen to → AllOut s → s.connection.fault ≡ None → HasTaken kind mode start bytes held to seen
   taken_out bytes rest s r out is_open = record {
     taken = r.taken;
     rest = rest;
@@ -281,16 +281,16 @@ module _ {mode : Mode} {start : List Seen} {held : Device} where
   }
 
   -- cut off there
-  abbrev pub cut_out : (bytes rest : List ℕ) (left : Option (List ℕ)) (s : Server) {seen : List Seen} {to : Device} → Reached mode start held bytes rest s seen to → AllOut s → IsCutOff mode start bytes left held to
+  abbrev pub cut_out : (bytes rest : List ℕ) (left : Option (List ℕ)) (s : Server) {seen : List A} {to : Device} → Reached kind mode start held bytes rest s seen to → AllOut s → IsCutOff kind mode start bytes left held to
   cut_out bytes rest left s {to = to} r out =
       record { taken = r.taken; rest = rest; messages = r.messages; sent = r.sent; starts = inl (_, _, r.takes); writes = writes_all held to (all_written bytes rest s r out) }
 
   -- the stream ends inside a frame
-  pub stops_inside : (bytes rest : List ℕ) (from left : Device) (s : Server) (link : Link) {seen : List Seen} {to : Device} → Reached mode start held bytes rest s seen to → ReadsOn rest s → AllOut s
-      → (fault : ConnectionFault) → EndsBadly s.connection fault link → IsAtEnd left.bytes → StopsFor mode start bytes from left held to seen (fault_of fault)
+  pub stops_inside : (bytes rest : List ℕ) (from left : Device) (s : Server) (link : Link) {seen : List A} {to : Device} → Reached kind mode start held bytes rest s seen to → ReadsOn rest s → AllOut s
+      → (fault : ConnectionFault) → EndsBadly s.connection fault link → IsAtEnd left.bytes → StopsFor kind mode start bytes from left held to seen (fault_of fault)
   stops_inside bytes rest from left s link r on out fault (inl ended) at_end = no_fault s.connection.fault on.is_open ended.0
   stops_inside bytes rest from left s link {seen = seen} {to = to} r on out fault (inr h) at_end =
-      subst (λ (f : ConnectionFault). StopsFor mode start bytes from left held to seen (fault_of f)) (sym h.0)
+      subst (λ (f : ConnectionFault). StopsFor kind mode start bytes from left held to seen (fault_of f)) (sym h.0)
       (inl (record {
         before = taken_out bytes rest s r out on.is_open;
         fault = (
@@ -311,10 +311,10 @@ refusal_full refusal = by (refusal_is refusal)
 
 -- ---- the clauses of a piece that is read up to the end of a frame
 
-module _ (old : Server) (piece : List ℕ) (link : Link) where
+module _ {A : Type 0} {kind : Kind A} (old : Server) (piece : List ℕ) (link : Link) where
   -- no frame ends in it
-  takes_none : (count : ℕ) (back : List ℕ) {seen : List Seen} → Receives old.connection piece count link → frames.taken_of link.reading ≢ 0 → back ≡ drop count piece
-      → TakesFront old piece back (record old { connection = link }) seen seen
+  takes_none : (count : ℕ) (back : List ℕ) {seen : List A} → Receives old.connection piece count link → frames.taken_of link.reading ≢ 0 → back ≡ drop count piece
+      → TakesFront kind old piece back (record old { connection = link }) seen seen
   takes_none count back {seen = seen} (inl h) some e mode start held to bytes serves = (
     piece,
     sym (ap (λ (x : List ℕ). piece ++ x) (e ∙ ap (λ (n : ℕ). drop n piece) h.0 ∙ drop_of_length-le piece {i = length piece} (omega arith)) ∙ append-nil piece),
@@ -324,8 +324,8 @@ module _ (old : Server) (piece : List ℕ) (link : Link) where
       absurd (some (ap (λ (s : frames.State). frames.taken_of s) h.7.same_reading ∙ came_is h.3.mode h.3.limits h.3.reading [] h.6.fresh.0 h.6.fresh.1))
 
   -- a frame ends in it
-  takes_one : (count : ℕ) (back : List ℕ) (new : Server) {seen others : List Seen} → Receives old.connection piece count link → frames.taken_of link.reading ≡ 0 → 0 < length piece → back ≡ drop count piece
-      → WorksOut (record old { connection = link }) new seen others → new.ready ≡ length new.connection.unwritten → TakesFront old piece back new seen others
+  takes_one : (count : ℕ) (back : List ℕ) (new : Server) {seen others : List A} → Receives old.connection piece count link → frames.taken_of link.reading ≡ 0 → 0 < length piece → back ≡ drop count piece
+      → WorksOut kind (record old { connection = link }) new seen others → new.ready ≡ length new.connection.unwritten → TakesFront kind old piece back new seen others
   takes_one count back new (inl h) none some e works ready mode start held to bytes serves =
       let came = h.1.came serves.0 serves.2.came in
       absurd (omega (arith, some, none, came_is link.mode link.limits link.reading (serves.0 ++ piece) came.0 came.1, length-append serves.0 piece))
@@ -336,58 +336,58 @@ module _ (old : Server) (piece : List ℕ) (link : Link) where
   )
 
   -- either way
-  pub takes_front : (count : ℕ) (back : List ℕ) (new : Server) {seen others : List Seen} → Receives old.connection piece count link → 0 < length piece → back ≡ drop count piece → Concludes (record old { connection = link }) new seen others
-      → TakesFront old piece back new seen others
+  pub takes_front : (count : ℕ) (back : List ℕ) (new : Server) {seen others : List A} → Receives old.connection piece count link → 0 < length piece → back ≡ drop count piece → Concludes kind (record old { connection = link }) new seen others
+      → TakesFront kind old piece back new seen others
   takes_front count back new {seen = seen} received some e (inl h) =
-      subst (λ (o : List Seen). TakesFront old piece back new seen o) (sym h.2) (subst (λ (x : Server). TakesFront old piece back x seen seen) (sym h.1) (takes_none count back received h.0 e))
+      subst (λ (o : List A). TakesFront kind old piece back new seen o) (sym h.2) (subst (λ (x : Server). TakesFront kind old piece back x seen seen) (sym h.1) (takes_none count back received h.0 e))
   takes_front count back new received some e (inr h) = takes_one count back new received h.0 some e h.1 h.2
 
   -- memory ran out for what a message leads to
-  pub stops_working : (count : ℕ) (new : Server) {seen : List Seen} (others : List Seen) → Receives old.connection piece count link → objects.Lives link new.connection → new.ready ≡ old.ready
-      → FrontStops old piece new faults.OutOfMemory seen others
+  pub stops_working : (count : ℕ) (new : Server) {seen : List A} (others : List A) → Receives old.connection piece count link → objects.Lives link new.connection → new.ready ≡ old.ready
+      → FrontStops kind old piece new faults.OutOfMemory seen others
   stops_working count new others received lives same mode start held from left to bytes serves =
       let first = moves_grow (moves_received old.connection link piece count received) in
       let rest = moves_grow (lives_move lives.1) in
       let all : new.connection.unwritten ≡ old.connection.unwritten ++ (first.0 ++ rest.0) = rest.1 ∙ ap (λ (x : List ℕ). x ++ rest.0) first.1 ∙ append_assoc old.connection.unwritten first.0 rest.0 in
-      subst (λ (x : List ℕ). IsCutOff mode start (bytes ++ piece) left.bytes held (ahead to x)) (sym (kept_front old.connection.unwritten new.connection.unwritten (first.0 ++ rest.0) new.ready all (same ∙ serves.1.all_ready)))
+      subst (λ (x : List ℕ). IsCutOff kind mode start (bytes ++ piece) left.bytes held (ahead to x)) (sym (kept_front old.connection.unwritten new.connection.unwritten (first.0 ++ rest.0) new.ready all (same ∙ serves.1.all_ready)))
       (cut_there bytes serves.0 piece left.bytes serves.1)
 
   -- it isn't taken
-  pub stops_receiving : (taken : List ℕ) (fault : ConnectionFault) (told : ServeFault) {seen : List Seen} → IsUnreceived old.connection piece taken fault link → told ≡ fault_of fault
-      → FrontStops old piece (record old { connection = link }) told seen seen
+  pub stops_receiving : (taken : List ℕ) (fault : ConnectionFault) (told : ServeFault) {seen : List A} → IsUnreceived old.connection piece taken fault link → told ≡ fault_of fault
+      → FrontStops kind old piece (record old { connection = link }) told seen seen
   stops_receiving taken fault told {seen = seen} unreceived e mode start held from left to bytes serves =
       let grows = moves_grow (moves_unreceived old.connection link piece taken fault unreceived) in
-      subst (λ (f : ServeFault). StopsFor mode start (bytes ++ piece) from left held (ahead to (take old.ready link.unwritten)) seen f) (sym e)
-      (subst (λ (x : List ℕ). StopsFor mode start (bytes ++ piece) from left held (ahead to x) seen (fault_of fault)) (sym (kept_front old.connection.unwritten link.unwritten grows.0 old.ready grows.1 serves.1.all_ready))
+      subst (λ (f : ServeFault). StopsFor kind mode start (bytes ++ piece) from left held (ahead to (take old.ready link.unwritten)) seen f) (sym e)
+      (subst (λ (x : List ℕ). StopsFor kind mode start (bytes ++ piece) from left held (ahead to x) seen (fault_of fault)) (sym (kept_front old.connection.unwritten link.unwritten grows.0 old.ready grows.1 serves.1.all_ready))
       (by unreceived))
     where
-      by : IsUnreceived old.connection piece taken fault link → StopsFor mode start (bytes ++ piece) from left held (ahead to old.connection.unwritten) seen (fault_of fault)
+      by : IsUnreceived old.connection piece taken fault link → StopsFor kind mode start (bytes ++ piece) from left held (ahead to old.connection.unwritten) seen (fault_of fault)
       by (inl h) = no_fault old.connection.fault serves.2.is_open h.1.0
       by (inr (inl h)) = stops_unread bytes serves.0 piece from left old serves.1 serves.2 fault h.1
       by (inr (inr h)) =
-          subst (λ (f : ServeFault). StopsFor mode start (bytes ++ piece) from left held (ahead to old.connection.unwritten) seen f) (sym (ap fault_of h.5.1 ∙ refusal_full h.5.0))
+          subst (λ (f : ServeFault). StopsFor kind mode start (bytes ++ piece) from left held (ahead to old.connection.unwritten) seen f) (sym (ap fault_of h.5.1 ∙ refusal_full h.5.0))
           (cut_there bytes serves.0 piece left.bytes serves.1)
 
 -- ---- the clauses of a block and a piece
 
-module _ {mode : Mode} {start : List Seen} {held : Device} where
-  pub serves_none : (bytes : List ℕ) {s : Server} {seen : List Seen} {to : Device} → Serves mode start held bytes s seen to → Serves mode start held (bytes ++ []) s seen to
-  serves_none bytes {s = s} {seen = seen} {to = to} h = subst (λ (x : List ℕ). Serves mode start held x s seen to) (sym (append-nil bytes)) h
+module _ {A : Type 0} {kind : Kind A} {mode : Mode} {start : List A} {held : Device} where
+  pub serves_none : (bytes : List ℕ) {s : Server} {seen : List A} {to : Device} → Serves kind mode start held bytes s seen to → Serves kind mode start held (bytes ++ []) s seen to
+  serves_none bytes {s = s} {seen = seen} {to = to} h = subst (λ (x : List ℕ). Serves kind mode start held x s seen to) (sym (append-nil bytes)) h
 
   -- the whole piece was taken
-  pub serves_all : (bytes fed left piece : List ℕ) {s : Server} {seen : List Seen} {to : Device} → piece ≡ fed ++ left → left ≡ [] → Serves mode start held (bytes ++ fed) s seen to
-      → Serves mode start held (bytes ++ piece) s seen to
+  pub serves_all : (bytes fed left piece : List ℕ) {s : Server} {seen : List A} {to : Device} → piece ≡ fed ++ left → left ≡ [] → Serves kind mode start held (bytes ++ fed) s seen to
+      → Serves kind mode start held (bytes ++ piece) s seen to
   serves_all bytes fed left piece {s = s} {seen = seen} {to = to} e none h =
-      subst (λ (x : List ℕ). Serves mode start held (bytes ++ x) s seen to) (sym (e ∙ ap (λ (x : List ℕ). fed ++ x) none ∙ append-nil fed)) h
+      subst (λ (x : List ℕ). Serves kind mode start held (bytes ++ x) s seen to) (sym (e ∙ ap (λ (x : List ℕ). fed ++ x) none ∙ append-nil fed)) h
 
   -- the connection ended
-  pub goes_over : (bytes : List ℕ) (left : Option (List ℕ)) (s : Server) {seen : List Seen} {to : Device} → GoesOn mode start held bytes s seen to → IsSome s.connection.fault
-      → (rest : List ℕ) × (all : Reached mode start held bytes rest s seen to) × IsOver bytes rest left all.last
+  pub goes_over : (bytes : List ℕ) (left : Option (List ℕ)) (s : Server) {seen : List A} {to : Device} → GoesOn kind mode start held bytes s seen to → IsSome s.connection.fault
+      → (rest : List ℕ) × (all : Reached kind mode start held bytes rest s seen to) × IsOver bytes rest left all.last
   goes_over bytes left s (inl h) ended = (h.0, h.1, inr (inl (closed_work s.connection h.1.last (owed s) h.1.rests.matches ended h.1.rests.none_left)))
   goes_over bytes left s (inr h) ended = (h.0, h.1, inr (inl (closed_work s.connection h.1.last (owed s) h.1.rests.matches ended h.1.rests.none_left)))
 
   -- it didn't
-  pub goes_still : (bytes : List ℕ) (s : Server) {seen : List Seen} {to : Device} → GoesOn mode start held bytes s seen to → s.connection.fault ≡ None → Serves mode start held bytes s seen to
+  pub goes_still : (bytes : List ℕ) (s : Server) {seen : List A} {to : Device} → GoesOn kind mode start held bytes s seen to → s.connection.fault ≡ None → Serves kind mode start held bytes s seen to
   goes_still bytes s (inl h) is_open = h
   goes_still bytes s (inr h) is_open = absurd (none_some s.connection.fault is_open h.2)
     where
@@ -396,16 +396,16 @@ module _ {mode : Mode} {start : List Seen} {held : Device} where
       none_some (Some x) e h = cc (e)
 
   -- what follows a front of the piece that was taken before
-  pub fills_after : (bytes fed left piece back : List ℕ) {s : Server} {seen : List Seen} {to : Device} → piece ≡ fed ++ left → Fills mode start held (bytes ++ fed) left back s seen to → Fills mode start held bytes piece back s seen to
+  pub fills_after : (bytes fed left piece back : List ℕ) {s : Server} {seen : List A} {to : Device} → piece ≡ fed ++ left → Fills kind mode start held (bytes ++ fed) left back s seen to → Fills kind mode start held bytes piece back s seen to
   fills_after bytes fed left piece back {s = s} {seen = seen} {to = to} e h = (
     fed ++ h.0,
     e ∙ ap (λ (x : List ℕ). fed ++ x) h.1 ∙ sym (append_assoc fed h.0 back),
-    subst (λ (x : List ℕ). GoesOn mode start held x s seen to) (append_assoc bytes fed h.0) h.2,
+    subst (λ (x : List ℕ). GoesOn kind mode start held x s seen to) (append_assoc bytes fed h.0) h.2,
   )
 
   -- and the stream is read on
-  pub fills_still : (bytes piece back : List ℕ) (s : Server) {seen : List Seen} {to : Device} → Fills mode start held bytes piece back s seen to → s.connection.fault ≡ None
-      → (fed : List ℕ) × (piece ≡ fed ++ back) × Serves mode start held (bytes ++ fed) s seen to
+  pub fills_still : (bytes piece back : List ℕ) (s : Server) {seen : List A} {to : Device} → Fills kind mode start held bytes piece back s seen to → s.connection.fault ≡ None
+      → (fed : List ℕ) × (piece ≡ fed ++ back) × Serves kind mode start held (bytes ++ fed) s seen to
   fills_still bytes piece back s h is_open = (h.0, h.1, goes_still (bytes ++ h.0) s h.2 is_open)
 
 -- what follows the bytes that were taken
@@ -421,11 +421,12 @@ not_some (Some x) b h e = absurd (false≢true (sym e ∙ h.1 refl))
 pub none_left_by : (xs : List ℕ) → (length xs == 0) ≡ true → xs ≡ []
 none_left_by xs e = nil_from_length xs (grind (arith, nat_tests, e))
 
--- no call of the reader failed
-pub reads_well : (mode : Mode) (start : List Seen) (from left held to : Device) (others : List Seen) (fault : ServeFault) → left.failures ≡ from.failures → ReadsTo mode start from left held to others fault
-reads_well mode start from left held to others (faults.Stream (streams.Refused at refusal)) same = same
-reads_well mode start from left held to others (faults.Stream streams.Device) same = inl same
-reads_well mode start from left held to others faults.OutOfMemory same = same
+module _ {A : Type 0} (kind : Kind A) where
+  -- no call of the reader failed
+  pub reads_well : (mode : Mode) (start : List A) (from left held to : Device) (others : List A) (fault : ServeFault) → left.failures ≡ from.failures → ReadsTo kind mode start from left held to others fault
+  reads_well mode start from left held to others (faults.Stream (streams.Refused at refusal)) same = same
+  reads_well mode start from left held to others (faults.Stream streams.Device) same = inl same
+  reads_well mode start from left held to others faults.OutOfMemory same = same
 
 -- what was read before, and nothing more
 pub reads_nothing : (a b c : Option (List ℕ)) (bytes buffer : List ℕ) (n : ℕ) → Consumes a b bytes → Consumes b c (take n buffer) → n ≡ 0 → Consumes a c bytes
@@ -465,24 +466,25 @@ rests_new mode = record {
   none_unsent = refl;
 }
 
-pub fresh : (mode : Mode) (s : Server) → s.connection ≡ new_link mode standard (Some 0) → ((link : Link) → work_of s.objects link ≡ objects.begun false link) → s.ready ≡ 0 → HasCome s.connection [] → (start : List Seen) (held : Device)
-    → Serves mode start held [] s start held
-fresh mode s l o n came start held = (
-  [],
-  record {
-    taken = [];
-    sent = [];
-    messages = refl;
-    last = new_work;
-    takes = none_taken;
-    rests = subst (λ (x : objects.Work). Rests new_work x) (sym (o s.connection ∙ ap (λ (x : Link). objects.begun false x) l)) (rests_new mode);
-    writes = subst (λ (d : Device). Writes mode [] held d) (sym (ahead_none held s.connection.unwritten (ap (λ (x : Link). x.unwritten) l))) (writes_none held);
-    all_ready = n ∙ ap (λ (x : List ℕ). length x) (sym (ap (λ (x : Link). x.unwritten) l));
-    place = ap (λ (x : Link). x.tally.bytes) l ∙ omega arith;
-    counted = ap (λ (x : Link). x.tally.messages) l ∙ omega arith;
-    counted_sent = ap (λ (x : Link). x.tally.sent) l ∙ omega arith;
-    same_mode = ap (λ (x : Link). x.mode) l;
-    same_limits = ap (λ (x : Link). x.limits) l;
-  },
-  record { came = came; is_open = ap (λ (x : Link). x.fault) l },
-)
+module _ {A : Type 0} {kind : Kind A} where
+  pub fresh : (mode : Mode) (s : Server) → IsNew mode s → (start : List A) (held : Device) → Serves kind mode start held [] s start held
+  fresh mode s new start held =
+      let l = new.connection in (
+        [],
+        record {
+          taken = [];
+          sent = [];
+          messages = refl;
+          last = new_work;
+          takes = none_taken;
+          rests = subst (λ (x : objects.Work). Rests new_work x) (sym (new.owes s.connection ∙ ap (λ (x : Link). objects.begun false x) l)) (rests_new mode);
+          writes = subst (λ (d : Device). Writes mode [] held d) (sym (ahead_none held s.connection.unwritten (ap (λ (x : Link). x.unwritten) l))) (writes_none held);
+          all_ready = new.ready ∙ ap (λ (x : List ℕ). length x) (sym (ap (λ (x : Link). x.unwritten) l));
+          place = ap (λ (x : Link). x.tally.bytes) l ∙ omega arith;
+          counted = ap (λ (x : Link). x.tally.messages) l ∙ omega arith;
+          counted_sent = ap (λ (x : Link). x.tally.sent) l ∙ omega arith;
+          same_mode = ap (λ (x : Link). x.mode) l;
+          same_limits = ap (λ (x : Link). x.limits) l;
+        },
+        record { came = new.came; is_open = ap (λ (x : Link). x.fault) l },
+      )

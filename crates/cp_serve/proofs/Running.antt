@@ -18,7 +18,7 @@ use Rattle.cp_vat_machine.specs.declared.fault.VatFault.TheVariants as refusals
 use Rattle.cp_servants.specs.declared.servant.Reply.{Reply}
 use Rattle.cp_servants.specs.declared.servant.Reply.TheVariants as replies
 use Rattle.cp_servants.specs.declared.servant.Settled.{Settled}
-use Rattle.cp_servants.specs.Servant.{Seen}
+use Rattle.cp_servants.specs.Servant.{Kind}
 use Rattle.cp_serve.specs.Work.{Work, IsDone, Answers, is_taken, was_closed, is_replaced, Replies, Tries, is_released, is_used, is_dropped, TriesEach, Releases}
 use Rattle.cp_serve.specs.Service.{Delivers, to_object, to_none, WorksOff, none_left, acts, Settles, gives_none, is_stranger, is_awaited, PollsFrom, is_closed, polls, Rounds, releases, TakesMessage, takes, TakesAll, none_taken, takes_more, ClosesAll, none_yet, one_more, written, new_work}
 use Rattle.cp_serve.specs.History.{received_by, received, effects_of, sent_by, closed_by, IsRunOf}
@@ -130,9 +130,10 @@ adds_tries_each old new (i ∷ more) h = adds_both old h.0 new (adds_tries old h
 adds_releases : (old new : Work) → Releases old new → Adds old new []
 adds_releases old new h = let base : Work = record old { given_up = [] } in adds_from old base new (adds_tries_each base new old.given_up h) refl refl refl refl
 
-adds_delivers : (old new : Work) (objects others : List Seen) (k : ℕ) (origin : Origin) (ticket : ℕ) (call : Request) → Delivers old objects k origin ticket call new others → Adds old new []
-adds_delivers old new objects others k origin ticket call (to_object reply changes h) = adds_replies old new origin ticket reply h
-adds_delivers old new objects others k origin ticket call (to_none past h e) = adds_answers old new origin _ h
+module _ {A : Type 0} {kind : Kind A} where
+  adds_delivers : (old new : Work) (objects others : List A) (k : ℕ) (origin : Origin) (ticket : ℕ) (call : Request) → Delivers kind old objects k origin ticket call new others → Adds old new []
+  adds_delivers old new objects others k origin ticket call (to_object reply changes h) = adds_replies old new origin ticket reply h
+  adds_delivers old new objects others k origin ticket call (to_none past h e) = adds_answers old new origin _ h
 
 adds_settles : (old new : Work) (settled : Option Settled) (gave : Bool) → Settles old settled gave new → Adds old new []
 adds_settles old new settled gave gives_none = adds_none old old refl refl refl refl
@@ -218,64 +219,67 @@ works_past old mid effect rest e is_open sends closes h =
     works_both old base mid
     (works_one old base effect rest e refl (λ more. rw is_open (ap (λ (x : List Message). old.sent ++ x) (sends (rest ++ more)))) (λ more. rw is_open (closes (rest ++ more)))) (works_adds base mid h)
 
-after_closed : (old new : Work) (objects others : List Seen) → old.effects ≡ [] → WorksOff old objects new others → Works old new []
-after_closed old new objects others e (none_left none) = works_none old
-after_closed old new objects others e (acts effect rest some act tail) = absurd (nil_cons rest (sym e ∙ some))
-  where
-    nil_cons : {x : Effect} (xs : List Effect) → [] ≡ x ∷ xs → ⊥
-    nil_cons xs h = cc (h)
+module _ {A : Type 0} {kind : Kind A} where
+  after_closed : (old new : Work) (objects others : List A) → old.effects ≡ [] → WorksOff kind old objects new others → Works old new []
+  after_closed old new objects others e (none_left none) = works_none old
+  after_closed old new objects others e (acts effect rest some act tail) = absurd (nil_cons rest (sym e ∙ some))
+    where
+      nil_cons : {x : Effect} (xs : List Effect) → [] ≡ x ∷ xs → ⊥
+      nil_cons xs h = cc (h)
 
-works_off : (old new : Work) (objects others : List Seen) → old.closed ≡ None → WorksOff old objects new others → Works old new []
-works_off old new objects others is_open (none_left none) = works_none old
-works_off old new objects others is_open (acts {mid = mid} {between = between} (effects.Send m) rest e act tail) =
-    works_both old mid new (works_send old mid m rest e is_open act.0) (works_off mid new between others (ap (λ (w : Work). w.closed) act.0 ∙ is_open) tail)
-works_off old new objects others is_open (acts {mid = mid} {between = between} (effects.Deliver k origin ticket call) rest e act tail) =
-    let added = adds_delivers (record old { effects = rest }) mid objects between k origin ticket call act in
-    works_both old mid new (works_past old mid (effects.Deliver k origin ticket call) rest e is_open (λ es. refl) (λ es. refl) added) (works_off mid new between others (added.closed ∙ is_open) tail)
-works_off old new objects others is_open (acts {mid = mid} {between = between} (effects.Settled q outcome) rest e act tail) =
-    let added = adds_none (record old { effects = rest }) mid (ap (λ (w : Work). w.vat) act.0) (ap (λ (w : Work). w.effects) act.0) (ap (λ (w : Work). w.sent) act.0) (ap (λ (w : Work). w.closed) act.0) in
-    works_both old mid new (works_past old mid (effects.Settled q outcome) rest e is_open (λ es. refl) (λ es. refl) added) (works_off mid new between others (added.closed ∙ is_open) tail)
-works_off old new objects others is_open (acts {mid = mid} {between = between} (effects.Closed r) rest e act tail) =
-    works_both old mid new (works_closed old mid r rest e is_open act.0) (after_closed mid new between others (ap (λ (w : Work). w.effects) act.0) tail)
+  works_off : (old new : Work) (objects others : List A) → old.closed ≡ None → WorksOff kind old objects new others → Works old new []
+  works_off old new objects others is_open (none_left none) = works_none old
+  works_off old new objects others is_open (acts {mid = mid} {between = between} (effects.Send m) rest e act tail) =
+      works_both old mid new (works_send old mid m rest e is_open act.0) (works_off mid new between others (ap (λ (w : Work). w.closed) act.0 ∙ is_open) tail)
+  works_off old new objects others is_open (acts {mid = mid} {between = between} (effects.Deliver k origin ticket call) rest e act tail) =
+      let added = adds_delivers (record old { effects = rest }) mid objects between k origin ticket call act in
+      works_both old mid new (works_past old mid (effects.Deliver k origin ticket call) rest e is_open (λ es. refl) (λ es. refl) added) (works_off mid new between others (added.closed ∙ is_open) tail)
+  works_off old new objects others is_open (acts {mid = mid} {between = between} (effects.Settled q outcome) rest e act tail) =
+      let added = adds_none (record old { effects = rest }) mid (ap (λ (w : Work). w.vat) act.0) (ap (λ (w : Work). w.effects) act.0) (ap (λ (w : Work). w.sent) act.0) (ap (λ (w : Work). w.closed) act.0) in
+      works_both old mid new (works_past old mid (effects.Settled q outcome) rest e is_open (λ es. refl) (λ es. refl) added) (works_off mid new between others (added.closed ∙ is_open) tail)
+  works_off old new objects others is_open (acts {mid = mid} {between = between} (effects.Closed r) rest e act tail) =
+      works_both old mid new (works_closed old mid r rest e is_open act.0) (after_closed mid new between others (ap (λ (w : Work). w.effects) act.0) tail)
 
-rests_off : (old new : Work) (objects others : List Seen) → WorksOff old objects new others → new.effects ≡ []
-rests_off old new objects others (none_left none) = none
-rests_off old new objects others (acts {mid = mid} {between = between} effect rest e act tail) = rests_off mid new between others tail
+  rests_off : (old new : Work) (objects others : List A) → WorksOff kind old objects new others → new.effects ≡ []
+  rests_off old new objects others (none_left none) = none
+  rests_off old new objects others (acts {mid = mid} {between = between} effect rest e act tail) = rests_off mid new between others tail
 
 -- nothing is left to be worked off, unless the vat closed
 abbrev pub Rests : Work → Type 0
 Rests w = w.closed ≡ None → w.effects ≡ []
 
-works_polls : (place : ℕ) (old new : Work) (objects others : List Seen) (gave : Bool) → PollsFrom place old objects gave new others → Works old new []
-works_polls place old new objects others gave (none_left past) = works_none old
-works_polls place old new objects others gave (is_closed closed) = works_none old
-works_polls place old new objects others gave (polls {mid = mid} {done = done} {between = between} {last = last} settled first more is_open changes settles off tail e) =
-    let added = adds_settles old mid settled first settles in
-    works_both old mid new (works_adds old mid added)
-    (works_both mid done new (works_off mid done between last (added.closed ∙ is_open) off) (works_polls _ done new last others more tail))
+module _ {A : Type 0} {kind : Kind A} where
+  works_polls : (place : ℕ) (old new : Work) (objects others : List A) (gave : Bool) → PollsFrom kind place old objects gave new others → Works old new []
+  works_polls place old new objects others gave (none_left past) = works_none old
+  works_polls place old new objects others gave (is_closed closed) = works_none old
+  works_polls place old new objects others gave (polls {mid = mid} {done = done} {between = between} {last = last} settled first more is_open changes settles off tail e) =
+      let added = adds_settles old mid settled first settles in
+      works_both old mid new (works_adds old mid added)
+      (works_both mid done new (works_off mid done between last (added.closed ∙ is_open) off) (works_polls _ done new last others more tail))
 
 pub none_some : (o : Option Reason) → o ≡ None → IsSome o → ⊥
 none_some None e h = false≢true h
 none_some (Some x) e h = cc (e)
 
-works_round : (old new : Work) (objects others : List Seen) (gave : Bool) → Rounds old objects gave new others → Works old new []
-works_round old new objects others gave (is_closed polled closed) = works_polls 0 old new objects others gave polled
-works_round old new objects others gave (releases mid released between polled is_open released_all off) =
-    let added = adds_releases mid released released_all in
-    works_both old mid new (works_polls 0 old mid objects between gave polled) (works_both mid released new (works_adds mid released added) (works_off released new between others (added.closed ∙ is_open) off))
+module _ {A : Type 0} {kind : Kind A} where
+  works_round : (old new : Work) (objects others : List A) (gave : Bool) → Rounds kind old objects gave new others → Works old new []
+  works_round old new objects others gave (is_closed polled closed) = works_polls 0 old new objects others gave polled
+  works_round old new objects others gave (releases mid released between polled is_open released_all off) =
+      let added = adds_releases mid released released_all in
+      works_both old mid new (works_polls 0 old mid objects between gave polled) (works_both mid released new (works_adds mid released added) (works_off released new between others (added.closed ∙ is_open) off))
 
-rests_round : (old new : Work) (objects others : List Seen) (gave : Bool) → Rounds old objects gave new others → Rests new
-rests_round old new objects others gave (is_closed polled closed) = λ e. absurd (none_some new.closed e closed)
-rests_round old new objects others gave (releases mid released between polled is_open released_all off) = λ e. rests_off released new between others off
+  rests_round : (old new : Work) (objects others : List A) (gave : Bool) → Rounds kind old objects gave new others → Rests new
+  rests_round old new objects others gave (is_closed polled closed) = λ e. absurd (none_some new.closed e closed)
+  rests_round old new objects others gave (releases mid released between polled is_open released_all off) = λ e. rests_off released new between others off
 
-works_message : (old new : Work) (objects others : List Seen) (m : Message) → old.closed ≡ None → TakesMessage old objects m new others → Works old new (m ∷ [])
-works_message old new objects others m is_open (takes received mid between gave done off round) =
-    let added = adds_done old received (events.Receive m) done in
-    works_both old received new (works_adds old received added)
-    (works_both received mid new (works_off received mid objects between (added.closed ∙ is_open) off) (works_round mid new between others gave round))
+  works_message : (old new : Work) (objects others : List A) (m : Message) → old.closed ≡ None → TakesMessage kind old objects m new others → Works old new (m ∷ [])
+  works_message old new objects others m is_open (takes received mid between gave done off round) =
+      let added = adds_done old received (events.Receive m) done in
+      works_both old received new (works_adds old received added)
+      (works_both received mid new (works_off received mid objects between (added.closed ∙ is_open) off) (works_round mid new between others gave round))
 
-rests_message : (old new : Work) (objects others : List Seen) (m : Message) → TakesMessage old objects m new others → Rests new
-rests_message old new objects others m (takes received mid between gave done off round) = rests_round mid new between others gave round
+  rests_message : (old new : Work) (objects others : List A) (m : Message) → TakesMessage kind old objects m new others → Rests new
+  rests_message old new objects others m (takes received mid between gave done off round) = rests_round mid new between others gave round
 
 -- So far these messages were received and those sent.
 pub record Ran (taken sent : List Message) (last : Work) : Type 0 where
@@ -307,19 +311,20 @@ ran_more {taken = taken} {sent = sent} {ms = ms} w new last h k e rests =
     joined : (more : List Effect) → effects_of (h.history ++ k.history) ++ more ≡ effects_of h.history ++ (effects_of k.history ++ more)
     joined more = ap (λ (x : List Effect). x ++ more) (effects_both h.history k.history) ∙ append_assoc (effects_of h.history) (effects_of k.history) more
 
-pub ran_takes : (objects : List Seen) (taken sent : List Message) (last : Work) (others : List Seen) → TakesAll new_work objects taken sent last others → Ran taken sent last
-ran_takes objects taken sent last others none_taken = ran_none
-ran_takes objects all more last others (takes_more {taken = taken} {sent = sent} {mid = mid} {new = new} {between = between} m before is_open message e f g) =
-    subst (λ (x : List Message). Ran x more last) (sym e) (subst (λ (x : List Message). Ran (taken ++ m ∷ []) x last) (sym f)
-    (ran_more mid new last (ran_takes objects taken sent mid between before) (works_message mid new between others m is_open message) g (rests_message mid new between others m message)))
+module _ {A : Type 0} {kind : Kind A} where
+  pub ran_takes : (objects : List A) (taken sent : List Message) (last : Work) (others : List A) → TakesAll kind new_work objects taken sent last others → Ran taken sent last
+  ran_takes objects taken sent last others none_taken = ran_none
+  ran_takes objects all more last others (takes_more {taken = taken} {sent = sent} {mid = mid} {new = new} {between = between} m before is_open message e f g) =
+      subst (λ (x : List Message). Ran x more last) (sym e) (subst (λ (x : List Message). Ran (taken ++ m ∷ []) x last) (sym f)
+      (ran_more mid new last (ran_takes objects taken sent mid between before) (works_message mid new between others m is_open message) g (rests_message mid new between others m message)))
 
-pub ran_closes : (taken first : List Message) (mid : Work) (between : List Seen) (gave : Bool) (closing : List Message) (last : Work) (others : List Seen) → Ran taken first mid
-    → ClosesAll mid between gave closing last others → Ran taken (first ++ closing) last
-ran_closes taken first mid between gave closing last others h none_yet = subst (λ (x : List Message). Ran taken x mid) (sym (append-nil first)) h
-ran_closes taken first start objects gave more last others h (one_more {sent = sent} {mid = mid} {new = new} {between = between} before is_open round e f) =
-    subst (λ (x : List Message). Ran taken (first ++ x) last) (sym e) (subst (λ (x : List Message). Ran taken x last) (append_assoc first sent new.sent)
-    (subst (λ (x : List Message). Ran x ((first ++ sent) ++ new.sent) last) (append-nil taken)
-    (ran_more mid new last (ran_closes taken first start objects true sent mid between h before) (works_round mid new between others gave round) f (rests_round mid new between others gave round))))
+  pub ran_closes : (taken first : List Message) (mid : Work) (between : List A) (gave : Bool) (closing : List Message) (last : Work) (others : List A) → Ran taken first mid
+      → ClosesAll kind mid between gave closing last others → Ran taken (first ++ closing) last
+  ran_closes taken first mid between gave closing last others h none_yet = subst (λ (x : List Message). Ran taken x mid) (sym (append-nil first)) h
+  ran_closes taken first start objects gave more last others h (one_more {sent = sent} {mid = mid} {new = new} {between = between} before is_open round e f) =
+      subst (λ (x : List Message). Ran taken (first ++ x) last) (sym e) (subst (λ (x : List Message). Ran taken x last) (append_assoc first sent new.sent)
+      (subst (λ (x : List Message). Ran x ((first ++ sent) ++ new.sent) last) (append-nil taken)
+      (ran_more mid new last (ran_closes taken first start objects true sent mid between h before) (works_round mid new between others gave round) f (rests_round mid new between others gave round))))
 
 pub run_of : (taken sent : List Message) (last : Work) → Ran taken sent last → IsRunOf taken sent last
 run_of taken sent last h = record {

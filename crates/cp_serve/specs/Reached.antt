@@ -1,5 +1,5 @@
 -- What a server has come to. No public clause names these.
-use Rattle.std.specs.Prelude.{◌≡◌, ◌≢◌, ◌⊎◌, ℕ, ◌-◌, ◌^◌, min, Bool, false, IsSome, List, [], ◌++◌, Option, None, length, map, take}
+use Rattle.std.specs.Prelude.{◌≡◌, ◌≢◌, ◌⊎◌, ℕ, ◌-◌, ◌^◌, min, Bool, false, IsSome, List, [], ◌++◌, Option, Some, None, length, take}
 use Rattle.std.specs.Io.KnownBytes.{append_known, Consumes}
 use Rattle.cp_words.specs.Limits.{standard}
 use Rattle.cp_frame.specs.declared.mode.Mode.{Mode}
@@ -12,7 +12,7 @@ use Rattle.cp_stream.specs.Write.{Passes}
 use Rattle.cp_stream.specs.Tap.{failures_of}
 use Rattle.cp_stream.specs.declared.tap.Tap.{Tap}
 use Rattle.cp_connection.specs.Counting.{CountsMore}
-use Rattle.cp_connection.specs.Link.{HasCome}
+use Rattle.cp_connection.specs.Link.{Link, HasCome, new_link}
 use Rattle.cp_objects.specs.Work as work
 use Rattle.cp_objects.specs.Rounds as rounds
 use Rattle.cp_objects.specs.WorkOf.{work_of}
@@ -20,7 +20,7 @@ use Rattle.cp_serve.specs.declared.fault.ServeFault.{ServeFault}
 use Rattle.cp_serve.specs.declared.fault.ServeFault.TheVariants as faults
 use Rattle.cp_serve.specs.declared.report.Report.{Report}
 use Rattle.cp_serve.specs.declared.serving.Server.{Server}
-use Rattle.cp_servants.specs.Servant.{Seen}
+use Rattle.cp_servants.specs.Servant.{Kind}
 use Rattle.cp_serve.specs.Work.{Work}
 use Rattle.cp_serve.specs.Service.{TakesAll, ClosesAll, new_work}
 use Rattle.cp_serve.specs.Output.{Device, device, Ends, Writes, WritesPart, IsPlace, IsOver, IsServedAt, IsStopped, IsStoppedAt, ReadsTo, ReadsUpTo, StopsFor}
@@ -54,65 +54,10 @@ ready_of s = take s.ready s.connection.unwritten
 abbrev pub AllOut : Server → Type 0
 AllOut s = s.connection.unwritten ≡ []
 
--- Of these bytes messages were taken, and this is the rest; what the messages lead to was sent, and written or is ready to go out; and the connection counts
--- them.
-pub record Reached (mode : Mode) (start : List Seen) (held : Device) (bytes rest : List ℕ) (s : Server) (objects : List Seen) (to : Device) : Type 0 where
-  pub taken : List Message
-  pub sent : List Message
-  pub messages : Messages mode standard bytes taken rest
-  pub last : Work
-  pub takes : TakesAll new_work start taken sent last objects
-  pub rests : Rests last (owed s)
-  pub writes : Writes mode sent held (ahead to s.connection.unwritten)
-  pub all_ready : s.ready ≡ length s.connection.unwritten
-  pub place : IsPlace bytes rest s.connection.tally.bytes
-  pub counted : s.connection.tally.messages ≡ min (length taken) (2 ^ 64 - 1)
-  pub counted_sent : s.connection.tally.sent ≡ min (length sent) (2 ^ 64 - 1)
-  pub same_mode : s.connection.mode ≡ mode
-  pub same_limits : s.connection.limits ≡ standard
-
 -- The connection goes on, and the rest of its bytes has come.
 pub record ReadsOn (rest : List ℕ) (s : Server) : Type 0 where
   pub came : HasCome s.connection rest
   pub is_open : s.connection.fault ≡ None
-
--- so far, and the stream is read on
-abbrev pub Serves : Mode → List Seen → Device → List ℕ → Server → List Seen → Device → Type 0
-Serves mode start held bytes s objects to = (rest : List ℕ) × Reached mode start held bytes rest s objects to × ReadsOn rest s
-
--- so far; and the stream is read on, or the vat closed
-abbrev pub GoesOn : Mode → List Seen → Device → List ℕ → Server → List Seen → Device → Type 0
-GoesOn mode start held bytes s objects to = Serves mode start held bytes s objects to ⊎ ((rest : List ℕ) × Reached mode start held bytes rest s objects to × IsSome s.connection.fault)
-
--- A front of the piece was taken; and the stream is read on, or the vat closed.
-abbrev pub Fills : Mode → List Seen → Device → List ℕ → List ℕ → List ℕ → Server → List Seen → Device → Type 0
-Fills mode start held bytes piece left s objects to = (front : List ℕ) × (piece ≡ front ++ left) × GoesOn mode start held (bytes ++ front) s objects to
-
--- Rounds followed, and what they lead to was written and counted. It is noted whether the last gave what was awaited.
-pub record Closes (first : Work) (old : Server) (objects : List Seen) (before : Device) (gave : Bool) (new : Server) (others : List Seen) (after : Device) : Type 0 where
-  pub sent : List Message
-  pub last : Work
-  pub closes : ClosesAll first objects gave sent last others
-  pub rests : Rests last (owed new)
-  pub writes : Writes old.connection.mode sent before after
-  pub counts : CountsMore old.connection.tally.sent (length sent) new.connection.tally.sent
-  pub all_out : AllOut new
-  pub same_messages : new.connection.tally.messages ≡ old.connection.tally.messages
-  pub same_mode : new.connection.mode ≡ old.connection.mode
-
--- Rounds followed, and of what they lead to a beginning was written.
-pub record EndsPart (first : Work) (old : Server) (objects : List Seen) (before after : Device) : Type 0 where
-  pub gave : Bool
-  pub sent : List Message
-  pub last : Work
-  pub others : List Seen
-  pub closes : ClosesAll first objects gave sent last others
-  pub writes : WritesPart old.connection.mode sent before after
-
--- so rounds follow to their end: one gave nothing that is awaited, or the vat closed
-abbrev pub EndsSo : Work → Server → List Seen → Device → Server → List Seen → Device → Type 0
-EndsSo first old objects before new others after =
-    (gave : Bool) × (all : Closes first old objects before gave new others after) × ((gave ≡ false) ⊎ IsSome all.last.closed)
 
 -- why rounds aren't ended: a call of the writer failed; or memory ran out
 abbrev pub IsUnended : Device → Device → ServeFault → Type 0
@@ -120,96 +65,160 @@ IsUnended old new (faults.Stream (streams.Refused at refusal)) = ⊥
 IsUnended old new (faults.Stream streams.Device) = FailedOnce old.failures new.failures
 IsUnended old new faults.OutOfMemory = Unit {0}
 
--- ---- the same, as clauses of functions
-
--- The objects, as they are seen, and the writer, before and after.
-pub record Out : Type 0 where
-  pub objects : List Seen
-  pub others : List Seen
+-- The objects and the writer, before and after.
+pub record Out (A : Type 0) : Type 0 where
+  pub objects : List A
+  pub others : List A
   pub old : Device
   pub new : Device
 
-abbrev pub out : {O W : Type 0} → (O → Seen) → List O → List O → (W → Option (List ℕ)) → Tap W → Tap W → Out
-out seen objects others contents old new = record { objects = map seen objects; others = map seen others; old = device contents old; new = device contents new }
+abbrev pub out : {O W : Type 0} → List O → List O → (W → Option (List ℕ)) → Tap W → Tap W → Out O
+out objects others contents old new = record { objects = objects; others = others; old = device contents old; new = device contents new }
 
--- what holds of a run of a server to which nothing has come
-abbrev pub FromNew : Server → Ends → (Mode → Type 0) → Type 0
-FromNew s e holds = (mode : Mode) → Serves mode e.objects e.old [] s e.objects e.old → AllOut s → holds mode
+-- Nothing has come to the server, nothing is owed, and nothing is to go out.
+pub record IsNew (mode : Mode) (s : Server) : Type 0 where
+  pub connection : s.connection ≡ new_link mode standard (Some 0)
+  pub owes : (link : Link) → work_of s.objects link ≡ work.begun false link
+  pub ready : s.ready ≡ 0
+  pub came : HasCome s.connection []
 
--- it was served to its end
-abbrev pub Runs : Server → Ends → Report → Type 0
-Runs s e report = FromNew s e (λ mode. IsServedAt mode e report)
+-- Of objects of one kind.
+module _ {A : Type 0} (kind : Kind A) where
+  -- Of these bytes messages were taken, and this is the rest; what the messages lead to was sent, and written or is ready to go out; and the connection counts
+  -- them.
+  pub record Reached (mode : Mode) (start : List A) (held : Device) (bytes rest : List ℕ) (s : Server) (objects : List A) (to : Device) : Type 0 where
+    pub taken : List Message
+    pub sent : List Message
+    pub messages : Messages mode standard bytes taken rest
+    pub last : Work
+    pub takes : TakesAll kind new_work start taken sent last objects
+    pub rests : Rests last (owed s)
+    pub writes : Writes mode sent held (ahead to s.connection.unwritten)
+    pub all_ready : s.ready ≡ length s.connection.unwritten
+    pub place : IsPlace bytes rest s.connection.tally.bytes
+    pub counted : s.connection.tally.messages ≡ min (length taken) (2 ^ 64 - 1)
+    pub counted_sent : s.connection.tally.sent ≡ min (length sent) (2 ^ 64 - 1)
+    pub same_mode : s.connection.mode ≡ mode
+    pub same_limits : s.connection.limits ≡ standard
 
-abbrev pub RunsTo : Server → Ends → Server → Type 0
-RunsTo s e new = Runs s e (report_of new)
+  -- so far, and the stream is read on
+  abbrev pub Serves : Mode → List A → Device → List ℕ → Server → List A → Device → Type 0
+  Serves mode start held bytes s objects to = (rest : List ℕ) × Reached mode start held bytes rest s objects to × ReadsOn rest s
 
--- it stopped at a call of the reader, if one failed
-abbrev pub RunsUnread : Server → Ends → ServeFault → Type 0
-RunsUnread s e fault = FromNew s e (λ mode. ReadsUpTo mode e fault)
+  -- so far; and the stream is read on, or the vat closed
+  abbrev pub GoesOn : Mode → List A → Device → List ℕ → Server → List A → Device → Type 0
+  GoesOn mode start held bytes s objects to = Serves mode start held bytes s objects to ⊎ ((rest : List ℕ) × Reached mode start held bytes rest s objects to × IsSome s.connection.fault)
 
--- it stopped
-abbrev pub RunStops : Server → Ends → ServeFault → Type 0
-RunStops s e fault = FromNew s e (λ mode. IsStoppedAt mode e fault)
+  -- A front of the piece was taken; and the stream is read on, or the vat closed.
+  abbrev pub Fills : Mode → List A → Device → List ℕ → List ℕ → List ℕ → Server → List A → Device → Type 0
+  Fills mode start held bytes piece left s objects to = (front : List ℕ) × (piece ≡ front ++ left) × GoesOn mode start held (bytes ++ front) s objects to
 
--- all messages of the reader were taken, or the vat closed
-abbrev pub TakesToEnd : Server → Ends → Server → Type 0
-TakesToEnd old e new =
-    (mode : Mode) (start : List Seen) (held : Device) → Serves mode start held [] old e.objects e.old → AllOut old
-    → (bytes : List ℕ) × Consumes e.from.bytes e.left.bytes bytes
-    × (rest : List ℕ) × (all : Reached mode start held bytes rest new e.others e.new) × IsOver bytes rest e.left.bytes all.last × AllOut new
+  -- Rounds followed, and what they lead to was written and counted. It is noted whether the last gave what was awaited.
+  pub record Closes (first : Work) (old : Server) (objects : List A) (before : Device) (gave : Bool) (new : Server) (others : List A) (after : Device) : Type 0 where
+    pub sent : List Message
+    pub last : Work
+    pub closes : ClosesAll kind first objects gave sent last others
+    pub rests : Rests last (owed new)
+    pub writes : Writes old.connection.mode sent before after
+    pub counts : CountsMore old.connection.tally.sent (length sent) new.connection.tally.sent
+    pub all_out : AllOut new
+    pub same_messages : new.connection.tally.messages ≡ old.connection.tally.messages
+    pub same_mode : new.connection.mode ≡ old.connection.mode
 
--- a call of the reader failed, if one did
-abbrev pub TakesUnread : Server → Ends → ServeFault → Type 0
-TakesUnread old e fault =
-    (mode : Mode) (start : List Seen) (held : Device) → Serves mode start held [] old e.objects e.old → AllOut old → ReadsTo mode start e.from e.left held e.new e.others fault
+  -- Rounds followed, and of what they lead to a beginning was written.
+  pub record EndsPart (first : Work) (old : Server) (objects : List A) (before after : Device) : Type 0 where
+    pub gave : Bool
+    pub sent : List Message
+    pub last : Work
+    pub others : List A
+    pub closes : ClosesAll kind first objects gave sent last others
+    pub writes : WritesPart old.connection.mode sent before after
 
--- taking the messages stopped
-abbrev pub TakingStops : Server → Ends → ServeFault → Type 0
-TakingStops old e fault =
-    (mode : Mode) (start : List Seen) (held : Device) → Serves mode start held [] old e.objects e.old → AllOut old → IsStopped mode start e.from e.left held e.new e.others fault
+  -- so rounds follow to their end: one gave nothing that is awaited, or the vat closed
+  abbrev pub EndsSo : Work → Server → List A → Device → Server → List A → Device → Type 0
+  EndsSo first old objects before new others after =
+      (gave : Bool) × (all : Closes first old objects before gave new others after) × ((gave ≡ false) ⊎ IsSome all.last.closed)
 
--- the messages of a piece were taken
-abbrev pub TakesPiece : Server → List ℕ → Out → Server → Type 0
-TakesPiece old piece o new =
-    (mode : Mode) (start : List Seen) (held : Device) (bytes : List ℕ) → Serves mode start held bytes old o.objects o.old → AllOut old
-    → GoesOn mode start held (bytes ++ piece) new o.others o.new × AllOut new
+  -- ---- the same, as clauses of functions
 
--- taking a piece stopped
-abbrev pub PieceStops : Server → List ℕ → Out → ServeFault → Type 0
-PieceStops old piece o fault =
-    (mode : Mode) (start : List Seen) (held from left : Device) (bytes : List ℕ) → Serves mode start held bytes old o.objects o.old → AllOut old
-    → StopsFor mode start (bytes ++ piece) from left held o.new o.others fault
+  -- what holds of a run of a server to which nothing has come
+  abbrev pub FromNew : Server → Ends A → (Mode → Type 0) → Type 0
+  FromNew s e holds = (mode : Mode) → Serves mode e.objects e.old [] s e.objects e.old → AllOut s → holds mode
 
--- a front of a piece was taken, and what its messages lead to is ready to go out
-abbrev pub TakesFront : Server → List ℕ → List ℕ → Server → List Seen → List Seen → Type 0
-TakesFront old piece back new objects others =
-    (mode : Mode) (start : List Seen) (held to : Device) (bytes : List ℕ) → Serves mode start held bytes old objects to → Fills mode start held bytes piece back new others to
+  -- it was served to its end
+  abbrev pub Runs : Server → Ends A → Report → Type 0
+  Runs s e report = FromNew s e (λ mode. IsServedAt kind mode e report)
 
--- taking a front stopped
-abbrev pub FrontStops : Server → List ℕ → Server → ServeFault → List Seen → List Seen → Type 0
-FrontStops old piece new fault objects others =
-    (mode : Mode) (start : List Seen) (held from left to : Device) (bytes : List ℕ) → Serves mode start held bytes old objects to
-    → StopsFor mode start (bytes ++ piece) from left held (ahead to (ready_of new)) others fault
+  abbrev pub RunsTo : Server → Ends A → Server → Type 0
+  RunsTo s e new = Runs s e (report_of new)
 
--- what a message leads to was worked off, and a round followed
-abbrev pub WorksOut : Server → Server → List Seen → List Seen → Type 0
-WorksOut old new seen others =
-    (mid : work.Work) × (between : List Seen) × (gave : Bool) × rounds.WorksOff (owed old) mid seen between × rounds.Rounds mid gave (owed new) between others
+  -- it stopped at a call of the reader, if one failed
+  abbrev pub RunsUnread : Server → Ends A → ServeFault → Type 0
+  RunsUnread s e fault = FromNew s e (λ mode. ReadsUpTo kind mode e fault)
 
--- So it is where a frame has just ended, and all that is to go out is ready then; and else nothing is done.
-abbrev pub Concludes : Server → Server → List Seen → List Seen → Type 0
-Concludes old new objects others =
-    (taken_of old.connection.reading ≢ 0) × (new ≡ old) × (others ≡ objects)
-    ⊎ ((taken_of old.connection.reading ≡ 0) × WorksOut old new objects others × (new.ready ≡ length new.connection.unwritten))
+  -- it stopped
+  abbrev pub RunStops : Server → Ends A → ServeFault → Type 0
+  RunStops s e fault = FromNew s e (λ mode. IsStoppedAt kind mode e fault)
 
--- a round followed
-abbrev pub Rounded : Server → Bool → Server → List Seen → List Seen → Type 0
-Rounded old gave new objects others = rounds.Rounds (owed old) gave (owed new) objects others
+  -- all messages of the reader were taken, or the vat closed
+  abbrev pub TakesToEnd : Server → Ends A → Server → Type 0
+  TakesToEnd old e new =
+      (mode : Mode) (start : List A) (held : Device) → Serves mode start held [] old e.objects e.old → AllOut old
+      → (bytes : List ℕ) × Consumes e.from.bytes e.left.bytes bytes
+      × (rest : List ℕ) × (all : Reached mode start held bytes rest new e.others e.new) × IsOver bytes rest e.left.bytes all.last × AllOut new
 
--- rounds followed to their end
-abbrev pub EndsAll : Server → Out → Server → Type 0
-EndsAll old o new = (first : Work) → Rests first (owed old) → AllOut old → EndsSo first old o.objects o.old new o.others o.new
+  -- a call of the reader failed, if one did
+  abbrev pub TakesUnread : Server → Ends A → ServeFault → Type 0
+  TakesUnread old e fault =
+      (mode : Mode) (start : List A) (held : Device) → Serves mode start held [] old e.objects e.old → AllOut old → ReadsTo kind mode start e.from e.left held e.new e.others fault
 
--- rounds weren't ended
-abbrev pub EndingStops : Server → Out → ServeFault → Type 0
-EndingStops old o fault = (first : Work) → Rests first (owed old) → AllOut old → EndsPart first old o.objects o.old o.new × IsUnended o.old o.new fault
+  -- taking the messages stopped
+  abbrev pub TakingStops : Server → Ends A → ServeFault → Type 0
+  TakingStops old e fault =
+      (mode : Mode) (start : List A) (held : Device) → Serves mode start held [] old e.objects e.old → AllOut old → IsStopped kind mode start e.from e.left held e.new e.others fault
+
+  -- the messages of a piece were taken
+  abbrev pub TakesPiece : Server → List ℕ → Out A → Server → Type 0
+  TakesPiece old piece o new =
+      (mode : Mode) (start : List A) (held : Device) (bytes : List ℕ) → Serves mode start held bytes old o.objects o.old → AllOut old
+      → GoesOn mode start held (bytes ++ piece) new o.others o.new × AllOut new
+
+  -- taking a piece stopped
+  abbrev pub PieceStops : Server → List ℕ → Out A → ServeFault → Type 0
+  PieceStops old piece o fault =
+      (mode : Mode) (start : List A) (held from left : Device) (bytes : List ℕ) → Serves mode start held bytes old o.objects o.old → AllOut old
+      → StopsFor kind mode start (bytes ++ piece) from left held o.new o.others fault
+
+  -- a front of a piece was taken, and what its messages lead to is ready to go out
+  abbrev pub TakesFront : Server → List ℕ → List ℕ → Server → List A → List A → Type 0
+  TakesFront old piece back new objects others =
+      (mode : Mode) (start : List A) (held to : Device) (bytes : List ℕ) → Serves mode start held bytes old objects to → Fills mode start held bytes piece back new others to
+
+  -- taking a front stopped
+  abbrev pub FrontStops : Server → List ℕ → Server → ServeFault → List A → List A → Type 0
+  FrontStops old piece new fault objects others =
+      (mode : Mode) (start : List A) (held from left to : Device) (bytes : List ℕ) → Serves mode start held bytes old objects to
+      → StopsFor kind mode start (bytes ++ piece) from left held (ahead to (ready_of new)) others fault
+
+  -- what a message leads to was worked off, and a round followed
+  abbrev pub WorksOut : Server → Server → List A → List A → Type 0
+  WorksOut old new seen others =
+      (mid : work.Work) × (between : List A) × (gave : Bool) × rounds.WorksOff kind (owed old) mid seen between × rounds.Rounds kind mid gave (owed new) between others
+
+  -- So it is where a frame has just ended, and all that is to go out is ready then; and else nothing is done.
+  abbrev pub Concludes : Server → Server → List A → List A → Type 0
+  Concludes old new objects others =
+      (taken_of old.connection.reading ≢ 0) × (new ≡ old) × (others ≡ objects)
+      ⊎ ((taken_of old.connection.reading ≡ 0) × WorksOut old new objects others × (new.ready ≡ length new.connection.unwritten))
+
+  -- a round followed
+  abbrev pub Rounded : Server → Bool → Server → List A → List A → Type 0
+  Rounded old gave new objects others = rounds.Rounds kind (owed old) gave (owed new) objects others
+
+  -- rounds followed to their end
+  abbrev pub EndsAll : Server → Out A → Server → Type 0
+  EndsAll old o new = (first : Work) → Rests first (owed old) → AllOut old → EndsSo first old o.objects o.old new o.others o.new
+
+  -- rounds weren't ended
+  abbrev pub EndingStops : Server → Out A → ServeFault → Type 0
+  EndingStops old o fault = (first : Work) → Rests first (owed old) → AllOut old → EndsPart first old o.objects o.old o.new × IsUnended o.old o.new fault

@@ -8,4 +8,4 @@ mod serving;
 
 pub use fault::ServeFault;
 pub use report::Report;
-pub use serving::serve;
+pub use serving::{serve, serve_each};

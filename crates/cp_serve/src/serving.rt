@@ -1,14 +1,13 @@
 //! Serving a connection.
 
-ghost use Rattle.std.specs.Prelude.{◌≡◌, ◌<◌, ◌↔◌, ◌∷◌, [], List, None, false, IfOk, IfErr, OnOk, OnErr, IsSome, IsTrue, length, drop};
+ghost use Rattle.std.specs.Prelude.{◌≡◌, ◌<◌, ◌↔◌, ◌∷◌, [], None, false, IfOk, IfErr, OnOk, OnErr, IsSome, IsTrue, length, drop};
 ghost use Rattle.cp_stream.specs.Tap.{failures_of};
 ghost use Rattle.cp_stream.specs.Write.{Sends};
 ghost use Rattle.cp_stream.specs.declared.fault.StreamFault.TheVariants as faults;
-ghost use Rattle.cp_servants.specs.Servant.{On, Seen};
 ghost use Rattle.cp_objects.specs.Work.{Lives};
 ghost use Rattle.cp_serve.specs.Matching.{reason_in};
-ghost use Rattle.cp_serve.specs.Output.{Device, IsServedAt, IsStoppedAt, ReadsUpTo, ends};
-ghost use Rattle.cp_serve.specs.Reached.{AllOut, BreaksOff, Concludes, EndingStops, EndsAll, FrontStops, PieceStops, Rounded, RunStops, Runs, RunsTo, RunsUnread, Serves, TakesFront, TakesPiece, TakesToEnd, TakesUnread, TakingStops, out, owed, ready_of, report_of};
+ghost use Rattle.cp_serve.specs.Output.{IsServedAt, IsStoppedAt, ReadsUpTo, ends, ends_of};
+ghost use Rattle.cp_serve.specs.Reached.{AllOut, BreaksOff, Concludes, EndingStops, EndsAll, FrontStops, IsNew, PieceStops, Rounded, RunStops, Runs, RunsTo, RunsUnread, TakesFront, TakesPiece, TakesToEnd, TakesUnread, TakingStops, out, owed, ready_of, report_of};
 
 use crate::fault::ServeFault;
 use crate::report::Report;
@@ -24,6 +23,9 @@ use std::io::{Read, Write};
 
 /// The bytes that are asked for at once, and from which on a block goes out.
 const PIECE: usize = 65_536;
+
+/// Objects of all kinds are served in one list.
+type Boxed = Box<dyn Servant>;
 
 /// Serves objects to the peer whose messages are read, of which object 0 is the bootstrap object.
 /// `Ok` says that the messages ended, that the vat closed, or that 2^64 - 1 pieces were read.
@@ -45,15 +47,31 @@ pub fn serve<R: Read, W: Write>(
     mode: Mode,
 ) -> Result<Report, ServeFault>
     // What is served to its end is an output of the bytes that were read, and is reported.
-    ensures served { IfOk result (IsServedAt mode (ends (λ o. seen o) objects.old.items objects.new.items R.remaining from.old from.new W.contents to.old to.new)) }
+    ensures served { IfOk result (IsServedAt ⟦<Boxed as Servant>⟧.kind mode (ends objects.old objects.new R.remaining from.old from.new W.contents to.old to.new)) }
     // No call of the reader failed.
     ensures read { OnOk result (failures_of from.new ≡ failures_of from.old) }
     // Or one did, and then all that the messages before it lead to was written.
-    ensures unread { IfErr result (ReadsUpTo mode (ends (λ o. seen o) objects.old.items objects.new.items R.remaining from.old from.new W.contents to.old to.new)) }
+    ensures unread { IfErr result (ReadsUpTo ⟦<Boxed as Servant>⟧.kind mode (ends objects.old objects.new R.remaining from.old from.new W.contents to.old to.new)) }
     // A fault says why it was cut off, and what was written is a beginning of one.
-    ensures stopped { IfErr result (IsStoppedAt mode (ends (λ o. seen o) objects.old.items objects.new.items R.remaining from.old from.new W.contents to.old to.new)) }
+    ensures stopped { IfErr result (IsStoppedAt ⟦<Boxed as Servant>⟧.kind mode (ends objects.old objects.new R.remaining from.old from.new W.contents to.old to.new)) }
 {
-    Server::new(alloc, mode).serve(from, to, objects.as_mut_slice())
+    serve_each(alloc, from, to, objects.as_mut_slice(), mode)
+}
+
+/// Serves objects of one type, an enum for example, as `serve` does boxed ones.
+pub fn serve_each<O: Servant, R: Read, W: Write>(
+    alloc: Global,
+    from: &mut Tap<R>,
+    to: &mut Tap<W>,
+    objects: &mut [O],
+    mode: Mode,
+) -> Result<Report, ServeFault>
+    ensures served { IfOk result (IsServedAt O.kind mode (ends_of objects.old objects.new R.remaining from.old from.new W.contents to.old to.new)) }
+    ensures read { OnOk result (failures_of from.new ≡ failures_of from.old) }
+    ensures unread { IfErr result (ReadsUpTo O.kind mode (ends_of objects.old objects.new R.remaining from.old from.new W.contents to.old to.new)) }
+    ensures stopped { IfErr result (IsStoppedAt O.kind mode (ends_of objects.old objects.new R.remaining from.old from.new W.contents to.old to.new)) }
+{
+    Server::new(alloc, mode).serve(from, to, objects)
 }
 
 /// One end of a connection, with what its objects owe.
@@ -69,8 +87,7 @@ struct Server {
 impl Server {
     /// A server to which nothing has come.
     fn new(alloc: Global, mode: Mode) -> Server
-        ensures serves { (start : List Seen) (held : Device) → Serves mode start held [] result start held }
-        ensures out { AllOut result }
+        ensures { IsNew mode result }
     {
         Server {
             alloc,
@@ -81,16 +98,16 @@ impl Server {
     }
 
     /// Takes the messages and ends them, and says what was done.
-    fn serve<R: Read, W: Write>(
+    fn serve<O: Servant, R: Read, W: Write>(
         mut self,
         from: &mut Tap<R>,
         to: &mut Tap<W>,
-        objects: &mut [Box<dyn Servant>],
+        objects: &mut [O],
     ) -> Result<Report, ServeFault>
-        ensures served { IfOk result (Runs self (ends (λ o. seen o) objects.old objects.new R.remaining from.old from.new W.contents to.old to.new)) }
+        ensures served { IfOk result (Runs O.kind self (ends_of objects.old objects.new R.remaining from.old from.new W.contents to.old to.new)) }
         ensures read { OnOk result (failures_of from.new ≡ failures_of from.old) }
-        ensures unread { IfErr result (RunsUnread self (ends (λ o. seen o) objects.old objects.new R.remaining from.old from.new W.contents to.old to.new)) }
-        ensures stopped { IfErr result (RunStops self (ends (λ o. seen o) objects.old objects.new R.remaining from.old from.new W.contents to.old to.new)) }
+        ensures unread { IfErr result (RunsUnread O.kind self (ends_of objects.old objects.new R.remaining from.old from.new W.contents to.old to.new)) }
+        ensures stopped { IfErr result (RunStops O.kind self (ends_of objects.old objects.new R.remaining from.old from.new W.contents to.old to.new)) }
     {
         // The server goes before the answer is looked at, so that it is dropped in one place.
         let ended = self.run(from, to, objects);
@@ -100,16 +117,16 @@ impl Server {
     }
 
     /// Takes the messages and ends them.
-    fn run<R: Read, W: Write>(
+    fn run<O: Servant, R: Read, W: Write>(
         &mut self,
         from: &mut Tap<R>,
         to: &mut Tap<W>,
-        objects: &mut [Box<dyn Servant>],
+        objects: &mut [O],
     ) -> Result<(), ServeFault>
-        ensures served { IfOk result (λ _. RunsTo self.old (ends (λ o. seen o) objects.old objects.new R.remaining from.old from.new W.contents to.old to.new) self.new) }
+        ensures served { IfOk result (λ _. RunsTo O.kind self.old (ends_of objects.old objects.new R.remaining from.old from.new W.contents to.old to.new) self.new) }
         ensures read { OnOk result (failures_of from.new ≡ failures_of from.old) }
-        ensures unread { IfErr result (RunsUnread self.old (ends (λ o. seen o) objects.old objects.new R.remaining from.old from.new W.contents to.old to.new)) }
-        ensures stopped { IfErr result (RunStops self.old (ends (λ o. seen o) objects.old objects.new R.remaining from.old from.new W.contents to.old to.new)) }
+        ensures unread { IfErr result (RunsUnread O.kind self.old (ends_of objects.old objects.new R.remaining from.old from.new W.contents to.old to.new)) }
+        ensures stopped { IfErr result (RunStops O.kind self.old (ends_of objects.old objects.new R.remaining from.old from.new W.contents to.old to.new)) }
     {
         self.take_all(from, to, objects)?;
         self.end_all(to, objects)?;
@@ -141,16 +158,16 @@ impl Server {
     }
 
     /// Takes the messages, until they end or the vat closed.
-    fn take_all<R: Read, W: Write>(
+    fn take_all<O: Servant, R: Read, W: Write>(
         &mut self,
         from: &mut Tap<R>,
         to: &mut Tap<W>,
-        objects: &mut [Box<dyn Servant>],
+        objects: &mut [O],
     ) -> Result<(), ServeFault>
-        ensures taken { OnOk result (TakesToEnd self.old (ends (λ o. seen o) objects.old objects.new R.remaining from.old from.new W.contents to.old to.new) self.new) }
+        ensures taken { OnOk result (TakesToEnd O.kind self.old (ends_of objects.old objects.new R.remaining from.old from.new W.contents to.old to.new) self.new) }
         ensures read { OnOk result (failures_of from.new ≡ failures_of from.old) }
-        ensures unread { IfErr result (TakesUnread self.old (ends (λ o. seen o) objects.old objects.new R.remaining from.old from.new W.contents to.old to.new)) }
-        ensures stopped { IfErr result (TakingStops self.old (ends (λ o. seen o) objects.old objects.new R.remaining from.old from.new W.contents to.old to.new)) }
+        ensures unread { IfErr result (TakesUnread O.kind self.old (ends_of objects.old objects.new R.remaining from.old from.new W.contents to.old to.new)) }
+        ensures stopped { IfErr result (TakingStops O.kind self.old (ends_of objects.old objects.new R.remaining from.old from.new W.contents to.old to.new)) }
     {
         let mut storage = vec![in self.alloc; 0u8; PIECE]?;
         let buffer = storage.as_mut_slice();
@@ -172,14 +189,14 @@ impl Server {
 
     /// Takes the messages whose frames end in a piece, until the vat closed. What they send is written
     /// block by block, before more is read.
-    fn take_piece<W: Write>(
+    fn take_piece<O: Servant, W: Write>(
         &mut self,
         piece: &[u8],
         to: &mut Tap<W>,
-        objects: &mut [Box<dyn Servant>],
+        objects: &mut [O],
     ) -> Result<(), ServeFault>
-        ensures taken { OnOk result (TakesPiece self.old piece.now (out (λ o. seen o) objects.old objects.new W.contents to.old to.new) self.new) }
-        ensures stopped { IfErr result (PieceStops self.old piece.now (out (λ o. seen o) objects.old objects.new W.contents to.old to.new)) }
+        ensures taken { OnOk result (TakesPiece O.kind self.old piece.now (out objects.old objects.new W.contents to.old to.new) self.new) }
+        ensures stopped { IfErr result (PieceStops O.kind self.old piece.now (out objects.old objects.new W.contents to.old to.new)) }
     {
         let mut left = piece;
         'taking: while !left.is_empty() {
@@ -195,15 +212,15 @@ impl Server {
 
     /// Takes messages whose frames end in a piece, until a block of bytes is to go out or the vat closed.
     /// Gives what is left of the piece.
-    fn fill_block<'a>(
+    fn fill_block<'a, O: Servant>(
         &mut self,
         piece: &'a [u8],
-        objects: &mut [Box<dyn Servant>],
+        objects: &mut [O],
     ) -> Result<&'a [u8], ServeFault>
         requires { 0 < length piece.now }
         ensures shorter { IfOk result (λ left. length left.now < length piece.now) }
-        ensures taken { IfOk result (λ left. On (λ o. seen o) objects.old objects.new (TakesFront self.old piece.now left.now self.new)) }
-        ensures stopped { IfErr result (λ fault. On (λ o. seen o) objects.old objects.new (FrontStops self.old piece.now self.new fault)) }
+        ensures taken { IfOk result (λ left. TakesFront O.kind self.old piece.now left.now self.new objects.old objects.new) }
+        ensures stopped { IfErr result (λ fault. FrontStops O.kind self.old piece.now self.new fault objects.old objects.new) }
     {
         let mut left = piece;
         'filling: while !left.is_empty() {
@@ -226,15 +243,15 @@ impl Server {
     }
 
     /// Takes a piece up to the end of a frame, with what its message leads to, and gives what follows it.
-    fn take_next<'a>(
+    fn take_next<'a, O: Servant>(
         &mut self,
         piece: &'a [u8],
-        objects: &mut [Box<dyn Servant>],
+        objects: &mut [O],
     ) -> Result<&'a [u8], ServeFault>
         requires { 0 < length piece.now }
         ensures shorter { IfOk result (λ left. length left.now < length piece.now) }
-        ensures taken { IfOk result (λ left. On (λ o. seen o) objects.old objects.new (TakesFront self.old piece.now left.now self.new)) }
-        ensures stopped { IfErr result (λ fault. On (λ o. seen o) objects.old objects.new (FrontStops self.old piece.now self.new fault)) }
+        ensures taken { IfOk result (λ left. TakesFront O.kind self.old piece.now left.now self.new objects.old objects.new) }
+        ensures stopped { IfErr result (λ fault. FrontStops O.kind self.old piece.now self.new fault objects.old objects.new) }
     {
         let count = self.connection.receive(piece)?;
         self.work_out(objects)?;
@@ -242,8 +259,8 @@ impl Server {
     }
 
     /// Where a message has come, works off what it leads to, and a round follows.
-    fn work_out(&mut self, objects: &mut [Box<dyn Servant>]) -> Result<(), AllocError>
-        ensures done { OnOk result (On (λ o. seen o) objects.old objects.new (Concludes self.old self.new)) }
+    fn work_out<O: Servant>(&mut self, objects: &mut [O]) -> Result<(), AllocError>
+        ensures done { OnOk result (Concludes O.kind self.old self.new objects.old objects.new) }
         ensures kept { OnErr result (self.new.ready ≡ self.old.ready) }
         ensures lives { Lives self.old.connection self.new.connection }
     {
@@ -257,8 +274,8 @@ impl Server {
     }
 
     /// A round of polls. Says whether an outcome was given that was awaited.
-    fn round(&mut self, objects: &mut [Box<dyn Servant>]) -> Result<bool, AllocError>
-        ensures done { IfOk result (λ gave. On (λ o. seen o) objects.old objects.new (Rounded self.old gave self.new)) }
+    fn round<O: Servant>(&mut self, objects: &mut [O]) -> Result<bool, AllocError>
+        ensures done { IfOk result (λ gave. Rounded O.kind self.old gave self.new objects.old objects.new) }
         ensures ready { OnOk result (self.new.ready ≡ length self.new.connection.unwritten) }
         ensures kept { OnErr result (self.new.ready ≡ self.old.ready) }
         ensures lives { Lives self.old.connection self.new.connection }
@@ -269,13 +286,13 @@ impl Server {
     }
 
     /// Polls the objects until they give nothing that is awaited, or the vat closed.
-    fn end_all<W: Write>(
+    fn end_all<O: Servant, W: Write>(
         &mut self,
         to: &mut Tap<W>,
-        objects: &mut [Box<dyn Servant>],
+        objects: &mut [O],
     ) -> Result<(), ServeFault>
-        ensures ends { OnOk result (EndsAll self.old (out (λ o. seen o) objects.old objects.new W.contents to.old to.new) self.new) }
-        ensures stopped { IfErr result (EndingStops self.old (out (λ o. seen o) objects.old objects.new W.contents to.old to.new)) }
+        ensures ends { OnOk result (EndsAll O.kind self.old (out objects.old objects.new W.contents to.old to.new) self.new) }
+        ensures stopped { IfErr result (EndingStops O.kind self.old (out objects.old objects.new W.contents to.old to.new)) }
     {
         for _ in 0..u64::MAX {
             if self.has_ended() {

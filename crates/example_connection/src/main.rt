@@ -1,16 +1,37 @@
-//! Two ends of a connection, joined in memory by their bytes, one at a time. The client asks for the server's object, a Cell, and
+//! Two ends of a connection, joined in memory by their bytes, one at a time. The client asks for the server's object, a sum, and
 //! adds to it before it is known.
 #![tactic(auto)]
 
 use jamdrosek::client::{request_of, word_at};
 use jamdrosek::connection::{Connection, Happening, Objects};
-use jamdrosek::server::Cell;
+use jamdrosek::server::{Content, Ids, Reply, Request, Servant, Settled, word_in};
 use jamdrosek::vat::{Cap, Path};
 use jamdrosek::{Limits, Mode};
-use std::alloc::Global;
+use std::alloc::{AllocError, Global};
 
-/// The Cell's interface. Its method 0 adds a number to the Cell's, and answers with the sum.
-const CELL: u64 = 0xe5a1_0000_0000_0002;
+/// The interface of a sum.
+const SUM: u64 = 0xe5a1_0000_0000_0003;
+
+/// A total, to which each call adds a number. It answers with the new one.
+#[derive(Drop)]
+struct Total {
+    alloc: Global,
+    number: u64,
+}
+
+impl Servant for Total {
+    fn call(&mut self, _ticket: u64, request: Request) -> Result<Reply, AllocError> {
+        self.number = self.number.saturating_add(word_in(&request.content, 0));
+        Ok(Reply::Now {
+            outcome: Content::new(self.alloc).word(self.number)?.results(),
+            gives_up: Ids::new(Vec::new(self.alloc)),
+        })
+    }
+
+    fn poll(&mut self) -> Result<Option<Settled>, AllocError> {
+        Ok(None)
+    }
+}
 
 /// Carries what one end sends to the other.
 fn carry(from: &mut Connection, to: &mut Connection) -> anyhow::Result<()> {
@@ -41,10 +62,10 @@ fn sum(
     number: u64,
 ) -> anyhow::Result<Option<u64>> {
     let asked = client.bootstrap()?;
-    let cell = Cap::Pipelined(asked, Path::new(Vec::new(alloc)));
-    let sum = client.call(cell, request_of(alloc, CELL, 0, &[number])?)?;
+    let promised = Cap::Pipelined(asked, Path::new(Vec::new(alloc)));
+    let sum = client.call(promised, request_of(alloc, SUM, 0, &[number])?)?;
     carry(client, server)?;
-    Objects::new(alloc).work_off(server, &mut [Cell::new(alloc)])?;
+    Objects::new(alloc).work_off(server, &mut [Total { alloc, number: 0 }])?;
     carry(server, client)?;
     Ok(word_told(client, sum))
 }

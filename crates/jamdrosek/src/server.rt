@@ -28,6 +28,6 @@
 
 pub use cp_contents::{Content, data_in, text_in, word_in};
 pub use cp_refs::{Cap, Caps, Outcome, Request};
-pub use cp_servants::{Ask, Cell, Desk, Reply, Script, Servant, Settled};
-pub use cp_serve::{Report, ServeFault, serve};
+pub use cp_servants::{Ask, Reply, Servant, Settled};
+pub use cp_serve::{Report, ServeFault, serve, serve_each};
 pub use cp_vat_machine::{Ids, PeerFault, Reason};

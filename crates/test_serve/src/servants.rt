@@ -2,7 +2,8 @@
 
 use crate::calling::Adder;
 use cp_refs::{Cap, Caps, Outcome, Request};
-use cp_servants::{Ask, Cell, Desk, Reply, Script, Servant, Settled};
+use cp_samples::{Cell, Desk, Script};
+use cp_servants::{Ask, Reply, Servant, Settled};
 use cp_tree::Whole;
 use cp_vat_machine::Ids;
 use std::alloc::{AllocError, Global};
@@ -53,10 +54,6 @@ impl Object {
 }
 
 impl Servant for Object {
-    ghost use Rattle.cp_servants.specs.Servant.{other};
-
-    ghost seen = { λ _. other };
-
     fn call(&mut self, ticket: u64, request: Request) -> Result<Reply, AllocError> {
         match self {
             Object::Desk(desk) => desk.call(ticket, request),

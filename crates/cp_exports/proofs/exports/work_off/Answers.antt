@@ -1,4 +1,3 @@
-use Rattle.std.proofs.Common.{map}
 use Rattle.cp_objects.specs.WorkOf.{work_of}
 use Rattle.cp_objects.proofs.Living.{lives_both}
 use Rattle.cp_exports.specs.Turns.{ends, goes_on}
@@ -8,7 +7,7 @@ pub loop-init : goal.loop-init
 loop-init g c = (
   λ last others rest. record {
     mid = work_of c.work_off.new.self c.work_off.new.connection;
-    between = map g.O.Servant.seen c.work_off.new.objects;
+    between = c.work_off.new.objects;
     works = c.in_ok-work_off.ensures.done;
     polls = rest;
   },

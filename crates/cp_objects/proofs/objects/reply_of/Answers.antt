@@ -1,5 +1,4 @@
 use Rattle.std.proofs.Common.{refl, arith}
-use Rattle.std.proofs.lemmas.List.{length-map}
 use Rattle.cp_objects.specs.Rounds.{by_object, by_none}
 use Rattle.cp_objects.proofs.objects.reply_of.Goals as goal
 
@@ -7,4 +6,4 @@ pub returns-then-place-objects : goal.returns-then-place-objects
 returns-then-place-objects g c = by_object c.in_ok-reply.ensures
 
 pub returns : goal.returns
-returns g c = by_none (simp length-map (omega (arith, c.if-place-objects.false))) (rw (c.in_ok-no_such_object.ensures, c.new-2.ensures, c.new.ensures.items) refl) refl
+returns g c = by_none (omega (arith, c.if-place-objects.false)) (rw (c.in_ok-no_such_object.ensures, c.new-2.ensures, c.new.ensures.items) refl) refl

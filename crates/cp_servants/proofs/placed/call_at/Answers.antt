@@ -1,7 +1,8 @@
 use Rattle.std.proofs.Common.{ap, get_or}
-use Rattle.cp_servants.proofs.Changing.{changes-called}
+use Rattle.cp_servants.proofs.Changing.{changes_at}
 use Rattle.cp_servants.proofs.placed.call_at.Goals as goal
 
 pub returns : goal.returns
 returns g c =
-    changes-called c.args.objects.now c.args.place _ c.call.new.object c.in_ok-reply.ensures c.requires (ap (λ o. get_or c.args.objects.now c.args.place o) c.index-objects-place.is)
+    changes_at (λ before after. g.O.Servant.kind.takes before c.args.ticket c.args.request c.in_ok-reply.reply after) c.args.objects.now c.args.place _ c.call.new.self c.in_ok-reply.ensures c.requires
+    (ap (λ o. get_or c.args.objects.now c.args.place o) c.index-objects-place.is)

@@ -19,7 +19,7 @@ returns-in_err-turn-clause-stops g c =
     let from = device g.R.Read.remaining c.loop.client.from in
     let to = device g.W.Write.contents c.loop.client.to in
     rw (p.1, p.2) (inr (record {
-      mid = party g.O.Servant.seen g.R.Read.remaining g.W.Write.contents c.loop.self c.loop.client;
+      mid = party g.R.Read.remaining g.W.Write.contents c.loop.self c.loop.client;
       attends = h.0;
       loses = c.in_err-turn.ensures.loses from to;
       none_failed = record { reads = h.1.reads; writes = h.1.writes };
@@ -38,13 +38,13 @@ returns-in-Err-Ended-clause-serves g c =
     let from = device g.R.Read.remaining c.loop.client.from in
     let to = device g.W.Write.contents c.loop.client.to in
     record {
-      mid = party_of g.O.Servant.seen c.turn.new.self (seat_of c.turn.new.session from to);
+      mid = party_of c.turn.new.self (seat_of c.turn.new.session from to);
       hosts = record {
-        mid = party g.O.Servant.seen g.R.Read.remaining g.W.Write.contents c.loop.self c.loop.client;
+        mid = party g.R.Read.remaining g.W.Write.contents c.loop.self c.loop.client;
         attends = h.0;
         turns = c.in_ok-turn.ensures.turns from to;
       };
-      trades = trades g.O.Servant.seen c.turn.new.self _ _ _ refl c.step.ensures.exchanges;
+      trades = trades c.turn.new.self _ _ _ refl c.step.ensures.exchanges;
       stops =
           stops_after {a = seat g.R.Read.remaining g.W.Write.contents c.args.client.now} {b = seat_of c.turn.new.session from to} (seat g.R.Read.remaining g.W.Write.contents c.step.new.self) Ended
           (record { reads = h.1.reads; writes = h.1.writes }) (rw c.in-Err-Ended.field-0-is at c.in-Err-Ended.ensures.stops);
@@ -63,13 +63,13 @@ returns-in-Err-clause-stops g c =
     let from = device g.R.Read.remaining c.loop.client.from in
     let to = device g.W.Write.contents c.loop.client.to in
     inl (record {
-      mid = party_of g.O.Servant.seen c.turn.new.self (seat_of c.turn.new.session from to);
+      mid = party_of c.turn.new.self (seat_of c.turn.new.session from to);
       hosts = record {
-        mid = party g.O.Servant.seen g.R.Read.remaining g.W.Write.contents c.loop.self c.loop.client;
+        mid = party g.R.Read.remaining g.W.Write.contents c.loop.self c.loop.client;
         attends = h.0;
         turns = c.in_ok-turn.ensures.turns from to;
       };
-      trades = trades g.O.Servant.seen c.turn.new.self _ _ _ refl c.step.ensures.exchanges;
+      trades = trades c.turn.new.self _ _ _ refl c.step.ensures.exchanges;
       stops =
           stops_after {a = seat g.R.Read.remaining g.W.Write.contents c.args.client.now} {b = seat_of c.turn.new.session from to} _ _
           (record { reads = h.1.reads; writes = h.1.writes }) c.in-Err.ensures.stops;
@@ -89,7 +89,7 @@ loop-preserved g c =
     let from = device g.R.Read.remaining c.loop.client.from in
     let to = device g.W.Write.contents c.loop.client.to in
     let turns = c.in_ok-turn.ensures.turns from to in (
-      goes_on h.0 turns (trades g.O.Servant.seen c.turn.new.self _ _ _ refl k.exchanges) (record { reads = k.none_failed.reads; writes = k.none_failed.writes }),
+      goes_on h.0 turns (trades c.turn.new.self _ _ _ refl k.exchanges) (record { reads = k.none_failed.reads; writes = k.none_failed.writes }),
       record { reads = k.none_failed.reads ∙ h.1.reads; writes = k.none_failed.writes ∙ h.1.writes },
       talks_on h.2 (talks_on (talks_turned _ _ _ _ _ c.turn.ensures.lives turns.seat) (talks_exchange k.exchanges)),
     )
@@ -100,7 +100,7 @@ returns-clause-stops g c =
     let from = device g.R.Read.remaining c.loop.client.from in
     let to = device g.W.Write.contents c.loop.client.to in
     inr (record {
-      mid = party g.O.Servant.seen g.R.Read.remaining g.W.Write.contents c.loop.self c.loop.client;
+      mid = party g.R.Read.remaining g.W.Write.contents c.loop.self c.loop.client;
       attends = h.0;
       loses = loses_now _ _ _ c.lose.ensures.fault (ap (λ s. seat_of s from to) c.lose.ensures.over);
       none_failed = record { reads = h.1.reads; writes = h.1.writes };

@@ -12,7 +12,7 @@ returns-in-Ok-clause-turns g c = λ from to.
     let back = k.objects ∙ lent_back c.args.self.now.objects.items c.work_off.new.objects c.args.self.now.objects.len long in
     record {
       done = work_of c.work_off.new.work c.work_off.new.connection;
-      works = works_lent g.O.Servant.seen c.deref_mut.result.now _ c.work_off.new.objects _ c.deref_mut.ensures.value back c.in-Ok.ensures.works;
+      works = works_lent c.deref_mut.result.now _ c.work_off.new.objects _ c.deref_mut.ensures.value back c.in-Ok.ensures.works;
       work =
           k.work c.note_each.new.session.connection
           ∙ ap (λ (l : Link). record (work_of c.work_off.new.work l) { notices = [] }) (ap (λ s. s.connection) k.session);

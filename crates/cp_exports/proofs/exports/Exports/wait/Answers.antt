@@ -20,7 +20,7 @@ returns-in_err-turn-clause-untold g c =
     let from = device g.R.Read.remaining c.loop.client.from in
     let to = device g.W.Write.contents c.loop.client.to in
     rw (p.1, p.2) (inr (inr (record {
-      mid = party g.O.Servant.seen g.R.Read.remaining g.W.Write.contents c.loop.self c.loop.client;
+      mid = party g.R.Read.remaining g.W.Write.contents c.loop.self c.loop.client;
       attends = h.0;
       loses = c.in_err-turn.ensures.loses from to;
       none_failed = record { reads = h.1.reads; writes = h.1.writes };
@@ -40,13 +40,13 @@ returns-in_err-came-clause-untold g c =
     let k = c.in_err-came.ensures in
     let from = device g.R.Read.remaining c.loop.client.from in
     let to = device g.W.Write.contents c.loop.client.to in
-    let mid = party g.O.Servant.seen g.R.Read.remaining g.W.Write.contents c.loop.self c.loop.client in
+    let mid = party g.R.Read.remaining g.W.Write.contents c.loop.self c.loop.client in
     rw (p.1, p.2) (inl (record {
       is = k.unknown.0;
       hosts = record {
         mid = mid;
         attends = h.0;
-        turns = subst (λ s. Turns mid (party_of g.O.Servant.seen c.turn.new.self (seat_of s from to))) (sym k.same) (c.in_ok-turn.ensures.turns from to);
+        turns = subst (λ s. Turns g.O.Servant.kind mid (party_of c.turn.new.self (seat_of s from to))) (sym k.same) (c.in_ok-turn.ensures.turns from to);
       };
       none = k.unknown.1;
       none_failed = record { reads = h.1.reads; writes = h.1.writes };
@@ -67,14 +67,14 @@ returns-in-Some-clause-waits g c =
     let to = device g.W.Write.contents c.loop.client.to in
     let gives = rw c.in-Some.is at c.in_ok-came.ensures.taken from to in
     record {
-      mid = party_of g.O.Servant.seen c.turn.new.self (seat_of c.turn.new.session from to);
+      mid = party_of c.turn.new.self (seat_of c.turn.new.session from to);
       hosts = record {
-        mid = party g.O.Servant.seen g.R.Read.remaining g.W.Write.contents c.loop.self c.loop.client;
+        mid = party g.R.Read.remaining g.W.Write.contents c.loop.self c.loop.client;
         attends = h.0;
         turns = c.in_ok-turn.ensures.turns from to;
       };
       gives = gives;
-      same = party_same g.O.Servant.seen c.turn.new.self (seat_of c.turn.new.session from to) (seat_of c.take_outcome.new.self from to) (ap (λ s. s.link) gives.1);
+      same = party_same c.turn.new.self (seat_of c.turn.new.session from to) (seat_of c.take_outcome.new.self from to) (ap (λ s. s.link) gives.1);
       none_failed = record { reads = h.1.reads; writes = h.1.writes };
     }
 
@@ -96,13 +96,13 @@ returns-in_err-step-clause-untold g c =
     let none = rw c.in_default.is at c.in_ok-came.ensures.taken from to in
     rw (p.1, p.2) (inr (inl (record {
       halts = record {
-        mid = party_of g.O.Servant.seen c.turn.new.self (seat_of c.turn.new.session from to);
+        mid = party_of c.turn.new.self (seat_of c.turn.new.session from to);
         hosts = record {
-          mid = party g.O.Servant.seen g.R.Read.remaining g.W.Write.contents c.loop.self c.loop.client;
+          mid = party g.R.Read.remaining g.W.Write.contents c.loop.self c.loop.client;
           attends = h.0;
           turns = c.in_ok-turn.ensures.turns from to;
         };
-        trades = trades g.O.Servant.seen c.turn.new.self _ _ _ none.1 k.exchanges;
+        trades = trades c.turn.new.self _ _ _ none.1 k.exchanges;
         stops =
             stops_after {a = seat g.R.Read.remaining g.W.Write.contents c.args.client.now} {b = seat_of c.take_outcome.new.self from to} _ _
             (record { reads = h.1.reads; writes = h.1.writes }) k.stops;
@@ -127,7 +127,7 @@ loop-preserved g c =
     let to = device g.W.Write.contents c.loop.client.to in
     let turns = c.in_ok-turn.ensures.turns from to in
     let none = rw c.in_default.is at c.in_ok-came.ensures.taken from to in (
-      goes_on h.0 turns (trades g.O.Servant.seen c.turn.new.self _ _ _ none.1 k.exchanges) (record { reads = k.none_failed.reads; writes = k.none_failed.writes }),
+      goes_on h.0 turns (trades c.turn.new.self _ _ _ none.1 k.exchanges) (record { reads = k.none_failed.reads; writes = k.none_failed.writes }),
       record { reads = k.none_failed.reads ∙ h.1.reads; writes = k.none_failed.writes ∙ h.1.writes },
       talks_on h.2 (talks_on (talks_turned _ _ _ _ _ c.turn.ensures.lives turns.seat) (talks_on (talks_still none.1) (talks_exchange k.exchanges))),
     )
@@ -138,7 +138,7 @@ returns-clause-untold g c =
     let from = device g.R.Read.remaining c.loop.client.from in
     let to = device g.W.Write.contents c.loop.client.to in
     inr (inr (record {
-      mid = party g.O.Servant.seen g.R.Read.remaining g.W.Write.contents c.loop.self c.loop.client;
+      mid = party g.R.Read.remaining g.W.Write.contents c.loop.self c.loop.client;
       attends = h.0;
       loses = loses_now _ _ _ c.lose.ensures.fault (ap (λ s. seat_of s from to) c.lose.ensures.over);
       none_failed = record { reads = h.1.reads; writes = h.1.writes };

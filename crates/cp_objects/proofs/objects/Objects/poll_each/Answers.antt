@@ -1,6 +1,5 @@
 use Rattle.std.proofs.Common.{refl, false, ◌||◌, arith}
 use Rattle.std.proofs.Math.Bool.{or_assoc}
-use Rattle.std.proofs.lemmas.List.{length-map}
 use Rattle.cp_objects.specs.Rounds.{none_left, has_ended, polls}
 use Rattle.cp_objects.proofs.Living.{lives_none, lives_both}
 use Rattle.cp_objects.proofs.Working.{so_far, not_some}
@@ -28,7 +27,7 @@ pub returns-in_err-work_off-clause-lives : goal.returns-in_err-work_off-clause-l
 returns-in_err-work_off-clause-lives g c = lives_both (lives_both (lives_both c.loop-place.invariant.1 c.settle.ensures.lives) c.make_calls.ensures.lives) c.work_off.ensures.lives
 
 pub returns-clause-done : goal.returns-clause-done
-returns-clause-done g c = so_far c.loop-place.gave (c.loop-place.invariant.0 false _ _ (none_left (simp length-map (omega (arith, c.loop-place-test.false)))))
+returns-clause-done g c = so_far c.loop-place.gave (c.loop-place.invariant.0 false _ _ (none_left (omega (arith, c.loop-place-test.false))))
 
 pub returns-clause-lives : goal.returns-clause-lives
 returns-clause-lives g c = c.loop-place.invariant.1

@@ -1,5 +1,4 @@
-use Rattle.std.proofs.Common.{List, map}
-use Rattle.cp_servants.specs.Servant.{Seen}
+use Rattle.std.proofs.Common.{List}
 use Rattle.cp_objects.specs.Work.{Work, Lives}
 use Rattle.cp_objects.specs.Rounds.{WorksOff}
 use Rattle.cp_objects.specs.WorkOf.{work_of}
@@ -8,6 +7,6 @@ use Rattle.cp_objects.proofs.objects.Objects.work_off.Given as goal
 -- what works the rest off works all off
 abbrev pub invariant-loop : goal.invariant-loop
 invariant-loop g l =
-    ((last : Work) (others : List Seen) → WorksOff (work_of l.self l.connection) last (map g.O.Servant.seen l.objects) others
-    → WorksOff (work_of l.fn.self l.fn.connection) last (map g.O.Servant.seen l.fn.objects) others)
+    ((last : Work) (others : List g.row.O.Denot) → WorksOff g.O.Servant.kind (work_of l.self l.connection) last l.objects others
+    → WorksOff g.O.Servant.kind (work_of l.fn.self l.fn.connection) last l.fn.objects others)
     × Lives l.fn.connection l.connection

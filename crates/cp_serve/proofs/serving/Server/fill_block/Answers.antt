@@ -13,7 +13,7 @@ returns-in_err-left-clause-stopped g c =
     let p = err_from_is_err_and c.from_residual.result c.from_residual.ensures.1 in
     rw (p.1, p.2) (λ mode start held from left to bytes serves.
     let now = c.filling.invariant.1 mode start held to bytes serves in
-    stops_whole mode start held (ahead to (ready_of c.take_next.new.self)) _ bytes now.0 c.filling.left.now c.args.piece.now from left now.1 c.in_err-left.field-0.0
+    stops_whole g.O.Servant.kind mode start held (ahead to (ready_of c.take_next.new.self)) _ bytes now.0 c.filling.left.now c.args.piece.now from left now.1 c.in_err-left.field-0.0
     (c.in_err-left.ensures.stopped mode start held from left to (bytes ++ now.0) now.2))
 
 pub returns-then-ends_block-clause-shorter : goal.returns-then-ends_block-clause-shorter

@@ -1,7 +1,5 @@
-use Rattle.std.proofs.Common.{◌≡◌, ◌≤◌, ℕ, List, ◌++◌, map, length}
+use Rattle.std.proofs.Common.{◌≡◌, ◌≤◌, ℕ, List, ◌++◌, length}
 use Rattle.cp_frame.specs.declared.mode.Mode.{Mode}
-use Rattle.cp_serve.specs.contracts.serving.Server.fill_block.{dyn-1-ghosts}
-use Rattle.cp_servants.specs.Servant.{Seen}
 use Rattle.cp_serve.specs.Output.{Device}
 use Rattle.cp_serve.specs.Reached.{Serves}
 use Rattle.cp_serve.proofs.serving.Server.fill_block.Given as goal
@@ -10,10 +8,10 @@ use Rattle.cp_serve.proofs.serving.Server.fill_block.Given as goal
 abbrev pub invariant-filling : goal.invariant-filling
 invariant-filling g l =
     (length l.left ≤ length l.fn.piece)
-    × ((mode : Mode) (start : List Seen) (held to : Device) (bytes : List ℕ)
-    → Serves mode start held bytes l.fn.self (map (λ o. ((dyn-1-ghosts g.dyn-1).0.entry o.vtable).1.seen o.value) l.fn.objects) to
+    × ((mode : Mode) (start : List g.row.O.Denot) (held to : Device) (bytes : List ℕ)
+    → Serves g.O.Servant.kind mode start held bytes l.fn.self l.fn.objects to
     → (fed : List ℕ) × (l.fn.piece ≡ fed ++ l.left)
-    × Serves mode start held (bytes ++ fed) l.self (map (λ o. ((dyn-1-ghosts g.dyn-1).0.entry o.vtable).1.seen o.value) l.objects) to)
+    × Serves g.O.Servant.kind mode start held (bytes ++ fed) l.self l.objects to)
 
 abbrev pub decreases-filling : goal.decreases-filling
 decreases-filling g l = length l.left

@@ -33,4 +33,4 @@ returns-in_err-take_all-clause-unread g c =
 pub returns-in_err-end_all-clause-unread : goal.returns-in_err-end_all-clause-unread
 returns-in_err-end_all-clause-unread g c =
     let p = err_from_is_err_and c.from_residual-in_err-end_all.result c.from_residual-in_err-end_all.ensures.1 in
-    rw (p.1, p.2) (λ mode serves out. reads_well mode _ (device g.R.Read.remaining c.args.from.now) (device g.R.Read.remaining c.take_all.new.from) _ _ _ c.in_err-end_all.field-0.0 c.in_ok-take_all.ensures.read)
+    rw (p.1, p.2) (λ mode serves out. reads_well g.O.Servant.kind mode _ (device g.R.Read.remaining c.args.from.now) (device g.R.Read.remaining c.take_all.new.from) _ _ _ c.in_err-end_all.field-0.0 c.in_ok-take_all.ensures.read)

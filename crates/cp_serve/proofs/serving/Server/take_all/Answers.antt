@@ -112,13 +112,13 @@ pub returns-in_err-end-clause-unread : goal.returns-in_err-end-clause-unread
 returns-in_err-end-clause-unread g c =
     let p = err_from_is_err_and c.from_residual-in_err-end.result c.from_residual-in_err-end.ensures.1 in
     let same = c.in-Ok.ensures.counts.failures ∙ c.loop-pieces.invariant.0 in
-    rw (p.1, p.2) (λ mode start held serves out. reads_well mode start (device g.R.Read.remaining c.args.from.now) (device g.R.Read.remaining c.read.new.self) held _ _ _ same)
+    rw (p.1, p.2) (λ mode start held serves out. reads_well g.O.Servant.kind mode start (device g.R.Read.remaining c.args.from.now) (device g.R.Read.remaining c.read.new.self) held _ _ _ same)
 
 pub returns-in_err-take_piece-clause-unread : goal.returns-in_err-take_piece-clause-unread
 returns-in_err-take_piece-clause-unread g c =
     let p = err_from_is_err_and c.from_residual-in_err-take_piece.result c.from_residual-in_err-take_piece.ensures.1 in
     let same = c.in-Ok.ensures.counts.failures ∙ c.loop-pieces.invariant.0 in
-    rw (p.1, p.2) (λ mode start held serves out. reads_well mode start (device g.R.Read.remaining c.args.from.now) (device g.R.Read.remaining c.read.new.self) held _ _ c.in_err-take_piece.field-0.0 same)
+    rw (p.1, p.2) (λ mode start held serves out. reads_well g.O.Servant.kind mode start (device g.R.Read.remaining c.args.from.now) (device g.R.Read.remaining c.read.new.self) held _ _ c.in_err-take_piece.field-0.0 same)
 
 pub returns-then-length-eq0-clause-read : goal.returns-then-length-eq0-clause-read
 returns-then-length-eq0-clause-read g c = c.in-Ok.ensures.counts.failures ∙ c.loop-pieces.invariant.0

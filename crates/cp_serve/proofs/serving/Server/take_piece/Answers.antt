@@ -32,8 +32,8 @@ returns-in_err-left-clause-stopped g c =
     let filled = c.fill_block-filled.new.self in
     rw (p.1, p.2) (λ mode start held from left bytes serves out.
     let now = c.taking.invariant mode start held bytes serves out in
-    lands_stops mode start held old new (ready_of filled) c.in_ok-write.ensures.sent.0.appends c.in_ok-write.ensures.sent.1 (bytes ++ c.args.piece.now) from left _ c.in_err-left.field-0.0
-    (stops_whole mode start held (ahead old (ready_of filled)) _ bytes now.0 c.taking.left.now c.args.piece.now from left now.1 c.in_err-left.field-0.0 (c.in_err-left.ensures.stopped mode start held from left old (bytes ++ now.0) now.2)))
+    lands_stops g.O.Servant.kind mode start held old new (ready_of filled) c.in_ok-write.ensures.sent.0.appends c.in_ok-write.ensures.sent.1 (bytes ++ c.args.piece.now) from left _ c.in_err-left.field-0.0
+    (stops_whole g.O.Servant.kind mode start held (ahead old (ready_of filled)) _ bytes now.0 c.taking.left.now c.args.piece.now from left now.1 c.in_err-left.field-0.0 (c.in_err-left.ensures.stopped mode start held from left old (bytes ++ now.0) now.2)))
 
 pub returns-then-has_ended-clause-taken : goal.returns-then-has_ended-clause-taken
 returns-then-has_ended-clause-taken g c =

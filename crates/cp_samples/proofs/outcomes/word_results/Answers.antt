@@ -1,5 +1,5 @@
-use Rattle.cp_servants.proofs.Trees.{shaped_word}
-use Rattle.cp_servants.proofs.outcomes.word_results.Goals as goal
+use Rattle.cp_samples.proofs.Trees.{shaped_word}
+use Rattle.cp_samples.proofs.outcomes.word_results.Goals as goal
 
 pub from_shaped-requires : goal.from_shaped-requires
 from_shaped-requires c = rw (c.struct_of-tree.ensures, c.in_ok-vec.ensures.items, c.new.ensures.items) (shaped_word c.args.word c.ranges.word.fits)

@@ -2,8 +2,8 @@
 
 ghost use Rattle.std.specs.Prelude.{◌≡◌};
 
-use crate::servant::{Reply, Servant, Settled};
 use cp_refs::Request;
+use cp_servants::{Reply, Servant, Settled};
 use std::alloc::AllocError;
 use std::collections::VecDeque;
 
@@ -28,9 +28,10 @@ impl Script {
 }
 
 impl Servant for Script {
-    ghost use Rattle.cp_servants.specs.Servant.{script};
+    ghost use Rattle.cp_servants.specs.Servant.{seen_as};
+    ghost use Rattle.cp_samples.specs.Samples.{script, samples};
 
-    ghost seen = { λ s. script s.replies.items s.settled.items };
+    ghost kind = { seen_as (λ s. script s.replies.items s.settled.items) samples };
 
     fn call(&mut self, _ticket: u64, _request: Request) -> Result<Reply, AllocError> {
         Ok(self.replies.pop_front().unwrap_or(Reply::Later))

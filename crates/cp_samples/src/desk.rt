@@ -1,11 +1,11 @@
 //! The Desk, an object that gives out another one.
 
 ghost use Rattle.std.specs.Prelude.{◌≡◌, [], map};
-ghost use Rattle.cp_servants.specs.Servant.{polled, take_due};
+ghost use Rattle.cp_samples.specs.Samples.{polled, take_due};
 
-use crate::outcomes::{named_imports, no_such_method, object_results};
-use crate::servant::{Reply, Servant, Settled};
+use crate::outcomes::object_results;
 use cp_refs::Request;
+use cp_servants::{Reply, Servant, Settled, named_imports, no_such_method};
 use cp_vat_machine::Ids;
 use std::alloc::{AllocError, Global};
 
@@ -77,9 +77,10 @@ impl Desk {
 }
 
 impl Servant for Desk {
-    ghost use Rattle.cp_servants.specs.Servant.{desk};
+    ghost use Rattle.cp_servants.specs.Servant.{seen_as};
+    ghost use Rattle.cp_samples.specs.Samples.{desk, samples};
 
-    ghost seen = { λ d. desk d.due.items };
+    ghost kind = { seen_as (λ d. desk d.due.items) samples };
 
     fn call(&mut self, ticket: u64, request: Request) -> Result<Reply, AllocError> {
         let imports = named_imports(self.alloc, &request.caps)?;

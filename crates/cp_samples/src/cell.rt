@@ -1,11 +1,11 @@
 //! The Cell, an object that holds a number.
 
 ghost use Rattle.std.specs.Prelude.{◌≡◌};
-ghost use Rattle.cp_servants.specs.Servant.{first_word};
+ghost use Rattle.cp_samples.specs.Samples.{first_word};
 
-use crate::outcomes::{named_imports, no_such_method, word_results};
-use crate::servant::{Reply, Servant, Settled};
+use crate::outcomes::word_results;
 use cp_refs::Request;
+use cp_servants::{Reply, Servant, Settled, named_imports, no_such_method};
 use cp_tree::Whole;
 use std::alloc::{AllocError, Global};
 
@@ -36,9 +36,10 @@ impl Cell {
 }
 
 impl Servant for Cell {
-    ghost use Rattle.cp_servants.specs.Servant.{cell};
+    ghost use Rattle.cp_servants.specs.Servant.{seen_as};
+    ghost use Rattle.cp_samples.specs.Samples.{cell, samples};
 
-    ghost seen = { λ c. cell c.number };
+    ghost kind = { seen_as (λ c. cell c.number) samples };
 
     fn call(&mut self, _ticket: u64, request: Request) -> Result<Reply, AllocError> {
         let gives_up = named_imports(self.alloc, &request.caps)?;

@@ -1,6 +1,6 @@
 use Rattle.std.proofs.Common.{◌≡◌, ◌++◌, take, drop}
-use Rattle.cp_servants.specs.Servant.{take_due}
-use Rattle.cp_servants.proofs.desk.Desk.take_due.Given as goal
+use Rattle.cp_samples.specs.Samples.{take_due}
+use Rattle.cp_samples.proofs.desk.Desk.take_due.Given as goal
 
 abbrev pub invariant-loop-place : goal.invariant-loop-place
 invariant-loop-place l =

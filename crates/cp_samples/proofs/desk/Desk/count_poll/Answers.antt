@@ -1,7 +1,7 @@
 use Rattle.std.proofs.Common.{◌<◌, length, slice_index_or, ap, arith}
 use Rattle.std.proofs.lemmas.List.Edits.{map_over_more}
-use Rattle.cp_servants.specs.Servant.{polled}
-use Rattle.cp_servants.proofs.desk.Desk.count_poll.Goals as goal
+use Rattle.cp_samples.specs.Samples.{polled}
+use Rattle.cp_samples.proofs.desk.Desk.count_poll.Goals as goal
 
 pub loop-due-preserved : goal.loop-due-preserved
 loop-due-preserved c =

@@ -1,6 +1,6 @@
 use Rattle.cp_tree.proofs.Trees.{node-Cap}
-use Rattle.cp_servants.proofs.Trees.{shaped_cap}
-use Rattle.cp_servants.proofs.outcomes.object_results.Goals as goal
+use Rattle.cp_samples.proofs.Trees.{shaped_cap}
+use Rattle.cp_samples.proofs.outcomes.object_results.Goals as goal
 
 pub from_shaped-requires : goal.from_shaped-requires
 from_shaped-requires c = rw (c.struct_of-tree.ensures, c.in_ok-vec.ensures.items, c.new.ensures.items, node-Cap 0) shaped_cap

@@ -1,0 +1,46 @@
+//! A sample of any kind.
+
+use crate::cell::Cell;
+use crate::desk::Desk;
+use crate::script::Script;
+use cp_refs::Request;
+use cp_servants::{Reply, Servant, Settled};
+use std::alloc::AllocError;
+
+/// A sample of any kind, so that several stand in one list.
+#[derive(Drop)]
+pub enum Sample {
+    Desk(Desk),
+    Cell(Cell),
+    Script(Script),
+}
+
+impl Servant for Sample {
+    ghost use Rattle.cp_samples.specs.Sample.{each_sample};
+
+    ghost kind = { each_sample };
+
+    fn call(&mut self, ticket: u64, request: Request) -> Result<Reply, AllocError> {
+        match self {
+            Sample::Desk(desk) => desk.call(ticket, request),
+            Sample::Cell(cell) => cell.call(ticket, request),
+            Sample::Script(script) => script.call(ticket, request),
+        }
+    }
+
+    fn poll(&mut self) -> Result<Option<Settled>, AllocError> {
+        match self {
+            Sample::Desk(desk) => desk.poll(),
+            Sample::Cell(cell) => cell.poll(),
+            Sample::Script(script) => script.poll(),
+        }
+    }
+
+    fn again(&self) -> bool {
+        match self {
+            Sample::Desk(desk) => desk.again(),
+            Sample::Cell(cell) => cell.again(),
+            Sample::Script(script) => script.again(),
+        }
+    }
+}
