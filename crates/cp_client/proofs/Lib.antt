@@ -2,3 +2,4 @@ pub mod Living
 pub mod Going
 pub mod Waiting
 pub mod Trees
+pub mod Streaming

@@ -4,3 +4,4 @@ pub mod Reading
 pub mod Waits
 pub mod SeatOf
 pub mod Contents
+pub mod Streams

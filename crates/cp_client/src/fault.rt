@@ -1,10 +1,11 @@
-//! Why a call of a client gives nothing.
+//! Why a call of a client, or of a stream, gives nothing.
 
 ghost use Rattle.std.specs.Prelude.{◌≡◌};
 ghost use Rattle.cp_client.specs.declared.fault.ClientFault.TheVariants.{Connection};
 ghost use Rattle.cp_connection.specs.declared.fault.ConnectionFault.TheVariants.{OutOfMemory};
 
 use cp_connection::ConnectionFault;
+use cp_stubs::NoResults;
 use std::alloc::{AllocError, AllocFailed};
 use std::error::Error;
 use std::fmt;
@@ -57,5 +58,61 @@ impl<T: Drop> From<AllocFailed<T>> for ClientFault {
 
     fn from(_: AllocFailed<T>) -> ClientFault {
         ClientFault::Connection(ConnectionFault::OutOfMemory)
+    }
+}
+
+/// Why a stream doesn't go on.
+pub enum StreamFault {
+    /// Why the client gives nothing.
+    Client(ClientFault),
+    /// A call came to no results. It was finished, and is no longer under way.
+    NoResults(NoResults),
+}
+
+// Not derived: a crate that lets one go calls this function, and need not prove the drop of all that it holds.
+impl Drop for StreamFault {
+    fn drop(self) {
+        match self {
+            StreamFault::Client(_) => {}
+            StreamFault::NoResults(_) => {}
+        }
+    }
+}
+
+impl fmt::Display for StreamFault {
+    fn fmt<W: fmt::Write>(&self, f: &mut fmt::Formatter<W>) -> fmt::Result {
+        match self {
+            StreamFault::Client(fault) => fault.fmt(f),
+            StreamFault::NoResults(reason) => reason.fmt(f),
+        }
+    }
+}
+
+// Exceptions have no `Debug`.
+impl fmt::Debug for StreamFault {
+    fn fmt<W: fmt::Write>(&self, f: &mut fmt::Formatter<W>) -> fmt::Result {
+        fmt::Display::fmt(self, f)
+    }
+}
+
+impl Error for StreamFault {}
+
+impl From<ClientFault> for StreamFault {
+    ghost use Rattle.cp_client.specs.declared.fault.StreamFault.TheVariants.{Client};
+
+    ghost from_gives = { λ fault r. r ≡ Client fault };
+
+    fn from(fault: ClientFault) -> StreamFault {
+        StreamFault::Client(fault)
+    }
+}
+
+impl<T: Drop> From<AllocFailed<T>> for StreamFault {
+    ghost use Rattle.cp_client.specs.declared.fault.StreamFault.TheVariants.{Client};
+
+    ghost from_gives = { λ _ r. r ≡ Client (Connection OutOfMemory) };
+
+    fn from(_: AllocFailed<T>) -> StreamFault {
+        StreamFault::Client(ClientFault::Connection(ConnectionFault::OutOfMemory))
     }
 }

@@ -8,9 +8,11 @@ mod fault;
 mod piece;
 mod question;
 mod session;
+mod stream;
 
 pub use client::Client;
 pub use contents::{request_of, word_at};
-pub use fault::ClientFault;
+pub use fault::{ClientFault, StreamFault};
 pub use question::Question;
 pub use session::Session;
+pub use stream::Stream;

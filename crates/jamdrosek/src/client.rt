@@ -20,9 +20,11 @@
 //! They may call what they were given (`server::Servant::ask`). A client made by `with_bootstrap` gives the object
 //! of that number, 0 for the first one exported, to its peer's Bootstrap. `Exports::serve` answers until the peer ends.
 //!
+//! A `Stream` sends calls of which several are under way, up to a window, as those of a method with `-> stream`.
+//!
 //! The reader and the writer may be the two ends of a `TcpStream`, `&stream` twice, or bytes in memory.
 
-pub use cp_client::{Client, ClientFault, Question, request_of, word_at};
+pub use cp_client::{Client, ClientFault, Question, Stream, StreamFault, request_of, word_at};
 pub use cp_connection::ConnectionFault;
 pub use cp_contents::{Content, data_in, results_of, text_in, word_in};
 pub use cp_exports::Exports;

@@ -238,6 +238,19 @@
 //! What a call will give may be called before it came, by the names of its fields: of an interface that finds people,
 //! `directory.find(client, params)?.person()?.friend()?` is who speaks for a person that isn't found yet.
 //!
+//! # Send a stream of calls
+//!
+//! Of the calls of a method with `-> stream` several are under way at once. A `Stream` has a window: where as many are under way,
+//! `send` first waits for the oldest, and reports a call that failed. `end` waits for the rest.
+//!
+//! ```
+//! let mut stream = Stream::new(alloc, 16);
+//! for part in parts {
+//!     stream.send(&mut client, &watcher.target, watcher.added_request(part, Table::new(alloc)))?;
+//! }
+//! stream.end(&mut client)?;
+//! ```
+//!
 //! # Let objects answer while a client waits
 //!
 //! A peer may call what a call gave it. `Exports` holds such objects, of one type that is a `server::Servant`, or

@@ -25,3 +25,5 @@ mod exporting;
 mod frames;
 #[cfg(test)]
 mod memory;
+#[cfg(test)]
+mod streaming;
