@@ -6,7 +6,7 @@ use Rattle.cp_tree.specs.Node.{no_nodes, node, depth, cost}
 use Rattle.cp_tree.specs.declared.fault.WriteFault.{WriteFault}
 use Rattle.cp_tree.specs.declared.fault.WriteFault.TheVariants as writes
 use Rattle.cp_writing.proofs.CostWords.{not_too_many}
-use Rattle.cp_rpc.specs.Made.{member_made, message_made, message_number, u16_part}
+use Rattle.cp_rpc.specs.Written.{member_written, message_written, message_number, u16_part}
 use Rattle.cp_rpc.specs.declared.message.Message.{Message}
 use Rattle.cp_stream.specs.Write.{IsNotLaidOut}
 use Rattle.cp_vat_laws.specs.Sizes.{IsWritable}
@@ -20,11 +20,11 @@ at_most : (a b : ℕ) → leb a b ≡ true → a ≤ b
 at_most a b h = grind (arith, nat_tests)
 
 module _ (m : Message) (writes_ : IsWritable m) where
-  flat : depth (message_made m) ≤ 64
-  flat = at_most (depth (message_made m)) 64 (both_true _ _ writes_).0
+  flat : depth (message_written m) ≤ 64
+  flat = at_most (depth (message_written m)) 64 (both_true _ _ writes_).0
 
-  cheap : cost (message_made m) ≤ 8388608
-  cheap = at_most (cost (message_made m)) 8388608 (both_true _ _ writes_).1
+  cheap : cost (message_written m) ≤ 8388608
+  cheap = at_most (cost (message_written m)) 8388608 (both_true _ _ writes_).1
 
   -- only memory keeps it from being laid out
   pub is_memory : (fault : WriteFault) → IsNotLaidOut standard standard.frame_words 1 m fault → fault ≡ writes.OutOfMemory
@@ -35,4 +35,4 @@ module _ (m : Message) (writes_ : IsWritable m) where
   is_memory writes.TooCostly (inr h) = absurd (omega (arith, h.1.1, cheap))
   is_memory writes.TooManyWords (inl h) = absurd h
   is_memory writes.TooManyWords (inr h) =
-      absurd (not_too_many standard 8388608 (u16_part 0 (message_number m) ∷ []) (node (member_made m) no_nodes) (omega arith) h.0 cheap h.1)
+      absurd (not_too_many standard 8388608 (u16_part 0 (message_number m) ∷ []) (node (member_written m) no_nodes) (omega arith) h.0 cheap h.1)

@@ -1,7 +1,7 @@
 //! What a connection is made of.
 
 ghost use Rattle.std.specs.Prelude.{◌≡◌, ◌<◌, [], ℕ, List, Some, None, IfOk, IfErr, OnOk, length};
-ghost use Rattle.cp_rpc.specs.Told.{told};
+ghost use Rattle.cp_rpc.specs.Viewed.{viewed};
 ghost use Rattle.cp_stream.specs.Stream.{Holds, HoldsNone};
 ghost use Rattle.cp_vat_machine.specs.declared.event.Event.TheVariants as events;
 ghost use Rattle.cp_vat_machine.specs.declared.event.Value.TheVariants as values;
@@ -121,7 +121,7 @@ impl Parts {
         requires is_open { self.old.fault ≡ None }
         requires keeps { KeepsUp self.old }
         ensures keeps { KeepsUp self.new }
-        ensures acts { Acts (link_of self.old) (events.Receive (told message.entry)) (answered (λ _. values.Nothing) result) (link_of self.new) }
+        ensures acts { Acts (link_of self.old) (events.Receive (viewed message.entry)) (answered (λ _. values.Nothing) result) (link_of self.new) }
     {
         let acted = self.vat.receive_view(message);
         self.conclude(acted)
@@ -166,7 +166,7 @@ impl Parts {
 
     /// The message that a frame holds, in place.
     fn message_in<'a>(&self, segments: &'a Segments) -> Result<MessageView<'a>, Refusal>
-        ensures found { IfOk result (λ view. Holds self.now.limits segments.now (told view)) }
+        ensures found { IfOk result (λ view. Holds self.now.limits segments.now (viewed view)) }
         ensures refused { IfErr result (HoldsNone self.now.limits segments.now) }
     {
         match view_of(segments, self.limits) {

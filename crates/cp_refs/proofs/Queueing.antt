@@ -14,7 +14,7 @@ use Rattle.cp_tables.proofs.TableLemmas.{same_table, remove-insert, get-insert_s
 use Rattle.cp_refs.proofs.TicketLemmas.{contains-insert_nat, contains-remove_nat}
 use Rattle.cp_refs.specs.Queues.{key_of, stands_at, queue_of, is_queued, AreQueued}
 use Rattle.cp_refs.specs.Waiting.{is_same_gate, waits_at, Ends}
-use Rattle.cp_refs.specs.declared.call.Held.{Held}
+use Rattle.cp_refs.specs.declared.call.WaitingCall.{WaitingCall}
 use Rattle.cp_refs.specs.declared.route.Gate.{Gate}
 use Rattle.cp_refs.specs.declared.route.Gate.TheVariants as gates
 
@@ -38,7 +38,7 @@ same_key (gates.Embargo a) (gates.Promise b) = grind (arith, nat_tests)
 same_key (gates.Embargo a) (gates.Question b other) = grind (arith, nat_tests)
 same_key (gates.Embargo a) (gates.Embargo b) = grind (arith, nat_tests)
 
-stands-waits : (gate : Gate) (call : Option Held) → stands_at (key_of gate) call ≡ waits_at gate call
+stands-waits : (gate : Gate) (call : Option WaitingCall) → stands_at (key_of gate) call ≡ waits_at gate call
 stands-waits gate None = refl
 stands-waits gate (Some call) = same_key gate call.gate
 
@@ -51,12 +51,12 @@ and_true : (a b : Bool) → (a && b) ≡ true → a ≡ true
 and_true true b h = refl
 and_true false b h = absurd (true≢false (sym h))
 
-stands-some : (key : ℕ) (call : Option Held) → stands_at key call ≡ true → IsSome call
+stands-some : (key : ℕ) (call : Option WaitingCall) → stands_at key call ≡ true → IsSome call
 stands-some key None h = absurd (true≢false (sym h))
 stands-some key (Some call) h = refl
 
 -- a call stands at one key only
-one_place : (k other : ℕ) (call : Option Held) → k ≢ other → stands_at k call ≡ true → stands_at other call ≡ true → ⊥
+one_place : (k other : ℕ) (call : Option WaitingCall) → k ≢ other → stands_at k call ≡ true → stands_at other call ≡ true → ⊥
 one_place k other None d h i = true≢false (sym h)
 one_place k other (Some call) d h i = absurd (grind (arith, nat_tests, d, h, i))
 
@@ -109,7 +109,7 @@ queued-empty = record {
   queued = λ k t. rw (get-empty nat_cmp k, get-empty nat_cmp t) (contains-empty nat_cmp t);
 }
 
-module _ (calls : Table Held) (queues : Table (FinSet nat_cmp)) (ended : FinSet nat_cmp) (kept : AreQueued calls queues ended) where
+module _ (calls : Table WaitingCall) (queues : Table (FinSet nat_cmp)) (ended : FinSet nat_cmp) (kept : AreQueued calls queues ended) where
   -- the gate of a ticket without a call wasn't ended
   pub not_ended : (t : ℕ) → get calls t ≡ None → contains ended t ≡ false
   not_ended t h = false_if (contains ended t) (λ e. true≢false (sym (rw h at (kept.waited t e))))
@@ -123,7 +123,7 @@ module _ (calls : Table Held) (queues : Table (FinSet nat_cmp)) (ended : FinSet 
       and_false false = refl
 
   -- a new call stands in its gate's queue
-  pub queued-held : (call : Held) → get calls call.ticket ≡ None → AreQueued (insert calls call.ticket call) (insert queues (key_of call.gate) (set.insert (queue_of queues (key_of call.gate)) call.ticket)) ended
+  pub queued-held : (call : WaitingCall) → get calls call.ticket ≡ None → AreQueued (insert calls call.ticket call) (insert queues (key_of call.gate) (set.insert (queue_of queues (key_of call.gate)) call.ticket)) ended
   queued-held call none = record {
     ticketed = λ t.
         elim (cases_eq t call.ticket) [

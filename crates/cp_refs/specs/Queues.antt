@@ -5,7 +5,7 @@ use Rattle.std.specs.Ordering.{nat_cmp}
 use Rattle.std.specs.FinMap.{get}
 use Rattle.std.specs.FinSet.{FinSet, contains, empty}
 use Rattle.cp_tables.specs.Table.{Table}
-use Rattle.cp_refs.specs.declared.call.Held.{Held}
+use Rattle.cp_refs.specs.declared.call.WaitingCall.{WaitingCall}
 use Rattle.cp_refs.specs.declared.route.Gate.{Gate}
 use Rattle.cp_refs.specs.declared.route.Gate.TheVariants as gates
 
@@ -17,7 +17,7 @@ key_of (gates.Question q path) = 4 * q + 2
 key_of (gates.Embargo e) = 4 * e + 3
 
 -- there is a call, and it waits at the gate of this number
-abbrev pub stands_at : ℕ → Option Held → Bool
+abbrev pub stands_at : ℕ → Option WaitingCall → Bool
 stands_at key None = false
 stands_at key (Some call) = key_of call.gate == key
 
@@ -30,7 +30,7 @@ abbrev pub is_queued : Table (FinSet nat_cmp) → ℕ → ℕ → Bool
 is_queued queues key ticket = contains (queue_of queues key) ticket
 
 -- Each call is kept under its ticket. Those whose gate was ended are calls that wait, and each other one is in its gate's queue.
-pub record AreQueued (calls : Table Held) (queues : Table (FinSet nat_cmp)) (ended : FinSet nat_cmp) : Type 0 where
+pub record AreQueued (calls : Table WaitingCall) (queues : Table (FinSet nat_cmp)) (ended : FinSet nat_cmp) : Type 0 where
   pub ticketed : (ticket : ℕ) → IfSome (get calls ticket) (λ call. call.ticket ≡ ticket)
   pub waited : (ticket : ℕ) → IsTrue (contains ended ticket) → IsSome (get calls ticket)
   pub queued : (key : ℕ) (ticket : ℕ) → is_queued queues key ticket ≡ (stands_at key (get calls ticket) && not (contains ended ticket))

@@ -7,14 +7,14 @@ use Rattle.std.specs.FinSet.{FinSet}
 use Rattle.std.specs.FinSet as set
 use Rattle.cp_tables.specs.Table.{Table}
 use Rattle.std.specs.Coded.{Coded, code_by, coded×, coded_ℕ}
-use Rattle.cp_refs.specs.declared.call.Held.{Held}
-use Rattle.cp_refs.specs.contracts.call.Held as held
+use Rattle.cp_refs.specs.declared.call.WaitingCall.{WaitingCall}
+use Rattle.cp_refs.specs.contracts.call.WaitingCall as held
 use Rattle.cp_refs.specs.declared.route.Gate.{Gate}
 use Rattle.cp_refs.specs.declared.route.Gate.TheVariants as gates
 
 -- The calls that wait, one set, by their tickets; and the tickets of those whose gate was ended.
 pub record Waits : Type 0 where
-  pub calls : Table Held
+  pub calls : Table WaitingCall
   pub ended : FinSet nat_cmp
 
 -- they are one gate, at whatever paths
@@ -26,7 +26,7 @@ is_same_gate (gates.Embargo e) (gates.Embargo f) = e == f
 is_same_gate gate other = false
 
 -- there is a call and it waits at this gate
-abbrev pub waits_at : Gate → Option Held → Bool
+abbrev pub waits_at : Gate → Option WaitingCall → Bool
 waits_at gate None = false
 waits_at gate (Some call) = is_same_gate gate call.gate
 
@@ -36,7 +36,7 @@ pub record Ends (old : Waits) (gate : Gate) (new : Waits) : Type 0 where
   pub ended : (ticket : ℕ) → set.contains new.ended ticket ≡ (set.contains old.ended ticket || waits_at gate (get old.calls ticket))
 
 -- A call leaves: of those whose gate was ended, the one with the lowest ticket.
-pub record Leaves (old : Waits) (call : Held) (new : Waits) : Type 0 where
+pub record Leaves (old : Waits) (call : WaitingCall) (new : Waits) : Type 0 where
   pub waited : get old.calls call.ticket ≡ Some call
   pub was_ended : IsTrue (set.contains old.ended call.ticket)
   pub lowest : (ticket : ℕ) → IsTrue (set.contains old.ended ticket) → call.ticket ≤ ticket
@@ -44,4 +44,4 @@ pub record Leaves (old : Waits) (call : Held) (new : Waits) : Type 0 where
 
 -- they are stored as the two parts
 abbrev pub waits_code : Coded Waits
-waits_code = code_by (Table Held × FinSet nat_cmp) (coded× (map.code coded_ℕ held.the_row.coded) (set.code coded_ℕ)) (λ w. (w.calls, w.ended)) (λ parts. record { calls = parts.0; ended = parts.1 }) (λ _. refl)
+waits_code = code_by (Table WaitingCall × FinSet nat_cmp) (coded× (map.code coded_ℕ held.the_row.coded) (set.code coded_ℕ)) (λ w. (w.calls, w.ended)) (λ parts. record { calls = parts.0; ended = parts.1 }) (λ _. refl)

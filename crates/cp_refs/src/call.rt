@@ -45,7 +45,7 @@ pub enum Origin {
 
 /// A call that waits.
 #[derive(Drop)]
-pub struct Held {
+pub struct WaitingCall {
     /// Its place in the order in which calls came.
     pub ticket: u64,
     pub origin: Origin,

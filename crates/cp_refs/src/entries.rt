@@ -1,4 +1,4 @@
-//! Entries under numbers.
+//! WideEntries under numbers.
 
 ghost use Rattle.std.specs.Prelude.{◌≡◌, IfErr, OnOk, OnErr, option_copied};
 ghost use Rattle.std.specs.Option.{option_copied_mut};
@@ -10,13 +10,13 @@ use std::collections::BTreeMap;
 use std::collections::btree_map::Iter;
 use std::marker::Model;
 
-/// Entries under numbers. Contracts see them as a finite map.
+/// WideEntries under numbers. Contracts see them as a finite map.
 #[derive(Drop)]
-pub(crate) struct Entries<V> {
+pub(crate) struct WideEntries<V> {
     entries: BTreeMap<u64, V>,
 }
 
-impl<V> Model for Entries<V> {
+impl<V> Model for WideEntries<V> {
     ghost use Rattle.std.specs.FinMap as map;
     ghost use Rattle.std.specs.Coded.{coded_ℕ};
     ghost use Rattle.cp_tables.specs.Table.{Table};
@@ -28,13 +28,13 @@ impl<V> Model for Entries<V> {
     ghost view = { λ e. map.from_entries e.entries.entries };
 }
 
-impl<V> Entries<V> {
-    ghost use Rattle.cp_refs.specs.contracts.entries.Entries.{the_row};
+impl<V> WideEntries<V> {
+    ghost use Rattle.cp_refs.specs.contracts.entries.WideEntries.{the_row};
 
-    pub(crate) fn new(alloc: Global) -> Entries<V>
+    pub(crate) fn new(alloc: Global) -> WideEntries<V>
         ensures { result ≡ map.empty }
     {
-        Entries {
+        WideEntries {
             entries: BTreeMap::new(alloc),
         }
     }

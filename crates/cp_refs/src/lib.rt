@@ -14,7 +14,7 @@ mod values;
 mod waiting;
 mod walk;
 
-pub use call::{Held, Origin, Request};
+pub use call::{Origin, Request, WaitingCall};
 pub use cap::{Cap, Caps, Path, PromiseId};
 pub use kept_outcome::KeptOutcome;
 pub use outcome::{Outcome, failed};

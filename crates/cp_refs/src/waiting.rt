@@ -5,8 +5,8 @@ ghost use Rattle.std.specs.FinMap as map;
 ghost use Rattle.std.specs.FinSet as set;
 ghost use Rattle.cp_refs.specs.Queues.{key_of, queue_of, is_queued};
 
-use crate::call::Held;
-use crate::entries::Entries;
+use crate::call::WaitingCall;
+use crate::entries::WideEntries;
 use crate::route::Gate;
 use crate::tickets::Tickets;
 use std::alloc::{AllocError, AllocFailed, Global};
@@ -18,9 +18,9 @@ use std::marker::Model;
 #[derive(Drop)]
 pub struct Waiting {
     alloc: Global,
-    calls: Entries<Held>,
+    calls: WideEntries<WaitingCall>,
     /// The tickets at each gate that wasn't ended, by the gate's key.
-    queues: Entries<Tickets>,
+    queues: WideEntries<Tickets>,
     ended: Tickets,
 }
 
@@ -49,28 +49,28 @@ impl Waiting {
     {
         Waiting {
             alloc,
-            calls: Entries::new(alloc),
-            queues: Entries::new(alloc),
+            calls: WideEntries::new(alloc),
+            queues: WideEntries::new(alloc),
             ended: Tickets::new(alloc),
         }
     }
 
     /// The call with this ticket.
-    pub fn get(&self, ticket: u64) -> Option<&Held>
+    pub fn get(&self, ticket: u64) -> Option<&WaitingCall>
         ensures { option_copied result ≡ map.get self.now.calls ticket }
     {
         self.calls.get(ticket)
     }
 
     /// The calls with their tickets, rising.
-    pub fn calls(&self) -> Iter<'_, u64, Held>
+    pub fn calls(&self) -> Iter<'_, u64, WaitingCall>
         ensures { result ≡ map.entries self.now.calls }
     {
         self.calls.iter()
     }
 
     /// Takes in a call, whose ticket no other one has. Where memory runs out the call comes back.
-    pub fn hold(&mut self, held: Held) -> Result<(), AllocFailed<Held>>
+    pub fn hold(&mut self, held: WaitingCall) -> Result<(), AllocFailed<WaitingCall>>
         requires { map.get self.old.calls held.ticket ≡ None }
         ensures held { OnOk result (self.new ≡ record self.old { calls = map.insert self.old.calls held.ticket held }) }
         ensures back { IfErr result (λ failed. failed.value ≡ held) }
@@ -99,7 +99,7 @@ impl Waiting {
 
     /// Takes out, of the calls whose gate was ended, the one with the lowest ticket. `None` says
     /// that there is none of them.
-    pub fn next(&mut self) -> Option<Held>
+    pub fn next(&mut self) -> Option<WaitingCall>
         ensures left { IfSome result (λ call. Leaves self.old call self.new) }
         ensures none { IfNone result ((self.old.ended ≡ set.empty) × (self.new ≡ self.old)) }
     {
@@ -123,7 +123,7 @@ fn gate_key(gate: &Gate) -> u64
 /// Puts a ticket into the queue of this number.
 fn queue_up(
     alloc: Global,
-    queues: &mut Entries<Tickets>,
+    queues: &mut WideEntries<Tickets>,
     key: u64,
     ticket: u64,
 ) -> Result<(), AllocError>
@@ -142,7 +142,11 @@ fn queue_up(
 }
 
 /// Moves the tickets of the queue of this number to those whose gate was ended.
-fn end_queue(queues: &mut Entries<Tickets>, ended: &mut Tickets, key: u64) -> Result<(), AllocError>
+fn end_queue(
+    queues: &mut WideEntries<Tickets>,
+    ended: &mut Tickets,
+    key: u64,
+) -> Result<(), AllocError>
     requires { (t : ℕ) → IsTrue (set.contains ended.old t) → is_queued queues.old key t ≡ false }
     ensures moved { OnOk result ((t : ℕ) → set.contains ended.new t ≡ (set.contains ended.old t || is_queued queues.old key t)) }
     ensures gone { OnOk result (queues.new ≡ map.remove queues.old key) }

@@ -1,7 +1,7 @@
 //! What a relay lets through, up to its first fault.
 
 ghost use Rattle.std.specs.Prelude.{◌≡◌, ◌++◌, [], IfOk, IfErr, IfNone, IfSome, OnOk, None};
-ghost use Rattle.cp_rpc.specs.Told.{told};
+ghost use Rattle.cp_rpc.specs.Viewed.{viewed};
 ghost use Rattle.cp_stream.specs.Stream.{Holds, HoldsNone};
 ghost use Rattle.cp_relay.specs.Passage.{seen, kept_with, IsOpen, IsMemoryFor, OnlyKeeps, Refuses, PassesNext, PassesNone, PutsFrame, StopsAtFrame, Makes, IsUnmade};
 
@@ -128,8 +128,8 @@ impl Passage {
 
     /// Makes what goes out for a frame.
     fn make(&mut self, view: &MessageView, front: &[u8]) -> Result<(), Refusal>
-        ensures made { OnOk result (Makes self.old (told view.now) front.now self.new) }
-        ensures refused { IfErr result (IsUnmade self.old (told view.now)) }
+        ensures made { OnOk result (Makes self.old (viewed view.now) front.now self.new) }
+        ensures refused { IfErr result (IsUnmade self.old (viewed view.now)) }
         ensures counts { self.new.at ≡ self.old.at }
     {
         match self.output {
@@ -188,7 +188,7 @@ fn move_over(kept: &mut Vec<u8>, out: &mut Vec<u8>) -> Result<(), AllocError>
 
 /// The message that a frame's segments hold, read in place.
 fn view_in<'a>(segments: &'a Segments, limits: Limits) -> Result<MessageView<'a>, Refusal>
-    ensures found { IfOk result (λ v. Holds limits segments.now (told v)) }
+    ensures found { IfOk result (λ v. Holds limits segments.now (viewed v)) }
     ensures refused { IfErr result (HoldsNone limits segments.now) }
 {
     match view_of(segments, limits) {

@@ -2,7 +2,7 @@
 
 ghost use Rattle.std.specs.Prelude.{Bool, IfOk};
 ghost use Rattle.cp_rpc.specs.declared.message.Message.{Message};
-ghost use Rattle.cp_rpc.specs.Told.{told};
+ghost use Rattle.cp_rpc.specs.Viewed.{viewed};
 ghost use Rattle.cp_relay.specs.Relay.{says_nothing};
 
 use cp_rpc::MessageView;
@@ -15,7 +15,7 @@ pub trait Visitor: Drop {
 
     /// Whether a message may go. An allocation failure stops the relay (F6).
     fn visit(&mut self, message: &MessageView) -> Result<bool, AllocError>
-        ensures { IfOk result (λ may. says self.old (told message.now) may self.new) };
+        ensures { IfOk result (λ may. says self.old (viewed message.now) may self.new) };
 }
 
 /// Lets every message go.

@@ -8,9 +8,9 @@ use Rattle.cp_tree.specs.Node.{Node, null, struct, no_nodes, node, count, number
 use Rattle.cp_tree.specs.NodeOf.{bodies_of}
 use Rattle.cp_reading.specs.Rows.{row_of}
 use Rattle.cp_tree.specs.Shaped.{AllFit, HasSizes, Shaped, EachShaped, EachEven}
-use Rattle.cp_rpc.specs.Held.{IsU16, IsU32, IsText, IsException, IsOp, IsPromisedAnswer, IsTarget, IsDescriptor, IsPayload, IsSendResultsTo, IsCall, IsReturned, IsReturn, IsResolution, IsResolve, IsDisembargo, IsMessage}
+use Rattle.cp_rpc.specs.Representable.{IsU16, IsU32, IsText, IsException, IsOp, IsPromisedAnswer, IsTarget, IsDescriptor, IsPayload, IsSendResultsTo, IsCall, IsReturned, IsReturn, IsResolution, IsResolve, IsDisembargo, IsMessage}
 use Rattle.cp_rpc.specs.Fitting.{text_fits, exception_fits, promised_answer_fits, target_fits, descriptor_fits, payload_fits, call_fits, returned_fits, resolution_fits, message_fits}
-use Rattle.cp_rpc.specs.Made.{u16_part, u32_part, bit_part, text_made, body_made, list_made, exception_made, op_made, transform_made, promised_answer_made, target_made, target_pointer, descriptor_made, descriptor_number, descriptor_id, descriptor_pointer, cap_table_made, payload_made, send_results_to_number, third_party_made, call_made, returned_number, returned_question, returned_pointer, return_made, resolution_pointer, resolve_made, disembargo_made, member_made, message_made}
+use Rattle.cp_rpc.specs.Written.{u16_part, u32_part, bit_part, text_written, body_written, list_written, exception_written, op_written, transform_written, promised_answer_written, target_written, target_pointer, descriptor_written, descriptor_number, descriptor_id, descriptor_pointer, cap_table_written, payload_written, send_results_to_number, third_party_written, call_written, returned_number, returned_question, returned_pointer, return_written, resolution_pointer, resolve_written, disembargo_written, member_written, message_written}
 use Rattle.cp_rpc.specs.declared.exception.Exception.{Exception}
 use Rattle.cp_rpc.specs.declared.promised_answer.Op.{Op}
 use Rattle.cp_rpc.specs.declared.promised_answer.PromisedAnswer.{PromisedAnswer}
@@ -55,17 +55,17 @@ one_word w h = All-cons (λ n. n < 2 ^ 64) w [] h (All-nil (λ n. n < 2 ^ 64))
 one_each : (w : ℕ) (t : Node) → w < 2 ^ 64 → Shaped t → Shaped (struct (w ∷ []) (node t no_nodes))
 one_each w t h k = ((omega arith, omega arith), one_word w h, (k, tt))
 
-text_shaped : (bs : List ℕ) → IsText bs → text_fits bs ≡ true → Shaped (text_made bs)
+text_shaped : (bs : List ℕ) → IsText bs → text_fits bs ≡ true → Shaped (text_written bs)
 text_shaped [] h fits = tt
 text_shaped (b ∷ bs) h fits =
     let short : length (b ∷ bs) + 1 < 2 ^ 29 = less _ _ fits in
     (omega (arith, length-append (b ∷ bs) (0 ∷ [])), All-push (λ n. n < 2 ^ 8) (b ∷ bs) 0 h.1 (omega arith))
 
-text_fitting : (bs : List ℕ) → Shaped (text_made bs) → text_fits bs ≡ true
+text_fitting : (bs : List ℕ) → Shaped (text_written bs) → text_fits bs ≡ true
 text_fitting [] s = refl
 text_fitting (b ∷ bs) s = is-less _ _ (omega (arith, s.0, length-append (b ∷ bs) (0 ∷ [])))
 
-exception_shaped : (e : Exception) → IsException e → exception_fits e ≡ true → Shaped (exception_made e)
+exception_shaped : (e : Exception) → IsException e → exception_fits e ≡ true → Shaped (exception_written e)
 exception_shaped e h fits =
     let kind = kind_u16 e.kind h.kind in (
       (omega arith, omega arith),
@@ -73,48 +73,48 @@ exception_shaped e h fits =
       (text_shaped e.reason h.reason (and-left _ _ fits), (text_shaped e.trace h.trace (and-right _ _ fits), tt)),
     )
 
-exception_fitting : (e : Exception) → Shaped (exception_made e) → exception_fits e ≡ true
+exception_fitting : (e : Exception) → Shaped (exception_written e) → exception_fits e ≡ true
 exception_fitting e s = both _ _ (text_fitting e.reason s.2.0) (text_fitting e.trace s.2.1.0)
 
 -- an element of a list of structs of these sizes
 abbrev IsEven : ℕ → ℕ → Node → Type 0
 IsEven d n t = (length (data_of t) ≡ d) × (count (row_of t) ≡ n) × AllFit 64 (data_of t) × EachShaped (row_of t)
 
-length-bodies : {X : Type 0} (made : X → Node) (xs : List X) → number_of (bodies_of (map body_made (map made xs))) ≡ length xs
+length-bodies : {X : Type 0} (made : X → Node) (xs : List X) → number_of (bodies_of (map body_written (map made xs))) ≡ length xs
 length-bodies made [] = refl
 length-bodies made (x ∷ xs) = ap suc (length-bodies made xs)
 
 each_even : {X : Type 0} (P : X → Type 0) (d n : ℕ) (made : X → Node) (even : (x : X) → P x → IsEven d n (made x)) (xs : List X) → All P xs
-    → EachEven d n (bodies_of (map body_made (map made xs)))
+    → EachEven d n (bodies_of (map body_written (map made xs)))
 each_even P d n made even [] h = tt
 each_even P d n made even (x ∷ xs) h =
     let e = even x (All-head P x xs h) in
     (e.0, e.1, e.2, e.3, each_even P d n made even xs (All-tail P x xs h))
 
 list_shaped : {X : Type 0} (P : X → Type 0) (d n : ℕ) (made : X → Node) (even : (x : X) → P x → IsEven d n (made x)) (xs : List X) → All P xs
-    → HasSizes d n → length xs < 2 ^ 30 → length xs * (d + n) < 2 ^ 29 → Shaped (list_made d n (map made xs))
+    → HasSizes d n → length xs < 2 ^ 30 → length xs * (d + n) < 2 ^ 29 → Shaped (list_written d n (map made xs))
 list_shaped P d n made even [] h sizes few short = tt
 list_shaped P d n made even (x ∷ xs) h sizes few short =
     let e = length-bodies made (x ∷ xs) in
     (sizes, rw e few, rw e short, each_even P d n made even (x ∷ xs) h)
 
-op_even : (op : Op) → IsOp op → IsEven 1 0 (op_made op)
+op_even : (op : Op) → IsOp op → IsEven 1 0 (op_written op)
 op_even op h = let fits = op_u16 op h in (refl, refl, one_word _ (omega (arith, fits.0, fits.1)), tt)
 
-answer_shaped : (p : PromisedAnswer) → IsPromisedAnswer p → promised_answer_fits p ≡ true → Shaped (promised_answer_made p)
+answer_shaped : (p : PromisedAnswer) → IsPromisedAnswer p → promised_answer_fits p ≡ true → Shaped (promised_answer_written p)
 answer_shaped p h fits =
     let short : length p.transform < 2 ^ 29 = less _ _ fits in
-    one_each _ (transform_made p.transform) (omega (arith, h.question_id)) (list_shaped IsOp 1 0 op_made op_even p.transform h.transform (omega arith, omega arith) (omega arith) (omega arith))
+    one_each _ (transform_written p.transform) (omega (arith, h.question_id)) (list_shaped IsOp 1 0 op_written op_even p.transform h.transform (omega arith, omega arith) (omega arith) (omega arith))
 
 -- a list that a message can hold is short
-list_short : {X : Type 0} (d n : ℕ) (made : X → Node) (xs : List X) → Shaped (list_made d n (map made xs)) → length xs * (d + n) < 2 ^ 29
+list_short : {X : Type 0} (d n : ℕ) (made : X → Node) (xs : List X) → Shaped (list_written d n (map made xs)) → length xs * (d + n) < 2 ^ 29
 list_short d n made [] s = omega arith
 list_short d n made (x ∷ xs) s = rw (length-bodies made (x ∷ xs)) at s.2
 
-answer_fitting : (p : PromisedAnswer) → Shaped (promised_answer_made p) → promised_answer_fits p ≡ true
-answer_fitting p s = is-less _ _ (omega (arith, list_short 1 0 op_made p.transform s.2.0))
+answer_fitting : (p : PromisedAnswer) → Shaped (promised_answer_written p) → promised_answer_fits p ≡ true
+answer_fitting p s = is-less _ _ (omega (arith, list_short 1 0 op_written p.transform s.2.0))
 
-target_shaped : (t : Target) → IsTarget t → target_fits t ≡ true → Shaped (target_made t)
+target_shaped : (t : Target) → IsTarget t → target_fits t ≡ true → Shaped (target_written t)
 target_shaped t h fits = let u = target_fits_in t h in one_each _ (target_pointer t) (omega (arith, u.0, u.1)) (by t h fits)
   where
     by : (t : Target) → IsTarget t → target_fits t ≡ true → Shaped (target_pointer t)
@@ -122,7 +122,7 @@ target_shaped t h fits = let u = target_fits_in t h in one_each _ (target_pointe
     by (targets.PromisedAnswer p) h fits = answer_shaped p h fits
     by (targets.Unknown n) h fits = tt
 
-target_fitting : (t : Target) → Shaped (target_made t) → target_fits t ≡ true
+target_fitting : (t : Target) → Shaped (target_written t) → target_fits t ≡ true
 target_fitting (targets.ImportedCap id) s = refl
 target_fitting (targets.PromisedAnswer p) s = answer_fitting p s.2.0
 target_fitting (targets.Unknown n) s = refl
@@ -148,14 +148,14 @@ descriptor_fitting (descriptors.Unknown n) s = refl
 descriptor_word : (d : Descriptor) → IsDescriptor d → u16_part 0 (descriptor_number d) + u32_part 1 (descriptor_id d) < 2 ^ 64
 descriptor_word d h = let u = descriptor_fits_in d h in omega (arith, u.0, u.1)
 
-descriptor_shaped : (d : Descriptor) → IsDescriptor d → descriptor_fits d ≡ true → Shaped (descriptor_made d)
+descriptor_shaped : (d : Descriptor) → IsDescriptor d → descriptor_fits d ≡ true → Shaped (descriptor_written d)
 descriptor_shaped d h fits = one_each _ (descriptor_pointer d) (descriptor_word d h) (descriptor_pointer_shaped d h fits)
 
 -- a descriptor whose lists are short enough
 abbrev IsShort : Descriptor → Type 0
 IsShort d = IsDescriptor d × (descriptor_fits d ≡ true)
 
-descriptor_even : (d : Descriptor) → IsShort d → IsEven 1 1 (descriptor_made d)
+descriptor_even : (d : Descriptor) → IsShort d → IsEven 1 1 (descriptor_written d)
 descriptor_even d h = (refl, refl, one_word _ (descriptor_word d h.0), (descriptor_pointer_shaped d h.0 h.1, tt))
 
 each_short : (ds : List Descriptor) → All IsDescriptor ds → list_all descriptor_fits ds ≡ true → All IsShort ds
@@ -163,32 +163,32 @@ each_short [] h fits = All-nil IsShort
 each_short (d ∷ ds) h fits =
     All-cons IsShort d ds (All-head IsDescriptor d ds h, and-left _ _ fits) (each_short ds (All-tail IsDescriptor d ds h) (and-right _ _ fits))
 
-each_fitting : (ds : List Descriptor) → EachEven 1 1 (bodies_of (map body_made (map descriptor_made ds))) → list_all descriptor_fits ds ≡ true
+each_fitting : (ds : List Descriptor) → EachEven 1 1 (bodies_of (map body_written (map descriptor_written ds))) → list_all descriptor_fits ds ≡ true
 each_fitting [] s = refl
 each_fitting (d ∷ ds) s = both _ _ (descriptor_fitting d s.3.0) (each_fitting ds s.4)
 
-payload_shaped : (p : Payload) → IsPayload p → payload_fits p ≡ true → Shaped (payload_made p)
+payload_shaped : (p : Payload) → IsPayload p → payload_fits p ≡ true → Shaped (payload_written p)
 payload_shaped p h fits =
     let short : length p.cap_table * 2 < 2 ^ 29 = less _ _ (and-left _ _ fits) in (
       (omega arith, omega arith),
       All-nil (λ n. n < 2 ^ 64),
-      (h.content, (list_shaped IsShort 1 1 descriptor_made descriptor_even p.cap_table (each_short p.cap_table h.cap_table (and-right _ _ fits)) (omega arith, omega arith) (omega arith) (omega arith), tt)),
+      (h.content, (list_shaped IsShort 1 1 descriptor_written descriptor_even p.cap_table (each_short p.cap_table h.cap_table (and-right _ _ fits)) (omega arith, omega arith) (omega arith) (omega arith), tt)),
     )
 
-table_fitting : (ds : List Descriptor) → Shaped (cap_table_made ds) → list_all descriptor_fits ds ≡ true
+table_fitting : (ds : List Descriptor) → Shaped (cap_table_written ds) → list_all descriptor_fits ds ≡ true
 table_fitting [] s = refl
 table_fitting (d ∷ ds) s = each_fitting (d ∷ ds) s.3
 
-payload_fitting : (p : Payload) → Shaped (payload_made p) → payload_fits p ≡ true
-payload_fitting p s = both _ _ (is-less _ _ (omega (arith, list_short 1 1 descriptor_made p.cap_table s.2.1.0))) (table_fitting p.cap_table s.2.1.0)
+payload_fitting : (p : Payload) → Shaped (payload_written p) → payload_fits p ≡ true
+payload_fitting p s = both _ _ (is-less _ _ (omega (arith, list_short 1 1 descriptor_written p.cap_table s.2.1.0))) (table_fitting p.cap_table s.2.1.0)
 
-third_party_shaped : (s : SendResultsTo) → IsSendResultsTo s → Shaped (third_party_made s)
+third_party_shaped : (s : SendResultsTo) → IsSendResultsTo s → Shaped (third_party_written s)
 third_party_shaped results_to.Caller h = tt
 third_party_shaped results_to.Yourself h = tt
 third_party_shaped (results_to.ThirdParty t) h = h
 third_party_shaped (results_to.Unknown n) h = tt
 
-call_shaped : (c : Call) → IsCall c → call_fits c ≡ true → Shaped (call_made c)
+call_shaped : (c : Call) → IsCall c → call_fits c ≡ true → Shaped (call_written c)
 call_shaped c h fits =
     let P = λ (n : ℕ). n < 2 ^ 64 in
     let sent = sent_fits c.send_results_to h.send_results_to in
@@ -198,7 +198,7 @@ call_shaped c h fits =
       (target_shaped c.target h.target (and-left _ _ fits), (payload_shaped c.params h.params (and-right _ _ fits), (third_party_shaped c.send_results_to h.send_results_to, tt))),
     )
 
-call_fitting : (c : Call) → Shaped (call_made c) → call_fits c ≡ true
+call_fitting : (c : Call) → Shaped (call_written c) → call_fits c ≡ true
 call_fitting c s = both _ _ (target_fitting c.target s.2.0) (payload_fitting c.params s.2.1.0)
 
 returned_shaped : (r : Returned) → IsReturned r → returned_fits r ≡ true → Shaped (returned_pointer r)
@@ -227,7 +227,7 @@ return_word : (a n : ℕ) (b : Bool) → IsU32 a → IsU16 n → u32_part 0 a + 
 return_word a n true h k = omega arith
 return_word a n false h k = omega arith
 
-return_shaped : (r : Return) → IsReturn r → returned_fits r.returned ≡ true → Shaped (return_made r)
+return_shaped : (r : Return) → IsReturn r → returned_fits r.returned ≡ true → Shaped (return_written r)
 return_shaped r h fits =
     let P = λ (n : ℕ). n < 2 ^ 64 in
     let u = returned_fits_in r.returned h.returned in
@@ -247,17 +247,17 @@ resolution_fitting (resolutions.Cap d) s = descriptor_fitting d s.2.0
 resolution_fitting (resolutions.Exception e) s = exception_fitting e s
 resolution_fitting (resolutions.Unknown n) s = refl
 
-resolve_shaped : (r : Resolve) → IsResolve r → resolution_fits r.resolution ≡ true → Shaped (resolve_made r)
+resolve_shaped : (r : Resolve) → IsResolve r → resolution_fits r.resolution ≡ true → Shaped (resolve_written r)
 resolve_shaped r h fits =
     let u = resolution_fits_in r.resolution h.resolution in
     one_each _ (resolution_pointer r.resolution) (omega (arith, h.promise_id)) (resolution_shaped r.resolution h.resolution fits)
 
-disembargo_shaped : (d : Disembargo) → IsDisembargo d → target_fits d.target ≡ true → Shaped (disembargo_made d)
+disembargo_shaped : (d : Disembargo) → IsDisembargo d → target_fits d.target ≡ true → Shaped (disembargo_written d)
 disembargo_shaped d h fits =
     let u = context_fits d.context h.context in
-    one_each _ (target_made d.target) (omega (arith, u.0, u.1)) (target_shaped d.target h.target fits)
+    one_each _ (target_written d.target) (omega (arith, u.0, u.1)) (target_shaped d.target h.target fits)
 
-member_shaped : (m : Message) → IsMessage m → message_fits m ≡ true → Shaped (member_made m)
+member_shaped : (m : Message) → IsMessage m → message_fits m ≡ true → Shaped (member_written m)
 member_shaped (messages.Unimplemented t) h fits = h
 member_shaped (messages.Abort e) h fits = exception_shaped e h fits
 member_shaped (messages.Call c) h fits = call_shaped c h fits
@@ -271,7 +271,7 @@ member_shaped (messages.Bootstrap b) h fits = one_each _ null (omega (arith, h))
 member_shaped (messages.Disembargo d) h fits = disembargo_shaped d h fits
 member_shaped (messages.Other n t) h fits = h.2
 
-member_fitting : (m : Message) → Shaped (member_made m) → message_fits m ≡ true
+member_fitting : (m : Message) → Shaped (member_written m) → message_fits m ≡ true
 member_fitting (messages.Unimplemented t) s = refl
 member_fitting (messages.Abort e) s = exception_fitting e s
 member_fitting (messages.Call c) s = call_fitting c s
@@ -284,13 +284,13 @@ member_fitting (messages.Disembargo d) s = target_fitting d.target s.2.0
 member_fitting (messages.Other n t) s = refl
 
 -- A message whose lists are short enough is written as a tree that a message can hold.
-pub message_shaped : (m : Message) → IsMessage m → message_fits m ≡ true → Shaped (message_made m)
-message_shaped m h fits = let n = message_u16 m h in one_each _ (member_made m) (omega arith) (member_shaped m h fits)
+pub message_shaped : (m : Message) → IsMessage m → message_fits m ≡ true → Shaped (message_written m)
+message_shaped m h fits = let n = message_u16 m h in one_each _ (member_written m) (omega arith) (member_shaped m h fits)
 
 -- The lists of one that a message can hold are short enough.
-pub message_fitting : (m : Message) → Shaped (message_made m) → message_fits m ≡ true
+pub message_fitting : (m : Message) → Shaped (message_written m) → message_fits m ≡ true
 message_fitting m s = member_fitting m s.2.0
 
 -- One that has a list that is too long isn't.
-pub too_long : (m : Message) → message_fits m ≡ false → Shaped (message_made m) → ⊥
+pub too_long : (m : Message) → message_fits m ≡ false → Shaped (message_written m) → ⊥
 too_long m long s = let fits = message_fitting m s in cc

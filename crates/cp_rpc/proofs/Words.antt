@@ -2,8 +2,8 @@
 use Rattle.std.proofs.Common.{◌≡◌, ℕ, ◌+◌, ◌/◌, ◌%◌, ◌^◌, ◌<◌, ◌==◌, Bool, true, false, [], ◌∷◌, ap, arith}
 use Rattle.std.specs.Prelude.{not}
 use Rattle.cp_rpc.specs.Fields.{u16_of, u32_of, u64_of, bit_of}
-use Rattle.cp_rpc.specs.Held.{IsU16, IsU32}
-use Rattle.cp_rpc.specs.Made.{u16_part, u32_part, bit_part}
+use Rattle.cp_rpc.specs.Representable.{IsU16, IsU32}
+use Rattle.cp_rpc.specs.Written.{u16_part, u32_part, bit_part}
 
 pub u16_first : (n : ℕ) → IsU16 n → u16_of (u16_part 0 n ∷ []) 0 ≡ n
 u16_first n h = omega arith

@@ -1,7 +1,7 @@
 -- What a reading answered.
 use Rattle.std.specs.Prelude.{◌≡◌, ◌⊎◌, List, [], ◌∷◌, Option, None, Some, Result, Ok, Err}
 use Rattle.cp_tree.specs.Node.{Node}
-use Rattle.cp_rpc.specs.Told.{told}
+use Rattle.cp_rpc.specs.Viewed.{viewed}
 use Rattle.cp_rpc.specs.declared.fault.SchemaFault.{SchemaFault}
 use Rattle.cp_rpc.specs.declared.fault.SchemaFault.TheVariants as faults
 use Rattle.cp_rpc.specs.declared.message.Message.{Message}
@@ -14,8 +14,8 @@ first_of (f ∷ fs) = Some f
 
 -- There are no faults, and what was answered says what is said; or the first fault was answered.
 abbrev pub Gives : {V X : Type 0} → (V → X) → X → List SchemaFault → Result V SchemaFault → Type 0
-Gives told said faults (Ok v) = (faults ≡ []) × (told v ≡ said)
-Gives told said faults (Err f) = first_of faults ≡ Some f
+Gives viewed said faults (Ok v) = (faults ≡ []) × (viewed v ≡ said)
+Gives viewed said faults (Err f) = first_of faults ≡ Some f
 
 -- There are no faults; or the first fault was answered.
 abbrev pub Checks : {V : Type 0} → List SchemaFault → Result V SchemaFault → Type 0
@@ -24,7 +24,7 @@ Checks faults (Err f) = first_of faults ≡ Some f
 
 -- a view of this message was answered
 abbrev pub AnswersView : Result (MessageIn Node) SchemaFault → Message → Type 0
-AnswersView (Ok v) m = told v ≡ m
+AnswersView (Ok v) m = viewed v ≡ m
 AnswersView (Err fault) m = ⊥
 
 -- this message was answered, or memory ran out

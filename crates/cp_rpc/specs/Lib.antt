@@ -1,12 +1,12 @@
 pub mod Answers
-pub mod Told
+pub mod Viewed
 pub mod Names
 pub mod Fields
-pub mod Said
-pub mod Faulty
+pub mod Denoted
+pub mod Faults
 pub mod Others
-pub mod Made
-pub mod Held
+pub mod Written
+pub mod Representable
 pub mod Fitting
 pub mod Refused
 pub mod Says

@@ -3,12 +3,12 @@
 ghost use Rattle.std.specs.Prelude.{◌≡◌, IfOk};
 ghost use Rattle.cp_rpc.specs.Fields.{IsStructField};
 ghost use Rattle.cp_rpc.specs.Answers.{Checks, Gives};
-ghost use Rattle.cp_rpc.specs.Said.{send_results_to_said, call_said};
-ghost use Rattle.cp_rpc.specs.Faulty.{call_faults};
-ghost use Rattle.cp_rpc.specs.Told.{told_send_results_to, told_call};
+ghost use Rattle.cp_rpc.specs.Denoted.{send_results_to_denoted, call_denoted};
+ghost use Rattle.cp_rpc.specs.Faults.{call_faults};
+ghost use Rattle.cp_rpc.specs.Viewed.{viewed_send_results_to, viewed_call};
 ghost use Rattle.cp_rpc.specs.Fitting.{call_fits};
-ghost use Rattle.cp_rpc.specs.Held.{IsSendResultsTo, IsCall};
-ghost use Rattle.cp_rpc.specs.Made.{send_results_to_number, third_party_made, call_made};
+ghost use Rattle.cp_rpc.specs.Representable.{IsSendResultsTo, IsCall};
+ghost use Rattle.cp_rpc.specs.Written.{send_results_to_number, third_party_written, call_written};
 ghost use Rattle.cp_tree.specs.DraftOf.{draft_of};
 
 use crate::data::{u16_part, u32_part, u64_part};
@@ -111,7 +111,7 @@ impl Call {
 
     /// The struct that the call is written as.
     pub(crate) fn draft(&self, alloc: Global) -> Result<Draft<'_>, AllocError>
-        ensures made { IfOk result (λ d. draft_of d ≡ call_made self.now) }
+        ensures made { IfOk result (λ d. draft_of d ≡ call_written self.now) }
         ensures held { IfOk result (λ d. IsCall self.now) }
     {
         let target = self.target.draft(alloc)?;
@@ -141,7 +141,7 @@ impl SendResultsTo {
     /// Its member's number, and what its pointer stands for.
     fn parts(&self) -> (u16, Draft<'_>)
         ensures number { result.0 ≡ send_results_to_number self.now }
-        ensures pointer { draft_of result.1 ≡ third_party_made self.now }
+        ensures pointer { draft_of result.1 ≡ third_party_written self.now }
         ensures held { IsSendResultsTo self.now }
     {
         match self {
@@ -157,7 +157,7 @@ impl<S: Source> SendResultsToView<S> {
     /// Where a call's struct says that results are sent to.
     fn of(t: &S) -> SendResultsToView<S>
         requires { IsStructField (S.seen t.now) }
-        ensures { told_send_results_to S.seen result ≡ send_results_to_said (S.seen t.now) }
+        ensures { viewed_send_results_to S.seen result ≡ send_results_to_denoted (S.seen t.now) }
     {
         match u16_at(t.data(), Call::SEND_RESULTS_TO) {
             0 => SendResultsToView::Caller,
@@ -169,7 +169,7 @@ impl<S: Source> SendResultsToView<S> {
 
     /// The same, owned.
     pub fn send_results_to(&self, alloc: Global) -> Result<SendResultsTo, AllocError>
-        ensures { IfOk result (λ s. s ≡ told_send_results_to S.seen self.now) }
+        ensures { IfOk result (λ s. s ≡ viewed_send_results_to S.seen self.now) }
     {
         Ok(match self {
             SendResultsToView::Caller => SendResultsTo::Caller,
@@ -193,7 +193,7 @@ impl<S: Source> CallView<S> {
     /// The call that a struct says.
     pub(crate) fn of(t: &S) -> Result<CallView<S>, SchemaFault>
         requires { IsStructField (S.seen t.now) }
-        ensures { Gives (told_call S.seen) (call_said (S.seen t.now)) (call_faults (S.seen t.now)) result }
+        ensures { Gives (viewed_call S.seen) (call_denoted (S.seen t.now)) (call_faults (S.seen t.now)) result }
     {
         let target = TargetView::of(&struct_field(t, Call::TARGET, Field::CallTarget)?)?;
         let params = PayloadView::of(&struct_field(t, Call::PARAMS, Field::CallParams)?)?;
@@ -210,7 +210,7 @@ impl<S: Source> CallView<S> {
 
     /// The call, owned.
     pub fn call(&self, alloc: Global) -> Result<Call, AllocError>
-        ensures { IfOk result (λ c. c ≡ told_call S.seen self.now) }
+        ensures { IfOk result (λ c. c ≡ viewed_call S.seen self.now) }
     {
         Ok(Call {
             question_id: self.question_id,

@@ -1,7 +1,7 @@
 //! What the fields of a struct's data section add to its words (encoding specification, "Structs").
 
 ghost use Rattle.std.specs.Prelude.{◌≡◌, ◌==◌, ◌<◌, ◌^◌};
-ghost use Rattle.cp_rpc.specs.Made.{u16_part as u16_made, u32_part as u32_made, bit_part as bit_made};
+ghost use Rattle.cp_rpc.specs.Written.{u16_part as u16_made, u32_part as u32_made, bit_part as bit_made};
 
 /// What the `index`-th number of 16 bits adds to the word that it is in.
 pub(crate) fn u16_part(index: u32, number: u16) -> u64

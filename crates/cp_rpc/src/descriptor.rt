@@ -3,12 +3,12 @@
 ghost use Rattle.std.specs.Prelude.{◌≡◌, IfOk};
 ghost use Rattle.cp_rpc.specs.Fields.{IsStructField};
 ghost use Rattle.cp_rpc.specs.Answers.{Checks, Gives};
-ghost use Rattle.cp_rpc.specs.Said.{descriptor_said};
-ghost use Rattle.cp_rpc.specs.Faulty.{descriptor_faults};
-ghost use Rattle.cp_rpc.specs.Told.{told_descriptor};
+ghost use Rattle.cp_rpc.specs.Denoted.{descriptor_denoted};
+ghost use Rattle.cp_rpc.specs.Faults.{descriptor_faults};
+ghost use Rattle.cp_rpc.specs.Viewed.{viewed_descriptor};
 ghost use Rattle.cp_rpc.specs.Fitting.{descriptor_fits};
-ghost use Rattle.cp_rpc.specs.Held.{IsDescriptor};
-ghost use Rattle.cp_rpc.specs.Made.{body_made, descriptor_number, descriptor_id, descriptor_pointer, descriptor_made};
+ghost use Rattle.cp_rpc.specs.Representable.{IsDescriptor};
+ghost use Rattle.cp_rpc.specs.Written.{body_written, descriptor_number, descriptor_id, descriptor_pointer, descriptor_written};
 ghost use Rattle.cp_tree.specs.DraftOf.{draft_of, draft_body_of};
 
 use crate::data::{u16_part, u32_part};
@@ -106,7 +106,7 @@ impl Descriptor {
 
     /// The struct that the descriptor is written as, as a list holds it.
     pub(crate) fn body(&self, alloc: Global) -> Result<DraftBody<'_>, AllocError>
-        ensures made { IfOk result (λ b. draft_body_of b ≡ body_made (descriptor_made self.now)) }
+        ensures made { IfOk result (λ b. draft_body_of b ≡ body_written (descriptor_written self.now)) }
         ensures held { IfOk result (λ b. IsDescriptor self.now) }
     {
         let (number, id, pointer) = self.parts(alloc);
@@ -116,7 +116,7 @@ impl Descriptor {
 
     /// The struct that the descriptor is written as.
     pub(crate) fn draft(&self, alloc: Global) -> Result<Draft<'_>, AllocError>
-        ensures made { IfOk result (λ d. draft_of d ≡ descriptor_made self.now) }
+        ensures made { IfOk result (λ d. draft_of d ≡ descriptor_written self.now) }
         ensures held { IfOk result (λ d. IsDescriptor self.now) }
     {
         Ok(Draft::Struct(self.body(alloc)?))
@@ -142,7 +142,7 @@ impl<S: Source> DescriptorView<S> {
     /// The descriptor that a struct says.
     pub(crate) fn of(t: &S) -> Result<DescriptorView<S>, SchemaFault>
         requires { IsStructField (S.seen t.now) }
-        ensures { Gives (told_descriptor S.seen) (descriptor_said (S.seen t.now)) (descriptor_faults (S.seen t.now)) result }
+        ensures { Gives (viewed_descriptor S.seen) (descriptor_denoted (S.seen t.now)) (descriptor_faults (S.seen t.now)) result }
     {
         let words = t.data();
         let id = u32_at(words, Descriptor::ID);
@@ -166,7 +166,7 @@ impl<S: Source> DescriptorView<S> {
 
     /// The descriptor, owned.
     pub fn descriptor(&self, alloc: Global) -> Result<Descriptor, AllocError>
-        ensures { IfOk result (λ d. d ≡ told_descriptor S.seen self.now) }
+        ensures { IfOk result (λ d. d ≡ viewed_descriptor S.seen self.now) }
     {
         Ok(match self {
             DescriptorView::None => Descriptor::None,

@@ -3,11 +3,11 @@
 ghost use Rattle.std.specs.Prelude.{◌≡◌, IfOk};
 ghost use Rattle.cp_rpc.specs.Fields.{IsStructField};
 ghost use Rattle.cp_rpc.specs.Answers.{Checks, Gives};
-ghost use Rattle.cp_rpc.specs.Said.{context_said, disembargo_said};
-ghost use Rattle.cp_rpc.specs.Faulty.{disembargo_faults};
-ghost use Rattle.cp_rpc.specs.Told.{told_disembargo};
-ghost use Rattle.cp_rpc.specs.Held.{IsContext, IsDisembargo};
-ghost use Rattle.cp_rpc.specs.Made.{context_number, context_id, disembargo_made};
+ghost use Rattle.cp_rpc.specs.Denoted.{context_denoted, disembargo_denoted};
+ghost use Rattle.cp_rpc.specs.Faults.{disembargo_faults};
+ghost use Rattle.cp_rpc.specs.Viewed.{viewed_disembargo};
+ghost use Rattle.cp_rpc.specs.Representable.{IsContext, IsDisembargo};
+ghost use Rattle.cp_rpc.specs.Written.{context_number, context_id, disembargo_written};
 ghost use Rattle.cp_tree.specs.DraftOf.{draft_of};
 
 use crate::data::{u16_part, u32_part};
@@ -54,7 +54,7 @@ pub struct DisembargoView<S: Source> {
 impl Context {
     /// The context that a struct's data words say.
     fn of(words: &[u64]) -> Context
-        ensures { result ≡ context_said words.now }
+        ensures { result ≡ context_denoted words.now }
     {
         let number = u32_at(words, Disembargo::NUMBER);
         match u16_at(words, Disembargo::CONTEXT) {
@@ -103,7 +103,7 @@ impl Disembargo {
 
     /// The struct that the disembargo is written as.
     pub(crate) fn draft<'a>(&self, alloc: Global) -> Result<Draft<'a>, AllocError>
-        ensures made { IfOk result (λ d. draft_of d ≡ disembargo_made self.now) }
+        ensures made { IfOk result (λ d. draft_of d ≡ disembargo_written self.now) }
         ensures held { IfOk result (λ d. IsDisembargo self.now) }
     {
         let (which, number) = self.context.parts();
@@ -125,7 +125,7 @@ impl<S: Source> DisembargoView<S> {
     /// The disembargo that a struct says.
     pub(crate) fn of(t: &S) -> Result<DisembargoView<S>, SchemaFault>
         requires { IsStructField (S.seen t.now) }
-        ensures { Gives (told_disembargo S.seen) (disembargo_said (S.seen t.now)) (disembargo_faults (S.seen t.now)) result }
+        ensures { Gives (viewed_disembargo S.seen) (disembargo_denoted (S.seen t.now)) (disembargo_faults (S.seen t.now)) result }
     {
         let target = struct_field(t, Disembargo::TARGET, Field::DisembargoTarget)?;
         Ok(DisembargoView {
@@ -136,7 +136,7 @@ impl<S: Source> DisembargoView<S> {
 
     /// The disembargo, owned.
     pub fn disembargo(&self, alloc: Global) -> Result<Disembargo, AllocError>
-        ensures { IfOk result (λ d. d ≡ told_disembargo S.seen self.now) }
+        ensures { IfOk result (λ d. d ≡ viewed_disembargo S.seen self.now) }
     {
         Ok(Disembargo {
             context: self.context,

@@ -3,12 +3,12 @@
 ghost use Rattle.std.specs.Prelude.{◌≡◌, ◌≤◌, true, length, IfOk};
 ghost use Rattle.cp_rpc.specs.Fields.{IsStructField};
 ghost use Rattle.cp_rpc.specs.Answers.{Checks, Gives};
-ghost use Rattle.cp_rpc.specs.Said.{kind_said, exception_said};
-ghost use Rattle.cp_rpc.specs.Faulty.{exception_faults};
-ghost use Rattle.cp_rpc.specs.Told.{told_exception};
+ghost use Rattle.cp_rpc.specs.Denoted.{kind_denoted, exception_denoted};
+ghost use Rattle.cp_rpc.specs.Faults.{exception_faults};
+ghost use Rattle.cp_rpc.specs.Viewed.{viewed_exception};
 ghost use Rattle.cp_rpc.specs.Fitting.{exception_fits};
-ghost use Rattle.cp_rpc.specs.Held.{IsKind, IsException};
-ghost use Rattle.cp_rpc.specs.Made.{kind_number, exception_made};
+ghost use Rattle.cp_rpc.specs.Representable.{IsKind, IsException};
+ghost use Rattle.cp_rpc.specs.Written.{kind_number, exception_written};
 ghost use Rattle.cp_tree.specs.DraftOf.{draft_of};
 
 use crate::data::u16_part;
@@ -104,7 +104,7 @@ impl Exception {
     /// The struct that the exception is written as.
     pub(crate) fn draft<'a>(&self, alloc: Global) -> Result<Draft<'a>, AllocError>
         requires { exception_fits self.now ≡ true }
-        ensures made { IfOk result (λ d. draft_of d ≡ exception_made self.now) }
+        ensures made { IfOk result (λ d. draft_of d ≡ exception_written self.now) }
         ensures held { IfOk result (λ d. IsException self.now) }
     {
         let word = u16_part(Exception::KIND, self.kind.number());
@@ -131,7 +131,7 @@ impl ExceptionKind {
 
     /// The type of this number.
     fn of(number: u16) -> ExceptionKind
-        ensures { result ≡ kind_said number }
+        ensures { result ≡ kind_denoted number }
     {
         match number {
             0 => ExceptionKind::Failed,
@@ -157,7 +157,7 @@ impl<S: Source> ExceptionView<S> {
     /// The exception that a struct says.
     pub(crate) fn of(t: &S) -> Result<ExceptionView<S>, SchemaFault>
         requires { IsStructField (S.seen t.now) }
-        ensures { Gives (told_exception S.seen) (exception_said (S.seen t.now)) (exception_faults (S.seen t.now)) result }
+        ensures { Gives (viewed_exception S.seen) (exception_denoted (S.seen t.now)) (exception_faults (S.seen t.now)) result }
     {
         Ok(ExceptionView {
             kind: ExceptionKind::of(u16_at(t.data(), Exception::KIND)),
@@ -168,7 +168,7 @@ impl<S: Source> ExceptionView<S> {
 
     /// The exception, owned.
     pub fn exception(&self, alloc: Global) -> Result<Exception, AllocError>
-        ensures { IfOk result (λ e. e ≡ told_exception S.seen self.now) }
+        ensures { IfOk result (λ e. e ≡ viewed_exception S.seen self.now) }
     {
         Ok(Exception {
             kind: self.kind,

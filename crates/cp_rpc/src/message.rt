@@ -5,12 +5,12 @@ ghost use Rattle.cp_tree.specs.Node.{Node, IsStruct};
 ghost use Rattle.cp_rpc.specs.Fields.{IsStructField};
 ghost use Rattle.cp_rpc.specs.Answers.{Checks, Gives};
 ghost use Rattle.cp_rpc.specs.Others.{is_other};
-ghost use Rattle.cp_rpc.specs.Said.{message_said};
-ghost use Rattle.cp_rpc.specs.Faulty.{message_faults};
-ghost use Rattle.cp_rpc.specs.Told.{told_message};
+ghost use Rattle.cp_rpc.specs.Denoted.{message_denoted};
+ghost use Rattle.cp_rpc.specs.Faults.{message_faults};
+ghost use Rattle.cp_rpc.specs.Viewed.{viewed_message};
 ghost use Rattle.cp_rpc.specs.Fitting.{message_fits};
-ghost use Rattle.cp_rpc.specs.Held.{IsMessage};
-ghost use Rattle.cp_rpc.specs.Made.{message_number, member_made, message_made};
+ghost use Rattle.cp_rpc.specs.Representable.{IsMessage};
+ghost use Rattle.cp_rpc.specs.Written.{message_number, member_written, message_written};
 ghost use Rattle.cp_tree.specs.DraftOf.{draft_of};
 
 use crate::call::{Call, CallView};
@@ -169,7 +169,7 @@ impl Message {
     fn parts(&self, alloc: Global) -> (u16, Result<Draft<'_>, AllocError>)
         requires { message_fits self.now ≡ true }
         ensures number { result.0 ≡ message_number self.now }
-        ensures pointer { IfOk result.1 (λ d. draft_of d ≡ member_made self.now) }
+        ensures pointer { IfOk result.1 (λ d. draft_of d ≡ member_written self.now) }
         ensures held { IfOk result.1 (λ d. IsMessage self.now) }
     {
         match self {
@@ -189,7 +189,7 @@ impl Message {
     /// The struct that the message is written as.
     pub(crate) fn draft(&self, alloc: Global) -> Result<Draft<'_>, AllocError>
         requires { message_fits self.now ≡ true }
-        ensures made { IfOk result (λ d. draft_of d ≡ message_made self.now) }
+        ensures made { IfOk result (λ d. draft_of d ≡ message_written self.now) }
         ensures held { IfOk result (λ d. IsMessage self.now) }
     {
         let (number, member) = self.parts(alloc);
@@ -229,7 +229,7 @@ impl<S: Source> MessageIn<S> {
     /// The message that a struct says.
     pub(crate) fn of(t: &S) -> Result<MessageIn<S>, SchemaFault>
         requires { IsStructField (S.seen t.now) }
-        ensures { Gives (told_message S.seen) (message_said (S.seen t.now)) (message_faults (S.seen t.now)) result }
+        ensures { Gives (viewed_message S.seen) (message_denoted (S.seen t.now)) (message_faults (S.seen t.now)) result }
     {
         match u16_at(t.data(), Message::WHICH) {
             0 => Ok(MessageIn::Unimplemented(t.pointer(Message::MEMBER))),
@@ -274,7 +274,7 @@ impl<S: Source> MessageIn<S> {
 
     /// The message, owned.
     pub fn message(&self, alloc: Global) -> Result<Message, AllocError>
-        ensures { IfOk result (λ m. m ≡ told_message S.seen self.now) }
+        ensures { IfOk result (λ m. m ≡ viewed_message S.seen self.now) }
     {
         Ok(match self {
             MessageIn::Unimplemented(tree) => Message::Unimplemented(tree.whole(alloc)?),

@@ -5,12 +5,12 @@ ghost use Rattle.std.specs.List.{list_all};
 ghost use Rattle.cp_tree.specs.DraftOf.{draft_of};
 ghost use Rattle.cp_rpc.specs.Fields.{IsStructField, items_of};
 ghost use Rattle.cp_rpc.specs.Answers.{Checks, Gives};
-ghost use Rattle.cp_rpc.specs.Said.{descriptors_said, payload_said};
-ghost use Rattle.cp_rpc.specs.Faulty.{descriptor_faults, payload_faults};
-ghost use Rattle.cp_rpc.specs.Told.{told_descriptor, told_payload};
+ghost use Rattle.cp_rpc.specs.Denoted.{descriptors_denoted, payload_denoted};
+ghost use Rattle.cp_rpc.specs.Faults.{descriptor_faults, payload_faults};
+ghost use Rattle.cp_rpc.specs.Viewed.{viewed_descriptor, viewed_payload};
 ghost use Rattle.cp_rpc.specs.Fitting.{descriptor_fits, payload_fits};
-ghost use Rattle.cp_rpc.specs.Held.{IsDescriptor, IsPayload};
-ghost use Rattle.cp_rpc.specs.Made.{cap_table_made, payload_made};
+ghost use Rattle.cp_rpc.specs.Representable.{IsDescriptor, IsPayload};
+ghost use Rattle.cp_rpc.specs.Written.{cap_table_written, payload_written};
 ghost use Rattle.cp_rpc.specs.declared.descriptor.Descriptor.{Descriptor};
 
 use crate::descriptor::{Descriptor, DescriptorView};
@@ -91,7 +91,7 @@ impl CapTable {
 
     /// The list that the table is written as.
     fn draft(&self, alloc: Global) -> Result<Draft<'_>, AllocError>
-        ensures made { IfOk result (λ d. draft_of d ≡ cap_table_made self.now) }
+        ensures made { IfOk result (λ d. draft_of d ≡ cap_table_written self.now) }
         ensures held { IfOk result (λ d. All IsDescriptor self.now) }
     {
         let descriptors = self.descriptors();
@@ -123,12 +123,12 @@ impl<S: Source> Model for CapTableView<S> {
 
     ghost coded = { coded_list the_row.coded };
 
-    ghost use Rattle.cp_rpc.specs.Said.{descriptors_said};
+    ghost use Rattle.cp_rpc.specs.Denoted.{descriptors_denoted};
     ghost use Rattle.std.specs.Prelude.{flat_map};
     ghost use Rattle.cp_rpc.specs.Fields.{items_of};
-    ghost use Rattle.cp_rpc.specs.Faulty.{descriptor_faults};
+    ghost use Rattle.cp_rpc.specs.Faults.{descriptor_faults};
 
-    ghost view = { λ t. descriptors_said (S.seen t.source) };
+    ghost view = { λ t. descriptors_denoted (S.seen t.source) };
 
     ghost invariant = { λ t. flat_map descriptor_faults (items_of (S.seen t.source)) ≡ [] };
 }
@@ -146,7 +146,7 @@ impl<S: Source> CapTableView<S> {
 
     /// The table that a list says.
     fn of(source: S) -> Result<CapTableView<S>, SchemaFault>
-        ensures { Gives (λ t. t) (descriptors_said (S.seen source)) (flat_map descriptor_faults (items_of (S.seen source))) result }
+        ensures { Gives (λ t. t) (descriptors_denoted (S.seen source)) (flat_map descriptor_faults (items_of (S.seen source))) result }
     {
         CapTableView::check(&source)?;
         Ok(CapTableView { source })
@@ -162,7 +162,7 @@ impl<S: Source> CapTableView<S> {
     /// Descriptor `i`.
     pub fn descriptor(&self, i: usize) -> DescriptorView<S>
         requires { i < length self.now }
-        ensures { (d : Descriptor) → told_descriptor S.seen result ≡ slice_index_or self.now i d }
+        ensures { (d : Descriptor) → viewed_descriptor S.seen result ≡ slice_index_or self.now i d }
     {
         match DescriptorView::of(&self.source.item(i)) {
             Ok(descriptor) => descriptor,
@@ -217,7 +217,7 @@ impl Payload {
 
     /// The struct that the payload is written as.
     pub(crate) fn draft(&self, alloc: Global) -> Result<Draft<'_>, AllocError>
-        ensures made { IfOk result (λ d. draft_of d ≡ payload_made self.now) }
+        ensures made { IfOk result (λ d. draft_of d ≡ payload_written self.now) }
         ensures held { IfOk result (λ d. IsPayload self.now) }
     {
         let cap_table = self.cap_table.draft(alloc)?;
@@ -245,7 +245,7 @@ impl<S: Source> PayloadView<S> {
     /// The payload that a struct says.
     pub(crate) fn of(t: &S) -> Result<PayloadView<S>, SchemaFault>
         requires { IsStructField (S.seen t.now) }
-        ensures { Gives (told_payload S.seen) (payload_said (S.seen t.now)) (payload_faults (S.seen t.now)) result }
+        ensures { Gives (viewed_payload S.seen) (payload_denoted (S.seen t.now)) (payload_faults (S.seen t.now)) result }
     {
         let table = list_field(t, Payload::CAP_TABLE, Field::PayloadCapTable)?;
         Ok(PayloadView {
@@ -256,7 +256,7 @@ impl<S: Source> PayloadView<S> {
 
     /// The payload, owned.
     pub fn payload(&self, alloc: Global) -> Result<Payload, AllocError>
-        ensures { IfOk result (λ p. p ≡ told_payload S.seen self.now) }
+        ensures { IfOk result (λ p. p ≡ viewed_payload S.seen self.now) }
     {
         Ok(Payload {
             content: self.content.whole(alloc)?,

@@ -5,12 +5,12 @@ ghost use Rattle.cp_tree.specs.DraftOf.{draft_of, draft_body_of};
 ghost use Rattle.cp_tree.specs.Node.{data_of};
 ghost use Rattle.cp_rpc.specs.Fields.{IsStructField, items_of};
 ghost use Rattle.cp_rpc.specs.Answers.{Checks, Gives};
-ghost use Rattle.cp_rpc.specs.Said.{op_said, promised_answer_said};
-ghost use Rattle.cp_rpc.specs.Faulty.{promised_answer_faults};
+ghost use Rattle.cp_rpc.specs.Denoted.{op_denoted, promised_answer_denoted};
+ghost use Rattle.cp_rpc.specs.Faults.{promised_answer_faults};
 ghost use Rattle.cp_rpc.specs.Fitting.{promised_answer_fits};
-ghost use Rattle.cp_rpc.specs.Held.{IsOp, IsPromisedAnswer};
-ghost use Rattle.cp_rpc.specs.Made.{body_made, op_number, op_field, op_made, transform_made, promised_answer_made};
-ghost use Rattle.cp_rpc.specs.Told.{told_promised_answer};
+ghost use Rattle.cp_rpc.specs.Representable.{IsOp, IsPromisedAnswer};
+ghost use Rattle.cp_rpc.specs.Written.{body_written, op_number, op_field, op_written, transform_written, promised_answer_written};
+ghost use Rattle.cp_rpc.specs.Viewed.{viewed_promised_answer};
 ghost use Rattle.cp_rpc.specs.declared.promised_answer.Op.{Op};
 
 use crate::data::{u16_part, u32_part};
@@ -42,7 +42,7 @@ impl Op {
 
     /// The step that a struct's data words say.
     fn of(words: &[u64]) -> Op
-        ensures { result ≡ op_said words.now }
+        ensures { result ≡ op_denoted words.now }
     {
         match u16_at(words, Op::WHICH) {
             0 => Op::Noop,
@@ -66,7 +66,7 @@ impl Op {
 
     /// The struct that the step is written as.
     fn draft<'a>(&self, alloc: Global) -> Result<DraftBody<'a>, AllocError>
-        ensures made { IfOk result (λ b. draft_body_of b ≡ body_made (op_made self.now)) }
+        ensures made { IfOk result (λ b. draft_body_of b ≡ body_written (op_written self.now)) }
         ensures held { IfOk result (λ b. IsOp self.now) }
     {
         let (number, field) = self.parts();
@@ -121,7 +121,7 @@ impl Transform {
 
     /// The list that the transform is written as.
     fn draft<'a>(&self, alloc: Global) -> Result<Draft<'a>, AllocError>
-        ensures made { IfOk result (λ d. draft_of d ≡ transform_made self.now) }
+        ensures made { IfOk result (λ d. draft_of d ≡ transform_written self.now) }
         ensures held { IfOk result (λ d. All IsOp self.now) }
     {
         let ops = self.ops();
@@ -149,9 +149,9 @@ impl<S: Source> Model for TransformView<S> {
     ghost Value = { List Op };
 
     ghost use Rattle.cp_rpc.specs.Fields.{items_of};
-    ghost use Rattle.cp_rpc.specs.Said.{ops_said};
+    ghost use Rattle.cp_rpc.specs.Denoted.{ops_denoted};
 
-    ghost view = { λ t. ops_said (S.seen t.source) };
+    ghost view = { λ t. ops_denoted (S.seen t.source) };
 }
 
 impl<S: Source> TransformView<S> {
@@ -217,7 +217,7 @@ impl PromisedAnswer {
 
     /// The struct that the promised answer is written as.
     pub(crate) fn draft<'a>(&self, alloc: Global) -> Result<Draft<'a>, AllocError>
-        ensures made { IfOk result (λ d. draft_of d ≡ promised_answer_made self.now) }
+        ensures made { IfOk result (λ d. draft_of d ≡ promised_answer_written self.now) }
         ensures held { IfOk result (λ d. IsPromisedAnswer self.now) }
     {
         let word = u32_part(PromisedAnswer::QUESTION_ID, self.question_id);
@@ -246,7 +246,7 @@ impl<S: Source> PromisedAnswerView<S> {
     /// The promised answer that a struct says.
     pub(crate) fn of(t: &S) -> Result<PromisedAnswerView<S>, SchemaFault>
         requires { IsStructField (S.seen t.now) }
-        ensures { Gives (told_promised_answer S.seen) (promised_answer_said (S.seen t.now)) (promised_answer_faults (S.seen t.now)) result }
+        ensures { Gives (viewed_promised_answer S.seen) (promised_answer_denoted (S.seen t.now)) (promised_answer_faults (S.seen t.now)) result }
     {
         let source = list_field(t, PromisedAnswer::TRANSFORM, Field::PromisedAnswerTransform)?;
         Ok(PromisedAnswerView {
@@ -257,7 +257,7 @@ impl<S: Source> PromisedAnswerView<S> {
 
     /// The promised answer, owned.
     pub fn promised_answer(&self, alloc: Global) -> Result<PromisedAnswer, AllocError>
-        ensures { IfOk result (λ p. p ≡ told_promised_answer S.seen self.now) }
+        ensures { IfOk result (λ p. p ≡ viewed_promised_answer S.seen self.now) }
     {
         Ok(PromisedAnswer {
             question_id: self.question_id,

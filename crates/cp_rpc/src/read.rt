@@ -4,8 +4,8 @@ ghost use Rattle.std.specs.Prelude.{◌≡◌, Some, IsOk, IfOk, IfErr, OnOk};
 ghost use Rattle.cp_tree.specs.Node.{IsStruct};
 ghost use Rattle.cp_rpc.specs.Answers.{Answers, AnswersView, IsFirstFault, first_of};
 ghost use Rattle.cp_rpc.specs.Says.{Says};
-ghost use Rattle.cp_rpc.specs.Faulty.{message_faults};
-ghost use Rattle.cp_rpc.specs.Told.{told};
+ghost use Rattle.cp_rpc.specs.Faults.{message_faults};
+ghost use Rattle.cp_rpc.specs.Viewed.{viewed};
 ghost use Rattle.cp_rpc.specs.declared.message.Message.{Message};
 
 use crate::fault::SchemaFault;
@@ -20,7 +20,7 @@ use std::alloc::Global;
 pub fn message_view<'a>(view: View<'a>) -> Result<MessageView<'a>, SchemaFault>
     requires { IsStruct view }
     // What is read is what the tree says.
-    ensures found { IfOk result (λ v. Says view.entry (told v)) }
+    ensures found { IfOk result (λ v. Says view.entry (viewed v)) }
     // What the tree says is read.
     ensures only { (m : Message) → Says view.entry m → AnswersView result m }
     // A fault is the first that the tree has.

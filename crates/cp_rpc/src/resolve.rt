@@ -3,12 +3,12 @@
 ghost use Rattle.std.specs.Prelude.{◌≡◌, true, IfOk};
 ghost use Rattle.cp_rpc.specs.Fields.{IsStructField};
 ghost use Rattle.cp_rpc.specs.Answers.{Checks, Gives};
-ghost use Rattle.cp_rpc.specs.Said.{resolution_said, resolve_said};
-ghost use Rattle.cp_rpc.specs.Faulty.{resolve_faults};
-ghost use Rattle.cp_rpc.specs.Told.{told_resolution, told_resolve};
+ghost use Rattle.cp_rpc.specs.Denoted.{resolution_denoted, resolve_denoted};
+ghost use Rattle.cp_rpc.specs.Faults.{resolve_faults};
+ghost use Rattle.cp_rpc.specs.Viewed.{viewed_resolution, viewed_resolve};
 ghost use Rattle.cp_rpc.specs.Fitting.{resolution_fits};
-ghost use Rattle.cp_rpc.specs.Held.{IsResolution, IsResolve};
-ghost use Rattle.cp_rpc.specs.Made.{resolution_number, resolution_pointer, resolve_made};
+ghost use Rattle.cp_rpc.specs.Representable.{IsResolution, IsResolve};
+ghost use Rattle.cp_rpc.specs.Written.{resolution_number, resolution_pointer, resolve_written};
 ghost use Rattle.cp_tree.specs.DraftOf.{draft_of};
 
 use crate::data::{u16_part, u32_part};
@@ -78,7 +78,7 @@ impl Resolve {
     /// The struct that the resolve is written as.
     pub(crate) fn draft(&self, alloc: Global) -> Result<Draft<'_>, AllocError>
         requires { resolution_fits self.now.resolution ≡ true }
-        ensures made { IfOk result (λ d. draft_of d ≡ resolve_made self.now) }
+        ensures made { IfOk result (λ d. draft_of d ≡ resolve_written self.now) }
         ensures held { IfOk result (λ d. IsResolve self.now) }
     {
         let (number, pointer) = self.resolution.parts(alloc);
@@ -130,7 +130,7 @@ impl<S: Source> ResolutionView<S> {
     /// The resolution that a resolve's struct says.
     fn of(t: &S) -> Result<ResolutionView<S>, SchemaFault>
         requires { IsStructField (S.seen t.now) }
-        ensures { Gives (told_resolution S.seen) (resolution_said (S.seen t.now)) (resolve_faults (S.seen t.now)) result }
+        ensures { Gives (viewed_resolution S.seen) (resolution_denoted (S.seen t.now)) (resolve_faults (S.seen t.now)) result }
     {
         match u16_at(t.data(), Resolve::WHICH) {
             0 => {
@@ -147,7 +147,7 @@ impl<S: Source> ResolutionView<S> {
 
     /// The resolution, owned.
     pub fn resolution(&self, alloc: Global) -> Result<Resolution, AllocError>
-        ensures { IfOk result (λ r. r ≡ told_resolution S.seen self.now) }
+        ensures { IfOk result (λ r. r ≡ viewed_resolution S.seen self.now) }
     {
         Ok(match self {
             ResolutionView::Cap(descriptor) => Resolution::Cap(descriptor.descriptor(alloc)?),
@@ -175,7 +175,7 @@ impl<S: Source> ResolveView<S> {
     /// The resolve that a struct says.
     pub(crate) fn of(t: &S) -> Result<ResolveView<S>, SchemaFault>
         requires { IsStructField (S.seen t.now) }
-        ensures { Gives (told_resolve S.seen) (resolve_said (S.seen t.now)) (resolve_faults (S.seen t.now)) result }
+        ensures { Gives (viewed_resolve S.seen) (resolve_denoted (S.seen t.now)) (resolve_faults (S.seen t.now)) result }
     {
         Ok(ResolveView {
             promise_id: u32_at(t.data(), Resolve::PROMISE_ID),
@@ -185,7 +185,7 @@ impl<S: Source> ResolveView<S> {
 
     /// The resolve, owned.
     pub fn resolve(&self, alloc: Global) -> Result<Resolve, AllocError>
-        ensures { IfOk result (λ r. r ≡ told_resolve S.seen self.now) }
+        ensures { IfOk result (λ r. r ≡ viewed_resolve S.seen self.now) }
     {
         Ok(Resolve {
             promise_id: self.promise_id,

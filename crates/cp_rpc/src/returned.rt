@@ -3,12 +3,12 @@
 ghost use Rattle.std.specs.Prelude.{◌≡◌, true, IfOk};
 ghost use Rattle.cp_rpc.specs.Fields.{IsStructField};
 ghost use Rattle.cp_rpc.specs.Answers.{Checks, Gives};
-ghost use Rattle.cp_rpc.specs.Said.{returned_said, return_said};
-ghost use Rattle.cp_rpc.specs.Faulty.{return_faults};
-ghost use Rattle.cp_rpc.specs.Told.{told_returned, told_return};
+ghost use Rattle.cp_rpc.specs.Denoted.{returned_denoted, return_denoted};
+ghost use Rattle.cp_rpc.specs.Faults.{return_faults};
+ghost use Rattle.cp_rpc.specs.Viewed.{viewed_returned, viewed_return};
 ghost use Rattle.cp_rpc.specs.Fitting.{returned_fits};
-ghost use Rattle.cp_rpc.specs.Held.{IsReturned, IsReturn};
-ghost use Rattle.cp_rpc.specs.Made.{returned_number, returned_question, returned_pointer, return_made};
+ghost use Rattle.cp_rpc.specs.Representable.{IsReturned, IsReturn};
+ghost use Rattle.cp_rpc.specs.Written.{returned_number, returned_question, returned_pointer, return_written};
 ghost use Rattle.cp_tree.specs.DraftOf.{draft_of};
 
 use crate::data::{bit_part, u16_part, u32_part};
@@ -98,7 +98,7 @@ impl Return {
     /// The struct that the return is written as.
     pub(crate) fn draft(&self, alloc: Global) -> Result<Draft<'_>, AllocError>
         requires { returned_fits self.now.returned ≡ true }
-        ensures made { IfOk result (λ d. draft_of d ≡ return_made self.now) }
+        ensures made { IfOk result (λ d. draft_of d ≡ return_written self.now) }
         ensures held { IfOk result (λ d. IsReturn self.now) }
     {
         let (number, question, pointer) = self.returned.parts(alloc);
@@ -163,7 +163,7 @@ impl<S: Source> ReturnedView<S> {
     /// What a return's struct says was returned.
     fn of(t: &S) -> Result<ReturnedView<S>, SchemaFault>
         requires { IsStructField (S.seen t.now) }
-        ensures { Gives (told_returned S.seen) (returned_said (S.seen t.now)) (return_faults (S.seen t.now)) result }
+        ensures { Gives (viewed_returned S.seen) (returned_denoted (S.seen t.now)) (return_faults (S.seen t.now)) result }
     {
         let words = t.data();
         match u16_at(words, Return::WHICH) {
@@ -188,7 +188,7 @@ impl<S: Source> ReturnedView<S> {
 
     /// What was returned, owned.
     pub fn returned(&self, alloc: Global) -> Result<Returned, AllocError>
-        ensures { IfOk result (λ r. r ≡ told_returned S.seen self.now) }
+        ensures { IfOk result (λ r. r ≡ viewed_returned S.seen self.now) }
     {
         Ok(match self {
             ReturnedView::Results(payload) => Returned::Results(payload.payload(alloc)?),
@@ -222,7 +222,7 @@ impl<S: Source> ReturnView<S> {
     /// The return that a struct says.
     pub(crate) fn of(t: &S) -> Result<ReturnView<S>, SchemaFault>
         requires { IsStructField (S.seen t.now) }
-        ensures { Gives (told_return S.seen) (return_said (S.seen t.now)) (return_faults (S.seen t.now)) result }
+        ensures { Gives (viewed_return S.seen) (return_denoted (S.seen t.now)) (return_faults (S.seen t.now)) result }
     {
         let words = t.data();
         Ok(ReturnView {
@@ -234,7 +234,7 @@ impl<S: Source> ReturnView<S> {
 
     /// The return, owned.
     pub fn owned(&self, alloc: Global) -> Result<Return, AllocError>
-        ensures { IfOk result (λ r. r ≡ told_return S.seen self.now) }
+        ensures { IfOk result (λ r. r ≡ viewed_return S.seen self.now) }
     {
         Ok(Return {
             answer_id: self.answer_id,

@@ -2,9 +2,9 @@
 
 ghost use Rattle.std.specs.Prelude.{◌≡◌, IfOk};
 ghost use Rattle.cp_tree.specs.DraftOf.{draft_of};
-ghost use Rattle.cp_rpc.specs.Said.{bootstrap_said, finish_said, release_said};
-ghost use Rattle.cp_rpc.specs.Held.{IsBootstrap, IsFinish, IsRelease};
-ghost use Rattle.cp_rpc.specs.Made.{bootstrap_made, finish_made, release_made};
+ghost use Rattle.cp_rpc.specs.Denoted.{bootstrap_denoted, finish_denoted, release_denoted};
+ghost use Rattle.cp_rpc.specs.Representable.{IsBootstrap, IsFinish, IsRelease};
+ghost use Rattle.cp_rpc.specs.Written.{bootstrap_written, finish_written, release_written};
 
 use crate::data::{bit_part, u32_part};
 use crate::draft::{null, struct_of, words_of};
@@ -43,7 +43,7 @@ impl Bootstrap {
 
     /// The bootstrap that a struct's data words say.
     pub(crate) fn of(words: &[u64]) -> Bootstrap
-        ensures { result ≡ bootstrap_said words.now }
+        ensures { result ≡ bootstrap_denoted words.now }
     {
         Bootstrap {
             question_id: u32_at(words, Bootstrap::QUESTION_ID),
@@ -52,7 +52,7 @@ impl Bootstrap {
 
     /// The struct that it is written as.
     pub(crate) fn draft<'a>(self, alloc: Global) -> Result<Draft<'a>, AllocError>
-        ensures made { IfOk result (λ d. draft_of d ≡ bootstrap_made self) }
+        ensures made { IfOk result (λ d. draft_of d ≡ bootstrap_written self) }
         ensures held { IfOk result (λ d. IsBootstrap self) }
     {
         let word = u32_part(Bootstrap::QUESTION_ID, self.question_id);
@@ -68,7 +68,7 @@ impl Finish {
 
     /// The finish that a struct's data words say.
     pub(crate) fn of(words: &[u64]) -> Finish
-        ensures { result ≡ finish_said words.now }
+        ensures { result ≡ finish_denoted words.now }
     {
         Finish {
             question_id: u32_at(words, Finish::QUESTION_ID),
@@ -78,7 +78,7 @@ impl Finish {
 
     /// The struct that it is written as.
     pub(crate) fn draft<'a>(self, alloc: Global) -> Result<Draft<'a>, AllocError>
-        ensures made { IfOk result (λ d. draft_of d ≡ finish_made self) }
+        ensures made { IfOk result (λ d. draft_of d ≡ finish_written self) }
         ensures held { IfOk result (λ d. IsFinish self) }
     {
         let word = u32_part(Finish::QUESTION_ID, self.question_id)
@@ -95,7 +95,7 @@ impl Release {
 
     /// The release that a struct's data words say.
     pub(crate) fn of(words: &[u64]) -> Release
-        ensures { result ≡ release_said words.now }
+        ensures { result ≡ release_denoted words.now }
     {
         Release {
             id: u32_at(words, Release::ID),
@@ -105,7 +105,7 @@ impl Release {
 
     /// The struct that it is written as.
     pub(crate) fn draft<'a>(self, alloc: Global) -> Result<Draft<'a>, AllocError>
-        ensures made { IfOk result (λ d. draft_of d ≡ release_made self) }
+        ensures made { IfOk result (λ d. draft_of d ≡ release_written self) }
         ensures held { IfOk result (λ d. IsRelease self) }
     {
         let word = u32_part(Release::ID, self.id)

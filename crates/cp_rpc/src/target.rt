@@ -3,12 +3,12 @@
 ghost use Rattle.std.specs.Prelude.{◌≡◌, IfOk};
 ghost use Rattle.cp_rpc.specs.Fields.{IsStructField};
 ghost use Rattle.cp_rpc.specs.Answers.{Checks, Gives};
-ghost use Rattle.cp_rpc.specs.Said.{target_said};
-ghost use Rattle.cp_rpc.specs.Faulty.{target_faults};
-ghost use Rattle.cp_rpc.specs.Told.{told_target};
+ghost use Rattle.cp_rpc.specs.Denoted.{target_denoted};
+ghost use Rattle.cp_rpc.specs.Faults.{target_faults};
+ghost use Rattle.cp_rpc.specs.Viewed.{viewed_target};
 ghost use Rattle.cp_rpc.specs.Fitting.{target_fits};
-ghost use Rattle.cp_rpc.specs.Held.{IsTarget};
-ghost use Rattle.cp_rpc.specs.Made.{target_number, target_id, target_pointer, target_made};
+ghost use Rattle.cp_rpc.specs.Representable.{IsTarget};
+ghost use Rattle.cp_rpc.specs.Written.{target_number, target_id, target_pointer, target_written};
 ghost use Rattle.cp_tree.specs.DraftOf.{draft_of};
 
 use crate::data::{u16_part, u32_part};
@@ -85,7 +85,7 @@ impl Target {
 
     /// The struct that the target is written as.
     pub(crate) fn draft<'a>(&self, alloc: Global) -> Result<Draft<'a>, AllocError>
-        ensures made { IfOk result (λ d. draft_of d ≡ target_made self.now) }
+        ensures made { IfOk result (λ d. draft_of d ≡ target_written self.now) }
         ensures held { IfOk result (λ d. IsTarget self.now) }
     {
         let (number, id, pointer) = self.parts(alloc);
@@ -113,7 +113,7 @@ impl<S: Source> TargetView<S> {
     /// The target that a struct says.
     pub(crate) fn of(t: &S) -> Result<TargetView<S>, SchemaFault>
         requires { IsStructField (S.seen t.now) }
-        ensures { Gives (told_target S.seen) (target_said (S.seen t.now)) (target_faults (S.seen t.now)) result }
+        ensures { Gives (viewed_target S.seen) (target_denoted (S.seen t.now)) (target_faults (S.seen t.now)) result }
     {
         let words = t.data();
         match u16_at(words, Target::WHICH) {
@@ -132,7 +132,7 @@ impl<S: Source> TargetView<S> {
 
     /// The target, owned.
     pub fn target(&self, alloc: Global) -> Result<Target, AllocError>
-        ensures { IfOk result (λ t. t ≡ told_target S.seen self.now) }
+        ensures { IfOk result (λ t. t ≡ viewed_target S.seen self.now) }
     {
         Ok(match self {
             TargetView::ImportedCap(id) => Target::ImportedCap(*id),

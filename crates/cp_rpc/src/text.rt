@@ -4,8 +4,8 @@ ghost use Rattle.std.specs.Prelude.{◌≡◌, ◌==◌, ◌<◌, ◌^◌, ◌++
 ghost use Rattle.cp_tree.specs.DraftOf.{draft_of};
 ghost use Rattle.cp_rpc.specs.Fields.{IsTextField, bytes_of, is_text, text_of};
 ghost use Rattle.cp_rpc.specs.Fitting.{text_fits};
-ghost use Rattle.cp_rpc.specs.Held.{IsText};
-ghost use Rattle.cp_rpc.specs.Made.{text_made};
+ghost use Rattle.cp_rpc.specs.Representable.{IsText};
+ghost use Rattle.cp_rpc.specs.Written.{text_written};
 
 use crate::source::{Look, Source};
 use cp_fields::{Pointee, TextFault};
@@ -67,7 +67,7 @@ impl Text {
     /// The tree that the text is written as.
     pub(crate) fn draft<'a>(&self, alloc: Global) -> Result<Draft<'a>, AllocError>
         requires { text_fits self.now ≡ true }
-        ensures made { IfOk result (λ d. draft_of d ≡ text_made self.now) }
+        ensures made { IfOk result (λ d. draft_of d ≡ text_written self.now) }
         ensures held { IfOk result (λ d. IsText self.now) }
     {
         let bytes = self.as_str().as_bytes();

@@ -3,7 +3,7 @@
 ghost use Rattle.std.specs.Prelude.{◌≡◌, IfOk, IfErr};
 ghost use Rattle.cp_tree.specs.DraftOf.{draft_of as tree_drafted};
 ghost use Rattle.cp_tree.specs.Shaped.{Shaped};
-ghost use Rattle.cp_rpc.specs.Made.{message_made};
+ghost use Rattle.cp_rpc.specs.Written.{message_written};
 ghost use Rattle.cp_rpc.specs.Refused.{IsRefusalOf};
 ghost use Rattle.cp_rpc.specs.Says.{Says};
 
@@ -15,11 +15,11 @@ use std::alloc::Global;
 /// too costly exactly if one of its lists has 2^29 elements or words or more.
 pub fn draft_of(alloc: Global, message: &Message) -> Result<Draft<'_>, WriteFault>
     // What is made is the message's tree.
-    ensures made { IfOk result (λ d. tree_drafted d ≡ message_made message.now) }
+    ensures made { IfOk result (λ d. tree_drafted d ≡ message_written message.now) }
     // It is one that a message can hold.
-    ensures shaped { IfOk result (λ d. Shaped (message_made message.now)) }
+    ensures shaped { IfOk result (λ d. Shaped (message_written message.now)) }
     // It says the message.
-    ensures says { IfOk result (λ d. Says (message_made message.now) message.now) }
+    ensures says { IfOk result (λ d. Says (message_written message.now) message.now) }
     // A list is too long; or none is, and memory ran out.
     ensures refused { IfErr result (IsRefusalOf message.now) }
 {
@@ -33,7 +33,7 @@ pub fn draft_of(alloc: Global, message: &Message) -> Result<Draft<'_>, WriteFaul
 /// too costly exactly if one of its lists has 2^29 elements or words or more.
 pub fn tree_of(alloc: Global, message: &Message) -> Result<Object, WriteFault>
     // What is made is the message's tree.
-    ensures made { IfOk result (λ t. t ≡ message_made message.now) }
+    ensures made { IfOk result (λ t. t ≡ message_written message.now) }
     // It says the message.
     ensures says { IfOk result (λ t. Says t message.now) }
     // A list is too long; or none is, and memory ran out.

@@ -8,7 +8,7 @@ use Rattle.cp_tables.specs.declared.counted.Counted.{Counted}
 use Rattle.cp_tables.specs.declared.exchange.Exchange.{Exchange}
 use Rattle.cp_tables.specs.declared.exchange.Stage.{Stage}
 use Rattle.cp_tables.specs.declared.exchange.Stage.TheVariants as stages
-use Rattle.cp_rpc.specs.Made.{message_made}
+use Rattle.cp_rpc.specs.Written.{message_written}
 use Rattle.cp_rpc.specs.declared.call.Call.{Call}
 use Rattle.cp_rpc.specs.declared.descriptor.Descriptor.{Descriptor}
 use Rattle.cp_rpc.specs.declared.disembargo.Context.{Context}
@@ -33,7 +33,7 @@ use Rattle.cp_refs.specs.declared.outcome.Outcome.{Outcome}
 use Rattle.cp_refs.specs.declared.outcome.Outcome.TheVariants as outcomes
 use Rattle.cp_refs.specs.declared.route.Gate.{Gate}
 use Rattle.cp_refs.specs.declared.route.Gate.TheVariants as gates
-use Rattle.cp_refs.specs.declared.call.Held.{Held}
+use Rattle.cp_refs.specs.declared.call.WaitingCall.{WaitingCall}
 use Rattle.cp_refs.specs.declared.route.Route.{Route}
 use Rattle.cp_refs.specs.declared.route.Route.TheVariants as routes
 use Rattle.cp_refs.specs.declared.values.QuestionKind.TheVariants as kinds
@@ -45,7 +45,7 @@ use Rattle.cp_vat_machine.specs.Take.{answer_of, path_of, lower, released, TakeA
 use Rattle.cp_vat_machine.specs.Give.{ResolvesEnd, Tells, settled, value_for, last_for, Settle, SettleTied, Returns, given, gone, GiveBy, GiveAnswer, GiveOwnBy, Give, without_question}
 use Rattle.cp_vat_machine.specs.Go.{Underway, underway, finish_of, finish_after, GoOut, Go, GoTo, Leave, stays, leaves, finds_table_full, without_call, IsNext}
 use Rattle.cp_vat_machine.specs.InUse.{is_own_question, is_question_used, is_import_used, is_promise_used, is_unsettled}
-use Rattle.cp_vat_machine.specs.Calling.{Reference, plain, on_wire, came_to, reference_of, called, own_call, mark_of, marked, FirstEmbargoed, GoBack, GoByValue, GoFrom, OwnDone, Opens, call_refusals, DoCall}
+use Rattle.cp_vat_machine.specs.Calling.{Standing, plain, on_wire, came_to, reference_of, called, own_call, mark_of, marked, FirstEmbargoed, GoBack, GoByValue, GoFrom, OwnDone, Opens, call_refusals, DoCall}
 use Rattle.cp_vat_machine.specs.Doing.{Quietly, answer_refusals, resolve_refusals, value_refusals, Resolves, told_if, FinishBy, Finishes, without_import, without_promise}
 use Rattle.cp_vat_machine.specs.Answering.{with_answer, bootstrap_outcome, is_answering, OnBootstrap, target_faults, GoToExport, GoToAnswer, GoToTarget, peer_call, entered, call_faults, OnCall, AtStage, FinishedBy}
 use Rattle.cp_vat_machine.specs.Asking.{TakeReturned, Settles, ReturnBy, is_asked, ReturnOf}
@@ -180,7 +180,7 @@ module _ (s : State) (q : ℕ) (request : Request) (cap : Cap) where
   value_silent (caps.Pipelined p path) done does = goes_silent (called s q kinds.Local) (own_call s q request) (caps.Pipelined p path) done does
   value_silent (caps.Broken x) done does = goes_silent (called s q kinds.Local) (own_call s q request) (caps.Broken x) done does
 
-  from_silent : (reference : Reference) (done : Done) → GoFrom s q request cap reference (Ok done) → IsSilent done
+  from_silent : (reference : Standing) (done : Done) → GoFrom s q request cap reference (Ok done) → IsSilent done
   from_silent plain done does = goes_silent (called s q kinds.Local) (own_call s q request) cap done does
   from_silent on_wire done does =
       let parts = then_out {A = State} {B = Done} (λ mid. mid ≡ marked (called s q kinds.Wire) cap (mark_of s cap)) _ done does in
@@ -380,9 +380,9 @@ module _ (s : State) where
   on_comes (messages.Other which body) done does = absurd does
 
   echoed_comes : (m : Message) (done : Done) → Ok done ≡ echoed s m → Comes done
-  echoed_comes m done is = by (echo_fits (message_made (messages.Unimplemented (message_made m)))) is
+  echoed_comes m done is = by (echo_fits (message_written (messages.Unimplemented (message_written m)))) is
     where
-      by : (b : Bool) → Ok done ≡ cond b (Ok (effects.Send (messages.Unimplemented (message_made m)) ∷ [], s)) (Err faults.EchoTooLarge) → Comes done
+      by : (b : Bool) → Ok done ≡ cond b (Ok (effects.Send (messages.Unimplemented (message_written m)) ∷ [], s)) (Err faults.EchoTooLarge) → Comes done
       by true is = inl (rw (ok_in _ _ is) refl)
       by false is = ok_out is
 
@@ -392,7 +392,7 @@ module _ (s : State) where
 
 -- ---- a step
 
-not_next : {s : State} (call : Held) (value : Cap) → s.waiting.over ≡ none_over → IsNext s call value → ⊥
+not_next : {s : State} (call : WaitingCall) (value : Cap) → s.waiting.over ≡ none_over → IsNext s call value → ⊥
 not_next call value none next = none_out (sym (by call.gate) ∙ ap (λ (over : Over). gave over call.gate) (sym none) ∙ next.ended)
   where
     by : (gate : Gate) → gave none_over gate ≡ None

@@ -24,8 +24,8 @@ use Rattle.cp_frame.proofs.Whole.{one_fault_plain}
 use Rattle.cp_frame.proofs.Certain.{are_back, packed_are}
 use Rattle.cp_frame.proofs.Cuts.{no_front_of}
 use Rattle.cp_frame.proofs.Texts.{open_packed}
-use Rattle.cp_rpc.specs.Said.{message_said}
-use Rattle.cp_rpc.specs.Faulty.{message_faults}
+use Rattle.cp_rpc.specs.Denoted.{message_denoted}
+use Rattle.cp_rpc.specs.Faults.{message_faults}
 use Rattle.cp_rpc.specs.Answers.{first_of}
 use Rattle.cp_rpc.specs.declared.message.Message.{Message}
 use Rattle.cp_stream.specs.declared.fault.Refusal.{Refusal}
@@ -217,7 +217,7 @@ only_frame mode limits old new failures failed (Err fault) h k bytes are e =
 pub one_message : (limits : Bounds) (S : List (List ℕ)) (m other : Message) → Holds limits S m → Holds limits S other → m ≡ other
 one_message limits S m other h k =
     let same = denotes_one S 0 0 h.tree k.tree h.root.denoted k.root.denoted in
-    h.says.said ∙ ap message_said same ∙ sym k.says.said
+    h.says.said ∙ ap message_denoted same ∙ sym k.says.said
 
 -- and then nothing says that they hold none
 holds_one : (limits : Bounds) (S : List (List ℕ)) (m : Message) (refusal : Refusal) → Holds limits S m → HoldsNone limits S refusal → ⊥

@@ -20,7 +20,7 @@ use Rattle.cp_packed.specs.Words.{AreWords}
 use Rattle.cp_frame.specs.Runs.{IsReadBack}
 use Rattle.cp_frame.proofs.Whole.{read_back_plain}
 use Rattle.cp_frame.proofs.Rests.{read_back_packed}
-use Rattle.cp_rpc.specs.Made.{message_made}
+use Rattle.cp_rpc.specs.Written.{message_written}
 use Rattle.cp_rpc.specs.declared.message.Message.{Message}
 use Rattle.cp_stream.specs.Stream.{IsFrameOf}
 use Rattle.cp_stream.specs.declared.fault.Refusal.{Refusal}
@@ -74,14 +74,14 @@ module _ {T : Type 0} (contents : T → Option (List ℕ)) where
 -- in segments as large as a frame, and in one alone, a message is laid out the same
 module _ (limits : Bounds) (m : Message) (small : limits.frame_words ≤ 67108864) where
   laid_alone : (S : List (List ℕ)) → IsLaidOutAs limits limits.frame_words limits.segments m S → IsLaidOutAs limits limits.frame_words 1 m S
-  laid_alone S h = record { says = h.says; shaped = h.shaped; fits = h.fits; layout = layout_alone limits S (message_made m) small h.shaped h.small h.layout; few = h.few; small = h.small }
+  laid_alone S h = record { says = h.says; shaped = h.shaped; fits = h.fits; layout = layout_alone limits S (message_written m) small h.shaped h.small h.layout; few = h.few; small = h.small }
 
   pub written_alone : (mode : Mode) (b : List ℕ) → IsWrittenAs mode limits limits.frame_words limits.segments m b → IsWrittenAs mode limits limits.frame_words 1 m b
   written_alone mode b h = record { lists = h.lists; laid = laid_alone h.lists h.laid; written = h.written }
 
   -- and refused the same
-  refused_write : (fault : WriteFault) → Shaped (message_made m) → IsWriteFaultOf limits (record { words = limits.frame_words; segments = limits.segments }) (message_made m) fault
-      → IsWriteFaultOf limits (record { words = limits.frame_words; segments = 1 }) (message_made m) fault
+  refused_write : (fault : WriteFault) → Shaped (message_written m) → IsWriteFaultOf limits (record { words = limits.frame_words; segments = limits.segments }) (message_written m) fault
+      → IsWriteFaultOf limits (record { words = limits.frame_words; segments = 1 }) (message_written m) fault
   refused_write writes.TooDeep shaped h = h
   refused_write writes.TooCostly shaped h = h
   refused_write writes.OutOfMemory shaped h = h
@@ -89,7 +89,7 @@ module _ (limits : Bounds) (m : Message) (small : limits.frame_words ≤ 6710886
     h.0,
     λ S l. ⊎_elim
         (λ more. more)
-        (λ within. absurd (omega (arith, within, h.1 S (layout_several limits S (message_made m) small shaped within l))))
+        (λ within. absurd (omega (arith, within, h.1 S (layout_several limits S (message_written m) small shaped within l))))
         (cases_lt limits.frame_words (sum (map length S))),
   )
 
@@ -118,8 +118,8 @@ written_holds mode limits words segments m b allowed h =
       S,
       read_back mode limits S b allowed some (each_words S l.layout.fit) h.written,
       record {
-        tree = message_made m;
-        root = laid_root S (record { words = words; segments = segments }) limits (message_made m) l.shaped tt l.fits.0 l.fits.1 l.layout;
+        tree = message_written m;
+        root = laid_root S (record { words = words; segments = segments }) limits (message_written m) l.shaped tt l.fits.0 l.fits.1 l.layout;
         says = l.says;
       },
     )

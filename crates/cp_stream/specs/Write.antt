@@ -9,7 +9,7 @@ use Rattle.cp_writing.specs.Writes.{FitsIn, IsWriteFaultOf}
 use Rattle.cp_frame.specs.declared.mode.Mode.{Mode}
 use Rattle.cp_frame.specs.declared.fault.FrameFault.TheVariants as frames
 use Rattle.cp_frame.specs.Frame.{Written}
-use Rattle.cp_rpc.specs.Made.{message_made}
+use Rattle.cp_rpc.specs.Written.{message_written}
 use Rattle.cp_rpc.specs.Refused.{IsRefusalOf}
 use Rattle.cp_rpc.specs.Says.{Says}
 use Rattle.cp_rpc.specs.declared.message.Message.{Message}
@@ -23,16 +23,16 @@ use Rattle.cp_stream.specs.Read.{FailedOnce}
 
 -- These are the segments that a message is laid out in, each of at most this many words, and at most this many of them; 0 words count as 1. Its tree says it, a message can hold the tree, and the tree and its layout are within the limits.
 pub record IsLaidOutAs (limits : Bounds) (words segments : ℕ) (m : Message) (S : List (List ℕ)) : Type 0 where
-  pub says : Says (message_made m) m
-  pub shaped : Shaped (message_made m)
-  pub fits : FitsIn limits (message_made m)
-  pub layout : Layout S (record { words = words; segments = segments }) (message_made m)
+  pub says : Says (message_written m) m
+  pub shaped : Shaped (message_written m)
+  pub fits : FitsIn limits (message_written m)
+  pub layout : Layout S (record { words = words; segments = segments }) (message_written m)
   pub few : length S ≤ limits.segments
   pub small : sum (map length S) ≤ limits.frame_words
 
 -- Why a message isn't laid out: it has a list that no message can hold; or its tree, which a message can hold, isn't laid out within the limits.
 abbrev pub IsNotLaidOut : Bounds → ℕ → ℕ → Message → WriteFault → Type 0
-IsNotLaidOut limits words segments m fault = IsRefusalOf m fault ⊎ (Shaped (message_made m) × IsWriteFaultOf limits (record { words = words; segments = segments }) (message_made m) fault)
+IsNotLaidOut limits words segments m fault = IsRefusalOf m fault ⊎ (Shaped (message_written m) × IsWriteFaultOf limits (record { words = words; segments = segments }) (message_written m) fault)
 
 -- The bytes are the frame of the segments that a message is laid out in.
 pub record IsWrittenAs (mode : Mode) (limits : Bounds) (words segments : ℕ) (m : Message) (b : List ℕ) : Type 0 where

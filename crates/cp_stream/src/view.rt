@@ -1,7 +1,7 @@
 //! The message of a frame.
 
 ghost use Rattle.std.specs.Prelude.{◌≡◌, ◌⊎◌, IsOk, IfOk, IfErr, OnOk};
-ghost use Rattle.cp_rpc.specs.Told.{told};
+ghost use Rattle.cp_rpc.specs.Viewed.{viewed};
 ghost use Rattle.cp_rpc.specs.declared.message.Message.{Message};
 ghost use Rattle.cp_stream.specs.Stream.{Holds, HoldsNone};
 ghost use Rattle.cp_stream.specs.Reader.{IsAt, IsMemory};
@@ -18,7 +18,7 @@ pub(crate) fn view_in<'a>(
     segments: &'a Segments,
     limits: Limits,
 ) -> Result<MessageView<'a>, Refusal>
-    ensures found { IfOk result (λ v. Holds limits segments.now (told v)) }
+    ensures found { IfOk result (λ v. Holds limits segments.now (viewed v)) }
     ensures only { (m : Message) → Holds limits segments.now m → AnswersView result m }
     ensures refused { IfErr result (HoldsNone limits segments.now) }
 {
@@ -46,7 +46,7 @@ pub(crate) fn message_in(
 /// tree (G1 to G9), or else the first field that is at fault (S1, S2), is reported at 0.
 pub fn view_of<'a>(segments: &'a Segments, limits: Limits) -> Result<MessageView<'a>, StreamFault>
     // What is viewed is the message that the segments hold.
-    ensures found { IfOk result (λ v. Holds limits segments.now (told v)) }
+    ensures found { IfOk result (λ v. Holds limits segments.now (viewed v)) }
     // The message that the segments hold is viewed.
     ensures only { (m : Message) → Holds limits segments.now m → AnswersView result m }
     // A fault says why they hold none.

@@ -1,7 +1,7 @@
 //! Writing messages, each as one frame.
 
 ghost use Rattle.std.specs.Prelude.{◌≡◌, ◌⊎◌, IfOk, IfErr, OnOk};
-ghost use Rattle.cp_rpc.specs.Told.{told};
+ghost use Rattle.cp_rpc.specs.Viewed.{viewed};
 ghost use Rattle.cp_stream.specs.Reader.{IsMemory};
 ghost use Rattle.cp_stream.specs.declared.fault.StreamFault.TheVariants.{Device};
 ghost use Rattle.cp_stream.specs.Write.{IsLaidOutAs, IsNotLaidOut, IsWrittenAs, IsUnwrittenFor, IsSent, IsCutShort, Sends, Breaks};
@@ -80,8 +80,8 @@ pub fn frame_of_view(
     mode: Mode,
     limits: Limits,
 ) -> Result<Vec<u8>, Refusal>
-    ensures written { IfOk result (λ b. IsWrittenAs mode limits limits.frame_words 1 (told view.now) b.items) }
-    ensures refused { IfErr result (λ r. IsMemory r ⊎ IsUnwrittenFor limits limits.frame_words 1 (told view.now) r) }
+    ensures written { IfOk result (λ b. IsWrittenAs mode limits limits.frame_words 1 (viewed view.now) b.items) }
+    ensures refused { IfErr result (λ r. IsMemory r ⊎ IsUnwrittenFor limits limits.frame_words 1 (viewed view.now) r) }
 {
     let Ok(message) = view.message(alloc) else {
         return Err(Refusal::Schema(SchemaFault::OutOfMemory));

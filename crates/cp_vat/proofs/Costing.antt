@@ -6,7 +6,7 @@ use Rattle.std.proofs.lemmas.Bool.Decides.{nat_tests}
 use Rattle.cp_tree.specs.Node.{Node, cost, body_cost}
 use Rattle.cp_tree.specs.NodeOf.{bodies_of}
 use Rattle.cp_tree.proofs.Trees.{number_in}
-use Rattle.cp_rpc.specs.Made.{body_made, cap_table_made, descriptor_made, descriptor_pointer, exception_made, list_made, member_made, message_made, op_made, payload_made, promised_answer_made, resolution_pointer, returned_pointer, target_made, text_made}
+use Rattle.cp_rpc.specs.Written.{body_written, cap_table_written, descriptor_written, descriptor_pointer, exception_written, list_written, member_written, message_written, op_written, payload_written, promised_answer_written, resolution_pointer, returned_pointer, target_written, text_written}
 use Rattle.cp_rpc.specs.Fitting.{descriptor_fits, exception_fits, message_fits, payload_fits, promised_answer_fits, resolution_fits, returned_fits, target_fits, text_fits}
 use Rattle.cp_rpc.specs.declared.exception.Exception.{Exception}
 use Rattle.cp_rpc.specs.declared.promised_answer.PromisedAnswer.{PromisedAnswer}
@@ -30,27 +30,27 @@ both true true p q = refl
 both true false p q = q
 both false b p q = p
 
-text_cost : (bs : List ℕ) → cost (text_made bs) ≤ 8388605 → text_fits bs ≡ true
+text_cost : (bs : List ℕ) → cost (text_written bs) ≤ 8388605 → text_fits bs ≡ true
 text_cost [] dear = refl
 text_cost (b ∷ bs) dear =
     let n = length-append (b ∷ bs) (0 ∷ []) in
     is_less (length (b ∷ bs) + 1) 536870912 (omega arith)
 
-exception_cost : (e : Exception) → cost (exception_made e) ≤ 8388605 → exception_fits e ≡ true
+exception_cost : (e : Exception) → cost (exception_written e) ≤ 8388605 → exception_fits e ≡ true
 exception_cost e dear = both _ _ (text_cost e.reason (omega arith)) (text_cost e.trace (omega arith))
 
-list_cost : {X : Type 0} (d n : ℕ) (made : X → Node) (xs : List X) → length xs ≤ cost (list_made d n (map made xs))
+list_cost : {X : Type 0} (d n : ℕ) (made : X → Node) (xs : List X) → length xs ≤ cost (list_written d n (map made xs))
 list_cost d n made [] = omega arith
 list_cost d n made (x ∷ xs) =
-    let size = number_in body_made (map made (x ∷ xs)) ∙ length-map (x ∷ xs) made in
+    let size = number_in body_written (map made (x ∷ xs)) ∙ length-map (x ∷ xs) made in
     omega arith
 
-answer_cost : (p : PromisedAnswer) → cost (promised_answer_made p) ≤ 8388605 → promised_answer_fits p ≡ true
+answer_cost : (p : PromisedAnswer) → cost (promised_answer_written p) ≤ 8388605 → promised_answer_fits p ≡ true
 answer_cost p dear =
-    let long = list_cost 1 0 op_made p.transform in
+    let long = list_cost 1 0 op_written p.transform in
     is_less (length p.transform) 536870912 (omega arith)
 
-target_cost : (t : Target) → cost (target_made t) ≤ 8388605 → target_fits t ≡ true
+target_cost : (t : Target) → cost (target_written t) ≤ 8388605 → target_fits t ≡ true
 target_cost (targets.ImportedCap id) dear = refl
 target_cost (targets.PromisedAnswer p) dear = answer_cost p (omega arith)
 target_cost (targets.Unknown n) dear = refl
@@ -64,17 +64,17 @@ descriptor_cost (descriptors.ReceiverAnswer p) dear = answer_cost p dear
 descriptor_cost (descriptors.ThirdPartyHosted t) dear = refl
 descriptor_cost (descriptors.Unknown n) dear = refl
 
-each_cost : (ds : List Descriptor) → body_cost (bodies_of (map body_made (map descriptor_made ds))) ≤ 8388605 → list_all descriptor_fits ds ≡ true
+each_cost : (ds : List Descriptor) → body_cost (bodies_of (map body_written (map descriptor_written ds))) ≤ 8388605 → list_all descriptor_fits ds ≡ true
 each_cost [] dear = refl
 each_cost (d ∷ ds) dear = both _ _ (descriptor_cost d (omega arith)) (each_cost ds (omega arith))
 
-table_cost : (ds : List Descriptor) → cost (cap_table_made ds) ≤ 8388605 → list_all descriptor_fits ds ≡ true
+table_cost : (ds : List Descriptor) → cost (cap_table_written ds) ≤ 8388605 → list_all descriptor_fits ds ≡ true
 table_cost [] dear = refl
 table_cost (d ∷ ds) dear = each_cost (d ∷ ds) (omega arith)
 
-payload_cost : (p : Payload) → cost (payload_made p) ≤ 8388605 → payload_fits p ≡ true
+payload_cost : (p : Payload) → cost (payload_written p) ≤ 8388605 → payload_fits p ≡ true
 payload_cost p dear =
-    let long = list_cost 1 1 descriptor_made p.cap_table in
+    let long = list_cost 1 1 descriptor_written p.cap_table in
     both _ _ (is_less (length p.cap_table * 2) 536870912 (omega arith)) (table_cost p.cap_table (omega arith))
 
 returned_cost : (r : Returned) → cost (returned_pointer r) ≤ 8388605 → returned_fits r ≡ true
@@ -91,7 +91,7 @@ resolution_cost (resolutions.Cap d) dear = descriptor_cost d (omega arith)
 resolution_cost (resolutions.Exception e) dear = exception_cost e dear
 resolution_cost (resolutions.Unknown n) dear = refl
 
-member_cost : (m : Message) → cost (member_made m) ≤ 8388605 → message_fits m ≡ true
+member_cost : (m : Message) → cost (member_written m) ≤ 8388605 → message_fits m ≡ true
 member_cost (messages.Unimplemented t) dear = refl
 member_cost (messages.Abort e) dear = exception_cost e dear
 member_cost (messages.Call c) dear = both _ _ (target_cost c.target (omega arith)) (payload_cost c.params (omega arith))
@@ -104,5 +104,5 @@ member_cost (messages.Disembargo d) dear = target_cost d.target (omega arith)
 member_cost (messages.Other n t) dear = refl
 
 -- what costs so little has short lists
-pub message_cost : (m : Message) → cost (message_made m) ≤ 8388608 → message_fits m ≡ true
+pub message_cost : (m : Message) → cost (message_written m) ≤ 8388608 → message_fits m ≡ true
 message_cost m dear = member_cost m (omega arith)

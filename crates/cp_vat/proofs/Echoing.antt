@@ -2,7 +2,7 @@
 use Rattle.std.proofs.Common.{◌≡◌, ℕ, ◌≤◌, leb, ◌&&◌, Bool, true, false, Decides, [], ◌∷◌, Ok, Err, refl, sym, ◌∙◌, subst, arith}
 use Rattle.std.proofs.lemmas.Bool.Decides.{nat_tests}
 use Rattle.cp_tree.specs.Node.{Node, depth, cost}
-use Rattle.cp_rpc.specs.Made.{message_made}
+use Rattle.cp_rpc.specs.Written.{message_written}
 use Rattle.cp_rpc.specs.Fitting.{message_fits}
 use Rattle.cp_rpc.specs.declared.message.Message.{Message}
 use Rattle.cp_rpc.specs.declared.message.Message.TheVariants as messages
@@ -29,30 +29,30 @@ not_both true false h = refl
 not_both false b h = refl
 
 -- The tree of an Unimplemented is one level deeper than the one that it holds, and costs three more.
-wrapped : (t : Node) → depth t ≤ 63 → cost t ≤ 8388605 → echo_fits (message_made (messages.Unimplemented t)) ≡ true
+wrapped : (t : Node) → depth t ≤ 63 → cost t ≤ 8388605 → echo_fits (message_written (messages.Unimplemented t)) ≡ true
 wrapped t deep dear =
-    let x = message_made (messages.Unimplemented t) in
+    let x = message_written (messages.Unimplemented t) in
     both (leb (depth x) 64) (leb (cost x) 8388608) (at_most (depth x) 64 (omega arith)) (at_most (cost x) 8388608 (omega arith))
 
-not_wrapped : (t : Node) → ((depth t ≤ 63) × (cost t ≤ 8388605) → ⊥) → echo_fits (message_made (messages.Unimplemented t)) ≡ false
+not_wrapped : (t : Node) → ((depth t ≤ 63) × (cost t ≤ 8388605) → ⊥) → echo_fits (message_written (messages.Unimplemented t)) ≡ false
 not_wrapped t large =
-    let x = message_made (messages.Unimplemented t) in
+    let x = message_written (messages.Unimplemented t) in
     not_both (leb (depth x) 64) (leb (cost x) 8388608) (λ (deep : leb (depth x) 64 ≡ true) (dear : leb (cost x) 8388608 ≡ true).
     let d : depth x ≤ 64 = is_at_most (depth x) 64 deep in
     let k : cost x ≤ 8388608 = is_at_most (cost x) 8388608 dear in
     large (omega arith, omega arith))
 
 -- a tree that fits is sent back
-pub is_echoed : (s : State) (m : Message) (t q : Node) → t ≡ message_made m → q ≡ message_made m → (fits : Bool) → Decides fits ((depth q ≤ 63) × (cost q ≤ 8388605)) → fits ≡ true
+pub is_echoed : (s : State) (m : Message) (t q : Node) → t ≡ message_written m → q ≡ message_written m → (fits : Bool) → Decides fits ((depth q ≤ 63) × (cost q ≤ 8388605)) → fits ≡ true
     → Ok (effects.Send (messages.Unimplemented t) ∷ [], s) ≡ echoed s m
 is_echoed s m t q made same fits decides is =
     let small = decides.0 is in
-    let test = subst (λ x. echo_fits (message_made (messages.Unimplemented x)) ≡ true) same (wrapped q small.0 small.1) in
+    let test = subst (λ x. echo_fits (message_written (messages.Unimplemented x)) ≡ true) same (wrapped q small.0 small.1) in
     rw (test, made) refl
 
 -- a message with a list that is too long isn't
 pub is_too_long : (s : State) (m : Message) → message_fits m ≡ false → Err faults.EchoTooLarge ≡ echoed s m
-is_too_long s m long = rw (not_wrapped (message_made m) (λ small. absurd (differ (sym long ∙ message_cost m (omega (arith, small.1)))))) refl
+is_too_long s m long = rw (not_wrapped (message_written m) (λ small. absurd (differ (sym long ∙ message_cost m (omega (arith, small.1)))))) refl
   where
     differ : false ≡ true → ⊥
     differ e = cc

@@ -60,8 +60,8 @@ use Rattle.cp_vat_rules.proofs.Ready.{is_ungiven, tied_once}
 use Rattle.cp_vat.specs.Judging.{judged}
 use Rattle.cp_vat.specs.Returning.{AwaitsReturn, MaySettle}
 use Rattle.cp_vat.specs.Ways.{WayEnds, seen}
-use Rattle.cp_vat.specs.declared.going.Reference.{Reference}
-use Rattle.cp_vat.specs.declared.going.Reference.TheVariants as references
+use Rattle.cp_vat.specs.declared.going.Standing.{Standing}
+use Rattle.cp_vat.specs.declared.going.Standing.TheVariants as references
 use Rattle.cp_vat.proofs.Judged.{none_judged}
 use Rattle.cp_vat.proofs.Taking.{takes_keep}
 
@@ -218,7 +218,7 @@ module _ (s : State) (h : Local s) (cap : Cap) (request : Request) (none : call_
         one_more n = omega arith
 
     -- and the way of what it goes on ends
-    pub call_ends : (r : Reference) → seen r ≡ reference_of s.values cap → WayEnds (called s q kind).values cap r
+    pub call_ends : (r : Standing) → seen r ≡ reference_of s.values cap → WayEnds (called s q kind).values cap r
     call_ends references.Plain is = there_on cap all_there.0
     call_ends references.OnWire is = there_on cap all_there.0
     call_ends (references.CameTo value) is = there_on value (came_fit (local_is_within s h) cap value (sym is)).1

@@ -3,8 +3,8 @@ use Rattle.std.proofs.Common.{◌≡◌, inl, inr, List, [], ◌∷◌, Some, No
 use Rattle.cp_tree.specs.Node.{Node, null, cap, struct, list, ptrs, structs, IsStruct}
 use Rattle.cp_rpc.specs.Answers.{IsFirstFault, first_of}
 use Rattle.cp_rpc.specs.Says.{Says}
-use Rattle.cp_rpc.specs.Said.{message_said}
-use Rattle.cp_rpc.specs.Faulty.{message_faults}
+use Rattle.cp_rpc.specs.Denoted.{message_denoted}
+use Rattle.cp_rpc.specs.Faults.{message_faults}
 use Rattle.cp_rpc.specs.declared.fault.SchemaFault.{SchemaFault}
 use Rattle.cp_rpc.specs.declared.fault.SchemaFault.TheVariants as schema_faults
 use Rattle.cp_rpc.specs.declared.message.Message.{Message}
@@ -43,7 +43,7 @@ is_needed old (messages.Disembargo x) other = refl
 is_needed old (messages.Other n t) other = refl
 
 says_told : (t : Node) (m : Message) → Says t m → Some m ≡ told t
-says_told t m says = sym (ap (λ fs. told_by fs (message_said t)) says.sound ∙ ap Some (sym says.said))
+says_told t m says = sym (ap (λ fs. told_by fs (message_denoted t)) says.sound ∙ ap Some (sym says.said))
 
 -- what the peer doesn't know of a message that a tree says, it doesn't know of the tree
 pub told_quiet : (old new : State) (t root : Node) (m : Message) (r : Result (Unit {0}) Halt) → root ≡ t → Says root m → Quiet (UnknownToPeer old (Some m)) r new → Quiet (OnUnimplemented old t) r new
@@ -56,7 +56,7 @@ faulty (g ∷ fs) f m first = refl
 
 -- a tree that says none
 pub none_told : (old : State) (t : Node) (f : SchemaFault) → first_of (message_faults t) ≡ Some f → OnUnimplemented old t (Err faults.PeerLacksLevelOne)
-none_told old t f first = subst (λ o. UnknownToPeer old o (Err faults.PeerLacksLevelOne)) (faulty (message_faults t) f (message_said t) first) refl
+none_told old t f first = subst (λ o. UnknownToPeer old o (Err faults.PeerLacksLevelOne)) (faulty (message_faults t) f (message_denoted t) first) refl
 
 -- so where memory may have run out
 pub faulty_told : (old : State) (t root : Node) (f : SchemaFault) → root ≡ t → (f ≡ schema_faults.OutOfMemory → ⊥) → IsFirstFault (message_faults root) f → OnUnimplemented old t (Err faults.PeerLacksLevelOne)

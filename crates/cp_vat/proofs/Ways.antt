@@ -31,7 +31,7 @@ use Rattle.cp_vat_rules.specs.Going.{MayGo}
 use Rattle.cp_vat_rules.specs.Ungiven.{IsUngiven}
 use Rattle.cp_vat_rules.specs.declared.go.Underway as go
 use Rattle.cp_vat.specs.Ways.{GoMarked, seen, taken_back, value_kind}
-use Rattle.cp_vat.specs.declared.going.Reference.TheVariants as references
+use Rattle.cp_vat.specs.declared.going.Standing.TheVariants as references
 use Rattle.cp_vat.proofs.Acting.{acts_by}
 
 -- a call may go whatever the marks are

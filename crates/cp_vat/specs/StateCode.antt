@@ -12,9 +12,9 @@ use Rattle.cp_tables.specs.declared.exchange.Exchange.{Exchange}
 use Rattle.cp_refs.specs.Values.{ValueMaps, values_code}
 use Rattle.cp_refs.specs.declared.cap.Cap.{Cap}
 use Rattle.cp_refs.specs.contracts.cap.Cap as cap
-use Rattle.cp_refs.specs.declared.call.Held.{Held}
-use Rattle.cp_refs.specs.contracts.call.Held as held
-use Rattle.cp_vat_machine.specs.State.{State, Entries, Counts, Marks, Waiting, Over}
+use Rattle.cp_refs.specs.declared.call.WaitingCall.{WaitingCall}
+use Rattle.cp_refs.specs.contracts.call.WaitingCall as held
+use Rattle.cp_vat_machine.specs.State.{State, Exchanges, Counts, Marks, Waiting, Over}
 use Rattle.cp_vat_machine.specs.declared.entry.QuestionEntry.{QuestionEntry}
 use Rattle.cp_vat_machine.specs.contracts.entry.QuestionEntry as question_entry
 use Rattle.cp_vat_machine.specs.declared.entry.AnswerEntry.{AnswerEntry}
@@ -29,9 +29,9 @@ table_code code = map.code coded_ℕ code
 
 abbrev pub waiting_code : Coded Waiting
 waiting_code =
-    code_by (Table Held × Over) (coded× (table_code held.the_row.coded) over_code) (λ w. (w.calls, w.over)) (λ parts. record { calls = parts.0; over = parts.1 }) (λ _. refl)
+    code_by (Table WaitingCall × Over) (coded× (table_code held.the_row.coded) over_code) (λ w. (w.calls, w.over)) (λ parts. record { calls = parts.0; over = parts.1 }) (λ _. refl)
 
-abbrev pub entries_code : Coded Entries
+abbrev pub entries_code : Coded Exchanges
 entries_code =
     code_by
     (Table (Exchange QuestionEntry) × (Table (Exchange AnswerEntry) × set.FinSet nat_cmp))
@@ -53,7 +53,7 @@ counts_code =
 abbrev pub state_code : Coded State
 state_code =
     code_by
-    (ValueMaps × (Entries × (Counts × (Waiting × (Marks × (Option ℕ × (ℕ × Bool)))))))
+    (ValueMaps × (Exchanges × (Counts × (Waiting × (Marks × (Option ℕ × (ℕ × Bool)))))))
     (coded× values_code (coded× entries_code (coded× counts_code (coded× waiting_code (coded× marks_code (coded× (coded_option coded_ℕ) (coded× coded_ℕ coded_bool)))))))
     (λ s. (s.values, (s.entries, (s.counts, (s.waiting, (s.marks, (s.bootstrap, (s.next_ticket, s.is_closed))))))))
     (λ parts. record {

@@ -21,11 +21,11 @@ use Rattle.cp_vat_state.specs.declared.halt.Halt.{Halt}
 use Rattle.cp_vat_state.specs.declared.parts.Core.{Core}
 use Rattle.cp_vat_rules.specs.Going.{underway_of}
 use Rattle.cp_vat_rules.specs.declared.go.Underway as rules
-use Rattle.cp_vat.specs.declared.going.Reference.{Reference}
-use Rattle.cp_vat.specs.declared.going.Reference.TheVariants as references
+use Rattle.cp_vat.specs.declared.going.Standing.{Standing}
+use Rattle.cp_vat.specs.declared.going.Standing.TheVariants as references
 
 -- what a capability is that the application calls, as the machine says it
-abbrev pub seen : Reference → machine.Reference
+abbrev pub seen : Standing → machine.Standing
 seen references.Plain = machine.plain
 seen references.OnWire = machine.on_wire
 seen (references.CameTo value) = machine.came_to value
@@ -36,13 +36,13 @@ value_kind (caps.Import j) = kinds.Wire
 value_kind other = kinds.Local
 
 -- the kind of a call's question
-abbrev pub kind_of : Reference → QuestionKind
+abbrev pub kind_of : Standing → QuestionKind
 kind_of references.Plain = kinds.Local
 kind_of references.OnWire = kinds.Wire
 kind_of (references.CameTo value) = value_kind value
 
 -- the way ends that a call on a capability takes
-abbrev pub WayEnds : ValueMaps → Cap → Reference → Type 0
+abbrev pub WayEnds : ValueMaps → Cap → Standing → Type 0
 WayEnds values cap (references.CameTo value) = HasRoute values value
 WayEnds values cap other = HasRoute values cap
 

@@ -19,7 +19,7 @@ use std::alloc::{AllocError, Global};
 
 /// What a capability is that the application calls.
 #[derive(Drop)]
-pub(crate) enum Reference {
+pub(crate) enum Standing {
     /// It is called as it is.
     Plain,
     /// An import or a question's path that is open on the wire.
@@ -32,27 +32,27 @@ pub(crate) fn reference_of(
     alloc: Global,
     values: &Values,
     cap: &Cap,
-) -> Result<Reference, AllocError>
+) -> Result<Standing, AllocError>
     ensures { IfOk result (λ r. seen r ≡ reference_of values.now cap.now) }
 {
     match cap {
         Cap::Import(id) => match values.import(*id) {
-            Some(None) => Ok(Reference::OnWire),
-            Some(Some(value)) => Ok(Reference::CameTo(value.copy(alloc)?)),
-            None => Ok(Reference::Plain),
+            Some(None) => Ok(Standing::OnWire),
+            Some(Some(value)) => Ok(Standing::CameTo(value.copy(alloc)?)),
+            None => Ok(Standing::Plain),
         },
         Cap::Pipelined(id, path) => path_reference(alloc, values.question(*id), path),
-        _ => Ok(Reference::Plain),
+        _ => Ok(Standing::Plain),
     }
 }
 
 /// The kind of a call's question. A call that goes to the peer at once is on the wire.
-pub(crate) fn kind_of(reference: &Reference) -> QuestionKind
+pub(crate) fn kind_of(reference: &Standing) -> QuestionKind
     ensures { result ≡ kind_of reference.now }
 {
     match reference {
-        Reference::OnWire | Reference::CameTo(Cap::Import(_)) => QuestionKind::Wire,
-        Reference::Plain | Reference::CameTo(_) => QuestionKind::Local,
+        Standing::OnWire | Standing::CameTo(Cap::Import(_)) => QuestionKind::Wire,
+        Standing::Plain | Standing::CameTo(_) => QuestionKind::Local,
     }
 }
 
@@ -61,7 +61,7 @@ pub(crate) fn go_from(
     core: &mut Core,
     call: Underway,
     cap: &Cap,
-    reference: Reference,
+    reference: Standing,
     effects: &mut Vec<Effect>,
 ) -> Result<(), Halt>
     requires may { MayGo (state_of core.old) (underway_of call) }
@@ -70,9 +70,9 @@ pub(crate) fn go_from(
     ensures unchanged { IfFault result (core.new ≡ core.old) }
 {
     match reference {
-        Reference::Plain => go_to(core, call, cap, effects),
-        Reference::OnWire => go_marked(core, call, cap, effects),
-        Reference::CameTo(value) => go_by_value(core, call, cap, value, effects),
+        Standing::Plain => go_to(core, call, cap, effects),
+        Standing::OnWire => go_marked(core, call, cap, effects),
+        Standing::CameTo(value) => go_by_value(core, call, cap, value, effects),
     }
 }
 
@@ -80,17 +80,17 @@ fn path_reference(
     alloc: Global,
     question: Option<&Question>,
     path: &Path,
-) -> Result<Reference, AllocError>
+) -> Result<Standing, AllocError>
     ensures { IfOk result (λ r. seen r ≡ question_reference path.now (option_copied question.entry)) }
 {
     let Some(question) = question else {
-        return Ok(Reference::Plain);
+        return Ok(Standing::Plain);
     };
     match &question.outcome {
-        Some(outcome) => Ok(Reference::CameTo(outcome.at(alloc, path.fields())?)),
+        Some(outcome) => Ok(Standing::CameTo(outcome.at(alloc, path.fields())?)),
         None => match question.kind {
-            QuestionKind::Wire => Ok(Reference::OnWire),
-            QuestionKind::Local => Ok(Reference::Plain),
+            QuestionKind::Wire => Ok(Standing::OnWire),
+            QuestionKind::Local => Ok(Standing::Plain),
         },
     }
 }

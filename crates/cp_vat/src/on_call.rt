@@ -6,7 +6,7 @@ ghost use Rattle.cp_vat_machine.specs.Answering.{GoToAnswer, GoToExport, OnCall,
 ghost use Rattle.cp_vat_machine.specs.Local.{Local};
 ghost use Rattle.cp_vat_machine.specs.Take.{answer_of};
 ghost use Rattle.cp_vat_machine.specs.Supported.{is_supported, is_supported_target};
-ghost use Rattle.cp_rpc.specs.Told.{told_call};
+ghost use Rattle.cp_rpc.specs.Viewed.{viewed_call};
 ghost use Rattle.cp_rpc.specs.declared.message.Message.TheVariants as messages;
 ghost use Rattle.cp_vat_state.specs.Halts.{Acts, OnlyAllocationFails};
 ghost use Rattle.cp_vat_state.specs.StateOf.{state_of};
@@ -61,7 +61,7 @@ pub(crate) fn on_call<C: Content>(
 
 /// A Call that is read in place, made but for its content.
 pub(crate) fn without_content(alloc: Global, call: &CallView<View>) -> Result<Call, AllocError>
-    ensures { IfOk result (λ c. with_content c call.now.params.content ≡ told_call (λ t. t) call.now) }
+    ensures { IfOk result (λ c. with_content c call.now.params.content ≡ viewed_call (λ t. t) call.now) }
 {
     Ok(Call {
         question_id: call.question_id,

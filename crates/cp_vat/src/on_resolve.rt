@@ -2,7 +2,7 @@
 
 ghost use Rattle.std.specs.Prelude.{◌≡◌, true, option_to_list};
 ghost use Rattle.std.specs.FinMap as map;
-ghost use Rattle.cp_rpc.specs.Told.{told_resolution};
+ghost use Rattle.cp_rpc.specs.Viewed.{viewed_resolution};
 ghost use Rattle.cp_vat_machine.specs.Resolving.{OnResolve, TakeResolution, given_back, is_open_promise, release_of};
 ghost use Rattle.cp_vat_machine.specs.Supported.{is_supported_resolution};
 ghost use Rattle.cp_vat_state.specs.Halts.{Acts, Leaves};
@@ -62,7 +62,7 @@ pub(crate) fn given_back(resolution: &Resolution) -> Option<u32>
 
 /// The same of a resolution that is read in place.
 pub(crate) fn given_back_view(resolution: &ResolutionView<View>) -> Option<u32>
-    ensures { option_to_list result ≡ given_back (told_resolution (λ t. t) resolution.now) }
+    ensures { option_to_list result ≡ given_back (viewed_resolution (λ t. t) resolution.now) }
 {
     match resolution {
         ResolutionView::Cap(DescriptorView::SenderHosted(id) | DescriptorView::SenderPromise(id)) =>

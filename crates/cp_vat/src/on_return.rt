@@ -1,7 +1,7 @@
 //! What a Return does.
 
 ghost use Rattle.std.specs.Prelude.{◌≡◌, Ok, true, if◌then◌else◌};
-ghost use Rattle.cp_rpc.specs.Told.{told_returned};
+ghost use Rattle.cp_rpc.specs.Viewed.{viewed_returned};
 ghost use Rattle.cp_rpc.specs.declared.returned.Returned.{Returned};
 ghost use Rattle.cp_vat_machine.specs.Local.{Local};
 ghost use Rattle.cp_vat_machine.specs.Asking.{OnReturn, Settles, TakeReturned, is_asked};
@@ -35,13 +35,13 @@ enum Rest {
 
 /// What a Return bears, owned or read in place.
 pub(crate) trait Bearing: Drop {
-    ghost told: { Self → Returned };
+    ghost borne: { Self → Returned };
 
     /// It is taken in as an outcome. Of one that is read in place a content or an exception is made once
     /// nothing is at fault.
     fn take_in(self, core: &mut Core) -> Result<Outcome, Halt>
-        requires { is_supported_returned (told self) ≡ true }
-        ensures { Leaves (TakeReturned (state_of core.old) (told self)) result (state_of core.new) };
+        requires { is_supported_returned (borne self) ≡ true }
+        ensures { Leaves (TakeReturned (state_of core.old) (borne self)) result (state_of core.new) };
 }
 
 /// What a Return bears is taken in, unless the application finished the question.
@@ -52,9 +52,9 @@ pub(crate) fn on_return<B: Bearing>(
     bearing: B,
     effects: &mut Vec<Effect>,
 ) -> Result<(), Halt>
-    requires supported { is_supported_returned (B.told bearing) ≡ true }
+    requires supported { is_supported_returned (B.borne bearing) ≡ true }
     requires local { Local (state_of core.old) }
-    ensures { Acts (OnReturn (state_of core.old) (bears id release_param_caps (B.told bearing))) result effects.old.items effects.new.items (state_of core.new) }
+    ensures { Acts (OnReturn (state_of core.old) (bears id release_param_caps (B.borne bearing))) result effects.old.items effects.new.items (state_of core.new) }
 {
     match begin(core, id, release_param_caps)? {
         Rest::Nothing => Ok(()),
@@ -66,7 +66,7 @@ pub(crate) fn on_return<B: Bearing>(
 }
 
 impl Bearing for Returned {
-    ghost told = { λ r. r };
+    ghost borne = { λ r. r };
 
     fn take_in(self, core: &mut Core) -> Result<Outcome, Halt> {
         match self {
@@ -85,7 +85,7 @@ impl Bearing for Returned {
 }
 
 impl<'a> Bearing for &'a ReturnedView<View<'a>> {
-    ghost told = { λ r. told_returned (λ t. t) r.now };
+    ghost borne = { λ r. viewed_returned (λ t. t) r.now };
 
     fn take_in(self, core: &mut Core) -> Result<Outcome, Halt> {
         match self {

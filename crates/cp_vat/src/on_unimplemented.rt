@@ -1,7 +1,7 @@
 //! What an Unimplemented does, and how a message that isn't supported is sent back.
 
 ghost use Rattle.std.specs.Prelude.{◌≡◌, Some};
-ghost use Rattle.cp_rpc.specs.Told.{told};
+ghost use Rattle.cp_rpc.specs.Viewed.{viewed};
 ghost use Rattle.cp_vat_machine.specs.Resolving.{OnUnimplemented, UnknownToPeer};
 ghost use Rattle.cp_vat_machine.specs.Step.{echoed};
 ghost use Rattle.cp_vat_state.specs.Halts.{Acts, Quiet};
@@ -90,7 +90,7 @@ fn unknown_to_peer(core: &mut Core, message: &Message) -> Result<(), Halt>
 
 /// What a message that is read in place does that the peer doesn't know.
 fn unknown_view_to_peer(core: &mut Core, message: &MessageView) -> Result<(), Halt>
-    ensures { Quiet (UnknownToPeer (state_of core.old) (Some (told message.now))) result (state_of core.new) }
+    ensures { Quiet (UnknownToPeer (state_of core.old) (Some (viewed message.now))) result (state_of core.new) }
 {
     let MessageIn::Resolve(resolve) = message else {
         return Err(Halt::Fault(PeerFault::PeerLacksLevelOne));

@@ -1,7 +1,7 @@
 //! What a message does by itself.
 
 ghost use Rattle.std.specs.Prelude.{◌≡◌, true};
-ghost use Rattle.cp_rpc.specs.Told.{told};
+ghost use Rattle.cp_rpc.specs.Viewed.{viewed};
 ghost use Rattle.cp_vat_machine.specs.Local.{Local};
 ghost use Rattle.cp_vat_machine.specs.Step.{On, Receives};
 ghost use Rattle.cp_vat_machine.specs.Supported.{is_supported};
@@ -51,7 +51,7 @@ pub(crate) fn receive_view(
     effects: &mut Vec<Effect>,
 ) -> Result<(), Halt>
     requires { Local (state_of core.old) }
-    ensures { Acts (Receives (state_of core.old) (told message.now)) result effects.old.items effects.new.items (state_of core.new) }
+    ensures { Acts (Receives (state_of core.old) (viewed message.now)) result effects.old.items effects.new.items (state_of core.new) }
 {
     if !is_supported_view(message) {
         return echo(core, &message.message(core.alloc)?, effects);
@@ -95,9 +95,9 @@ fn act_on_view(
     message: &MessageView,
     effects: &mut Vec<Effect>,
 ) -> Result<(), Halt>
-    requires supported { is_supported (told message.now) ≡ true }
+    requires supported { is_supported (viewed message.now) ≡ true }
     requires local { Local (state_of core.old) }
-    ensures { Acts (On (state_of core.old) (told message.now)) result effects.old.items effects.new.items (state_of core.new) }
+    ensures { Acts (On (state_of core.old) (viewed message.now)) result effects.old.items effects.new.items (state_of core.new) }
 {
     match message {
         MessageIn::Unimplemented(tree) => on_unimplemented_view(core, tree),

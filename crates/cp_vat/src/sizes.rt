@@ -2,7 +2,7 @@
 
 ghost use Rattle.std.specs.Prelude.{◌≡◌};
 ghost use Rattle.std.specs.List.{list_all};
-ghost use Rattle.cp_rpc.specs.Told.{told, told_descriptor, told_exception, told_payload, told_resolution, told_returned, told_target};
+ghost use Rattle.cp_rpc.specs.Viewed.{viewed, viewed_descriptor, viewed_exception, viewed_payload, viewed_resolution, viewed_returned, viewed_target};
 ghost use Rattle.cp_vat_machine.specs.Capacity.{cap_fits, caps_fit, content_fits, descriptor_fits, exception_fits, message_fits, outcome_fits, payload_fits, request_fits, resolution_fits, returned_fits, target_fits, transform_fits};
 
 use cp_reading::View;
@@ -74,7 +74,7 @@ pub(crate) fn cap_fits(cap: &Cap) -> bool
 
 /// Whether a message that is read in place is within the vat's sizes.
 pub(crate) fn message_fits_view(message: &MessageView) -> bool
-    ensures { result ≡ message_fits (told message.now) }
+    ensures { result ≡ message_fits (viewed message.now) }
 {
     match message {
         MessageIn::Abort(exception) => exception_fits_view(exception),
@@ -178,13 +178,13 @@ fn all_caps_fit(table: &[Cap]) -> bool
 }
 
 fn exception_fits_view(exception: &ExceptionView<View>) -> bool
-    ensures { result ≡ exception_fits (told_exception (λ t. t) exception.now) }
+    ensures { result ≡ exception_fits (viewed_exception (λ t. t) exception.now) }
 {
     exception.reason.len() <= TEXT_LENGTH && exception.trace.len() <= TEXT_LENGTH
 }
 
 fn target_fits_view(target: &TargetView<View>) -> bool
-    ensures { result ≡ target_fits (told_target (λ t. t) target.now) }
+    ensures { result ≡ target_fits (viewed_target (λ t. t) target.now) }
 {
     match target {
         TargetView::PromisedAnswer(answer) => answer.transform.len() <= PATH_LENGTH,
@@ -193,7 +193,7 @@ fn target_fits_view(target: &TargetView<View>) -> bool
 }
 
 fn payload_fits_view(payload: &PayloadView<View>) -> bool
-    ensures { result ≡ payload_fits (told_payload (λ t. t) payload.now) }
+    ensures { result ≡ payload_fits (viewed_payload (λ t. t) payload.now) }
 {
     payload.content.fits(CONTENT_DEPTH, CONTENT_COST)
         && payload.cap_table.len() <= TABLE_LENGTH
@@ -212,7 +212,7 @@ fn all_descriptors_fit_view(table: &CapTableView<View>) -> bool
 }
 
 fn descriptor_fits_view(descriptor: &DescriptorView<View>) -> bool
-    ensures { result ≡ descriptor_fits (told_descriptor (λ t. t) descriptor.now) }
+    ensures { result ≡ descriptor_fits (viewed_descriptor (λ t. t) descriptor.now) }
 {
     match descriptor {
         DescriptorView::ReceiverAnswer(answer) => answer.transform.len() <= PATH_LENGTH,
@@ -221,7 +221,7 @@ fn descriptor_fits_view(descriptor: &DescriptorView<View>) -> bool
 }
 
 fn returned_fits_view(returned: &ReturnedView<View>) -> bool
-    ensures { result ≡ returned_fits (told_returned (λ t. t) returned.now) }
+    ensures { result ≡ returned_fits (viewed_returned (λ t. t) returned.now) }
 {
     match returned {
         ReturnedView::Results(payload) => payload_fits_view(payload),
@@ -231,7 +231,7 @@ fn returned_fits_view(returned: &ReturnedView<View>) -> bool
 }
 
 fn resolution_fits_view(resolution: &ResolutionView<View>) -> bool
-    ensures { result ≡ resolution_fits (told_resolution (λ t. t) resolution.now) }
+    ensures { result ≡ resolution_fits (viewed_resolution (λ t. t) resolution.now) }
 {
     match resolution {
         ResolutionView::Cap(descriptor) => descriptor_fits_view(descriptor),

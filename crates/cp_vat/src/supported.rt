@@ -2,7 +2,7 @@
 
 ghost use Rattle.std.specs.Prelude.{◌≡◌};
 ghost use Rattle.std.specs.List.{list_all};
-ghost use Rattle.cp_rpc.specs.Told.{told, told_descriptor, told_resolution, told_returned, told_target};
+ghost use Rattle.cp_rpc.specs.Viewed.{viewed, viewed_descriptor, viewed_resolution, viewed_returned, viewed_target};
 ghost use Rattle.cp_vat_machine.specs.Supported.{is_supported, is_supported_context, is_supported_descriptor, is_supported_resolution, is_supported_returned, is_supported_target, is_supported_transform};
 
 use cp_reading::View;
@@ -35,7 +35,7 @@ pub(crate) fn is_supported(message: &Message) -> bool
 
 /// The same of a message that is read in place.
 pub(crate) fn is_supported_view(message: &MessageView) -> bool
-    ensures { result ≡ is_supported (told message.now) }
+    ensures { result ≡ is_supported (viewed message.now) }
 {
     match message {
         MessageIn::Call(call) => {
@@ -125,7 +125,7 @@ fn is_loopback(context: &Context) -> bool
 }
 
 fn is_supported_target_view(target: &TargetView<View>) -> bool
-    ensures { result ≡ is_supported_target (told_target (λ t. t) target.now) }
+    ensures { result ≡ is_supported_target (viewed_target (λ t. t) target.now) }
 {
     match target {
         TargetView::ImportedCap(_) => true,
@@ -157,7 +157,7 @@ fn are_supported_view(table: &CapTableView<View>) -> bool
 }
 
 fn is_supported_descriptor_view(descriptor: &DescriptorView<View>) -> bool
-    ensures { result ≡ is_supported_descriptor (told_descriptor (λ t. t) descriptor.now) }
+    ensures { result ≡ is_supported_descriptor (viewed_descriptor (λ t. t) descriptor.now) }
 {
     match descriptor {
         DescriptorView::ReceiverAnswer(answer) => is_supported_transform_view(&answer.transform),
@@ -167,7 +167,7 @@ fn is_supported_descriptor_view(descriptor: &DescriptorView<View>) -> bool
 }
 
 fn is_supported_returned_view(returned: &ReturnedView<View>) -> bool
-    ensures { result ≡ is_supported_returned (told_returned (λ t. t) returned.now) }
+    ensures { result ≡ is_supported_returned (viewed_returned (λ t. t) returned.now) }
 {
     match returned {
         ReturnedView::Results(payload) => are_supported_view(&payload.cap_table),
@@ -177,7 +177,7 @@ fn is_supported_returned_view(returned: &ReturnedView<View>) -> bool
 }
 
 fn is_supported_resolution_view(resolution: &ResolutionView<View>) -> bool
-    ensures { result ≡ is_supported_resolution (told_resolution (λ t. t) resolution.now) }
+    ensures { result ≡ is_supported_resolution (viewed_resolution (λ t. t) resolution.now) }
 {
     match resolution {
         ResolutionView::Cap(descriptor) => is_supported_descriptor_view(descriptor),

@@ -1,7 +1,7 @@
 //! One end of a connection.
 
 ghost use Rattle.std.specs.Prelude.{◌≡◌};
-ghost use Rattle.cp_rpc.specs.Told.{told};
+ghost use Rattle.cp_rpc.specs.Viewed.{viewed};
 ghost use Rattle.cp_vat_machine.specs.State.{new_state};
 ghost use Rattle.cp_vat_machine.specs.Step.{Step};
 ghost use Rattle.cp_vat_machine.specs.declared.event.Event.TheVariants as events;
@@ -122,7 +122,7 @@ impl Vat {
     /// waiting call or a kept outcome, and after the message was checked. Its table, target and texts are
     /// made once they are known to be within the vat's sizes.
     pub fn receive_view(&mut self, message: MessageView) -> Result<Acted<()>, VatFault>
-        ensures step { Step self.old (events.Receive (told message.entry)) (answered (λ _. values.Nothing) result) (effects_of result) self.new }
+        ensures step { Step self.old (events.Receive (viewed message.entry)) (answered (λ _. values.Nothing) result) (effects_of result) self.new }
         ensures writable { AreWritable (effects_of result) }
     {
         if self.core.is_closed {

@@ -2,7 +2,7 @@
 use Rattle.std.specs.Prelude.{◌≡◌, ℕ, false, List, [], Option, None, Result, Ok}
 use Rattle.cp_rpc.specs.declared.message.Message.{Message}
 use Rattle.cp_refs.specs.declared.cap.Cap.{Cap}
-use Rattle.cp_refs.specs.declared.call.Held.{Held}
+use Rattle.cp_refs.specs.declared.call.WaitingCall.{WaitingCall}
 use Rattle.cp_vat_machine.specs.State.{State, none_over, with_over, new_state}
 use Rattle.cp_vat_machine.specs.Go.{NoneOver, IsNext, GoTo, without_call, underway, Leave}
 use Rattle.cp_vat_machine.specs.declared.effect.Effect.{Effect}
@@ -27,7 +27,7 @@ WithinIsLocal = (s : State) → Within s None [] → NoneOver s → Local (with_
 -- A turn of waiting calls keeps what holds within an event.
 abbrev pub TurnKeeps : Type 0
 TurnKeeps =
-    (old mid : State) (call : Held) (cap : Cap) (first : List Effect) → Within old None [] → IsNext old call cap → GoTo (without_call old call) (underway call) cap (Ok (first, mid))
+    (old mid : State) (call : WaitingCall) (cap : Cap) (first : List Effect) → Within old None [] → IsNext old call cap → GoTo (without_call old call) (underway call) cap (Ok (first, mid))
     → Within mid None []
 
 -- So waiting calls that leave come to where it holds between events.

@@ -4,13 +4,13 @@ use Rattle.std.specs.List.{AllByRecursion}
 use Rattle.std.specs.FinMap.{get}
 use Rattle.cp_refs.specs.Route.{Routes}
 use Rattle.cp_refs.specs.declared.cap.Cap.{Cap}
-use Rattle.cp_refs.specs.declared.call.Held.{Held}
+use Rattle.cp_refs.specs.declared.call.WaitingCall.{WaitingCall}
 use Rattle.cp_refs.specs.declared.route.Gate.{Gate}
 use Rattle.cp_refs.specs.declared.route.Gate.TheVariants as gates
 use Rattle.cp_refs.specs.declared.route.Route.{Route}
 use Rattle.cp_refs.specs.declared.route.Route.TheVariants as routes
 use Rattle.cp_vat_machine.specs.State.{State, gave}
-use Rattle.cp_vat_machine.specs.Calling.{Reference, on_wire, reference_of, mark_of}
+use Rattle.cp_vat_machine.specs.Calling.{Standing, on_wire, reference_of, mark_of}
 use Rattle.cp_vat_machine.specs.Run.{Moment, Run}
 use Rattle.cp_vat_machine.specs.Trace.{Turn, trace_of}
 use Rattle.cp_vat_machine.specs.Ports.{Name, answer_path, capability, Port, Called, calls_of, port_of, PortRoute, absences, is_there}
@@ -42,7 +42,7 @@ FitsMark s (Some None) gate = ⊥
 FitsMark s (Some (Some n)) gate = (gate ≡ gates.Embargo n) × (get s.waiting.over.embargoes n ≡ None)
 
 -- a reference that isn't open on the wire
-abbrev pub is_off_wire : Reference → Bool
+abbrev pub is_off_wire : Standing → Bool
 is_off_wire on_wire = false
 is_off_wire other = true
 
@@ -96,7 +96,7 @@ pub record OrderHolds (past : List Turn) (s : State) : Type 0 where
   pub lives : (ticket : ℕ) (port : Port) → port_of (calls_of past) ticket ≡ Some port → port.life ≤ absences port.name past
   -- each waiting call waits for its port, and those of one port wait at one embargo, if one does at an open one
   pub waits : (ticket : ℕ) → IfSome (get s.waiting.calls ticket) (λ call. WaitsFor past s ticket call.gate)
-  pub together : (ticket other : ℕ) (call held : Held) (n : ℕ) → get s.waiting.calls ticket ≡ Some call → get s.waiting.calls other ≡ Some held
+  pub together : (ticket other : ℕ) (call held : WaitingCall) (n : ℕ) → get s.waiting.calls ticket ≡ Some call → get s.waiting.calls other ≡ Some held
       → AreOfOne past ticket other → call.gate ≡ gates.Embargo n → get s.waiting.over.embargoes n ≡ None → held.gate ≡ gates.Embargo n
   -- each call that entered left or waits, and what left is ahead of what waits
   pub entered : AllByRecursion (LeftOrHeld past s) (calls_of past)

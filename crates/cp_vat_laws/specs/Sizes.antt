@@ -3,11 +3,11 @@ use Rattle.std.specs.Prelude.{◌≡◌, ℕ, true, false, List, [], ◌∷◌, 
 use Rattle.std.specs.FinMap.{get}
 use Rattle.cp_tables.specs.Table.{Table}
 use Rattle.cp_tables.specs.declared.counted.Counted.{Counted}
-use Rattle.cp_rpc.specs.Made.{message_made}
+use Rattle.cp_rpc.specs.Written.{message_written}
 use Rattle.cp_rpc.specs.declared.message.Message.{Message}
 use Rattle.cp_refs.specs.Values.{ValueMaps}
 use Rattle.cp_refs.specs.declared.cap.Cap.{Cap}
-use Rattle.cp_refs.specs.declared.call.Held.{Held}
+use Rattle.cp_refs.specs.declared.call.WaitingCall.{WaitingCall}
 use Rattle.cp_refs.specs.declared.call.Request.{Request}
 use Rattle.cp_refs.specs.declared.outcome.Outcome.{Outcome}
 use Rattle.cp_vat_machine.specs.State.{State, Over, new_state}
@@ -49,7 +49,7 @@ pub record OverFits (o : Over) : Type 0 where
   pub embargoes : AllOf CapFits o.embargoes
 
 -- So are exported capabilities, calls that wait, and what embargoes lead to.
-pub record AreKept (values : ValueMaps) (exports : Table (Counted Cap)) (calls : Table Held) (over : Over) (embargoes : Table Cap) : Type 0 where
+pub record AreKept (values : ValueMaps) (exports : Table (Counted Cap)) (calls : Table WaitingCall) (over : Over) (embargoes : Table Cap) : Type 0 where
   pub values_fit : ValuesFit values
   pub exports_fit : AllOf (λ entry. CapFits entry.kept) exports
   pub calls_fit : AllOf (λ call. RequestFits call.request) calls
@@ -62,7 +62,7 @@ Fits s = AreKept s.values s.counts.exports s.waiting.calls s.waiting.over s.mark
 
 -- a message can be written: its tree nests 64 deep at most, and costs 8,388,608 at most
 abbrev pub IsWritable : Message → Type 0
-IsWritable m = echo_fits (message_made m) ≡ true
+IsWritable m = echo_fits (message_written m) ≡ true
 
 abbrev pub IsWritten : Effect → Type 0
 IsWritten (effects.Send m) = IsWritable m

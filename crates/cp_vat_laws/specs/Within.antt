@@ -12,7 +12,7 @@ use Rattle.cp_tables.specs.declared.exchange.Stage.TheVariants as stages
 use Rattle.cp_refs.specs.Route.{HasRoute}
 use Rattle.cp_refs.specs.Values.{ValueMaps}
 use Rattle.cp_refs.specs.declared.cap.Cap.{Cap}
-use Rattle.cp_refs.specs.declared.call.Held.{Held}
+use Rattle.cp_refs.specs.declared.call.WaitingCall.{WaitingCall}
 use Rattle.cp_refs.specs.declared.call.Origin.{Origin}
 use Rattle.cp_refs.specs.declared.call.Origin.TheVariants as origins
 use Rattle.cp_refs.specs.declared.outcome.Outcome.{Outcome}
@@ -42,7 +42,7 @@ HasQuestionPlace s hand q entry =
     → one_if (is_in_hand hand (origins.Own q)) + waiting_of s (origins.Own q) + one_if entry.kept.is_delivered + one_if entry.kept.is_sent ≡ 1
 
 -- A waiting call is kept under its ticket, which is that of its origin, and was given before.
-abbrev pub WaitsFor : State → ℕ → Held → Type 0
+abbrev pub WaitsFor : State → ℕ → WaitingCall → Type 0
 WaitsFor s ticket call = (call.ticket ≡ ticket) × (ticket < s.next_ticket) × IsTicketOf s call.origin ticket
 
 -- Open promises are the application's, or tied to exactly one answer, or among those that are settled next.
@@ -59,7 +59,7 @@ pub record AreValues (P : Cap → Type 0) (values : ValueMaps) : Type 0 where
       → AllByRecursion P (caps_of outcome)
 
 -- and what waiting calls, embargoes and exports name
-pub record AreKept (P : Cap → Type 0) (values : ValueMaps) (calls : Table Held) (embargoes : Table Cap) (exports : Table (Counted Cap)) : Type 0 where
+pub record AreKept (P : Cap → Type 0) (values : ValueMaps) (calls : Table WaitingCall) (embargoes : Table Cap) (exports : Table (Counted Cap)) : Type 0 where
   pub values_ : AreValues P values
   pub calls_ : (ticket : ℕ) → IfSome (get calls ticket) (λ call. AllByRecursion P call.request.caps)
   pub embargoes_ : (n : ℕ) → IfSome (get embargoes n) P
@@ -83,7 +83,7 @@ IsUngivenIf s None gate = IsUngivenAt s gate
 IsUngivenIf s (Some cap) gate = Unit {0}
 
 -- a call that isn't at a path of this question, and whose table names none
-abbrev pub IsOff : ℕ → Held → Type 0
+abbrev pub IsOff : ℕ → WaitingCall → Type 0
 IsOff q call = (is_at_question q call.gate ≡ false) × (list_any (is_pipelined_of q) call.request.caps ≡ false)
 
 -- What holds of an open vat within an event, with the origin of the call in hand, if one is, and the promises that are settled next.

@@ -10,7 +10,7 @@ use Rattle.cp_tables.specs.declared.counted.Counted.{Counted}
 use Rattle.cp_tables.specs.declared.exchange.Exchange.{Exchange}
 use Rattle.cp_refs.specs.declared.cap.Cap.{Cap}
 use Rattle.cp_refs.specs.declared.cap.Cap.TheVariants as caps
-use Rattle.cp_refs.specs.declared.call.Held.{Held}
+use Rattle.cp_refs.specs.declared.call.WaitingCall.{WaitingCall}
 use Rattle.cp_refs.specs.declared.outcome.Outcome.{Outcome}
 use Rattle.cp_refs.specs.declared.values.Question.{Question}
 use Rattle.cp_vat_machine.specs.State.{new_state}
@@ -30,7 +30,7 @@ no_caps one =
       no_entries {X = Option Cap} nat_cmp,
       no_entries {X = Option Outcome} nat_cmp,
       no_entries {X = Question} nat_cmp,
-      no_entries {X = Held} nat_cmp,
+      no_entries {X = WaitingCall} nat_cmp,
       no_entries {X = Cap} nat_cmp,
       no_entries {X = Counted Cap} nat_cmp,
     ) refl
@@ -55,12 +55,12 @@ new_local one =
       none_over_ = refl;
       answers = λ a. rw (get-empty {X = Exchange AnswerEntry} nat_cmp a) tt;
       questions = λ q. rw (get-empty {X = Exchange QuestionEntry} nat_cmp q) tt;
-      waiting = λ ticket. rw (get-empty {X = Held} nat_cmp ticket) tt;
+      waiting = λ ticket. rw (get-empty {X = WaitingCall} nat_cmp ticket) tt;
       forwards = λ q. rw (get-empty {X = Exchange QuestionEntry} nat_cmp q) tt;
       wire = λ q. rw (get-empty {X = Exchange QuestionEntry} nat_cmp q) tt;
       forwarding = λ q. rw (get-empty {X = Exchange QuestionEntry} nat_cmp q) tt;
-      gates_kept = λ ticket. rw (get-empty {X = Held} nat_cmp ticket) tt;
-      sendable = λ ticket. rw (get-empty {X = Held} nat_cmp ticket) tt;
+      gates_kept = λ ticket. rw (get-empty {X = WaitingCall} nat_cmp ticket) tt;
+      sendable = λ ticket. rw (get-empty {X = WaitingCall} nat_cmp ticket) tt;
       tied = λ p. rw (no_tied one p, get-empty {X = Option Cap} nat_cmp p) refl;
       untied = λ a. rw (get-empty {X = Exchange AnswerEntry} nat_cmp a) tt;
       owned = λ p is. absurd (true≢false (sym is ∙ contains-empty nat_cmp p));

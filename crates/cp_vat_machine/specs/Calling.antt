@@ -36,26 +36,26 @@ use Rattle.cp_vat_machine.specs.declared.fault.VatFault.TheVariants as refusals
 
 -- What a call of the application names: an import or a question's path is a reference, which is open on the wire or came to something. Anything
 -- else is called as it is, also the path of an open local question.
-pub data Reference : Type 0 where
-  plain : Reference
-  on_wire : Reference
-  came_to : Cap → Reference
+pub data Standing : Type 0 where
+  plain : Standing
+  on_wire : Standing
+  came_to : Cap → Standing
 
-abbrev pub import_reference : Option (Option Cap) → Reference
+abbrev pub import_reference : Option (Option Cap) → Standing
 import_reference (Some None) = on_wire
 import_reference (Some (Some value)) = came_to value
 import_reference None = plain
 
-abbrev pub path_reference : List ℕ → QuestionKind → Option Outcome → Reference
+abbrev pub path_reference : List ℕ → QuestionKind → Option Outcome → Standing
 path_reference path kinds.Wire None = on_wire
 path_reference path kinds.Local None = plain
 path_reference path kind (Some outcome) = came_to (cap_at outcome path)
 
-abbrev pub question_reference : List ℕ → Option Question → Reference
+abbrev pub question_reference : List ℕ → Option Question → Standing
 question_reference path None = plain
 question_reference path (Some question) = path_reference path question.kind question.outcome
 
-abbrev pub reference_of : ValueMaps → Cap → Reference
+abbrev pub reference_of : ValueMaps → Cap → Standing
 reference_of values (caps.Import i) = import_reference (get values.imports i)
 reference_of values (caps.Pipelined q path) = question_reference path (get values.questions q)
 reference_of values other = plain
@@ -142,7 +142,7 @@ GoByValue old q request cap (caps.Promise p) out =
 GoByValue old q request cap value out = GoTo (called old q kinds.Local) (own_call old q request) value out
 
 -- The application's call. One on a reference that is open on the wire is sent, and marks it.
-abbrev pub GoFrom : State → ℕ → Request → Cap → Reference → Result Done PeerFault → Type 0
+abbrev pub GoFrom : State → ℕ → Request → Cap → Standing → Result Done PeerFault → Type 0
 GoFrom old q request cap plain out = GoTo (called old q kinds.Local) (own_call old q request) cap out
 GoFrom old q request cap on_wire out =
     Then (λ mid. mid ≡ marked (called old q kinds.Wire) cap (mark_of old cap)) (λ mid. GoTo mid (own_call old q request) cap) out

@@ -13,7 +13,7 @@ use Rattle.cp_rpc.specs.declared.target.Target.TheVariants as targets
 use Rattle.cp_rpc.specs.declared.message.Message.TheVariants as messages
 use Rattle.cp_refs.specs.Route.{Routes}
 use Rattle.cp_refs.specs.declared.cap.Cap.{Cap}
-use Rattle.cp_refs.specs.declared.call.Held.{Held}
+use Rattle.cp_refs.specs.declared.call.WaitingCall.{WaitingCall}
 use Rattle.cp_refs.specs.declared.call.Origin.{Origin}
 use Rattle.cp_refs.specs.declared.call.Origin.TheVariants as origins
 use Rattle.cp_refs.specs.declared.call.Request.{Request}
@@ -125,23 +125,23 @@ abbrev pub NoneOver : State → Type 0
 NoneOver s = (ticket : ℕ) → IfSome (get s.waiting.calls ticket) (λ call. gave s.waiting.over call.gate ≡ None)
 
 -- Of the calls whose gate has ended, this one has the lowest ticket, and its gate gave that capability.
-pub record IsNext (s : State) (call : Held) (cap : Cap) : Type 0 where
+pub record IsNext (s : State) (call : WaitingCall) (cap : Cap) : Type 0 where
   pub waits : get s.waiting.calls call.ticket ≡ Some call
   pub ended : gave s.waiting.over call.gate ≡ Some cap
-  pub lowest : (ticket : ℕ) (other : Held) (given : Cap) → get s.waiting.calls ticket ≡ Some other → gave s.waiting.over other.gate ≡ Some given → call.ticket ≤ ticket
+  pub lowest : (ticket : ℕ) (other : WaitingCall) (given : Cap) → get s.waiting.calls ticket ≡ Some other → gave s.waiting.over other.gate ≡ Some given → call.ticket ≤ ticket
 
 -- the call doesn't wait any more
-abbrev pub without_call : State → Held → State
+abbrev pub without_call : State → WaitingCall → State
 without_call s call = record s { waiting = record s.waiting { calls = remove s.waiting.calls call.ticket } }
 
-abbrev pub underway : Held → Underway
+abbrev pub underway : WaitingCall → Underway
 underway call = record { ticket = call.ticket; origin = call.origin; request = call.request }
 
 -- Waiting calls leave, each with its effects: no call's gate has ended, and the gates are forgotten; or of the calls whose gate has ended the one
 -- with the lowest ticket goes, by the route of what its gate gave, and they go on leaving; or that call finds a table full.
 pub data Leave : State → List Effect → Result State PeerFault → Type 0 where
   stays : {s : State} → NoneOver s → Leave s [] (Ok (with_over s none_over))
-  leaves : {old mid : State} {first rest all : List Effect} {last : Result State PeerFault} (call : Held) (cap : Cap) → IsNext old call cap
+  leaves : {old mid : State} {first rest all : List Effect} {last : Result State PeerFault} (call : WaitingCall) (cap : Cap) → IsNext old call cap
       → GoTo (without_call old call) (underway call) cap (Ok (first, mid)) → Leave mid rest last → all ≡ first ++ rest → Leave old all last
-  finds_table_full : {old : State} {fault : PeerFault} (call : Held) (cap : Cap) → IsNext old call cap
+  finds_table_full : {old : State} {fault : PeerFault} (call : WaitingCall) (cap : Cap) → IsNext old call cap
       → GoTo (without_call old call) (underway call) cap (Err fault) → Leave old [] (Err fault)

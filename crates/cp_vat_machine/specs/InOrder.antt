@@ -3,7 +3,7 @@
 use Rattle.std.specs.Prelude.{◌≡◌, ◌≢◌, ◌⊎◌, ℕ, ◌<◌, ◌==◌, Bool, true, List, [], ◌∷◌, Option, Some, IsSome, ⊤}
 use Rattle.std.specs.List.{AllByRecursion, list_any}
 use Rattle.std.specs.FinMap.{get}
-use Rattle.cp_refs.specs.declared.call.Held.{Held}
+use Rattle.cp_refs.specs.declared.call.WaitingCall.{WaitingCall}
 use Rattle.cp_refs.specs.declared.route.Gate.{Gate}
 use Rattle.cp_refs.specs.declared.route.Gate.TheVariants as gates
 use Rattle.cp_refs.specs.declared.route.Route.TheVariants as routes
@@ -41,7 +41,7 @@ ExitsByPorts past turn = AllByRecursion (GoesByItsPort (turn ∷ past)) (exits_i
 -- the call waits at an embargo that is open
 abbrev pub IsEmbargoed : State → ℕ → Type 0
 IsEmbargoed s ticket =
-    (call : Held) × (n : ℕ) × (get s.waiting.calls ticket ≡ Some call) × (call.gate ≡ gates.Embargo n) × IsSome (get s.marks.embargoes n)
+    (call : WaitingCall) × (n : ℕ) × (get s.waiting.calls ticket ≡ Some call) × (call.gate ≡ gates.Embargo n) × IsSome (get s.marks.embargoes n)
 
 abbrev pub has_left : List Exit → ℕ → Bool
 has_left exits ticket = list_any (λ exit. exit.ticket == ticket) exits

@@ -7,7 +7,7 @@ use Rattle.cp_tables.specs.declared.exchange.Stage.{Stage}
 use Rattle.cp_tables.specs.declared.exchange.Stage.TheVariants as stages
 use Rattle.cp_refs.specs.declared.cap.Cap.{Cap}
 use Rattle.cp_refs.specs.declared.cap.Cap.TheVariants as caps
-use Rattle.cp_refs.specs.declared.call.Held.{Held}
+use Rattle.cp_refs.specs.declared.call.WaitingCall.{WaitingCall}
 use Rattle.cp_refs.specs.declared.outcome.Outcome.{Outcome}
 use Rattle.cp_refs.specs.declared.outcome.Outcome.TheVariants as outcomes
 use Rattle.cp_refs.specs.declared.route.Gate.{Gate}
@@ -41,7 +41,7 @@ caps_given None = []
 caps_given (Some outcome) = caps_of outcome
 
 -- the calls that wait
-abbrev pub waiting_calls : State → List Held
+abbrev pub waiting_calls : State → List WaitingCall
 waiting_calls s = values s.waiting.calls
 
 -- The capabilities that are the value of a promise, are in a kept answer or in an unfinished question's results, or in a waiting call's table.

@@ -12,7 +12,7 @@ use Rattle.cp_refs.specs.At.{cap_at}
 use Rattle.cp_refs.specs.Route.{HasRoute}
 use Rattle.cp_refs.specs.declared.cap.Cap.{Cap}
 use Rattle.cp_refs.specs.declared.cap.Cap.TheVariants as caps
-use Rattle.cp_refs.specs.declared.call.Held.{Held}
+use Rattle.cp_refs.specs.declared.call.WaitingCall.{WaitingCall}
 use Rattle.cp_refs.specs.declared.call.Origin.{Origin}
 use Rattle.cp_refs.specs.declared.call.Origin.TheVariants as origins
 use Rattle.cp_refs.specs.declared.outcome.Outcome.{Outcome}
@@ -71,7 +71,7 @@ IsTicketOf s (origins.Own q) ticket =
     × (entry.kept.forwards ≡ None)
 
 -- A waiting call is kept under its ticket, which is that of its origin, and was given before.
-pub record IsWaiting (s : State) (ticket : ℕ) (call : Held) : Type 0 where
+pub record IsWaiting (s : State) (ticket : ℕ) (call : WaitingCall) : Type 0 where
   pub ticketed : call.ticket ≡ ticket
   pub given : ticket < s.next_ticket
   pub whose : IsTicketOf s call.origin ticket
@@ -207,7 +207,7 @@ abbrev pub AreMarkedOnce : State → Type 0
 AreMarkedOnce s = (cap other : Cap) (n : ℕ) → mark_of s cap ≡ Some (Some n) → mark_of s other ≡ Some (Some n) → cap ≡ other
 
 abbrev pub HasWaiting : State → ℕ → Type 0
-HasWaiting s n = (ticket : ℕ) × (call : Held) × (get s.waiting.calls ticket ≡ Some call) × (call.gate ≡ gates.Embargo n)
+HasWaiting s n = (ticket : ℕ) × (call : WaitingCall) × (get s.waiting.calls ticket ≡ Some call) × (call.gate ≡ gates.Embargo n)
 
 -- What holds of an open vat between events.
 pub record Local (s : State) : Type 0 where

@@ -21,7 +21,7 @@ use Rattle.cp_refs.specs.declared.route.Route.TheVariants as routes
 use Rattle.cp_vat_machine.specs.State.{State, gave}
 use Rattle.cp_vat_machine.specs.Take.{path_of}
 use Rattle.cp_vat_machine.specs.Supported.{is_supported}
-use Rattle.cp_vat_machine.specs.Calling.{Reference, plain, on_wire, came_to, reference_of}
+use Rattle.cp_vat_machine.specs.Calling.{Standing, plain, on_wire, came_to, reference_of}
 use Rattle.cp_vat_machine.specs.Trace.{Cause, own_part, Turn}
 use Rattle.cp_vat_machine.specs.declared.event.Event.{Event}
 use Rattle.cp_vat_machine.specs.declared.event.Event.TheVariants as events
@@ -114,7 +114,7 @@ AnswerRoute values a path (Some (Some outcome)) route = Routes values (cap_at ou
 
 -- The route of a capability that is called. An import or a question's path that came to something has the route of its value; while it is open on
 -- the wire, the route is to the peer, at that very target.
-abbrev pub ReferenceRoute : ValueMaps → Cap → Reference → Route → Type 0
+abbrev pub ReferenceRoute : ValueMaps → Cap → Standing → Route → Type 0
 ReferenceRoute values cap (came_to value) route = Routes values value route
 ReferenceRoute values cap on_wire route = Routes values cap route
 ReferenceRoute values cap plain route = Routes values cap route

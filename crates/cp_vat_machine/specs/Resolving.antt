@@ -4,8 +4,8 @@ use Rattle.std.specs.Prelude.{◌≡◌, ℕ, ◌==◌, not, true, false, Bool, 
 use Rattle.std.specs.FinMap.{get, insert, remove, retain_keys}
 use Rattle.cp_tree.specs.Node.{Node}
 use Rattle.cp_tables.specs.declared.counted.Counted.{Counted}
-use Rattle.cp_rpc.specs.Said.{message_said}
-use Rattle.cp_rpc.specs.Faulty.{message_faults}
+use Rattle.cp_rpc.specs.Denoted.{message_denoted}
+use Rattle.cp_rpc.specs.Faults.{message_faults}
 use Rattle.cp_rpc.specs.declared.fault.SchemaFault.{SchemaFault}
 use Rattle.cp_rpc.specs.declared.exception.Exception.{Exception}
 use Rattle.cp_rpc.specs.declared.small.Release.{Release}
@@ -135,7 +135,7 @@ told_by [] m = Some m
 told_by (fault ∷ more) m = None
 
 abbrev pub told : Node → Option Message
-told t = told_by (message_faults t) (message_said t)
+told t = told_by (message_faults t) (message_denoted t)
 
 -- A Resolve that the peer doesn't know gives back what it named. Any other message is one that this end needs.
 abbrev pub UnknownToPeer : State → Option Message → Result Done PeerFault → Type 0

@@ -12,7 +12,7 @@ use Rattle.cp_refs.specs.At.{cap_at}
 use Rattle.cp_refs.specs.Values.{ValueMaps}
 use Rattle.cp_refs.specs.declared.cap.Cap.{Cap}
 use Rattle.cp_refs.specs.declared.outcome.Outcome.{Outcome}
-use Rattle.cp_refs.specs.declared.call.Held.{Held}
+use Rattle.cp_refs.specs.declared.call.WaitingCall.{WaitingCall}
 use Rattle.cp_refs.specs.declared.route.Gate.{Gate}
 use Rattle.cp_refs.specs.declared.route.Gate.TheVariants as gates
 use Rattle.cp_vat_machine.specs.declared.entry.AnswerEntry.{AnswerEntry}
@@ -20,7 +20,7 @@ use Rattle.cp_vat_machine.specs.declared.entry.QuestionEntry.{QuestionEntry}
 use Rattle.cp_vat_machine.specs.declared.entry.ImportKind.{ImportKind}
 
 -- The entries of questions and answers, each until both its Return and its Finish went by, and the promises that the application made.
-pub record Entries : Type 0 where
+pub record Exchanges : Type 0 where
   pub questions : Table (Exchange QuestionEntry)
   pub answers : Table (Exchange AnswerEntry)
   pub own_promises : FinSet nat_cmp
@@ -39,7 +39,7 @@ pub record Over : Type 0 where
 
 -- The calls that wait, one set, by their tickets; and the gates that ended.
 pub record Waiting : Type 0 where
-  pub calls : Table Held
+  pub calls : Table WaitingCall
   pub over : Over
 
 -- The references that the application's calls were sent on before they came to something: an import by its number, a question's path by the
@@ -52,7 +52,7 @@ pub record Marks : Type 0 where
 -- The five parts, the object that a Bootstrap gives, the ticket of the next call, and whether the vat is closed.
 pub record State : Type 0 where
   pub values : ValueMaps
-  pub entries : Entries
+  pub entries : Exchanges
   pub counts : Counts
   pub waiting : Waiting
   pub marks : Marks

@@ -1,7 +1,7 @@
 -- The machine that a vat is. (rpc.capnp, levels 0 and 1.)
 use Rattle.std.specs.Prelude.{◌≡◌, not, leb, ◌&&◌, if◌then◌else◌, Bool, true, false, List, [], ◌∷◌, ◌++◌, Result, Ok, Err}
 use Rattle.cp_tree.specs.Node.{Node, depth, cost}
-use Rattle.cp_rpc.specs.Made.{message_made}
+use Rattle.cp_rpc.specs.Written.{message_written}
 use Rattle.cp_rpc.specs.declared.message.Message.{Message}
 use Rattle.cp_rpc.specs.declared.message.Message.TheVariants as messages
 use Rattle.cp_refs.specs.At.{failed}
@@ -47,7 +47,7 @@ echo_fits t = leb (depth t) 64 && leb (cost t) 8388608
 
 abbrev pub echoed : State → Message → Result Done PeerFault
 echoed s m =
-    if echo_fits (message_made (messages.Unimplemented (message_made m))) then Ok (effects.Send (messages.Unimplemented (message_made m)) ∷ [], s)
+    if echo_fits (message_written (messages.Unimplemented (message_written m))) then Ok (effects.Send (messages.Unimplemented (message_written m)) ∷ [], s)
     else Err faults.EchoTooLarge
 
 -- A message that isn't supported changes nothing. Of another one the sizes are looked at first.

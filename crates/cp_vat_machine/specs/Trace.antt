@@ -1,6 +1,6 @@
 -- A run, cut into turns. (rpc.capnp: "Call".)
 use Rattle.std.specs.Prelude.{ℕ, List, [], ◌∷◌, Result}
-use Rattle.cp_refs.specs.declared.call.Held.{Held}
+use Rattle.cp_refs.specs.declared.call.WaitingCall.{WaitingCall}
 use Rattle.cp_vat_machine.specs.State.{State, new_state, none_over, with_over}
 use Rattle.cp_vat_machine.specs.Go.{Leave, stays, leaves, finds_table_full}
 use Rattle.cp_vat_machine.specs.Step.{Follows, all_left, found_full, Step, did, received}
@@ -18,7 +18,7 @@ use Rattle.std.specs.Prelude.{Option}
 -- next event.
 pub data Cause : Type 0 where
   own_part : Event → Value → Cause
-  goes : Held → Cause
+  goes : WaitingCall → Cause
   rests : Cause
 
 -- a turn, with the states before and after it and its effects in order

@@ -2,7 +2,7 @@
 use Rattle.std.proofs.Common.{◌≡◌, ◌<◌, List, [], ◌++◌, None, Result, Ok, Err, refl, sym, ap, ◌∙◌, subst, append_assoc, append-nil}
 use Rattle.cp_refs.specs.Route.{HasRoute}
 use Rattle.cp_refs.specs.declared.cap.Cap.{Cap}
-use Rattle.cp_refs.specs.declared.call.Held.{Held}
+use Rattle.cp_refs.specs.declared.call.WaitingCall.{WaitingCall}
 use Rattle.std.specs.FinMap.{remove}
 use Rattle.cp_vat_laws.specs.Within.{Within}
 use Rattle.cp_vat_laws.proofs.within.Turns.{turns_left, turn_falls}
@@ -27,7 +27,7 @@ LeavesFrom start now done = (rest : List Effect) (out : Result State PeerFault) 
 
 module _ (start now : State) (done : List Effect) (goes_on : LeavesFrom start now done) where
   -- a call left
-  pub one_left : (call : Held) (cap : Cap) (first : List Effect) (mid : State) → IsNext now call cap → GoTo (without_call now call) (underway call) cap (Ok (first, mid)) → LeavesFrom start mid (done ++ first)
+  pub one_left : (call : WaitingCall) (cap : Cap) (first : List Effect) (mid : State) → IsNext now call cap → GoTo (without_call now call) (underway call) cap (Ok (first, mid)) → LeavesFrom start mid (done ++ first)
   one_left call cap first mid next went rest out more =
       subst (λ l. Leave start l out) (sym (append_assoc done first rest)) (goes_on (first ++ rest) out (leaves call cap next went more refl))
 
@@ -36,14 +36,14 @@ module _ (start now : State) (done : List Effect) (goes_on : LeavesFrom start no
   all_gone none = subst (λ l. Leave start l (Ok (with_over now none_over))) (append-nil done) (goes_on [] _ (stays none))
 
   -- a call found no room
-  pub no_room : (call : Held) (cap : Cap) (fault : PeerFault) → IsNext now call cap → GoTo (without_call now call) (underway call) cap (Err fault) → Leave start done (Err fault)
+  pub no_room : (call : WaitingCall) (cap : Cap) (fault : PeerFault) → IsNext now call cap → GoTo (without_call now call) (underway call) cap (Err fault) → Leave start done (Err fault)
   no_room call cap fault next went = subst (λ l. Leave start l (Err fault)) (append-nil done) (goes_on [] _ (finds_table_full call cap next went))
 
 -- the state with this queue
 abbrev pub with_queue : State → Queue → State
 with_queue s q = record s { waiting = q.waiting; next_ticket = q.next_ticket }
 
-is_next_of : (s : State) (call : Held) (cap : Cap) → IsNextIn s.waiting call cap → IsNext s call cap
+is_next_of : (s : State) (call : WaitingCall) (cap : Cap) → IsNextIn s.waiting call cap → IsNext s call cap
 is_next_of s call cap next = record { waits = next.waits; ended = next.ended; lowest = next.lowest }
 
 module _ (start now : State) (done : List Effect) (goes_on : LeavesFrom start now done) (q : Queue) where
@@ -51,7 +51,7 @@ module _ (start now : State) (done : List Effect) (goes_on : LeavesFrom start no
   pub leave_ends : NoneOverIn now.waiting → q ≡ queue.with_over (queue_of now) none_over → Leave start done (Ok (with_queue now q))
   leave_ends none is = subst (λ v. Leave start done (Ok (with_queue now v))) (sym is) (all_gone start now done goes_on none)
 
-  module _ (call : Held) (cap : Cap) (next : IsNextIn now.waiting call cap) (is : q ≡ queue.with_calls (queue_of now) (remove now.waiting.calls call.ticket)) where
+  module _ (call : WaitingCall) (cap : Cap) (next : IsNextIn now.waiting call cap) (is : q ≡ queue.with_calls (queue_of now) (remove now.waiting.calls call.ticket)) where
     is_now : with_queue now q ≡ without_call now call
     is_now = ap (with_queue now) is
 

@@ -12,7 +12,7 @@ use crate::entry::{note_delivered, note_mentions, note_sent};
 use crate::give::give;
 use crate::promised::promised_answer;
 use crate::say::{mentioned, say_all};
-use cp_refs::{Cap, Held, Origin, Outcome, Request, Route};
+use cp_refs::{Cap, Origin, Outcome, Request, Route, WaitingCall};
 use cp_rpc::{Call, CapTable, Finish, Message, Payload, SendResultsTo, Target};
 use cp_tables::{LIMIT, Stage};
 use cp_vat_machine::{Effect, Mentions, PeerFault, QuestionEntry};
@@ -62,7 +62,7 @@ pub fn go(
             go_out(core, call, Target::PromisedAnswer(answer), effects)
         }
         Route::Wait(gate) => Ok(
-            core.gates.hold(Held {
+            core.gates.hold(WaitingCall {
                 ticket: call.ticket,
                 origin: call.origin,
                 request: call.request,

@@ -7,14 +7,14 @@ use Rattle.std.specs.FinMap.{get, entries, values}
 use Rattle.cp_tables.specs.Table.{Table}
 use Rattle.cp_refs.specs.Values.{ValueMaps}
 use Rattle.cp_refs.specs.declared.cap.Cap.{Cap}
-use Rattle.cp_refs.specs.declared.call.Held.{Held}
+use Rattle.cp_refs.specs.declared.call.WaitingCall.{WaitingCall}
 use Rattle.cp_refs.specs.declared.route.Gate.{Gate}
 use Rattle.cp_refs.specs.declared.route.Gate.TheVariants as gates
 use Rattle.cp_refs.specs.declared.values.Question.{Question}
 use Rattle.cp_vat_machine.specs.InUse.{is_import, is_promise, is_at_promise, is_at_question, caps_given, value_unless}
 use Rattle.cp_vat_state.specs.Sought.{is_sought, is_named, named_by, awaited_at}
 use Rattle.cp_vat_state.specs.Counts.{number_of, times_in}
-use Rattle.cp_vat_state.specs.Held.{AreHeld, own_uses, AreHeldByCalls, AreLedTo}
+use Rattle.cp_vat_state.specs.Holding.{AreHeld, own_uses, AreHeldByCalls, AreLedTo}
 use Rattle.cp_vat_state.specs.declared.counted_calls.Uses.{Uses}
 use Rattle.cp_vat_state.specs.declared.sought.Sought.{Sought}
 use Rattle.cp_vat_state.specs.declared.sought.Sought.TheVariants as sought
@@ -73,11 +73,11 @@ is_value_of_another v kept imported i is =
 
 -- ---- calls
 -- it stands in a call's table
-pub is_in_table : (calls : Table Held) (uses : Uses) (s : Sought) → AreHeldByCalls calls uses → ltb 0 (number_of uses.named s) ≡ list_any (is_sought s) (flat_map (λ (call : Held). call.request.caps) (values calls))
-is_in_table calls uses s is = ap (λ n. ltb 0 n) (is.named s) ∙ sym (any_flat (is_sought s) (λ (call : Held). call.request.caps) (values calls))
+pub is_in_table : (calls : Table WaitingCall) (uses : Uses) (s : Sought) → AreHeldByCalls calls uses → ltb 0 (number_of uses.named s) ≡ list_any (is_sought s) (flat_map (λ (call : WaitingCall). call.request.caps) (values calls))
+is_in_table calls uses s is = ap (λ n. ltb 0 n) (is.named s) ∙ sym (any_flat (is_sought s) (λ (call : WaitingCall). call.request.caps) (values calls))
 
-waits_at : (calls : Table Held) (uses : Uses) (s : Sought) → AreHeldByCalls calls uses → ltb 0 (number_of uses.awaited s) ≡ list_any (λ (call : Held). is_named s (awaited_at call.gate)) (values calls)
-waits_at calls uses s is = ap (λ n. ltb 0 n) (is.awaited s) ∙ sym (any_counts (λ (call : Held). is_named s (awaited_at call.gate)) (values calls))
+waits_at : (calls : Table WaitingCall) (uses : Uses) (s : Sought) → AreHeldByCalls calls uses → ltb 0 (number_of uses.awaited s) ≡ list_any (λ (call : WaitingCall). is_named s (awaited_at call.gate)) (values calls)
+waits_at calls uses s is = ap (λ n. ltb 0 n) (is.awaited s) ∙ sym (any_counts (λ (call : WaitingCall). is_named s (awaited_at call.gate)) (values calls))
 
 promise_gate : (p : ℕ) (gate : Gate) → is_named (sought.Promise p) (awaited_at gate) ≡ is_at_promise p gate
 promise_gate p (gates.Answer a path) = refl
@@ -92,10 +92,10 @@ question_gate q (gates.Question p path) = refl
 question_gate q (gates.Embargo n) = refl
 
 -- calls wait at it
-pub waits_at_promise : (calls : Table Held) (uses : Uses) (p : ℕ) → AreHeldByCalls calls uses → ltb 0 (number_of uses.awaited (sought.Promise p)) ≡ list_any (λ (call : Held). is_at_promise p call.gate) (values calls)
+pub waits_at_promise : (calls : Table WaitingCall) (uses : Uses) (p : ℕ) → AreHeldByCalls calls uses → ltb 0 (number_of uses.awaited (sought.Promise p)) ≡ list_any (λ (call : WaitingCall). is_at_promise p call.gate) (values calls)
 waits_at_promise calls uses p is = waits_at calls uses (sought.Promise p) is ∙ ap (λ f. list_any f (values calls)) (λ i call. promise_gate p call.gate i)
 
-pub waits_at_question : (calls : Table Held) (uses : Uses) (q : ℕ) → AreHeldByCalls calls uses → ltb 0 (number_of uses.awaited (sought.PathOf q)) ≡ list_any (λ (call : Held). is_at_question q call.gate) (values calls)
+pub waits_at_question : (calls : Table WaitingCall) (uses : Uses) (q : ℕ) → AreHeldByCalls calls uses → ltb 0 (number_of uses.awaited (sought.PathOf q)) ≡ list_any (λ (call : WaitingCall). is_at_question q call.gate) (values calls)
 waits_at_question calls uses q is = waits_at calls uses (sought.PathOf q) is ∙ ap (λ f. list_any f (values calls)) (λ i call. question_gate q call.gate i)
 
 -- ---- embargoes

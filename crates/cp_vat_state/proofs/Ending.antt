@@ -12,7 +12,7 @@ use Rattle.cp_refs.specs.At.{cap_at}
 use Rattle.cp_refs.specs.Waiting.{Waits, is_same_gate, waits_at, Ends, Leaves}
 use Rattle.cp_refs.specs.declared.cap.Cap.{Cap}
 use Rattle.cp_refs.specs.declared.outcome.Outcome.{Outcome}
-use Rattle.cp_refs.specs.declared.call.Held.{Held}
+use Rattle.cp_refs.specs.declared.call.WaitingCall.{WaitingCall}
 use Rattle.cp_refs.specs.declared.route.Gate.{Gate}
 use Rattle.cp_refs.specs.declared.route.Gate.TheVariants as gates
 use Rattle.cp_vat_machine.specs.State.{Over, gave, none_over}
@@ -91,7 +91,7 @@ gift-more over (gifts.Promise p value) g = promises-more over p value g
 gift-more over (gifts.Question q outcome) g = questions-more over q outcome [] g
 gift-more over (gifts.Embargo n cap) g = embargoes-more over n cap g
 
-ended_more : (over new : Over) (gate : Gate) → ((g : Gate) → is_some (gave new g) ≡ (is_some (gave over g) || is_same_gate gate g)) → (o : Option Held) → ended_at new o ≡ (ended_at over o || waits_at gate o)
+ended_more : (over new : Over) (gate : Gate) → ((g : Gate) → is_some (gave new g) ≡ (is_some (gave over g) || is_same_gate gate g)) → (o : Option WaitingCall) → ended_at new o ≡ (ended_at over o || waits_at gate o)
 ended_more over new gate more None = refl
 ended_more over new gate more (Some call) = more call.gate
 
@@ -101,7 +101,7 @@ over-more waits later over new gate ends are more ticket =
     ends.ended ticket ∙ ap (λ b. b || waits_at gate (get waits.calls ticket)) (are ticket)
     ∙ sym (ended_more over new gate more (get waits.calls ticket)) ∙ ap (λ calls. ended_at new (get calls ticket)) (sym ends.calls)
 
-none_ended : (o : Option Held) → ended_at none_over o ≡ false
+none_ended : (o : Option WaitingCall) → ended_at none_over o ≡ false
 none_ended None = refl
 none_ended (Some call) = none_given call.gate
   where
@@ -125,7 +125,7 @@ none_over_in waits over are none ticket =
     every _ (get waits.calls ticket) (λ call there.
     is_none _ (ap (ended_at over) (sym there) ∙ sym (are ticket) ∙ ap (λ s. set.contains s ticket) none ∙ set.contains-empty nat_cmp ticket))
 
-ended_none : (over : Over) (o : Option Held) → IfSome o (λ call. gave over call.gate ≡ None) → ended_at over o ≡ false
+ended_none : (over : Over) (o : Option WaitingCall) → IfSome o (λ call. gave over call.gate ≡ None) → ended_at over o ≡ false
 ended_none over None h = refl
 ended_none over (Some call) h = ap is_some h
 
@@ -143,7 +143,7 @@ eq_by_not : (q k : ℕ) → q ≢ k → eq_by_cmp nat_cmp q k ≡ false
 eq_by_not q k h = grind (arith, nat_tests)
 
 -- a call leaves
-pub over-left : (waits later : Waits) (over : Over) (call : Held) → Leaves waits call later → AreOver waits over → AreOver later over
+pub over-left : (waits later : Waits) (over : Over) (call : WaitingCall) → Leaves waits call later → AreOver waits over → AreOver later over
 over-left waits later over call left are ticket =
     ap (λ w. set.contains w.ended ticket) left.rest ∙ at (cases_eq ticket call.ticket) ∙ ap (λ w. ended_at over (get w.calls ticket)) (sym left.rest)
   where
@@ -160,11 +160,11 @@ some_of None h = absurd (true≢false (sym h))
 some_of (Some x) h = (x, refl)
 
 -- its gate gave something
-pub was_given : (waits later : Waits) (over : Over) (call : Held) → Leaves waits call later → AreOver waits over → (cap : Cap) × (gave over call.gate ≡ Some cap)
+pub was_given : (waits later : Waits) (over : Over) (call : WaitingCall) → Leaves waits call later → AreOver waits over → (cap : Cap) × (gave over call.gate ≡ Some cap)
 was_given waits later over call left are = some_of _ (ap (ended_at over) (sym left.waited) ∙ sym (are call.ticket) ∙ left.was_ended)
 
 -- the call that leaves is the next
-pub is_next : (waits later : Waits) (over : Over) (call : Held) (cap : Cap) → Leaves waits call later → AreOver waits over → Some cap ≡ gave over call.gate → IsNextIn (record { calls = waits.calls; over = over }) call cap
+pub is_next : (waits later : Waits) (over : Over) (call : WaitingCall) (cap : Cap) → Leaves waits call later → AreOver waits over → Some cap ≡ gave over call.gate → IsNextIn (record { calls = waits.calls; over = over }) call cap
 is_next waits later over call cap left are gives =
     record {
       waits = left.waited;
@@ -173,7 +173,7 @@ is_next waits later over call cap left are gives =
     }
 
 -- a call is held whose gate hasn't ended
-pub over-held : (waits : Waits) (over : Over) (call : Held) → AreOver waits over → get waits.calls call.ticket ≡ None → is_some (gave over call.gate) ≡ false → AreOver (record waits { calls = insert waits.calls call.ticket call }) over
+pub over-held : (waits : Waits) (over : Over) (call : WaitingCall) → AreOver waits over → get waits.calls call.ticket ≡ None → is_some (gave over call.gate) ≡ false → AreOver (record waits { calls = insert waits.calls call.ticket call }) over
 over-held waits over call are free not_over ticket =
     elim (cases_eq ticket call.ticket) [
       | inl same ↦ are ticket ∙ ap (ended_at over) (ap (λ k. get waits.calls k) same ∙ free) ∙ sym (ap (ended_at over) (ap (λ k. get (insert waits.calls call.ticket call) k) same ∙ get-insert_same waits.calls call.ticket call) ∙ not_over)
@@ -255,12 +255,12 @@ over_again over (gates.Embargo a) (gates.Embargo b) is =
       | inr other ↦ ap (λ w. is_some (gave over (gates.Embargo b)) || w) (eq_other a b other) ∙ or_false _
     ]
 
-ended_again : (over : Over) (gate : Gate) → is_some (gave over gate) ≡ true → (o : Option Held) → (ended_at over o || waits_at gate o) ≡ ended_at over o
+ended_again : (over : Over) (gate : Gate) → is_some (gave over gate) ≡ true → (o : Option WaitingCall) → (ended_at over o || waits_at gate o) ≡ ended_at over o
 ended_again over gate is None = refl
 ended_again over gate is (Some call) = over_again over gate call.gate is
 
 -- a call is held whose gate has ended
-pub over-held_over : (waits later last : Waits) (over : Over) (call : Held) (gate : Gate) → AreOver waits over → get waits.calls call.ticket ≡ None → later ≡ record waits { calls = insert waits.calls call.ticket call } → same_key gate call.gate → is_some (gave over gate) ≡ true → Ends later gate last → AreOver last over
+pub over-held_over : (waits later last : Waits) (over : Over) (call : WaitingCall) (gate : Gate) → AreOver waits over → get waits.calls call.ticket ≡ None → later ≡ record waits { calls = insert waits.calls call.ticket call } → same_key gate call.gate → is_some (gave over gate) ≡ true → Ends later gate last → AreOver last over
 over-held_over waits later last over call gate are free is_later same is ends ticket =
     ends.ended ticket ∙ ap (λ w. set.contains w.ended ticket || waits_at gate (get w.calls ticket)) is_later ∙ at (cases_eq ticket call.ticket)
     ∙ sym (ap (λ calls. ended_at over (get calls ticket)) (ends.calls ∙ ap (λ w. w.calls) is_later))
@@ -276,7 +276,7 @@ over-held_over waits later last over call gate are free is_later same is ends ti
         ∙ ended_again over gate is (get waits.calls ticket) ∙ sym (ap (ended_at over) there)
 
 -- a call is held whose gate hasn't ended, which was looked up at another path
-pub over-held_at : (waits later : Waits) (over : Over) (call : Held) (gate : Gate) → AreOver waits over → get waits.calls call.ticket ≡ None → later ≡ record waits { calls = insert waits.calls call.ticket call } → same_key gate call.gate → is_some (gave over gate) ≡ false → AreOver later over
+pub over-held_at : (waits later : Waits) (over : Over) (call : WaitingCall) (gate : Gate) → AreOver waits over → get waits.calls call.ticket ≡ None → later ≡ record waits { calls = insert waits.calls call.ticket call } → same_key gate call.gate → is_some (gave over gate) ≡ false → AreOver later over
 over-held_at waits later over call gate are free is_later same is = rw is_later (over-held waits over call are free (sym (same_over over gate call.gate same) ∙ is))
 
 -- a gate without its path is the same gate
@@ -292,7 +292,7 @@ pub below-new : (next : ℕ) → AreBelow empty next
 below-new next ticket = rw (get-empty nat_cmp ticket) tt
 
 -- a call with one is held
-pub below-held : (calls : Table Held) (next : ℕ) (call : Held) → AreBelow calls next → call.ticket < next → AreBelow (insert calls call.ticket call) next
+pub below-held : (calls : Table WaitingCall) (next : ℕ) (call : WaitingCall) → AreBelow calls next → call.ticket < next → AreBelow (insert calls call.ticket call) next
 below-held calls next call below given ticket =
     elim (cases_eq ticket call.ticket) [
       | inl same ↦ rw (same, get-insert_same calls call.ticket call) given
@@ -300,7 +300,7 @@ below-held calls next call below given ticket =
     ]
 
 -- a call leaves
-pub below-left : (calls : Table Held) (next ticket : ℕ) → AreBelow calls next → AreBelow (remove calls ticket) next
+pub below-left : (calls : Table WaitingCall) (next ticket : ℕ) → AreBelow calls next → AreBelow (remove calls ticket) next
 below-left calls next ticket below other =
     elim (cases_eq other ticket) [
       | inl same ↦ rw (same, get-remove_same calls ticket) tt
@@ -308,7 +308,7 @@ below-left calls next ticket below other =
     ]
 
 -- a ticket that no call has is taken back
-pub below-back : (calls : Table Held) (next : ℕ) → AreBelow calls next → 0 < next → get calls (next - 1) ≡ None → AreBelow calls (next - 1)
+pub below-back : (calls : Table WaitingCall) (next : ℕ) → AreBelow calls next → 0 < next → get calls (next - 1) ≡ None → AreBelow calls (next - 1)
 below-back calls next below some free ticket = every _ (get calls ticket) (λ call there.
     let given = if_some (λ _. ticket < next) (get calls ticket) call there (below ticket) in
     let other : ticket ≢ next - 1 = λ same. not_some call (sym free ∙ ap (get calls) (sym same) ∙ there) in

@@ -4,13 +4,13 @@ use Rattle.std.specs.Option.{option_flatten}
 use Rattle.std.specs.FinMap.{get, insert, remove, empty}
 use Rattle.cp_refs.specs.Values.{ValueMaps}
 use Rattle.cp_refs.specs.declared.cap.Cap.{Cap}
-use Rattle.cp_refs.specs.declared.call.Held.{Held}
+use Rattle.cp_refs.specs.declared.call.WaitingCall.{WaitingCall}
 use Rattle.cp_refs.specs.declared.outcome.Outcome.{Outcome}
 use Rattle.cp_refs.specs.declared.values.Question.{Question}
 use Rattle.cp_vat_machine.specs.InUse.{caps_given}
 use Rattle.cp_vat_state.specs.Sought.{question_caps, named_by, awaited_at}
 use Rattle.cp_vat_state.specs.Counts.{number_of, times_named, times_in, IsMore, IsLess, IsSame}
-use Rattle.cp_vat_state.specs.Held.{AreHeld, AreHeldByCalls, IsMoreBy, IsLessBy, AreLedTo}
+use Rattle.cp_vat_state.specs.Holding.{AreHeld, AreHeldByCalls, IsMoreBy, IsLessBy, AreLedTo}
 use Rattle.cp_vat_state.specs.declared.counted_calls.Uses.{Uses}
 use Rattle.cp_tables.specs.Table.{Table}
 use Rattle.cp_vat_state.specs.declared.sought.Sought.{Sought}
@@ -134,19 +134,19 @@ module _ (v : ValueMaps) (kept imported h2 : Holders) (went : List Cap) (is : Ar
 pub none_by_calls : (named awaited : Holders) → ((s : Sought) → number_of named s ≡ 0) → ((s : Sought) → number_of awaited s ≡ 0) → AreHeldByCalls empty (record { named = named; awaited = awaited })
 none_by_calls named awaited none none_awaited =
     record {
-      named = λ s. none s ∙ sym (held-empty (λ (call : Held). times_in call.request.caps s));
-      awaited = λ s. none_awaited s ∙ sym (held-empty (λ (call : Held). times_named (awaited_at call.gate) s));
+      named = λ s. none s ∙ sym (held-empty (λ (call : WaitingCall). times_in call.request.caps s));
+      awaited = λ s. none_awaited s ∙ sym (held-empty (λ (call : WaitingCall). times_named (awaited_at call.gate) s));
     }
 
-module _ (calls : Table Held) (old new : Uses) (ticket : ℕ) (call : Held) (is : AreHeldByCalls calls old) where
+module _ (calls : Table WaitingCall) (old new : Uses) (ticket : ℕ) (call : WaitingCall) (is : AreHeldByCalls calls old) where
   pub held-call : get calls ticket ≡ None → IsMoreBy old new call → AreHeldByCalls (insert calls ticket call) new
   held-call free more =
       record {
         named =
-            λ s. let times = λ (c : Held). times_in c.request.caps s in
+            λ s. let times = λ (c : WaitingCall). times_in c.request.caps s in
             omega (arith, is.named s, more.named s, held-insert times calls ticket call, ap (of_entry times) free);
         awaited =
-            λ s. let times = λ (c : Held). times_named (awaited_at c.gate) s in
+            λ s. let times = λ (c : WaitingCall). times_named (awaited_at c.gate) s in
             omega (arith, is.awaited s, more.awaited s, held-insert times calls ticket call, ap (of_entry times) free);
       }
 
@@ -154,10 +154,10 @@ module _ (calls : Table Held) (old new : Uses) (ticket : ℕ) (call : Held) (is 
   held-left there less =
       record {
         named =
-            λ s. let times = λ (c : Held). times_in c.request.caps s in
+            λ s. let times = λ (c : WaitingCall). times_in c.request.caps s in
             omega (arith, is.named s, less.named s, held-remove times calls ticket, ap (of_entry times) there);
         awaited =
-            λ s. let times = λ (c : Held). times_named (awaited_at c.gate) s in
+            λ s. let times = λ (c : WaitingCall). times_named (awaited_at c.gate) s in
             omega (arith, is.awaited s, less.awaited s, held-remove times calls ticket, ap (of_entry times) there);
       }
 

@@ -21,8 +21,8 @@ use Rattle.cp_vat_state.proofs.Fields.{tied as path_tied}
 use Rattle.cp_vat_state.specs.Paths.{Marked}
 use Rattle.cp_vat_state.specs.Under.{unmarked}
 use Rattle.cp_vat_state.specs.Marking.{AreUnder, with_marks}
-use Rattle.cp_vat_state.specs.declared.marks.Reference.{Reference}
-use Rattle.cp_vat_state.specs.declared.marks.Reference.TheVariants as references
+use Rattle.cp_vat_state.specs.declared.marks.MarkKey.{MarkKey}
+use Rattle.cp_vat_state.specs.declared.marks.MarkKey.TheVariants as references
 
 same_number : (m n : ℕ) → (m == n) ≡ true → m ≡ n
 same_number m n t = grind (arith, nat_tests)
@@ -88,19 +88,19 @@ abbrev number_in : Option (Option ℕ) → ℕ
 number_in (Some (Some n)) = n
 number_in other = 0
 
-abbrev reference_to : List ℕ → Reference
+abbrev reference_to : List ℕ → MarkKey
 reference_to [] = references.Import 0
 reference_to (q ∷ p) = references.Path q p
 
-abbrev import_in : Option Reference → ℕ
+abbrev import_in : Option MarkKey → ℕ
 import_in (Some (references.Import i)) = i
 import_in other = 0
 
-abbrev key_in : Option Reference → List ℕ
+abbrev key_in : Option MarkKey → List ℕ
 key_in (Some (references.Path q p)) = q ∷ p
 key_in other = []
 
-abbrev is_import_in : Option Reference → Bool
+abbrev is_import_in : Option MarkKey → Bool
 is_import_in (Some (references.Path q p)) = false
 is_import_in other = true
 
@@ -136,7 +136,7 @@ under-empty =
       open_led = λ n h. get-empty nat_cmp n;
     }
 
-module _ (imports : Table (Option ℕ)) (paths : Marked) (embargoes : Table Cap) (back : Table Reference) (are : AreUnder imports paths embargoes back) where
+module _ (imports : Table (Option ℕ)) (paths : Marked) (embargoes : Table Cap) (back : Table MarkKey) (are : AreUnder imports paths embargoes back) where
   -- an embargo that leads back to an import
   pub import-alone : (n i : ℕ) → get back n ≡ Some (references.Import i) → (q : ℕ) → is_under n (get imports q) ≡ true → q ≡ i
   import-alone n i is q under = ap (λ o. import_in o) (sym (are.imports_led q n (under-is n (get imports q) under)) ∙ is)
@@ -244,10 +244,10 @@ module _ (imports : Table (Option ℕ)) (paths : Marked) (embargoes : Table Cap)
 
   module _ (n : ℕ) (value : Cap) (free : get embargoes n ≡ None) where
     -- what leads back otherwise than the new embargo leads back as before
-    led_before : (m : ℕ) (r s : Reference) → get back m ≡ Some r → get (insert back n s) m ≡ Some r
+    led_before : (m : ℕ) (r s : MarkKey) → get back m ≡ Some r → get (insert back n s) m ≡ Some r
     led_before m r s is = get-insert_other back n m s (λ same. no_mark _ r (are.open_led n free) (ap (λ k. get back k) (sym same) ∙ is)) ∙ is
 
-    opened : (s : Reference) (m : ℕ) → get (insert embargoes n value) m ≡ None → get (insert back n s) m ≡ None
+    opened : (s : MarkKey) (m : ℕ) → get (insert embargoes n value) m ≡ None → get (insert back n s) m ≡ None
     opened s m h =
         elim (cases_eq m n) [
           | inl same ↦ absurd (no_mark _ value h (ap (λ k. get (insert embargoes n value) k) same ∙ get-insert_same embargoes n value))

@@ -10,5 +10,5 @@ pub mod Marking
 pub mod MarksCode
 pub mod Sought
 pub mod Counts
-pub mod Held
+pub mod Holding
 pub mod StateOf

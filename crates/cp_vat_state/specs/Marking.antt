@@ -7,8 +7,8 @@ use Rattle.cp_refs.specs.declared.cap.Cap.TheVariants as caps
 use Rattle.cp_vat_machine.specs.State.{State, Marks}
 use Rattle.cp_vat_machine.specs.Resolving.{is_under}
 use Rattle.cp_vat_state.specs.Paths.{Marked}
-use Rattle.cp_vat_state.specs.declared.marks.Reference.{Reference}
-use Rattle.cp_vat_state.specs.declared.marks.Reference.TheVariants as references
+use Rattle.cp_vat_state.specs.declared.marks.MarkKey.{MarkKey}
+use Rattle.cp_vat_state.specs.declared.marks.MarkKey.TheVariants as references
 
 -- the state with other marks
 abbrev pub with_marks : State → Marks → State
@@ -34,7 +34,7 @@ without_embargo marks n =
     }
 
 -- Each mark that is under an embargo is the one to which the embargo leads back, and only an open embargo leads back to one.
-pub record AreUnder (imports : Table (Option ℕ)) (paths : Marked) (embargoes : Table Cap) (led_back : Table Reference) : Type 0 where
+pub record AreUnder (imports : Table (Option ℕ)) (paths : Marked) (embargoes : Table Cap) (led_back : Table MarkKey) : Type 0 where
   pub imports_led : (i : ℕ) (n : ℕ) → get imports i ≡ Some (Some n) → get led_back n ≡ Some (references.Import i)
   pub paths_led : (q : ℕ) (p : List ℕ) (n : ℕ) → get paths (q ∷ p) ≡ Some (Some n) → get led_back n ≡ Some (references.Path q p)
   pub paths_named : get paths [] ≡ None

@@ -5,7 +5,7 @@ use Rattle.std.specs.FinSet.{contains}
 use Rattle.cp_tables.specs.Table.{Table}
 use Rattle.cp_refs.specs.Waiting.{Waits}
 use Rattle.cp_refs.specs.declared.cap.Cap.{Cap}
-use Rattle.cp_refs.specs.declared.call.Held.{Held}
+use Rattle.cp_refs.specs.declared.call.WaitingCall.{WaitingCall}
 use Rattle.cp_refs.specs.declared.route.Gate.{Gate}
 use Rattle.cp_refs.specs.declared.route.Gate.TheVariants as gates
 use Rattle.cp_vat_machine.specs.State.{Over, Waiting, gave}
@@ -38,7 +38,7 @@ over_with over (gifts.Question q outcome) = record over { questions = insert ove
 over_with over (gifts.Embargo n cap) = record over { embargoes = insert over.embargoes n cap }
 
 -- there is a call, and its gate ended
-abbrev pub ended_at : Over → Option Held → Bool
+abbrev pub ended_at : Over → Option WaitingCall → Bool
 ended_at over None = false
 ended_at over (Some call) = is_some (gave over call.gate)
 
@@ -47,7 +47,7 @@ abbrev pub AreOver : Waits → Over → Type 0
 AreOver waits over = (ticket : ℕ) → contains waits.ended ticket ≡ ended_at over (get waits.calls ticket)
 
 -- each call that waits has a ticket that was given
-abbrev pub AreBelow : Table Held → ℕ → Type 0
+abbrev pub AreBelow : Table WaitingCall → ℕ → Type 0
 AreBelow calls next_ticket = (ticket : ℕ) → IfSome (get calls ticket) (λ call. ticket < next_ticket)
 
 -- The calls have tickets that were given, and those that may leave are those whose gate gave something, unless a change was torn.
@@ -60,7 +60,7 @@ abbrev pub NoneOverIn : Waiting → Type 0
 NoneOverIn w = (ticket : ℕ) → IfSome (get w.calls ticket) (λ call. gave w.over call.gate ≡ None)
 
 -- of the calls whose gate has ended, this one has the lowest ticket, and its gate gave that capability
-pub record IsNextIn (w : Waiting) (call : Held) (cap : Cap) : Type 0 where
+pub record IsNextIn (w : Waiting) (call : WaitingCall) (cap : Cap) : Type 0 where
   pub waits : get w.calls call.ticket ≡ Some call
   pub ended : gave w.over call.gate ≡ Some cap
-  pub lowest : (ticket : ℕ) (other : Held) (given : Cap) → get w.calls ticket ≡ Some other → gave w.over other.gate ≡ Some given → call.ticket ≤ ticket
+  pub lowest : (ticket : ℕ) (other : WaitingCall) (given : Cap) → get w.calls ticket ≡ Some other → gave w.over other.gate ≡ Some given → call.ticket ≤ ticket

@@ -7,8 +7,8 @@ use Rattle.cp_refs.specs.declared.cap.Cap.{Cap}
 use Rattle.cp_refs.specs.contracts.cap.Cap as cap
 use Rattle.cp_refs.specs.declared.outcome.Outcome.{Outcome}
 use Rattle.cp_refs.specs.contracts.outcome.Outcome as outcome
-use Rattle.cp_refs.specs.declared.call.Held.{Held}
-use Rattle.cp_refs.specs.contracts.call.Held as held
+use Rattle.cp_refs.specs.declared.call.WaitingCall.{WaitingCall}
+use Rattle.cp_refs.specs.contracts.call.WaitingCall as held
 use Rattle.cp_vat_machine.specs.State.{Over, Waiting}
 use Rattle.cp_vat_state.specs.declared.gates.Next.{Next}
 
@@ -18,7 +18,7 @@ pub record Queue : Type 0 where
   pub next_ticket : ℕ
 
 -- the queue with other calls, or with other gates that ended
-abbrev pub with_calls : Queue → Table Held → Queue
+abbrev pub with_calls : Queue → Table WaitingCall → Queue
 with_calls q calls = record q { waiting = record q.waiting { calls = calls } }
 
 abbrev pub with_over : Queue → Over → Queue
@@ -44,7 +44,7 @@ over_code =
 abbrev pub queue_code : Coded Queue
 queue_code =
     code_by
-    (Table Held × (Over × ℕ))
+    (Table WaitingCall × (Over × ℕ))
     (coded× (table_code held.the_row.coded) (coded× over_code coded_ℕ))
     (λ q. (q.waiting.calls, (q.waiting.over, q.next_ticket)))
     (λ parts. record { waiting = record { calls = parts.0; over = parts.1.0 }; next_ticket = parts.1.1 })

@@ -5,11 +5,11 @@ ghost use Rattle.std.specs.List.{flat_map, list_any};
 ghost use Rattle.std.specs.FinMap as map;
 ghost use Rattle.cp_vat_machine.specs.InUse.{is_at_promise, is_at_question};
 ghost use Rattle.cp_vat_state.specs.Sought.{is_sought};
-ghost use Rattle.cp_vat_state.specs.Held.{AreHeldByCalls, IsMoreBy, IsLessBy, IsSameUses};
+ghost use Rattle.cp_vat_state.specs.Holding.{AreHeldByCalls, IsMoreBy, IsLessBy, IsSameUses};
 
 use crate::holders::Holders;
 use crate::sought::Sought;
-use cp_refs::{Gate, Held, PromiseId, Waiting};
+use cp_refs::{Gate, PromiseId, Waiting, WaitingCall};
 use std::alloc::{AllocError, Global};
 use std::collections::btree_map::Iter;
 use std::marker::Model;
@@ -24,7 +24,7 @@ pub(crate) struct CountedCalls {
 
 impl Model for CountedCalls {
     ghost use Rattle.cp_refs.specs.Waiting.{Waits, waits_code};
-    ghost use Rattle.cp_vat_state.specs.Held.{AreHeldByCalls};
+    ghost use Rattle.cp_vat_state.specs.Holding.{AreHeldByCalls};
 
     ghost Value = { Waits };
 
@@ -51,14 +51,14 @@ impl CountedCalls {
     }
 
     /// The call with this ticket.
-    pub(crate) fn get(&self, ticket: u64) -> Option<&Held>
+    pub(crate) fn get(&self, ticket: u64) -> Option<&WaitingCall>
         ensures { option_copied result ≡ map.get self.now.calls ticket }
     {
         self.calls.get(ticket)
     }
 
     /// The calls with their tickets, rising.
-    pub(crate) fn calls(&self) -> Iter<'_, u64, Held>
+    pub(crate) fn calls(&self) -> Iter<'_, u64, WaitingCall>
         ensures { result ≡ map.entries self.now.calls }
     {
         self.calls.calls()
@@ -86,7 +86,7 @@ impl CountedCalls {
     }
 
     /// Takes in a call, whose ticket no other one has.
-    pub(crate) fn hold(&mut self, held: Held) -> Result<(), AllocError>
+    pub(crate) fn hold(&mut self, held: WaitingCall) -> Result<(), AllocError>
         requires { map.get self.old.calls held.ticket ≡ None }
         ensures held { OnOk result (self.new ≡ record self.old { calls = map.insert self.old.calls held.ticket held }) }
         ensures err { OnErr result (self.new ≡ self.old) }
@@ -109,7 +109,7 @@ impl CountedCalls {
 
     /// Takes out, of the calls whose gate was ended, the one with the lowest ticket. `None` says that
     /// there is none of them.
-    pub(crate) fn next(&mut self) -> Option<Held>
+    pub(crate) fn next(&mut self) -> Option<WaitingCall>
         ensures left { IfSome result (λ call. Leaves self.old call self.new) }
         ensures none { IfNone result ((self.old.ended ≡ set.empty) × (self.new ≡ self.old)) }
     {
@@ -137,7 +137,7 @@ impl Uses {
     }
 
     /// Counts what a call holds once more, or nothing where an allocation fails.
-    fn raise(&mut self, held: &Held) -> Result<(), AllocError>
+    fn raise(&mut self, held: &WaitingCall) -> Result<(), AllocError>
         ensures raised { OnOk result (IsMoreBy self.old self.new held.now) }
         ensures err { OnErr result (IsSameUses self.old self.new) }
     {
@@ -151,7 +151,7 @@ impl Uses {
     }
 
     /// Counts what a call holds once less.
-    fn lower(&mut self, held: &Held)
+    fn lower(&mut self, held: &WaitingCall)
         ensures { IsLessBy self.old self.new held.now }
     {
         self.named.lower_all(held.request.caps.caps());

@@ -26,7 +26,7 @@ impl Model for CountedEmbargoes {
     ghost use Rattle.cp_tables.specs.Table.{Table};
     ghost use Rattle.cp_refs.specs.declared.cap.Cap.{Cap};
     ghost use Rattle.cp_refs.specs.contracts.cap.Cap.{the_row};
-    ghost use Rattle.cp_vat_state.specs.Held.{AreLedTo};
+    ghost use Rattle.cp_vat_state.specs.Holding.{AreLedTo};
 
     ghost Value = { Table Cap };
 

@@ -5,7 +5,7 @@ ghost use Rattle.std.specs.List.{list_any};
 ghost use Rattle.std.specs.FinMap as map;
 ghost use Rattle.cp_vat_machine.specs.InUse.{is_import};
 ghost use Rattle.cp_vat_state.specs.Sought.{is_sought};
-ghost use Rattle.cp_vat_state.specs.Held.{kept_by, import_values, values_of_others, own_uses};
+ghost use Rattle.cp_vat_state.specs.Holding.{kept_by, import_values, values_of_others, own_uses};
 
 use crate::holders::{Holders, caps_of_outcome, caps_of_question, caps_of_value};
 use crate::sought::Sought;
@@ -25,7 +25,7 @@ pub(crate) struct CountedValues {
 
 impl Model for CountedValues {
     ghost use Rattle.cp_refs.specs.Values.{ValueMaps, values_code};
-    ghost use Rattle.cp_vat_state.specs.Held.{AreHeld};
+    ghost use Rattle.cp_vat_state.specs.Holding.{AreHeld};
 
     ghost Value = { ValueMaps };
 

@@ -12,7 +12,7 @@ ghost use Rattle.cp_vat_state.specs.Overs.{over_of, gate_of, bare_gate, over_wit
 
 use crate::counted_calls::CountedCalls;
 use crate::sought::Sought;
-use cp_refs::{Cap, Gate, Held, KeptOutcome, Path, PromiseId};
+use cp_refs::{Cap, Gate, KeptOutcome, Path, PromiseId, WaitingCall};
 use cp_tables::Entries;
 use std::alloc::{AllocError, Global};
 use std::collections::btree_map::Iter;
@@ -47,7 +47,7 @@ impl Gift {
 /// A call that waited at a gate that ended, with what the gate gave.
 #[derive(Drop)]
 pub struct Next {
-    pub call: Held,
+    pub call: WaitingCall,
     pub cap: Cap,
 }
 
@@ -94,14 +94,14 @@ impl Gates {
     }
 
     /// The call with this ticket.
-    pub fn get(&self, ticket: u64) -> Option<&Held>
+    pub fn get(&self, ticket: u64) -> Option<&WaitingCall>
         ensures { option_copied result ≡ map.get self.now.waiting.calls ticket }
     {
         self.calls.get(ticket)
     }
 
     /// The calls with their tickets, rising.
-    pub fn calls(&self) -> Iter<'_, u64, Held>
+    pub fn calls(&self) -> Iter<'_, u64, WaitingCall>
         ensures { result ≡ map.entries self.now.waiting.calls }
     {
         self.calls.calls()
@@ -164,7 +164,7 @@ impl Gates {
     }
 
     /// Takes in a call, whose ticket was given and no other one has.
-    pub fn hold(&mut self, held: Held) -> Result<(), AllocError>
+    pub fn hold(&mut self, held: WaitingCall) -> Result<(), AllocError>
         requires free { map.get self.old.waiting.calls held.ticket ≡ None }
         requires given { held.ticket < self.old.next_ticket }
         ensures { OnOk result (self.new ≡ with_calls self.old (map.insert self.old.waiting.calls held.ticket held)) }

@@ -27,7 +27,7 @@ pub struct Marks {
     paths: PathMarks,
     embargoes: CountedEmbargoes,
     /// Whose embargo it is.
-    references: Entries<Reference>,
+    references: Entries<MarkKey>,
 }
 
 impl Model for Marks {
@@ -147,13 +147,13 @@ impl Marks {
         let id = self.embargoes.open(value)?;
         match reference {
             Cap::Import(import) => {
-                self.references.put(id, Reference::Import(*import))?;
+                self.references.put(id, MarkKey::Import(*import))?;
                 *self.imports.entry_mut(*import) = Some(id);
                 Ok(id)
             }
             Cap::Pipelined(question, path) => {
                 let copied = path.copy(self.alloc)?;
-                self.references.put(id, Reference::Path(*question, copied))?;
+                self.references.put(id, MarkKey::Path(*question, copied))?;
                 self.paths.set(*question, path.fields(), id);
                 Ok(id)
             }
@@ -171,11 +171,11 @@ impl Marks {
             return None;
         };
         match self.references.remove(id) {
-            Some(Reference::Import(import)) => {
+            Some(MarkKey::Import(import)) => {
                 unmark_import(&mut self.imports, import, id);
                 Some(cap)
             }
-            Some(Reference::Path(question, path)) => {
+            Some(MarkKey::Path(question, path)) => {
                 unmark_path(&mut self.paths, question, path.fields(), id);
                 Some(cap)
             }
@@ -200,7 +200,7 @@ impl Marks {
 
 /// A reference, as an embargo finds its mark.
 #[derive(Drop)]
-enum Reference {
+enum MarkKey {
     Import(u32),
     Path(u32, Path),
 }

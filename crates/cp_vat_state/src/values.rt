@@ -5,7 +5,7 @@ ghost use Rattle.std.specs.List.{list_any};
 ghost use Rattle.std.specs.FinMap as map;
 ghost use Rattle.cp_vat_machine.specs.InUse.{is_import};
 ghost use Rattle.cp_vat_state.specs.Sought.{is_sought};
-ghost use Rattle.cp_vat_state.specs.Held.{kept_by, import_values, values_of_others};
+ghost use Rattle.cp_vat_state.specs.Holding.{kept_by, import_values, values_of_others};
 
 use crate::counted_values::CountedValues;
 use crate::halt::Halt;

@@ -6,7 +6,7 @@ use Rattle.std.proofs.Common.{inr, sym, ◌∙◌}
 use Rattle.cp_tables.specs.declared.counted.Counted.{Counted}
 use Rattle.cp_tables.specs.declared.exchange.Exchange.{Exchange}
 use Rattle.cp_refs.specs.declared.cap.Cap.{Cap}
-use Rattle.cp_refs.specs.declared.call.Held.{Held}
+use Rattle.cp_refs.specs.declared.call.WaitingCall.{WaitingCall}
 use Rattle.cp_refs.specs.declared.call.Origin.{Origin}
 use Rattle.cp_refs.specs.declared.call.Origin.TheVariants as origins
 use Rattle.cp_refs.specs.declared.values.Question.{Question}
@@ -24,7 +24,7 @@ use Rattle.cp_vat_worlds.specs.Phases.{LaneHolds, IsWhole, IsAbsent, absent, IsQ
 use Rattle.cp_vat_worlds.specs.Tickets.{BearsTicket, TicketsHold}
 
 pub new_waiting : (one : Option ℕ) → WaitRightly (new_state one) empty
-new_waiting one ticket = rw (get-empty {X = Held} nat_cmp ticket) tt
+new_waiting one ticket = rw (get-empty {X = WaitingCall} nat_cmp ticket) tt
 
 pub new_looped : (one other : Option ℕ) → AreLooped (new_state one) [] []
 new_looped one other n = rw (get-empty {X = Cap} nat_cmp n) refl
@@ -34,7 +34,7 @@ no_reference one (import_ i) = rw (get-empty {X = Option Cap} nat_cmp i) refl
 no_reference one (path_to q path) = rw (get-empty {X = Question} nat_cmp q) refl
 
 new_whole : (one other : Option ℕ) → IsWhole (new_end one) (new_end other) [] []
-new_whole one other = rw (no_entries {X = Held} nat_cmp) refl
+new_whole one other = rw (no_entries {X = WaitingCall} nat_cmp) refl
 
 -- of each end
 pub new_absent : (one other : Option ℕ) (ref : Reference) → IsAbsent (new_state one) (new_state other) ref
@@ -43,7 +43,7 @@ new_absent one other (path_to q path) = get-empty {X = Question} nat_cmp q
 
 pub new_lanes : (one other : Option ℕ) (ref : Reference) → LaneHolds (new_end one) (new_end other) ref [] []
 new_lanes one other ref =
-    inr (record { whole = new_whole one other; targets = tt; none_held = λ ticket call is. none_out (sym (get-empty {X = Held} nat_cmp ticket) ∙ is); delivered_ = rw (no_reference one ref) refl; phase = absent (record { none = new_absent one other ref; unmade = refl }) })
+    inr (record { whole = new_whole one other; targets = tt; none_held = λ ticket call is. none_out (sym (get-empty {X = WaitingCall} nat_cmp ticket) ∙ is); delivered_ = rw (no_reference one ref) refl; phase = absent (record { none = new_absent one other ref; unmade = refl }) })
 
 pub new_quiet : (one : Option ℕ) → IsQuiet (new_end one)
 new_quiet one = record { questions = λ q. rw (get-empty {X = Exchange QuestionEntry} nat_cmp q) tt; inbox = refl }

@@ -6,7 +6,7 @@ use Rattle.std.proofs.Common.{sym, ◌∙◌}
 use Rattle.cp_tables.specs.declared.counted.Counted.{Counted}
 use Rattle.cp_tables.specs.declared.exchange.Exchange.{Exchange}
 use Rattle.cp_refs.specs.declared.cap.Cap.{Cap}
-use Rattle.cp_refs.specs.declared.call.Held.{Held}
+use Rattle.cp_refs.specs.declared.call.WaitingCall.{WaitingCall}
 use Rattle.cp_refs.specs.declared.outcome.Outcome.{Outcome}
 use Rattle.cp_vat_machine.specs.State.{new_state}
 use Rattle.cp_vat_machine.specs.declared.entry.AnswerEntry.{AnswerEntry}
@@ -41,8 +41,8 @@ new_orderly one =
     record {
       held =
           record {
-            back = λ ticket call q is own. none_out (sym (get-empty {X = Held} nat_cmp ticket) ∙ is);
-            once = λ u v call more q is there own also. none_out (sym (get-empty {X = Held} nat_cmp u) ∙ is);
+            back = λ ticket call q is own. none_out (sym (get-empty {X = WaitingCall} nat_cmp ticket) ∙ is);
+            once = λ u v call more q is there own also. none_out (sym (get-empty {X = WaitingCall} nat_cmp u) ∙ is);
             here = λ q entry is given. none_out (sym (get-empty {X = Exchange QuestionEntry} nat_cmp q) ∙ is);
           };
       values = λ p. rw (get-empty {X = Option Cap} nat_cmp p) tt;

@@ -7,7 +7,7 @@ use Rattle.cp_tables.specs.declared.counted.Counted.{Counted}
 use Rattle.cp_tables.specs.declared.exchange.Exchange.{Exchange}
 use Rattle.cp_rpc.specs.declared.message.Message.{Message}
 use Rattle.cp_refs.specs.declared.cap.Cap.{Cap}
-use Rattle.cp_refs.specs.declared.call.Held.{Held}
+use Rattle.cp_refs.specs.declared.call.WaitingCall.{WaitingCall}
 use Rattle.cp_refs.specs.declared.call.Origin.{Origin}
 use Rattle.cp_refs.specs.declared.call.Origin.TheVariants as origins
 use Rattle.cp_refs.specs.declared.outcome.Outcome.{Outcome}
@@ -30,13 +30,13 @@ IsHeldBack None = ⊥
 IsHeldBack (Some entry) = IsUnsent entry × (entry.kept.is_delivered ≡ false)
 
 -- no call of this question waits
-abbrev pub NoneWaits : Table Held → ℕ → Type 0
-NoneWaits calls q = (ticket : ℕ) (call : Held) → get calls ticket ≡ Some call → call.origin ≡ origins.Own q → ⊥
+abbrev pub NoneWaits : Table WaitingCall → ℕ → Type 0
+NoneWaits calls q = (ticket : ℕ) (call : WaitingCall) → get calls ticket ≡ Some call → call.origin ≡ origins.Own q → ⊥
 
 -- A question whose call waits is held back, and one call of it waits at most. One whose call was delivered wasn't sent.
-pub record AreHeld (calls : Table Held) (questions : Table (Exchange QuestionEntry)) : Type 0 where
-  pub back : (ticket : ℕ) (call : Held) (q : ℕ) → get calls ticket ≡ Some call → call.origin ≡ origins.Own q → IsHeldBack (get questions q)
-  pub once : (one other : ℕ) (call more : Held) (q : ℕ) → get calls one ≡ Some call → get calls other ≡ Some more → call.origin ≡ origins.Own q
+pub record AreHeld (calls : Table WaitingCall) (questions : Table (Exchange QuestionEntry)) : Type 0 where
+  pub back : (ticket : ℕ) (call : WaitingCall) (q : ℕ) → get calls ticket ≡ Some call → call.origin ≡ origins.Own q → IsHeldBack (get questions q)
+  pub once : (one other : ℕ) (call more : WaitingCall) (q : ℕ) → get calls one ≡ Some call → get calls other ≡ Some more → call.origin ≡ origins.Own q
       → more.origin ≡ origins.Own q → one ≡ other
   pub here : (q : ℕ) (entry : Exchange QuestionEntry) → get questions q ≡ Some entry → entry.kept.is_delivered ≡ true → entry.kept.is_sent ≡ false
 

@@ -10,7 +10,7 @@ use Rattle.cp_rpc.specs.declared.message.Message.TheVariants as messages
 use Rattle.cp_refs.specs.Route.{Routes}
 use Rattle.cp_refs.specs.declared.cap.Cap.{Cap}
 use Rattle.cp_refs.specs.declared.cap.Cap.TheVariants as caps
-use Rattle.cp_refs.specs.declared.call.Held.{Held}
+use Rattle.cp_refs.specs.declared.call.WaitingCall.{WaitingCall}
 use Rattle.cp_refs.specs.declared.call.Origin.{Origin}
 use Rattle.cp_refs.specs.declared.call.Origin.TheVariants as origins
 use Rattle.cp_refs.specs.declared.outcome.Outcome.{Outcome}
@@ -46,7 +46,7 @@ abbrev pub waits_for : State → Origin → List ℕ
 waits_for here (origins.Answer a) = own_ticket (get here.entries.questions a)
 waits_for here (origins.Own q) = []
 
-abbrev pub waits_as : Held → Origin → List ℕ
+abbrev pub waits_as : WaitingCall → Origin → List ℕ
 waits_as call (origins.Own q) = call.ticket ∷ []
 waits_as call (origins.Answer a) = []
 
@@ -83,16 +83,16 @@ back_in here there made messages = of_lane made (flat_map (forwarded_for here th
 -- Each of its calls that waits there, or here, is at such a gate.
 abbrev pub AllWait : End → End → List ℕ → (Gate → Type 0) → Type 0
 AllWait here there made At =
-    (ticket : ℕ) (call : Held) → get there.vat.waiting.calls ticket ≡ Some call → of_lane made (waits_for here.vat call.origin) ≡ [] ⊎ At call.gate
+    (ticket : ℕ) (call : WaitingCall) → get there.vat.waiting.calls ticket ≡ Some call → of_lane made (waits_for here.vat call.origin) ≡ [] ⊎ At call.gate
 
 abbrev pub AllWaitHere : End → List ℕ → (Gate → Type 0) → Type 0
 AllWaitHere here made At =
-    (ticket : ℕ) (call : Held) → get here.vat.waiting.calls ticket ≡ Some call → of_lane made (waits_as call call.origin) ≡ [] ⊎ At call.gate
+    (ticket : ℕ) (call : WaitingCall) → get here.vat.waiting.calls ticket ≡ Some call → of_lane made (waits_as call call.origin) ≡ [] ⊎ At call.gate
 
 -- No waiting call of the peer's stands for one of them: those that come back are delivered at once.
 abbrev pub NoneHeld : End → End → List ℕ → Type 0
 NoneHeld here there made =
-    (ticket : ℕ) (call : Held) → get here.vat.waiting.calls ticket ≡ Some call → of_lane made (stands_as here.vat there.vat call.origin) ≡ []
+    (ticket : ℕ) (call : WaitingCall) → get here.vat.waiting.calls ticket ≡ Some call → of_lane made (stands_as here.vat there.vat call.origin) ≡ []
 
 -- a gate that is over, and leads to this import; or gave this object
 abbrev pub LeadsBack : State → ℕ → Gate → Type 0
@@ -118,7 +118,7 @@ abbrev pub HaveTarget : End → End → Reference → List ℕ → Type 0
 HaveTarget here there ref made = AllByRecursion (λ m. of_lane made (sent_for here.vat m) ≡ [] ⊎ HasTarget ref m) there.inbox
 
 -- Calls were delivered at the object that the reference came to, and none before it came to one.
-abbrev pub AreDelivered : calling.Reference → List Delivery → Type 0
+abbrev pub AreDelivered : calling.Standing → List Delivery → Type 0
 AreDelivered (came_to (caps.Object k)) delivered = AllByRecursion (λ delivery. delivery.object ≡ k) delivered
 AreDelivered other delivered = delivered ≡ []
 

@@ -9,7 +9,7 @@ use Rattle.cp_refs.specs.At.{cap_at}
 use Rattle.cp_refs.specs.Route.{Routes}
 use Rattle.cp_refs.specs.Values.{ValueMaps}
 use Rattle.cp_refs.specs.declared.cap.Cap.{Cap}
-use Rattle.cp_refs.specs.declared.call.Held.{Held}
+use Rattle.cp_refs.specs.declared.call.WaitingCall.{WaitingCall}
 use Rattle.cp_refs.specs.declared.call.Origin.{Origin}
 use Rattle.cp_refs.specs.declared.call.Origin.TheVariants as origins
 use Rattle.cp_refs.specs.declared.outcome.Outcome.{Outcome}
@@ -80,8 +80,8 @@ MayGo s ports origin other = Unit {0}
 
 -- After any turn that meets no full table, calls wait on rightly, and no capability leads to a gate that is over.
 pub record TurnKeeps : Type 0 where
-  pub rightly : (old mid : State) (ports : Table Port) (call : Held) (cap : Cap) (route : Route) (first : List Effect) → WaitRightly old ports → NoneLeadsToOver old
+  pub rightly : (old mid : State) (ports : Table Port) (call : WaitingCall) (cap : Cap) (route : Route) (first : List Effect) → WaitRightly old ports → NoneLeadsToOver old
       → IsNext old call cap → Routes old.values cap route → MayGo old ports call.origin route
       → Go (without_call old call) (underway call) route (Ok (first, mid)) → WaitRightly mid ports
-  pub over : (old mid : State) (ports : Table Port) (call : Held) (cap : Cap) (route : Route) (first : List Effect) → NoneLeadsToOver old
+  pub over : (old mid : State) (ports : Table Port) (call : WaitingCall) (cap : Cap) (route : Route) (first : List Effect) → NoneLeadsToOver old
       → MayGo old ports call.origin route → Go (without_call old call) (underway call) route (Ok (first, mid)) → NoneLeadsToOver mid

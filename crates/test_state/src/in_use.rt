@@ -1,7 +1,9 @@
 //! What is in use.
 
 use crate::marks::embargo;
-use cp_refs::{Cap, Caps, Gate, Held, KeptOutcome, Origin, Outcome, Path, PromiseId, Request};
+use cp_refs::{
+    Cap, Caps, Gate, KeptOutcome, Origin, Outcome, Path, PromiseId, Request, WaitingCall,
+};
 use cp_tree::Whole;
 use cp_vat_machine::ImportKind;
 use cp_vat_state::{Core, Gift, Hosted};
@@ -24,7 +26,7 @@ fn hold(rt: &impl Abort, core: &mut Core, gate: Gate, cap: Cap) {
         content: Whole::null(),
         caps: caps(rt, core.alloc, cap),
     };
-    let held = core.gates.hold(Held {
+    let held = core.gates.hold(WaitingCall {
         ticket,
         origin: Origin::Own(1),
         request,

@@ -1,6 +1,6 @@
 //! The parts on their happy paths.
 
-use cp_refs::{Cap, Caps, Gate, Held, Origin, PromiseId, Request};
+use cp_refs::{Cap, Caps, Gate, Origin, PromiseId, Request, WaitingCall};
 use cp_tree::{Tree, Whole};
 use cp_vat_machine::PeerFault;
 use cp_vat_state::{Exported, Gates, Gift, Hosted};
@@ -53,7 +53,7 @@ fn hold(rt: &impl Abort, alloc: Global, gates: &mut Gates, promise: PromiseId) {
         panic!(rt; "no ticket");
     }
     let ticket = gates.enter();
-    let held = gates.hold(Held {
+    let held = gates.hold(WaitingCall {
         ticket,
         origin: Origin::Own(promise),
         request: request(rt, alloc),

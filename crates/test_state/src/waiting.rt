@@ -1,6 +1,6 @@
 //! Calls that wait: gates with many paths, and the order of tickets.
 
-use cp_refs::{Caps, Gate, Held, Origin, Path, Request, Waiting};
+use cp_refs::{Caps, Gate, Origin, Path, Request, Waiting, WaitingCall};
 use cp_tree::Whole;
 use std::alloc::Global;
 use std::process::Abort;
@@ -19,7 +19,7 @@ fn hold(rt: &impl Abort, alloc: Global, waiting: &mut Waiting, ticket: u64, gate
     if waiting.get(ticket).is_some() {
         panic!(rt; "taken");
     }
-    let held = waiting.hold(Held {
+    let held = waiting.hold(WaitingCall {
         ticket,
         origin: Origin::Own(1),
         request: request(alloc, 2),

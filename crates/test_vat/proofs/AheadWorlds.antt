@@ -35,7 +35,7 @@ ahead_moves = moves_of (find_moves begun settled_ahead)
 abbrev past : KnownWorld
 past = last_known begun ahead_moves
 
-abbrev is_on_wire : calling.Reference → Bool
+abbrev is_on_wire : calling.Standing → Bool
 is_on_wire plain = false
 is_on_wire on_wire = true
 is_on_wire (came_to value) = false
@@ -66,7 +66,7 @@ ends_there = rw (place_is) (comes_back (world past).second.vat.values (get_is pa
 open_yet : reference_of (world past).first.vat.values (cap_of given_reference) ≡ on_wire
 open_yet = reference_is past.first.vat (cap_of given_reference)
 
-not_other : {A : Type 0} (r : calling.Reference) → is_on_wire r ≡ false → reference_of (world past).first.vat.values (cap_of given_reference) ≡ r → A
+not_other : {A : Type 0} (r : calling.Standing) → is_on_wire r ≡ false → reference_of (world past).first.vat.values (cap_of given_reference) ≡ r → A
 not_other r other e = absurd (true≢false (ap is_on_wire (sym open_yet ∙ e) ∙ other))
 
 told_promise : ToldOther (world past).first (world past).second given_reference []

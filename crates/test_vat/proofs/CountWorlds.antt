@@ -9,7 +9,7 @@ use Rattle.cp_tables.specs.Counted.{count_of}
 use Rattle.cp_tables.specs.declared.counted.Counted.{Counted}
 use Rattle.cp_tables.proofs.TableLemmas.{get-insert_same}
 use Rattle.cp_refs.specs.declared.cap.Cap.{Cap}
-use Rattle.cp_refs.specs.declared.call.Held.{Held}
+use Rattle.cp_refs.specs.declared.call.WaitingCall.{WaitingCall}
 use Rattle.cp_refs.specs.declared.call.Origin.TheVariants as origins
 use Rattle.cp_refs.specs.declared.route.Gate.TheVariants as gates
 use Rattle.cp_vat_machine.specs.InUse.{is_import, caps_given, value_unless}
@@ -151,7 +151,7 @@ waiting_moves = moves_of (find_moves waiting_begun waiting_call)
 abbrev waits : KnownWorld
 waits = last_known waiting_begun waiting_moves
 
-abbrev held_call : Held
+abbrev held_call : WaitingCall
 held_call = record { ticket = 0; origin = origins.Own 0; request = small_request; gate = gates.Promise 0 }
 
 orderly_as_it_is : IsOrderlyAsItIs (world waits).first.vat

@@ -66,7 +66,7 @@ reference_there w at_second c = reference_is w.second.vat c
 -- what is seen of moves
 pub record Seen : Type 0 where
   pub turns : List (Side × Moment)
-  pub value : calling.Reference
+  pub value : calling.Standing
   pub made : List ℕ
   pub delivered : List Delivery
   pub are_closed : Bool × Bool

@@ -37,7 +37,7 @@ use Rattle.cp_vat_machine.specs.Take.{Take, TakeAll, taken_export}
 use Rattle.cp_vat_machine.specs.Give.{GiveOwn, GiveOwnBy, question_settled}
 use Rattle.cp_vat_machine.specs.Go.{Underway, Go, GoTo, GoOut, call_of, sent}
 use Rattle.cp_vat_machine.specs.Asking.{TakeReturned, Settles, ReturnBy, ReturnOf, OnReturn}
-use Rattle.cp_vat_machine.specs.Calling.{OwnDone, Reference, on_wire, came_to, reference_of, asked, called, own_call, mark_of, with_mark, marked, disembargo_of, FirstEmbargoed, GoBack, GoFrom, Opens, call_refusals, DoCall}
+use Rattle.cp_vat_machine.specs.Calling.{OwnDone, Standing, on_wire, came_to, reference_of, asked, called, own_call, mark_of, with_mark, marked, disembargo_of, FirstEmbargoed, GoBack, GoFrom, Opens, call_refusals, DoCall}
 use Rattle.cp_vat_machine.specs.Step.{Step}
 use Rattle.cp_vat_machine.specs.declared.effect.Effect.{Effect}
 use Rattle.cp_vat_machine.specs.declared.effect.Effect.TheVariants as effects
@@ -88,7 +88,7 @@ call_from old c request q first mid does =
         → GoFrom old q request c (reference_of old.values c) (Ok (first, mid))
     moved n done n_is done_is from = rw (n_is, done_is) at from
 
-from_known : (old : State) (q : ℕ) (request : Request) (c : Cap) (reference known : Reference) (done : Done) → reference ≡ known → GoFrom old q request c reference (Ok done)
+from_known : (old : State) (q : ℕ) (request : Request) (c : Cap) (reference known : Standing) (done : Done) → reference ≡ known → GoFrom old q request c reference (Ok done)
     → GoFrom old q request c known (Ok done)
 from_known old q request c reference known done is goes = rw (is) at goes
 

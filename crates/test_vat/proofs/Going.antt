@@ -13,7 +13,7 @@ use Rattle.cp_rpc.specs.declared.target.Target.{Target}
 use Rattle.cp_rpc.specs.declared.target.Target.TheVariants as targets
 use Rattle.cp_refs.specs.At.{cap_at}
 use Rattle.cp_refs.specs.declared.cap.Cap.{Cap}
-use Rattle.cp_refs.specs.declared.call.Held.{Held}
+use Rattle.cp_refs.specs.declared.call.WaitingCall.{WaitingCall}
 use Rattle.cp_refs.specs.declared.call.Origin.{Origin}
 use Rattle.cp_refs.specs.declared.call.Origin.TheVariants as origins
 use Rattle.cp_refs.specs.declared.outcome.Outcome.TheVariants as outcomes
@@ -124,7 +124,7 @@ module _ {X : Type 0} (test : ℕ → X → Bool) where
 -- the call that leaves next
 pub data Next (k : Known) : Type 0 where
   none_next : NoneOver (state k) → Next k
-  next : (call : Held) (c : Cap) → IsNext (state k) call c → Next k
+  next : (call : WaitingCall) (c : Cap) → IsNext (state k) call c → Next k
   unknown_next : Next k
 
 module _ (k : Known) where
@@ -136,14 +136,14 @@ module _ (k : Known) where
   lower_one n None = Some n
   lower_one n (Some m) = Some (cond (leb n m) n m)
 
-  abbrev pub lowest_over : Listed Held → Option ℕ
+  abbrev pub lowest_over : Listed WaitingCall → Option ℕ
   lowest_over [] = None
   lowest_over (e ∷ es) = cond (is_over e.1.gate) (lower_one e.0 (lowest_over es)) (lowest_over es)
 
-  abbrev pub waits_on : ℕ → Held → Bool
+  abbrev pub waits_on : ℕ → WaitingCall → Bool
   waits_on n call = is_none (known_gave k call.gate)
 
-  abbrev pub not_before : ℕ → ℕ → Held → Bool
+  abbrev pub not_before : ℕ → ℕ → WaitingCall → Bool
   not_before t n call = leb t n || is_none (known_gave k call.gate)
 
   pub nothing : {X : Type 0} (o : Option X) → is_none o ≡ true → o ≡ None
@@ -161,26 +161,26 @@ module _ (k : Known) where
       (sym (get_is k.calls ticket))
       (on_each (at k.calls ticket) (λ call waits. gave_is k call.gate ∙ nothing (known_gave k call.gate) waits) (each_passes waits_on k.calls all ticket))
 
-  pub past : (t n : ℕ) (call : Held) (c : Cap) (b : Bool) → leb t n ≡ b → (b || is_none (known_gave k call.gate)) ≡ true → known_gave k call.gate ≡ Some c → t ≤ n
+  pub past : (t n : ℕ) (call : WaitingCall) (c : Cap) (b : Bool) → leb t n ≡ b → (b || is_none (known_gave k call.gate)) ≡ true → known_gave k call.gate ≡ Some c → t ≤ n
   past t n call c true less holds is = leb-true t n less
   past t n call c false less holds is = absurd (true≢false (sym holds ∙ ap is_none is))
 
-  pub not_below : (t : ℕ) → list_all (λ e. not_before t e.0 e.1) k.calls ≡ true → (n : ℕ) (call : Held) (c : Cap) → get (state k).waiting.calls n ≡ Some call → gave (state k).waiting.over call.gate ≡ Some c → t ≤ n
+  pub not_below : (t : ℕ) → list_all (λ e. not_before t e.0 e.1) k.calls ≡ true → (n : ℕ) (call : WaitingCall) (c : Cap) → get (state k).waiting.calls n ≡ Some call → gave (state k).waiting.over call.gate ≡ Some c → t ≤ n
   not_below t all n call c is over =
       past t n call c (leb t n) refl (subst (λ o. IfSome o (λ x. not_before t n x ≡ true)) (sym (get_is k.calls n) ∙ is) (each_passes (not_before t) k.calls all n)) (sym (gave_is k call.gate) ∙ over)
 
-  abbrev pub next_by : (call : Held) → at k.calls call.ticket ≡ Some call → (o : Option Cap) → known_gave k call.gate ≡ o → (b : Bool) → list_all (λ e. not_before call.ticket e.0 e.1) k.calls ≡ b → Next k
+  abbrev pub next_by : (call : WaitingCall) → at k.calls call.ticket ≡ Some call → (o : Option Cap) → known_gave k call.gate ≡ o → (b : Bool) → list_all (λ e. not_before call.ticket e.0 e.1) k.calls ≡ b → Next k
   next_by call is (Some c) over true all =
       next call c (record { waits = get_is k.calls call.ticket ∙ is; ended = gave_is k call.gate ∙ over; lowest = λ n other given. not_below call.ticket all n other given })
   next_by call is (Some c) over false all = unknown_next
   next_by call is None over b all = unknown_next
 
-  abbrev pub next_of : (t : ℕ) (call : Held) → at k.calls t ≡ Some call → (b : Bool) → (call.ticket == t) ≡ b → Next k
+  abbrev pub next_of : (t : ℕ) (call : WaitingCall) → at k.calls t ≡ Some call → (b : Bool) → (call.ticket == t) ≡ b → Next k
   next_of t call is true same =
       next_by call (subst (λ n. at k.calls n ≡ Some call) (sym (eqb-true call.ticket t same)) is) (known_gave k call.gate) refl (list_all (λ e. not_before call.ticket e.0 e.1) k.calls) refl
   next_of t call is false same = unknown_next
 
-  abbrev pub next_at : (t : ℕ) (o : Option Held) → at k.calls t ≡ o → Next k
+  abbrev pub next_at : (t : ℕ) (o : Option WaitingCall) → at k.calls t ≡ o → Next k
   next_at t None is = unknown_next
   next_at t (Some call) is = next_of t call is (call.ticket == t) refl
 
@@ -197,14 +197,14 @@ pub data Left (k : Known) : Type 0 where
   left : (effects : List Effect) (out : Result Known PeerFault) → Leave (state k) effects (seen state out) → Left k
   stuck : Left k
 
-pub without_call_is : (k : Known) (call : Held) → without_call (state k) call ≡ state (record k { calls = without k.calls call.ticket })
+pub without_call_is : (k : Known) (call : WaitingCall) → without_call (state k) call ≡ state (record k { calls = without k.calls call.ticket })
 without_call_is k call = λ i. record (state k) { waiting = record (state k).waiting { calls = remove_is k.calls call.ticket i } }
 
-abbrev pub left_after : (k : Known) (call : Held) (c : Cap) → IsNext (state k) call c → (first : List Effect) (mid : Known) → GoTo (without_call (state k) call) (underway call) c (Ok (first, state mid)) → Left mid → Left k
+abbrev pub left_after : (k : Known) (call : WaitingCall) (c : Cap) → IsNext (state k) call c → (first : List Effect) (mid : Known) → GoTo (without_call (state k) call) (underway call) c (Ok (first, state mid)) → Left mid → Left k
 left_after k call c is first mid goes (left rest out more) = left (first ++ rest) out (leaves call c is goes more refl)
 left_after k call c is first mid goes stuck = stuck
 
-abbrev pub left_by : (k : Known) (call : Held) (c : Cap) → IsNext (state k) call c → Finds beside (GoTo (without_call (state k) call) (underway call) c) → ((mid : Known) → Left mid) → Left k
+abbrev pub left_by : (k : Known) (call : WaitingCall) (c : Cap) → IsNext (state k) call c → Finds beside (GoTo (without_call (state k) call) (underway call) c) → ((mid : Known) → Left mid) → Left k
 left_by k call c is (found (Ok (first, mid)) goes) rest = left_after k call c is first mid goes (rest mid)
 left_by k call c is (found (Err fault) goes) rest = left [] (Err fault) (finds_table_full call c is goes)
 left_by k call c is lacks rest = stuck

@@ -6,7 +6,7 @@ use Rattle.std.specs.FinMap.{get, retain_keys}
 use Rattle.std.specs.FinMap.Entries.{where_key}
 use Rattle.std.specs.Cmp.Lexicographic.{slice_cmp}
 use Rattle.cp_tables.specs.declared.counted.Counted.{Counted}
-use Rattle.cp_rpc.specs.Made.{message_made}
+use Rattle.cp_rpc.specs.Written.{message_written}
 use Rattle.cp_rpc.specs.declared.small.Release.{Release}
 use Rattle.cp_rpc.specs.declared.resolve.Resolution.{Resolution}
 use Rattle.cp_rpc.specs.declared.resolve.Resolution.TheVariants as resolutions
@@ -147,9 +147,9 @@ abbrev pub find_received_if : (b : Bool) (k : Known) (m : Message) → Finds bes
 find_received_if true k m = unless _ (fault_if (not (message_fits m)) faults.PayloadTooLarge) refl (find_on k m)
 find_received_if false k m =
     decide
-    (λ b out. out ≡ (if b then Ok (effects.Send (messages.Unimplemented (message_made m)) ∷ [], state k) else Err faults.EchoTooLarge))
-    (echo_fits (message_made (messages.Unimplemented (message_made m))))
-    (found (Ok (effects.Send (messages.Unimplemented (message_made m)) ∷ [], k)) refl)
+    (λ b out. out ≡ (if b then Ok (effects.Send (messages.Unimplemented (message_written m)) ∷ [], state k) else Err faults.EchoTooLarge))
+    (echo_fits (message_written (messages.Unimplemented (message_written m))))
+    (found (Ok (effects.Send (messages.Unimplemented (message_written m)) ∷ [], k)) refl)
     (found (Err faults.EchoTooLarge) refl)
 
 abbrev pub find_received : (k : Known) (m : Message) → Finds beside (Receives (state k) m)

@@ -4,7 +4,7 @@ use Rattle.std.specs.List.{list_any}
 use Rattle.std.specs.FinMap.{get}
 use Rattle.std.proofs.Common.{sym, ap, ◌∙◌, true≢false, inl, inr}
 use Rattle.cp_refs.specs.declared.cap.Cap.{Cap}
-use Rattle.cp_refs.specs.declared.call.Held.{Held}
+use Rattle.cp_refs.specs.declared.call.WaitingCall.{WaitingCall}
 use Rattle.cp_vat_machine.specs.State.{State, gave, none_over, with_over}
 use Rattle.cp_vat_machine.specs.Then.{Done, Then, Unless, OrFull}
 use Rattle.cp_vat_machine.specs.Calling.{OwnDone}
@@ -138,7 +138,7 @@ shows step quiet = step_shows step quiet
 -- the turns of waiting calls
 abbrev pub NextGoes : State → List Effect → State → Type 0
 NextGoes old all new =
-    (call : Held) × (cap : Cap) × (first : List Effect) × (rest : List Effect) × (mid : State) × IsNext old call cap
+    (call : WaitingCall) × (cap : Cap) × (first : List Effect) × (rest : List Effect) × (mid : State) × IsNext old call cap
     × GoTo (without_call old call) (underway call) cap (Ok (first, mid))
     × Leave mid rest (Ok new)
     × (all ≡ first ++ rest)
@@ -157,10 +157,10 @@ pub leave_ok : {old new : State} {all : List Effect} → Leave old all (Ok new) 
 leave_ok leaving = leave_shows leaving
 
 -- where no gate has ended nothing goes
-none_next : {s : State} {call : Held} {cap : Cap} → NoneOver s → IsNext s call cap → ⊥
+none_next : {s : State} {call : WaitingCall} {cap : Cap} → NoneOver s → IsNext s call cap → ⊥
 none_next {s} {call} {cap} none next = none_not_some (sym (at_call (get s.waiting.calls call.ticket) next.waits (none call.ticket)) ∙ next.ended)
   where
-    at_call : (o : Option Held) → o ≡ Some call → IfSome o (λ other. gave s.waiting.over other.gate ≡ None) → gave s.waiting.over call.gate ≡ None
+    at_call : (o : Option WaitingCall) → o ≡ Some call → IfSome o (λ other. gave s.waiting.over other.gate ≡ None) → gave s.waiting.over call.gate ≡ None
     at_call (Some other) is none = rw (sym (some_inj is)) none
     at_call None is none = absurd (none_not_some is)
 

@@ -10,7 +10,7 @@ use Rattle.std.specs.FinSet as set
 use Rattle.cp_tables.specs.declared.counted.Counted.{Counted}
 use Rattle.cp_tables.specs.declared.exchange.Exchange.{Exchange}
 use Rattle.cp_refs.specs.declared.cap.Cap.{Cap}
-use Rattle.cp_refs.specs.declared.call.Held.{Held}
+use Rattle.cp_refs.specs.declared.call.WaitingCall.{WaitingCall}
 use Rattle.cp_refs.specs.declared.outcome.Outcome.{Outcome}
 use Rattle.cp_refs.specs.declared.values.Question.{Question}
 use Rattle.cp_vat_machine.specs.State.{State}
@@ -36,7 +36,7 @@ pub record Known : Type 0 where
   pub own : List ℕ
   pub exports : Listed (Counted Cap)
   pub imports : Listed (Counted ImportKind)
-  pub calls : Listed Held
+  pub calls : Listed WaitingCall
   pub over_answers : Listed Outcome
   pub over_promises : Listed Cap
   pub over_questions : Listed Outcome

@@ -13,7 +13,7 @@ use Rattle.cp_tables.specs.declared.exchange.Stage.TheVariants as stages
 use Rattle.cp_rpc.specs.declared.message.Message.TheVariants as messages
 use Rattle.cp_rpc.specs.declared.returned.Returned.{Returned}
 use Rattle.cp_rpc.specs.declared.target.Target.TheVariants as targets
-use Rattle.cp_refs.specs.declared.call.Held.{Held}
+use Rattle.cp_refs.specs.declared.call.WaitingCall.{WaitingCall}
 use Rattle.cp_refs.specs.declared.call.Origin.TheVariants as origins
 use Rattle.cp_refs.specs.declared.cap.Cap.{Cap}
 use Rattle.cp_refs.specs.declared.cap.Cap.TheVariants as caps
@@ -151,7 +151,7 @@ goes_1 old new all quiet_all is_kept none one step =
     ap second_ticket (all_is ∙ ap (λ r. return_of 1 (object_returned one_object e) ∷ r) rest_is)
 
 none_0 : get s_3'.waiting.calls 0 ≡ None
-none_0 = simp (get-insert {X = Held} nat_cmp_total, get-empty {X = Held} nat_cmp) refl
+none_0 = simp (get-insert {X = WaitingCall} nat_cmp_total, get-empty {X = WaitingCall} nat_cmp) refl
 
 one_1 : get s_3'.waiting.calls 1 ≡ Some held_2
 one_1 = get-insert nat_cmp_total empty 1 held_2 1
@@ -162,10 +162,10 @@ not_dropped (last, (m_1, step_0, (m_2, step_1, (m_3, step_2, (m_4, step_3, end))
     none_not_some (goes_1 s_3' m_4 _ refl kept_1_now none_0 one_1 (rw (only_3 m_1 m_2 m_3 step_0 step_1 step_2) at step_3))
 
 none_0_again : get s_4'.waiting.calls 0 ≡ None
-none_0_again = simp (get-insert {X = Held} nat_cmp_total, get-empty {X = Held} nat_cmp) refl
+none_0_again = simp (get-insert {X = WaitingCall} nat_cmp_total, get-empty {X = WaitingCall} nat_cmp) refl
 
 one_1_again : get s_4'.waiting.calls 1 ≡ Some held_2
-one_1_again = simp (get-insert {X = Held} nat_cmp_total) refl
+one_1_again = simp (get-insert {X = WaitingCall} nat_cmp_total) refl
 
 kept_1_last : get s_4'.entries.answers 1 ≡ Some entry_1
 kept_1_last = simp (get-insert {X = Exchange AnswerEntry} nat_cmp_total) refl

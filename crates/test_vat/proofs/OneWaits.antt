@@ -1,5 +1,5 @@
 -- The rows of a Bootstrap and of calls that wait for an answer, each step with what it is made of.
-use Rattle.cp_refs.specs.declared.call.Held.{Held}
+use Rattle.cp_refs.specs.declared.call.WaitingCall.{WaitingCall}
 use Rattle.cp_refs.specs.declared.cap.Cap.{Cap}
 use Rattle.cp_refs.specs.declared.outcome.Outcome.{Outcome}
 use Rattle.cp_refs.specs.declared.route.Gate.{Gate}
@@ -241,10 +241,10 @@ not_refused = rw (kept_1_now) refl
 pub answers_1 : DoAnswer s_3' (origins.Answer 1) outcome_1 (Ok (values.Nothing, return_of 1 returned_1 ∷ [], g_3))
 answers_1 = rw (not_refused) (Ok (values.Nothing, return_of 1 returned_1 ∷ [], g_3), (Ok (return_of 1 returned_1 ∷ [], g_3), gives_1, refl), refl)
 
-abbrev pub held_2 : Held
+abbrev pub held_2 : WaitingCall
 held_2 = record { ticket = 1; origin = origins.Answer 2; request = small_request; gate = gates.Answer 1 (0 ∷ []) }
 
-at_one : (ticket : ℕ) (other : Held) (b : Bool) → eq_by_cmp nat_cmp ticket 1 ≡ b → cond b (Some held_2) None ≡ Some other → 1 ≤ ticket
+at_one : (ticket : ℕ) (other : WaitingCall) (b : Bool) → eq_by_cmp nat_cmp ticket 1 ≡ b → cond b (Some held_2) None ≡ Some other → 1 ≤ ticket
 at_one ticket other true is e = grind (arith, nat_tests)
 at_one ticket other false is e = absurd (true≢false (sym (ap is_some e)))
 
@@ -256,7 +256,7 @@ next_2 =
       lowest =
           λ ticket other given e over.
           at_one ticket other (eq_by_cmp nat_cmp ticket 1) refl (
-          ap (cond (eq_by_cmp nat_cmp ticket 1) (Some held_2)) (sym (get-empty {X = Held} nat_cmp ticket))
+          ap (cond (eq_by_cmp nat_cmp ticket 1) (Some held_2)) (sym (get-empty {X = WaitingCall} nat_cmp ticket))
           ∙ sym (get-insert nat_cmp_total empty 1 held_2 ticket)
           ∙ e
           );
@@ -274,7 +274,7 @@ none_stays ticket =
     rw (
       get-remove nat_cmp_total (insert empty 1 held_2) 1 ticket,
       get-insert nat_cmp_total empty 1 held_2 ticket,
-      get-empty {X = Held} nat_cmp ticket,
+      get-empty {X = WaitingCall} nat_cmp ticket,
       none_either_way (eq_by_cmp nat_cmp ticket 1),
     ) tt
 

@@ -13,7 +13,7 @@ use Rattle.cp_refs.specs.declared.values.QuestionKind.TheVariants as kinds
 use Rattle.cp_vat_machine.specs.Then.{fault_if, OrFull}
 use Rattle.cp_vat_machine.specs.Capacity.{has_ticket, cap_fits, request_fits}
 use Rattle.cp_vat_machine.specs.Go.{Underway, held_at}
-use Rattle.cp_vat_machine.specs.Calling.{Reference, plain, on_wire, came_to, import_reference, question_reference, reference_of, own_call, mark_of, with_mark, marked, has_mark_capacity, disembargo_of, FirstEmbargoed, GoBack, GoByValue, GoFrom, OwnDone, Opens, not_all, call_refusals, DoCall}
+use Rattle.cp_vat_machine.specs.Calling.{Standing, plain, on_wire, came_to, import_reference, question_reference, reference_of, own_call, mark_of, with_mark, marked, has_mark_capacity, disembargo_of, FirstEmbargoed, GoBack, GoByValue, GoFrom, OwnDone, Opens, not_all, call_refusals, DoCall}
 use Rattle.cp_vat_machine.specs.declared.effect.Effect.{Effect}
 use Rattle.cp_vat_machine.specs.declared.event.Value.{Value}
 use Rattle.cp_vat_machine.specs.declared.event.Value.TheVariants as values
@@ -36,7 +36,7 @@ or_full lacks = lacks
 or_full {view = view} (found (Ok x) holds) = found (Ok x) (Ok (view x), holds, refl)
 or_full (found (Err fault) holds) = found (Err refusals.Full) (Err fault, holds, refl)
 
-abbrev pub known_reference : Known → Cap → Reference
+abbrev pub known_reference : Known → Cap → Standing
 known_reference k (caps.Import i) = import_reference (at k.import_values i)
 known_reference k (caps.Pipelined q path) = question_reference path (at k.questions q)
 known_reference k caps.None = plain
@@ -155,7 +155,7 @@ find_by_value k q request c caps.None = find_gone_to (called_known k q kinds.Loc
 find_by_value k q request c (caps.Pipelined p path) = find_gone_to (called_known k q kinds.Local) (own_call (state k) q request) (caps.Pipelined p path)
 find_by_value k q request c (caps.Broken x) = find_gone_to (called_known k q kinds.Local) (own_call (state k) q request) (caps.Broken x)
 
-abbrev pub find_from : (k : Known) (q : ℕ) (request : Request) (c : Cap) (r : Reference) → Finds beside (GoFrom (state k) q request c r)
+abbrev pub find_from : (k : Known) (q : ℕ) (request : Request) (c : Cap) (r : Standing) → Finds beside (GoFrom (state k) q request c r)
 find_from k q request c plain = find_gone_to (called_known k q kinds.Local) (own_call (state k) q request) c
 find_from k q request c on_wire =
     follow

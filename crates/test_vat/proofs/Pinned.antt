@@ -39,7 +39,7 @@ use Rattle.cp_rpc.specs.declared.target.Target.{Target}
 use Rattle.cp_rpc.specs.declared.target.Target.TheVariants as targets
 use Rattle.cp_rpc.specs.declared.message.Message.{Message}
 use Rattle.cp_rpc.specs.declared.message.Message.TheVariants as messages
-use Rattle.cp_refs.specs.declared.call.Held.{Held}
+use Rattle.cp_refs.specs.declared.call.WaitingCall.{WaitingCall}
 use Rattle.cp_refs.specs.declared.call.Origin.TheVariants as origins
 use Rattle.cp_refs.specs.declared.route.Gate.TheVariants as gates
 use Rattle.cp_vat_machine.specs.Take.{TakeAll, released}
@@ -328,18 +328,18 @@ answers_object old content k first mid is_kept does =
     by_entry (entry, was_kept, gives) = gives_object old 1 k content entry_1.kept (first, mid) refl (rw (some_inj (sym was_kept ∙ is_kept)) at gives)
 
 -- Of the calls that wait for the first one's answer the one with ticket 1 goes first, to the object that the answer gave.
-ticket_1 : (s : State) (call : Held) (ticket : ℕ) → get s.waiting.calls 0 ≡ None → get s.waiting.calls 1 ≡ Some held_2 → ticket ≤ 1 → get s.waiting.calls ticket ≡ Some call → call ≡ held_2
+ticket_1 : (s : State) (call : WaitingCall) (ticket : ℕ) → get s.waiting.calls 0 ≡ None → get s.waiting.calls 1 ≡ Some held_2 → ticket ≤ 1 → get s.waiting.calls ticket ≡ Some call → call ≡ held_2
 ticket_1 s call zero none one below waits = absurd (none_not_some (sym none ∙ waits))
 ticket_1 s call (suc zero) none one below waits = some_inj (sym waits ∙ one)
 ticket_1 s call (suc (suc n)) none one below waits = absurd (omega (arith, below))
 
-delivers_5 : (s : State) (call : Held) (given : Cap) (first : List Effect) (mid : State) → call ≡ held_2 → given ≡ caps.Object 5
+delivers_5 : (s : State) (call : WaitingCall) (given : Cap) (first : List Effect) (mid : State) → call ≡ held_2 → given ≡ caps.Object 5
     → GoTo (without_call s call) (underway call) given (Ok (first, mid))
     → first ≡ delivered_to 2 1 ∷ []
 delivers_5 s call given first mid call_is given_is goes =
     ap {A = Done} (λ d. d.0) (delivers (without_call s held_2) (underway held_2) 5 (first, mid) (moved call given call_is given_is goes))
   where
-    moved : (call : Held) (given : Cap) → call ≡ held_2 → given ≡ caps.Object 5 → GoTo (without_call s call) (underway call) given (Ok (first, mid))
+    moved : (call : WaitingCall) (given : Cap) → call ≡ held_2 → given ≡ caps.Object 5 → GoTo (without_call s call) (underway call) given (Ok (first, mid))
         → GoTo (without_call s held_2) (underway held_2) (caps.Object 5) (Ok (first, mid))
     moved call given call_is given_is goes = rw (call_is, given_is) at goes
 
@@ -348,7 +348,7 @@ pub goes_first : (s new : State) (all : List Effect) → get s.waiting.calls 0 �
     → (rest : List Effect) × (all ≡ delivered_to 2 1 ∷ rest)
 goes_first s new all none one ended leaving = by_shown (leave_ok leaving)
   where
-    at_call : (o : Option Held) → o ≡ Some held_2 → IfSome o (λ other. gave s.waiting.over other.gate ≡ None) → ⊥
+    at_call : (o : Option WaitingCall) → o ≡ Some held_2 → IfSome o (λ other. gave s.waiting.over other.gate ≡ None) → ⊥
     at_call (Some other) is still = absurd (none_not_some (sym still ∙ ap (λ call. gave s.waiting.over call.gate) (some_inj is) ∙ ended))
     at_call None is still = absurd (none_not_some is)
 

@@ -9,7 +9,7 @@ use Rattle.cp_tables.specs.declared.exchange.Exchange.{Exchange}
 use Rattle.cp_rpc.specs.declared.descriptor.Descriptor.TheVariants as descriptors
 use Rattle.cp_refs.specs.declared.cap.Cap.TheVariants as caps
 use Rattle.cp_refs.specs.declared.call.Origin.TheVariants as origins
-use Rattle.cp_refs.specs.declared.call.Held.{Held}
+use Rattle.cp_refs.specs.declared.call.WaitingCall.{WaitingCall}
 use Rattle.cp_refs.specs.declared.route.Gate.TheVariants as gates
 use Rattle.cp_refs.specs.declared.route.Route.TheVariants as routes
 use Rattle.cp_refs.specs.declared.outcome.Outcome.{Outcome}
@@ -48,7 +48,7 @@ unfoldable pub step_3_waits : Step s_3' (events.Receive (small_call 3 (on_answer
 step_3_waits = received _ [] [] s_4 refl on_call_3 (all_left (stays (none_ended s_4 refl))) refl
 
 -- the first call is answered
-abbrev pub held_3 : Held
+abbrev pub held_3 : WaitingCall
 held_3 = record { ticket = 2; origin = origins.Answer 3; request = small_request; gate = gates.Answer 1 (0 ∷ []) }
 
 pub kept_1_last : get s_4'.entries.answers 1 ≡ Some entry_1
@@ -77,16 +77,16 @@ answers_1 = rw (not_refused) (Ok (values.Nothing, return_of 1 returned_1 ∷ [],
 
 -- the calls that wait leave in the order of their tickets
 none_at_0 : get g_4.waiting.calls 0 ≡ None
-none_at_0 = simp (get-insert {X = Held} nat_cmp_total, get-empty {X = Held} nat_cmp) refl
+none_at_0 = simp (get-insert {X = WaitingCall} nat_cmp_total, get-empty {X = WaitingCall} nat_cmp) refl
 
-from_1 : (ticket : ℕ) (other : Held) → get g_4.waiting.calls ticket ≡ Some other → 1 ≤ ticket
+from_1 : (ticket : ℕ) (other : WaitingCall) → get g_4.waiting.calls ticket ≡ Some other → 1 ≤ ticket
 from_1 zero other e = absurd (none_not_some (sym none_at_0 ∙ e))
 from_1 (suc n) other e = omega arith
 
 pub next_1 : IsNext g_4 held_2 (caps.Object 5)
 next_1 =
     record {
-      waits = simp (get-insert {X = Held} nat_cmp_total) refl;
+      waits = simp (get-insert {X = WaitingCall} nat_cmp_total) refl;
       ended = simp (get-insert {X = Outcome} nat_cmp_total) refl;
       lowest = λ ticket other given e over. from_1 ticket other e;
     }
@@ -95,12 +95,12 @@ abbrev pub h_4 : State
 h_4 = delivered (without_call g_4 held_2) (origins.Answer 2)
 
 none_at_0_then : get h_4.waiting.calls 0 ≡ None
-none_at_0_then = simp (get-remove {X = Held} nat_cmp_total, get-insert {X = Held} nat_cmp_total, get-empty {X = Held} nat_cmp) refl
+none_at_0_then = simp (get-remove {X = WaitingCall} nat_cmp_total, get-insert {X = WaitingCall} nat_cmp_total, get-empty {X = WaitingCall} nat_cmp) refl
 
 none_at_1_then : get h_4.waiting.calls 1 ≡ None
-none_at_1_then = simp (get-remove {X = Held} nat_cmp_total) refl
+none_at_1_then = simp (get-remove {X = WaitingCall} nat_cmp_total) refl
 
-from_2 : (ticket : ℕ) (other : Held) → get h_4.waiting.calls ticket ≡ Some other → 2 ≤ ticket
+from_2 : (ticket : ℕ) (other : WaitingCall) → get h_4.waiting.calls ticket ≡ Some other → 2 ≤ ticket
 from_2 zero other e = absurd (none_not_some (sym none_at_0_then ∙ e))
 from_2 (suc zero) other e = absurd (none_not_some (sym none_at_1_then ∙ e))
 from_2 (suc (suc n)) other e = omega arith
@@ -108,7 +108,7 @@ from_2 (suc (suc n)) other e = omega arith
 pub next_2 : IsNext h_4 held_3 (caps.Object 5)
 next_2 =
     record {
-      waits = simp (get-remove {X = Held} nat_cmp_total, get-insert {X = Held} nat_cmp_total) refl;
+      waits = simp (get-remove {X = WaitingCall} nat_cmp_total, get-insert {X = WaitingCall} nat_cmp_total) refl;
       ended = simp (get-insert {X = Outcome} nat_cmp_total) refl;
       lowest = λ ticket other given e over. from_2 ticket other e;
     }
@@ -129,7 +129,7 @@ none_left ticket =
       get-remove nat_cmp_total g_4.waiting.calls 1 ticket,
       get-insert nat_cmp_total (insert empty 1 held_2) 2 held_3 ticket,
       get-insert nat_cmp_total empty 1 held_2 ticket,
-      get-empty {X = Held} nat_cmp ticket,
+      get-empty {X = WaitingCall} nat_cmp ticket,
       both_gone (eq_by_cmp nat_cmp ticket 1) (eq_by_cmp nat_cmp ticket 2),
     ) tt
 

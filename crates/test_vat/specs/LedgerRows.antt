@@ -2,7 +2,7 @@
 use Rattle.std.specs.Prelude.{ℕ, true, false, List, [], ◌∷◌, ◌++◌, Option}
 use Rattle.cp_tree.specs.Node.{cap}
 use Rattle.cp_tables.specs.declared.exchange.Stage.{Stage}
-use Rattle.cp_rpc.specs.Made.{message_made}
+use Rattle.cp_rpc.specs.Written.{message_written}
 use Rattle.cp_rpc.specs.declared.call.SendResultsTo.TheVariants as results_to
 use Rattle.cp_rpc.specs.declared.descriptor.Descriptor.TheVariants as descriptors
 use Rattle.cp_rpc.specs.declared.message.Message.{Message}
@@ -104,7 +104,7 @@ canceled =
 abbrev pub resolve_given_back : List Moment
 resolve_given_back =
     promise_exported
-    ++ comes (messages.Unimplemented (message_made (resolve_message 1 (resolutions.Cap (descriptors.SenderHosted 2))))) []
+    ++ comes (messages.Unimplemented (message_written (resolve_message 1 (resolutions.Cap (descriptors.SenderHosted 2))))) []
     ∷ []
 
 -- the application finishes a question, and its Return names an import
@@ -130,7 +130,7 @@ tail_call =
     )
 
 abbrev pub call_sent_back : List Moment
-call_sent_back = comes tail_call (sends (messages.Unimplemented (message_made tail_call)) ∷ []) ∷ []
+call_sent_back = comes tail_call (sends (messages.Unimplemented (message_written tail_call)) ∷ []) ∷ []
 
 -- an import is taken in twice, and given back with its whole count
 abbrev pub import_taken : List Moment

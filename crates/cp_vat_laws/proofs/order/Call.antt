@@ -21,7 +21,7 @@ use Rattle.cp_vat_machine.specs.State.{State, none_over, gave}
 use Rattle.cp_vat_machine.specs.Then.{Done, fault_if}
 use Rattle.cp_vat_machine.specs.Capacity.{has_capacity, has_ticket, Fresh, cap_fits, request_fits}
 use Rattle.cp_vat_machine.specs.InUse.{has_question, has_promise, has_import, is_local_path, is_own}
-use Rattle.cp_vat_machine.specs.Calling.{Reference, plain, on_wire, came_to, reference_of, called, own_call, mark_of, with_mark, has_mark_capacity, marked, disembargo_of, GoBack, GoByValue, GoFrom, OwnDone, Opens, not_all, call_refusals, DoCall}
+use Rattle.cp_vat_machine.specs.Calling.{Standing, plain, on_wire, came_to, reference_of, called, own_call, mark_of, with_mark, has_mark_capacity, marked, disembargo_of, GoBack, GoByValue, GoFrom, OwnDone, Opens, not_all, call_refusals, DoCall}
 use Rattle.cp_vat_machine.specs.Go.{Underway, held_at, Go, GoTo}
 use Rattle.cp_vat_machine.specs.Local.{OwnIs, QuestionIs}
 use Rattle.cp_vat_machine.specs.Trace.{Turn}
@@ -130,7 +130,7 @@ module _ (old : State) (q : ℕ) (request : Request) (cap : Cap) (within : Withi
   called_mark : (kind : QuestionKind) (c : Cap) → mark_of (called old q kind) c ≡ mark_of old c
   called_mark kind c = Rattle.cp_vat_laws.proofs.order.Same.mark_same old (called old q kind) c refl
 
-  off_by : (reference : Reference) → reference_of old.values cap ≡ reference → is_off_wire reference ≡ true → IsOff (called old q kinds.Local).values (capability cap)
+  off_by : (reference : Standing) → reference_of old.values cap ≡ reference → is_off_wire reference ≡ true → IsOff (called old q kinds.Local).values (capability cap)
   off_by reference is off = rw (called_reference kinds.Local, is) off
 
   marked_only : (s : State) (embargo : Option ℕ) → with_mark s cap embargo ≡ record s { marks = (with_mark s cap embargo).marks }
@@ -326,7 +326,7 @@ module _ (old : State) (q : ℕ) (request : Request) (cap : Cap) (within : Withi
     by_value (caps.Broken x) is goes = fails_holds (caps.Broken x) is x (λ y. y) (one_fail (called old q kinds.Local).values (caps.Broken x) x (1, refl)) goes
 
     -- The call goes.
-    from_holds : (reference : Reference) → reference_of old.values cap ≡ reference → GoFrom old q request cap reference (Ok (first, mid)) → Holds
+    from_holds : (reference : Standing) → reference_of old.values cap ≡ reference → GoFrom old q request cap reference (Ok (first, mid)) → Holds
     from_holds plain is goes = plain_holds is goes
     from_holds on_wire is goes =
         let parts = then_out {A = State} {B = Done} (λ mid. mid ≡ marked (called old q kinds.Wire) cap (mark_of old cap)) _ (first, mid) goes in

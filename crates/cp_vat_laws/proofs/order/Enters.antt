@@ -2,7 +2,7 @@
 use Rattle.std.specs.Prelude.{◌≡◌, ◌⊎◌, refl, ℕ, ◌+◌, ◌<◌, ◌==◌, ◌||◌, Bool, true, false, List, [], ◌∷◌, Option, Some, None, is_some, IfSome, IsSome}
 use Rattle.std.specs.FinMap.{get, insert}
 use Rattle.std.proofs.Common.{arith, inl, inr, ap, subst, sym, ◌∙◌, true≢false}
-use Rattle.cp_refs.specs.declared.call.Held.{Held}
+use Rattle.cp_refs.specs.declared.call.WaitingCall.{WaitingCall}
 use Rattle.cp_refs.specs.declared.call.Origin.{Origin}
 use Rattle.cp_refs.specs.declared.route.Gate.{Gate}
 use Rattle.cp_refs.specs.declared.route.Gate.TheVariants as gates
@@ -66,7 +66,7 @@ module _ (past : List Turn) (event : Event) (value : Value) (old : State) (first
     pub goes : NameRoute old.values name route
     pub stands : Stands old gate route
 
-  fellow : (u : ℕ) (c : Held) → get old.waiting.calls u ≡ Some c → AreOfOne (turn ∷ past) old.next_ticket u → IsFellow c.gate
+  fellow : (u : ℕ) (c : WaitingCall) → get old.waiting.calls u ≡ Some c → AreOfOne (turn ∷ past) old.next_ticket u → IsFellow c.gate
   fellow u c is same =
       let w = there_is (λ x. WaitsFor past old u x.gate) (get old.waiting.calls u) c is (h.waits u) in
       let low = h.below u w.port w.called in
@@ -81,7 +81,7 @@ module _ (past : List Turn) (event : Event) (value : Value) (old : State) (first
         stands = rw (over) at w.leads;
       }
 
-  low_of : (u : ℕ) (c : Held) → get old.waiting.calls u ≡ Some c → u < old.next_ticket
+  low_of : (u : ℕ) (c : WaitingCall) → get old.waiting.calls u ≡ Some c → u < old.next_ticket
   low_of u c is =
       let w = there_is (λ x. WaitsFor past old u x.gate) (get old.waiting.calls u) c is (h.waits u) in
       h.below u w.port w.called
@@ -104,19 +104,19 @@ module _ (past : List Turn) (event : Event) (value : Value) (old : State) (first
     none_by (gates.Question q path) r fits way stands = subst IsGoing (one_name between name route r goes (grown r way) ∙ stands) going_on
     none_by (gates.Embargo n) r fits way stands = unmarked_by name n un fits
 
-    none_waits : (u : ℕ) (c : Held) → get old.waiting.calls u ≡ Some c → AreOfOne (turn ∷ past) old.next_ticket u → ⊥
+    none_waits : (u : ℕ) (c : WaitingCall) → get old.waiting.calls u ≡ Some c → AreOfOne (turn ∷ past) old.next_ticket u → ⊥
     none_waits u c is same = let f = fellow u c is same in none_by c.gate f.route f.fits f.goes f.stands
 
     module _ (calls : mid.waiting.calls ≡ old.waiting.calls) (exits : exits_in turn ≡ record { ticket = old.next_ticket; route = route } ∷ [])
         (here : NameRoute mid.values name route) where
-      gone_by : (o : Option Held) → get old.waiting.calls old.next_ticket ≡ o → o ≡ None
+      gone_by : (o : Option WaitingCall) → get old.waiting.calls old.next_ticket ≡ o → o ≡ None
       gone_by None is = refl
       gone_by (Some c) is = absurd (never (low_of old.next_ticket c is))
         where
           never : old.next_ticket < old.next_ticket → ⊥
           never e = omega (arith, e)
 
-      ahead_by : (u : ℕ) (o : Option Held) → get old.waiting.calls u ≡ o → IsSome o → AreOfOne (turn ∷ past) old.next_ticket u → old.next_ticket < u
+      ahead_by : (u : ℕ) (o : Option WaitingCall) → get old.waiting.calls u ≡ o → IsSome o → AreOfOne (turn ∷ past) old.next_ticket u → old.next_ticket < u
       ahead_by u None is some same = absurd (true≢false (sym some))
       ahead_by u (Some c) is some same = absurd (none_waits u c is same)
 
@@ -155,7 +155,7 @@ module _ (past : List Turn) (event : Event) (value : Value) (old : State) (first
           }
 
   -- one that waits
-  module _ (held : Held) (route : Route) (calls : mid.waiting.calls ≡ insert old.waiting.calls old.next_ticket held)
+  module _ (held : WaitingCall) (route : Route) (calls : mid.waiting.calls ≡ insert old.waiting.calls old.next_ticket held)
       (exits : exits_in turn ≡ []) (here : NameRoute mid.values name route) (leads : Leads mid held.gate route) (fits : FitsName mid name held.gate)
       (up : (gate : Gate) (n : ℕ) → FitsName old name gate → held.gate ≡ gates.Embargo n → gate ≡ gates.Embargo n)
       (down : (gate : Gate) (n : ℕ) → FitsName old name gate → gate ≡ gates.Embargo n → held.gate ≡ gates.Embargo n) where
@@ -170,17 +170,17 @@ module _ (past : List Turn) (event : Event) (value : Value) (old : State) (first
           fits = λ e. (there, fits);
         }
 
-    held_of : (u : ℕ) (b : Bool) → (old.next_ticket == u) ≡ b → (c : Held) → get mid.waiting.calls u ≡ Some c
+    held_of : (u : ℕ) (b : Bool) → (old.next_ticket == u) ≡ b → (c : WaitingCall) → get mid.waiting.calls u ≡ Some c
         → ((old.next_ticket ≡ u) × (c ≡ held)) ⊎ (get old.waiting.calls u ≡ Some c)
     held_of u true e c is = inl (is_equal old.next_ticket u e, some_out (sym is ∙ ap (λ t. get t u) calls ∙ put_at old.waiting.calls old.next_ticket u held true e))
     held_of u false e c is = inr (sym (ap (λ t. get t u) calls ∙ put_at old.waiting.calls old.next_ticket u held false e) ∙ is)
 
-    up_by : (other : ℕ) (c : Held) (n : ℕ) → AreOfOne (turn ∷ past) old.next_ticket other → held.gate ≡ gates.Embargo n
+    up_by : (other : ℕ) (c : WaitingCall) (n : ℕ) → AreOfOne (turn ∷ past) old.next_ticket other → held.gate ≡ gates.Embargo n
         → ((old.next_ticket ≡ other) × (c ≡ held)) ⊎ (get old.waiting.calls other ≡ Some c) → c.gate ≡ gates.Embargo n
     up_by other c n same at (inl now) = ap (λ x. x.gate) now.1 ∙ at
     up_by other c n same at (inr was) = up c.gate n (fellow other c was same).fits at
 
-    down_by : (other : ℕ) (c : Held) (n : ℕ) → AreOfOne (turn ∷ past) old.next_ticket other → c.gate ≡ gates.Embargo n
+    down_by : (other : ℕ) (c : WaitingCall) (n : ℕ) → AreOfOne (turn ∷ past) old.next_ticket other → c.gate ≡ gates.Embargo n
         → ((old.next_ticket ≡ other) × (c ≡ held)) ⊎ (get old.waiting.calls other ≡ Some c) → held.gate ≡ gates.Embargo n
     down_by other c n same at (inl now) = sym (ap (λ x. x.gate) now.1) ∙ at
     down_by other c n same at (inr was) = down c.gate n (fellow other c was same).fits at
@@ -194,7 +194,7 @@ module _ (past : List Turn) (event : Event) (value : Value) (old : State) (first
           late = λ exit g same. g.given;
         }
 
-    held_by : (u : ℕ) (c : Held) → ((old.next_ticket ≡ u) × (c ≡ held)) ⊎ (get old.waiting.calls u ≡ Some c) → (get old.waiting.calls u ≡ Some c) ⊎ IsHeldNow past turn u c
+    held_by : (u : ℕ) (c : WaitingCall) → ((old.next_ticket ≡ u) × (c ≡ held)) ⊎ (get old.waiting.calls u ≡ Some c) → (get old.waiting.calls u ≡ Some c) ⊎ IsHeldNow past turn u c
     held_by u c (inl now) = inr (subst (λ t. IsHeldNow past turn t c) now.0 (subst (λ x. IsHeldNow past turn old.next_ticket x) (sym now.1) held_now))
     held_by u c (inr was) = inl was
 

@@ -7,7 +7,7 @@ use Rattle.cp_refs.specs.Route.{promise_way, open_way, question_way, outcome_way
 use Rattle.cp_refs.specs.Values.{ValueMaps}
 use Rattle.cp_refs.specs.declared.cap.Cap.{Cap}
 use Rattle.cp_refs.specs.declared.cap.Cap.TheVariants as caps
-use Rattle.cp_refs.specs.declared.call.Held.{Held}
+use Rattle.cp_refs.specs.declared.call.WaitingCall.{WaitingCall}
 use Rattle.cp_refs.specs.declared.call.Origin.{Origin}
 use Rattle.cp_refs.specs.declared.outcome.Outcome.{Outcome}
 use Rattle.cp_refs.specs.declared.route.Gate.{Gate}
@@ -151,7 +151,7 @@ module _ (past : List Turn) (event : Event) (value : Value) (old between : State
     abbrev mid : State
     mid = held_at between call g
 
-    abbrev its_held : Held
+    abbrev its_held : WaitingCall
     its_held = record { ticket = call.ticket; origin = call.origin; request = call.request; gate = g }
 
     none_exits : exits_in (owning event value old first mid) ≡ []

@@ -14,7 +14,7 @@ use Rattle.cp_refs.specs.declared.call.Origin.TheVariants as origins
 use Rattle.cp_refs.specs.declared.outcome.Outcome.{Outcome}
 use Rattle.cp_refs.specs.declared.outcome.Outcome.TheVariants as outcomes
 use Rattle.cp_refs.specs.declared.values.Question.{Question}
-use Rattle.cp_vat_machine.specs.State.{State, Entries}
+use Rattle.cp_vat_machine.specs.State.{State, Exchanges}
 use Rattle.cp_vat_machine.specs.Then.{Done}
 use Rattle.cp_vat_machine.specs.Say.{SayAll}
 use Rattle.cp_vat_machine.specs.Give.{SettleTied, Returns, given, gone, GiveBy, answer_over, question_over, question_settled, is_path_of, without_question, GiveOwnBy, Give}
@@ -31,7 +31,7 @@ use Rattle.cp_vat_laws.proofs.order.Closes.{Closes, closes_both}
 use Rattle.cp_vat_laws.proofs.order.Settle.{IsOnly, all_only, only_closes, AreOpen, tied_closes}
 
 -- an answer is over, and given or gone
-module _ (s : State) (a : ℕ) (outcome : Outcome) (answers : Table (Option Outcome)) (entries : Entries) (open_ : get s.values.answers a ≡ Some None)
+module _ (s : State) (a : ℕ) (outcome : Outcome) (answers : Table (Option Outcome)) (entries : Exchanges) (open_ : get s.values.answers a ≡ Some None)
     (ungiven : get s.waiting.over.answers a ≡ None) (here : is_some (get answers a) ≡ true → get answers a ≡ Some (Some outcome))
     (others : (b : ℕ) → (a == b) ≡ false → get answers b ≡ get s.values.answers b) where
   abbrev ended : State
@@ -167,7 +167,7 @@ module _ (s : State) (q : ℕ) (outcome : Outcome) (question : Question) (is : g
   abbrev kept_questions : Table Question
   kept_questions = insert s.values.questions q (with_outcome question outcome)
 
-  abbrev settled_by : Entries → State
+  abbrev settled_by : Exchanges → State
   settled_by entries = record (question_over s q outcome) { values = record s.values { questions = kept_questions }; entries = entries }
 
   kept_kind : (r : ℕ) (t : Bool) → (q == r) ≡ t → (one other : Question) → get s.values.questions r ≡ Some one → get kept_questions r ≡ Some other → other.kind ≡ one.kind
@@ -183,7 +183,7 @@ module _ (s : State) (q : ℕ) (outcome : Outcome) (question : Question) (is : g
   kept_adds r true t some = rw (← is_equal q r t, is) refl
   kept_adds r false t some = rw (← put_at s.values.questions q r (with_outcome question outcome) false t) some
 
-  settled_closes : (entries : Entries) → Closes s (settled_by entries)
+  settled_closes : (entries : Exchanges) → Closes s (settled_by entries)
   settled_closes entries =
       record {
         passes =

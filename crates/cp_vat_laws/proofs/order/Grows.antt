@@ -13,7 +13,7 @@ use Rattle.cp_refs.specs.declared.route.Gate.{Gate}
 use Rattle.cp_refs.specs.declared.route.Route.{Route}
 use Rattle.cp_refs.specs.declared.values.Question.{Question}
 use Rattle.cp_vat_machine.specs.State.{State, none_over, gave}
-use Rattle.cp_vat_machine.specs.Calling.{Reference, plain, on_wire, came_to, import_reference, question_reference, reference_of, mark_of}
+use Rattle.cp_vat_machine.specs.Calling.{Standing, plain, on_wire, came_to, import_reference, question_reference, reference_of, mark_of}
 use Rattle.cp_vat_machine.specs.Ports.{Name, answer_path, capability, AnswerRoute, ReferenceRoute, NameRoute, is_there}
 use Rattle.cp_vat_laws.specs.OrderKept.{FitsMark, is_off_wire}
 use Rattle.cp_vat_machine.proofs.Basics.{some_out, none_out, is_equal, put_at}
@@ -72,7 +72,7 @@ module _ (values new : ValueMaps) (grows : GrowsTo values new) where
   answer_grows a path r (Some None) is h = rw (grows.answers a None is) h
   answer_grows a path r (Some (Some outcome)) is h = rw (grows.answers a (Some outcome) is) (grow_routes (cap_at outcome path) r h)
 
-  by_reference : (c : Cap) (reference : Reference) (r : Route) → ReferenceRoute values c reference r → ReferenceRoute new c reference r
+  by_reference : (c : Cap) (reference : Standing) (r : Route) → ReferenceRoute values c reference r → ReferenceRoute new c reference r
   by_reference c plain r h = grow_routes c r h
   by_reference c on_wire r h = grow_routes c r h
   by_reference c (came_to value) r h = grow_routes value r h

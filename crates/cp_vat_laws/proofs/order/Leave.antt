@@ -3,7 +3,7 @@ use Rattle.std.specs.Prelude.{◌≡◌, refl, List, [], ◌∷◌, None, Result
 use Rattle.std.proofs.Common.{arith, ap}
 use Rattle.cp_refs.specs.Route.{Routes}
 use Rattle.cp_refs.specs.declared.cap.Cap.{Cap}
-use Rattle.cp_refs.specs.declared.call.Held.{Held}
+use Rattle.cp_refs.specs.declared.call.WaitingCall.{WaitingCall}
 use Rattle.cp_refs.specs.declared.route.Gate.{Gate}
 use Rattle.cp_refs.specs.declared.route.Route.{Route}
 use Rattle.cp_refs.specs.declared.route.Route.TheVariants as routes
@@ -24,7 +24,7 @@ use Rattle.cp_vat_laws.proofs.order.WaitingGoes.{going, exits_turned}
 use Rattle.cp_vat_laws.proofs.order.WaitingStays.{stays_turned}
 use Rattle.cp_vat_laws.proofs.order.Rest.{rests_holds}
 
-module _ (past : List Turn) (old : State) (call : Held) (cap : Cap) (first : List Effect) (mid : State) (within : Within old None []) (later : Within mid None [])
+module _ (past : List Turn) (old : State) (call : WaitingCall) (cap : Cap) (first : List Effect) (mid : State) (within : Within old None []) (later : Within mid None [])
     (h : OrderHolds past old) (next : IsNext old call cap) where
   gone_holds : (route : Route) → Routes old.values cap route → Go (without_call old call) (underway call) route (Ok (first, mid)) → IsGoing route
       → OrderHolds (going old call first mid ∷ past) mid
@@ -68,7 +68,7 @@ module _ (past : List Turn) (old : State) (call : Held) (cap : Cap) (first : Lis
 -- What each turn of a call that goes keeps of a vat within an event.
 abbrev pub GoesWithin : Type 0
 GoesWithin =
-    (old mid : State) (call : Held) (cap : Cap) (first : List Effect) → Within old None [] → IsNext old call cap
+    (old mid : State) (call : WaitingCall) (cap : Cap) (first : List Effect) → Within old None [] → IsNext old call cap
     → GoTo (without_call old call) (underway call) cap (Ok (first, mid)) → Within mid None []
 
 -- what holds after all turns of waiting calls

@@ -18,7 +18,7 @@ use Rattle.cp_refs.specs.declared.values.Question.{Question}
 use Rattle.cp_refs.specs.declared.values.QuestionKind.{QuestionKind}
 use Rattle.cp_refs.specs.declared.values.QuestionKind.TheVariants as kinds
 use Rattle.cp_vat_machine.specs.State.{State}
-use Rattle.cp_vat_machine.specs.Calling.{Reference, plain, on_wire, came_to, import_reference, path_reference, question_reference, reference_of, mark_of, with_mark}
+use Rattle.cp_vat_machine.specs.Calling.{Standing, plain, on_wire, came_to, import_reference, path_reference, question_reference, reference_of, mark_of, with_mark}
 use Rattle.cp_vat_machine.specs.Local.{IsEmbargoOf, IsImportMark, import_value, path_value, is_wire, IsPathMark}
 use Rattle.cp_vat_machine.specs.Ports.{capability, is_there}
 use Rattle.cp_vat_laws.specs.Within.{Within}
@@ -30,11 +30,11 @@ use Rattle.cp_vat_laws.proofs.order.Same.{IsGoing}
 use Rattle.cp_vat_laws.proofs.order.NewCall.{IsSent}
 
 -- what a reference came to
-abbrev pub came : Reference → Option Cap
+abbrev pub came : Standing → Option Cap
 came (came_to v) = Some v
 came other = None
 
-abbrev pub is_plain : Reference → Bool
+abbrev pub is_plain : Standing → Bool
 is_plain plain = true
 is_plain other = false
 

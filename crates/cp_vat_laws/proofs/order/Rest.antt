@@ -6,7 +6,7 @@ use Rattle.std.specs.FinMap.{get, get-empty}
 use Rattle.std.proofs.Common.{inl, inr, ap, subst, sym, ◌∙◌, true≢false}
 use Rattle.std.proofs.lemmas.List.{append-nil}
 use Rattle.cp_refs.specs.declared.cap.Cap.{Cap}
-use Rattle.cp_refs.specs.declared.call.Held.{Held}
+use Rattle.cp_refs.specs.declared.call.WaitingCall.{WaitingCall}
 use Rattle.cp_refs.specs.declared.outcome.Outcome.{Outcome}
 use Rattle.cp_refs.specs.declared.route.Gate.{Gate}
 use Rattle.cp_refs.specs.declared.route.Gate.TheVariants as gates
@@ -102,10 +102,10 @@ module _ (past : List Turn) (s : State) (h : OrderHolds past s) (none : NoneOver
             (still.1, fits_on w.port.name g standing (w.fits still.0).1);
       }
 
-  standing_of : (ticket : ℕ) (call : Held) → get s.waiting.calls ticket ≡ Some call → gave s.waiting.over call.gate ≡ None
+  standing_of : (ticket : ℕ) (call : WaitingCall) → get s.waiting.calls ticket ≡ Some call → gave s.waiting.over call.gate ≡ None
   standing_of ticket call is = there_is (λ c. gave s.waiting.over c.gate ≡ None) (get s.waiting.calls ticket) call is (none ticket)
 
-  waits_by : (ticket : ℕ) (o : Option Held) → get s.waiting.calls ticket ≡ o → IfSome o (λ call. WaitsFor past s ticket call.gate)
+  waits_by : (ticket : ℕ) (o : Option WaitingCall) → get s.waiting.calls ticket ≡ o → IfSome o (λ call. WaitsFor past s ticket call.gate)
       → IfSome o (λ call. WaitsFor (turn ∷ past) last ticket call.gate)
   waits_by ticket None is w = tt
   waits_by ticket (Some call) is w = waits_rest ticket call.gate (standing_of ticket call is) w
@@ -115,7 +115,7 @@ module _ (past : List Turn) (s : State) (h : OrderHolds past s) (none : NoneOver
 
   -- no call is kept
   module _ (call : Called) where
-    rests_by : (held : Held) → port_of (calls_of past) call.ticket ≡ Some call.port → get s.waiting.calls call.ticket ≡ Some held → WaitsFor past s call.ticket held.gate
+    rests_by : (held : WaitingCall) → port_of (calls_of past) call.ticket ≡ Some call.port → get s.waiting.calls call.ticket ≡ Some held → WaitsFor past s call.ticket held.gate
         → gave s.waiting.over held.gate ≡ None
         → IsEmbargoed last call.ticket ⊎ ((gate : Gate) × PortRoute (turn ∷ past) call.port (routes.Wait gate))
     rests_by held is there w standing = by held.gate refl (rw (standing) at w.leads)
@@ -133,7 +133,7 @@ module _ (past : List Turn) (s : State) (h : OrderHolds past s) (none : NoneOver
         by (gates.Question q path) at stands = inr (gates.Question q path, routed (gates.Question q path) stands)
         by (gates.Embargo n) at stands = inl (held, n, there, at, rw (stands.1) refl)
 
-    held_rests : (o : Option Held) → get s.waiting.calls call.ticket ≡ o → IsSome o → port_of (calls_of past) call.ticket ≡ Some call.port
+    held_rests : (o : Option WaitingCall) → get s.waiting.calls call.ticket ≡ o → IsSome o → port_of (calls_of past) call.ticket ≡ Some call.port
         → IsEmbargoed last call.ticket ⊎ ((gate : Gate) × PortRoute (turn ∷ past) call.port (routes.Wait gate))
     held_rests None there some is = absurd (true≢false (sym some))
     held_rests (Some held) there some is =

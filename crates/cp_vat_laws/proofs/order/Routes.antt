@@ -11,7 +11,7 @@ use Rattle.cp_refs.specs.declared.route.Gate.{Gate}
 use Rattle.cp_refs.specs.declared.route.Route.{Route}
 use Rattle.cp_refs.specs.declared.route.Route.TheVariants as routes
 use Rattle.cp_vat_machine.specs.State.{State, gave}
-use Rattle.cp_vat_machine.specs.Calling.{Reference, plain, on_wire, came_to, reference_of}
+use Rattle.cp_vat_machine.specs.Calling.{Standing, plain, on_wire, came_to, reference_of}
 use Rattle.cp_vat_machine.specs.Trace.{Turn}
 use Rattle.cp_vat_machine.specs.Ports.{Name, answer_path, capability, Port, AnswerRoute, ReferenceRoute, NameRoute, EndedRoute, KeptRoute, LifeRoute, PortRoute, absences}
 use Rattle.cp_vat_machine.proofs.Basics.{some_out, none_out}
@@ -37,7 +37,7 @@ one_answer values a path None r s one other = absurd one
 one_answer values a path (Some None) r s one other = one ∙ sym other
 one_answer values a path (Some (Some outcome)) r s one other = one_route values (cap_at outcome path) r s one other
 
-one_reference : (values : ValueMaps) (c : Cap) (reference : Reference) (r s : Route) → ReferenceRoute values c reference r → ReferenceRoute values c reference s → r ≡ s
+one_reference : (values : ValueMaps) (c : Cap) (reference : Standing) (r s : Route) → ReferenceRoute values c reference r → ReferenceRoute values c reference s → r ≡ s
 one_reference values c plain r s one other = one_route values c r s one other
 one_reference values c on_wire r s one other = one_route values c r s one other
 one_reference values c (came_to value) r s one other = one_route values value r s one other

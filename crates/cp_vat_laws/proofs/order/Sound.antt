@@ -13,7 +13,7 @@ use Rattle.cp_refs.specs.At.{cap_at}
 use Rattle.cp_refs.specs.Route.{HasRoute}
 use Rattle.cp_refs.specs.declared.cap.Cap.{Cap}
 use Rattle.cp_refs.specs.declared.cap.Cap.TheVariants as caps
-use Rattle.cp_refs.specs.declared.call.Held.{Held}
+use Rattle.cp_refs.specs.declared.call.WaitingCall.{WaitingCall}
 use Rattle.cp_refs.specs.declared.call.Origin.{Origin}
 use Rattle.cp_refs.specs.declared.call.Origin.TheVariants as origins
 use Rattle.cp_refs.specs.declared.outcome.Outcome.{Outcome}
@@ -174,7 +174,7 @@ ticket_ungiven s hand w (origins.Own q) ticket (entry, is, open_, bears, own) =
     let value = question_open s hand [] w q entry is open_ own (get s.values.questions q) refl (w.questions_valued q) in
     (value.0, value.1, value.2, (sound_within s hand [] w).opens.open_questions q value.0 value.1 value.2)
 
-without_ungiven : (s : State) (call : Held) (origin : Origin) → IsUngiven s origin → IsUngiven (without_call s call) origin
+without_ungiven : (s : State) (call : WaitingCall) (origin : Origin) → IsUngiven s origin → IsUngiven (without_call s call) origin
 without_ungiven s call (origins.Answer a) h = (h.0, h.1, by (get s.entries.answers a) h.2)
   where
     by : (o : Option (Exchange AnswerEntry)) → IfSome o (λ entry. AreOpen s entry.kept.tied) → IfSome o (λ entry. AreOpen (without_call s call) entry.kept.tied)
@@ -187,7 +187,7 @@ ungiven_none s (origins.Answer a) h = h.1
 ungiven_none s (origins.Own q) h = h.3
 
 -- So it is for a call that waits.
-pub waiting_ungiven : (s : State) (call : Held) → Within s None [] → get s.waiting.calls call.ticket ≡ Some call
+pub waiting_ungiven : (s : State) (call : WaitingCall) → Within s None [] → get s.waiting.calls call.ticket ≡ Some call
     → IsTicketOf s call.origin call.ticket × IsUngiven (without_call s call) call.origin × (given_to s.waiting.over call.origin ≡ None)
 waiting_ungiven s call w is =
     let waits = there_is (WaitsFor s call.ticket) (get s.waiting.calls call.ticket) call is (w.waiting call.ticket) in

@@ -5,7 +5,7 @@ use Rattle.std.specs.Ordering.{nat_cmp}
 use Rattle.std.proofs.Common.{inl, inr, ap, sym, ◌∙◌, true≢false}
 use Rattle.cp_rpc.specs.declared.message.Message.{Message}
 use Rattle.cp_rpc.specs.declared.message.Message.TheVariants as messages
-use Rattle.cp_refs.specs.declared.call.Held.{Held}
+use Rattle.cp_refs.specs.declared.call.WaitingCall.{WaitingCall}
 use Rattle.cp_vat_machine.specs.State.{State, new_state, none_over}
 use Rattle.cp_vat_machine.specs.Then.{Done, fault_if}
 use Rattle.cp_vat_machine.specs.Capacity.{message_fits}
@@ -90,7 +90,7 @@ module _ (past : List Turn) (old : State) (first : List Effect) (mid : State) (h
       on_holds m is (unless_out {A = Done} (fault_if (not (message_fits m)) faults.PayloadTooLarge) (On old m) (first, mid) does)
   receives_by m false is does =
       quietly_own (events.Receive m) values.Nothing (rw (is) refl)
-      (echo_by m (echo_fits (Rattle.cp_rpc.specs.Made.message_made (messages.Unimplemented (Rattle.cp_rpc.specs.Made.message_made m)))) _ is does (λ s. refl))
+      (echo_by m (echo_fits (Rattle.cp_rpc.specs.Written.message_written (messages.Unimplemented (Rattle.cp_rpc.specs.Written.message_written m)))) _ is does (λ s. refl))
 
   pub receives_holds : (m : Message) → Receives old m (Ok (first, mid)) → OrderHolds (owning (events.Receive m) values.Nothing old first mid ∷ past) mid
   receives_holds m does = receives_by m (is_supported m) refl does
@@ -155,8 +155,8 @@ new_holds bootstrap =
       after = tt;
       below = λ ticket port is. none_out is;
       lives = λ ticket port is. none_out is;
-      waits = λ ticket. rw (get-empty {X = Held} nat_cmp ticket) tt;
-      together = λ ticket other call held n is there same at none. none_out (sym (get-empty {X = Held} nat_cmp ticket) ∙ is);
+      waits = λ ticket. rw (get-empty {X = WaitingCall} nat_cmp ticket) tt;
+      together = λ ticket other call held n is there same at none. none_out (sym (get-empty {X = WaitingCall} nat_cmp ticket) ∙ is);
       entered = tt;
       left = tt;
       orderly = record { rising = tt; once = tt; by_ports = tt; none_kept = tt };

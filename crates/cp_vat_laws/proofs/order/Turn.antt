@@ -4,7 +4,7 @@ use Rattle.std.specs.List.{AllByRecursion}
 use Rattle.std.specs.FinMap.{get}
 use Rattle.std.proofs.Common.{arith, inl, inr, subst, sym, ◌∙◌, true≢false}
 use Rattle.cp_refs.specs.declared.cap.Cap.{Cap}
-use Rattle.cp_refs.specs.declared.call.Held.{Held}
+use Rattle.cp_refs.specs.declared.call.WaitingCall.{WaitingCall}
 use Rattle.cp_refs.specs.declared.route.Gate.TheVariants as gates
 use Rattle.cp_vat_machine.specs.Trace.{Turn}
 use Rattle.cp_vat_machine.specs.Ports.{Entry, entry_of, Port, Called, with_entry, calls_of, port_of, absences}
@@ -17,11 +17,11 @@ use Rattle.cp_vat_laws.proofs.order.Passes.{Sound, Passes}
 use Rattle.cp_vat_laws.proofs.order.Waits.{EntersNext, enters_next, port_stays, port_before, lives_on, waits_on}
 
 -- A call that waits at a gate from this turn on: it waits for its port, and calls of that port wait at one embargo, and left before it.
-pub record IsHeldNow (past : List Turn) (turn : Turn) (ticket : ℕ) (call : Held) : Type 0 where
+pub record IsHeldNow (past : List Turn) (turn : Turn) (ticket : ℕ) (call : WaitingCall) : Type 0 where
   pub waits : WaitsFor (turn ∷ past) turn.after ticket call.gate
-  pub joins : (other : ℕ) (held : Held) (n : ℕ) → get turn.after.waiting.calls other ≡ Some held → AreOfOne (turn ∷ past) ticket other
+  pub joins : (other : ℕ) (held : WaitingCall) (n : ℕ) → get turn.after.waiting.calls other ≡ Some held → AreOfOne (turn ∷ past) ticket other
       → get turn.after.waiting.over.embargoes n ≡ None → call.gate ≡ gates.Embargo n → held.gate ≡ gates.Embargo n
-  pub joined : (other : ℕ) (held : Held) (n : ℕ) → get turn.after.waiting.calls other ≡ Some held → AreOfOne (turn ∷ past) ticket other
+  pub joined : (other : ℕ) (held : WaitingCall) (n : ℕ) → get turn.after.waiting.calls other ≡ Some held → AreOfOne (turn ∷ past) ticket other
       → get turn.after.waiting.over.embargoes n ≡ None → held.gate ≡ gates.Embargo n → call.gate ≡ gates.Embargo n
   pub late : (exit : Exit) → HasGone past turn.before exit → AreOfOne (turn ∷ past) exit.ticket ticket → exit.ticket < ticket
 
@@ -39,7 +39,7 @@ AtMostOne P (x ∷ y ∷ more) = ⊥
 
 -- What a turn did to calls.
 pub record Turned (past : List Turn) (turn : Turn) : Type 0 where
-  pub held : (ticket : ℕ) (call : Held) → get turn.after.waiting.calls ticket ≡ Some call → (get turn.before.waiting.calls ticket ≡ Some call) ⊎ IsHeldNow past turn ticket call
+  pub held : (ticket : ℕ) (call : WaitingCall) → get turn.after.waiting.calls ticket ≡ Some call → (get turn.before.waiting.calls ticket ≡ Some call) ⊎ IsHeldNow past turn ticket call
   pub leaves : (ticket : ℕ) → IsSome (get turn.before.waiting.calls ticket) → (has_left (exits_in turn) ticket ≡ true) ⊎ IsSome (get turn.after.waiting.calls ticket)
   pub enters : IfSome (entry_of turn) (λ e. (turn.before.next_ticket < turn.after.next_ticket) × ((has_left (exits_in turn) e.ticket ≡ true) ⊎ IsSome (get turn.after.waiting.calls e.ticket)))
   pub exits : AtMostOne (ExitsNow past turn) (exits_in turn)
@@ -126,13 +126,13 @@ module _ (past : List Turn) (turn : Turn) (sound : Sound turn.before) (later : S
   lives_now ticket port is = lives_by ticket port (entry_of turn) is
 
   -- a call that waited before
-  pub waited : (ticket : ℕ) (call : Held) → get turn.before.waiting.calls ticket ≡ Some call → WaitsFor past turn.before ticket call.gate
+  pub waited : (ticket : ℕ) (call : WaitingCall) → get turn.before.waiting.calls ticket ≡ Some call → WaitsFor past turn.before ticket call.gate
   waited ticket call is = there_is (λ c. WaitsFor past turn.before ticket c.gate) (get turn.before.waiting.calls ticket) call is (h.waits ticket)
 
-  pub low : (ticket : ℕ) (call : Held) → get turn.before.waiting.calls ticket ≡ Some call → ticket < turn.before.next_ticket
+  pub low : (ticket : ℕ) (call : WaitingCall) → get turn.before.waiting.calls ticket ≡ Some call → ticket < turn.before.next_ticket
   low ticket call is = let w = waited ticket call is in h.below ticket w.port w.called
 
-  waits_by : (ticket : ℕ) (o : Option Held) → get turn.after.waiting.calls ticket ≡ o → IfSome o (λ call. WaitsFor (turn ∷ past) turn.after ticket call.gate)
+  waits_by : (ticket : ℕ) (o : Option WaitingCall) → get turn.after.waiting.calls ticket ≡ o → IfSome o (λ call. WaitsFor (turn ∷ past) turn.after ticket call.gate)
   waits_by ticket None is = tt
   waits_by ticket (Some call) is = by (t.held ticket call is)
     where
@@ -153,7 +153,7 @@ module _ (past : List Turn) (turn : Turn) (sound : Sound turn.before) (later : S
   none_before n None is none = refl
   none_before n (Some v) is none = none_out (sym none ∙ passes.ended n v is)
 
-  together_by : (ticket other : ℕ) (call held : Held) (n : ℕ) → get turn.after.waiting.calls ticket ≡ Some call → get turn.after.waiting.calls other ≡ Some held
+  together_by : (ticket other : ℕ) (call held : WaitingCall) (n : ℕ) → get turn.after.waiting.calls ticket ≡ Some call → get turn.after.waiting.calls other ≡ Some held
       → AreOfOne (turn ∷ past) ticket other → call.gate ≡ gates.Embargo n → get turn.after.waiting.over.embargoes n ≡ None
       → (get turn.before.waiting.calls ticket ≡ Some call) ⊎ IsHeldNow past turn ticket call → (get turn.before.waiting.calls other ≡ Some held) ⊎ IsHeldNow past turn other held
       → held.gate ≡ gates.Embargo n
@@ -164,7 +164,7 @@ module _ (past : List Turn) (turn : Turn) (sound : Sound turn.before) (later : S
       (none_before n (get turn.before.waiting.over.embargoes n) refl none)
 
   -- what left before doesn't wait, and is ahead
-  still_gone : (exit : Exit) → HasGone past turn.before exit → (o : Option Held) → get turn.after.waiting.calls exit.ticket ≡ o → o ≡ None
+  still_gone : (exit : Exit) → HasGone past turn.before exit → (o : Option WaitingCall) → get turn.after.waiting.calls exit.ticket ≡ o → o ≡ None
   still_gone exit g None is = refl
   still_gone exit g (Some call) is = by (t.held exit.ticket call is)
     where
@@ -175,7 +175,7 @@ module _ (past : List Turn) (turn : Turn) (sound : Sound turn.before) (later : S
           never : exit.ticket < exit.ticket → ⊥
           never e = omega (arith, e)
 
-  ahead_by : (exit : Exit) → HasGone past turn.before exit → (ticket : ℕ) (o : Option Held) → get turn.after.waiting.calls ticket ≡ o → IsSome o
+  ahead_by : (exit : Exit) → HasGone past turn.before exit → (ticket : ℕ) (o : Option WaitingCall) → get turn.after.waiting.calls ticket ≡ o → IsSome o
       → AreOfOne (turn ∷ past) exit.ticket ticket → exit.ticket < ticket
   ahead_by exit g ticket None is some same = absurd (true≢false (sym some))
   ahead_by exit g ticket (Some call) is some same = by (t.held ticket call is)

@@ -4,7 +4,7 @@ use Rattle.std.specs.FinMap.{get, remove}
 use Rattle.std.proofs.Common.{arith, inl, inr, ap, subst, sym, ◌∙◌, true≢false}
 use Rattle.cp_refs.specs.Route.{Routes}
 use Rattle.cp_refs.specs.declared.cap.Cap.{Cap}
-use Rattle.cp_refs.specs.declared.call.Held.{Held}
+use Rattle.cp_refs.specs.declared.call.WaitingCall.{WaitingCall}
 use Rattle.cp_refs.specs.declared.route.Gate.{Gate}
 use Rattle.cp_refs.specs.declared.route.Gate.TheVariants as gates
 use Rattle.cp_refs.specs.declared.route.Route.{Route}
@@ -26,10 +26,10 @@ use Rattle.cp_vat_laws.proofs.order.Same.{IsGoing, going_kept}
 use Rattle.cp_vat_laws.proofs.order.Turn.{ExitsNow, Turned}
 
 -- the turn of a call that goes
-abbrev pub going : State → Held → List Effect → State → Turn
+abbrev pub going : State → WaitingCall → List Effect → State → Turn
 going old call first mid = record { cause = goes call; before = old; effects = first; after = mid }
 
-module _ (past : List Turn) (old : State) (call : Held) (cap : Cap) (route : Route) (first : List Effect) (mid : State) (sound : Sound old) (later : Sound mid)
+module _ (past : List Turn) (old : State) (call : WaitingCall) (cap : Cap) (route : Route) (first : List Effect) (mid : State) (sound : Sound old) (later : Sound mid)
     (passes : Passes old mid) (h : OrderHolds past old) (next : IsNext old call cap) (way : Routes old.values cap route) where
   abbrev turn : Turn
   turn = going old call first mid
@@ -53,7 +53,7 @@ module _ (past : List Turn) (old : State) (call : Held) (cap : Cap) (route : Rou
   alive_off e = let f = here.fits e in (f.0, off_of past turn sound later passes h.after here.port.name call.gate f.1)
 
   -- the gate of a call that goes is over, so none of its port waits at an open embargo
-  pub not_embargoed : (ticket : ℕ) (other : Held) (n : ℕ) → get old.waiting.calls ticket ≡ Some other → AreOfOne past call.ticket ticket → other.gate ≡ gates.Embargo n
+  pub not_embargoed : (ticket : ℕ) (other : WaitingCall) (n : ℕ) → get old.waiting.calls ticket ≡ Some other → AreOfOne past call.ticket ticket → other.gate ≡ gates.Embargo n
       → get old.waiting.over.embargoes n ≡ None → ⊥
   not_embargoed ticket other n is same at none =
       let joined = h.together ticket call.ticket other call n is next.waits (same.0, same.2, same.1) at none in
@@ -61,7 +61,7 @@ module _ (past : List Turn) (old : State) (call : Held) (cap : Cap) (route : Rou
       none_out (sym none ∙ over)
 
   -- one that waits with it at the same port has the same route
-  same_route : (ticket : ℕ) (other : Held) (is : get old.waiting.calls ticket ≡ Some other) → AreOfOne past call.ticket ticket
+  same_route : (ticket : ℕ) (other : WaitingCall) (is : get old.waiting.calls ticket ≡ Some other) → AreOfOne past call.ticket ticket
       → (w : WaitsFor past old ticket other.gate) → w.route ≡ route
   same_route ticket other is same w =
       let mine : same.0 ≡ here.port = some_out (sym same.1 ∙ here.called) in
@@ -71,7 +71,7 @@ module _ (past : List Turn) (old : State) (call : Held) (cap : Cap) (route : Rou
 
   module _ (going_on : IsGoing route) where
     -- so it is over too, and came later
-    ahead_by : (ticket : ℕ) (other : Held) → get old.waiting.calls ticket ≡ Some other → AreOfOne past call.ticket ticket → (g : Gate) → other.gate ≡ g → (o : Option Cap)
+    ahead_by : (ticket : ℕ) (other : WaitingCall) → get old.waiting.calls ticket ≡ Some other → AreOfOne past call.ticket ticket → (g : Gate) → other.gate ≡ g → (o : Option Cap)
         → gave old.waiting.over g ≡ o → LeadsBy old g o route → call.ticket ≤ ticket
     ahead_by ticket other is same (gates.Answer a path) at None none leads = absurd (subst IsGoing leads going_on)
     ahead_by ticket other is same (gates.Promise p) at None none leads = absurd (subst IsGoing leads going_on)
@@ -79,7 +79,7 @@ module _ (past : List Turn) (old : State) (call : Held) (cap : Cap) (route : Rou
     ahead_by ticket other is same (gates.Embargo n) at None none leads = absurd (not_embargoed ticket other n is same at none)
     ahead_by ticket other is same g at (Some given) over leads = next.lowest ticket other given is (rw (at) over)
 
-    ahead : (ticket : ℕ) (other : Held) → get old.waiting.calls ticket ≡ Some other → (call.ticket == ticket) ≡ false → AreOfOne past call.ticket ticket → call.ticket < ticket
+    ahead : (ticket : ℕ) (other : WaitingCall) → get old.waiting.calls ticket ≡ Some other → (call.ticket == ticket) ≡ false → AreOfOne past call.ticket ticket → call.ticket < ticket
     ahead ticket other is differ same =
         let w = there_is (λ c. WaitsFor past old ticket c.gate) (get old.waiting.calls ticket) other is (h.waits ticket) in
         let leads : Leads old other.gate route = rw (same_route ticket other is same w) at w.leads in
@@ -89,7 +89,7 @@ module _ (past : List Turn) (old : State) (call : Held) (cap : Cap) (route : Rou
         strictly low e = grind (arith, Rattle.std.proofs.lemmas.Bool.Decides.nat_tests)
 
     module _ (calls : mid.waiting.calls ≡ remove old.waiting.calls call.ticket) (exits : exits_in turn ≡ record { ticket = call.ticket; route = route } ∷ []) where
-      left_of : (u : ℕ) (b : Bool) → (call.ticket == u) ≡ b → (c : Held) → get mid.waiting.calls u ≡ Some c → (b ≡ false) × (get old.waiting.calls u ≡ Some c)
+      left_of : (u : ℕ) (b : Bool) → (call.ticket == u) ≡ b → (c : WaitingCall) → get mid.waiting.calls u ≡ Some c → (b ≡ false) × (get old.waiting.calls u ≡ Some c)
       left_of u true e c is = none_out (sym (gone_at old.waiting.calls call.ticket u true e) ∙ ap (λ t. get t u) (sym calls) ∙ is)
       left_of u false e c is = (refl, sym (gone_at old.waiting.calls call.ticket u false e) ∙ ap (λ t. get t u) (sym calls) ∙ is)
 
@@ -97,7 +97,7 @@ module _ (past : List Turn) (old : State) (call : Held) (cap : Cap) (route : Rou
       stays_by u true e some = inl (rw (exits, e) refl)
       stays_by u false e some = inr (rw (calls, gone_at old.waiting.calls call.ticket u false e) some)
 
-      one_before : (u : ℕ) (c : Held) → get old.waiting.calls u ≡ Some c → AreOfOne (turn ∷ past) call.ticket u → AreOfOne past call.ticket u
+      one_before : (u : ℕ) (c : WaitingCall) → get old.waiting.calls u ≡ Some c → AreOfOne (turn ∷ past) call.ticket u → AreOfOne past call.ticket u
       one_before u c is same =
           let w = there_is (λ c. WaitsFor past old u c.gate) (get old.waiting.calls u) c is (h.waits u) in (
             same.0,
@@ -105,7 +105,7 @@ module _ (past : List Turn) (old : State) (call : Held) (cap : Cap) (route : Rou
             sym (port_before past turn u (h.below u w.port w.called)) ∙ same.2,
           )
 
-      ahead_of : (u : ℕ) (o : Option Held) → get mid.waiting.calls u ≡ o → IsSome o → AreOfOne (turn ∷ past) call.ticket u → call.ticket < u
+      ahead_of : (u : ℕ) (o : Option WaitingCall) → get mid.waiting.calls u ≡ o → IsSome o → AreOfOne (turn ∷ past) call.ticket u → call.ticket < u
       ahead_of u None is some same = absurd (true≢false (sym some))
       ahead_of u (Some c) is some same =
           let was = left_of u (call.ticket == u) refl c is in

@@ -4,7 +4,7 @@ use Rattle.std.specs.FinMap.{get, remove}
 use Rattle.std.proofs.Common.{arith, inl, inr, ap, sym, ◌∙◌}
 use Rattle.cp_refs.specs.Route.{Routes}
 use Rattle.cp_refs.specs.declared.cap.Cap.{Cap}
-use Rattle.cp_refs.specs.declared.call.Held.{Held}
+use Rattle.cp_refs.specs.declared.call.WaitingCall.{WaitingCall}
 use Rattle.cp_refs.specs.declared.outcome.Outcome.{Outcome}
 use Rattle.cp_refs.specs.declared.route.Gate.{Gate}
 use Rattle.cp_refs.specs.declared.route.Gate.TheVariants as gates
@@ -50,7 +50,7 @@ pub no_failure : (ticket : ℕ) (o : Option Outcome) → o ≡ None → failure_
 no_failure ticket None e = refl
 no_failure ticket (Some outcome) e = none_out (sym e)
 
-module _ (past : List Turn) (old : State) (call : Held) (cap : Cap) (to : Gate) (sound : Sound old) (h : OrderHolds past old) (next : IsNext old call cap)
+module _ (past : List Turn) (old : State) (call : WaitingCall) (cap : Cap) (to : Gate) (sound : Sound old) (h : OrderHolds past old) (next : IsNext old call cap)
     (way : Routes old.values cap (routes.Wait to)) (ungiven : given_to old.waiting.over call.origin ≡ None) where
   abbrev mid : State
   mid = held_at (without_call old call) (underway call) to
@@ -58,7 +58,7 @@ module _ (past : List Turn) (old : State) (call : Held) (cap : Cap) (to : Gate) 
   abbrev turn : Turn
   turn = going old call [] mid
 
-  abbrev now_held : Held
+  abbrev now_held : WaitingCall
   now_held = record { ticket = call.ticket; origin = call.origin; request = call.request; gate = to }
 
   module _ (later : Sound mid) where
@@ -109,14 +109,14 @@ module _ (past : List Turn) (old : State) (call : Held) (cap : Cap) (to : Gate) 
         }
 
     -- what waits now
-    held_of : (u : ℕ) (b : Bool) → (call.ticket == u) ≡ b → (c : Held) → get mid.waiting.calls u ≡ Some c
+    held_of : (u : ℕ) (b : Bool) → (call.ticket == u) ≡ b → (c : WaitingCall) → get mid.waiting.calls u ≡ Some c
         → ((call.ticket ≡ u) × (c ≡ now_held)) ⊎ (get old.waiting.calls u ≡ Some c)
     held_of u true e c is =
         inl (is_equal call.ticket u e, some_out (sym is ∙ put_at (remove old.waiting.calls call.ticket) call.ticket u now_held true e))
     held_of u false e c is =
         inr (sym (put_at (remove old.waiting.calls call.ticket) call.ticket u now_held false e ∙ gone_at old.waiting.calls call.ticket u false e) ∙ is)
 
-    one_before : (u : ℕ) (c : Held) → get old.waiting.calls u ≡ Some c → AreOfOne (turn ∷ past) call.ticket u → AreOfOne past call.ticket u
+    one_before : (u : ℕ) (c : WaitingCall) → get old.waiting.calls u ≡ Some c → AreOfOne (turn ∷ past) call.ticket u → AreOfOne past call.ticket u
     one_before u c is same =
         let w = there_is (λ c. WaitsFor past old u c.gate) (get old.waiting.calls u) c is (h.waits u) in (
           same.0,
@@ -124,7 +124,7 @@ module _ (past : List Turn) (old : State) (call : Held) (cap : Cap) (to : Gate) 
           sym (port_before past turn u (h.below u w.port w.called)) ∙ same.2,
         )
 
-    joined_by : (other : ℕ) (held : Held) (n : ℕ) → AreOfOne (turn ∷ past) call.ticket other → get old.waiting.over.embargoes n ≡ None → held.gate ≡ gates.Embargo n
+    joined_by : (other : ℕ) (held : WaitingCall) (n : ℕ) → AreOfOne (turn ∷ past) call.ticket other → get old.waiting.over.embargoes n ≡ None → held.gate ≡ gates.Embargo n
         → ((call.ticket ≡ other) × (held ≡ now_held)) ⊎ (get old.waiting.calls other ≡ Some held) → to ≡ gates.Embargo n
     joined_by other held n same none at (inl now) = sym (ap (λ c. c.gate) now.1) ∙ at
     joined_by other held n same none at (inr was) =
@@ -139,7 +139,7 @@ module _ (past : List Turn) (old : State) (call : Held) (cap : Cap) (to : Gate) 
           late = λ exit g same. g.ahead call.ticket (rw (next.waits) refl) (same.0, sym (port_before past turn exit.ticket g.given) ∙ same.1, sym (port_before past turn call.ticket below) ∙ same.2);
         }
 
-    held_by : (u : ℕ) (c : Held) → ((call.ticket ≡ u) × (c ≡ now_held)) ⊎ (get old.waiting.calls u ≡ Some c)
+    held_by : (u : ℕ) (c : WaitingCall) → ((call.ticket ≡ u) × (c ≡ now_held)) ⊎ (get old.waiting.calls u ≡ Some c)
         → (get old.waiting.calls u ≡ Some c) ⊎ IsHeldNow past turn u c
     held_by u c (inl now) = inr (rw (← now.0, now.1) held_now)
     held_by u c (inr was) = inl was

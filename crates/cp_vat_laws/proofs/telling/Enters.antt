@@ -24,7 +24,7 @@ use Rattle.cp_vat_machine.specs.Capacity.{Fresh}
 use Rattle.cp_vat_machine.specs.Supported.{is_supported}
 use Rattle.cp_vat_machine.specs.Take.{answer_of, path_of, TakeAll}
 use Rattle.cp_vat_machine.specs.Answering.{is_answering, target_faults, GoToExport, GoToAnswer, GoToTarget, peer_call, entered, call_faults, OnCall}
-use Rattle.cp_vat_machine.specs.Calling.{Reference, plain, on_wire, came_to, reference_of, called, own_call, mark_of, marked, has_mark_capacity, disembargo_of, GoBack, GoByValue, GoFrom, OwnDone, Opens, call_refusals, DoCall}
+use Rattle.cp_vat_machine.specs.Calling.{Standing, plain, on_wire, came_to, reference_of, called, own_call, mark_of, marked, has_mark_capacity, disembargo_of, GoBack, GoByValue, GoFrom, OwnDone, Opens, call_refusals, DoCall}
 use Rattle.cp_vat_machine.specs.Go.{Underway, held_at, Go, GoTo}
 use Rattle.cp_vat_machine.specs.Trace.{Turn}
 use Rattle.cp_vat_machine.specs.Ports.{Name, answer_path, capability, named, is_there}
@@ -126,7 +126,7 @@ module _ (old : State) (q : ℕ) (request : Request) (cap : Cap) (within : Withi
   wire_tells is (Some embargo) between sets goes = asks between (rw (ok_in _ _ sets) (come kinds.Wire)) goes.0 goes.2
   wire_tells is None between sets goes = wire_new is between goes (has_mark_capacity (called old q kinds.Wire) cap) sets
 
-  from_tells : (reference : Reference) → reference_of old.values cap ≡ reference → GoFrom old q request cap reference (Ok (first, mid)) → TellsFailure its_turn
+  from_tells : (reference : Standing) → reference_of old.values cap ≡ reference → GoFrom old q request cap reference (Ok (first, mid)) → TellsFailure its_turn
   from_tells plain is goes = asks (called old q kinds.Local) (come kinds.Local) goes.0 goes.2
   from_tells on_wire is goes =
       let parts = then_out {A = State} {B = Done} (λ mid. mid ≡ marked (called old q kinds.Wire) cap (mark_of old cap)) _ (first, mid) goes in

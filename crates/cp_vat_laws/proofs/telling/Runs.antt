@@ -2,7 +2,7 @@
 use Rattle.std.specs.Prelude.{◌≡◌, ◌⊎◌, refl, not, Bool, true, false, if◌then◌else◌, List, [], ◌∷◌, filter, Option, Some, None, Result, Ok, Err}
 use Rattle.std.specs.List.{AllByRecursion}
 use Rattle.std.proofs.Common.{inl, inr, ap, subst, sym, ◌∙◌, true≢false}
-use Rattle.cp_rpc.specs.Made.{message_made}
+use Rattle.cp_rpc.specs.Written.{message_written}
 use Rattle.cp_rpc.specs.declared.message.Message.{Message}
 use Rattle.cp_rpc.specs.declared.message.Message.TheVariants as messages
 use Rattle.cp_vat_machine.specs.State.{State, new_state, none_over}
@@ -100,7 +100,7 @@ module _ (old : State) (first : List Effect) (mid : State) (w : Within old None 
   receives_by : (m : Message) (b : Bool) → is_supported m ≡ b → ReceivesIf b old m (Ok (first, mid)) → TellsItsGift (owning (events.Receive m) values.Nothing old first mid)
   receives_by m true is does =
       supported_tells m is (on_tells m is (unless_out {A = Done} (fault_if (not (message_fits m)) faults.PayloadTooLarge) (On old m) (first, mid) does))
-  receives_by m false is does = (None, rw (is) refl, echo_silent (echo_fits (message_made (messages.Unimplemented (message_made m)))) _ refl does)
+  receives_by m false is does = (None, rw (is) refl, echo_silent (echo_fits (message_written (messages.Unimplemented (message_written m)))) _ refl does)
 
   pub receives_tells : (m : Message) → Receives old m (Ok (first, mid)) → TellsItsGift (owning (events.Receive m) values.Nothing old first mid)
   receives_tells m does = receives_by m (is_supported m) refl does

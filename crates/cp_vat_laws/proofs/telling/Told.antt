@@ -10,7 +10,7 @@ use Rattle.cp_rpc.specs.declared.returned.Returned.{Returned}
 use Rattle.cp_rpc.specs.declared.target.Target.{Target}
 use Rattle.cp_rpc.specs.declared.target.Target.TheVariants as targets
 use Rattle.cp_refs.specs.declared.cap.Cap.{Cap}
-use Rattle.cp_refs.specs.declared.call.Held.{Held}
+use Rattle.cp_refs.specs.declared.call.WaitingCall.{WaitingCall}
 use Rattle.cp_refs.specs.declared.call.Origin.{Origin}
 use Rattle.cp_refs.specs.declared.call.Origin.TheVariants as origins
 use Rattle.cp_refs.specs.declared.outcome.Outcome.{Outcome}
@@ -117,11 +117,11 @@ module _ (turn : Turn) (s : State) (call : Underway) (whose : IsTicketOf s call.
   )
 
 -- The turn of a waiting call that goes.
-same_without : (old : State) (call : Held) (origin : Origin) → SameStage old (without_call old call) origin
+same_without : (old : State) (call : WaitingCall) (origin : Origin) → SameStage old (without_call old call) origin
 same_without old call (origins.Answer a) = refl
 same_without old call (origins.Own q) = refl
 
-pub going_tells : (old : State) (call : Held) (cap : Cap) (first : List Effect) (mid : State) → Within old None [] → IsNext old call cap
+pub going_tells : (old : State) (call : WaitingCall) (cap : Cap) (first : List Effect) (mid : State) → Within old None [] → IsNext old call cap
     → GoTo (without_call old call) (underway call) cap (Ok (first, mid)) → TellsItsGift (going old call first mid)
 going_tells old call cap first mid within next goes =
     let may = waiting_ungiven old call within next.waits in

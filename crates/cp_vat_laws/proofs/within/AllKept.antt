@@ -12,7 +12,7 @@ use Rattle.cp_refs.specs.At.{cap_at, cap_in, node_along}
 use Rattle.cp_refs.specs.Values.{ValueMaps}
 use Rattle.cp_refs.specs.declared.cap.Cap.{Cap}
 use Rattle.cp_refs.specs.declared.cap.Cap.TheVariants as caps
-use Rattle.cp_refs.specs.declared.call.Held.{Held}
+use Rattle.cp_refs.specs.declared.call.WaitingCall.{WaitingCall}
 use Rattle.cp_refs.specs.declared.outcome.Outcome.{Outcome}
 use Rattle.cp_refs.specs.declared.outcome.Outcome.TheVariants as outcomes
 use Rattle.cp_refs.specs.declared.values.Question.{Question}
@@ -141,7 +141,7 @@ values_both P Q values h k =
           (k.questions q question outcome is given);
     }
 
-module _ (P Q : Cap → Type 0) (values : ValueMaps) (calls : Table Held) (embargoes : Table Cap) (exports : Table (Counted Cap)) where
+module _ (P Q : Cap → Type 0) (values : ValueMaps) (calls : Table WaitingCall) (embargoes : Table Cap) (exports : Table (Counted Cap)) where
   pub kept_map : ((c : Cap) → P c → Q c) → AreKept P values calls embargoes exports → AreKept Q values calls embargoes exports
   kept_map f h =
       record {

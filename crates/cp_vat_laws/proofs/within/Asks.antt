@@ -9,7 +9,7 @@ use Rattle.cp_tables.specs.declared.exchange.Stage.TheVariants as stages
 use Rattle.cp_refs.specs.Route.{HasRoute}
 use Rattle.cp_refs.specs.declared.cap.Cap.{Cap}
 use Rattle.cp_refs.specs.declared.cap.Cap.TheVariants as caps
-use Rattle.cp_refs.specs.declared.call.Held.{Held}
+use Rattle.cp_refs.specs.declared.call.WaitingCall.{WaitingCall}
 use Rattle.cp_refs.specs.declared.call.Origin.{Origin}
 use Rattle.cp_refs.specs.declared.call.Origin.TheVariants as origins
 use Rattle.cp_refs.specs.declared.outcome.Outcome.{Outcome}
@@ -150,9 +150,9 @@ module _ {s : State} (h : Within s None []) (q : ℕ) (kind : QuestionKind) (tic
         forwarding = each_put (λ r (e : Exchange QuestionEntry). IsOpenIf e.kept.forwards e)
             (λ r (e : Exchange QuestionEntry). IsOpenIf e.kept.forwards e) s.entries.questions q opened h.forwarding tt (λ r e other is x. x);
         gates_kept = h.gates_kept;
-        sendable = λ t. here_of _ (get s.waiting.calls t) (λ (call : Held) is. table_sendable call.request.caps
-            (there_of (λ (c : Held). AllByRecursion (IsThere s) c.request.caps) (get s.waiting.calls t) call is (h.there.calls_ t))
-            (there_of (λ (c : Held). AllByRecursion (λ x. is_local_path s x ≡ false) c.request.caps) (get s.waiting.calls t) call is (h.sendable t)));
+        sendable = λ t. here_of _ (get s.waiting.calls t) (λ (call : WaitingCall) is. table_sendable call.request.caps
+            (there_of (λ (c : WaitingCall). AllByRecursion (IsThere s) c.request.caps) (get s.waiting.calls t) call is (h.there.calls_ t))
+            (there_of (λ (c : WaitingCall). AllByRecursion (λ x. is_local_path s x ≡ false) c.request.caps) (get s.waiting.calls t) call is (h.sendable t)));
         tied = h.tied;
         untied = h.untied;
         owned = h.owned;

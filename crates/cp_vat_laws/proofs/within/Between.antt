@@ -11,7 +11,7 @@ use Rattle.cp_tables.specs.declared.exchange.Stage.TheVariants as stages
 use Rattle.cp_refs.specs.Route.{HasRoute}
 use Rattle.cp_refs.specs.Values.{ValueMaps}
 use Rattle.cp_refs.specs.declared.cap.Cap.{Cap}
-use Rattle.cp_refs.specs.declared.call.Held.{Held}
+use Rattle.cp_refs.specs.declared.call.WaitingCall.{WaitingCall}
 use Rattle.cp_refs.specs.declared.outcome.Outcome.{Outcome}
 use Rattle.cp_refs.specs.declared.route.Gate.{Gate}
 use Rattle.cp_refs.specs.declared.route.Gate.TheVariants as gates
@@ -103,8 +103,8 @@ module _ (P : Cap → Type 0) (s : State) where
       record {
         values_ = by_number P s.values (all_front P (promises_in s.values) _ first) (all_back P (kept_caps s) (imports_in s.values) front)
             (all_back P (promises_in s.values) _ first) (all_back P _ (questions_in s.values) given);
-        calls_ = λ t. here_of _ (get s.waiting.calls t) (λ (call : Held) is. value_of (λ (c : Held). AllByRecursion P c.request.caps) s.waiting.calls t call is
-            (flat_all P (λ (c : Held). c.request.caps) (waiting_calls s) (all_back P _ (flat_map (λ call. call.request.caps) (waiting_calls s)) kept)));
+        calls_ = λ t. here_of _ (get s.waiting.calls t) (λ (call : WaitingCall) is. value_of (λ (c : WaitingCall). AllByRecursion P c.request.caps) s.waiting.calls t call is
+            (flat_all P (λ (c : WaitingCall). c.request.caps) (waiting_calls s) (all_back P _ (flat_map (λ call. call.request.caps) (waiting_calls s)) kept)));
         embargoes_ = λ n. here_of _ (get s.marks.embargoes n) (λ c is. value_of P s.marks.embargoes n c is (all_back P _ (values s.marks.embargoes) before));
         exports_ = λ e. here_of _ (get s.counts.exports e) (λ (entry : Counted Cap) is. value_of (λ (c : Counted Cap). P c.kept) s.counts.exports e entry is
             (map_all P (λ (c : Counted Cap). c.kept) (values s.counts.exports) (all_back P _ (map (λ entry. entry.kept) (values s.counts.exports)) h)));
@@ -117,7 +117,7 @@ module _ (P : Cap → Type 0) (s : State) where
       (all_both P _ _
       (all_both P _ _
       (all_both P _ _ (all_both P _ _ (list_promises P s.values h.values_) (list_answers P s.values h.values_)) (list_questions P s.values h.values_))
-      (all_flat P (λ (c : Held). c.request.caps) (waiting_calls s) (all_values (λ (c : Held). AllByRecursion P c.request.caps) s.waiting.calls h.calls_)))
+      (all_flat P (λ (c : WaitingCall). c.request.caps) (waiting_calls s) (all_values (λ (c : WaitingCall). AllByRecursion P c.request.caps) s.waiting.calls h.calls_)))
       (list_imports P s.values h.values_))
       (all_values P s.marks.embargoes h.embargoes_))
       (all_map P (λ (c : Counted Cap). c.kept) (values s.counts.exports) (all_values (λ (c : Counted Cap). P c.kept) s.counts.exports h.exports_))
@@ -148,22 +148,22 @@ no_outcome o n outcome is also = none_out (sym (is ∙ get-empty {X = Outcome} n
 -- nobody waits for a finished question
 module _ (s : State) (q : ℕ) where
   pub unused_off : is_question_used s q ≡ false → (ticket : ℕ) → IfSome (get s.waiting.calls ticket) (IsOff q)
-  unused_off h ticket = here_of _ (get s.waiting.calls ticket) (λ (call : Held) is. (
-    value_of (λ (c : Held). is_at_question q c.gate ≡ false) s.waiting.calls ticket call is
-        (none_pass (λ (c : Held). is_at_question q c.gate) (waiting_calls s) (or_first _ _ h)),
-    value_of (λ (c : Held). list_any (is_pipelined_of q) c.request.caps ≡ false) s.waiting.calls ticket call is
-        (none_pass (λ (c : Held). list_any (is_pipelined_of q) c.request.caps) (waiting_calls s)
-        (or_second (list_any (λ (c : Held). is_at_question q c.gate) (waiting_calls s)) _ h)),
+  unused_off h ticket = here_of _ (get s.waiting.calls ticket) (λ (call : WaitingCall) is. (
+    value_of (λ (c : WaitingCall). is_at_question q c.gate ≡ false) s.waiting.calls ticket call is
+        (none_pass (λ (c : WaitingCall). is_at_question q c.gate) (waiting_calls s) (or_first _ _ h)),
+    value_of (λ (c : WaitingCall). list_any (is_pipelined_of q) c.request.caps ≡ false) s.waiting.calls ticket call is
+        (none_pass (λ (c : WaitingCall). list_any (is_pipelined_of q) c.request.caps) (waiting_calls s)
+        (or_second (list_any (λ (c : WaitingCall). is_at_question q c.gate) (waiting_calls s)) _ h)),
   ))
 
   off_unused : ((ticket : ℕ) → IfSome (get s.waiting.calls ticket) (IsOff q)) → is_question_used s q ≡ false
   off_unused h =
-      let gates = pass_none (λ (c : Held). is_at_question q c.gate) (waiting_calls s)
-      (all_values (λ (c : Held). is_at_question q c.gate ≡ false) s.waiting.calls
-      (each_kept (λ t. IsOff q) (λ t (c : Held). is_at_question q c.gate ≡ false) s.waiting.calls 0 h (λ t c is off. off.0))) in
-      let tables = pass_none (λ (c : Held). list_any (is_pipelined_of q) c.request.caps) (waiting_calls s)
-      (all_values (λ (c : Held). list_any (is_pipelined_of q) c.request.caps ≡ false) s.waiting.calls
-      (each_kept (λ t. IsOff q) (λ t (c : Held). list_any (is_pipelined_of q) c.request.caps ≡ false) s.waiting.calls 0 h (λ t c is off. off.1))) in
+      let gates = pass_none (λ (c : WaitingCall). is_at_question q c.gate) (waiting_calls s)
+      (all_values (λ (c : WaitingCall). is_at_question q c.gate ≡ false) s.waiting.calls
+      (each_kept (λ t. IsOff q) (λ t (c : WaitingCall). is_at_question q c.gate ≡ false) s.waiting.calls 0 h (λ t c is off. off.0))) in
+      let tables = pass_none (λ (c : WaitingCall). list_any (is_pipelined_of q) c.request.caps) (waiting_calls s)
+      (all_values (λ (c : WaitingCall). list_any (is_pipelined_of q) c.request.caps ≡ false) s.waiting.calls
+      (each_kept (λ t. IsOff q) (λ t (c : WaitingCall). list_any (is_pipelined_of q) c.request.caps ≡ false) s.waiting.calls 0 h (λ t c is off. off.1))) in
       rw (gates) tables
 
 left_unused : (s : State) (q : ℕ) (stage : Stage) → stage ≡ stages.Finished → IsLeft s q stage → is_question_used s q ≡ false
@@ -195,8 +195,8 @@ local_is_within s h =
       forwards = h.forwards;
       wire = λ q. here_of _ (get s.entries.questions q) (λ entry is not. rw is at (h.wire q));
       forwarding = h.forwarding;
-      gates_kept = each_kept (λ t (call : Held). IsUngivenAt s call.gate)
-          (λ t (call : Held). IsUngivenIf s (gave s.waiting.over call.gate) call.gate) s.waiting.calls 0 h.gates_kept
+      gates_kept = each_kept (λ t (call : WaitingCall). IsUngivenAt s call.gate)
+          (λ t (call : WaitingCall). IsUngivenIf s (gave s.waiting.over call.gate) call.gate) s.waiting.calls 0 h.gates_kept
           (λ t call is. ungiven_if s call.gate (gave s.waiting.over call.gate) (ap (λ o. gave o call.gate) h.none_over_ ∙ none_gave call.gate));
       sendable = h.sendable;
       tied = λ p. omega (arith, h.tied p);
@@ -232,7 +232,7 @@ within_is_local s h none =
       forwards = h.forwards;
       wire = λ q. here_of _ (get s.entries.questions q) (λ entry is. (rw is at (h.wire q)) refl);
       forwarding = h.forwarding;
-      gates_kept = λ t. here_of _ (get s.waiting.calls t) (λ (call : Held) is.
+      gates_kept = λ t. here_of _ (get s.waiting.calls t) (λ (call : WaitingCall) is.
           ungiven_at s call.gate (gave s.waiting.over call.gate) (rw is at (none t)) (rw is at (h.gates_kept t)));
       sendable = h.sendable;
       tied = λ p. omega (arith, h.tied p);

@@ -368,7 +368,7 @@ module _ (s : State) (h : Within s None []) (still : s.waiting.over ≡ none_ove
   value_goes cap (caps.Pipelined r path) done is goes = goes_fit (caps.Pipelined r path) done (came_fit h cap (caps.Pipelined r path) is).0 goes
   value_goes cap (caps.Broken x) done is goes = goes_fit (caps.Broken x) done refl goes
 
-  goes_from : (cap : Cap) (ref : calling.Reference) (done : Done) → IsTarget s cap → reference_of s.values cap ≡ ref → GoFrom s q request cap ref (Ok done)
+  goes_from : (cap : Cap) (ref : calling.Standing) (done : Done) → IsTarget s cap → reference_of s.values cap ≡ ref → GoFrom s q request cap ref (Ok done)
       → Within done.1 None []
   goes_from cap calling.plain done target is goes = goes_plain cap done target goes
   goes_from cap on_wire done target is goes =

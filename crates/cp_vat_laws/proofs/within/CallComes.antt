@@ -17,7 +17,7 @@ use Rattle.cp_rpc.specs.declared.small.Finish.{Finish}
 use Rattle.cp_refs.specs.At.{cap_at}
 use Rattle.cp_refs.specs.Route.{HasRoute}
 use Rattle.cp_refs.specs.declared.cap.Cap.{Cap}
-use Rattle.cp_refs.specs.declared.call.Held.{Held}
+use Rattle.cp_refs.specs.declared.call.WaitingCall.{WaitingCall}
 use Rattle.cp_refs.specs.declared.call.Origin.{Origin}
 use Rattle.cp_refs.specs.declared.call.Origin.TheVariants as origins
 use Rattle.cp_refs.specs.declared.outcome.Outcome.{Outcome}
@@ -125,8 +125,8 @@ module _ {s : State} (h : Within s None []) (a : ℕ) (ticket : Option ℕ) (fre
             (λ q e is. forwards_stay s new stay e.kept.forwards e.kept.ticket);
         wire = λ q. here_of _ (get s.entries.questions q) (λ e is not. (rw is at (h.wire q)) refl);
         forwarding = h.forwarding;
-        gates_kept = each_kept (λ t (c : Held). IsUngivenIf s (gave s.waiting.over c.gate) c.gate)
-            (λ t (c : Held). IsUngivenIf new (gave new.waiting.over c.gate) c.gate) s.waiting.calls 0 h.gates_kept
+        gates_kept = each_kept (λ t (c : WaitingCall). IsUngivenIf s (gave s.waiting.over c.gate) c.gate)
+            (λ t (c : WaitingCall). IsUngivenIf new (gave new.waiting.over c.gate) c.gate) s.waiting.calls 0 h.gates_kept
             (λ t call is. gate_opened call.gate (gave s.waiting.over call.gate));
         sendable = h.sendable;
         tied = λ p. omega (arith, tied_same p, h.tied p);
@@ -198,7 +198,7 @@ next_free {s = s} h = by (get s.waiting.calls s.next_ticket) (h.waiting s.next_t
     never : (n : ℕ) → n < n → ⊥
     never n less = omega (arith, less)
 
-    by : (o : Option Held) → IfSome o (WaitsFor s s.next_ticket) → o ≡ None
+    by : (o : Option WaitingCall) → IfSome o (WaitsFor s s.next_ticket) → o ≡ None
     by None waits = refl
     by (Some call) waits = absurd (never s.next_ticket waits.1)
 
@@ -460,8 +460,8 @@ module _ {s : State} (h : Within s None []) (a : ℕ) (entry : Exchange AnswerEn
               (forwards_other h a q e forwards_none is));
           wire = h.wire;
           forwarding = h.forwarding;
-          gates_kept = each_kept (λ t (c : Held). IsUngivenIf s (gave s.waiting.over c.gate) c.gate)
-              (λ t (c : Held). IsUngivenIf new (gave new.waiting.over c.gate) c.gate) s.waiting.calls 0 h.gates_kept
+          gates_kept = each_kept (λ t (c : WaitingCall). IsUngivenIf s (gave s.waiting.over c.gate) c.gate)
+              (λ t (c : WaitingCall). IsUngivenIf new (gave new.waiting.over c.gate) c.gate) s.waiting.calls 0 h.gates_kept
               (λ t call is. gate_left call.gate (gave s.waiting.over call.gate));
           sendable = h.sendable;
           tied = λ p. omega (arith, tied_left p, h.tied p);

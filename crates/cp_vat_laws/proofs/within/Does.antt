@@ -17,7 +17,7 @@ use Rattle.cp_tables.specs.Counted.{IsCount}
 use Rattle.cp_refs.specs.Route.{promise_way, question_way, HasRoute}
 use Rattle.cp_refs.specs.declared.cap.Cap.{Cap}
 use Rattle.cp_refs.specs.declared.cap.Cap.TheVariants as caps
-use Rattle.cp_refs.specs.declared.call.Held.{Held}
+use Rattle.cp_refs.specs.declared.call.WaitingCall.{WaitingCall}
 use Rattle.cp_refs.specs.declared.call.Origin.{Origin}
 use Rattle.cp_refs.specs.declared.call.Origin.TheVariants as origins
 use Rattle.cp_refs.specs.declared.outcome.Outcome.{Outcome}
@@ -332,9 +332,9 @@ module _ (s : State) (test : Cap → Bool) (off : IsKeptOff test s) where
       (flat_all Off (λ (x : Question). caps_given x.outcome) (values s.values.questions)
       (all_back Off _ (flat_map (λ question. caps_given question.outcome) (values s.values.questions)) before_calls)))
 
-  off_calls : (t : ℕ) (call : Held) → get s.waiting.calls t ≡ Some call → AllByRecursion Off call.request.caps
-  off_calls t call is = value_of (λ (c : Held). AllByRecursion Off c.request.caps) s.waiting.calls t call is
-      (flat_all Off (λ (c : Held). c.request.caps) (waiting_calls s) (all_back Off _ (flat_map (λ call. call.request.caps) (waiting_calls s)) all_kept))
+  off_calls : (t : ℕ) (call : WaitingCall) → get s.waiting.calls t ≡ Some call → AllByRecursion Off call.request.caps
+  off_calls t call is = value_of (λ (c : WaitingCall). AllByRecursion Off c.request.caps) s.waiting.calls t call is
+      (flat_all Off (λ (c : WaitingCall). c.request.caps) (waiting_calls s) (all_back Off _ (flat_map (λ call. call.request.caps) (waiting_calls s)) all_kept))
 
 -- an entry that is found, with its number
 module _ {X : Type 0} (P : ℕ × X → Type 0) where
@@ -401,8 +401,8 @@ module _ {s : State} (h : Within s None []) (still : s.waiting.over ≡ none_ove
       questions = λ q question outcome is given. table_off (caps_of outcome) (off_questions s (is_import i) kept_off q question outcome is given)
           (h.there.values_.questions q question outcome is given);
     };
-    calls_ = λ t. here_of _ (get s.waiting.calls t) (λ (call : Held) is. table_off call.request.caps (off_calls s (is_import i) kept_off t call is)
-        (there_of (λ (c : Held). AllByRecursion (IsThere s) c.request.caps) (get s.waiting.calls t) call is (h.there.calls_ t)));
+    calls_ = λ t. here_of _ (get s.waiting.calls t) (λ (call : WaitingCall) is. table_off call.request.caps (off_calls s (is_import i) kept_off t call is)
+        (there_of (λ (c : WaitingCall). AllByRecursion (IsThere s) c.request.caps) (get s.waiting.calls t) call is (h.there.calls_ t)));
     embargoes_ = λ n. here_of _ (get s.marks.embargoes n) (λ c is.
         off_import c (exportable_off c (there_of (IsExportable s) (get s.marks.embargoes n) c is (h.embargoed n)))
         (there_of (IsThere s) (get s.marks.embargoes n) c is (h.there.embargoes_ n)));
@@ -569,8 +569,8 @@ module _ {s : State} (h : Within s None []) (still : s.waiting.over ≡ none_ove
   forgotten_there = record {
     values_ = promise_gone (IsThere forgotten) s.values (values_map (λ c. NotIt c × IsThere s c) (IsThere forgotten) s.values (λ c x. there_left c x.0 x.1)
         (values_both NotIt (IsThere s) s.values off_values h.there.values_)) p;
-    calls_ = λ t. here_of _ (get s.waiting.calls t) (λ (call : Held) is. table_left call.request.caps (off_calls s (is_promise p) kept_off_it t call is)
-        (there_of (λ (c : Held). AllByRecursion (IsThere s) c.request.caps) (get s.waiting.calls t) call is (h.there.calls_ t)));
+    calls_ = λ t. here_of _ (get s.waiting.calls t) (λ (call : WaitingCall) is. table_left call.request.caps (off_calls s (is_promise p) kept_off_it t call is)
+        (there_of (λ (c : WaitingCall). AllByRecursion (IsThere s) c.request.caps) (get s.waiting.calls t) call is (h.there.calls_ t)));
     embargoes_ = λ n. here_of _ (get s.marks.embargoes n) (λ c is.
         there_left c (unused_embargoes n c is) (there_of (IsThere s) (get s.marks.embargoes n) c is (h.there.embargoes_ n)));
     exports_ = λ e. here_of _ (get s.counts.exports e) (λ (x : Counted Cap) is.

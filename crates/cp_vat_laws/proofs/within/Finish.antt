@@ -6,7 +6,7 @@ use Rattle.std.proofs.Common.{inl, inr, arith, sym, ◌∙◌, true≢false}
 use Rattle.cp_tables.specs.declared.exchange.Exchange.{Exchange}
 use Rattle.cp_tables.specs.declared.exchange.Stage.{Stage}
 use Rattle.cp_tables.specs.declared.exchange.Stage.TheVariants as stages
-use Rattle.cp_refs.specs.declared.call.Held.{Held}
+use Rattle.cp_refs.specs.declared.call.WaitingCall.{WaitingCall}
 use Rattle.cp_refs.specs.declared.call.Origin.TheVariants as origins
 use Rattle.cp_refs.specs.declared.values.Question.{Question}
 use Rattle.cp_vat_machine.specs.State.{State, with_questions}
@@ -125,7 +125,7 @@ module _ {s : State} (h : Within s None []) (q : ℕ) (entry : Exchange Question
   pub returned_leaves : entry.stage ≡ stages.Returned → Within (without_question s q) None []
   returned_leaves at =
       own_leaves h q entry was own (alone_none (origins.Own q)) (none_waits h (origins.Own q) no_ticket)
-      (each_kept (λ t. IsOff q) (λ t (c : Held). list_any (is_pipelined_of q) c.request.caps ≡ false) s.waiting.calls 0 off (λ t c is f. f.1))
+      (each_kept (λ t. IsOff q) (λ t (c : WaitingCall). list_any (is_pipelined_of q) c.request.caps ≡ false) s.waiting.calls 0 off (λ t c is f. f.1))
     where
       no_ticket : (t : ℕ) → IsTicketOf s (origins.Own q) t → ⊥
       no_ticket t it =

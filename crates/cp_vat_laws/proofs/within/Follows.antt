@@ -8,7 +8,7 @@ use Rattle.cp_tables.specs.declared.exchange.Stage.TheVariants as stages
 use Rattle.cp_refs.specs.Route.{HasRoute, promise_way, outcome_way, question_way}
 use Rattle.cp_refs.specs.declared.cap.Cap.{Cap}
 use Rattle.cp_refs.specs.declared.cap.Cap.TheVariants as caps
-use Rattle.cp_refs.specs.declared.call.Held.{Held}
+use Rattle.cp_refs.specs.declared.call.WaitingCall.{WaitingCall}
 use Rattle.cp_refs.specs.declared.call.Origin.{Origin}
 use Rattle.cp_refs.specs.declared.call.Origin.TheVariants as origins
 use Rattle.cp_refs.specs.declared.outcome.Outcome.{Outcome}
@@ -52,8 +52,8 @@ module _ {s : State} {hand : Option Origin} {next : List Tied} (h : Within s han
   -- no call waits of an origin that isn't open, and none is forwarded
   pub none_waits : (origin : Origin) → ((ticket : ℕ) → IsTicketOf s origin ticket → ⊥) → waiting_of s origin ≡ 0
   none_waits origin none =
-      none_counted (λ (call : Held). is_origin origin call.origin) s.waiting.calls
-      (λ t. here_of _ (get s.waiting.calls t) (λ (call : Held) is. not_true _ (λ same.
+      none_counted (λ (call : WaitingCall). is_origin origin call.origin) s.waiting.calls
+      (λ t. here_of _ (get s.waiting.calls t) (λ (call : WaitingCall) is. not_true _ (λ same.
       let waits = there_of (WaitsFor s t) (get s.waiting.calls t) call is (h.waiting t) in
       none t (rw (same_origin origin call.origin same) waits.2))))
 
@@ -72,11 +72,11 @@ module _ {s : State} {hand : Option Origin} {next : List Tied} (h : Within s han
       none found.0 found.1)))
 
   -- where none waits of an origin, a waiting call has another one
-  pub waits_of_other : (origin : Origin) (ticket : ℕ) (call : Held) → waiting_of s origin ≡ 0 → get s.waiting.calls ticket ≡ Some call
+  pub waits_of_other : (origin : Origin) (ticket : ℕ) (call : WaitingCall) → waiting_of s origin ≡ 0 → get s.waiting.calls ticket ≡ Some call
       → is_origin origin call.origin ≡ false
   waits_of_other origin ticket call none is = not_true _ (λ same.
       let one : ◌≡◌ {A = ℕ} (cond (is_origin origin call.origin) 1 0) 1 = rw (same) refl in
-      let within = within_sum (λ (c : Held). cond (is_origin origin c.origin) 1 0) s.waiting.calls ticket call is in
+      let within = within_sum (λ (c : WaitingCall). cond (is_origin origin c.origin) 1 0) s.waiting.calls ticket call is in
       omega (arith, one, within, none))
 
   pub forwards_other : (a q : ℕ) (entry : Exchange QuestionEntry) → forwarding_of s a ≡ 0 → get s.entries.questions q ≡ Some entry

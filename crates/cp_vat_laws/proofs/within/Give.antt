@@ -14,7 +14,7 @@ use Rattle.cp_rpc.specs.declared.returned.Returned.{Returned}
 use Rattle.cp_refs.specs.At.{cap_at}
 use Rattle.cp_refs.specs.Route.{HasRoute}
 use Rattle.cp_refs.specs.declared.cap.Cap.{Cap}
-use Rattle.cp_refs.specs.declared.call.Held.{Held}
+use Rattle.cp_refs.specs.declared.call.WaitingCall.{WaitingCall}
 use Rattle.cp_refs.specs.declared.call.Origin.{Origin}
 use Rattle.cp_refs.specs.declared.call.Origin.TheVariants as origins
 use Rattle.cp_refs.specs.declared.outcome.Outcome.{Outcome}
@@ -169,8 +169,8 @@ module _ {s : State} {hand : Option Origin} (h : Within s hand []) (a : ℕ) (en
               (forwards_other h a q e forwards_none is));
           wire = λ q. here_of _ (get s.entries.questions q) (λ e is not. (rw is at (h.wire q)) (alone (origins.Own q) refl));
           forwarding = h.forwarding;
-          gates_kept = each_kept (λ t (call : Held). IsUngivenIf s (gave s.waiting.over call.gate) call.gate)
-              (λ t (call : Held). IsUngivenIf new (gave new.waiting.over call.gate) call.gate) s.waiting.calls 0 h.gates_kept
+          gates_kept = each_kept (λ t (call : WaitingCall). IsUngivenIf s (gave s.waiting.over call.gate) call.gate)
+              (λ t (call : WaitingCall). IsUngivenIf new (gave new.waiting.over call.gate) call.gate) s.waiting.calls 0 h.gates_kept
               (λ t call is. gate_given call.gate);
           sendable = h.sendable;
           tied = tied_given;
@@ -285,8 +285,8 @@ module _ {s : State} {hand : Option Origin} (h : Within s hand []) (a : ℕ) (en
             (forwards_other h a q e forwards_none is));
         wire = λ q. here_of _ (get s.entries.questions q) (λ e is not. (rw is at (h.wire q)) (alone (origins.Own q) refl));
         forwarding = h.forwarding;
-        gates_kept = each_kept (λ t (call : Held). IsUngivenIf s (gave s.waiting.over call.gate) call.gate)
-            (λ t (call : Held). IsUngivenIf new (gave new.waiting.over call.gate) call.gate) s.waiting.calls 0 h.gates_kept
+        gates_kept = each_kept (λ t (call : WaitingCall). IsUngivenIf s (gave s.waiting.over call.gate) call.gate)
+            (λ t (call : WaitingCall). IsUngivenIf new (gave new.waiting.over call.gate) call.gate) s.waiting.calls 0 h.gates_kept
             (λ t call is. gate_gone call.gate);
         sendable = h.sendable;
         tied = tied_gone;

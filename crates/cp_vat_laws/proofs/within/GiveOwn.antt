@@ -14,7 +14,7 @@ use Rattle.cp_refs.specs.At.{cap_at}
 use Rattle.cp_refs.specs.Route.{HasRoute}
 use Rattle.cp_refs.specs.declared.cap.Cap.{Cap}
 use Rattle.cp_refs.specs.declared.cap.Cap.TheVariants as caps
-use Rattle.cp_refs.specs.declared.call.Held.{Held}
+use Rattle.cp_refs.specs.declared.call.WaitingCall.{WaitingCall}
 use Rattle.cp_refs.specs.declared.call.Origin.{Origin}
 use Rattle.cp_refs.specs.declared.call.Origin.TheVariants as origins
 use Rattle.cp_refs.specs.declared.outcome.Outcome.{Outcome}
@@ -93,9 +93,9 @@ module _ {s : State} {hand : Option Origin} {next : List Tied} (h : Within s han
   left_there = record {
     values_ = question_gone (IsThere left_by) s.values (values_map (λ c. IsPlain c × IsThere s c) (IsThere left_by) s.values (λ c x. left_plain c x.0 x.1)
         (values_both IsPlain (IsThere s) s.values h.plain h.there.values_)) q;
-    calls_ = λ t. here_of _ (get s.waiting.calls t) (λ (call : Held) is.
-        left_table call.request.caps (there_of (λ (c : Held). list_any (is_pipelined_of q) c.request.caps ≡ false) (get s.waiting.calls t) call is (off t))
-        (there_of (λ (c : Held). AllByRecursion (IsThere s) c.request.caps) (get s.waiting.calls t) call is (h.there.calls_ t)));
+    calls_ = λ t. here_of _ (get s.waiting.calls t) (λ (call : WaitingCall) is.
+        left_table call.request.caps (there_of (λ (c : WaitingCall). list_any (is_pipelined_of q) c.request.caps ≡ false) (get s.waiting.calls t) call is (off t))
+        (there_of (λ (c : WaitingCall). AllByRecursion (IsThere s) c.request.caps) (get s.waiting.calls t) call is (h.there.calls_ t)));
     embargoes_ = λ n. here_of _ (get s.marks.embargoes n) (λ c is.
         left_plain c (exportable_plain s c (there_of (IsExportable s) (get s.marks.embargoes n) c is (h.embargoed n)))
         (there_of (IsThere s) (get s.marks.embargoes n) c is (h.there.embargoes_ n)));
@@ -158,8 +158,8 @@ module _ {s : State} {hand : Option Origin} {next : List Tied} (h : Within s han
         forwarding = each_gone (λ r (e : Exchange QuestionEntry). IsOpenIf e.kept.forwards e)
             (λ r (e : Exchange QuestionEntry). IsOpenIf e.kept.forwards e) s.entries.questions q h.forwarding (λ r e other is x. x);
         gates_kept = h.gates_kept;
-        sendable = each_kept (λ t (call : Held). AllByRecursion (λ c. is_local_path s c ≡ false) call.request.caps)
-            (λ t (call : Held). AllByRecursion (λ c. is_local_path new c ≡ false) call.request.caps) s.waiting.calls 0 h.sendable
+        sendable = each_kept (λ t (call : WaitingCall). AllByRecursion (λ c. is_local_path s c ≡ false) call.request.caps)
+            (λ t (call : WaitingCall). AllByRecursion (λ c. is_local_path new c ≡ false) call.request.caps) s.waiting.calls 0 h.sendable
             (λ t call is. all_of (λ c. is_local_path s c ≡ false) (λ c. is_local_path new c ≡ false) call.request.caps left_sendable);
         tied = h.tied;
         untied = h.untied;
@@ -228,8 +228,8 @@ module _ {s : State} {hand : Option Origin} {next : List Tied} (h : Within s han
         forwards = h.forwards;
         wire = h.wire;
         forwarding = h.forwarding;
-        gates_kept = each_kept (λ t (call : Held). IsUngivenIf s (gave s.waiting.over call.gate) call.gate)
-            (λ t (call : Held). IsUngivenIf new (gave new.waiting.over call.gate) call.gate) s.waiting.calls 0 h.gates_kept
+        gates_kept = each_kept (λ t (call : WaitingCall). IsUngivenIf s (gave s.waiting.over call.gate) call.gate)
+            (λ t (call : WaitingCall). IsUngivenIf new (gave new.waiting.over call.gate) call.gate) s.waiting.calls 0 h.gates_kept
             (λ t call is. gate_over call.gate);
         sendable = h.sendable;
         tied = h.tied;
@@ -465,11 +465,11 @@ module _ {s : State} {hand : Option Origin} (h : Within s hand []) (q : ℕ) (en
               (λ r e other is x not. rw (put_at s.values.questions q r given_question false other) (x (alone (origins.Own r) (other_number q r other))));
           forwarding = each_put (λ r (e : Exchange QuestionEntry). IsOpenIf e.kept.forwards e)
               (λ r (e : Exchange QuestionEntry). IsOpenIf e.kept.forwards e) s.entries.questions q given_entry h.forwarding (rw (own) tt) (λ r e other is x. x);
-          gates_kept = each_kept (λ t (call : Held). IsUngivenIf s (gave s.waiting.over call.gate) call.gate)
-              (λ t (call : Held). IsUngivenIf new (gave new.waiting.over call.gate) call.gate) s.waiting.calls 0 h.gates_kept
+          gates_kept = each_kept (λ t (call : WaitingCall). IsUngivenIf s (gave s.waiting.over call.gate) call.gate)
+              (λ t (call : WaitingCall). IsUngivenIf new (gave new.waiting.over call.gate) call.gate) s.waiting.calls 0 h.gates_kept
               (λ t call is. gate_settled call.gate);
-          sendable = each_kept (λ t (call : Held). AllByRecursion (λ c. is_local_path s c ≡ false) call.request.caps)
-              (λ t (call : Held). AllByRecursion (λ c. is_local_path new c ≡ false) call.request.caps) s.waiting.calls 0 h.sendable
+          sendable = each_kept (λ t (call : WaitingCall). AllByRecursion (λ c. is_local_path s c ≡ false) call.request.caps)
+              (λ t (call : WaitingCall). AllByRecursion (λ c. is_local_path new c ≡ false) call.request.caps) s.waiting.calls 0 h.sendable
               (λ t call is. all_of (λ c. is_local_path s c ≡ false) (λ c. is_local_path new c ≡ false) call.request.caps settled_sendable);
           tied = h.tied;
           untied = h.untied;
@@ -499,7 +499,7 @@ module _ {s : State} {hand : Option Origin} (h : Within s hand []) (q : ℕ) (en
   pub gone_within : entry.stage ≡ stages.Finished → Within (question_over (without_question s q) q outcome) None []
   gone_within finished =
       let off : (t : ℕ) → IfSome (get s.waiting.calls t) (λ call. list_any (is_pipelined_of q) call.request.caps ≡ false) =
-      each_kept (λ t. IsOff q) (λ t (c : Held). list_any (is_pipelined_of q) c.request.caps ≡ false) s.waiting.calls 0 (h.finished q entry was finished)
+      each_kept (λ t. IsOff q) (λ t (c : WaitingCall). list_any (is_pipelined_of q) c.request.caps ≡ false) s.waiting.calls 0 (h.finished q entry was finished)
       (λ t c is off. off.1) in
       question_ends (own_leaves h q entry was own alone to.waits off) q (gone_at s.values.questions q q true (is_itself q)) outcome
       (all_of (IsFit s) (IsFit (without_question s q)) (caps_of outcome) (own_fit h q entry was own alone to.waits off) fit)

@@ -6,7 +6,7 @@ use Rattle.std.proofs.Common.{arith, ap, sym, ◌∙◌}
 use Rattle.cp_tables.specs.declared.exchange.Exchange.{Exchange}
 use Rattle.cp_refs.specs.Route.{HasRoute}
 use Rattle.cp_refs.specs.declared.cap.Cap.{Cap}
-use Rattle.cp_refs.specs.declared.call.Held.{Held}
+use Rattle.cp_refs.specs.declared.call.WaitingCall.{WaitingCall}
 use Rattle.cp_refs.specs.declared.call.Origin.{Origin}
 use Rattle.cp_refs.specs.declared.call.Origin.TheVariants as origins
 use Rattle.cp_refs.specs.declared.route.Gate.TheVariants as gates
@@ -28,7 +28,7 @@ use Rattle.cp_vat_laws.proofs.within.Rest.{IsHere, hand_is}
 use Rattle.cp_vat_laws.proofs.within.Go.{plain_target, go_to_keeps}
 
 -- A call whose gate is over is in hand.
-module _ {s : State} (h : Within s None []) (call : Held) (given : Cap) (next : IsNext s call given) where
+module _ {s : State} (h : Within s None []) (call : WaitingCall) (given : Cap) (next : IsNext s call given) where
   abbrev in_hand : State
   in_hand = without_call s call
 
@@ -36,13 +36,13 @@ module _ {s : State} (h : Within s None []) (call : Held) (given : Cap) (next : 
   waits = there_of (WaitsFor s call.ticket) (get s.waiting.calls call.ticket) call next.waits (h.waiting call.ticket)
 
   waiting_less : (origin : Origin) → waiting_of in_hand origin + cond (is_origin origin call.origin) 1 0 ≡ waiting_of s origin
-  waiting_less origin = gone_sum (λ (c : Held). cond (is_origin origin c.origin) 1 0) s.waiting.calls call.ticket call next.waits
+  waiting_less origin = gone_sum (λ (c : WaitingCall). cond (is_origin origin c.origin) 1 0) s.waiting.calls call.ticket call next.waits
 
   gone_there : AllKept (IsThere in_hand) in_hand
   gone_there = record {
     values_ = h.there.values_;
-    calls_ = each_gone (λ t (c : Held). AllByRecursion (IsThere s) c.request.caps)
-        (λ t (c : Held). AllByRecursion (IsThere in_hand) c.request.caps) s.waiting.calls call.ticket h.there.calls_ (λ t other differs is w. w);
+    calls_ = each_gone (λ t (c : WaitingCall). AllByRecursion (IsThere s) c.request.caps)
+        (λ t (c : WaitingCall). AllByRecursion (IsThere in_hand) c.request.caps) s.waiting.calls call.ticket h.there.calls_ (λ t other differs is w. w);
     embargoes_ = h.there.embargoes_;
     exports_ = h.there.exports_;
   }
@@ -59,7 +59,7 @@ module _ {s : State} (h : Within s None []) (call : Held) (given : Cap) (next : 
       by : (b : Bool) → (call.ticket == w.0) ≡ b → HasWaiting in_hand n
       by true t =
           let same : call ≡ w.1 = some_out (sym next.waits ∙ rw (is_equal call.ticket w.0 t) w.2) in
-          absurd (at_embargo n value is (ap (λ (c : Held). c.gate) same ∙ w.3))
+          absurd (at_embargo n value is (ap (λ (c : WaitingCall). c.gate) same ∙ w.3))
       by false t = (w.0, w.1, gone_at s.waiting.calls call.ticket w.0 false t ∙ w.2, w.3)
 
   pub in_hand_within : Within in_hand (Some call.origin) []
@@ -79,10 +79,10 @@ module _ {s : State} (h : Within s None []) (call : Held) (given : Cap) (next : 
         forwards = h.forwards;
         wire = λ q. here_of _ (get s.entries.questions q) (λ e is not. (rw is at (h.wire q)) refl);
         forwarding = h.forwarding;
-        gates_kept = each_gone (λ t (c : Held). IsUngivenIf s (gave s.waiting.over c.gate) c.gate)
-            (λ t (c : Held). IsUngivenIf new (gave new.waiting.over c.gate) c.gate) s.waiting.calls call.ticket h.gates_kept (λ t other differs is w. w);
-        sendable = each_gone (λ t (c : Held). AllByRecursion (λ x. is_local_path s x ≡ false) c.request.caps)
-            (λ t (c : Held). AllByRecursion (λ x. is_local_path new x ≡ false) c.request.caps) s.waiting.calls call.ticket h.sendable
+        gates_kept = each_gone (λ t (c : WaitingCall). IsUngivenIf s (gave s.waiting.over c.gate) c.gate)
+            (λ t (c : WaitingCall). IsUngivenIf new (gave new.waiting.over c.gate) c.gate) s.waiting.calls call.ticket h.gates_kept (λ t other differs is w. w);
+        sendable = each_gone (λ t (c : WaitingCall). AllByRecursion (λ x. is_local_path s x ≡ false) c.request.caps)
+            (λ t (c : WaitingCall). AllByRecursion (λ x. is_local_path new x ≡ false) c.request.caps) s.waiting.calls call.ticket h.sendable
             (λ t other differs is w. w);
         tied = h.tied;
         untied = h.untied;
@@ -112,11 +112,11 @@ module _ {s : State} (h : Within s None []) (call : Held) (given : Cap) (next : 
         whose = waits.2;
         given = waits.1;
         free = gone_at s.waiting.calls call.ticket call.ticket true (is_itself call.ticket);
-        sendable = there_of (λ (c : Held). AllByRecursion (λ x. is_local_path s x ≡ false) c.request.caps) (get s.waiting.calls call.ticket) call next.waits
+        sendable = there_of (λ (c : WaitingCall). AllByRecursion (λ x. is_local_path s x ≡ false) c.request.caps) (get s.waiting.calls call.ticket) call next.waits
             (h.sendable call.ticket);
-        there = there_of (λ (c : Held). AllByRecursion (IsThere s) c.request.caps) (get s.waiting.calls call.ticket) call next.waits
+        there = there_of (λ (c : WaitingCall). AllByRecursion (IsThere s) c.request.caps) (get s.waiting.calls call.ticket) call next.waits
             (h.there.calls_ call.ticket);
-        ends = there_of (λ (c : Held). AllByRecursion (HasRoute s.values) c.request.caps) (get s.waiting.calls call.ticket) call next.waits
+        ends = there_of (λ (c : WaitingCall). AllByRecursion (HasRoute s.values) c.request.caps) (get s.waiting.calls call.ticket) call next.waits
             (h.ends.calls_ call.ticket);
         unfinished = λ q entry is at. (there_of (IsOff q) (get s.waiting.calls call.ticket) call next.waits (h.finished q entry is at call.ticket)).1;
       }
@@ -133,7 +133,7 @@ module _ {s : State} (h : Within s None []) (call : Held) (given : Cap) (next : 
           (get s.entries.questions q) ticket.0 ticket.1 (h.wire q) refl in
           let went : (ticket.0.kept.is_sent ≡ true) × (ticket.0.kept.is_delivered ≡ false) = rw wire at sent_ in
           let one : ◌≡◌ {A = ℕ} (cond (is_origin (origins.Own q) call.origin) 1 0) 1 = rw (is, is_itself q) refl in
-          let within = within_sum (λ (c : Held). cond (is_origin (origins.Own q) c.origin) 1 0) s.waiting.calls call.ticket call next.waits in
+          let within = within_sum (λ (c : WaitingCall). cond (is_origin (origins.Own q) c.origin) 1 0) s.waiting.calls call.ticket call next.waits in
           let counted : ◌≡◌ {A = ℕ} (one_if ticket.0.kept.is_sent) 1 = rw (went.0) refl in
           absurd (omega (arith, place, one, within, counted))
       by false wire = refl

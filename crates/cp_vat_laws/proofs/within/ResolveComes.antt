@@ -19,7 +19,7 @@ use Rattle.cp_rpc.specs.declared.message.Message.TheVariants as messages
 use Rattle.cp_refs.specs.Route.{HasRoute}
 use Rattle.cp_refs.specs.declared.cap.Cap.{Cap}
 use Rattle.cp_refs.specs.declared.cap.Cap.TheVariants as caps
-use Rattle.cp_refs.specs.declared.call.Held.{Held}
+use Rattle.cp_refs.specs.declared.call.WaitingCall.{WaitingCall}
 use Rattle.cp_refs.specs.declared.outcome.Outcome.{Outcome}
 use Rattle.cp_refs.specs.declared.route.Gate.{Gate}
 use Rattle.cp_refs.specs.declared.route.Gate.TheVariants as gates
@@ -315,8 +315,8 @@ module _ {s : State} (h : Within s None []) (n : ℕ) (value : Cap) (was : get s
         forwards = h.forwards;
         wire = h.wire;
         forwarding = h.forwarding;
-        gates_kept = each_kept (λ t (c : Held). IsUngivenIf s (gave s.waiting.over c.gate) c.gate)
-            (λ t (c : Held). IsUngivenIf new (gave new.waiting.over c.gate) c.gate) s.waiting.calls 0 h.gates_kept (λ t call is. gate_ended call.gate);
+        gates_kept = each_kept (λ t (c : WaitingCall). IsUngivenIf s (gave s.waiting.over c.gate) c.gate)
+            (λ t (c : WaitingCall). IsUngivenIf new (gave new.waiting.over c.gate) c.gate) s.waiting.calls 0 h.gates_kept (λ t call is. gate_ended call.gate);
         sendable = h.sendable;
         tied = h.tied;
         untied = h.untied;

@@ -6,7 +6,7 @@ use Rattle.std.proofs.Common.{inl, inr, arith, ap, sym, ◌∙◌, true≢false}
 use Rattle.cp_tables.specs.Exchange.{new_exchange}
 use Rattle.cp_tables.specs.declared.exchange.Exchange.{Exchange}
 use Rattle.cp_tables.specs.declared.exchange.Stage.TheVariants as stages
-use Rattle.cp_refs.specs.declared.call.Held.{Held}
+use Rattle.cp_refs.specs.declared.call.WaitingCall.{WaitingCall}
 use Rattle.cp_refs.specs.declared.call.Origin.{Origin}
 use Rattle.cp_refs.specs.declared.call.Origin.TheVariants as origins
 use Rattle.cp_refs.specs.declared.route.Gate.{Gate}
@@ -50,7 +50,7 @@ module _ {s : State} (call : Underway) (h : Within s (Some call.origin) []) (i :
     (at : IsUngivenIf s (gave s.waiting.over gate) gate)
     (off_gate : (q : ℕ) (entry : Exchange QuestionEntry) → get s.entries.questions q ≡ Some entry → entry.stage ≡ stages.Finished
     → is_at_question q gate ≡ false) where
-  abbrev held_here : Held
+  abbrev held_here : WaitingCall
   held_here = record { ticket = call.ticket; origin = call.origin; request = call.request; gate = gate }
 
   abbrev held_on : State
@@ -59,7 +59,7 @@ module _ {s : State} (call : Underway) (h : Within s (Some call.origin) []) (i :
   waiting_more : (origin : Origin) → waiting_of held_on origin ≡ waiting_of s origin + cond (is_origin origin call.origin) 1 0
   waiting_more origin =
       let sum : waiting_of held_on origin + 0 ≡ waiting_of s origin + cond (is_origin origin call.origin) 1 0 =
-      put_sum (λ (c : Held). cond (is_origin origin c.origin) 1 0) s.waiting.calls call.ticket held_here None i.free in
+      put_sum (λ (c : WaitingCall). cond (is_origin origin c.origin) 1 0) s.waiting.calls call.ticket held_here None i.free in
       omega (arith, sum)
 
   wire_at : (q : ℕ) (e : Exchange QuestionEntry) (b : Bool) → is_in_hand (Some call.origin) (origins.Own q) ≡ b
@@ -73,8 +73,8 @@ module _ {s : State} (call : Underway) (h : Within s (Some call.origin) []) (i :
   held_there : AllKept (IsThere held_on) held_on
   held_there = record {
     values_ = h.there.values_;
-    calls_ = each_put (λ t (c : Held). AllByRecursion (IsThere s) c.request.caps)
-        (λ t (c : Held). AllByRecursion (IsThere held_on) c.request.caps) s.waiting.calls call.ticket held_here h.there.calls_ i.there
+    calls_ = each_put (λ t (c : WaitingCall). AllByRecursion (IsThere s) c.request.caps)
+        (λ t (c : WaitingCall). AllByRecursion (IsThere held_on) c.request.caps) s.waiting.calls call.ticket held_here h.there.calls_ i.there
         (λ t other differs is w. w);
     embargoes_ = h.there.embargoes_;
     exports_ = h.there.exports_;
@@ -104,11 +104,11 @@ module _ {s : State} (call : Underway) (h : Within s (Some call.origin) []) (i :
         forwards = h.forwards;
         wire = λ q. here_of _ (get s.entries.questions q) (λ e is not. wire_at q e (is_in_hand (Some call.origin) (origins.Own q)) refl (rw is at (h.wire q)));
         forwarding = h.forwarding;
-        gates_kept = each_put (λ t (c : Held). IsUngivenIf s (gave s.waiting.over c.gate) c.gate)
-            (λ t (c : Held). IsUngivenIf new (gave new.waiting.over c.gate) c.gate) s.waiting.calls call.ticket held_here h.gates_kept at
+        gates_kept = each_put (λ t (c : WaitingCall). IsUngivenIf s (gave s.waiting.over c.gate) c.gate)
+            (λ t (c : WaitingCall). IsUngivenIf new (gave new.waiting.over c.gate) c.gate) s.waiting.calls call.ticket held_here h.gates_kept at
             (λ t other differs is w. w);
-        sendable = each_put (λ t (c : Held). AllByRecursion (λ x. is_local_path s x ≡ false) c.request.caps)
-            (λ t (c : Held). AllByRecursion (λ x. is_local_path new x ≡ false) c.request.caps) s.waiting.calls call.ticket held_here h.sendable i.sendable
+        sendable = each_put (λ t (c : WaitingCall). AllByRecursion (λ x. is_local_path s x ≡ false) c.request.caps)
+            (λ t (c : WaitingCall). AllByRecursion (λ x. is_local_path new x ≡ false) c.request.caps) s.waiting.calls call.ticket held_here h.sendable i.sendable
             (λ t other differs is w. w);
         tied = h.tied;
         untied = h.untied;

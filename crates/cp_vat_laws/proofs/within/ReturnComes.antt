@@ -13,7 +13,7 @@ use Rattle.cp_rpc.specs.declared.returned.Returned.{Returned}
 use Rattle.cp_rpc.specs.declared.returned.Returned.TheVariants as returns
 use Rattle.cp_refs.specs.declared.cap.Cap.{Cap}
 use Rattle.cp_refs.specs.declared.cap.Cap.TheVariants as caps
-use Rattle.cp_refs.specs.declared.call.Held.{Held}
+use Rattle.cp_refs.specs.declared.call.WaitingCall.{WaitingCall}
 use Rattle.cp_refs.specs.declared.call.Origin.TheVariants as origins
 use Rattle.cp_refs.specs.declared.outcome.Outcome.{Outcome}
 use Rattle.cp_refs.specs.declared.values.Question.{Question}
@@ -97,8 +97,8 @@ module _ {s : State} (h : Within s None []) (q : ℕ) (entry : Exchange Question
 
   module _ (a : ℕ) (it : entry.kept.forwards ≡ Some a) where
     off : (t : ℕ) → IfSome (get s.waiting.calls t) (λ call. list_any (is_pipelined_of q) call.request.caps ≡ false)
-    off = each_kept (λ t (c : Held). AllByRecursion (IsThere s) c.request.caps)
-        (λ t (c : Held). list_any (is_pipelined_of q) c.request.caps ≡ false) s.waiting.calls 0 h.there.calls_
+    off = each_kept (λ t (c : WaitingCall). AllByRecursion (IsThere s) c.request.caps)
+        (λ t (c : WaitingCall). list_any (is_pipelined_of q) c.request.caps ≡ false) s.waiting.calls 0 h.there.calls_
         (λ t c is all. pass_none (is_pipelined_of q) c.request.caps (all_of (IsThere s) (λ x. is_pipelined_of q x ≡ false) c.request.caps (unnamed a it) all))
 
     forwarding_less : (b : ℕ) → forwarding_of (without_question s q) b + one_if (is_in_hand (Some (origins.Answer a)) (origins.Answer b)) ≡ forwarding_of s b
@@ -160,7 +160,7 @@ return_by s r entry stages.Finished done h still was at went does =
     let open_ : IsTrue (is_open_stage entry.stage) = rw (at) refl in
     let own = own_at entry.kept.forwards entry (there_of (λ (e : Exchange QuestionEntry). IsOpenIf e.kept.forwards e)
     (get s.entries.questions r.answer_id) entry was (h.forwarding r.answer_id)) at in
-    let off = each_kept (λ t. IsOff r.answer_id) (λ t (c : Held). list_any (is_pipelined_of r.answer_id) c.request.caps ≡ false) s.waiting.calls 0
+    let off = each_kept (λ t. IsOff r.answer_id) (λ t (c : WaitingCall). list_any (is_pipelined_of r.answer_id) c.request.caps ≡ false) s.waiting.calls 0
     (h.finished r.answer_id entry was at) (λ t c is f. f.1) in
     rw (ok_in _ _ does) (own_leaves h r.answer_id entry was own (alone_none (origins.Own r.answer_id)) (sent_waits h r.answer_id entry was open_ went) off)
 return_by s r entry stages.Returned done h still was at went does = absurd does

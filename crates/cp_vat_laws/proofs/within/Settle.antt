@@ -13,7 +13,7 @@ use Rattle.cp_refs.specs.Route.{Way, ends, leads, missing, promise_way, question
 use Rattle.cp_refs.specs.Values.{ValueMaps}
 use Rattle.cp_refs.specs.declared.cap.Cap.{Cap}
 use Rattle.cp_refs.specs.declared.cap.Cap.TheVariants as caps
-use Rattle.cp_refs.specs.declared.call.Held.{Held}
+use Rattle.cp_refs.specs.declared.call.WaitingCall.{WaitingCall}
 use Rattle.cp_refs.specs.declared.call.Origin.{Origin}
 use Rattle.cp_refs.specs.declared.outcome.Outcome.{Outcome}
 use Rattle.cp_refs.specs.declared.route.Route.TheVariants as routes
@@ -217,8 +217,8 @@ module _ {s : State} {hand : Option Origin} {next : List Tied} (h : Within s han
         forwards = h.forwards;
         wire = h.wire;
         forwarding = h.forwarding;
-        gates_kept = each_kept (λ t (call : Held). IsUngivenIf s (gave s.waiting.over call.gate) call.gate)
-            (λ t (call : Held). IsUngivenIf new (gave new.waiting.over call.gate) call.gate) s.waiting.calls 0 h.gates_kept
+        gates_kept = each_kept (λ t (call : WaitingCall). IsUngivenIf s (gave s.waiting.over call.gate) call.gate)
+            (λ t (call : WaitingCall). IsUngivenIf new (gave new.waiting.over call.gate) call.gate) s.waiting.calls 0 h.gates_kept
             (λ t call is. gate_settled call.gate);
         sendable = h.sendable;
         tied = tied_;

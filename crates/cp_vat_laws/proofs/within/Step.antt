@@ -1,7 +1,7 @@
 -- Each step keeps what holds of an open vat between events.
 use Rattle.std.specs.Prelude.{◌≡◌, refl, ◌⊎◌, not, if◌then◌else◌, Bool, true, false, List, [], ◌∷◌, None, Result, Ok, Err}
 use Rattle.std.proofs.Common.{inl, inr, sym, ◌∙◌, true≢false}
-use Rattle.cp_rpc.specs.Made.{message_made}
+use Rattle.cp_rpc.specs.Written.{message_written}
 use Rattle.cp_rpc.specs.declared.message.Message.{Message}
 use Rattle.cp_rpc.specs.declared.message.Message.TheVariants as messages
 use Rattle.cp_vat_machine.specs.State.{State, none_over, new_state}
@@ -62,9 +62,9 @@ module _ (s : State) (h : Within s None []) (still : s.waiting.over ≡ none_ove
   on_keeps (messages.Other which body) done does = absurd does
 
   echo_keeps : (m : Message) (done : Done) → Ok done ≡ echoed s m → Within done.1 None []
-  echo_keeps m done is = by (echo_fits (message_made (messages.Unimplemented (message_made m)))) is
+  echo_keeps m done is = by (echo_fits (message_written (messages.Unimplemented (message_written m)))) is
     where
-      by : (b : Bool) → Ok done ≡ (if b then Ok (effects.Send (messages.Unimplemented (message_made m)) ∷ [], s) else Err faults.EchoTooLarge)
+      by : (b : Bool) → Ok done ≡ (if b then Ok (effects.Send (messages.Unimplemented (message_written m)) ∷ [], s) else Err faults.EchoTooLarge)
           → Within done.1 None []
       by true same = rw (ok_in _ _ same) h
       by false same = ok_out same

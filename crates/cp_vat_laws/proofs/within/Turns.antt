@@ -7,7 +7,7 @@ use Rattle.std.proofs.lemmas.List.Sums.{sum_by-cons}
 use Rattle.cp_tables.proofs.TableLemmas.{get-remove_same}
 use Rattle.cp_refs.specs.Route.{Routes}
 use Rattle.cp_refs.specs.declared.cap.Cap.{Cap}
-use Rattle.cp_refs.specs.declared.call.Held.{Held}
+use Rattle.cp_refs.specs.declared.call.WaitingCall.{WaitingCall}
 use Rattle.cp_refs.specs.declared.route.Gate.{Gate}
 use Rattle.cp_refs.specs.declared.route.Route.{Route}
 use Rattle.cp_refs.specs.declared.route.Route.TheVariants as routes
@@ -22,10 +22,10 @@ use Rattle.cp_vat_laws.proofs.order.Same.{IsGoing, ends_well, waits_well}
 use Rattle.cp_vat_laws.proofs.order.Sound.{sound_within, waiting_ungiven}
 use Rattle.cp_vat_laws.proofs.order.Exits.{go_done}
 
-abbrev one_each : Held → ℕ
+abbrev one_each : WaitingCall → ℕ
 one_each call = 1
 
-abbrev if_over : Over → Held → ℕ
+abbrev if_over : Over → WaitingCall → ℕ
 if_over over call = one_if (is_some (gave over call.gate))
 
 -- how many calls wait, and how many of them at a gate that is over
@@ -47,7 +47,7 @@ one_at_most : (o : Option Cap) → one_if (is_some o) ≤ 1
 one_at_most None = omega arith
 one_at_most (Some cap) = omega arith
 
-over_within : (over : Over) (calls : List Held) → sum_by (if_over over) calls ≤ sum_by one_each calls
+over_within : (over : Over) (calls : List WaitingCall) → sum_by (if_over over) calls ≤ sum_by one_each calls
 over_within over [] = omega arith
 over_within over (call ∷ calls) =
     omega (arith, over_within over calls, one_at_most (gave over call.gate), sum_by-cons (if_over over) call calls, sum_by-cons one_each call calls)
@@ -55,7 +55,7 @@ over_within over (call ∷ calls) =
 falls_by : (m n o p : ℕ) → n ≡ suc m → o ≤ m → turns_of m + o < turns_of n + p
 falls_by m n o p is few = rw is (omega (arith, few))
 
-module _ {s : State} (h : Within s None []) (call : Held) (given : Cap) (next : IsNext s call given) where
+module _ {s : State} (h : Within s None []) (call : WaitingCall) (given : Cap) (next : IsNext s call given) where
   abbrev in_hand : State
   in_hand = without_call s call
 
@@ -79,7 +79,7 @@ module _ {s : State} (h : Within s None []) (call : Held) (given : Cap) (next : 
   waits_falls : (to : Gate) → Routes s.values given (routes.Wait to) → turns_left (held_at in_hand (underway call) to) < turns_left s
   waits_falls to way =
       let mid : State = held_at in_hand (underway call) to in
-      let held : Held = record { ticket = call.ticket; origin = call.origin; request = call.request; gate = to } in
+      let held : WaitingCall = record { ticket = call.ticket; origin = call.origin; request = call.request; gate = to } in
       let sound = sound_within s None [] h in
       let ahead = (waits_well s sound to (ends_well s sound given (routes.Wait to) (h.gifts call.gate given next.ended).0 way)).0 in
       let none = get-remove_same s.waiting.calls call.ticket in

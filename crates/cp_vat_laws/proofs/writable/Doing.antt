@@ -27,7 +27,7 @@ use Rattle.cp_vat_machine.specs.Capacity.{has_capacity, has_ticket, Fresh, cap_f
 use Rattle.cp_vat_machine.specs.Give.{Give, Settle}
 use Rattle.cp_vat_machine.specs.Go.{Underway, finish_of}
 use Rattle.cp_vat_machine.specs.InUse.{is_import_used, is_promise_used, is_question_used, is_own_question, is_unsettled, has_question, has_promise, has_import, is_local_path, is_pipelined, caps_of}
-use Rattle.cp_vat_machine.specs.Calling.{Reference, plain, on_wire, came_to, import_reference, path_reference, question_reference, reference_of, called, own_call, mark_of, with_mark, has_mark_capacity, marked, old_target, FirstEmbargoed, GoBack, GoByValue, GoFrom, OwnDone, not_all, call_refusals, DoCall}
+use Rattle.cp_vat_machine.specs.Calling.{Standing, plain, on_wire, came_to, import_reference, path_reference, question_reference, reference_of, called, own_call, mark_of, with_mark, has_mark_capacity, marked, old_target, FirstEmbargoed, GoBack, GoByValue, GoFrom, OwnDone, not_all, call_refusals, DoCall}
 use Rattle.cp_vat_machine.specs.Doing.{DoAnswer, DoRelease, DoForget, awaits, answer_refusals, resolve_refusals, value_refusals, Resolves, Finishes, FinishBy, told_if, without_import, without_promise}
 use Rattle.cp_vat_machine.specs.Resolving.{release_of}
 use Rattle.cp_vat_machine.specs.Step.{Does}
@@ -80,13 +80,13 @@ module _ (s : State) (f : Fits s) where
       by true e = rw (ok_in _ _ e) (mark_fits cap None)
       by false e = ok_out e
 
-target_said : (cap : Cap) → CapFits cap → TargetSaid (old_target cap)
-target_said (caps.Import i) h = tt
-target_said (caps.Pipelined q path) h = rw (length-map path (λ field. ops.GetPointerField field)) h
-target_said caps.None h = tt
-target_said (caps.Object k) h = tt
-target_said (caps.Promise p) h = tt
-target_said (caps.Broken x) h = tt
+target_denoted : (cap : Cap) → CapFits cap → TargetSaid (old_target cap)
+target_denoted (caps.Import i) h = tt
+target_denoted (caps.Pipelined q path) h = rw (length-map path (λ field. ops.GetPointerField field)) h
+target_denoted caps.None h = tt
+target_denoted (caps.Object k) h = tt
+target_denoted (caps.Promise p) h = tt
+target_denoted (caps.Broken x) h = tt
 
 module _ (s : State) (f : Fits s) (call : Underway) (request : RequestFits call.request) (cap : Cap) (c : CapFits cap) where
   embargoed_fits : (value : Cap) (done : Done) → CapFits value → FirstEmbargoed s call cap value (Ok done) → Good done
@@ -96,7 +96,7 @@ module _ (s : State) (f : Fits s) (call : Underway) (request : RequestFits call.
       let kept : Fits there = record { values_fit = f.values_fit; exports_fit = f.exports_fit; calls_fit = f.calls_fit; over_fits = f.over_fits; embargoes_fit = every-insert CapFits s.marks.embargoes parts.0 value f.embargoes_fit v } in
       let marked = mark_fits there kept cap (Some parts.0) in
       rw (ok_in _ _ parts.2) (
-        (target_said cap c, tt),
+        (target_denoted cap c, tt),
         record { values_fit = marked.values_fit; exports_fit = marked.exports_fit; calls_fit = every-insert (λ call. RequestFits call.request) _ call.ticket _ marked.calls_fit request; over_fits = marked.over_fits; embargoes_fit = marked.embargoes_fit },
       )
 
@@ -106,7 +106,7 @@ module _ (s : State) (f : Fits s) (call : Underway) (request : RequestFits call.
   back_fits value (Some (Some n)) done v does = go_fits s f call (routes.Wait (gates.Embargo n)) done request tt does
 
 -- what a reference came to
-abbrev ReferenceFits : Reference → Type 0
+abbrev ReferenceFits : Standing → Type 0
 ReferenceFits plain = Unit {0}
 ReferenceFits on_wire = Unit {0}
 ReferenceFits (came_to value) = CapFits value
@@ -146,7 +146,7 @@ module _ (s : State) (f : Fits s) where
     value_goes (caps.Pipelined p path) done v does = goes_fit (called s q kinds.Local) (called_fits s f q kinds.Local) (own_call s q request) (caps.Pipelined p path) done r v does
     value_goes (caps.Broken x) done v does = goes_fit (called s q kinds.Local) (called_fits s f q kinds.Local) (own_call s q request) (caps.Broken x) done r v does
 
-    from_goes : (reference : Reference) (done : Done) → ReferenceFits reference → GoFrom s q request cap reference (Ok done) → Good done
+    from_goes : (reference : Standing) (done : Done) → ReferenceFits reference → GoFrom s q request cap reference (Ok done) → Good done
     from_goes plain done h does = goes_fit (called s q kinds.Local) (called_fits s f q kinds.Local) (own_call s q request) cap done r c does
     from_goes on_wire done h does =
         let parts = then_out {A = State} {B = Done} (λ mid. mid ≡ marked (called s q kinds.Wire) cap (mark_of s cap)) _ done does in

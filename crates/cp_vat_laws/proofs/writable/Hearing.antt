@@ -10,7 +10,7 @@ use Rattle.cp_tables.specs.declared.exchange.Exchange.{Exchange}
 use Rattle.cp_tables.specs.declared.exchange.Stage.{Stage}
 use Rattle.cp_tables.specs.declared.exchange.Stage.TheVariants as stages
 use Rattle.cp_tables.proofs.TableLemmas.{every-insert, every-remove}
-use Rattle.cp_rpc.specs.Made.{message_made}
+use Rattle.cp_rpc.specs.Written.{message_written}
 use Rattle.cp_rpc.specs.declared.call.Call.{Call}
 use Rattle.cp_rpc.specs.declared.descriptor.Descriptor.{Descriptor}
 use Rattle.cp_rpc.specs.declared.descriptor.Descriptor.TheVariants as descriptors
@@ -366,10 +366,10 @@ module _ (s : State) (f : Fits s) where
   on_fits (messages.Other which body) done h does = absurd does
 
   echoed_fits : (m : Message) (done : Done) → Ok done ≡ echoed s m → Good done
-  echoed_fits m done is = by (echo_fits (message_made (messages.Unimplemented (message_made m)))) refl is
+  echoed_fits m done is = by (echo_fits (message_written (messages.Unimplemented (message_written m)))) refl is
     where
-      by : (b : Bool) → echo_fits (message_made (messages.Unimplemented (message_made m))) ≡ b
-          → Ok done ≡ cond b (Ok (effects.Send (messages.Unimplemented (message_made m)) ∷ [], s)) (Err faults.EchoTooLarge) → Good done
+      by : (b : Bool) → echo_fits (message_written (messages.Unimplemented (message_written m))) ≡ b
+          → Ok done ≡ cond b (Ok (effects.Send (messages.Unimplemented (message_written m)) ∷ [], s)) (Err faults.EchoTooLarge) → Good done
       by true fits is = rw (ok_in _ _ is) ((fits, tt), f)
       by false fits is = ok_out is
 

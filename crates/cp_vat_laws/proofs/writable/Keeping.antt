@@ -27,7 +27,7 @@ use Rattle.cp_rpc.specs.declared.target.Target.TheVariants as targets
 use Rattle.cp_refs.specs.At.{cap_at}
 use Rattle.cp_refs.specs.declared.cap.Cap.{Cap}
 use Rattle.cp_refs.specs.declared.cap.Cap.TheVariants as caps
-use Rattle.cp_refs.specs.declared.call.Held.{Held}
+use Rattle.cp_refs.specs.declared.call.WaitingCall.{WaitingCall}
 use Rattle.cp_refs.specs.declared.call.Origin.{Origin}
 use Rattle.cp_refs.specs.declared.call.Origin.TheVariants as origins
 use Rattle.cp_refs.specs.declared.outcome.Outcome.{Outcome}
@@ -398,11 +398,11 @@ gave_fits over f (gates.Promise p) c is = gave_cap c (get over.promises p) (f.pr
 gave_fits over f (gates.Question q path) c is = gave_at path c (get over.questions q) (f.questions q) is
 gave_fits over f (gates.Embargo n) c is = gave_cap c (get over.embargoes n) (f.embargoes n) is
 
-abbrev or_held : Held → Option Held → Held
+abbrev or_held : WaitingCall → Option WaitingCall → WaitingCall
 or_held c None = c
 or_held c (Some d) = d
 
-held_fits : (call : Held) (o : Option Held) → IfSome o (λ call. RequestFits call.request) → o ≡ Some call → RequestFits call.request
+held_fits : (call : WaitingCall) (o : Option WaitingCall) → IfSome o (λ call. RequestFits call.request) → o ≡ Some call → RequestFits call.request
 held_fits call None h is = absurd (cc)
 held_fits call (Some other) h is = subst (λ call. RequestFits call.request) (ap (or_held call) is) h
 

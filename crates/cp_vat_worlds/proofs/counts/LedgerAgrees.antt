@@ -11,7 +11,7 @@ use Rattle.cp_tables.specs.declared.counted.Counted.{Counted}
 use Rattle.cp_tables.specs.declared.exchange.Exchange.{Exchange}
 use Rattle.cp_tables.specs.declared.exchange.Stage.{Stage}
 use Rattle.cp_tables.specs.declared.exchange.Stage.TheVariants as stages
-use Rattle.cp_rpc.specs.Made.{message_made}
+use Rattle.cp_rpc.specs.Written.{message_written}
 use Rattle.cp_rpc.specs.declared.message.Message.{Message}
 use Rattle.cp_rpc.specs.declared.message.Message.TheVariants as messages
 use Rattle.cp_rpc.specs.declared.returned.Return.{Return}
@@ -110,15 +110,15 @@ on_known old (messages.Disembargo d) done does = tt
 on_known old (messages.Other which body) done does = tt
 
 -- one that isn't supported changes nothing, and its echo names nothing
-echo_sent : (accounts : Accounts) (m : Message) → Sent accounts (messages.Unimplemented (message_made m)) accounts
+echo_sent : (accounts : Accounts) (m : Message) → Sent accounts (messages.Unimplemented (message_written m)) accounts
 echo_sent accounts m = record { exports = λ e. omega arith; imports = λ i. omega arith; questions = λ q. refl; answers = λ a. refl }
 
 echo_goes : (old : State) (m : Message) (done : Done) → Ok done ≡ echoed old m
-    → (done.1 ≡ old) × (done.0 ≡ effects.Send (messages.Unimplemented (message_made m)) ∷ [])
-echo_goes old m done is = by (echo_fits (message_made (messages.Unimplemented (message_made m)))) is
+    → (done.1 ≡ old) × (done.0 ≡ effects.Send (messages.Unimplemented (message_written m)) ∷ [])
+echo_goes old m done is = by (echo_fits (message_written (messages.Unimplemented (message_written m)))) is
   where
-    by : (b : Bool) → Ok done ≡ (if b then Ok (effects.Send (messages.Unimplemented (message_made m)) ∷ [], old) else Err faults.EchoTooLarge)
-        → (done.1 ≡ old) × (done.0 ≡ effects.Send (messages.Unimplemented (message_made m)) ∷ [])
+    by : (b : Bool) → Ok done ≡ (if b then Ok (effects.Send (messages.Unimplemented (message_written m)) ∷ [], old) else Err faults.EchoTooLarge)
+        → (done.1 ≡ old) × (done.0 ≡ effects.Send (messages.Unimplemented (message_written m)) ∷ [])
     by true same = (ap (λ d. d.1) (ok_in _ _ same), ap (λ d. d.0) (ok_in _ _ same))
     by false same = ok_out same
 
@@ -152,8 +152,8 @@ message_tallies false old mid new m first rest past supported is orderly open_ d
     let goes = follows_goes mid new rest open_ (rw (echo.0) orderly) follows in (
       rw
           (echo.1)
-          (posts_tally rest (sent (messages.Unimplemented (message_made m)) ∷ past) (accounts_of mid) (accounts_of new)
-          (sent_tallies past (messages.Unimplemented (message_made m)) (accounts_of old) (accounts_of mid) is (rw (echo.0) (echo_sent (accounts_of old) m))) goes.0.posts),
+          (posts_tally rest (sent (messages.Unimplemented (message_written m)) ∷ past) (accounts_of mid) (accounts_of new)
+          (sent_tallies past (messages.Unimplemented (message_written m)) (accounts_of old) (accounts_of mid) is (rw (echo.0) (echo_sent (accounts_of old) m))) goes.0.posts),
       goes.1,
     )
 

@@ -7,7 +7,7 @@ use Rattle.std.proofs.lemmas.List.{append_assoc, append-nil}
 use Rattle.std.proofs.lemmas.List.Elements.{filter-append}
 use Rattle.std.proofs.lemmas.Grind.{flat_map-append}
 use Rattle.cp_tables.specs.Table.{Table}
-use Rattle.cp_refs.specs.declared.call.Held.{Held}
+use Rattle.cp_refs.specs.declared.call.WaitingCall.{WaitingCall}
 use Rattle.cp_vat_laws.proofs.Tables.{here_of, all_values, value_of}
 use Rattle.cp_vat_worlds.specs.Lane.{is_among}
 use Rattle.cp_vat_worlds.specs.Phases.{of_lane}
@@ -49,7 +49,7 @@ lane_unmade [] = refl
 lane_unmade (ticket ∷ tickets) = lane_unmade tickets
 
 -- waiting calls of which none is of the lane
-pub none_wait : (made : List ℕ) (f : Held → List ℕ) (calls : Table Held) → ((ticket : ℕ) (call : Held) → get calls ticket ≡ Some call → of_lane made (f call) ≡ [])
+pub none_wait : (made : List ℕ) (f : WaitingCall → List ℕ) (calls : Table WaitingCall) → ((ticket : ℕ) (call : WaitingCall) → get calls ticket ≡ Some call → of_lane made (f call) ≡ [])
     → of_lane made (flat_map f (values calls)) ≡ []
 none_wait made f calls none =
     lane_none made f (values calls)
@@ -70,7 +70,7 @@ module _ {X : Type 0} (made : List ℕ) (f g : X → List ℕ) where
       ∙ append-nil (of_lane made (flat_map f xs))
 
 -- where waiting calls are none of the lane, none of them is
-pub wait_none : (made : List ℕ) (f : Held → List ℕ) (calls : Table Held) → of_lane made (flat_map f (values calls)) ≡ [] → (ticket : ℕ) (call : Held)
+pub wait_none : (made : List ℕ) (f : WaitingCall → List ℕ) (calls : Table WaitingCall) → of_lane made (flat_map f (values calls)) ≡ [] → (ticket : ℕ) (call : WaitingCall)
     → get calls ticket ≡ Some call → of_lane made (f call) ≡ []
 wait_none made f calls none ticket call is = value_of (λ call. of_lane made (f call) ≡ []) calls ticket call is (none_lane made f (values calls) none)
 

@@ -6,7 +6,7 @@ use Rattle.std.proofs.Common.{inl, inr, ap, sym, ◌∙◌, true≢false}
 use Rattle.std.proofs.lemmas.List.{append_assoc, append-nil}
 use Rattle.cp_refs.specs.declared.cap.Cap.{Cap}
 use Rattle.cp_refs.specs.declared.cap.Cap.TheVariants as caps
-use Rattle.cp_refs.specs.declared.call.Held.{Held}
+use Rattle.cp_refs.specs.declared.call.WaitingCall.{WaitingCall}
 use Rattle.cp_refs.specs.declared.outcome.Outcome.{Outcome}
 use Rattle.cp_refs.specs.declared.route.Gate.{Gate}
 use Rattle.cp_refs.specs.declared.route.Gate.TheVariants as gates
@@ -61,15 +61,15 @@ new_calls one other at_first ref = record { tickets = new_tickets one; given = t
 new_calls one other at_second ref = record { tickets = new_tickets other; given = tt; lane = new_lanes other one ref }
 
 -- A reference that came to an object is in its lane.
-abbrev is_open : calling.Reference → Bool
+abbrev is_open : calling.Standing → Bool
 is_open on_wire = true
 is_open other = false
 
-abbrev is_plain : calling.Reference → Bool
+abbrev is_plain : calling.Standing → Bool
 is_plain plain = true
 is_plain other = false
 
-abbrev value_of : calling.Reference → Cap
+abbrev value_of : calling.Standing → Cap
 value_of (came_to value) = value
 value_of other = caps.None
 
@@ -141,7 +141,7 @@ pub none_waits_here : (here : End) (made : List ℕ) (k : ℕ) → here.vat.wait
 none_waits_here here made k none waiting =
     none_wait made (λ call. waits_as call call.origin) here.vat.waiting.calls (λ ticket call is. by ticket call is (waiting ticket call is))
   where
-    by : (ticket : ℕ) (call : Held) → get here.vat.waiting.calls ticket ≡ Some call
+    by : (ticket : ℕ) (call : WaitingCall) → get here.vat.waiting.calls ticket ≡ Some call
         → Rattle.cp_vat_worlds.specs.Phases.of_lane made (waits_as call call.origin) ≡ [] ⊎ GaveObject here.vat k call.gate
         → Rattle.cp_vat_worlds.specs.Phases.of_lane made (waits_as call call.origin) ≡ []
     by ticket call is (inl e) = e

@@ -28,7 +28,7 @@ use Rattle.cp_vat_machine.specs.Capacity.{Fresh, free}
 use Rattle.cp_vat_machine.specs.Say.{Raise, counted, counted_out, opened, has_no_capacity, SayEnd, Say, SayAll}
 use Rattle.cp_vat_machine.specs.Give.{ResolvesEnd, Tells, settled, value_for, last_for, Settle, SettleTied, Returns, given, gone, GiveBy, GiveAnswer, GiveOwnBy, Give}
 use Rattle.cp_vat_machine.specs.Go.{Underway, underway, delivered, GoOut, Go, GoTo, Leave, stays, leaves, finds_table_full, without_call}
-use Rattle.cp_vat_machine.specs.Calling.{Reference, plain, on_wire, came_to, reference_of, called, own_call, mark_of, with_mark, has_mark_capacity, marked, FirstEmbargoed, GoBack, GoByValue, GoFrom, OwnDone, call_refusals, DoCall}
+use Rattle.cp_vat_machine.specs.Calling.{Standing, plain, on_wire, came_to, reference_of, called, own_call, mark_of, with_mark, has_mark_capacity, marked, FirstEmbargoed, GoBack, GoByValue, GoFrom, OwnDone, call_refusals, DoCall}
 use Rattle.cp_vat_machine.specs.declared.effect.Effect.{Effect}
 use Rattle.cp_vat_machine.specs.declared.entry.Tied.{Tied}
 use Rattle.cp_vat_machine.specs.declared.fault.PeerFault.{PeerFault}
@@ -208,7 +208,7 @@ module _ (start : Counts) where
       goes_to (called old q kinds.Local) (own_call old q request) (caps.Pipelined r path) done to does
   value_to old q request cap (caps.Broken x) done to does = goes_to (called old q kinds.Local) (own_call old q request) (caps.Broken x) done to does
 
-  from_to : (old : State) (q : ℕ) (request : Request) (cap : Cap) (reference : Reference) (done : Done) → To old → GoFrom old q request cap reference (Ok done) → To done.1
+  from_to : (old : State) (q : ℕ) (request : Request) (cap : Cap) (reference : Standing) (done : Done) → To old → GoFrom old q request cap reference (Ok done) → To done.1
   from_to old q request cap plain done to does = goes_to (called old q kinds.Local) (own_call old q request) cap done to does
   from_to old q request cap on_wire done to does =
       let parts = then_out {A = State} {B = Done} (λ mid. mid ≡ marked (called old q kinds.Wire) cap (mark_of old cap)) _ done does in

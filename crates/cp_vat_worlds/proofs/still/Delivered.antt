@@ -118,7 +118,7 @@ module _ (s : State) (q : ℕ) (request : Request) (none : NoneFinished s) where
   value_below cap (caps.Pipelined r path) done goes = local_below (caps.Pipelined r path) done goes
   value_below cap (caps.Broken x) done goes = local_below (caps.Broken x) done goes
 
-  from_below : (cap : Cap) (ref : calling.Reference) (done : Done) → GoFrom s q request cap ref (Ok done) → AllBelow n done.0
+  from_below : (cap : Cap) (ref : calling.Standing) (done : Done) → GoFrom s q request cap ref (Ok done) → AllBelow n done.0
   from_below cap plain done goes = local_below cap done goes
   from_below cap on_wire done goes =
       let parts = then_out {A = State} {B = Done} (λ mid. mid ≡ marked (called s q kinds.Wire) cap (mark_of s cap)) _ done goes in

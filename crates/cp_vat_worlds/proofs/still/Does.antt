@@ -282,7 +282,7 @@ module _ (s : State) (q : ℕ) (request : Request) (one : AreOne s) where
   value_grows cap (caps.Pipelined r path) done goes = local_goes (caps.Pipelined r path) done goes
   value_grows cap (caps.Broken x) done goes = local_goes (caps.Broken x) done goes
 
-  pub from_grows : (cap : Cap) (ref : calling.Reference) (done : Done) → reference_of s.values cap ≡ ref → GoFrom s q request cap ref (Ok done) → FromCalled done
+  pub from_grows : (cap : Cap) (ref : calling.Standing) (done : Done) → reference_of s.values cap ≡ ref → GoFrom s q request cap ref (Ok done) → FromCalled done
   from_grows cap plain done is goes = local_goes cap done goes
   from_grows cap on_wire done is goes =
       let parts = then_out {A = State} {B = Done} (λ mid. mid ≡ marked (called s q kinds.Wire) cap (mark_of s cap)) _ done goes in

@@ -40,20 +40,20 @@ use Rattle.cp_vat_laws.proofs.order.Settle.{one_more}
 use Rattle.cp_vat_worlds.proofs.still.Grows.{PlacesStay, Mails, TicketsStay, Grown, grown_both, ways_same, refs_same, tickets_same, no_mail, no_loop, silent, grown_none}
 use Rattle.cp_vat_worlds.proofs.still.Say.{IsOpenCap, SaidAs, said_none, said_end, said_all, open_end, said_not, said_places, said_refs, said_tickets}
 
-resolution_said : (old : State) (last : Cap) (said : Resolution × State) → AreOne old → IsOpenCap old last
+resolution_denoted : (old : State) (last : Cap) (said : Resolution × State) → AreOne old → IsOpenCap old last
     → Then (SayEnd old last) (λ said out. out ≡ Ok (resolutions.Cap said.0, said.1)) (Ok said) → SaidAs old (given_back said.0) said.1
-resolution_said old last said one is says =
+resolution_denoted old last said one is says =
     let parts = then_out {A = Descriptor × State} {B = Resolution × State} (SayEnd old last) _ said says in
     rw (ok_in _ _ parts.2) (said_end old last parts.0 one is parts.1)
 
 pub resolves_said : (old : State) (last : Cap) (said : Resolution × State) → AreOne old → IsOpenCap old last → ResolvesEnd old last (Ok said)
     → SaidAs old (given_back said.0) said.1
 resolves_said old (caps.Broken x) said one is says = rw (ok_in _ _ says) (said_none old)
-resolves_said old caps.None said one is says = resolution_said old caps.None said one is says
-resolves_said old (caps.Object k) said one is says = resolution_said old (caps.Object k) said one is says
-resolves_said old (caps.Promise p) said one is says = resolution_said old (caps.Promise p) said one is says
-resolves_said old (caps.Import i) said one is says = resolution_said old (caps.Import i) said one is says
-resolves_said old (caps.Pipelined q path) said one is says = resolution_said old (caps.Pipelined q path) said one is says
+resolves_said old caps.None said one is says = resolution_denoted old caps.None said one is says
+resolves_said old (caps.Object k) said one is says = resolution_denoted old (caps.Object k) said one is says
+resolves_said old (caps.Promise p) said one is says = resolution_denoted old (caps.Promise p) said one is says
+resolves_said old (caps.Import i) said one is says = resolution_denoted old (caps.Import i) said one is says
+resolves_said old (caps.Pipelined q path) said one is says = resolution_denoted old (caps.Pipelined q path) said one is says
 
 -- a settled promise is told
 module _ (old : State) (p : ℕ) (value : Cap) (at : get old.values.promises p ≡ Some (Some value)) (one : AreOne old) where
@@ -225,13 +225,13 @@ pub answers_as_were : (s : State) → SameAnswers s s
 answers_as_were s a entry is = (entry, is, refl)
 
 -- A Return that is sent names what was said.
-pub returned_said : (old : State) (outcome : Outcome) (said : Returned × State) → AreOne old → Returns old outcome (Ok said)
+pub returned_denoted : (old : State) (outcome : Outcome) (said : Returned × State) → AreOne old → Returns old outcome (Ok said)
     → SaidAs old (returned_mentions said.0) said.1
-returned_said old (outcomes.Results content table) said one says =
+returned_denoted old (outcomes.Results content table) said one says =
     let parts = then_out {A = List Descriptor × State} {B = Returned × State} (SayAll old table) _ said says in
     rw (ok_in _ _ parts.2) (said_all table old parts.0 one parts.1)
-returned_said old (outcomes.Failed x) said one says = rw (ok_in _ _ says) (said_none old)
-returned_said old outcomes.Canceled said one says = rw (ok_in _ _ says) (said_none old)
+returned_denoted old (outcomes.Failed x) said one says = rw (ok_in _ _ says) (said_none old)
+returned_denoted old outcomes.Canceled said one says = rw (ok_in _ _ says) (said_none old)
 
 pub return_grows : (old : State) (a : ℕ) (returned : Returned) (new : State) → SaidAs old (returned_mentions returned) new
     → Grown old (return_of a returned ∷ []) new
@@ -321,7 +321,7 @@ answer_by old a outcome entry stages.Open done one may was gives =
     let mid : State = said.0.1 in
     let new : State = given mid a entry.kept outcome said.0.0 in
     let rest = then_out {A = Done} {B = Done} (SettleTied new outcome entry.kept.tied) _ done said.2 in
-    let is = returned_said old outcome said.0 one said.1 in
+    let is = returned_denoted old outcome said.0 one said.1 in
     let first = return_grows old a said.0.0 mid is in
     let there : get mid.entries.answers a ≡ Some entry = ap (λ s. get s.entries.answers a) is.only ∙ was in
     let ungiven : (o : Outcome) → get mid.values.answers a ≡ Some (Some o) → ⊥ = λ o at. may.0 o (sym (ap (λ s. get s.values.answers a) is.only) ∙ at) in

@@ -11,7 +11,7 @@ use Rattle.cp_rpc.specs.declared.descriptor.Descriptor.{Descriptor}
 use Rattle.cp_rpc.specs.declared.target.Target.{Target}
 use Rattle.cp_rpc.specs.declared.target.Target.TheVariants as targets
 use Rattle.cp_refs.specs.declared.cap.Cap.{Cap}
-use Rattle.cp_refs.specs.declared.call.Held.{Held}
+use Rattle.cp_refs.specs.declared.call.WaitingCall.{WaitingCall}
 use Rattle.cp_refs.specs.declared.call.Origin.{Origin}
 use Rattle.cp_refs.specs.declared.call.Origin.TheVariants as origins
 use Rattle.cp_refs.specs.declared.call.Request.{Request}
@@ -251,7 +251,7 @@ module _ {s : State} {hand : Option Origin} (h : Within s hand []) where
       by (Some a) o valued = absurd valued
 
 -- a turn of waiting calls
-module _ {s : State} (h : Within s None []) (call : Held) (cap : Cap) (next : IsNext s call cap) where
+module _ {s : State} (h : Within s None []) (call : WaitingCall) (cap : Cap) (next : IsNext s call cap) where
   waits : WaitsFor s call.ticket call
   waits = there_of (WaitsFor s call.ticket) (get s.waiting.calls call.ticket) call next.waits (h.waiting call.ticket)
 
@@ -268,7 +268,7 @@ module _ {s : State} (h : Within s None []) (call : Held) (cap : Cap) (next : Is
           (get s.entries.questions q) ticket.0 ticket.1 (h.wire q) refl in
           let went : (ticket.0.kept.is_sent ≡ true) × (ticket.0.kept.is_delivered ≡ false) = rw on at sent_ in
           let one : ◌≡◌ {A = ℕ} (cond (is_origin (origins.Own q) call.origin) 1 0) 1 = rw (is, is_itself q) refl in
-          let within = within_sum (λ (c : Held). cond (is_origin (origins.Own q) c.origin) 1 0) s.waiting.calls call.ticket call next.waits in
+          let within = within_sum (λ (c : WaitingCall). cond (is_origin (origins.Own q) c.origin) 1 0) s.waiting.calls call.ticket call next.waits in
           let counted : ◌≡◌ {A = ℕ} (one_if ticket.0.kept.is_sent) 1 = rw (went.0) refl in
           absurd (omega (arith, place, one, within, counted))
       by false wire = refl

@@ -114,16 +114,16 @@ module _ {old new : State} {made : List ℕ} (ref : Reference) (local_ : Local o
   plainly : TicketsHold new (made ++ [])
   plainly = rw (append-nil made) (tickets_moved moved h)
 
-  call_made : (b : Bool) → ((one : Origin) × OneMore old new one) → TicketsHold new (made ++ (if b then (old.next_ticket ∷ []) else []))
-  call_made true more = tickets_made more.1 h
-  call_made false more = plainly
+  call_written : (b : Bool) → ((one : Origin) × OneMore old new one) → TicketsHold new (made ++ (if b then (old.next_ticket ∷ []) else []))
+  call_written true more = tickets_made more.1 h
+  call_written false more = plainly
 
   pub did_made : (event : Event) (value : Value) (first rest : List Effect) (mid : State) → Does old event (Ok (value, first, mid)) → Follows mid rest new
       → TicketsHold new (made ++ Made old ref event (Ok value))
   did_made (events.Receive m) value first rest mid does follows = absurd does
   did_made events.Bootstrap value first rest mid does follows = plainly
   did_made (events.Call cap request) value first rest mid does follows =
-      call_made (names ref cap) (called_more cap request value first rest local_ open_ does follows)
+      call_written (names ref cap) (called_more cap request value first rest local_ open_ does follows)
   did_made (events.Answer origin outcome) value first rest mid does follows = plainly
   did_made events.Promise value first rest mid does follows = plainly
   did_made (events.Resolve p cap) value first rest mid does follows = plainly

@@ -14,7 +14,7 @@ use Rattle.cp_refs.specs.Route.{Way, ends, leads, missing, promise_way, open_way
 use Rattle.cp_refs.specs.Values.{ValueMaps}
 use Rattle.cp_refs.specs.declared.cap.Cap.{Cap}
 use Rattle.cp_refs.specs.declared.cap.Cap.TheVariants as caps
-use Rattle.cp_refs.specs.declared.call.Held.{Held}
+use Rattle.cp_refs.specs.declared.call.WaitingCall.{WaitingCall}
 use Rattle.cp_refs.specs.declared.call.Origin.{Origin}
 use Rattle.cp_refs.specs.declared.call.Origin.TheVariants as origins
 use Rattle.cp_refs.specs.declared.outcome.Outcome.{Outcome}
@@ -26,7 +26,7 @@ use Rattle.cp_refs.specs.declared.route.Route.TheVariants as routes
 use Rattle.cp_refs.specs.declared.values.Question.{Question}
 use Rattle.cp_refs.specs.declared.values.QuestionKind.{QuestionKind}
 use Rattle.cp_refs.specs.declared.values.QuestionKind.TheVariants as kinds
-use Rattle.cp_vat_machine.specs.State.{State, Entries, gave}
+use Rattle.cp_vat_machine.specs.State.{State, Exchanges, gave}
 use Rattle.cp_vat_machine.specs.Then.{Done}
 use Rattle.cp_vat_machine.specs.Give.{SettleTied, Returns, given, gone, GiveBy, GiveAnswer, answer_over, question_over, question_settled, without_question, GiveOwnBy, GiveOwn, Give}
 use Rattle.cp_vat_machine.specs.Go.{without_call}
@@ -44,10 +44,10 @@ abbrev at_answer : ℕ → Route → Bool
 at_answer a (routes.Wait (gates.Answer b path)) = b == a
 at_answer a other = false
 
-abbrev answer_ended : State → ℕ → Exception → Table (Option Outcome) → Entries → State
+abbrev answer_ended : State → ℕ → Exception → Table (Option Outcome) → Exchanges → State
 answer_ended s a x answers entries = record (answer_over s a (outcomes.Failed x)) { values = record s.values { answers = answers }; entries = entries }
 
-module _ (s : State) (a : ℕ) (x : Exception) (answers : Table (Option Outcome)) (entries : Entries) (ungiven : get s.waiting.over.answers a ≡ None) where
+module _ (s : State) (a : ℕ) (x : Exception) (answers : Table (Option Outcome)) (entries : Exchanges) (ungiven : get s.waiting.over.answers a ≡ None) where
   abbrev answered : ValueMaps
   answered = record s.values { answers = answers }
 
@@ -102,7 +102,7 @@ module _ (s : State) (a : ℕ) (x : Exception) (answers : Table (Option Outcome)
   answer_none_over h (gates.Question q path) is = h (gates.Question q path) is
   answer_none_over h (gates.Embargo n) is = absurd is
 
-answer_on : (s : State) (a : ℕ) (x : Exception) (answers : Table (Option Outcome)) (entries : Entries) → get s.waiting.over.answers a ≡ None → NoOpenOver s
+answer_on : (s : State) (a : ℕ) (x : Exception) (answers : Table (Option Outcome)) (entries : Exchanges) → get s.waiting.over.answers a ≡ None → NoOpenOver s
     → MovesOn s (answer_ended s a x answers entries)
 answer_on s a x answers entries ungiven over =
     (move_where (at_answer a) (routes.Fail x), answer_moves s a x answers entries ungiven, answer_none_over s a x answers entries ungiven over)
@@ -143,7 +143,7 @@ at_question q (routes.Wait (gates.Question r path)) = r == q
 at_question q (routes.Pipe r path) = r == q
 at_question q other = false
 
-abbrev question_ended : State → ℕ → Exception → Table Question → Entries → State
+abbrev question_ended : State → ℕ → Exception → Table Question → Exchanges → State
 question_ended s q x questions entries = record (question_over s q (outcomes.Failed x)) { values = record s.values { questions = questions }; entries = entries }
 
 open_fails : (new : ValueMaps) (q r : ℕ) (path : List ℕ) (kind : QuestionKind) (x : Exception) → (r == q) ≡ true
@@ -160,7 +160,7 @@ fails_by : (new : ValueMaps) (q r : ℕ) (path : List ℕ) (kind : QuestionKind)
 fails_by new q r path kind None x t e = λ any. open_fails new q r path kind x t
 fails_by new q r path kind (Some outcome) x t e = none_out (sym e)
 
-module _ (s : State) (q : ℕ) (x : Exception) (question : Question) (entries : Entries) (ungiven : get s.waiting.over.questions q ≡ None)
+module _ (s : State) (q : ℕ) (x : Exception) (question : Question) (entries : Exchanges) (ungiven : get s.waiting.over.questions q ≡ None)
     (is : get s.values.questions q ≡ Some question) (none : question.outcome ≡ None) where
   abbrev new_questions : Table Question
   new_questions = insert s.values.questions q (failed_question question x)
@@ -321,7 +321,7 @@ module _ (s : State) (ports : Table Port) (q : ℕ) (x : Exception) (alone : Nob
   at_same None g t away h = h
   at_same (Some port) g t away h = rw (gate_same g t) (waits_same port g (gave s.waiting.over g) refl away h)
 
-  each_call : (port : Option Port) (o : Option Held) → IfSome o (λ call. (is_at_question q call.gate ≡ false) × IsNoPortOf q port)
+  each_call : (port : Option Port) (o : Option WaitingCall) → IfSome o (λ call. (is_at_question q call.gate ≡ false) × IsNoPortOf q port)
       → IfSome o (λ call. WaitsAt s port call.gate) → IfSome o (λ call. WaitsAt without port call.gate)
   each_call port None away h = tt
   each_call port (Some call) away h = at_same port call.gate away.0 away.1 h
@@ -369,7 +369,7 @@ given_keeps s ports (origins.Answer a) x done gives may over =
 given_keeps s ports (origins.Own q) x done gives may over = own_keeps s ports q x done gives may over
 
 -- what is so of a call's origin is so without the call
-alone_left : (s : State) (ports : Table Port) (call : Held) (q : ℕ) → NobodyWaitsFor s ports q → NobodyWaitsFor (without_call s call) ports q
+alone_left : (s : State) (ports : Table Port) (call : WaitingCall) (q : ℕ) → NobodyWaitsFor s ports q → NobodyWaitsFor (without_call s call) ports q
 alone_left s ports call q h =
     record { values = h.values; results = h.results; gifts = h.gifts; calls = λ ticket. each ticket (call.ticket == ticket) refl (h.calls ticket) }
   where
@@ -379,16 +379,16 @@ alone_left s ports call q h =
     each ticket true t k = rw (gone_at s.waiting.calls call.ticket ticket true t) tt
     each ticket false t k = rw (gone_at s.waiting.calls call.ticket ticket false t) k
 
-open_left : (s : State) (ports : Table Port) (call : Held) (q : ℕ) (stage : Stage) → IsOpenQuestion s ports q stage → IsOpenQuestion (without_call s call) ports q stage
+open_left : (s : State) (ports : Table Port) (call : WaitingCall) (q : ℕ) (stage : Stage) → IsOpenQuestion s ports q stage → IsOpenQuestion (without_call s call) ports q stage
 open_left s ports call q stages.Open h = h
 open_left s ports call q stages.Finished h = alone_left s ports call q h
 open_left s ports call q stages.Returned h = h
 
-entry_left : (s : State) (ports : Table Port) (call : Held) (q : ℕ) (o : Option (Exchange QuestionEntry)) → IfSome o (λ entry. IsOpenQuestion s ports q entry.stage)
+entry_left : (s : State) (ports : Table Port) (call : WaitingCall) (q : ℕ) (o : Option (Exchange QuestionEntry)) → IfSome o (λ entry. IsOpenQuestion s ports q entry.stage)
     → IfSome o (λ entry. IsOpenQuestion (without_call s call) ports q entry.stage)
 entry_left s ports call q None h = tt
 entry_left s ports call q (Some entry) h = open_left s ports call q entry.stage h
 
-pub left_ungiven : (s : State) (ports : Table Port) (call : Held) (origin : Origin) → IsUngiven s ports origin → IsUngiven (without_call s call) ports origin
+pub left_ungiven : (s : State) (ports : Table Port) (call : WaitingCall) (origin : Origin) → IsUngiven s ports origin → IsUngiven (without_call s call) ports origin
 left_ungiven s ports call (origins.Answer a) h = h
 left_ungiven s ports call (origins.Own q) h = (h.0, entry_left s ports call q (get s.entries.questions q) h.1)

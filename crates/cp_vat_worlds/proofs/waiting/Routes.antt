@@ -9,7 +9,7 @@ use Rattle.cp_refs.specs.Route.{Way, ends, leads, missing, promise_way, open_way
 use Rattle.cp_refs.specs.Values.{ValueMaps}
 use Rattle.cp_refs.specs.declared.cap.Cap.{Cap}
 use Rattle.cp_refs.specs.declared.cap.Cap.TheVariants as caps
-use Rattle.cp_refs.specs.declared.call.Held.{Held}
+use Rattle.cp_refs.specs.declared.call.WaitingCall.{WaitingCall}
 use Rattle.cp_refs.specs.declared.outcome.Outcome.{Outcome}
 use Rattle.cp_refs.specs.declared.route.Gate.{Gate}
 use Rattle.cp_refs.specs.declared.route.Gate.TheVariants as gates
@@ -52,7 +52,7 @@ module _ {old mid : State} {move : Route → Route} (m : Moves old mid move) whe
   waits_there None g h = h
   waits_there (Some port) g h = waits_on port g (gave old.waiting.over g) refl h
 
-  each_there : (port : Option Port) (o : Option Held) → IfSome o (λ call. WaitsAt old port call.gate) → IfSome o (λ call. WaitsAt mid port call.gate)
+  each_there : (port : Option Port) (o : Option WaitingCall) → IfSome o (λ call. WaitsAt old port call.gate) → IfSome o (λ call. WaitsAt mid port call.gate)
   each_there port None h = tt
   each_there port (Some call) h = waits_there port call.gate h
 

@@ -8,7 +8,7 @@ use Rattle.cp_rpc.specs.declared.target.Target.{Target}
 use Rattle.cp_rpc.specs.declared.target.Target.TheVariants as targets
 use Rattle.cp_refs.specs.Route.{way, Routes}
 use Rattle.cp_refs.specs.declared.cap.Cap.{Cap}
-use Rattle.cp_refs.specs.declared.call.Held.{Held}
+use Rattle.cp_refs.specs.declared.call.WaitingCall.{WaitingCall}
 use Rattle.cp_refs.specs.declared.call.Origin.{Origin}
 use Rattle.cp_refs.specs.declared.call.Origin.TheVariants as origins
 use Rattle.cp_refs.specs.declared.route.Gate.{Gate}
@@ -90,7 +90,7 @@ gone_calls old mid ports ticket u true t same calls h = rw (calls, gone_at old.w
 gone_calls old mid ports ticket u false t same calls h =
     rw (calls, gone_at old.waiting.calls ticket u false t) (each (get old.waiting.calls u) (h u))
   where
-    each : (o : Option Held) → IfSome o (λ call. WaitsAt old (get ports u) call.gate) → IfSome o (λ call. WaitsAt mid (get ports u) call.gate)
+    each : (o : Option WaitingCall) → IfSome o (λ call. WaitsAt old (get ports u) call.gate) → IfSome o (λ call. WaitsAt mid (get ports u) call.gate)
     each None k = tt
     each (Some call) k = waits_at old mid (get ports u) call.gate same k
 
@@ -119,23 +119,23 @@ delivered_same s (origins.Answer a) = (record { values = refl; over = refl; emba
 delivered_same s (origins.Own q) = (record { values = refl; over = refl; embargoes = refl }, refl)
 
 -- the call left, and nothing changed that waiting calls look at
-abbrev Left : State → Held → State → Type 0
+abbrev Left : State → WaitingCall → State → Type 0
 Left old call mid = SameBut old mid × (mid.waiting.calls ≡ remove old.waiting.calls call.ticket)
 
-left_by : (old mid : State) (call : Held) → SameBut (without_call old call) mid × (mid.waiting.calls ≡ (without_call old call).waiting.calls) → Left old call mid
+left_by : (old mid : State) (call : WaitingCall) → SameBut (without_call old call) mid × (mid.waiting.calls ≡ (without_call old call).waiting.calls) → Left old call mid
 left_by old mid call same = (record { values = same.0.values; over = same.0.over; embargoes = same.0.embargoes }, same.1)
 
-leaving : (old mid : State) (ports : Table Port) (call : Held) → Left old call mid → WaitRightly old ports → WaitRightly mid ports
+leaving : (old mid : State) (ports : Table Port) (call : WaitingCall) → Left old call mid → WaitRightly old ports → WaitRightly mid ports
 leaving old mid ports call left h u = gone_calls old mid ports call.ticket u (call.ticket == u) refl left.0 left.1 h
 
-there_waits : (s : State) (port : Option Port) (call : Held) (o : Option Held) → o ≡ Some call → IfSome o (λ other. WaitsAt s port other.gate) → WaitsAt s port call.gate
+there_waits : (s : State) (port : Option Port) (call : WaitingCall) (o : Option WaitingCall) → o ≡ Some call → IfSome o (λ other. WaitsAt s port other.gate) → WaitsAt s port call.gate
 there_waits s port call None e h = none_out e
 there_waits s port call (Some other) e h = rw (ap (λ held. held.gate) (some_out (sym e))) h
 
-at_ticket : (old : State) (ports : Table Port) (call : Held) → get old.waiting.calls call.ticket ≡ Some call → WaitRightly old ports → WaitsAt old (get ports call.ticket) call.gate
+at_ticket : (old : State) (ports : Table Port) (call : WaitingCall) → get old.waiting.calls call.ticket ≡ Some call → WaitRightly old ports → WaitsAt old (get ports call.ticket) call.gate
 at_ticket old ports call is h = there_waits old (get ports call.ticket) call (get old.waiting.calls call.ticket) is (h call.ticket)
 
-held_again : (old : State) (ports : Table Port) (call : Held) (to : Gate) (u : ℕ) (b : Bool) → (call.ticket == u) ≡ b
+held_again : (old : State) (ports : Table Port) (call : WaitingCall) (to : Gate) (u : ℕ) (b : Bool) → (call.ticket == u) ≡ b
     → WaitsAt (held_at (without_call old call) (underway call) to) (get ports call.ticket) to → WaitRightly old ports
     → IfSome (get (held_at (without_call old call) (underway call) to).waiting.calls u) (λ c. WaitsAt (held_at (without_call old call) (underway call) to) (get ports u) c.gate)
 held_again old ports call to u true t here h =
@@ -145,13 +145,13 @@ held_again old ports call to u false t here h =
     (put_at (remove old.waiting.calls call.ticket) call.ticket u _ false t, gone_at old.waiting.calls call.ticket u false t)
     (each (get old.waiting.calls u) (h u))
   where
-    each : (o : Option Held) → IfSome o (λ c. WaitsAt old (get ports u) c.gate)
+    each : (o : Option WaitingCall) → IfSome o (λ c. WaitsAt old (get ports u) c.gate)
         → IfSome o (λ c. WaitsAt (held_at (without_call old call) (underway call) to) (get ports u) c.gate)
     each None k = tt
     each (Some c) k =
         waits_at old (held_at (without_call old call) (underway call) to) (get ports u) c.gate (record { values = refl; over = refl; embargoes = refl }) k
 
-turn_rightly : (old mid : State) (ports : Table Port) (call : Held) (c : Cap) (route : Route) (first : List Effect) → WaitRightly old ports → NoneLeadsToOver old
+turn_rightly : (old mid : State) (ports : Table Port) (call : WaitingCall) (c : Cap) (route : Route) (first : List Effect) → WaitRightly old ports → NoneLeadsToOver old
     → IsNext old call c → Routes old.values c route → MayGo old ports call.origin route → Go (without_call old call) (underway call) route (Ok (first, mid))
     → WaitRightly mid ports
 turn_rightly old mid ports call c (routes.Deliver k) first h over next way may goes =
@@ -177,7 +177,7 @@ turn_rightly old mid ports call c (routes.Fail x) first h over next way may goes
 over_by : (old mid : State) → SameBut old mid → NoneLeadsToOver old → NoneLeadsToOver mid
 over_by old mid same over c gate way = same_gave old mid gate same ∙ over c gate (rw (← same.values) way)
 
-turn_over : (old mid : State) (ports : Table Port) (call : Held) (c : Cap) (route : Route) (first : List Effect) → NoneLeadsToOver old → MayGo old ports call.origin route
+turn_over : (old mid : State) (ports : Table Port) (call : WaitingCall) (c : Cap) (route : Route) (first : List Effect) → NoneLeadsToOver old → MayGo old ports call.origin route
     → Go (without_call old call) (underway call) route (Ok (first, mid)) → NoneLeadsToOver mid
 turn_over old mid ports call c (routes.Deliver k) first over may goes =
     let is : mid ≡ delivered (without_call old call) call.origin = ap (λ d. d.1) (ok_in _ _ goes) in

@@ -1,15 +1,15 @@
 use Rattle.std.proofs.Common.{sym, ◌∙◌}
-use Rattle.cp_rpc.specs.Told.{told_descriptor}
+use Rattle.cp_rpc.specs.Viewed.{viewed_descriptor}
 use Rattle.cp_vat_machine.specs.Supported.{is_supported_descriptor}
 use Rattle.cp_vat.proofs.Listing.{all_more, all_fails}
 use Rattle.cp_vat.proofs.supported.are_supported_view.Goals as goal
 
 pub returns-then-not-is_supported_descriptor_view : goal.returns-then-not-is_supported_descriptor_view
 returns-then-not-is_supported_descriptor_view c =
-    let d = told_descriptor (λ t. t) c.descriptor.result in
+    let d = viewed_descriptor (λ t. t) c.descriptor.result in
     all_fails is_supported_descriptor c.args.table.now c.loop-i.i d (rw c.len-i-end.ensures at c.loop-i-test.true) (c.descriptor.ensures d) (sym c.is_supported_descriptor_view.ensures ∙ c.if-not-is_supported_descriptor_view.true)
 
 pub loop-i-preserved : goal.loop-i-preserved
 loop-i-preserved c =
-    let d = told_descriptor (λ t. t) c.descriptor.result in
+    let d = viewed_descriptor (λ t. t) c.descriptor.result in
     all_more is_supported_descriptor c.args.table.now c.loop-i.i d (rw c.len-i-end.ensures at c.loop-i-test.true) (c.descriptor.ensures d) c.loop-i.invariant (sym c.is_supported_descriptor_view.ensures ∙ c.if-not-is_supported_descriptor_view.false)

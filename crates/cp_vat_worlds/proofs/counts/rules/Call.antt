@@ -22,7 +22,7 @@ use Rattle.cp_vat_machine.specs.Then.{Done}
 use Rattle.cp_vat_machine.specs.Capacity.{Fresh}
 use Rattle.cp_vat_machine.specs.Supported.{is_supported_target}
 use Rattle.cp_vat_machine.specs.Go.{Underway, held_at, GoTo}
-use Rattle.cp_vat_machine.specs.Calling.{Reference, plain, on_wire, came_to, reference_of, asked, called, own_call, mark_of, with_mark, has_mark_capacity, marked, old_target, disembargo_of, FirstEmbargoed, GoBack, GoByValue, GoFrom, OwnDone, call_refusals, DoCall}
+use Rattle.cp_vat_machine.specs.Calling.{Standing, plain, on_wire, came_to, reference_of, asked, called, own_call, mark_of, with_mark, has_mark_capacity, marked, old_target, disembargo_of, FirstEmbargoed, GoBack, GoByValue, GoFrom, OwnDone, call_refusals, DoCall}
 use Rattle.cp_vat_machine.specs.declared.entry.QuestionEntry.{QuestionEntry}
 use Rattle.cp_vat_machine.specs.declared.fault.PeerFault.TheVariants as faults
 use Rattle.cp_vat_machine.specs.declared.fault.VatFault.{VatFault}
@@ -183,7 +183,7 @@ value_goes old q request cap (caps.Pipelined r path) done orderly fresh does =
 value_goes old q request cap (caps.Broken x) done orderly fresh does =
     to_start old (called old q kinds.Local) q request (caps.Broken x) done old.next_ticket (called_starts old q kinds.Local orderly fresh) does
 
-from_goes : (old : State) (q : ℕ) (request : Request) (cap : Cap) (reference : Reference) (done : Done) → IsOrderly old → get old.entries.questions q ≡ None
+from_goes : (old : State) (q : ℕ) (request : Request) (cap : Cap) (reference : Standing) (done : Done) → IsOrderly old → get old.entries.questions q ≡ None
     → GoFrom old q request cap reference (Ok done) → Goes old done.0 done.1
 from_goes old q request cap plain done orderly fresh does =
     to_start old (called old q kinds.Local) q request cap done old.next_ticket (called_starts old q kinds.Local orderly fresh) does

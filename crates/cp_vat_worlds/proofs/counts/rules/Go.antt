@@ -11,7 +11,7 @@ use Rattle.cp_rpc.specs.declared.descriptor.Descriptor.{Descriptor}
 use Rattle.cp_rpc.specs.declared.target.Target.{Target}
 use Rattle.cp_rpc.specs.declared.target.Target.TheVariants as targets
 use Rattle.cp_refs.specs.declared.cap.Cap.{Cap}
-use Rattle.cp_refs.specs.declared.call.Held.{Held}
+use Rattle.cp_refs.specs.declared.call.WaitingCall.{WaitingCall}
 use Rattle.cp_refs.specs.declared.call.Origin.{Origin}
 use Rattle.cp_refs.specs.declared.call.Origin.TheVariants as origins
 use Rattle.cp_refs.specs.declared.outcome.Outcome.TheVariants as outcomes
@@ -187,12 +187,12 @@ pub goto_goes : (old : State) (call : Underway) (cap : Cap) (done : Done) → Is
 goto_goes old call cap done orderly may goes = go_goes old call goes.0 done orderly may goes.2
 
 -- waiting calls leave
-may_leave : (s : State) (call : Held) (cap : Cap) (origin : Origin) → IsOrderly s → IsNext s call cap → call.origin ≡ origin → IsHeldAlone (without_call s call) origin
+may_leave : (s : State) (call : WaitingCall) (cap : Cap) (origin : Origin) → IsOrderly s → IsNext s call cap → call.origin ≡ origin → IsHeldAlone (without_call s call) origin
 may_leave s call cap (origins.Answer a) orderly next is = tt
 may_leave s call cap (origins.Own q) orderly next is =
     (orderly.held.back call.ticket call q next.waits is, none_is_left s.waiting.calls s.entries.questions orderly.held call.ticket call q next.waits is)
 
-left_orderly : (s : State) (call : Held) → IsOrderly s → IsOrderly (without_call s call)
+left_orderly : (s : State) (call : WaitingCall) → IsOrderly s → IsOrderly (without_call s call)
 left_orderly s call orderly =
     record {
       held = gone_call s.waiting.calls s.entries.questions orderly.held call.ticket;
@@ -205,7 +205,7 @@ abbrev pub LeftAs : State → List Effect → Result State PeerFault → Type 0
 LeftAs old all (Ok last) = Goes old all last
 LeftAs old all (Err fault) = Unit {0}
 
-pub turn_goes : (old mid : State) (call : Held) (cap : Cap) (first : List Effect) → IsOrderly old → IsNext old call cap
+pub turn_goes : (old mid : State) (call : WaitingCall) (cap : Cap) (first : List Effect) → IsOrderly old → IsNext old call cap
     → GoTo (without_call old call) (underway call) cap (Ok (first, mid)) → Goes old first mid
 turn_goes old mid call cap first orderly next goes =
     let one = goto_goes (without_call old call) (underway call) cap (first, mid) (left_orderly old call orderly) (may_leave old call cap call.origin orderly next refl) goes in

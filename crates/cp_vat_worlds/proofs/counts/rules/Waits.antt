@@ -6,7 +6,7 @@ use Rattle.cp_tables.specs.Table.{Table}
 use Rattle.cp_tables.specs.declared.exchange.Exchange.{Exchange}
 use Rattle.cp_tables.specs.declared.exchange.Stage.{Stage}
 use Rattle.cp_tables.specs.declared.exchange.Stage.TheVariants as stages
-use Rattle.cp_refs.specs.declared.call.Held.{Held}
+use Rattle.cp_refs.specs.declared.call.WaitingCall.{WaitingCall}
 use Rattle.cp_refs.specs.declared.call.Origin.TheVariants as origins
 use Rattle.cp_vat_machine.specs.declared.entry.QuestionEntry.{QuestionEntry}
 use Rattle.cp_vat_machine.proofs.Basics.{some_out, none_out, is_equal, is_itself, put_at, gone_at}
@@ -36,13 +36,13 @@ given_not entry is h = given_at entry.stage is h.0.1
 is_same : (t u : ℕ) → t ≡ u → (t == u) ≡ true
 is_same t u same = rw (same) (is_itself u)
 
-module _ (calls : Table Held) (questions : Table (Exchange QuestionEntry)) (held : AreHeld calls questions) where
+module _ (calls : Table WaitingCall) (questions : Table (Exchange QuestionEntry)) (held : AreHeld calls questions) where
   -- no call of such a question waits
   pub none_waits : (q : ℕ) → IsNotHeldBack (get questions q) → NoneWaits calls q
   none_waits q not ticket call is own = not (held.back ticket call q is own)
 
   -- a question's entry is put in, of which no call waits
-  put_back : (q : ℕ) (entry : Exchange QuestionEntry) → NoneWaits calls q → (ticket : ℕ) (call : Held) (p : ℕ) (b : Bool) → (q == p) ≡ b → get calls ticket ≡ Some call
+  put_back : (q : ℕ) (entry : Exchange QuestionEntry) → NoneWaits calls q → (ticket : ℕ) (call : WaitingCall) (p : ℕ) (b : Bool) → (q == p) ≡ b → get calls ticket ≡ Some call
       → call.origin ≡ origins.Own p → IsHeldBack (get (insert questions q entry) p)
   put_back q entry none ticket call p true t is own = absurd (none ticket call is (rw (is_equal q p t) own))
   put_back q entry none ticket call p false t is own = rw (put_at questions q p entry false t) (held.back ticket call p is own)
@@ -64,7 +64,7 @@ module _ (calls : Table Held) (questions : Table (Exchange QuestionEntry)) (held
       }
 
   -- one that stays held back, or isn't
-  again_back : (q : ℕ) (entry other : Exchange QuestionEntry) → get questions q ≡ Some entry → (IsHeldBack (Some entry) → IsHeldBack (Some other)) → (ticket : ℕ) (call : Held) (p : ℕ)
+  again_back : (q : ℕ) (entry other : Exchange QuestionEntry) → get questions q ≡ Some entry → (IsHeldBack (Some entry) → IsHeldBack (Some other)) → (ticket : ℕ) (call : WaitingCall) (p : ℕ)
       (b : Bool) → (q == p) ≡ b → get calls ticket ≡ Some call → call.origin ≡ origins.Own p → IsHeldBack (get (insert questions q other) p)
   again_back q entry other was keeps ticket call p true t is own =
       let back : IsHeldBack (get questions q) = held.back ticket call q is (rw (is_equal q p t) own) in
@@ -81,7 +81,7 @@ module _ (calls : Table Held) (questions : Table (Exchange QuestionEntry)) (held
       }
 
   -- a question goes of which no call waits
-  gone_back : (q : ℕ) → NoneWaits calls q → (ticket : ℕ) (call : Held) (p : ℕ) (b : Bool) → (q == p) ≡ b → get calls ticket ≡ Some call → call.origin ≡ origins.Own p
+  gone_back : (q : ℕ) → NoneWaits calls q → (ticket : ℕ) (call : WaitingCall) (p : ℕ) (b : Bool) → (q == p) ≡ b → get calls ticket ≡ Some call → call.origin ≡ origins.Own p
       → IsHeldBack (get (remove questions q) p)
   gone_back q none ticket call p true t is own = absurd (none ticket call is (rw (is_equal q p t) own))
   gone_back q none ticket call p false t is own = rw (gone_at questions q p false t) (held.back ticket call p is own)
@@ -100,7 +100,7 @@ module _ (calls : Table Held) (questions : Table (Exchange QuestionEntry)) (held
       }
 
   -- a call doesn't wait any more
-  was_there : (ticket u : ℕ) (call : Held) (b : Bool) → (ticket == u) ≡ b → get (remove calls ticket) u ≡ Some call → (b ≡ false) × (get calls u ≡ Some call)
+  was_there : (ticket u : ℕ) (call : WaitingCall) (b : Bool) → (ticket == u) ≡ b → get (remove calls ticket) u ≡ Some call → (b ≡ false) × (get calls u ≡ Some call)
   was_there ticket u call true t is = none_out (sym (gone_at calls ticket u true t) ∙ is)
   was_there ticket u call false t is = (refl, sym (gone_at calls ticket u false t) ∙ is)
 
@@ -117,20 +117,20 @@ module _ (calls : Table Held) (questions : Table (Exchange QuestionEntry)) (held
   differs : (t u : ℕ) → t ≡ u → (t == u) ≡ false → ⊥
   differs t u same not = true≢false (sym (is_same t u same) ∙ not)
 
-  pub none_is_left : (ticket : ℕ) (call : Held) (q : ℕ) → get calls ticket ≡ Some call → call.origin ≡ origins.Own q → NoneWaits (remove calls ticket) q
+  pub none_is_left : (ticket : ℕ) (call : WaitingCall) (q : ℕ) → get calls ticket ≡ Some call → call.origin ≡ origins.Own q → NoneWaits (remove calls ticket) q
   none_is_left ticket call q is own u other there too =
       let was = was_there ticket u other (ticket == u) refl there in
       differs ticket u (held.once ticket u call other q is was.1 own too) was.0
 
   -- a call waits from now on
-  new_back : (ticket : ℕ) (call : Held) → ((q : ℕ) → call.origin ≡ origins.Own q → IsHeldBack (get questions q)) → (u : ℕ) (other : Held) (q : ℕ) (b : Bool) → (ticket == u) ≡ b
+  new_back : (ticket : ℕ) (call : WaitingCall) → ((q : ℕ) → call.origin ≡ origins.Own q → IsHeldBack (get questions q)) → (u : ℕ) (other : WaitingCall) (q : ℕ) (b : Bool) → (ticket == u) ≡ b
       → get (insert calls ticket call) u ≡ Some other → other.origin ≡ origins.Own q → IsHeldBack (get questions q)
   new_back ticket call back u other q true t is own =
       let same : call ≡ other = some_out (sym (put_at calls ticket u call true t) ∙ is) in
       back q (rw (same) own)
   new_back ticket call back u other q false t is own = held.back u other q (sym (put_at calls ticket u call false t) ∙ is) own
 
-  new_once : (ticket : ℕ) (call : Held) → ((q : ℕ) → call.origin ≡ origins.Own q → NoneWaits calls q) → (u v : ℕ) (one other : Held) (q : ℕ) (b c : Bool) → (ticket == u) ≡ b
+  new_once : (ticket : ℕ) (call : WaitingCall) → ((q : ℕ) → call.origin ≡ origins.Own q → NoneWaits calls q) → (u v : ℕ) (one other : WaitingCall) (q : ℕ) (b c : Bool) → (ticket == u) ≡ b
       → (ticket == v) ≡ c → get (insert calls ticket call) u ≡ Some one → get (insert calls ticket call) v ≡ Some other → one.origin ≡ origins.Own q
       → other.origin ≡ origins.Own q → u ≡ v
   new_once ticket call none u v one other q true true t s is there own also = sym (is_equal ticket u t) ∙ is_equal ticket v s
@@ -143,7 +143,7 @@ module _ (calls : Table Held) (questions : Table (Exchange QuestionEntry)) (held
   new_once ticket call none u v one other q false false t s is there own also =
       held.once u v one other q (sym (put_at calls ticket u call false t) ∙ is) (sym (put_at calls ticket v call false s) ∙ there) own also
 
-  pub new_call : (ticket : ℕ) (call : Held) → ((q : ℕ) → call.origin ≡ origins.Own q → IsHeldBack (get questions q) × NoneWaits calls q)
+  pub new_call : (ticket : ℕ) (call : WaitingCall) → ((q : ℕ) → call.origin ≡ origins.Own q → IsHeldBack (get questions q) × NoneWaits calls q)
       → AreHeld (insert calls ticket call) questions
   new_call ticket call may =
       record {

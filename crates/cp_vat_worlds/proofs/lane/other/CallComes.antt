@@ -15,7 +15,7 @@ use Rattle.cp_rpc.specs.declared.small.Bootstrap.{Bootstrap}
 use Rattle.cp_rpc.specs.declared.message.Message.{Message}
 use Rattle.cp_rpc.specs.declared.message.Message.TheVariants as messages
 use Rattle.cp_refs.specs.declared.cap.Cap.{Cap}
-use Rattle.cp_refs.specs.declared.call.Held.{Held}
+use Rattle.cp_refs.specs.declared.call.WaitingCall.{WaitingCall}
 use Rattle.cp_refs.specs.declared.call.Origin.TheVariants as origins
 use Rattle.cp_refs.specs.declared.outcome.Outcome.{Outcome}
 use Rattle.cp_refs.specs.declared.route.Gate.{Gate}
@@ -275,7 +275,7 @@ module _ (here : End) (s final : State) (c : Call) (rest : List Message) (known 
   fresh_new : (q : ℕ) → get new.entries.questions q ≡ None → IsFreshThere here q
   fresh_new q is = fresh q (sym (ap (λ x. get x q) both.1.asked) ∙ is)
 
-  highest : (ticket : ℕ) (held : Held) → get t.waiting.calls ticket ≡ Some held → ticket < t.next_ticket
+  highest : (ticket : ℕ) (held : WaitingCall) → get t.waiting.calls ticket ≡ Some held → ticket < t.next_ticket
   highest ticket held is = (there_of (WaitsFor t ticket) (get t.waiting.calls ticket) held is (both.0.waiting ticket)).1
 
   unheld : get t.waiting.calls t.next_ticket ≡ None
@@ -284,7 +284,7 @@ module _ (here : End) (s final : State) (c : Call) (rest : List Message) (known 
       never : (n : ℕ) → n < n → ⊥
       never n less = omega (arith, less)
 
-      by : (o : Option Held) → get t.waiting.calls t.next_ticket ≡ o → get t.waiting.calls t.next_ticket ≡ None
+      by : (o : Option WaitingCall) → get t.waiting.calls t.next_ticket ≡ o → get t.waiting.calls t.next_ticket ≡ None
       by None is = is
       by (Some held) is = absurd (never t.next_ticket (highest t.next_ticket held is))
 
@@ -303,7 +303,7 @@ module _ (here : End) (s final : State) (c : Call) (rest : List Message) (known 
       → waits here (record { vat = t; inbox = it ∷ rest }) made ≡ []
   rests ref made e waiting = none_wait made (λ h. waits_for here.vat h.origin) t.waiting.calls (λ ticket h is. by h (waiting ticket h is))
     where
-      by : (h : Held) → of_lane made (waits_for here.vat h.origin) ≡ [] ⊎ LeadsBack t e h.gate → of_lane made (waits_for here.vat h.origin) ≡ []
+      by : (h : WaitingCall) → of_lane made (waits_for here.vat h.origin) ≡ [] ⊎ LeadsBack t e h.gate → of_lane made (waits_for here.vat h.origin) ≡ []
       by h (inl none_) = none_
       by h (inr (cap, gave_, way_)) = absurd (over_none t h.gate cap t_still gave_)
 

@@ -18,7 +18,7 @@ use Rattle.cp_refs.specs.At.{cap_at}
 use Rattle.cp_refs.specs.Route.{Routes}
 use Rattle.cp_refs.specs.declared.cap.Cap.{Cap}
 use Rattle.cp_refs.specs.declared.cap.Cap.TheVariants as caps
-use Rattle.cp_refs.specs.declared.call.Held.{Held}
+use Rattle.cp_refs.specs.declared.call.WaitingCall.{WaitingCall}
 use Rattle.cp_refs.specs.declared.call.Origin.{Origin}
 use Rattle.cp_refs.specs.declared.call.Origin.TheVariants as origins
 use Rattle.cp_refs.specs.declared.outcome.Outcome.{Outcome}
@@ -66,7 +66,7 @@ module _ (here : End) (old : State) (inbox : List Message) (call : Underway) (ma
   abbrev there : End
   there = record { vat = old; inbox = inbox }
 
-  abbrev as_held : Gate → Held
+  abbrev as_held : Gate → WaitingCall
   as_held gate = record { ticket = call.ticket; origin = call.origin; request = call.request; gate = gate }
 
   its_none : of_lane made (waits_for here.vat call.origin) ≡ []
@@ -83,7 +83,7 @@ module _ (here : End) (old : State) (inbox : List Message) (call : Underway) (ma
         waiting = ap (λ cs. of_lane made (flat_map (λ c. waits_for here.vat c.origin) (values cs))) calls
             ∙ lane_without made (λ c. waits_for here.vat c.origin) (put_placed old.waiting.calls call.ticket (as_held gate) unheld) its_none;
         calls = λ ticket c at. elim (put_cases old.waiting.calls call.ticket ticket (as_held gate) c (sym (ap (λ cs. get cs ticket) calls) ∙ at)) [
-          | inl it ↦ inl (ap (λ (h : Held). of_lane made (waits_for here.vat h.origin)) (sym it.1) ∙ its_none)
+          | inl it ↦ inl (ap (λ (h : WaitingCall). of_lane made (waits_for here.vat h.origin)) (sym it.1) ∙ its_none)
           | inr was ↦ inr was.1
         ];
         forwards = still.forwards;
@@ -223,7 +223,7 @@ module _ (s : State) (left : NoneLeft s) (call : Underway) (done : Done) where
 module _ (here : End) (old s : State) (c : Call) (rest : List Message) (call : Underway) (from : call.origin ≡ origins.Answer c.question_id)
     (calls : s.waiting.calls ≡ old.waiting.calls) (asked : s.entries.questions ≡ old.entries.questions)
     (opened_stay : PlacesStay old s) (over_stay : OverStays old s) (open_stay : (ref : Reference) (gate : Gate) → IsOpenPlace old ref gate → IsOpenPlace s ref gate)
-    (highest : (ticket : ℕ) (held : Held) → get old.waiting.calls ticket ≡ Some held → ticket < call.ticket)
+    (highest : (ticket : ℕ) (held : WaitingCall) → get old.waiting.calls ticket ≡ Some held → ticket < call.ticket)
     (fresh : (q : ℕ) → get s.entries.questions q ≡ None → IsFreshThere here q) (one : AreOne s) (left : NoneLeft s) (done : Done)
     (goes : GoToTarget s call c.target (Ok done)) (stay : PlacesStay s done.1) (ref : Reference) (made : List ℕ) where
   abbrev before_it : End
@@ -244,7 +244,7 @@ module _ (here : End) (old s : State) (c : Call) (rest : List Message) (call : U
       never : (n : ℕ) → n < n → ⊥
       never n less = omega (arith, less)
 
-      by : (o : Option Held) → get old.waiting.calls call.ticket ≡ o → get old.waiting.calls call.ticket ≡ None
+      by : (o : Option WaitingCall) → get old.waiting.calls call.ticket ≡ o → get old.waiting.calls call.ticket ≡ None
       by None is = is
       by (Some held) is = absurd (never call.ticket (highest call.ticket held is))
 
@@ -269,7 +269,7 @@ module _ (here : End) (old s : State) (c : Call) (rest : List Message) (call : U
       let is = ok_in _ _ go in
       (ap (λ d. d.0) is, subst (λ d. WaitsThere here before_it ref made d.1 rest [] ts p.gate) (sym is) at_gate)
     where
-      held : Held
+      held : WaitingCall
       held = record { ticket = call.ticket; origin = call.origin; request = call.request; gate = p.gate }
 
       new : State
@@ -290,7 +290,7 @@ module _ (here : End) (old s : State) (c : Call) (rest : List Message) (call : U
               (put_placed old.waiting.calls call.ticket held unheld_here).back
               (rw ((put_placed old.waiting.calls call.ticket held unheld_here).without) at (all_entries (λ ticket h. get old.waiting.calls ticket ≡ Some h) old.waiting.calls (λ ticket h is. is)))
 
-          by : (es : List (ℕ × Held)) → AllByRecursion (λ e. call.ticket < e.0) es → AllByRecursion (λ e. get old.waiting.calls e.0 ≡ Some e.1) es
+          by : (es : List (ℕ × WaitingCall)) → AllByRecursion (λ e. call.ticket < e.0) es → AllByRecursion (λ e. get old.waiting.calls e.0 ≡ Some e.1) es
               → AllByRecursion (λ e. of_lane made (waits_for here.vat e.1.origin) ≡ []) es
           by [] high all = tt
           by (e ∷ es) high all = (absurd (never e.0 call.ticket high.0 (highest e.0 e.1 all.0)), by es high.1 all.1)
@@ -308,7 +308,7 @@ module _ (here : End) (old s : State) (c : Call) (rest : List Message) (call : U
                 ∙ lane_last made (λ h. waits_for here.vat h.origin) (put_placed old.waiting.calls call.ticket held unheld_here) none_after
                 ∙ ap (λ o. waits here before_it made ++ of_lane made (waits_for here.vat o)) from;
             calls = λ ticket h at. elim (put_cases old.waiting.calls call.ticket ticket held h (sym (ap (λ cs. get cs ticket) put) ∙ at)) [
-              | inl it ↦ inr (inr (ap (λ (x : Held). x.gate) (sym it.1)))
+              | inl it ↦ inr (inr (ap (λ (x : WaitingCall). x.gate) (sym it.1)))
               | inr was ↦ inr (inl was.1)
             ];
             forwards = same_forwards new refl;

@@ -4,7 +4,7 @@ use Rattle.std.specs.List.{list_any, AllByRecursion}
 use Rattle.std.specs.FinMap.{get}
 use Rattle.std.proofs.Common.{inl, inr, ap, sym, ◌∙◌}
 use Rattle.cp_rpc.specs.declared.message.Message.{Message}
-use Rattle.cp_refs.specs.declared.call.Held.{Held}
+use Rattle.cp_refs.specs.declared.call.WaitingCall.{WaitingCall}
 use Rattle.cp_refs.specs.declared.route.Gate.{Gate}
 use Rattle.cp_vat_machine.specs.State.{State}
 use Rattle.cp_vat_machine.specs.Calling.{mark_of}
@@ -25,10 +25,10 @@ pub record IsApartThere (here : End) (ref : Reference) (made : List ℕ) (m : Me
 -- No call of the lane moves there.
 pub record LevelThere (here there : End) (made : List ℕ) (mid : State) (inbox ms : List Message) : Type 0 where
   pub waiting : waits here (record { vat = mid; inbox = inbox }) made ≡ waits here there made
-  pub calls : (ticket : ℕ) (call : Held) → get mid.waiting.calls ticket ≡ Some call
+  pub calls : (ticket : ℕ) (call : WaitingCall) → get mid.waiting.calls ticket ≡ Some call
       → of_lane made (waits_for here.vat call.origin) ≡ [] ⊎ (get there.vat.waiting.calls ticket ≡ Some call)
   pub forwards : AllByRecursion (λ m. of_lane made (forwarded_for here.vat mid m) ≡ of_lane made (forwarded_for here.vat there.vat m)) here.inbox
-  pub held : (ticket : ℕ) (call : Held) → get here.vat.waiting.calls ticket ≡ Some call → of_lane made (stands_as here.vat there.vat call.origin) ≡ []
+  pub held : (ticket : ℕ) (call : WaitingCall) → get here.vat.waiting.calls ticket ≡ Some call → of_lane made (stands_as here.vat there.vat call.origin) ≡ []
       → of_lane made (stands_as here.vat mid call.origin) ≡ []
   pub sends : AllByRecursion (λ m. of_lane made (forwarded_for here.vat mid m) ≡ []) ms
   pub taken : IsFront (λ m. of_lane made (sent_for here.vat m) ≡ []) there.inbox inbox

@@ -10,7 +10,7 @@ use Rattle.cp_rpc.specs.declared.message.Message.{Message}
 use Rattle.cp_rpc.specs.declared.message.Message.TheVariants as messages
 use Rattle.cp_refs.specs.declared.cap.Cap.{Cap}
 use Rattle.cp_refs.specs.declared.cap.Cap.TheVariants as caps
-use Rattle.cp_refs.specs.declared.call.Held.{Held}
+use Rattle.cp_refs.specs.declared.call.WaitingCall.{WaitingCall}
 use Rattle.cp_refs.specs.declared.call.Origin.{Origin}
 use Rattle.cp_refs.specs.declared.call.Origin.TheVariants as origins
 use Rattle.cp_refs.specs.declared.call.Request.{Request}
@@ -166,13 +166,13 @@ module _ (old : State) (q : ℕ) (call : Underway) (from : call.origin ≡ origi
   held_level new gate effects calls forwards no_call here made inbox =
       let there : End = record { vat = old; inbox = inbox } in
       let still = still_level here there made effects (record new { waiting = record new.waiting { calls = old.waiting.calls } }) refl forwards no_call in
-      let held : Held = record { ticket = call.ticket; origin = call.origin; request = call.request; gate = gate } in
+      let held : WaitingCall = record { ticket = call.ticket; origin = call.origin; request = call.request; gate = gate } in
       let none : of_lane made (waits_for here.vat call.origin) ≡ [] = rw (from) refl in
       record {
         waiting = ap (λ cs. of_lane made (flat_map (λ c. waits_for here.vat c.origin) (values cs))) calls
             ∙ lane_without made (λ c. waits_for here.vat c.origin) (put_placed old.waiting.calls call.ticket held unheld) none;
         calls = λ ticket c is. elim (put_cases old.waiting.calls call.ticket ticket held c (sym (ap (λ cs. get cs ticket) calls) ∙ is)) [
-          | inl it ↦ inl (ap (λ (h : Held). of_lane made (waits_for here.vat h.origin)) (sym it.1) ∙ none)
+          | inl it ↦ inl (ap (λ (h : WaitingCall). of_lane made (waits_for here.vat h.origin)) (sym it.1) ∙ none)
           | inr was ↦ inr was.1
         ];
         forwards = still.forwards;
@@ -281,7 +281,7 @@ module _ (s : State) (w : Within s None []) (none_over_ : s.waiting.over ≡ non
   unheld : get s.waiting.calls s.next_ticket ≡ None
   unheld = by (get s.waiting.calls s.next_ticket) refl
     where
-      by : (o : Option Held) → get s.waiting.calls s.next_ticket ≡ o → get s.waiting.calls s.next_ticket ≡ None
+      by : (o : Option WaitingCall) → get s.waiting.calls s.next_ticket ≡ o → get s.waiting.calls s.next_ticket ≡ None
       by None is = is
       by (Some call) is =
           let waits = there_of (WaitsFor s s.next_ticket) (get s.waiting.calls s.next_ticket) call is (w.waiting s.next_ticket) in absurd (never s.next_ticket waits.1)
@@ -352,7 +352,7 @@ module _ (s : State) (w : Within s None []) (none_over_ : s.waiting.over ≡ non
   by_value cap (caps.Pipelined p path) done goes = goes_at kinds.Local (caps.Pipelined p path) done goes
   by_value cap (caps.Broken x) done goes = goes_at kinds.Local (caps.Broken x) done goes
 
-  pub from_chain : (cap : Cap) (ref : calling.Reference) (done : Done) → GoFrom s q request cap ref (Ok done) → Chain s done.0 done.1
+  pub from_chain : (cap : Cap) (ref : calling.Standing) (done : Done) → GoFrom s q request cap ref (Ok done) → Chain s done.0 done.1
   from_chain cap plain done goes = goes_at kinds.Local cap done goes
   from_chain cap on_wire done goes =
       let parts = then_out {A = State} {B = Done} (λ mid. mid ≡ marked (called s q kinds.Wire) cap (mark_of s cap)) _ done goes in wired_at kinds.Wire cap parts.0 done parts.1 parts.2

@@ -41,7 +41,7 @@ use Rattle.cp_vat_worlds.specs.Naming.{is_echo}
 use Rattle.cp_vat_worlds.specs.Lane.{import_, own_ticket, answer_forwarded}
 use Rattle.cp_vat_worlds.proofs.still.Grows.{PlacesStay, places_both}
 use Rattle.cp_vat_worlds.proofs.still.Say.{IsOpenCap, SaidAs, open_end, said_end, said_all, said_places}
-use Rattle.cp_vat_worlds.proofs.still.Give.{SettledAs, settle_grows, returned_said, given_grows, open_last}
+use Rattle.cp_vat_worlds.proofs.still.Give.{SettledAs, settle_grows, returned_denoted, given_grows, open_last}
 use Rattle.cp_vat_worlds.proofs.lane.parts.Silent.{Silent, settle_silent, own_silent}
 use Rattle.cp_vat_worlds.proofs.lane.other.NoCallMoves.{IsNewPlace}
 use Rattle.cp_vat_worlds.proofs.lane.other.Places.{place_stays, given_place, settled_place}
@@ -253,7 +253,7 @@ module _ (old : State) (a : ℕ) (entry : Exchange AnswerEntry) (outcome : Outco
   told_ = return_of a said.0 ∷ []
 
   said_as : SaidAs old (returned_mentions said.0) said.1
-  said_as = returned_said old outcome said one returns_
+  said_as = returned_denoted old outcome said one returns_
 
   said_only : IsOnly old said.1
   said_only = returned_only old outcome said returns_

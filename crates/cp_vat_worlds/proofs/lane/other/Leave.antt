@@ -7,7 +7,7 @@ use Rattle.cp_tables.specs.declared.exchange.Exchange.{Exchange}
 use Rattle.cp_tables.specs.declared.exchange.Stage.{Stage}
 use Rattle.cp_tables.specs.declared.exchange.Stage.TheVariants as stages
 use Rattle.cp_rpc.specs.declared.message.Message.{Message}
-use Rattle.cp_refs.specs.declared.call.Held.{Held}
+use Rattle.cp_refs.specs.declared.call.WaitingCall.{WaitingCall}
 use Rattle.cp_vat_machine.specs.State.{State, gave, none_over, with_over}
 use Rattle.cp_vat_machine.specs.Go.{Leave, stays, leaves, finds_table_full, NoneOver}
 use Rattle.cp_vat_machine.specs.Local.{Local}
@@ -142,7 +142,7 @@ module _ (here : End) (s : State) (inbox : List Message) (rests : NoneOver s) wh
       by : of_lane made (waits_for here.vat call.origin) ≡ [] ⊎ LeadsBack s e call.gate → of_lane made (waits_for here.vat call.origin) ≡ [] ⊎ LeadsBack rested e call.gate
       by (inl none) = inl none
       by (inr (cap, gave_, way_)) =
-          none_out (sym (there_of (λ (c : Held). gave s.waiting.over c.gate ≡ None) (get s.waiting.calls ticket) call is (rests ticket)) ∙ gave_)
+          none_out (sym (there_of (λ (c : WaitingCall). gave s.waiting.over c.gate ≡ None) (get s.waiting.calls ticket) call is (rests ticket)) ∙ gave_)
 
   rest_phase : (ref : Reference) (made : List ℕ) → Phase here (record { vat = s; inbox = inbox }) ref made → Phase here (record { vat = rested; inbox = inbox }) ref made
   rest_phase ref made (unheard p) = unheard (record { none = p.none; unmade = p.unmade })

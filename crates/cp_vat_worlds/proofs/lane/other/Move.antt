@@ -11,7 +11,7 @@ use Rattle.cp_rpc.specs.declared.disembargo.Disembargo.{Disembargo}
 use Rattle.cp_rpc.specs.declared.message.Message.{Message}
 use Rattle.cp_rpc.specs.declared.message.Message.TheVariants as messages
 use Rattle.cp_rpc.specs.declared.returned.Return.{Return}
-use Rattle.cp_refs.specs.declared.call.Held.{Held}
+use Rattle.cp_refs.specs.declared.call.WaitingCall.{WaitingCall}
 use Rattle.cp_refs.specs.declared.call.Origin.TheVariants as origins
 use Rattle.cp_vat_machine.specs.State.{State}
 use Rattle.cp_vat_machine.specs.Then.{Done, fault_if}
@@ -85,7 +85,7 @@ module _ (here : End) (s : State) (r : Return) (rest : List Message) (none : Non
     fits : Fits (Some (record { stage = stages.Open; kept = entry.kept.mentions })) (named_by (messages.Return r) ∷ returns_of q rest) (will_stand q here.inbox stands_now)
     fits = returned_fits s r rest here agree entry is open_ is_sent
 
-    held_not : (ticket : ℕ) (call : Held) → get here.vat.waiting.calls ticket ≡ Some call → call.origin ≡ origins.Answer q → ⊥
+    held_not : (ticket : ℕ) (call : WaitingCall) → get here.vat.waiting.calls ticket ≡ Some call → call.origin ≡ origins.Answer q → ⊥
     held_not ticket call at from =
         let waits = there_of (IsWaiting here.vat ticket) (get here.vat.waiting.calls ticket) call at (here_local.waiting ticket) in
         let whose : IsTicketOf here.vat (origins.Answer q) ticket = rw from at waits.whose in

@@ -5,7 +5,7 @@ use Rattle.std.specs.FinMap.{get, insert, values}
 use Rattle.std.proofs.Common.{inl, inr, ap, sym, ◌∙◌, append-nil, true≢false}
 use Rattle.cp_rpc.specs.declared.message.Message.{Message}
 use Rattle.cp_rpc.specs.declared.message.Message.TheVariants as messages
-use Rattle.cp_refs.specs.declared.call.Held.{Held}
+use Rattle.cp_refs.specs.declared.call.WaitingCall.{WaitingCall}
 use Rattle.cp_refs.specs.declared.call.Origin.{Origin}
 use Rattle.cp_refs.specs.declared.call.Origin.TheVariants as origins
 use Rattle.cp_refs.specs.declared.route.Gate.{Gate}
@@ -50,9 +50,9 @@ none_forwarded here mid made (m ∷ ms) none = (by m (or_first (is_call m) (list
 -- A turn of a call that isn't of the lane. What is new under a question's number is none of the calls that the other end has, on the way or waiting.
 pub record IsFreshThere (here : End) (q : ℕ) : Type 0 where
   pub on_way : list_any (opens q) here.inbox ≡ false
-  pub held : (ticket : ℕ) (call : Held) → get here.vat.waiting.calls ticket ≡ Some call → call.origin ≡ origins.Answer q → ⊥
+  pub held : (ticket : ℕ) (call : WaitingCall) → get here.vat.waiting.calls ticket ≡ Some call → call.origin ≡ origins.Answer q → ⊥
 
-module _ (here there : End) (made : List ℕ) (call : Held) (is : get there.vat.waiting.calls call.ticket ≡ Some call)
+module _ (here there : End) (made : List ℕ) (call : WaitingCall) (is : get there.vat.waiting.calls call.ticket ≡ Some call)
     (none : of_lane made (waits_for here.vat call.origin) ≡ []) (fresh : (q : ℕ) → get there.vat.entries.questions q ≡ None → IsFreshThere here q)
     (own : (q : ℕ) → call.origin ≡ origins.Own q → answer_forwarded (get there.vat.entries.questions q) ≡ []) where
   abbrev left : State
@@ -61,11 +61,11 @@ module _ (here there : End) (made : List ℕ) (call : Held) (is : get there.vat.
   gone_list : of_lane made (flat_map (λ held. waits_for here.vat held.origin) (values left.waiting.calls)) ≡ waits here there made
   gone_list = sym (lane_without made (λ held. waits_for here.vat held.origin) (gone_placed there.vat.waiting.calls call.ticket call is) none)
 
-  gone_calls : (ticket : ℕ) (held : Held) → get left.waiting.calls ticket ≡ Some held → get there.vat.waiting.calls ticket ≡ Some held
+  gone_calls : (ticket : ℕ) (held : WaitingCall) → get left.waiting.calls ticket ≡ Some held → get there.vat.waiting.calls ticket ≡ Some held
   gone_calls ticket held at = (gone_cases there.vat.waiting.calls call.ticket ticket held at).1
 
   -- it waits again
-  abbrev again : Gate → Held
+  abbrev again : Gate → WaitingCall
   again gate = record { ticket = call.ticket; origin = call.origin; request = call.request; gate = gate }
 
   again_list : (gate : Gate) → of_lane made (flat_map (λ held. waits_for here.vat held.origin) (values (insert left.waiting.calls call.ticket (again gate))))
@@ -75,11 +75,11 @@ module _ (here there : End) (made : List ℕ) (call : Held) (is : get there.vat.
       (put_placed left.waiting.calls call.ticket (again gate) (gone_at there.vat.waiting.calls call.ticket call.ticket true (is_itself call.ticket))) none
       ∙ gone_list
 
-  again_calls : (gate : Gate) (ticket : ℕ) (held : Held) → get (insert left.waiting.calls call.ticket (again gate)) ticket ≡ Some held
+  again_calls : (gate : Gate) (ticket : ℕ) (held : WaitingCall) → get (insert left.waiting.calls call.ticket (again gate)) ticket ≡ Some held
       → of_lane made (waits_for here.vat held.origin) ≡ [] ⊎ (get there.vat.waiting.calls ticket ≡ Some held)
   again_calls gate ticket held at =
       elim (put_cases left.waiting.calls call.ticket ticket (again gate) held at) [
-        | inl new ↦ inl (ap (λ (h : Held). of_lane made (waits_for here.vat h.origin)) (sym new.1) ∙ none)
+        | inl new ↦ inl (ap (λ (h : WaitingCall). of_lane made (waits_for here.vat h.origin)) (sym new.1) ∙ none)
         | inr old ↦ inr (gone_calls ticket held old.1)
       ]
 
@@ -98,7 +98,7 @@ module _ (here there : End) (made : List ℕ) (call : Held) (is : get there.vat.
       by m other = refl
 
   held_not : (mid : State) (q : ℕ) → ((r : ℕ) → (q == r) ≡ false → get mid.entries.questions r ≡ get left.entries.questions r) → IsFreshThere here q
-      → (ticket : ℕ) (held : Held) → get here.vat.waiting.calls ticket ≡ Some held → (origin : Origin) → held.origin ≡ origin
+      → (ticket : ℕ) (held : WaitingCall) → get here.vat.waiting.calls ticket ≡ Some held → (origin : Origin) → held.origin ≡ origin
       → of_lane made (stands_as here.vat there.vat origin) ≡ [] → of_lane made (stands_as here.vat mid origin) ≡ []
   held_not mid q others new ticket held at (origins.Own r) is_ none_ = none_
   held_not mid q others new ticket held at (origins.Answer a) is_ none_ = by (q == a) refl
@@ -122,7 +122,7 @@ module _ (here there : End) (made : List ℕ) (call : Held) (is : get there.vat.
     sent_there_list : of_lane made (flat_map (λ held. waits_for here.vat held.origin) (values mid.waiting.calls)) ≡ waits here there made
     sent_there_list = ap (λ cs. of_lane made (flat_map (λ held. waits_for here.vat held.origin) (values cs))) calls ∙ gone_list
 
-    sent_there_calls : (ticket : ℕ) (held : Held) → get mid.waiting.calls ticket ≡ Some held
+    sent_there_calls : (ticket : ℕ) (held : WaitingCall) → get mid.waiting.calls ticket ≡ Some held
         → of_lane made (waits_for here.vat held.origin) ≡ [] ⊎ (get there.vat.waiting.calls ticket ≡ Some held)
     sent_there_calls ticket held at = inr (gone_calls ticket held (sym (ap (λ cs. get cs ticket) calls) ∙ at))
 

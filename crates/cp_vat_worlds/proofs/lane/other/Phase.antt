@@ -7,7 +7,7 @@ use Rattle.std.proofs.lemmas.List.{append_assoc}
 use Rattle.cp_rpc.specs.declared.descriptor.Descriptor.TheVariants as descriptors
 use Rattle.cp_rpc.specs.declared.message.Message.{Message}
 use Rattle.cp_refs.specs.declared.cap.Cap.TheVariants as caps
-use Rattle.cp_refs.specs.declared.call.Held.{Held}
+use Rattle.cp_refs.specs.declared.call.WaitingCall.{WaitingCall}
 use Rattle.cp_refs.specs.declared.route.Gate.{Gate}
 use Rattle.cp_refs.specs.declared.route.Gate.TheVariants as gates
 use Rattle.cp_vat_machine.specs.State.{State}
@@ -163,7 +163,7 @@ module _ (here there : End) (ref : Reference) (made : List ℕ) (mid : State) (i
     pub was : there.inbox ≡ x ∷ inbox
     pub bears : of_lane made (sent_for here.vat x) ≡ ts
     pub waiting : waits here there_then made ≡ waits here there made ++ ts
-    pub calls : (ticket : ℕ) (call : Held) → get mid.waiting.calls ticket ≡ Some call
+    pub calls : (ticket : ℕ) (call : WaitingCall) → get mid.waiting.calls ticket ≡ Some call
         → of_lane made (waits_for here.vat call.origin) ≡ [] ⊎ ((get there.vat.waiting.calls ticket ≡ Some call) ⊎ (call.gate ≡ gate))
     pub forwards : AllByRecursion (λ m. of_lane made (forwarded_for here.vat mid m) ≡ of_lane made (forwarded_for here.vat there.vat m)) here.inbox
     pub held : NoneHeld here there made → NoneHeld here_then there_then made
@@ -225,7 +225,7 @@ module _ (here there : End) (ref : Reference) (made : List ℕ) (mid : State) (i
   pub record GoesBack (ts : List ℕ) (e : ℕ) : Type 0 where
     pub taken : IsFront (λ x. ((n : ℕ) → is_loop n x ≡ false)) there.inbox inbox
     pub moved : waits here there made ++ on_way here there made ≡ ts ++ (waits here there_then made ++ on_way here there_then made)
-    pub calls : (ticket : ℕ) (call : Held) → get mid.waiting.calls ticket ≡ Some call
+    pub calls : (ticket : ℕ) (call : WaitingCall) → get mid.waiting.calls ticket ≡ Some call
         → of_lane made (waits_for here.vat call.origin) ≡ [] ⊎ (get there.vat.waiting.calls ticket ≡ Some call)
     pub forwards : AllByRecursion (λ m. of_lane made (forwarded_for here.vat mid m) ≡ of_lane made (forwarded_for here.vat there.vat m)) here.inbox
     pub held : NoneHeld here there made → NoneHeld here_then there_then made
@@ -338,7 +338,7 @@ module _ (here there : End) (ref : Reference) (made : List ℕ) (mid : State) (i
         waits_none =
             none_wait made (λ call. waits_for here.vat call.origin) mid.waiting.calls (λ ticket call at. by ticket call (moves.calls ticket call at))
           where
-            by : (ticket : ℕ) (call : Held) → of_lane made (waits_for here.vat call.origin) ≡ [] ⊎ (get there.vat.waiting.calls ticket ≡ Some call)
+            by : (ticket : ℕ) (call : WaitingCall) → of_lane made (waits_for here.vat call.origin) ≡ [] ⊎ (get there.vat.waiting.calls ticket ≡ Some call)
                 → of_lane made (waits_for here.vat call.origin) ≡ []
             by ticket call (inl none) = none
             by ticket call (inr was) = wait_none made (λ call. waits_for here.vat call.origin) there.vat.waiting.calls c.no_waits ticket call was

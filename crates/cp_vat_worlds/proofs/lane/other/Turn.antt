@@ -21,7 +21,7 @@ use Rattle.cp_refs.specs.Route.{Routes}
 use Rattle.cp_refs.specs.declared.call.Request.{Request}
 use Rattle.cp_refs.specs.declared.cap.Cap.{Cap}
 use Rattle.cp_refs.specs.declared.cap.Cap.TheVariants as caps
-use Rattle.cp_refs.specs.declared.call.Held.{Held}
+use Rattle.cp_refs.specs.declared.call.WaitingCall.{WaitingCall}
 use Rattle.cp_refs.specs.declared.call.Origin.{Origin}
 use Rattle.cp_refs.specs.declared.call.Origin.TheVariants as origins
 use Rattle.cp_refs.specs.declared.outcome.Outcome.{Outcome}
@@ -320,7 +320,7 @@ module _ (here old new : State) (made : List ℕ) (q a : ℕ) (gives : answer_fo
       differs false t = t
 
 module _ (here : End) (s final : State) (inbox : List Message) (w : Within s None []) (none : NoneFinished s) (left_ : NoneLeft s) (known : IsThere here s final inbox)
-    (fresh : (q : ℕ) → get s.entries.questions q ≡ None → IsFreshThere here q) (call : Held) (cap : Cap) (next : IsNext s call cap) (done : Done)
+    (fresh : (q : ℕ) → get s.entries.questions q ≡ None → IsFreshThere here q) (call : WaitingCall) (cap : Cap) (next : IsNext s call cap) (done : Done)
     (goes : GoTo (without_call s call) (underway call) cap (Ok done)) (later : PlacesStay done.1 final) where
   abbrev there : End
   there = record { vat = s; inbox = inbox }
@@ -488,7 +488,7 @@ module _ (here : End) (s final : State) (inbox : List Message) (w : Within s Non
             all_front (λ e. get s.waiting.calls e.0 ≡ Some e.1) placed.front ((call.ticket, call) ∷ placed.back)
             (rw (placed.with_it) at (all_entries (λ ticket c. get s.waiting.calls ticket ≡ Some c) s.waiting.calls (λ ticket c is. is)))
 
-        one : (ticket : ℕ) (c : Held) → ticket < call.ticket → get s.waiting.calls ticket ≡ Some c → of_lane made (waits_for here.vat c.origin) ≡ [] ⊎ LeadsBack s p.number c.gate
+        one : (ticket : ℕ) (c : WaitingCall) → ticket < call.ticket → get s.waiting.calls ticket ≡ Some c → of_lane made (waits_for here.vat c.origin) ≡ [] ⊎ LeadsBack s p.number c.gate
             → of_lane made (waits_for here.vat c.origin) ≡ []
         one ticket c low is (inl empty_) = empty_
         one ticket c low is (inr (given, gave_, way_)) = absurd (never (next.lowest ticket c given is gave_))
@@ -496,7 +496,7 @@ module _ (here : End) (s final : State) (inbox : List Message) (w : Within s Non
             never : call.ticket ≤ ticket → ⊥
             never high = omega (arith, low, high)
 
-        by : (es : List (ℕ × Held)) → AllByRecursion (λ e. e.0 < call.ticket) es → AllByRecursion (λ e. get s.waiting.calls e.0 ≡ Some e.1) es
+        by : (es : List (ℕ × WaitingCall)) → AllByRecursion (λ e. e.0 < call.ticket) es → AllByRecursion (λ e. get s.waiting.calls e.0 ≡ Some e.1) es
             → AllByRecursion (λ e. of_lane made (waits_for here.vat e.1.origin) ≡ []) es
         by [] low all = tt
         by (e ∷ es) low all = (one e.0 e.1 low.0 all.0 (p.waiting e.0 e.1 all.0), by es low.1 all.1)

@@ -121,7 +121,7 @@ module _ (s : State) (inbox : List Message) (there : End) (local_ : Local s) (th
       by (import_ i) has is = true≢false (sym has ∙ midway.within.imports_valued i ∙ ap is_some is.0)
       by (path_to r path) has is = is
 
-  never_yet : {A : Type 0} (x : calling.Reference) → reference_of s.values cap ≡ x → (on_wire ≡ x → ⊥) → phases.IsYet s ref made → A
+  never_yet : {A : Type 0} (x : calling.Standing) → reference_of s.values cap ≡ x → (on_wire ≡ x → ⊥) → phases.IsYet s ref made → A
   never_yet x is not (inl open_) = absurd (not (sym open_ ∙ is))
   never_yet x is not (inr unheld) = absurd (never_unheld unheld)
 
@@ -280,7 +280,7 @@ module _ (s : State) (inbox : List Message) (there : End) (local_ : Local s) (th
       elsewhere_lane s inbox there local_ there_local midway loops made tickets q fresh request ref delivered_ done.0 done.1 c exports not_path never_unheld elsewhere
   came_made value is goes c (inr lane) = came_phase value is goes c lane lane.phase
 
-  pub made_lane : (r : calling.Reference) → reference_of s.values cap ≡ r → GoFrom s q request cap r (Ok done) → LaneHolds here there ref made delivered_ → MadeThen
+  pub made_lane : (r : calling.Standing) → reference_of s.values cap ≡ r → GoFrom s q request cap r (Ok done) → LaneHolds here there ref made delivered_ → MadeThen
   made_lane plain is goes holds = plain_made is goes (from_called s q request none fresh unvalued cap plain done is goes) holds
   made_lane on_wire is goes holds = wire_made is goes (from_called s q request none fresh unvalued cap on_wire done is goes) holds
   made_lane (came_to value) is goes holds = came_made value is goes (from_called s q request none fresh unvalued cap (came_to value) done is goes) holds

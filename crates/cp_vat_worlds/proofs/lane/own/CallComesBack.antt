@@ -10,7 +10,7 @@ use Rattle.cp_rpc.specs.declared.message.Message.TheVariants as messages
 use Rattle.cp_rpc.specs.declared.target.Target.TheVariants as targets
 use Rattle.cp_refs.specs.declared.cap.Cap.{Cap}
 use Rattle.cp_refs.specs.declared.cap.Cap.TheVariants as caps
-use Rattle.cp_refs.specs.declared.call.Held.{Held}
+use Rattle.cp_refs.specs.declared.call.WaitingCall.{WaitingCall}
 use Rattle.cp_refs.specs.declared.call.Origin.TheVariants as origins
 use Rattle.cp_refs.specs.declared.outcome.Outcome.{Outcome}
 use Rattle.cp_refs.specs.declared.route.Route.{Route}
@@ -308,7 +308,7 @@ module _ (s : State) (c : Call) (rest : List Message) (there : End) (ref : Refer
         never : (n : ℕ) → n < n → ⊥
         never n less = omega (arith, less)
 
-        by : (o : Option Held) → get t.waiting.calls t.next_ticket ≡ o → get t.waiting.calls t.next_ticket ≡ None
+        by : (o : Option WaitingCall) → get t.waiting.calls t.next_ticket ≡ o → get t.waiting.calls t.next_ticket ≡ None
         by None is = is
         by (Some held) is =
             absurd (never t.next_ticket (there_of (WaitsFor t t.next_ticket) (get t.waiting.calls t.next_ticket) held is (both.0.waiting t.next_ticket)).1)

@@ -6,7 +6,7 @@ use Rattle.std.proofs.Common.{inl, inr, arith, ap, subst, sym, ◌∙◌, append
 use Rattle.cp_rpc.specs.declared.exception.Exception.{Exception}
 use Rattle.cp_rpc.specs.declared.message.Message.{Message}
 use Rattle.cp_rpc.specs.declared.message.Message.TheVariants as messages
-use Rattle.cp_refs.specs.declared.call.Held.{Held}
+use Rattle.cp_refs.specs.declared.call.WaitingCall.{WaitingCall}
 use Rattle.cp_refs.specs.declared.call.Origin.{Origin}
 use Rattle.cp_refs.specs.declared.call.Origin.TheVariants as origins
 use Rattle.cp_refs.specs.declared.cap.Cap.{Cap}
@@ -52,7 +52,7 @@ none_waits_next s local_ = by (get s.waiting.calls s.next_ticket) refl
     never : (n : ℕ) → n < n → ⊥
     never n less = omega (arith, less)
 
-    by : (o : Option Held) → get s.waiting.calls s.next_ticket ≡ o → get s.waiting.calls s.next_ticket ≡ None
+    by : (o : Option WaitingCall) → get s.waiting.calls s.next_ticket ≡ o → get s.waiting.calls s.next_ticket ≡ None
     by None is = is
     by (Some call) is =
         let waits = there_of (IsWaiting s s.next_ticket) (get s.waiting.calls s.next_ticket) call is (local_.waiting s.next_ticket) in
@@ -91,18 +91,18 @@ module _ (s : State) (inbox : List Message) (there : End) (local_ : Local s) (ag
       by false e = ap (of_lane made) (c.tickets r e)
 
   waiting_same : WaitsAs s q new → waits_here here_then made ≡ waits_here here made
-  waiting_same (gone_on is) = ap (λ cs. of_lane made (flat_map (λ (x : Held). waits_as x x.origin) (values cs))) is
+  waiting_same (gone_on is) = ap (λ cs. of_lane made (flat_map (λ (x : WaitingCall). waits_as x x.origin) (values cs))) is
   waiting_same (held_too request gate is) =
-      ap (λ cs. of_lane made (flat_map (λ (x : Held). waits_as x x.origin) (values cs))) is
-      ∙ lane_without made (λ (x : Held). waits_as x x.origin)
+      ap (λ cs. of_lane made (flat_map (λ (x : WaitingCall). waits_as x x.origin) (values cs))) is
+      ∙ lane_without made (λ (x : WaitingCall). waits_as x x.origin)
       (put_placed s.waiting.calls t (record { ticket = t; origin = origins.Own q; request = request; gate = gate }) (none_waits_next s local_)) (lane_of_other made t not_made)
 
-  calls_same : WaitsAs s q new → (ticket : ℕ) (call : Held) → get new.waiting.calls ticket ≡ Some call
+  calls_same : WaitsAs s q new → (ticket : ℕ) (call : WaitingCall) → get new.waiting.calls ticket ≡ Some call
       → of_lane made (waits_as call call.origin) ≡ [] ⊎ (get s.waiting.calls ticket ≡ Some call)
   calls_same (gone_on is) ticket call at = inr (sym (ap (λ cs. get cs ticket) is) ∙ at)
   calls_same (held_too request gate is) ticket call at =
       elim (put_cases s.waiting.calls t ticket (record { ticket = t; origin = origins.Own q; request = request; gate = gate }) call (sym (ap (λ cs. get cs ticket) is) ∙ at)) [
-        | inl it ↦ inl (ap (λ (x : Held). of_lane made (waits_as x x.origin)) (sym it.1) ∙ lane_of_other made t not_made)
+        | inl it ↦ inl (ap (λ (x : WaitingCall). of_lane made (waits_as x x.origin)) (sym it.1) ∙ lane_of_other made t not_made)
         | inr was ↦ inr was.1
       ]
 
@@ -117,7 +117,7 @@ module _ (s : State) (inbox : List Message) (there : End) (local_ : Local s) (ag
       by (gone_on is) = stands call.origin (none ticket call (sym (ap (λ cs. get cs ticket) is) ∙ at))
       by (held_too request gate is) =
           elim (put_cases s.waiting.calls t ticket (record { ticket = t; origin = origins.Own q; request = request; gate = gate }) call (sym (ap (λ cs. get cs ticket) is) ∙ at)) [
-            | inl it ↦ ap (λ (x : Held). of_lane made (stands_as new there.vat x.origin)) (sym it.1)
+            | inl it ↦ ap (λ (x : WaitingCall). of_lane made (stands_as new there.vat x.origin)) (sym it.1)
             | inr was ↦ stands call.origin (none ticket call was.1)
           ]
 

@@ -7,7 +7,7 @@ use Rattle.cp_rpc.specs.declared.descriptor.Descriptor.{Descriptor}
 use Rattle.cp_rpc.specs.declared.message.Message.{Message}
 use Rattle.cp_rpc.specs.declared.target.Target.{Target}
 use Rattle.cp_rpc.specs.declared.target.Target.TheVariants as targets
-use Rattle.cp_refs.specs.declared.call.Held.{Held}
+use Rattle.cp_refs.specs.declared.call.WaitingCall.{WaitingCall}
 use Rattle.cp_refs.specs.declared.call.Origin.TheVariants as origins
 use Rattle.cp_refs.specs.declared.outcome.Outcome.TheVariants as outcomes
 use Rattle.cp_refs.specs.declared.route.Gate.{Gate}
@@ -41,7 +41,7 @@ use Rattle.cp_vat_worlds.proofs.lane.own.Turn.{lane_delivered, none_delivered, o
 module _ (here there : End) (made : List ℕ) (call : Underway) (a : ℕ) (from : call.origin ≡ origins.Answer a) (none : of_lane made (stands_for here.vat there.vat a) ≡ [])
     (unheld : get here.vat.waiting.calls call.ticket ≡ None) (rest : List Message)
     (taken : IsFront (λ m. of_lane made (forwarded_for here.vat there.vat m) ≡ []) here.inbox rest) where
-  abbrev as_held : Gate → Held
+  abbrev as_held : Gate → WaitingCall
   as_held gate = record { ticket = call.ticket; origin = call.origin; request = call.request; gate = gate }
 
   held_none : (gate : Gate) → of_lane made (waits_as (as_held gate) call.origin) ≡ []
@@ -53,20 +53,20 @@ module _ (here there : End) (made : List ℕ) (call : Underway) (a : ℕ) (from 
   held_list : (gate : Gate) → of_lane made (flat_map (λ held. waits_as held held.origin) (values (insert here.vat.waiting.calls call.ticket (as_held gate)))) ≡ waits_here here made
   held_list gate = lane_without made (λ held. waits_as held held.origin) (put_placed here.vat.waiting.calls call.ticket (as_held gate) unheld) (held_none gate)
 
-  held_calls : (gate : Gate) (ticket : ℕ) (held : Held) → get (insert here.vat.waiting.calls call.ticket (as_held gate)) ticket ≡ Some held
+  held_calls : (gate : Gate) (ticket : ℕ) (held : WaitingCall) → get (insert here.vat.waiting.calls call.ticket (as_held gate)) ticket ≡ Some held
       → of_lane made (waits_as held held.origin) ≡ [] ⊎ (get here.vat.waiting.calls ticket ≡ Some held)
   held_calls gate ticket held at =
       elim (put_cases here.vat.waiting.calls call.ticket ticket (as_held gate) held at) [
-        | inl new ↦ inl (ap (λ (h : Held). of_lane made (waits_as h h.origin)) (sym new.1) ∙ held_none gate)
+        | inl new ↦ inl (ap (λ (h : WaitingCall). of_lane made (waits_as h h.origin)) (sym new.1) ∙ held_none gate)
         | inr old ↦ inr old.1
       ]
 
-  held_held : (gate : Gate) → ((ticket : ℕ) (held : Held) → get here.vat.waiting.calls ticket ≡ Some held → of_lane made (stands_as here.vat there.vat held.origin) ≡ [])
-      → (ticket : ℕ) (held : Held) → get (insert here.vat.waiting.calls call.ticket (as_held gate)) ticket ≡ Some held
+  held_held : (gate : Gate) → ((ticket : ℕ) (held : WaitingCall) → get here.vat.waiting.calls ticket ≡ Some held → of_lane made (stands_as here.vat there.vat held.origin) ≡ [])
+      → (ticket : ℕ) (held : WaitingCall) → get (insert here.vat.waiting.calls call.ticket (as_held gate)) ticket ≡ Some held
       → of_lane made (stands_as here.vat there.vat held.origin) ≡ []
   held_held gate before ticket held at =
       elim (put_cases here.vat.waiting.calls call.ticket ticket (as_held gate) held at) [
-        | inl new ↦ ap (λ (h : Held). of_lane made (stands_as here.vat there.vat h.origin)) (sym new.1) ∙ held_stands
+        | inl new ↦ ap (λ (h : WaitingCall). of_lane made (stands_as here.vat there.vat h.origin)) (sym new.1) ∙ held_stands
         | inr old ↦ before ticket held old.1
       ]
 

@@ -8,7 +8,7 @@ use Rattle.cp_rpc.specs.declared.message.Message.{Message}
 use Rattle.cp_rpc.specs.declared.message.Message.TheVariants as messages
 use Rattle.cp_refs.specs.declared.cap.Cap.{Cap}
 use Rattle.cp_refs.specs.declared.cap.Cap.TheVariants as caps
-use Rattle.cp_refs.specs.declared.call.Held.{Held}
+use Rattle.cp_refs.specs.declared.call.WaitingCall.{WaitingCall}
 use Rattle.cp_refs.specs.declared.call.Origin.{Origin}
 use Rattle.cp_refs.specs.declared.call.Origin.TheVariants as origins
 use Rattle.cp_refs.specs.declared.call.Request.{Request}
@@ -127,7 +127,7 @@ module _ (s : State) (inbox : List Message) (there : End) (local_ : Local s) (th
         by (messages.Call x) other = own_more x.question_id (other_number x.question_id q other)
         by m other = refl
 
-    waits_more : (ticket : ℕ) (call : Held) → get there.vat.waiting.calls ticket ≡ Some call → of_lane more (waits_for new call.origin) ≡ of_lane made (waits_for s call.origin)
+    waits_more : (ticket : ℕ) (call : WaitingCall) → get there.vat.waiting.calls ticket ≡ Some call → of_lane more (waits_for new call.origin) ≡ of_lane made (waits_for s call.origin)
     waits_more ticket call at = by call.origin refl
       where
         by : (origin : Origin) → call.origin ≡ origin → of_lane more (waits_for new origin) ≡ of_lane made (waits_for s origin)
@@ -145,7 +145,7 @@ module _ (s : State) (inbox : List Message) (there : End) (local_ : Local s) (th
         by (gone_on is) = stands_as_more call.origin (none ticket call (sym (ap (λ cs. get cs ticket) is) ∙ at))
         by (held_too asked gate is) =
             elim (put_cases s.waiting.calls t ticket (record { ticket = t; origin = origins.Own q; request = asked; gate = gate }) call (sym (ap (λ cs. get cs ticket) is) ∙ at)) [
-              | inl it ↦ ap (λ (x : Held). of_lane more (stands_as new there.vat x.origin)) (sym it.1)
+              | inl it ↦ ap (λ (x : WaitingCall). of_lane more (stands_as new there.vat x.origin)) (sym it.1)
               | inr was ↦ stands_as_more call.origin (none ticket call was.1)
             ]
 
@@ -162,7 +162,7 @@ module _ (s : State) (inbox : List Message) (there : End) (local_ : Local s) (th
         }
 
     -- the calls that wait here
-    here_more : (ticket : ℕ) (call : Held) → get s.waiting.calls ticket ≡ Some call → of_lane more (waits_as call call.origin) ≡ of_lane made (waits_as call call.origin)
+    here_more : (ticket : ℕ) (call : WaitingCall) → get s.waiting.calls ticket ≡ Some call → of_lane more (waits_as call call.origin) ≡ of_lane made (waits_as call call.origin)
     here_more ticket call at = lane_more made t (waits_as call call.origin) (below call.origin)
       where
         waits : IsWaiting s ticket call
@@ -172,14 +172,14 @@ module _ (s : State) (inbox : List Message) (there : End) (local_ : Local s) (th
         below (origins.Own p) = (rw (waits.ticketed) waits.given, tt)
         below (origins.Answer a) = tt
 
-    all_here : of_lane more (flat_map (λ (x : Held). waits_as x x.origin) (values s.waiting.calls)) ≡ waits_here here made
+    all_here : of_lane more (flat_map (λ (x : WaitingCall). waits_as x x.origin) (values s.waiting.calls)) ≡ waits_here here made
     all_here =
-        lane_two made more (λ (x : Held). waits_as x x.origin) (λ (x : Held). waits_as x x.origin) (values s.waiting.calls)
-        (all_values (λ (x : Held). of_lane more (waits_as x x.origin) ≡ of_lane made (waits_as x x.origin)) s.waiting.calls
-        (λ ticket. here_of (λ (x : Held). of_lane more (waits_as x x.origin) ≡ of_lane made (waits_as x x.origin)) (get s.waiting.calls ticket) (λ call at. here_more ticket call at)))
+        lane_two made more (λ (x : WaitingCall). waits_as x x.origin) (λ (x : WaitingCall). waits_as x x.origin) (values s.waiting.calls)
+        (all_values (λ (x : WaitingCall). of_lane more (waits_as x x.origin) ≡ of_lane made (waits_as x x.origin)) s.waiting.calls
+        (λ ticket. here_of (λ (x : WaitingCall). of_lane more (waits_as x x.origin) ≡ of_lane made (waits_as x x.origin)) (get s.waiting.calls ticket) (λ call at. here_more ticket call at)))
 
     same_here : new.waiting.calls ≡ s.waiting.calls → waits_here here_then more ≡ waits_here here made
-    same_here is = ap (λ cs. of_lane more (flat_map (λ (x : Held). waits_as x x.origin) (values cs))) is ∙ all_here
+    same_here is = ap (λ cs. of_lane more (flat_map (λ (x : WaitingCall). waits_as x x.origin) (values cs))) is ∙ all_here
 
     -- It is sent, where its reference is open on the wire.
     module _ (table : List Descriptor) (is : done ≡ call_of q (old_target cap) request table ∷ []) (calls : new.waiting.calls ≡ s.waiting.calls)
@@ -248,7 +248,7 @@ module _ (s : State) (inbox : List Message) (there : End) (local_ : Local s) (th
     -- It waits, after those that do.
     module _ (gate : Gate)
         (put : new.waiting.calls ≡ insert s.waiting.calls t (record { ticket = t; origin = origins.Own q; request = request; gate = gate })) where
-      abbrev held : Held
+      abbrev held : WaitingCall
       held = record { ticket = t; origin = origins.Own q; request = request; gate = gate }
 
       unheld : get s.waiting.calls t ≡ None
@@ -265,7 +265,7 @@ module _ (s : State) (inbox : List Message) (there : End) (local_ : Local s) (th
           never : {A : Type 0} (n k : ℕ) → k < n → n < k → A
           never n k less greater = absurd (omega (arith, less, greater))
 
-          by : (es : List (ℕ × Held)) → AllByRecursion (λ e. t < e.0) es → AllByRecursion (λ e. get s.waiting.calls e.0 ≡ Some e.1) es
+          by : (es : List (ℕ × WaitingCall)) → AllByRecursion (λ e. t < e.0) es → AllByRecursion (λ e. get s.waiting.calls e.0 ≡ Some e.1) es
               → AllByRecursion (λ e. of_lane more (waits_as e.1 e.1.origin) ≡ []) es
           by [] high all = tt
           by (e ∷ es) high all =
@@ -274,8 +274,8 @@ module _ (s : State) (inbox : List Message) (there : End) (local_ : Local s) (th
 
       held_here : waits_here here_then more ≡ waits_here here made ++ t ∷ []
       held_here =
-          ap (λ cs. of_lane more (flat_map (λ (x : Held). waits_as x x.origin) (values cs))) put
-          ∙ lane_last more (λ (x : Held). waits_as x x.origin) (put_placed s.waiting.calls t held unheld) none_after
+          ap (λ cs. of_lane more (flat_map (λ (x : WaitingCall). waits_as x x.origin) (values cs))) put
+          ∙ lane_last more (λ (x : WaitingCall). waits_as x x.origin) (put_placed s.waiting.calls t held unheld) none_after
           ∙ ap (λ xs. xs ++ of_lane more (t ∷ [])) all_here ∙ ap (λ xs. waits_here here made ++ xs) (lane_of_last made t)
 
       pub waiting_more : (At : Gate → Type 0) → At gate → AllWaitHere here made At → AllWaitHere here_then more At
@@ -346,6 +346,6 @@ module _ (s : State) (inbox : List Message) (there : End) (local_ : Local s) (th
           waiting_by : gate ≡ gates.Embargo n → AllWaitHere here_then more (λ g. g ≡ gates.Embargo n)
           waiting_by at = waiting_more (λ g. g ≡ gates.Embargo n) at (λ ticket call was. inl (phases_none ticket call was))
             where
-              phases_none : (ticket : ℕ) (call : Held) → get s.waiting.calls ticket ≡ Some call → of_lane made (waits_as call call.origin) ≡ []
+              phases_none : (ticket : ℕ) (call : WaitingCall) → get s.waiting.calls ticket ≡ Some call → of_lane made (waits_as call call.origin) ≡ []
               phases_none ticket call was =
-                  wait_none made (λ (x : Held). waits_as x x.origin) s.waiting.calls p.none_here ticket call was
+                  wait_none made (λ (x : WaitingCall). waits_as x x.origin) s.waiting.calls p.none_here ticket call was

@@ -342,7 +342,7 @@ module _ (s : State) (q : ℕ) (request : Request) (none : NoneFinished s) (fres
   wire_out unvalued (caps.Promise p) mid done is h goes = never_wired is
   wire_out unvalued (caps.Broken x) mid done is h goes = never_wired is
 
-  pub from_called : (unvalued : get s.values.questions q ≡ None) (cap : Cap) (ref : calling.Reference) (done : Done) → reference_of s.values cap ≡ ref
+  pub from_called : (unvalued : get s.values.questions q ≡ None) (cap : Cap) (ref : calling.Standing) (done : Done) → reference_of s.values cap ≡ ref
       → GoFrom s q request cap ref (Ok done) → Called s q cap done.0 done.1
   from_called unvalued cap plain done is goes = local_called cap cap done goes
   from_called unvalued cap on_wire done is goes =

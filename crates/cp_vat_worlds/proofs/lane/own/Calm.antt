@@ -9,7 +9,7 @@ use Rattle.cp_rpc.specs.declared.descriptor.Descriptor.{Descriptor}
 use Rattle.cp_rpc.specs.declared.descriptor.Descriptor.TheVariants as descriptors
 use Rattle.cp_refs.specs.declared.cap.Cap.{Cap}
 use Rattle.cp_refs.specs.declared.cap.Cap.TheVariants as caps
-use Rattle.cp_refs.specs.declared.call.Held.{Held}
+use Rattle.cp_refs.specs.declared.call.WaitingCall.{WaitingCall}
 use Rattle.cp_refs.specs.declared.call.Origin.{Origin}
 use Rattle.cp_refs.specs.declared.call.Origin.TheVariants as origins
 use Rattle.cp_refs.specs.declared.route.Gate.{Gate}
@@ -38,7 +38,7 @@ pub record IsApartHere (here there : End) (ref : Reference) (made : List ℕ) (m
 pub record LevelHere (here there : End) (made : List ℕ) (mid : State) (inbox ms : List Message) : Type 0 where
   pub tickets : (q : ℕ) → of_lane made (own_ticket (get mid.entries.questions q)) ≡ of_lane made (own_ticket (get here.vat.entries.questions q))
   pub waiting : waits_here (record { vat = mid; inbox = inbox }) made ≡ waits_here here made
-  pub calls : (ticket : ℕ) (call : Held) → get mid.waiting.calls ticket ≡ Some call
+  pub calls : (ticket : ℕ) (call : WaitingCall) → get mid.waiting.calls ticket ≡ Some call
       → of_lane made (waits_as call call.origin) ≡ [] ⊎ (get here.vat.waiting.calls ticket ≡ Some call)
   pub held : NoneHeld here there made → NoneHeld (record { vat = mid; inbox = inbox }) there made
   pub sends : AllByRecursion (λ m. of_lane made (sent_for mid m) ≡ []) ms
@@ -59,7 +59,7 @@ pub record CalmHere (here there : End) (ref : Reference) (made : List ℕ) (mid 
   pub front : IsFront (IsApartHere here there ref made) here.inbox inbox
 
 -- none delivered
-pub delivered_nothing : (r : calling.Reference) → AreDelivered r []
+pub delivered_nothing : (r : calling.Standing) → AreDelivered r []
 delivered_nothing plain = refl
 delivered_nothing on_wire = refl
 delivered_nothing (came_to caps.None) = refl
@@ -118,7 +118,7 @@ module _ (made : List ℕ) (old mid : State)
   pub all_sent_same : (xs : List Message) → AllByRecursion (λ m. of_lane made (sent_for mid m) ≡ of_lane made (sent_for old m)) xs
   all_sent_same xs = every_of (λ m. of_lane made (sent_for mid m) ≡ of_lane made (sent_for old m)) xs sent_same
 
-  pub waits_in_same : (calls : List Held) → of_lane made (flat_map (λ call. waits_for mid call.origin) calls) ≡ of_lane made (flat_map (λ call. waits_for old call.origin) calls)
+  pub waits_in_same : (calls : List WaitingCall) → of_lane made (flat_map (λ call. waits_for mid call.origin) calls) ≡ of_lane made (flat_map (λ call. waits_for old call.origin) calls)
   waits_in_same calls =
       lane_same made (λ call. waits_for old call.origin) (λ call. waits_for mid call.origin) calls
       (every_of (λ call. of_lane made (waits_for mid call.origin) ≡ of_lane made (waits_for old call.origin)) calls (λ call. waits_same call.origin))
@@ -394,7 +394,7 @@ module _ (here there : End) (ref : Reference) (made : List ℕ) (mid : State) (i
       nothing : delivered ≡ [] → AreDelivered (reference_of mid.values (cap_of ref)) delivered
       nothing none = rw (none) (delivered_nothing (reference_of mid.values (cap_of ref)))
 
-      by : (r : calling.Reference) → reference_of here.vat.values (cap_of ref) ≡ r → AreDelivered r delivered → AreDelivered (reference_of mid.values (cap_of ref)) delivered
+      by : (r : calling.Standing) → reference_of here.vat.values (cap_of ref) ≡ r → AreDelivered r delivered → AreDelivered (reference_of mid.values (cap_of ref)) delivered
       by plain is none = nothing none
       by on_wire is none = nothing none
       by (came_to caps.None) is none = nothing none

@@ -3,7 +3,7 @@ use Rattle.std.specs.Prelude.{◌≡◌, ◌⊎◌, refl, ℕ, List, [], ◌++�
 use Rattle.std.specs.FinMap.{get}
 use Rattle.std.proofs.Common.{inl, inr, ap, sym, ◌∙◌, append-nil, append_assoc}
 use Rattle.cp_rpc.specs.declared.message.Message.{Message}
-use Rattle.cp_refs.specs.declared.call.Held.{Held}
+use Rattle.cp_refs.specs.declared.call.WaitingCall.{WaitingCall}
 use Rattle.cp_refs.specs.declared.route.Gate.{Gate}
 use Rattle.cp_vat_machine.specs.State.{State, gave, none_over, with_over}
 use Rattle.cp_vat_machine.specs.Calling.{mark_of}
@@ -36,7 +36,7 @@ module _ (here there : End) (ref : Reference) (made : List ℕ) (none : NoneOver
     where
       by : of_lane made (waits_as call call.origin) ≡ [] ⊎ GaveObject here.vat k call.gate → of_lane made (waits_as call call.origin) ≡ [] ⊎ GaveObject later k call.gate
       by (inl nothing) = inl nothing
-      by (inr gave_) = none_out (sym (there_of (λ (c : Held). gave here.vat.waiting.over c.gate ≡ None) (get here.vat.waiting.calls ticket) call is (none ticket)) ∙ gave_)
+      by (inr gave_) = none_out (sym (there_of (λ (c : WaitingCall). gave here.vat.waiting.over c.gate ≡ None) (get here.vat.waiting.calls ticket) call is (none ticket)) ∙ gave_)
 
   silent : Silent here.vat [] later
   silent = record { calls = refl; bearing = bearing_same here.vat later refl; no_call = refl; no_delivery = refl }

@@ -5,7 +5,7 @@ use Rattle.std.specs.FinMap.{get, insert, values}
 use Rattle.std.proofs.Common.{inl, inr, ap, sym, ◌∙◌, true≢false}
 use Rattle.cp_rpc.specs.declared.message.Message.{Message}
 use Rattle.cp_rpc.specs.declared.message.Message.TheVariants as messages
-use Rattle.cp_refs.specs.declared.call.Held.{Held}
+use Rattle.cp_refs.specs.declared.call.WaitingCall.{WaitingCall}
 use Rattle.cp_refs.specs.declared.call.Origin.{Origin}
 use Rattle.cp_refs.specs.declared.call.Origin.TheVariants as origins
 use Rattle.cp_refs.specs.declared.route.Gate.{Gate}
@@ -59,7 +59,7 @@ module _ (here there : End) (made : List ℕ) (mid : State) (inbox : List Messag
         }
 
 -- a turn of a call that isn't of the lane
-module _ (here there : End) (made : List ℕ) (call : Held) (is : get here.vat.waiting.calls call.ticket ≡ Some call) (none : of_lane made (waits_as call call.origin) ≡ [])
+module _ (here there : End) (made : List ℕ) (call : WaitingCall) (is : get here.vat.waiting.calls call.ticket ≡ Some call) (none : of_lane made (waits_as call call.origin) ≡ [])
     (own : (q : ℕ) → call.origin ≡ origins.Own q → of_lane made (own_ticket (get here.vat.entries.questions q)) ≡ []) where
   abbrev left : State
   left = without_call here.vat call
@@ -67,11 +67,11 @@ module _ (here there : End) (made : List ℕ) (call : Held) (is : get here.vat.w
   gone_list : of_lane made (flat_map (λ held. waits_as held held.origin) (values left.waiting.calls)) ≡ waits_here here made
   gone_list = sym (lane_without made (λ held. waits_as held held.origin) (gone_placed here.vat.waiting.calls call.ticket call is) none)
 
-  gone_calls : (ticket : ℕ) (held : Held) → get left.waiting.calls ticket ≡ Some held → get here.vat.waiting.calls ticket ≡ Some held
+  gone_calls : (ticket : ℕ) (held : WaitingCall) → get left.waiting.calls ticket ≡ Some held → get here.vat.waiting.calls ticket ≡ Some held
   gone_calls ticket held at = (gone_cases here.vat.waiting.calls call.ticket ticket held at).1
 
   -- it waits again
-  abbrev again : Gate → Held
+  abbrev again : Gate → WaitingCall
   again gate = record { ticket = call.ticket; origin = call.origin; request = call.request; gate = gate }
 
   again_none : (gate : Gate) (origin : Origin) → of_lane made (waits_as call origin) ≡ [] → of_lane made (waits_as (again gate) origin) ≡ []
@@ -85,19 +85,19 @@ module _ (here there : End) (made : List ℕ) (call : Held) (is : get here.vat.w
       (again_none gate call.origin none)
       ∙ gone_list
 
-  again_calls : (gate : Gate) (ticket : ℕ) (held : Held) → get (insert left.waiting.calls call.ticket (again gate)) ticket ≡ Some held
+  again_calls : (gate : Gate) (ticket : ℕ) (held : WaitingCall) → get (insert left.waiting.calls call.ticket (again gate)) ticket ≡ Some held
       → of_lane made (waits_as held held.origin) ≡ [] ⊎ (get here.vat.waiting.calls ticket ≡ Some held)
   again_calls gate ticket held at =
       elim (put_cases left.waiting.calls call.ticket ticket (again gate) held at) [
-        | inl new ↦ inl (ap (λ (h : Held). of_lane made (waits_as h h.origin)) (sym new.1) ∙ again_none gate call.origin none)
+        | inl new ↦ inl (ap (λ (h : WaitingCall). of_lane made (waits_as h h.origin)) (sym new.1) ∙ again_none gate call.origin none)
         | inr old ↦ inr (gone_calls ticket held old.1)
       ]
 
-  again_held : (gate : Gate) → NoneHeld here there made → (ticket : ℕ) (held : Held) → get (insert left.waiting.calls call.ticket (again gate)) ticket ≡ Some held
+  again_held : (gate : Gate) → NoneHeld here there made → (ticket : ℕ) (held : WaitingCall) → get (insert left.waiting.calls call.ticket (again gate)) ticket ≡ Some held
       → of_lane made (stands_as here.vat there.vat held.origin) ≡ []
   again_held gate none_ ticket held at =
       elim (put_cases left.waiting.calls call.ticket ticket (again gate) held at) [
-        | inl new ↦ ap (λ (h : Held). of_lane made (stands_as here.vat there.vat h.origin)) (sym new.1) ∙ none_ call.ticket call is
+        | inl new ↦ ap (λ (h : WaitingCall). of_lane made (stands_as here.vat there.vat h.origin)) (sym new.1) ∙ none_ call.ticket call is
         | inr old ↦ none_ ticket held (gone_calls ticket held old.1)
       ]
 

@@ -7,7 +7,7 @@ use Rattle.std.proofs.lemmas.List.{append_assoc, append-nil}
 use Rattle.cp_rpc.specs.declared.message.Message.{Message}
 use Rattle.cp_refs.specs.declared.cap.Cap.{Cap}
 use Rattle.cp_refs.specs.declared.cap.Cap.TheVariants as caps
-use Rattle.cp_refs.specs.declared.call.Held.{Held}
+use Rattle.cp_refs.specs.declared.call.WaitingCall.{WaitingCall}
 use Rattle.cp_refs.specs.declared.route.Gate.{Gate}
 use Rattle.cp_refs.specs.declared.route.Gate.TheVariants as gates
 use Rattle.cp_vat_machine.specs.State.{State}
@@ -146,7 +146,7 @@ module _ (here there : End) (ref : Reference) (made : List ℕ) (mid : State) (i
   -- Calls of the lane are delivered, at its object.
   pub record Delivers (k : ℕ) (ds : List Delivery) : Type 0 where
     pub tickets : (q : ℕ) → of_lane made (own_ticket (get mid.entries.questions q)) ≡ of_lane made (own_ticket (get here.vat.entries.questions q))
-    pub calls : (ticket : ℕ) (call : Held) → get mid.waiting.calls ticket ≡ Some call
+    pub calls : (ticket : ℕ) (call : WaitingCall) → get mid.waiting.calls ticket ≡ Some call
         → of_lane made (waits_as call call.origin) ≡ [] ⊎ (get here.vat.waiting.calls ticket ≡ Some call)
     pub held : NoneHeld here there made → NoneHeld here_then there made
     pub silent : ms ≡ []

@@ -7,7 +7,7 @@ use Rattle.std.proofs.lemmas.List.{append_assoc, append-nil}
 use Rattle.cp_rpc.specs.declared.message.Message.{Message}
 use Rattle.cp_refs.specs.declared.cap.Cap.{Cap}
 use Rattle.cp_refs.specs.declared.cap.Cap.TheVariants as caps
-use Rattle.cp_refs.specs.declared.call.Held.{Held}
+use Rattle.cp_refs.specs.declared.call.WaitingCall.{WaitingCall}
 use Rattle.cp_refs.specs.declared.route.Gate.{Gate}
 use Rattle.cp_refs.specs.declared.route.Gate.TheVariants as gates
 use Rattle.cp_vat_machine.specs.State.{State}
@@ -44,7 +44,7 @@ module _ (here there : End) (ref : Reference) (made : List ℕ) (t : ℕ) (mid :
   pub record IsMore : Type 0 where
     pub back_ : AllByRecursion (λ m. of_lane more (forwarded_for mid there.vat m) ≡ of_lane made (forwarded_for here.vat there.vat m)) here.inbox
     pub way_ : AllByRecursion (λ m. of_lane more (sent_for mid m) ≡ of_lane made (sent_for here.vat m)) there.inbox
-    pub waits_ : (ticket : ℕ) (call : Held) → get there.vat.waiting.calls ticket ≡ Some call
+    pub waits_ : (ticket : ℕ) (call : WaitingCall) → get there.vat.waiting.calls ticket ≡ Some call
         → of_lane more (waits_for mid call.origin) ≡ of_lane made (waits_for here.vat call.origin)
     pub held : NoneHeld here there made → NoneHeld here_then there more
     pub reference : reference_of mid.values (cap_of ref) ≡ reference_of here.vat.values (cap_of ref)

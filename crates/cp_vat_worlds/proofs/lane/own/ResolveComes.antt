@@ -13,7 +13,7 @@ use Rattle.cp_rpc.specs.declared.resolve.Resolution.TheVariants as resolutions
 use Rattle.cp_rpc.specs.declared.resolve.Resolve.{Resolve}
 use Rattle.cp_refs.specs.declared.cap.Cap.{Cap}
 use Rattle.cp_refs.specs.declared.cap.Cap.TheVariants as caps
-use Rattle.cp_refs.specs.declared.call.Held.{Held}
+use Rattle.cp_refs.specs.declared.call.WaitingCall.{WaitingCall}
 use Rattle.cp_vat_machine.specs.State.{State, none_over}
 use Rattle.cp_vat_machine.specs.Then.{Done, Then, fault_if}
 use Rattle.cp_vat_machine.specs.Say.{IsExport, mentioned_by, mentions_of}
@@ -74,7 +74,7 @@ pub none_leads_back : (here there : End) (made : List ℕ) (e : ℕ) → there.v
 none_leads_back here there made e none waiting =
     none_wait made (λ call. waits_for here.vat call.origin) there.vat.waiting.calls (λ ticket call is. by call (waiting ticket call is))
   where
-    by : (call : Held) → of_lane made (waits_for here.vat call.origin) ≡ [] ⊎ LeadsBack there.vat e call.gate → of_lane made (waits_for here.vat call.origin) ≡ []
+    by : (call : WaitingCall) → of_lane made (waits_for here.vat call.origin) ≡ [] ⊎ LeadsBack there.vat e call.gate → of_lane made (waits_for here.vat call.origin) ≡ []
     by call (inl nothing) = nothing
     by call (inr leads) = absurd (over_none there.vat call.gate leads.0 none leads.1)
 

@@ -146,7 +146,7 @@ module _ (s new : State) (m : Message) (rest : List Message) (there : End) (ref 
   import_same : (i : ℕ) (o : Option Cap) → get s.values.imports i ≡ Some o → import_reference (get new.values.imports i) ≡ import_reference (get s.values.imports i)
   import_same i o is = ap import_reference (grows.imports i o is ∙ sym is)
 
-  not_plain : (r : Reference) (x : calling.Reference) → reference_of s.values (cap_of r) ≡ x → (x ≡ plain → ⊥) → reference_of new.values (cap_of r) ≡ x
+  not_plain : (r : Reference) (x : calling.Standing) → reference_of s.values (cap_of r) ≡ x → (x ≡ plain → ⊥) → reference_of new.values (cap_of r) ≡ x
   not_plain (import_ i) x is not_ = by (get s.values.imports i) refl
     where
       by : (o : Option (Option Cap)) → get s.values.imports i ≡ o → reference_of new.values (cap_of (import_ i)) ≡ x

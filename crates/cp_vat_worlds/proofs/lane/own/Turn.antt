@@ -18,7 +18,7 @@ use Rattle.cp_refs.specs.Route.{Routes, route_within}
 use Rattle.cp_refs.specs.Values.{ValueMaps}
 use Rattle.cp_refs.specs.declared.cap.Cap.{Cap}
 use Rattle.cp_refs.specs.declared.cap.Cap.TheVariants as caps
-use Rattle.cp_refs.specs.declared.call.Held.{Held}
+use Rattle.cp_refs.specs.declared.call.WaitingCall.{WaitingCall}
 use Rattle.cp_refs.specs.declared.call.Origin.{Origin}
 use Rattle.cp_refs.specs.declared.call.Origin.TheVariants as origins
 use Rattle.cp_refs.specs.declared.call.Request.{Request}
@@ -115,15 +115,15 @@ object_route values k zero route is = none_out is
 object_route values k (suc n) route is = some_out is
 
 -- What a turn does to references: nothing, or its own call fails, and its question gets the exception.
-pub data TurnCalm (call : Held) (s : State) (first : List Effect) (new : State) : Type 0 where
+pub data TurnCalm (call : WaitingCall) (s : State) (first : List Effect) (new : State) : Type 0 where
   calmly : Calm s first new → TurnCalm call s first new
   fails : (q : ℕ) (x : Exception) → call.origin ≡ origins.Own q → first ≡ effects.Settled q (outcomes.Failed x) ∷ []
       → new ≡ question_settled (without_call s call) q (outcomes.Failed x) → TurnCalm call s first new
 
-left_calm : (s : State) (call : Held) → Calm s [] (without_call s call)
+left_calm : (s : State) (call : WaitingCall) → Calm s [] (without_call s call)
 left_calm s call = record { imports = refl; questions = refl; marks = refl; gave_ = λ gate cap is. is; no_open = λ q is. refl; no_loop = λ n. refl }
 
-module _ {s : State} {inbox : List Message} {other : End} (h : Midway s inbox other) (call : Held) (cap : Cap) (next : IsNext s call cap) where
+module _ {s : State} {inbox : List Message} {other : End} (h : Midway s inbox other) (call : WaitingCall) (cap : Cap) (next : IsNext s call cap) where
   abbrev left : State
   left = without_call s call
 
@@ -255,13 +255,13 @@ local_not_over s (path_to q path) gate cap h is over = by (get s.waiting.over.qu
     by (Some o) is_ over = let found = unset (get s.values.questions q) refl is.0 in h.over_questions q o found.0 is_ found.1 found.2
 
 -- A call that fails gives its question the exception: its paths come to that.
-ref_again : (s : State) (call : Held) (done : List Effect) (new : State) (ref : Reference) → RefCalm (without_call s call) done new ref → RefCalm s done new ref
+ref_again : (s : State) (call : WaitingCall) (done : List Effect) (new : State) (ref : Reference) → RefCalm (without_call s call) done new ref → RefCalm s done new ref
 ref_again s call done new (import_ i) c =
     record { same = c.same; unheld = c.unheld; absent_ = c.absent_; local_ = λ gate is. absurd is; mark = c.mark; gave_ = c.gave_; no_open = c.no_open; no_loop = c.no_loop }
 ref_again s call done new (path_to q path) c =
     record { same = c.same; unheld = λ made is. absurd is; absent_ = c.absent_; local_ = c.local_; mark = c.mark; gave_ = c.gave_; no_open = c.no_open; no_loop = c.no_loop }
 
-module _ {s : State} (h : Within s None []) (call : Held) (cap : Cap) (next : IsNext s call cap) (q : ℕ) (x : Exception) (from : call.origin ≡ origins.Own q) where
+module _ {s : State} (h : Within s None []) (call : WaitingCall) (cap : Cap) (next : IsNext s call cap) (q : ℕ) (x : Exception) (from : call.origin ≡ origins.Own q) where
   whose : IsTicketOf s (origins.Own q) call.ticket
   whose =
       let waits = there_of (WaitsFor s call.ticket) (get s.waiting.calls call.ticket) call next.waits (h.waiting call.ticket) in
@@ -295,7 +295,7 @@ module _ {s : State} (h : Within s None []) (call : Held) (cap : Cap) (next : Is
   fails_then (path_to p path) = at_path p path (q == p) refl
 
 -- a turn of this call, in a lane
-module _ (old : State) (here there : End) (ref : Reference) (made : List ℕ) (delivered : List Delivery) (h : Midway here.vat here.inbox there) (call : Held) (cap : Cap)
+module _ (old : State) (here there : End) (ref : Reference) (made : List ℕ) (delivered : List Delivery) (h : Midway here.vat here.inbox there) (call : WaitingCall) (cap : Cap)
     (next : IsNext here.vat call cap) (first : List Effect) (new : State) (goes : GoTo (without_call here.vat call) (underway call) cap (Ok (first, new)))
     (tickets : (q : ℕ) → of_lane made (own_ticket (get here.vat.entries.questions q)) ≡ of_lane made (own_ticket (get old.entries.questions q))) where
   abbrev s : State
@@ -453,7 +453,7 @@ module _ (old : State) (here there : End) (ref : Reference) (made : List ℕ) (d
           (ref_calm ref (deliver_calm (calm_both s (without_call s call) (going.delivered (without_call s call) (origins.Own q)) [] [] (left_calm s call)
           (delivered_calm (without_call s call) (origins.Own q)))))
 
-      gone_before : (ticket : ℕ) (held : Held) → get new.waiting.calls ticket ≡ Some held → get s.waiting.calls ticket ≡ Some held
+      gone_before : (ticket : ℕ) (held : WaitingCall) → get new.waiting.calls ticket ≡ Some held → get s.waiting.calls ticket ≡ Some held
       gone_before ticket held at = (gone_cases s.waiting.calls call.ticket ticket held (sym (ap (λ cs. get cs ticket) silent.calls) ∙ at)).1
 
       delivers : Delivers here there ref made new here.inbox (messages_sent first) p.object (it ∷ [])
@@ -469,7 +469,7 @@ module _ (old : State) (here there : End) (ref : Reference) (made : List ℕ) (d
           }
 
       -- those that wait with lower tickets aren't of the lane
-      lower_none : (ticket : ℕ) (held : Held) → get s.waiting.calls ticket ≡ Some held → ticket < call.ticket → of_lane made (waits_as held held.origin) ≡ []
+      lower_none : (ticket : ℕ) (held : WaitingCall) → get s.waiting.calls ticket ≡ Some held → ticket < call.ticket → of_lane made (waits_as held held.origin) ≡ []
       lower_none ticket held at less = by (p.waiting ticket held at)
         where
           by : of_lane made (waits_as held held.origin) ≡ [] ⊎ GaveObject s p.object held.gate → of_lane made (waits_as held held.origin) ≡ []
@@ -480,14 +480,14 @@ module _ (old : State) (here there : End) (ref : Reference) (made : List ℕ) (d
       moved =
           let placed = gone_placed s.waiting.calls call.ticket call next.waits in
           let all = all_entries (λ ticket held. ticket < call.ticket → of_lane made (waits_as held held.origin) ≡ []) s.waiting.calls lower_none in
-          let front = all_front (λ (e : ℕ × Held). e.0 < call.ticket → of_lane made (waits_as e.1 e.1.origin) ≡ []) placed.front ((call.ticket, call) ∷ placed.back)
+          let front = all_front (λ (e : ℕ × WaitingCall). e.0 < call.ticket → of_lane made (waits_as e.1 e.1.origin) ≡ []) placed.front ((call.ticket, call) ∷ placed.back)
           (rw (placed.with_it) at all) in
           lane_first made (λ c. waits_as c c.origin) placed (applied placed.front front placed.lower) ∙ ap (λ xs. xs ++ of_lane made (flat_map (λ c. waits_as c c.origin)
           (values (without_call s call).waiting.calls))) its_ticket
           ∙ ap (λ cs. call.ticket ∷ of_lane made (flat_map (λ c. waits_as c c.origin) (values cs))) (sym silent.calls)
         where
-          applied : (es : List (ℕ × Held)) → AllByRecursion (λ (e : ℕ × Held). e.0 < call.ticket → of_lane made (waits_as e.1 e.1.origin) ≡ []) es
-              → AllByRecursion (λ (e : ℕ × Held). e.0 < call.ticket) es → AllByRecursion (λ (e : ℕ × Held). of_lane made (waits_as e.1 e.1.origin) ≡ []) es
+          applied : (es : List (ℕ × WaitingCall)) → AllByRecursion (λ (e : ℕ × WaitingCall). e.0 < call.ticket → of_lane made (waits_as e.1 e.1.origin) ≡ []) es
+              → AllByRecursion (λ (e : ℕ × WaitingCall). e.0 < call.ticket) es → AllByRecursion (λ (e : ℕ × WaitingCall). of_lane made (waits_as e.1 e.1.origin) ≡ []) es
           applied [] f less = tt
           applied (e ∷ es) f less = (f.0 less.0, applied es f.1 less.1)
 

@@ -6,7 +6,7 @@ use Rattle.cp_tables.specs.declared.exchange.Stage.{Stage}
 use Rattle.cp_tables.specs.declared.exchange.Stage.TheVariants as stages
 use Rattle.cp_rpc.specs.declared.message.Message.{Message}
 use Rattle.cp_refs.specs.declared.cap.Cap.{Cap}
-use Rattle.cp_refs.specs.declared.call.Held.{Held}
+use Rattle.cp_refs.specs.declared.call.WaitingCall.{WaitingCall}
 use Rattle.cp_refs.specs.declared.call.Origin.TheVariants as origins
 use Rattle.cp_vat_machine.specs.State.{State}
 use Rattle.cp_vat_machine.specs.Then.{Done}
@@ -45,7 +45,7 @@ pub record Midway (s : State) (inbox : List Message) (other : End) : Type 0 wher
   pub orderly : IsOrderly s
   pub agreed : Agree (accounts_of s) inbox (accounts_of other.vat) other.inbox
 
-pub turn_midway : {s mid : State} {inbox : List Message} {other : End} (call : Held) (cap : Cap) (first : List Effect) → Midway s inbox other → IsNext s call cap
+pub turn_midway : {s mid : State} {inbox : List Message} {other : End} (call : WaitingCall) (cap : Cap) (first : List Effect) → Midway s inbox other → IsNext s call cap
     → GoTo (without_call s call) (underway call) cap (Ok (first, mid)) → Midway mid inbox (with_mail other (messages_sent first))
 turn_midway {s = s} {mid = mid} call cap first h next goes =
     let sends = turn_goes s mid call cap first h.orderly next goes in
@@ -94,7 +94,7 @@ fresh_there {s = s} {inbox = inbox} {other = other} h local_ q none =
       held = λ ticket call is from. held_by ticket call is from fits;
     }
   where
-    held_by : (ticket : ℕ) (call : Held) → get other.vat.waiting.calls ticket ≡ Some call → call.origin ≡ origins.Answer q
+    held_by : (ticket : ℕ) (call : WaitingCall) → get other.vat.waiting.calls ticket ≡ Some call → call.origin ≡ origins.Answer q
         → Fits None (returns_of q inbox) (will_stand q other.inbox (standing_of ((accounts_of other.vat).answers q))) → ⊥
     held_by ticket call is from fits =
         let waits = there_of (IsWaiting other.vat ticket) (get other.vat.waiting.calls ticket) call is (local_.waiting ticket) in
@@ -104,7 +104,7 @@ fresh_there {s = s} {inbox = inbox} {other = other} h local_ q none =
         (will_stay q other.inbox (standing_of ((accounts_of other.vat).answers q)) stands)
 
 -- and bears its ticket
-pub own_ticket_is : {s : State} → Within s None [] → (call : Held) (cap : Cap) → IsNext s call cap → (q : ℕ) → call.origin ≡ origins.Own q
+pub own_ticket_is : {s : State} → Within s None [] → (call : WaitingCall) (cap : Cap) → IsNext s call cap → (q : ℕ) → call.origin ≡ origins.Own q
     → own_ticket (get s.entries.questions q) ≡ call.ticket ∷ []
 own_ticket_is {s = s} h call cap next q from =
     let waits = there_of (WaitsFor s call.ticket) (get s.waiting.calls call.ticket) call next.waits (h.waiting call.ticket) in

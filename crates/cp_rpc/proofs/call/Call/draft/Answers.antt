@@ -1,5 +1,5 @@
 use Rattle.std.specs.Prelude.{Result, Ok, Err, IfOk}
-use Rattle.cp_rpc.specs.Held.{IsCall}
+use Rattle.cp_rpc.specs.Representable.{IsCall}
 use Rattle.cp_rpc.proofs.call.Call.draft.Goals as goal
 
 -- what holds anyhow holds of what is answered

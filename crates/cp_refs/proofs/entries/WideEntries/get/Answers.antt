@@ -1,5 +1,5 @@
 use Rattle.cp_tables.proofs.TableLemmas.{get-listed}
-use Rattle.cp_refs.proofs.entries.Entries.get.Goals as goal
+use Rattle.cp_refs.proofs.entries.WideEntries.get.Goals as goal
 
 pub returns : goal.returns
 returns g c = rw (← c.self.view_is, get-listed) c.get.ensures.value

@@ -5,7 +5,7 @@ use Rattle.std.specs.FinMap.{entries, values}
 use Rattle.cp_tables.specs.Table.{Table}
 use Rattle.cp_refs.specs.Values.{ValueMaps}
 use Rattle.cp_refs.specs.declared.cap.Cap.{Cap}
-use Rattle.cp_refs.specs.declared.call.Held.{Held}
+use Rattle.cp_refs.specs.declared.call.WaitingCall.{WaitingCall}
 use Rattle.cp_vat_machine.specs.InUse.{caps_given, value_unless}
 use Rattle.cp_vat_state.specs.Sought.{awaited_at, named_by}
 use Rattle.cp_vat_state.specs.Counts.{number_of, times_named, times_in, IsMore, IsLess, IsSame}
@@ -42,16 +42,16 @@ own_uses None i = 0
 own_uses (Some value) i = times_in (option_to_list value) (sought.Import i)
 
 -- It is counted how often each is in calls' tables, and how many calls wait for each.
-pub record AreHeldByCalls (calls : Table Held) (uses : Uses) : Type 0 where
+pub record AreHeldByCalls (calls : Table WaitingCall) (uses : Uses) : Type 0 where
   pub named : (s : Sought) → number_of uses.named s ≡ times_held (λ call. times_in call.request.caps) calls s
   pub awaited : (s : Sought) → number_of uses.awaited s ≡ times_held (λ call. times_named (awaited_at call.gate)) calls s
 
 -- what one call holds is counted once more, or once less
-pub record IsMoreBy (old new : Uses) (call : Held) : Type 0 where
+pub record IsMoreBy (old new : Uses) (call : WaitingCall) : Type 0 where
   pub named : IsMore old.named new.named (times_in call.request.caps)
   pub awaited : IsMore old.awaited new.awaited (times_named (awaited_at call.gate))
 
-pub record IsLessBy (old new : Uses) (call : Held) : Type 0 where
+pub record IsLessBy (old new : Uses) (call : WaitingCall) : Type 0 where
   pub named : IsLess old.named new.named (times_in call.request.caps)
   pub awaited : IsLess old.awaited new.awaited (times_named (awaited_at call.gate))
 

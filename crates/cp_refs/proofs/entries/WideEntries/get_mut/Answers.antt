@@ -1,6 +1,6 @@
 use Rattle.std.proofs.Common.{IsSome, refl, subst}
 use Rattle.cp_tables.proofs.TableLemmas.{get-listed, lends_same, listed-insert}
-use Rattle.cp_refs.proofs.entries.Entries.get_mut.Goals as goal
+use Rattle.cp_refs.proofs.entries.WideEntries.get_mut.Goals as goal
 
 pub returns-in-Some : goal.returns-in-Some
 returns-in-Some g c =
