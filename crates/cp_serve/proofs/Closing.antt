@@ -40,15 +40,15 @@ use Rattle.cp_refs.specs.declared.values.QuestionKind.TheVariants as kinds
 use Rattle.cp_vat_machine.specs.State.{State, Over, gave, none_over, with_exports}
 use Rattle.cp_vat_machine.specs.Then.{Done, OrFull, fault_if}
 use Rattle.cp_vat_machine.specs.Capacity.{has_capacity, Fresh, message_fits}
-use Rattle.cp_vat_machine.specs.Say.{SayAll, promised}
-use Rattle.cp_vat_machine.specs.Take.{answer_of, path_of, lower, released, TakeAll}
+use Rattle.cp_vat_machine.specs.Writing.{WritesDescriptors, promised}
+use Rattle.cp_vat_machine.specs.Receiving.{answer_of, path_of, release_exports, released, ReceivesCaps}
 use Rattle.cp_vat_machine.specs.Give.{ResolvesEnd, Tells, settled, value_for, last_for, Settle, SettleTied, Returns, given, gone, GiveBy, GiveAnswer, GiveOwnBy, Give, without_question}
 use Rattle.cp_vat_machine.specs.Go.{Underway, underway, finish_of, finish_after, GoOut, Go, GoTo, Leave, stays, leaves, finds_table_full, without_call, IsNext}
 use Rattle.cp_vat_machine.specs.InUse.{is_own_question, is_question_used, is_import_used, is_promise_used, is_unsettled}
 use Rattle.cp_vat_machine.specs.Calling.{Standing, plain, on_wire, came_to, reference_of, called, own_call, mark_of, marked, FirstEmbargoed, GoBack, GoByValue, GoFrom, OwnDone, Opens, call_refusals, DoCall}
 use Rattle.cp_vat_machine.specs.Doing.{Quietly, answer_refusals, resolve_refusals, value_refusals, Resolves, told_if, FinishBy, Finishes, without_import, without_promise}
 use Rattle.cp_vat_machine.specs.Answering.{with_answer, bootstrap_outcome, is_answering, OnBootstrap, target_faults, GoToExport, GoToAnswer, GoToTarget, peer_call, entered, call_faults, OnCall, AtStage, FinishedBy}
-use Rattle.cp_vat_machine.specs.Asking.{TakeReturned, Settles, ReturnBy, is_asked, ReturnOf}
+use Rattle.cp_vat_machine.specs.Asking.{ReceivesReturned, Settles, ReturnBy, is_asked, ReturnOf}
 use Rattle.cp_vat_machine.specs.Resolving.{OnRelease, release_of, is_open_promise, TakeResolution, ResolveOf, given_back, releases_of, echo_to, EchoesExport, EchoesAnswer, EchoesTarget, ended_by, OnDisembargo, UnknownToPeer, told, closed}
 use Rattle.cp_vat_machine.specs.Step.{On, ReceivesIf, Does, echo_fits, echoed, Follows, all_left, found_full, Step, did, received, faulted}
 use Rattle.cp_vat_machine.specs.declared.effect.Effect.{Effect}
@@ -137,10 +137,10 @@ finish_silent q stages.Returned = refl
 out_silent : (s : State) (call : Underway) (target : Target) (origin : Origin) (done : Done) → GoOut s call target origin (Ok done) → IsSilent done
 out_silent s call target (origins.Answer a) done goes =
     let first = then_out {A = ℕ} {B = Done} (Fresh s.entries.questions) _ done goes in
-    let parts = then_out {A = List Descriptor × State} {B = Done} (SayAll s call.request.caps) _ done first.2 in
+    let parts = then_out {A = List Descriptor × State} {B = Done} (WritesDescriptors s call.request.caps) _ done first.2 in
     rw (ok_in _ _ parts.2) refl
 out_silent s call target (origins.Own q) done goes =
-    let parts = then_out {A = List Descriptor × State} {B = Done} (SayAll s call.request.caps) _ done goes.2 in
+    let parts = then_out {A = List Descriptor × State} {B = Done} (WritesDescriptors s call.request.caps) _ done goes.2 in
     rw (ok_in _ _ parts.2) (finish_silent q goes.0.stage)
 
 go_silent : (s : State) (call : Underway) (route : Route) (done : Done) → Go s call route (Ok done) → IsSilent done
@@ -266,7 +266,7 @@ module _ (s : State) where
 
 call_comes : (s : State) (c : Call) (done : Done) → OnCall s c (Ok done) → IsSilent done
 call_comes s c done does =
-    let taken = then_out {A = List Cap × State} {B = Done} (TakeAll s c.params.cap_table) _ done (unless_out {A = Done} {F = PeerFault} (call_faults s c) _ done does) in
+    let taken = then_out {A = List Cap × State} {B = Done} (ReceivesCaps s c.params.cap_table) _ done (unless_out {A = Done} {F = PeerFault} (call_faults s c) _ done does) in
     target_silent (entered taken.0.1 c.question_id) (peer_call taken.0.1 c taken.0.0) c.target done taken.2
 
 bootstrap_comes : (s : State) (a : ℕ) (done : Done) → OnBootstrap s a (Ok done) → IsSilent done
@@ -283,7 +283,7 @@ settles_silent s q (Some a) outcome done does =
 
 return_by : (s : State) (r : Return) (kept : QuestionEntry) (stage : Stage) (done : Done) → ReturnBy s r kept stage (Ok done) → IsSilent done
 return_by s r kept stages.Open done does =
-    let taken = then_out {A = Outcome × State} {B = Done} (TakeReturned s r.returned) _ done does in
+    let taken = then_out {A = Outcome × State} {B = Done} (ReceivesReturned s r.returned) _ done does in
     settles_silent taken.0.1 r.answer_id kept.forwards taken.0.0 done taken.2
 return_by s r kept stages.Finished done does = rw (ok_in _ _ does) refl
 return_by s r kept stages.Returned done does = absurd does
@@ -299,7 +299,7 @@ module _ (s : State) where
   finish_at : (fin : Finish) (kept : AnswerEntry) (stage : Stage) (done : Done) → AtStage s fin kept stage (Ok done) → IsSilent done
   finish_at fin kept stages.Open done does = rw (ok_in _ _ does) refl
   finish_at fin kept stages.Returned done does =
-      let parts = then_out {A = Table (Counted Cap)} {B = Done} (λ exports. exports ≡ (cond fin.release_result_caps (lower s.counts.exports kept.mentions) (Ok s.counts.exports))) _ done does in
+      let parts = then_out {A = Table (Counted Cap)} {B = Done} (λ exports. exports ≡ (cond fin.release_result_caps (release_exports s.counts.exports kept.mentions) (Ok s.counts.exports))) _ done does in
       rw (ok_in _ _ parts.2) refl
   finish_at fin kept stages.Finished done does = ok_out does
 
@@ -358,7 +358,7 @@ module _ (s : State) where
 
   unknown_comes : (o : Option Message) (done : Done) → UnknownToPeer s o (Ok done) → IsSilent done
   unknown_comes (Some (messages.Resolve r)) done does =
-      let parts = then_out {A = Table (Counted Cap)} {B = Done} (λ exports. exports ≡ lower s.counts.exports (given_back r.resolution)) _ done does in
+      let parts = then_out {A = Table (Counted Cap)} {B = Done} (λ exports. exports ≡ release_exports s.counts.exports (given_back r.resolution)) _ done does in
       rw (ok_in _ _ parts.2) refl
   unknown_comes None done does = ok_out does
   unknown_comes (Some other) done does = ok_out does

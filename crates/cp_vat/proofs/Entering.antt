@@ -13,7 +13,7 @@ use Rattle.cp_refs.specs.declared.cap.Cap.{Cap}
 use Rattle.cp_vat_machine.specs.State.{State}
 use Rattle.cp_vat_machine.specs.Then.{Then, fault_if}
 use Rattle.cp_vat_machine.specs.Capacity.{has_capacity, has_ticket}
-use Rattle.cp_vat_machine.specs.Take.{TakeAll}
+use Rattle.cp_vat_machine.specs.Receiving.{ReceivesCaps}
 use Rattle.cp_vat_machine.specs.Answering.{OnCall, GoToTarget, call_faults, entered, is_answering, peer_call, target_faults}
 use Rattle.cp_vat_machine.specs.declared.effect.Effect.{Effect}
 use Rattle.cp_vat_machine.specs.declared.fault.PeerFault.TheVariants as faults
@@ -42,7 +42,7 @@ both_true false b is = absurd (cc)
 fewer : (a b : ℕ) → ltb a b ≡ true → a < b
 fewer a b is = grind (arith, nat_tests)
 
-module _ (old mid : State) (c : Call) (caps : List Cap) (passed : Ok tt ≡ judged (call_faults old c)) (taken : TakeAll old c.params.cap_table (Ok (caps, mid))) where
+module _ (old mid : State) (c : Call) (caps : List Cap) (passed : Ok tt ≡ judged (call_faults old c)) (taken : ReceivesCaps old c.params.cap_table (Ok (caps, mid))) where
   rooms : (has_capacity old.entries.answers ≡ true) × (has_ticket old ≡ true)
   rooms =
       both_true _ _
@@ -81,9 +81,9 @@ module _ (old mid : State) (c : Call) (caps : List Cap) (passed : Ok tt ≡ judg
       (subst (λ q. Acts (GoToTarget q (record (peer_call mid c caps) { ticket = ticket }) c.target) result before after new) is goes))
 
 -- a fault of its capability table
-pub call_fails : (old mid : State) (c : Call) (halt : Halt) (before : List Effect) → Ok tt ≡ judged (call_faults old c) → Leaves (TakeAll old c.params.cap_table) (Err halt) mid → Acts (OnCall old c) (Err halt) before before mid
+pub call_fails : (old mid : State) (c : Call) (halt : Halt) (before : List Effect) → Ok tt ≡ judged (call_faults old c) → Leaves (ReceivesCaps old c.params.cap_table) (Err halt) mid → Acts (OnCall old c) (Err halt) before before mid
 call_fails old mid c (halts.Fault fault) before passed fails =
-    unless_passed (call_faults old c) (λ out. Then (TakeAll old c.params.cap_table) (λ taken. GoToTarget (entered taken.1 c.question_id) (peer_call taken.1 c taken.0) c.target) out) (Err fault) passed (Err fault, fails, refl)
+    unless_passed (call_faults old c) (λ out. Then (ReceivesCaps old c.params.cap_table) (λ taken. GoToTarget (entered taken.1 c.question_id) (peer_call taken.1 c taken.0) c.target) out) (Err fault) passed (Err fault, fails, refl)
 call_fails old mid c halts.OutOfMemory before passed fails = tt
 
 module _ (s : State) (u : Underway) (route : Route) (target : Target) (leads : Leads s target route) (result : Result (Unit {0}) Halt) (before after : List Effect) (new : State) where

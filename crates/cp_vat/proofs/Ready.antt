@@ -29,12 +29,12 @@ use Rattle.cp_vat_machine.specs.State.{State, none_over, with_exports}
 use Rattle.cp_vat_machine.specs.Then.{fault_if}
 use Rattle.cp_vat_machine.specs.Capacity.{cap_fits, has_capacity, has_ticket, outcome_fits, request_fits}
 use Rattle.cp_vat_machine.specs.InUse.{caps_of, has_question, has_promise, has_import, is_local_path, is_pipelined}
-use Rattle.cp_vat_machine.specs.Take.{TakeAll, answer_of, lower}
+use Rattle.cp_vat_machine.specs.Receiving.{ReceivesCaps, answer_of, release_exports}
 use Rattle.cp_vat_machine.specs.Give.{without_question}
 use Rattle.cp_vat_machine.specs.Go.{Underway}
 use Rattle.cp_vat_machine.specs.Calling.{called, own_call, call_refusals, not_all, reference_of}
 use Rattle.cp_vat_machine.specs.Answering.{call_faults, entered, is_answering, peer_call, target_faults, with_answer}
-use Rattle.cp_vat_machine.specs.Asking.{TakeReturned, is_asked}
+use Rattle.cp_vat_machine.specs.Asking.{ReceivesReturned, is_asked}
 use Rattle.cp_vat_machine.specs.Doing.{awaits, answer_refusals, is_made, is_settled, is_ungiven_answer, is_ungiven_question, resolve_refusals}
 use Rattle.cp_vat_machine.specs.Doing as machine
 use Rattle.cp_vat_machine.specs.Local.{Local, is_open_stage, ForwardsRightly, IsExportable, IsThere}
@@ -224,7 +224,7 @@ module _ (s : State) (h : Local s) (cap : Cap) (request : Request) (none : call_
     call_ends (references.CameTo value) is = there_on value (came_fit (local_is_within s h) cap value (sym is)).1
 
 -- A call of the peer's that isn't at fault is in hand, once it opened an answer, and its target is there.
-module _ (old mid : State) (c : Call) (table : List Cap) (h : Local old) (passed : Ok tt ≡ judged (call_faults old c)) (taken : TakeAll old c.params.cap_table (Ok (table, mid))) where
+module _ (old mid : State) (c : Call) (table : List Cap) (h : Local old) (passed : Ok tt ≡ judged (call_faults old c)) (taken : ReceivesCaps old c.params.cap_table (Ok (table, mid))) where
   one : Within mid None [] × Grows old mid × AllByRecursion (IsFit mid) table
   one = take_all_keeps None [] c.params.cap_table old (table, mid) (local_is_within old h) h.none_over_ taken
 
@@ -292,7 +292,7 @@ none_there o fault none is = true≢false (sym (ap is_none is) ∙ not_met (is_n
 -- A question that is asked awaits its Return, once the exports that its params named were lowered.
 pub asked_awaits : (old : State) (r : Return) (entry : Exchange QuestionEntry) (exports : Table (Counted Cap)) → Local old → Some entry ≡ get old.entries.questions r.answer_id
     → true ≡ is_asked entry.kept.is_sent entry.stage → entry.stage ≡ stages.Open
-    → Ok exports ≡ (if r.release_param_caps then lower old.counts.exports entry.kept.mentions else Ok old.counts.exports)
+    → Ok exports ≡ (if r.release_param_caps then release_exports old.counts.exports entry.kept.mentions else Ok old.counts.exports)
     → AwaitsReturn (with_exports old exports) r.answer_id entry.kept.forwards
 asked_awaits old r entry exports h there asked is_open lowered =
     record {
@@ -306,7 +306,7 @@ asked_awaits old r entry exports h there asked is_open lowered =
     }
 
 -- One that awaits its Return may be settled to what its Return is taken in as.
-pub returned_may : (mid last : State) (q : ℕ) (forwards : Option ℕ) (returned : Returned) (outcome : Outcome) → AwaitsReturn mid q forwards → TakeReturned mid returned (Ok (outcome, last))
+pub returned_may : (mid last : State) (q : ℕ) (forwards : Option ℕ) (returned : Returned) (outcome : Outcome) → AwaitsReturn mid q forwards → ReceivesReturned mid returned (Ok (outcome, last))
     → MaySettle last q forwards outcome
 returned_may mid last q forwards returned outcome awaited taken =
     let one = returned_keeps mid returned (outcome, last) awaited.within awaited.still taken in

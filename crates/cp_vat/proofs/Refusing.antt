@@ -4,7 +4,7 @@ use Rattle.cp_refs.specs.Route.{Way, ends, leads, missing, way}
 use Rattle.cp_refs.specs.Values.{ValueMaps}
 use Rattle.cp_refs.specs.declared.cap.Cap.{Cap}
 use Rattle.cp_vat_machine.specs.State.{State}
-use Rattle.cp_vat_machine.specs.Say.{end_by, end_within, ComesTo}
+use Rattle.cp_vat_machine.specs.Writing.{end_by, end_within, ResolvesTo}
 use Rattle.cp_vat_machine.specs.Calling.{OwnDone}
 use Rattle.cp_vat_machine.specs.declared.effect.Effect.{Effect}
 use Rattle.cp_vat_machine.specs.declared.event.Value.{Value}
@@ -52,5 +52,5 @@ module _ (values : ValueMaps) where
   within_once (suc n) (suc m) c a b first second = by_once n m c a b (way values c) (λ d. within_once n m d a b) first second
 
   -- a capability comes to one thing
-  pub comes_once : (c a b : Cap) → ComesTo values c a → ComesTo values c b → a ≡ b
+  pub comes_once : (c a b : Cap) → ResolvesTo values c a → ResolvesTo values c b → a ≡ b
   comes_once c a b first second = within_once first.0 second.0 c a b first.1 second.1

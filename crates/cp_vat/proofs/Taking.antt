@@ -13,7 +13,7 @@ use Rattle.cp_refs.specs.declared.cap.Cap.{Cap}
 use Rattle.cp_refs.specs.declared.outcome.Outcome.{Outcome}
 use Rattle.cp_vat_machine.specs.State.{State}
 use Rattle.cp_vat_machine.specs.Then.{Then, After}
-use Rattle.cp_vat_machine.specs.Take.{Take, TakeAll, TakeAnswer, answer_by, answer_of, path_of, held_import, held_once_more, taken_export, tie, tied}
+use Rattle.cp_vat_machine.specs.Receiving.{ReceivesCap, ReceivesCaps, ReceivesAnswer, answer_by, answer_of, path_of, held_import, held_once_more, taken_export, tie, tied}
 use Rattle.cp_vat_machine.specs.declared.entry.AnswerEntry.{AnswerEntry}
 use Rattle.cp_vat_machine.specs.declared.entry.ImportKind.{ImportKind}
 use Rattle.cp_vat_machine.specs.declared.fault.PeerFault.{PeerFault}
@@ -92,12 +92,12 @@ tie_keeps a old mid id path one last (Ok p) is =
     subst (λ s. Keeps a old s) (sym (ap (left old) is)) (kept.0, kept.1, refl, tied_answer old.entries.answers id a path p (get old.values.answers a))
 tie_keeps a old mid id path one last (Err fault) is = absurd (cc)
 
-answer_keeps : (a : ℕ) (old mid : State) (id : ℕ) (path : List ℕ) (one : Cap) (o : Option (Option Outcome)) → TakeAnswer old id path o (Ok (one, mid)) → Keeps a old mid
+answer_keeps : (a : ℕ) (old mid : State) (id : ℕ) (path : List ℕ) (one : Cap) (o : Option (Option Outcome)) → ReceivesAnswer old id path o (Ok (one, mid)) → Keeps a old mid
 answer_keeps a old mid id path one None is = absurd (cc)
 answer_keeps a old mid id path one (Some (Some outcome)) is = keeps_same a old mid (ap (left old) is)
 answer_keeps a old mid id path one (Some None) is = tie_keeps a old mid id path one _ is.0 is.2
 
-take_keeps : (a : ℕ) (old mid : State) (d : Descriptor) (one : Cap) → Take old d (Ok (one, mid)) → Keeps a old mid
+take_keeps : (a : ℕ) (old mid : State) (d : Descriptor) (one : Cap) → ReceivesCap old d (Ok (one, mid)) → Keeps a old mid
 take_keeps a old mid descriptors.None one is = keeps_same a old mid (ap (left old) is)
 take_keeps a old mid (descriptors.SenderHosted i) one is = import_keeps a old mid i _ one _ is.0 is.1 is.2
 take_keeps a old mid (descriptors.SenderPromise i) one is = import_keeps a old mid i _ one _ is.0 is.1 is.2
@@ -107,19 +107,19 @@ take_keeps a old mid (descriptors.ThirdPartyHosted t) one is = absurd is
 take_keeps a old mid (descriptors.Unknown n) one is = absurd is
 
 rest_keeps : (a : ℕ) (table : List Descriptor) (now mid : State) (first : Cap) (table_caps : List Cap) (rest : Result (List Cap × State) PeerFault)
-    → ((new : State) (more : List Cap) → TakeAll now table (Ok (more, new)) → Keeps a now new) → TakeAll now table rest
+    → ((new : State) (more : List Cap) → ReceivesCaps now table (Ok (more, new)) → Keeps a now new) → ReceivesCaps now table rest
     → After {B = List Cap × State} (λ rest out. out ≡ Ok (first ∷ rest.0, rest.1)) rest (Ok (table_caps, mid)) → Keeps a now mid
 rest_keeps a table now mid first table_caps (Ok rest) kept taken is = subst (λ s. Keeps a now s) (sym (ap (left now) is)) (kept rest.1 rest.0 taken)
 rest_keeps a table now mid first table_caps (Err fault) kept taken is = absurd (cc)
 
 each_keeps : (a : ℕ) (d : Descriptor) (table : List Descriptor) (old mid : State) (table_caps : List Cap) (first : Result (Cap × State) PeerFault)
-    → ((now new : State) (more : List Cap) → TakeAll now table (Ok (more, new)) → Keeps a now new) → Take old d first
-    → After {B = List Cap × State} (λ first. Then (TakeAll first.1 table) (λ rest out. out ≡ Ok (first.0 ∷ rest.0, rest.1))) first (Ok (table_caps, mid)) → Keeps a old mid
+    → ((now new : State) (more : List Cap) → ReceivesCaps now table (Ok (more, new)) → Keeps a now new) → ReceivesCap old d first
+    → After {B = List Cap × State} (λ first. Then (ReceivesCaps first.1 table) (λ rest out. out ≡ Ok (first.0 ∷ rest.0, rest.1))) first (Ok (table_caps, mid)) → Keeps a old mid
 each_keeps a d table old mid table_caps (Ok first) kept taken follows =
     keeps_on a old first.1 mid (take_keeps a old first.1 d first.0 taken) (rest_keeps a table first.1 mid first.0 table_caps follows.0 (kept first.1) follows.1 follows.2)
 each_keeps a d table old mid table_caps (Err fault) kept taken follows = absurd (cc)
 
 -- so of a whole table
-pub takes_keep : (a : ℕ) (table : List Descriptor) (old mid : State) (table_caps : List Cap) → TakeAll old table (Ok (table_caps, mid)) → Keeps a old mid
+pub takes_keep : (a : ℕ) (table : List Descriptor) (old mid : State) (table_caps : List Cap) → ReceivesCaps old table (Ok (table_caps, mid)) → Keeps a old mid
 takes_keep a [] old mid table_caps is = keeps_same a old mid (ap (left old) is)
 takes_keep a (d ∷ table) old mid table_caps is = each_keeps a d table old mid table_caps is.0 (takes_keep a table) is.1 is.2

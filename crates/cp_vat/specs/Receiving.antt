@@ -12,22 +12,22 @@ use Rattle.cp_vat_machine.specs.State.{State}
 use Rattle.cp_vat_machine.specs.Then.{Done, Then}
 use Rattle.cp_vat_machine.specs.Go.{Go, Underway}
 use Rattle.cp_vat_machine.specs.Answering.{GoToTarget}
-use Rattle.cp_vat_machine.specs.Asking.{OnReturn, Settles, TakeReturned}
+use Rattle.cp_vat_machine.specs.Asking.{OnReturn, Settles, ReceivesReturned}
 use Rattle.cp_vat_machine.specs.declared.fault.PeerFault.{PeerFault}
 use Rattle.cp_vat_laws.specs.Within.{Within}
 use Rattle.cp_vat_state.specs.declared.halt.Halt.{Halt}
 use Rattle.cp_vat_state.specs.declared.halt.Halt.TheVariants as halts
 use Rattle.cp_vat.specs.Returning.{AwaitsReturn}
-use Rattle.cp_vat.specs.declared.on_return.Rest.{Rest}
-use Rattle.cp_vat.specs.declared.on_return.Rest.TheVariants as rests
+use Rattle.cp_vat.specs.declared.on_return.Remaining.{Remaining}
+use Rattle.cp_vat.specs.declared.on_return.Remaining.TheVariants as rests
 
 -- Nothing is left; or the question awaits its Return, and what taking in what was returned and settling it gives is what the Return does; or a
 -- fault was met.
-abbrev pub Begins : State → Return → Result Rest Halt → State → Type 0
+abbrev pub Begins : State → Return → Result Remaining Halt → State → Type 0
 Begins old r (Ok rests.Nothing) new = OnReturn old r (Ok ([], new))
 Begins old r (Ok (rests.Settle forwards)) new =
     AwaitsReturn new r.answer_id forwards
-    × ((out : Result Done PeerFault) → Then (TakeReturned new r.returned) (λ taken. Settles taken.1 r.answer_id forwards taken.0) out → OnReturn old r out)
+    × ((out : Result Done PeerFault) → Then (ReceivesReturned new r.returned) (λ taken. Settles taken.1 r.answer_id forwards taken.0) out → OnReturn old r out)
 Begins old r (Err (halts.Fault fault)) new = OnReturn old r (Err fault)
 Begins old r (Err halts.OutOfMemory) new = Unit {0}
 
@@ -36,7 +36,7 @@ abbrev pub bears : ℕ → Bool → Returned → Return
 bears id release_param_caps returned = record { answer_id = id; release_param_caps = release_param_caps; returned = returned }
 
 -- so whatever the Return of this question bears
-abbrev pub BeginsReturn : State → ℕ → Bool → Result Rest Halt → State → Type 0
+abbrev pub BeginsReturn : State → ℕ → Bool → Result Remaining Halt → State → Type 0
 BeginsReturn old id release_param_caps result new = (returned : Returned) → Begins old (bears id release_param_caps returned) result new
 
 -- This holds within an event, with a call in hand or with none.

@@ -10,8 +10,8 @@ ghost use Rattle.cp_vat.specs.Doing.{CallsOn};
 use crate::refusals::{check_answer, check_resolve, check_value};
 use cp_refs::{Cap, Origin, Outcome, PromiseId};
 use cp_vat_machine::{Effect, VatFault};
-use cp_vat_rules::come_to::come_to;
 use cp_vat_rules::give::give;
+use cp_vat_rules::resolve::resolve_cap;
 use cp_vat_rules::settle::settle;
 use cp_vat_state::Core;
 
@@ -41,7 +41,7 @@ pub(crate) fn resolve(
     ensures { CallsOn (λ s. DoResolve s promise value) (λ _. values.Nothing) core.old result effects.old.items effects.new.items core.new }
 {
     check_resolve(core, promise, &value)?;
-    let last = come_to(core.alloc, core.values.values(), &value)?;
+    let last = resolve_cap(core.alloc, core.values.values(), &value)?;
     if is_promise(&last, promise) {
         return Err(VatFault::PromiseCycle);
     }

@@ -8,7 +8,7 @@ ghost use Rattle.cp_vat.specs.Judging.{judged};
 use cp_rpc::{Call, Target};
 use cp_tables::LIMIT;
 use cp_vat_machine::PeerFault;
-use cp_vat_rules::take::answer_of;
+use cp_vat_rules::receive::answer_of;
 use cp_vat_state::Core;
 
 /// The first fault of a Call: its number, its target, whether the answers and the tickets are full.

@@ -4,7 +4,7 @@ ghost use Rattle.std.specs.Prelude.{◌≡◌, ◌<◌, ◌^◌, ◌-◌, ◌≢
 ghost use Rattle.std.specs.FinMap as map;
 ghost use Rattle.cp_vat_machine.specs.Answering.{GoToAnswer, GoToExport, OnCall, entered, target_faults};
 ghost use Rattle.cp_vat_machine.specs.Local.{Local};
-ghost use Rattle.cp_vat_machine.specs.Take.{answer_of};
+ghost use Rattle.cp_vat_machine.specs.Receiving.{answer_of};
 ghost use Rattle.cp_vat_machine.specs.Supported.{is_supported, is_supported_target};
 ghost use Rattle.cp_rpc.specs.Viewed.{viewed_call};
 ghost use Rattle.cp_rpc.specs.declared.message.Message.TheVariants as messages;
@@ -22,7 +22,7 @@ use cp_tree::Whole;
 use cp_vat_machine::Effect;
 use cp_vat_rules::go::{Underway, go};
 use cp_vat_rules::promised::path_of;
-use cp_vat_rules::take::{answer_of, take_all};
+use cp_vat_rules::receive::{answer_of, receive_caps};
 use cp_vat_state::{Core, Halt};
 use std::alloc::{AllocError, Global};
 
@@ -42,7 +42,7 @@ pub(crate) fn on_call<C: Content>(
     if let Err(fault) = check_call(core, &call) {
         return Err(Halt::Fault(fault));
     }
-    let caps = take_all(core, call.params.cap_table.descriptors())?;
+    let caps = receive_caps(core, call.params.cap_table.descriptors())?;
     let ticket = enter(core, call.question_id)?;
     let route = route_to(core, &call.target)?;
     let content = content_for(core.alloc, &route, content)?;

@@ -6,7 +6,7 @@ ghost use Rattle.cp_refs.specs.Route.{HasRoute};
 ghost use Rattle.cp_vat_machine.specs.Answering.{target_faults};
 ghost use Rattle.cp_vat_machine.specs.Local.{Local};
 ghost use Rattle.cp_vat_machine.specs.Resolving.{Echoes, EchoesAnswer, EchoesExport, EchoesTarget, OnDisembargo, ended_by};
-ghost use Rattle.cp_vat_machine.specs.Take.{answer_of};
+ghost use Rattle.cp_vat_machine.specs.Receiving.{answer_of};
 ghost use Rattle.cp_vat_machine.specs.Supported.{is_supported_context, is_supported_target};
 ghost use Rattle.cp_vat_state.specs.Halts.{Acts, Quiet};
 ghost use Rattle.cp_vat_state.specs.StateOf.{state_of};
@@ -15,9 +15,9 @@ use crate::checks::check_target;
 use cp_refs::{Cap, Path};
 use cp_rpc::{Context, Disembargo, Message, Target};
 use cp_vat_machine::{Effect, PeerFault};
-use cp_vat_rules::come_to::come_to;
 use cp_vat_rules::promised::path_of;
-use cp_vat_rules::take::answer_of;
+use cp_vat_rules::receive::answer_of;
+use cp_vat_rules::resolve::resolve_cap;
 use cp_vat_state::{Core, Gift, Halt};
 
 /// A senderLoopback is echoed, and a receiverLoopback ends its embargo, whatever its target.
@@ -114,7 +114,7 @@ fn echo(core: &Core, number: u32, cap: &Cap, effects: &mut Vec<Effect>) -> Resul
     requires { HasRoute core.now.values cap.now }
     ensures { Acts (Echoes (state_of core.now) number cap.now) result effects.old.items effects.new.items (state_of core.now) }
 {
-    match come_to(core.alloc, core.values.values(), cap)? {
+    match resolve_cap(core.alloc, core.values.values(), cap)? {
         Cap::Import(id) => {
             effects.push(Effect::Send(Message::Disembargo(Disembargo {
                 context: Context::ReceiverLoopback(number),

@@ -9,7 +9,7 @@ use cp_rpc::{Finish, Release};
 use cp_tables::Stage;
 use cp_vat_machine::PeerFault;
 use cp_vat_rules::entry::remove_answer;
-use cp_vat_rules::lower::lower;
+use cp_vat_rules::exports::release_exports;
 use cp_vat_state::{Core, Halt};
 
 /// A Finish of an answer that was given takes it out, and lowers the exports that its results named if
@@ -27,7 +27,7 @@ pub(crate) fn on_finish(core: &mut Core, finish: Finish) -> Result<(), Halt>
         }
         Stage::Returned => {
             if finish.release_result_caps
-                && let Err(fault) = lower(&mut core.exports, answer.kept.mentions.ids())
+                && let Err(fault) = release_exports(&mut core.exports, answer.kept.mentions.ids())
             {
                 return Err(Halt::Fault(fault));
             }

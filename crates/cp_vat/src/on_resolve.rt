@@ -12,7 +12,7 @@ use cp_reading::View;
 use cp_refs::Cap;
 use cp_rpc::{Descriptor, DescriptorView, Message, Release, Resolution, ResolutionView, Resolve};
 use cp_vat_machine::{Effect, ImportKind, PeerFault};
-use cp_vat_rules::take::take;
+use cp_vat_rules::receive::receive_cap;
 use cp_vat_state::{Core, Halt};
 
 /// A Resolve says what an import came to. What that of an import names which isn't held any more is
@@ -87,7 +87,7 @@ fn take_resolution(core: &mut Core, resolution: Resolution) -> Result<Cap, Halt>
     ensures { Leaves (TakeResolution (state_of core.old) resolution) result (state_of core.new) }
 {
     match resolution {
-        Resolution::Cap(descriptor) => take(core, &descriptor),
+        Resolution::Cap(descriptor) => receive_cap(core, &descriptor),
         Resolution::Exception(exception) => Ok(Cap::Broken(exception)),
         Resolution::Unknown(_) => unreachable!(),
     }

@@ -4,9 +4,9 @@ ghost use Rattle.std.specs.Prelude.{◌≡◌, Ok, true, if◌then◌else◌};
 ghost use Rattle.cp_rpc.specs.Viewed.{viewed_returned};
 ghost use Rattle.cp_rpc.specs.declared.returned.Returned.{Returned};
 ghost use Rattle.cp_vat_machine.specs.Local.{Local};
-ghost use Rattle.cp_vat_machine.specs.Asking.{OnReturn, Settles, TakeReturned, is_asked};
+ghost use Rattle.cp_vat_machine.specs.Asking.{OnReturn, Settles, ReceivesReturned, is_asked};
 ghost use Rattle.cp_vat_machine.specs.Supported.{is_supported_returned};
-ghost use Rattle.cp_vat_machine.specs.Take.{lower};
+ghost use Rattle.cp_vat_machine.specs.Receiving.{release_exports};
 ghost use Rattle.cp_vat_state.specs.Halts.{Acts, Leaves, leaving};
 ghost use Rattle.cp_vat_state.specs.StateOf.{state_of};
 ghost use Rattle.cp_vat.specs.Receiving.{BeginsReturn, bears};
@@ -18,15 +18,15 @@ use cp_rpc::{Returned, ReturnedView};
 use cp_tables::Stage;
 use cp_vat_machine::{Effect, PeerFault};
 use cp_vat_rules::entry::remove_question;
+use cp_vat_rules::exports::release_exports;
 use cp_vat_rules::give::give_answer;
 use cp_vat_rules::give_own::give_own;
 use cp_vat_rules::go::finish_effect;
-use cp_vat_rules::lower::lower;
-use cp_vat_rules::take::take_all;
+use cp_vat_rules::receive::receive_caps;
 use cp_vat_state::{Core, Exported, Halt};
 
 /// What is left to do of a Return.
-enum Rest {
+enum Remaining {
     /// The application finished the question, so what the Return names isn't looked at.
     Nothing,
     /// What was returned settles the question, and answers the call of the peer's that it forwards.
@@ -41,7 +41,7 @@ pub(crate) trait Bearing: Drop {
     /// nothing is at fault.
     fn take_in(self, core: &mut Core) -> Result<Outcome, Halt>
         requires { is_supported_returned (borne self) ≡ true }
-        ensures { Leaves (TakeReturned (state_of core.old) (borne self)) result (state_of core.new) };
+        ensures { Leaves (ReceivesReturned (state_of core.old) (borne self)) result (state_of core.new) };
 }
 
 /// What a Return bears is taken in, unless the application finished the question.
@@ -57,8 +57,8 @@ pub(crate) fn on_return<B: Bearing>(
     ensures { Acts (OnReturn (state_of core.old) (bears id release_param_caps (B.borne bearing))) result effects.old.items effects.new.items (state_of core.new) }
 {
     match begin(core, id, release_param_caps)? {
-        Rest::Nothing => Ok(()),
-        Rest::Settle { forwards } => {
+        Remaining::Nothing => Ok(()),
+        Remaining::Settle { forwards } => {
             let outcome = bearing.take_in(core)?;
             settle(core, id, forwards, outcome, effects)
         }
@@ -71,7 +71,7 @@ impl Bearing for Returned {
     fn take_in(self, core: &mut Core) -> Result<Outcome, Halt> {
         match self {
             Returned::Results(payload) => {
-                let caps = take_all(core, payload.cap_table.descriptors())?;
+                let caps = receive_caps(core, payload.cap_table.descriptors())?;
                 Ok(Outcome::Results {
                     content: payload.content,
                     caps,
@@ -91,7 +91,7 @@ impl<'a> Bearing for &'a ReturnedView<View<'a>> {
         match self {
             ReturnedView::Results(payload) => {
                 let table = payload.cap_table.cap_table(core.alloc)?;
-                let caps = take_all(core, table.descriptors())?;
+                let caps = receive_caps(core, table.descriptors())?;
                 Ok(Outcome::Results {
                     content: payload.content.tree(core.alloc)?,
                     caps,
@@ -108,7 +108,7 @@ impl<'a> Bearing for &'a ReturnedView<View<'a>> {
 
 /// Lowers the exports that the params named, if the peer asks for it, and takes a question out that the
 /// application finished.
-fn begin(core: &mut Core, id: u32, release_param_caps: bool) -> Result<Rest, Halt>
+fn begin(core: &mut Core, id: u32, release_param_caps: bool) -> Result<Remaining, Halt>
     requires { Local (state_of core.old) }
     ensures { BeginsReturn (state_of core.old) id release_param_caps result (state_of core.new) }
 {
@@ -125,10 +125,10 @@ fn begin(core: &mut Core, id: u32, release_param_caps: bool) -> Result<Rest, Hal
         return Err(Halt::Fault(fault));
     }
     match stage {
-        Stage::Open => Ok(Rest::Settle { forwards }),
+        Stage::Open => Ok(Remaining::Settle { forwards }),
         Stage::Finished => {
             remove_question(core, id);
-            Ok(Rest::Nothing)
+            Ok(Remaining::Nothing)
         }
         Stage::Returned => unreachable!(),
     }
@@ -146,10 +146,10 @@ fn is_asked(is_sent: bool, stage: Stage) -> bool
 
 /// Lowers the exports that a message named, if the peer asks for it.
 fn lower_if(is_asked_for: bool, exports: &mut Exported, ids: &[u32]) -> Result<(), PeerFault>
-    ensures { leaving result exports.new ≡ (if is_asked_for then lower exports.old ids.now else Ok exports.old) }
+    ensures { leaving result exports.new ≡ (if is_asked_for then release_exports exports.old ids.now else Ok exports.old) }
 {
     if is_asked_for {
-        return lower(exports, ids);
+        return release_exports(exports, ids);
     }
     Ok(())
 }

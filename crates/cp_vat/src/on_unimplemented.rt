@@ -12,7 +12,7 @@ use cp_reading::View;
 use cp_rpc::{Message, MessageIn, MessageView, SchemaFault, message_of, message_view, tree_of};
 use cp_tree::{Shape, Whole, WriteFault, fits};
 use cp_vat_machine::{Effect, PeerFault};
-use cp_vat_rules::lower::lower;
+use cp_vat_rules::exports::release_exports;
 use cp_vat_state::{Core, Halt};
 
 /// A Resolve that the peer doesn't know gives back what it named. Any other message is one that this
@@ -82,7 +82,7 @@ fn unknown_to_peer(core: &mut Core, message: &Message) -> Result<(), Halt>
     let Some(id) = given_back(&resolve.resolution) else {
         return Ok(());
     };
-    if let Err(fault) = lower(&mut core.exports, &[id]) {
+    if let Err(fault) = release_exports(&mut core.exports, &[id]) {
         return Err(Halt::Fault(fault));
     }
     Ok(())
@@ -98,7 +98,7 @@ fn unknown_view_to_peer(core: &mut Core, message: &MessageView) -> Result<(), Ha
     let Some(id) = given_back_view(&resolve.resolution) else {
         return Ok(());
     };
-    if let Err(fault) = lower(&mut core.exports, &[id]) {
+    if let Err(fault) = release_exports(&mut core.exports, &[id]) {
         return Err(Halt::Fault(fault));
     }
     Ok(())

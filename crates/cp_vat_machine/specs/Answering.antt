@@ -22,7 +22,7 @@ use Rattle.cp_refs.specs.declared.route.Route.TheVariants as routes
 use Rattle.cp_vat_machine.specs.State.{State, with_exports, with_answers}
 use Rattle.cp_vat_machine.specs.Then.{Done, Then, fault_if, Unless}
 use Rattle.cp_vat_machine.specs.Capacity.{has_capacity, has_ticket}
-use Rattle.cp_vat_machine.specs.Take.{answer_of, path_of, TakeAll, lower}
+use Rattle.cp_vat_machine.specs.Receiving.{answer_of, path_of, ReceivesCaps, release_exports}
 use Rattle.cp_vat_machine.specs.Give.{GiveAnswer}
 use Rattle.cp_vat_machine.specs.Go.{Underway, Go, GoTo}
 use Rattle.cp_vat_machine.specs.Texts.{no_bootstrap}
@@ -105,7 +105,7 @@ abbrev pub OnCall : State → Call → Result Done PeerFault → Type 0
 OnCall old c out =
     Unless
     (call_faults old c)
-    (Then (TakeAll old c.params.cap_table) (λ taken. GoToTarget (entered taken.1 c.question_id) (peer_call taken.1 c taken.0) c.target))
+    (Then (ReceivesCaps old c.params.cap_table) (λ taken. GoToTarget (entered taken.1 c.question_id) (peer_call taken.1 c taken.0) c.target))
     out
 
 -- A Finish of an answer: one that was given is gone, and the exports that its results named are lowered if the peer asks for it. One that
@@ -121,7 +121,7 @@ abbrev pub AtStage : State → Finish → AnswerEntry → Stage → Result Done 
 AtStage old f kept stages.Open out = out ≡ Ok ([], with_answers old (with_stage old.entries.answers f.question_id stages.Finished))
 AtStage old f kept stages.Returned out =
     Then
-    (λ exports. exports ≡ (if f.release_result_caps then lower old.counts.exports kept.mentions else Ok old.counts.exports))
+    (λ exports. exports ≡ (if f.release_result_caps then release_exports old.counts.exports kept.mentions else Ok old.counts.exports))
     (λ exports out. out ≡ Ok ([], without_answer (with_exports old exports) f.question_id))
     out
 AtStage old f kept stages.Finished out = out ≡ Err faults.UnknownAnswer

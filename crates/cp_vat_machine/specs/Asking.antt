@@ -11,7 +11,7 @@ use Rattle.cp_refs.specs.declared.outcome.Outcome.{Outcome}
 use Rattle.cp_refs.specs.declared.outcome.Outcome.TheVariants as outcomes
 use Rattle.cp_vat_machine.specs.State.{State, with_exports}
 use Rattle.cp_vat_machine.specs.Then.{Done, Then, fault_if, Unless, after}
-use Rattle.cp_vat_machine.specs.Take.{TakeAll, lower}
+use Rattle.cp_vat_machine.specs.Receiving.{ReceivesCaps, release_exports}
 use Rattle.cp_vat_machine.specs.Give.{GiveAnswer, GiveOwn, without_question}
 use Rattle.cp_vat_machine.specs.Go.{finish_of}
 use Rattle.cp_vat_machine.specs.declared.entry.QuestionEntry.{QuestionEntry}
@@ -19,11 +19,11 @@ use Rattle.cp_vat_machine.specs.declared.fault.PeerFault.{PeerFault}
 use Rattle.cp_vat_machine.specs.declared.fault.PeerFault.TheVariants as faults
 
 -- what was returned is taken in as an outcome
-abbrev pub TakeReturned : State → Returned → Result (Outcome × State) PeerFault → Type 0
-TakeReturned old (returns.Results p) out = Then (TakeAll old p.cap_table) (λ taken out. out ≡ Ok (outcomes.Results p.content taken.0, taken.1)) out
-TakeReturned old (returns.Exception x) out = out ≡ Ok (outcomes.Failed x, old)
-TakeReturned old returns.Canceled out = out ≡ Ok (outcomes.Canceled, old)
-TakeReturned old other out = ⊥
+abbrev pub ReceivesReturned : State → Returned → Result (Outcome × State) PeerFault → Type 0
+ReceivesReturned old (returns.Results p) out = Then (ReceivesCaps old p.cap_table) (λ taken out. out ≡ Ok (outcomes.Results p.content taken.0, taken.1)) out
+ReceivesReturned old (returns.Exception x) out = out ≡ Ok (outcomes.Failed x, old)
+ReceivesReturned old returns.Canceled out = out ≡ Ok (outcomes.Canceled, old)
+ReceivesReturned old other out = ⊥
 
 -- The Return of an own question settles it. That of a question which forwards a call of the peer's finishes it, and answers that call.
 abbrev pub Settles : State → ℕ → Option ℕ → Outcome → Result Done PeerFault → Type 0
@@ -33,7 +33,7 @@ Settles old q (Some a) outcome out =
 
 -- A Return is taken in, unless the application finished the question: then it only ends, and what the Return names isn't looked at.
 abbrev pub ReturnBy : State → Return → QuestionEntry → Stage → Result Done PeerFault → Type 0
-ReturnBy old r kept stages.Open out = Then (TakeReturned old r.returned) (λ taken. Settles taken.1 r.answer_id kept.forwards taken.0) out
+ReturnBy old r kept stages.Open out = Then (ReceivesReturned old r.returned) (λ taken. Settles taken.1 r.answer_id kept.forwards taken.0) out
 ReturnBy old r kept stages.Finished out = out ≡ Ok ([], without_question old r.answer_id)
 ReturnBy old r kept stages.Returned out = ⊥
 
@@ -49,7 +49,7 @@ ReturnOf old r (Some entry) out =
     Unless
     (fault_if (not (is_asked entry.kept.is_sent entry.stage)) faults.UnknownQuestion)
     (Then
-    (λ exports. exports ≡ (if r.release_param_caps then lower old.counts.exports entry.kept.mentions else Ok old.counts.exports))
+    (λ exports. exports ≡ (if r.release_param_caps then release_exports old.counts.exports entry.kept.mentions else Ok old.counts.exports))
     (λ exports. ReturnBy (with_exports old exports) r entry.kept entry.stage))
     out
 

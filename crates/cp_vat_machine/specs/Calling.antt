@@ -22,7 +22,7 @@ use Rattle.cp_refs.specs.declared.values.QuestionKind.TheVariants as kinds
 use Rattle.cp_vat_machine.specs.State.{State}
 use Rattle.cp_vat_machine.specs.Then.{Done, Then, fault_if, Unless, OrFull}
 use Rattle.cp_vat_machine.specs.Capacity.{has_capacity, has_ticket, Fresh, cap_fits, request_fits}
-use Rattle.cp_vat_machine.specs.Say.{promised}
+use Rattle.cp_vat_machine.specs.Writing.{promised}
 use Rattle.cp_vat_machine.specs.Go.{Underway, held_at, Go, GoTo}
 use Rattle.cp_vat_machine.specs.InUse.{has_question, has_promise, has_import, is_local_path}
 use Rattle.cp_vat_machine.specs.declared.effect.Effect.{Effect}

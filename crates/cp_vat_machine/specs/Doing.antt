@@ -18,7 +18,7 @@ use Rattle.cp_refs.specs.declared.values.QuestionKind.TheVariants as kinds
 use Rattle.cp_vat_machine.specs.State.{State, with_questions}
 use Rattle.cp_vat_machine.specs.Then.{Done, Then, fault_if, Unless, OrFull}
 use Rattle.cp_vat_machine.specs.Capacity.{Fresh, cap_fits, outcome_fits}
-use Rattle.cp_vat_machine.specs.Say.{ComesTo}
+use Rattle.cp_vat_machine.specs.Writing.{ResolvesTo}
 use Rattle.cp_vat_machine.specs.Give.{Give, Settle, without_question}
 use Rattle.cp_vat_machine.specs.Go.{finish_of}
 use Rattle.cp_vat_machine.specs.Resolving.{release_of}
@@ -118,8 +118,8 @@ value_refusals s cap =
 -- A value must not lead back to its own promise. The cycle is looked for after the other tests of the promise and before those of the value.
 abbrev pub Resolves : State → ℕ → Cap → Result OwnDone VatFault → Type 0
 Resolves old p cap out =
-    (ComesTo old.values cap (caps.Promise p) × (out ≡ Err refusals.PromiseCycle))
-    ⊎ ((ComesTo old.values cap (caps.Promise p) → ⊥) × Unless (value_refusals old cap) (OrFull (Quietly (Settle old p cap))) out)
+    (ResolvesTo old.values cap (caps.Promise p) × (out ≡ Err refusals.PromiseCycle))
+    ⊎ ((ResolvesTo old.values cap (caps.Promise p) → ⊥) × Unless (value_refusals old cap) (OrFull (Quietly (Settle old p cap))) out)
 
 abbrev pub DoResolve : State → ℕ → Cap → Result OwnDone VatFault → Type 0
 DoResolve old p cap out = Unless (resolve_refusals old p cap) (Resolves old p cap) out

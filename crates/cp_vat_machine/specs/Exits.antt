@@ -12,7 +12,7 @@ use Rattle.cp_refs.specs.declared.outcome.Outcome.TheVariants as outcomes
 use Rattle.cp_refs.specs.declared.route.Route.{Route}
 use Rattle.cp_refs.specs.declared.route.Route.TheVariants as routes
 use Rattle.cp_vat_machine.specs.State.{State, Over}
-use Rattle.cp_vat_machine.specs.Take.{path_of}
+use Rattle.cp_vat_machine.specs.Receiving.{path_of}
 use Rattle.cp_vat_machine.specs.Trace.{Cause, goes, Turn}
 use Rattle.cp_vat_machine.specs.Ports.{Entry, entry_of}
 use Rattle.cp_vat_machine.specs.declared.effect.Effect.{Effect}

@@ -20,7 +20,7 @@ use Rattle.cp_refs.specs.declared.outcome.Outcome.{Outcome}
 use Rattle.cp_refs.specs.declared.outcome.Outcome.TheVariants as outcomes
 use Rattle.cp_vat_machine.specs.State.{State, with_over}
 use Rattle.cp_vat_machine.specs.Then.{Done, Then, after}
-use Rattle.cp_vat_machine.specs.Say.{ComesTo, IsExport, HasNoExport, SayEnd, SayAll, mentions_of}
+use Rattle.cp_vat_machine.specs.Writing.{ResolvesTo, IsExport, HasNoExport, WritesEnd, WritesDescriptors, mentions_of}
 use Rattle.cp_vat_machine.specs.Texts.{promise_loop}
 use Rattle.cp_vat_machine.specs.declared.effect.Effect.{Effect}
 use Rattle.cp_vat_machine.specs.declared.effect.Effect.TheVariants as effects
@@ -39,7 +39,7 @@ resolve_of e resolution = effects.Send (messages.Resolve (record { promise_id = 
 -- Resolving by what a value comes to: by its exception if it fails, else by its descriptor.
 abbrev pub ResolvesEnd : State → Cap → Result (Resolution × State) PeerFault → Type 0
 ResolvesEnd old (caps.Broken x) out = out ≡ Ok (resolutions.Exception x, old)
-ResolvesEnd old other out = Then (SayEnd old other) (λ said out. out ≡ Ok (resolutions.Cap said.0, said.1)) out
+ResolvesEnd old other out = Then (WritesEnd old other) (λ said out. out ≡ Ok (resolutions.Cap said.0, said.1)) out
 
 -- A promise that is settled is reported to the peer once, if it is exported.
 abbrev pub Tells : State → ℕ → Cap → Result Done PeerFault → Type 0
@@ -66,7 +66,7 @@ last_for p last = value_for p last last
 
 -- a promise is settled
 abbrev pub Settle : State → ℕ → Cap → Result Done PeerFault → Type 0
-Settle old p value out = (last : Cap) × ComesTo old.values value last × Tells (settled old p (value_for p last value)) p (last_for p last) out
+Settle old p value out = (last : Cap) × ResolvesTo old.values value last × Tells (settled old p (value_for p last value)) p (last_for p last) out
 
 -- the promises tied to an answer are settled to what it gave at their paths, in the order in which they were opened
 abbrev pub SettleTied : State → Outcome → List Tied → Result Done PeerFault → Type 0
@@ -77,7 +77,7 @@ SettleTied old outcome (tied ∷ more) out =
 -- how an outcome is returned
 abbrev pub Returns : State → Outcome → Result (Returned × State) PeerFault → Type 0
 Returns old (outcomes.Results content table) out =
-    Then (SayAll old table) (λ said out. out ≡ Ok (returns.Results (record { content = content; cap_table = said.0 }), said.1)) out
+    Then (WritesDescriptors old table) (λ said out. out ≡ Ok (returns.Results (record { content = content; cap_table = said.0 }), said.1)) out
 Returns old (outcomes.Failed x) out = out ≡ Ok (returns.Exception x, old)
 Returns old outcomes.Canceled out = out ≡ Ok (returns.Canceled, old)
 

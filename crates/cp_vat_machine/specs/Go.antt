@@ -24,7 +24,7 @@ use Rattle.cp_refs.specs.declared.route.Route.TheVariants as routes
 use Rattle.cp_vat_machine.specs.State.{State, gave, none_over, with_over, with_questions, with_answers}
 use Rattle.cp_vat_machine.specs.Then.{Done, Then}
 use Rattle.cp_vat_machine.specs.Capacity.{Fresh}
-use Rattle.cp_vat_machine.specs.Say.{SayAll, promised, mentions_of}
+use Rattle.cp_vat_machine.specs.Writing.{WritesDescriptors, promised, mentions_of}
 use Rattle.cp_vat_machine.specs.Give.{Give}
 use Rattle.cp_vat_machine.specs.declared.effect.Effect.{Effect}
 use Rattle.cp_vat_machine.specs.declared.effect.Effect.TheVariants as effects
@@ -93,7 +93,7 @@ GoOut old call target (origins.Answer a) out =
     (Fresh old.entries.questions)
     (λ q.
     Then
-    (SayAll old call.request.caps)
+    (WritesDescriptors old call.request.caps)
     (λ said out.
     out
     ≡ Ok (
@@ -104,7 +104,7 @@ GoOut old call target (origins.Answer a) out =
 GoOut old call target (origins.Own q) out =
     (entry : Exchange QuestionEntry) × (get old.entries.questions q ≡ Some entry)
     × Then
-    (SayAll old call.request.caps)
+    (WritesDescriptors old call.request.caps)
     (λ said out. out ≡ Ok (call_of q target call.request said.0 ∷ finish_after q entry.stage, sent said.1 q said.0))
     out
 

@@ -2,8 +2,8 @@ pub mod Texts
 pub mod State
 pub mod Then
 pub mod Capacity
-pub mod Say
-pub mod Take
+pub mod Writing
+pub mod Receiving
 pub mod Give
 pub mod Go
 pub mod Supported

@@ -19,7 +19,7 @@ use Rattle.cp_refs.specs.declared.route.Gate.TheVariants as gates
 use Rattle.cp_refs.specs.declared.route.Route.{Route}
 use Rattle.cp_refs.specs.declared.route.Route.TheVariants as routes
 use Rattle.cp_vat_machine.specs.State.{State, gave}
-use Rattle.cp_vat_machine.specs.Take.{path_of}
+use Rattle.cp_vat_machine.specs.Receiving.{path_of}
 use Rattle.cp_vat_machine.specs.Supported.{is_supported}
 use Rattle.cp_vat_machine.specs.Calling.{Standing, plain, on_wire, came_to, reference_of}
 use Rattle.cp_vat_machine.specs.Trace.{Cause, own_part, Turn}

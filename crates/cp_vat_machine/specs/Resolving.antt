@@ -24,8 +24,8 @@ use Rattle.cp_refs.specs.declared.cap.Cap.TheVariants as caps
 use Rattle.cp_refs.specs.declared.outcome.Outcome.{Outcome}
 use Rattle.cp_vat_machine.specs.State.{State, with_exports}
 use Rattle.cp_vat_machine.specs.Then.{Done, Then, fault_if, Unless}
-use Rattle.cp_vat_machine.specs.Say.{ComesTo, mentioned_by}
-use Rattle.cp_vat_machine.specs.Take.{answer_of, path_of, Take, lower, released}
+use Rattle.cp_vat_machine.specs.Writing.{ResolvesTo, mentioned_by}
+use Rattle.cp_vat_machine.specs.Receiving.{answer_of, path_of, ReceivesCap, release_exports, released}
 use Rattle.cp_vat_machine.specs.Answering.{target_faults}
 use Rattle.cp_vat_machine.specs.declared.effect.Effect.{Effect}
 use Rattle.cp_vat_machine.specs.declared.effect.Effect.TheVariants as effects
@@ -57,7 +57,7 @@ is_open_promise kinds.Promise (Some None) = true
 is_open_promise kind value = false
 
 abbrev pub TakeResolution : State → Resolution → Result (Cap × State) PeerFault → Type 0
-TakeResolution old (resolutions.Cap d) out = Take old d out
+TakeResolution old (resolutions.Cap d) out = ReceivesCap old d out
 TakeResolution old (resolutions.Exception x) out = out ≡ Ok (caps.Broken x, old)
 TakeResolution old (resolutions.Unknown n) out = ⊥
 
@@ -84,7 +84,7 @@ echo_to s n (caps.Import i) =
 echo_to s n other = Err faults.DisembargoTarget
 
 abbrev pub Echoes : State → ℕ → Cap → Result Done PeerFault → Type 0
-Echoes old n cap out = (last : Cap) × ComesTo old.values cap last × (out ≡ echo_to old n last)
+Echoes old n cap out = (last : Cap) × ResolvesTo old.values cap last × (out ≡ echo_to old n last)
 
 abbrev pub EchoesExport : State → ℕ → Option (Counted Cap) → Result Done PeerFault → Type 0
 EchoesExport old n None out = ⊥
@@ -140,7 +140,7 @@ told t = told_by (message_faults t) (message_denoted t)
 -- A Resolve that the peer doesn't know gives back what it named. Any other message is one that this end needs.
 abbrev pub UnknownToPeer : State → Option Message → Result Done PeerFault → Type 0
 UnknownToPeer old (Some (messages.Resolve r)) out =
-    Then (λ exports. exports ≡ lower old.counts.exports (given_back r.resolution)) (λ exports out. out ≡ Ok ([], with_exports old exports)) out
+    Then (λ exports. exports ≡ release_exports old.counts.exports (given_back r.resolution)) (λ exports out. out ≡ Ok ([], with_exports old exports)) out
 UnknownToPeer old other out = out ≡ Err faults.PeerLacksLevelOne
 
 abbrev pub OnUnimplemented : State → Node → Result Done PeerFault → Type 0

@@ -24,8 +24,8 @@ use Rattle.cp_refs.specs.declared.outcome.Outcome.{Outcome}
 use Rattle.cp_refs.specs.declared.outcome.Outcome.TheVariants as outcomes
 use Rattle.cp_refs.specs.declared.route.Route.{Route}
 use Rattle.cp_refs.specs.declared.route.Route.TheVariants as routes
-use Rattle.cp_vat_machine.specs.Say.{IsExport, promised}
-use Rattle.cp_vat_machine.specs.Take.{path_of, answer_of}
+use Rattle.cp_vat_machine.specs.Writing.{IsExport, promised}
+use Rattle.cp_vat_machine.specs.Receiving.{path_of, answer_of}
 use Rattle.cp_vat_machine.specs.Give.{return_of}
 use Rattle.cp_vat_machine.specs.Supported.{is_supported}
 use Rattle.cp_vat_machine.specs.Answering.{bootstrap_outcome}

@@ -13,10 +13,10 @@ use Rattle.cp_refs.specs.Values.{ValueMaps}
 use Rattle.cp_refs.specs.declared.cap.Cap.{Cap}
 use Rattle.cp_refs.specs.declared.cap.Cap.TheVariants as caps
 use Rattle.cp_vat_machine.specs.State.{Over}
-use Rattle.cp_vat_machine.specs.Say.{end_by, end_within, ComesTo, mentioned_by, mentions_of}
-use Rattle.cp_vat_machine.specs.Take.{lowered_by}
+use Rattle.cp_vat_machine.specs.Writing.{end_by, end_within, ResolvesTo, mentioned_by, mentions_of}
+use Rattle.cp_vat_machine.specs.Receiving.{lowered_by}
 use Rattle.cp_vat_rules.specs.Settling.{lowered_back, over_settled, raised_by, reopened}
-use Rattle.cp_vat_rules.specs.declared.settle.Settled.{Settled}
+use Rattle.cp_vat_rules.specs.declared.settle.SettledPromise.{SettledPromise}
 use Rattle.cp_vat_rules.proofs.Giving.{insert_twice}
 
 abbrev Exports : Type 0
@@ -46,7 +46,7 @@ said_back start now next done more d so_far one is =
     ∙ ap (λ t. lowered_back t (mentions_of done)) one ∙ so_far
 
 -- the promise that was settled last is opened again first
-pub reopened_more : (promises : Table (Option Cap)) (xs : List Settled) (y : Settled) → reopened promises (xs ++ y ∷ []) ≡ reopened (with_change promises y.promise (λ _. None)) xs
+pub reopened_more : (promises : Table (Option Cap)) (xs : List SettledPromise) (y : SettledPromise) → reopened promises (xs ++ y ∷ []) ≡ reopened (with_change promises y.promise (λ _. None)) xs
 reopened_more promises [] y = refl
 reopened_more promises (x ∷ xs) y = ap (λ t. with_change t x.promise (λ _. None)) (reopened_more promises xs y)
 
@@ -57,16 +57,16 @@ reopened_one promises p value was =
     ∙ insert_twice promises p (Some value) None
     ∙ insert-same promises p None was
 
-pub raised_more : (xs : List Settled) (y : Settled) → raised_by (xs ++ y ∷ []) ≡ raised_by xs ++ option_to_list y.raised
+pub raised_more : (xs : List SettledPromise) (y : SettledPromise) → raised_by (xs ++ y ∷ []) ≡ raised_by xs ++ option_to_list y.raised
 raised_more [] y = append-nil (option_to_list y.raised)
 raised_more (x ∷ xs) y = ap (λ l. option_to_list x.raised ++ l) (raised_more xs y) ∙ sym (append_assoc (option_to_list x.raised) (raised_by xs) (option_to_list y.raised))
 
-pub over_more : (over : Over) (xs ys : List Settled) → over_settled over (xs ++ ys) ≡ over_settled (over_settled over xs) ys
+pub over_more : (over : Over) (xs ys : List SettledPromise) → over_settled over (xs ++ ys) ≡ over_settled (over_settled over xs) ys
 over_more over [] ys = refl
 over_more over (x ∷ xs) ys = over_more (record over { promises = insert over.promises x.promise x.value }) xs ys
 
 -- one more is taken back, the last of these
-module _ (xs : List Settled) (i : ℕ) (one : Settled) (some : 0 < i) (most : i ≤ length xs) (is : one ≡ get_or xs (i - 1) one) where
+module _ (xs : List SettledPromise) (i : ℕ) (one : SettledPromise) (some : 0 < i) (most : i ≤ length xs) (is : one ≡ get_or xs (i - 1) one) where
   last_is : take i xs ≡ take (i - 1) xs ++ one ∷ []
   last_is =
       let less : i - 1 + 1 ≡ i = omega (arith, some) in
@@ -87,7 +87,7 @@ module _ (xs : List Settled) (i : ℕ) (one : Settled) (some : 0 < i) (most : i 
       ∙ sym (ap (λ t. lowered_back t (raised_by (take (i - 1) xs))) changed)
 
 -- one more promise was settled: with it all are open again as at the start, and what they raised is taken back
-pub settled_reopens : (start now next : ValueMaps) (done more : List Settled) (one : Settled) (p : ℕ) → now ≡ record start { promises = now.promises } → reopened now.promises done ≡ start.promises → get now.promises p ≡ Some None → one.promise ≡ p
+pub settled_reopens : (start now next : ValueMaps) (done more : List SettledPromise) (one : SettledPromise) (p : ℕ) → now ≡ record start { promises = now.promises } → reopened now.promises done ≡ start.promises → get now.promises p ≡ Some None → one.promise ≡ p
     → next ≡ record now { promises = insert now.promises p (Some one.value) } → more ≡ done ++ one ∷ [] → (next ≡ record start { promises = next.promises }) × (reopened next.promises more ≡ start.promises)
 settled_reopens start now next done more one p from so_far was named put is =
     let with_one : ValueMaps → ValueMaps = λ v. record v { promises = insert now.promises p (Some one.value) } in
@@ -98,7 +98,7 @@ settled_reopens start now next done more one p from so_far was named put is =
           ∙ so_far,
     )
 
-pub settled_lowers : (start now next : Exports) (done more : List Settled) (one : Settled) → lowered_back now (raised_by done) ≡ start → lowered_back next (option_to_list one.raised) ≡ now → more ≡ done ++ one ∷ [] → lowered_back next (raised_by more) ≡ start
+pub settled_lowers : (start now next : Exports) (done more : List SettledPromise) (one : SettledPromise) → lowered_back now (raised_by done) ≡ start → lowered_back next (option_to_list one.raised) ≡ now → more ≡ done ++ one ∷ [] → lowered_back next (raised_by more) ≡ start
 settled_lowers start now next done more one so_far back is =
     ap (λ l. lowered_back next (raised_by l)) is ∙ ap (lowered_back next) (raised_more done one) ∙ back_more next (raised_by done) (option_to_list one.raised)
     ∙ ap (λ t. lowered_back t (raised_by done)) back ∙ so_far
@@ -122,5 +122,5 @@ module _ (v w : ValueMaps) (promises : v.promises ≡ w.promises) (questions : v
   same_within zero c = refl
   same_within (suc n) c = same_by n c (way v c) (same_within n) ∙ ap (end_by (λ d. end_within n w d) c) (same_way c)
 
-  pub comes_same : (c last : Cap) → ComesTo v c last → ComesTo w c last
+  pub comes_same : (c last : Cap) → ResolvesTo v c last → ResolvesTo w c last
   comes_same c last to = (to.0, sym (same_within to.0 c) ∙ to.1)

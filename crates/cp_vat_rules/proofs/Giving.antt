@@ -21,7 +21,7 @@ use Rattle.cp_refs.specs.declared.cap.Cap.TheVariants as caps
 use Rattle.cp_refs.specs.declared.outcome.Outcome.{Outcome}
 use Rattle.cp_vat_machine.specs.State.{State}
 use Rattle.cp_vat_machine.specs.Then.{Done, Then, after as following}
-use Rattle.cp_vat_machine.specs.Say.{SayEnd, ComesTo}
+use Rattle.cp_vat_machine.specs.Writing.{WritesEnd, ResolvesTo}
 use Rattle.cp_vat_machine.specs.Give.{return_of, given, gone, Returns, ResolvesEnd, Settle, SettleTied, Tells, settled, value_for, last_for, GiveBy}
 use Rattle.cp_vat_machine.specs.declared.effect.Effect.{Effect}
 use Rattle.cp_vat_machine.specs.declared.entry.Tied.{Tied}
@@ -37,7 +37,7 @@ abbrev pub queue_of : State → Queue
 queue_of s = record { waiting = s.waiting; next_ticket = s.next_ticket }
 
 -- what doesn't fail is resolved by its descriptor
-pub resolves_other : (s : State) (last : Cap) (out : Result (Resolution × State) PeerFault) → ((x : Exception) → last ≡ caps.Broken x → ⊥) → Then (SayEnd s last) (λ said out. out ≡ Ok (resolutions.Cap said.0, said.1)) out → ResolvesEnd s last out
+pub resolves_other : (s : State) (last : Cap) (out : Result (Resolution × State) PeerFault) → ((x : Exception) → last ≡ caps.Broken x → ⊥) → Then (WritesEnd s last) (λ said out. out ≡ Ok (resolutions.Cap said.0, said.1)) out → ResolvesEnd s last out
 resolves_other s caps.None out other said = said
 resolves_other s (caps.Object k) out other said = said
 resolves_other s (caps.Promise p) out other said = said
@@ -161,6 +161,6 @@ question_noted table opened new q e ids is noted =
     noted ∙ ap (λ o. option_map_or (λ entry. insert opened q (record entry { kept = record entry.kept { mentions = ids } })) o opened) there ∙ ap (λ t. insert t q (new_exchange (record e { mentions = ids }))) is ∙ insert_twice table q _ _
 
 -- a promise is settled, where what it came to is told
-module _ (old : State) (p : ℕ) (value reached v last : Cap) (came : ComesTo old.values value reached) (is_v : v ≡ value_for p reached value) (is_last : last ≡ last_for p reached) where
+module _ (old : State) (p : ℕ) (value reached v last : Cap) (came : ResolvesTo old.values value reached) (is_v : v ≡ value_for p reached value) (is_last : last ≡ last_for p reached) where
   pub settle_by : (out : Result Done PeerFault) → Tells (settled old p v) p last out → Settle old p value out
   settle_by out told = (reached, came, subst (λ w. Tells (settled old p w) p (last_for p reached) out) is_v (subst (λ l. Tells (settled old p v) p l out) is_last told))

@@ -13,7 +13,7 @@ use Rattle.cp_tables.specs.Counted.{count_of}
 use Rattle.cp_tables.specs.declared.counted.Counted.{Counted}
 use Rattle.cp_tables.proofs.CountedLemmas.{count_of-insert_same, count_of-insert_other, count_of-remove_same, count_of-remove_other}
 use Rattle.cp_refs.specs.declared.cap.Cap.{Cap}
-use Rattle.cp_vat_machine.specs.Take.{less_by, lower, lowered, lowered_by, released, times}
+use Rattle.cp_vat_machine.specs.Receiving.{less_by, release_exports, lowered, lowered_by, released, times}
 use Rattle.cp_vat_machine.specs.declared.fault.PeerFault.{PeerFault}
 use Rattle.cp_vat_machine.specs.declared.fault.PeerFault.TheVariants as faults
 use Rattle.cp_vat_state.specs.Halts.{leaving}
@@ -115,7 +115,7 @@ module _ (start now : Table (Counted Cap)) (ids : List ℕ) (i : ℕ) (counted :
       )
 
   -- all were lowered
-  pub all_lowered : length ids ≤ i → list_any (λ e. is_none (get start e)) ids ≡ false → lowered start ids ≡ lowered now (drop i ids) → lower start ids ≡ Ok now
+  pub all_lowered : length ids ≤ i → list_any (λ e. is_none (get start e)) ids ≡ false → lowered start ids ≡ lowered now (drop i ids) → release_exports start ids ≡ Ok now
   all_lowered past there same =
       let ends : drop i ids ≡ [] = drop_all i ids past in
       let few : list_any (λ e. ltb (count_of start e) (times e ids)) ids ≡ false = none_any _ (λ e. few_of e (counted e) (ap (times e) ends)) ids in
@@ -125,7 +125,7 @@ module _ (start now : Table (Counted Cap)) (ids : List ℕ) (i : ℕ) (counted :
       few_of e so_far none = grind (arith, nat_tests)
 
   -- one couldn't be lowered: it is named more often than it is counted
-  pub named_too_often : (next : Table (Counted Cap)) (fault : PeerFault) → i < length ids → released now (get_or ids i 0) 1 ≡ Err fault → list_any (λ e. is_none (get start e)) ids ≡ false → lower start ids ≡ Err faults.ReleaseTooLarge
+  pub named_too_often : (next : Table (Counted Cap)) (fault : PeerFault) → i < length ids → released now (get_or ids i 0) 1 ≡ Err fault → list_any (λ e. is_none (get start e)) ids ≡ false → release_exports start ids ≡ Err faults.ReleaseTooLarge
   named_too_often next fault inside went there =
       let id = get_or ids i 0 in
       let here : drop i ids ≡ id ∷ drop (i + 1) ids = at_drop_more (λ l. l) ids i 0 inside in

@@ -13,7 +13,7 @@ use Rattle.cp_refs.specs.declared.outcome.Outcome.{Outcome}
 use Rattle.cp_vat_machine.specs.Give.{value_for}
 use Rattle.cp_vat_machine.specs.InUse.{caps_of, is_unsettled}
 use Rattle.cp_vat_machine.specs.Local.{one_if, tied_to}
-use Rattle.cp_vat_machine.specs.Say.{ComesTo}
+use Rattle.cp_vat_machine.specs.Writing.{ResolvesTo}
 use Rattle.cp_vat_machine.specs.declared.entry.Tied.{Tied}
 use Rattle.cp_vat_machine.proofs.Basics.{is_itself, is_equal, put_at}
 use Rattle.cp_vat_laws.proofs.within.AllKept.{at_path}
@@ -79,7 +79,7 @@ all_end_on values next p value table open_ is route all =
     (all_of (HasRoute values) (HasRoute (record values { promises = insert values.promises p (Some value) })) table (routes_on values p value open_ there) all)
 
 -- that has one
-pub settled_ends : (values next : ValueMaps) (p : ℕ) (given last value copied : Cap) → get values.promises p ≡ Some None → ComesTo values given last → value ≡ value_for p last given → copied ≡ value
+pub settled_ends : (values next : ValueMaps) (p : ℕ) (given last value copied : Cap) → get values.promises p ≡ Some None → ResolvesTo values given last → value ≡ value_for p last given → copied ≡ value
     → next ≡ record values { promises = insert values.promises p (Some copied) } → HasRoute next value
 settled_ends values next p given last value copied open_ comes is same put =
     let there = settled_route values p (Some (value_for p last given)) open_ given last comes in

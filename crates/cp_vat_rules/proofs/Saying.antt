@@ -8,7 +8,7 @@ use Rattle.cp_refs.specs.Values.{ValueMaps}
 use Rattle.cp_refs.specs.declared.cap.Cap.{Cap}
 use Rattle.cp_vat_machine.specs.State.{State}
 use Rattle.cp_vat_machine.specs.Then.{Each}
-use Rattle.cp_vat_machine.specs.Say.{end_by, end_within, ComesTo}
+use Rattle.cp_vat_machine.specs.Writing.{end_by, end_within, ResolvesTo}
 use Rattle.cp_vat_machine.specs.declared.fault.PeerFault.{PeerFault}
 use Rattle.cp_vat_state.specs.Halts.{Leaves}
 use Rattle.cp_vat_state.specs.declared.halt.Halt.{Halt}
@@ -21,7 +21,7 @@ end_here f c (leads d) h = absurd h
 end_here f c missing h = absurd h
 
 -- a capability whose way ends comes to itself
-pub ends_here : (values : ValueMaps) (c : Cap) → LeadsTo (way values c) None → ComesTo values c c
+pub ends_here : (values : ValueMaps) (c : Cap) → LeadsTo (way values c) None → ResolvesTo values c c
 ends_here values c h = (1, end_here _ c (way values c) h)
 
 pub next_is : (next : Cap) (w : Way) → LeadsTo w (Some next) → w ≡ leads next
@@ -30,7 +30,7 @@ next_is next (leads d) h = ap leads (sym h)
 next_is next missing h = absurd h
 
 -- a capability that leads on comes to what the next one comes to
-pub leads_on : (values : ValueMaps) (c next last : Cap) → way values c ≡ leads next → ComesTo values next last → ComesTo values c last
+pub leads_on : (values : ValueMaps) (c next last : Cap) → way values c ≡ leads next → ResolvesTo values next last → ResolvesTo values c last
 leads_on values c next last is to = (suc to.0, ap (end_by (λ d. end_within to.0 values d) c) is ∙ to.1)
 
 -- what was done, before what the rest gives

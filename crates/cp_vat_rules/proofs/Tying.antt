@@ -26,12 +26,12 @@ use Rattle.cp_vat_state.specs.declared.halt.Halt.{Halt}
 use Rattle.cp_vat_state.specs.declared.parts.Core.{Core}
 use Rattle.cp_vat_rules.specs.Leading.{with_parts}
 use Rattle.cp_vat_rules.specs.Settling.{Settles, over_settled, settling}
-use Rattle.cp_vat_rules.specs.declared.settle.Settled.{Settled}
+use Rattle.cp_vat_rules.specs.declared.settle.SettledPromise.{SettledPromise}
 use Rattle.cp_vat_rules.proofs.Giving.{prefixed, settles_on, tied_step, tied_fails, tied_done}
 use Rattle.cp_vat_rules.proofs.Backing.{over_more}
 
 -- from the state in which some were settled, with the values, the exports and the promises that were settled so far
-module _ (s : State) (start now : ValueMaps) (first mid : Table (Counted Cap)) (outcome : Outcome) (xs : List Tied) (i : ℕ) (none before : List Effect) (settled : List Settled) (from : now ≡ record start { promises = now.promises })
+module _ (s : State) (start now : ValueMaps) (first mid : Table (Counted Cap)) (outcome : Outcome) (xs : List Tied) (i : ℕ) (none before : List Effect) (settled : List SettledPromise) (from : now ≡ record start { promises = now.promises })
     (so_far : (done : List Effect) × (before ≡ none ++ done) × ((out : Result Done PeerFault) → SettleTied (settling s now.promises mid settled) outcome (drop i xs) out → SettleTied (settling s start.promises first []) outcome xs (prefixed done out))) where
   -- no more are left
   pub tied_ends : length xs ≤ i → (done : List Effect) × (before ≡ none ++ done) × SettleTied (settling s start.promises first []) outcome xs (Ok (done, settling s now.promises mid settled))
@@ -51,7 +51,7 @@ module _ (s : State) (start now : ValueMaps) (first mid : Table (Counted Cap)) (
         (went (settling s now.promises mid settled) questions_same)
 
     -- one more is settled
-    pub tied_goes_on : (one : Settled) (more : List Settled) (next : ValueMaps) (last : Table (Counted Cap)) (after : List Effect) → i < length xs → t ≡ get_or xs i t → value ≡ cap_at outcome t.path
+    pub tied_goes_on : (one : SettledPromise) (more : List SettledPromise) (next : ValueMaps) (last : Table (Counted Cap)) (after : List Effect) → i < length xs → t ≡ get_or xs i t → value ≡ cap_at outcome t.path
         → ((s : State) → s.values.questions ≡ now.questions → (done : List Effect) × (after ≡ before ++ done) × Settle (settling s now.promises mid []) t.promise value (Ok (done, settling s next.promises last (one ∷ []))))
         → more ≡ settled ++ one ∷ []
         → (done : List Effect) × (after ≡ none ++ done) × ((out : Result Done PeerFault) → SettleTied (settling s next.promises last more) outcome (drop (i + 1) xs) out → SettleTied (settling s start.promises first []) outcome xs (prefixed done out))
@@ -63,7 +63,7 @@ module _ (s : State) (start now : ValueMaps) (first mid : Table (Counted Cap)) (
         tied_step (settling s start.promises first []) (settling s now.promises mid settled) outcome xs i so_far.0 so_far.2 t before after (settling s next.promises last more) value inside is given (met.0, met.1, settles) none so_far.1
 
 -- the state that giving an answer leaves, whose tied promises were settled before
-pub given_as : (core now : Core) (exports : Table (Counted Cap)) (id : ℕ) (outcome copied : Outcome) (kept : AnswerEntry) (returned : Returned) (ids : List ℕ) (settled : List Settled) (values : ValueMaps) (answers : Table (Exchange AnswerEntry)) (ended gates : Queue)
+pub given_as : (core now : Core) (exports : Table (Counted Cap)) (id : ℕ) (outcome copied : Outcome) (kept : AnswerEntry) (returned : Returned) (ids : List ℕ) (settled : List SettledPromise) (values : ValueMaps) (answers : Table (Exchange AnswerEntry)) (ended gates : Queue)
     → now ≡ record core { values = record core.values { promises = now.values.promises }; exports = now.exports }
     → ended ≡ with_over now.gates (over_with now.gates.waiting.over (gifts.Answer id copied)) → copied ≡ outcome
     → values ≡ record now.values { answers = insert now.values.answers id (Some outcome) }
@@ -82,7 +82,7 @@ given_as core now exports id outcome copied kept returned ids settled values ans
     rw (is_gates, is_answers, is_ids, is_values, is_ended, is_copied) (sym (ap after is))
 
 -- so after its Finish
-pub gone_as : (core now left : Core) (id : ℕ) (outcome copied : Outcome) (settled : List Settled) (ended gates : Queue)
+pub gone_as : (core now left : Core) (id : ℕ) (outcome copied : Outcome) (settled : List SettledPromise) (ended gates : Queue)
     → now ≡ record core { values = record core.values { promises = now.values.promises }; exports = now.exports }
     → ended ≡ with_over now.gates (over_with now.gates.waiting.over (gifts.Answer id copied)) → copied ≡ outcome
     → state_of left ≡ without_answer (state_of (record now { gates = ended })) id

@@ -4,8 +4,8 @@ use Rattle.cp_refs.specs.Route.{leads, way}
 use Rattle.cp_refs.specs.Values.{ValueMaps}
 use Rattle.cp_refs.specs.declared.cap.Cap.{Cap}
 use Rattle.cp_vat_rules.specs.Leading.{LeadsTo}
-use Rattle.cp_vat_rules.specs.declared.come_to.Pace.{Pace}
-use Rattle.cp_vat_rules.specs.declared.come_to.Pace.TheVariants as paces
+use Rattle.cp_vat_rules.specs.declared.resolve.Pace.{Pace}
+use Rattle.cp_vat_rules.specs.declared.resolve.Pace.TheVariants as paces
 
 -- a capability that a way ends at, or one that it leads on to
 abbrev pub PacesFrom : ValueMaps → Cap → Pace → Type 0

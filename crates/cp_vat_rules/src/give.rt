@@ -12,11 +12,11 @@ ghost use Rattle.cp_vat_rules.specs.Leading.{with_parts};
 ghost use Rattle.cp_vat_rules.specs.Ungiven.{AllEnd, IsUngiven};
 ghost use Rattle.cp_vat_rules.specs.Settling.{OnlySettles, SettlesTiedTo, lowered_back};
 
+use crate::descriptors::{mentioned, write_descriptors};
 use crate::entry::{note_given, remove_answer};
+use crate::exports::withdraw_exports;
 use crate::give_own::give_own;
-use crate::lower::lower_back;
-use crate::say::{mentioned, say_all};
-use crate::settle::{Settled, end_gates, settle_tied};
+use crate::settle::{SettledPromise, end_gates, settle_tied};
 use cp_refs::{KeptOutcome, Origin, Outcome, Values};
 use cp_rpc::{Message, Payload, Return, Returned};
 use cp_tables::Stage;
@@ -85,7 +85,7 @@ fn give_open(
     let settled = match settle_promises(core, id, &kept, effects) {
         Ok(settled) => settled,
         Err(halt) => {
-            lower_back(&mut core.exports, ids.ids());
+            withdraw_exports(&mut core.exports, ids.ids());
             return Err(halt);
         }
     };
@@ -124,7 +124,7 @@ fn settle_promises(
     id: u32,
     outcome: &KeptOutcome,
     effects: &mut Vec<Effect>,
-) -> Result<Vec<Settled>, Halt>
+) -> Result<Vec<SettledPromise>, Halt>
     requires ungiven { IsUngiven (state_of core.old) (Origin.Answer id) }
     requires ends { AllEnd core.old.values (caps_of outcome.now) }
     ensures settled { SettlesTiedTo core.old id outcome.now result effects.old.items effects.new.items core.new (λ v. v.items) }
@@ -169,7 +169,7 @@ fn returned(
 {
     match outcome {
         Outcome::Results { content, caps } => {
-            let cap_table = say_all(alloc, values, exports, caps.caps())?;
+            let cap_table = write_descriptors(alloc, values, exports, caps.caps())?;
             Ok(Returned::Results(Payload { content, cap_table }))
         }
         Outcome::Failed(x) => Ok(Returned::Exception(x)),

@@ -8,10 +8,10 @@ ghost use Rattle.cp_vat_state.specs.StateOf.{state_of};
 ghost use Rattle.cp_vat_rules.specs.Going.{MayGo, underway_of};
 ghost use Rattle.cp_vat_rules.specs.Ungiven.{AllEnd, IsUngiven};
 
+use crate::descriptors::{mentioned, write_descriptors};
 use crate::entry::{note_delivered, note_mentions, note_sent};
 use crate::give::give;
 use crate::promised::promised_answer;
-use crate::say::{mentioned, say_all};
 use cp_refs::{Cap, Origin, Outcome, Request, Route, WaitingCall};
 use cp_rpc::{Call, CapTable, Finish, Message, Payload, SendResultsTo, Target};
 use cp_tables::{LIMIT, Stage};
@@ -143,7 +143,7 @@ fn forward(
         is_delivered: false,
         mentions: Mentions::new(Vec::new(core.alloc)),
     })?;
-    let said = say_all(
+    let said = write_descriptors(
         core.alloc,
         core.values.values(),
         &mut core.exports,
@@ -197,7 +197,7 @@ fn send_own(
         unreachable!()
     };
     let stage = entry.stage;
-    let table = say_all(
+    let table = write_descriptors(
         core.alloc,
         core.values.values(),
         &mut core.exports,

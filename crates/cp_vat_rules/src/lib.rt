@@ -3,14 +3,14 @@
 //! function meets its rule of the machine (cp_vat_machine).
 #![tactic(auto)]
 
-pub mod come_to;
+pub mod descriptors;
 pub mod entry;
+pub mod exports;
 pub mod give;
 pub mod give_own;
 pub mod go;
 pub mod leave;
-pub mod lower;
 pub mod promised;
-pub mod say;
+pub mod receive;
+pub mod resolve;
 pub mod settle;
-pub mod take;

@@ -1,8 +1,8 @@
 //! Paths of pointer fields, as messages say them.
 
 ghost use Rattle.std.specs.Prelude.{◌≡◌, IfOk};
-ghost use Rattle.cp_vat_machine.specs.Say.{promised};
-ghost use Rattle.cp_vat_machine.specs.Take.{path_of};
+ghost use Rattle.cp_vat_machine.specs.Writing.{promised};
+ghost use Rattle.cp_vat_machine.specs.Receiving.{path_of};
 
 use cp_refs::Path;
 use cp_rpc::{Op, PromisedAnswer, Transform};

@@ -14,8 +14,8 @@ ghost use Rattle.cp_vat_state.specs.StateOf.{state_of};
 ghost use Rattle.cp_vat_rules.specs.Ungiven.{AllEnd, AreOpenOnce};
 ghost use Rattle.cp_vat_rules.specs.Settling.{Settles, SettlesBy, SettlesTied, TellsOf, lowered_back, over_settled, raised_by, reopened};
 
-use crate::come_to::come_to;
-use crate::say::{mention, say_end};
+use crate::descriptors::{mention, write_end};
+use crate::resolve::resolve_cap;
 use cp_refs::{Cap, KeptOutcome, PromiseId, failed};
 use cp_rpc::{Message, Resolution, Resolve};
 use cp_vat_machine::{Effect, Tied};
@@ -24,7 +24,7 @@ use std::alloc::{AllocError, Global};
 
 /// A promise that was settled, whose gate is still to be ended.
 #[derive(Drop)]
-pub(crate) struct Settled {
+pub(crate) struct SettledPromise {
     pub promise: PromiseId,
     pub value: Cap,
     /// The export that its Resolve raised, if it raised one.
@@ -65,7 +65,7 @@ pub(crate) fn settle_tied(
     outcome: &KeptOutcome,
     tied: &[Tied],
     effects: &mut Vec<Effect>,
-) -> Result<Vec<Settled>, Halt>
+) -> Result<Vec<SettledPromise>, Halt>
     requires unsettled { AreOpenOnce values.old.promises tied.now }
     requires ends { AllEnd values.old (caps_of outcome.now) }
     ensures settled { SettlesTied outcome.now tied.now values.old exports.old result effects.old.items effects.new.items values.new exports.new (λ v. v.items) }
@@ -90,7 +90,7 @@ pub(crate) fn settle_tied(
 pub(crate) fn end_gates(
     alloc: Global,
     gates: &mut Gates,
-    settled: &[Settled],
+    settled: &[SettledPromise],
 ) -> Result<(), AllocError>
     ensures { OnOk result (gates.new ≡ with_over gates.old (over_settled gates.old.waiting.over settled.now)) }
 {
@@ -109,7 +109,7 @@ fn settle_value(
     promise: PromiseId,
     value: Cap,
     effects: &mut Vec<Effect>,
-) -> Result<Settled, Halt>
+) -> Result<SettledPromise, Halt>
     requires unsettled { map.get values.old.promises promise ≡ Some None }
     requires ends { HasRoute values.old value }
     ensures settled { SettlesBy (λ s. Settle s promise value) values.old exports.old result effects.old.items effects.new.items values.new exports.new (λ one. one ∷ []) }
@@ -119,13 +119,13 @@ fn settle_value(
     ensures ends { IfOk result (λ one. HasRoute values.new one.value) }
     ensures unchanged { IfFault result ((values.new ≡ values.old) × (exports.new ≡ exports.old)) }
 {
-    let reached = come_to(alloc, values.values(), &value)?;
+    let reached = resolve_cap(alloc, values.values(), &value)?;
     let value = value_for(alloc, promise, &reached, value)?;
     let known = reached.copy(alloc)?;
     let last = value_for(alloc, promise, &known, reached)?;
     let raised = tell(alloc, exports, promise, &last, effects)?;
     values.settle_promise(promise, value.copy(alloc)?)?;
-    Ok(Settled {
+    Ok(SettledPromise {
         promise,
         value,
         raised,
@@ -181,7 +181,7 @@ fn resolve_end(alloc: Global, exports: &mut Exported, last: &Cap) -> Result<Reso
     match last {
         Cap::Broken(x) => Ok(Resolution::Exception(x.copy(alloc)?)),
         _ => {
-            let said = say_end(alloc, exports, last)?;
+            let said = write_end(alloc, exports, last)?;
             Ok(Resolution::Cap(said))
         }
     }
@@ -201,7 +201,7 @@ fn raised_of(resolution: &Resolution) -> Option<u32>
 fn take_back(
     values: &mut NumberedValues,
     exports: &mut Exported,
-    settled: &[Settled],
+    settled: &[SettledPromise],
 ) -> Result<(), AllocError>
     ensures values { OnOk result (values.new ≡ record values.old { promises = reopened values.old.promises settled.now }) }
     ensures exports { OnOk result (exports.new ≡ lowered_back exports.old (raised_by settled.now)) }
@@ -216,7 +216,7 @@ fn take_back(
 fn take_one_back(
     values: &mut NumberedValues,
     exports: &mut Exported,
-    one: &Settled,
+    one: &SettledPromise,
 ) -> Result<(), AllocError>
     ensures values { OnOk result (values.new ≡ record values.old { promises = with_change values.old.promises one.now.promise (λ _. None) }) }
     ensures exports { OnOk result (exports.new ≡ lowered_back exports.old (option_to_list one.now.raised)) }

@@ -14,8 +14,8 @@ use Rattle.cp_refs.specs.declared.cap.Cap.{Cap}
 use Rattle.cp_refs.specs.declared.cap.Cap.TheVariants as caps
 use Rattle.cp_refs.proofs.Queueing.{put-back}
 use Rattle.cp_vat_machine.specs.State.{State, with_exports}
-use Rattle.cp_vat_machine.specs.Take.{less_by, lowered_by, released}
-use Rattle.cp_vat_machine.specs.Say.{HasNoExport, Raise, counted, counted_out}
+use Rattle.cp_vat_machine.specs.Receiving.{less_by, lowered_by, released}
+use Rattle.cp_vat_machine.specs.Writing.{HasNoExport, Raise, counted, counted_out}
 use Rattle.cp_vat_machine.specs.declared.fault.PeerFault.{PeerFault}
 use Rattle.cp_vat_machine.specs.declared.fault.PeerFault.TheVariants as faults
 use Rattle.cp_vat_state.specs.Halts.{leaving}

@@ -12,7 +12,7 @@ use Rattle.cp_tables.specs.declared.counted.Counted.{Counted}
 use Rattle.cp_refs.specs.declared.cap.Cap.{Cap}
 use Rattle.cp_refs.specs.declared.cap.Cap.TheVariants as caps
 use Rattle.cp_vat_machine.specs.State.{State, new_state, with_exports}
-use Rattle.cp_vat_machine.specs.Say.{HasNoExport, IsExport}
+use Rattle.cp_vat_machine.specs.Writing.{HasNoExport, IsExport}
 use Rattle.cp_vat_machine.specs.InUse.{is_promise}
 use Rattle.std.proofs.lemmas.Bool.Decides.{nat_tests}
 use Rattle.std.proofs.Common.{arith, ◌≢◌, is_some, ◌==◌, MatchOption}

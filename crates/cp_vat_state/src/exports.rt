@@ -75,8 +75,8 @@ impl Exported {
     ghost use Rattle.std.specs.Prelude.{◌≡◌};
     ghost use Rattle.std.specs.FinMap as map;
     ghost use Rattle.cp_vat_machine.specs.State.{State, with_exports};
-    ghost use Rattle.cp_vat_machine.specs.Say.{Raise, HasNoExport, IsExport};
-    ghost use Rattle.cp_vat_machine.specs.Take.{lowered_by, released};
+    ghost use Rattle.cp_vat_machine.specs.Writing.{Raise, HasNoExport, IsExport};
+    ghost use Rattle.cp_vat_machine.specs.Receiving.{lowered_by, released};
     ghost use Rattle.cp_vat_state.specs.Halts.{IfFault, Leaves, leaving};
     ghost use Rattle.cp_vat_state.specs.Index.{cap_of};
 

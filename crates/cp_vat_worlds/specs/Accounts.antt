@@ -9,7 +9,7 @@ use Rattle.cp_tables.specs.declared.exchange.Stage.TheVariants as stages
 use Rattle.cp_rpc.specs.declared.message.Message.{Message}
 use Rattle.cp_rpc.specs.declared.message.Message.TheVariants as messages
 use Rattle.cp_vat_machine.specs.State.{State}
-use Rattle.cp_vat_machine.specs.Take.{times}
+use Rattle.cp_vat_machine.specs.Receiving.{times}
 use Rattle.cp_vat_machine.specs.Give.{returned_mentions}
 use Rattle.cp_vat_machine.specs.Resolving.{told}
 use Rattle.cp_vat_machine.specs.declared.entry.AnswerEntry.{AnswerEntry}

@@ -10,7 +10,7 @@ use Rattle.cp_rpc.specs.declared.message.Message.TheVariants as messages
 use Rattle.cp_refs.specs.declared.cap.Cap.{Cap}
 use Rattle.cp_vat_machine.specs.State.{State, Counts}
 use Rattle.cp_vat_machine.specs.Then.{Done}
-use Rattle.cp_vat_machine.specs.Take.{lower, released}
+use Rattle.cp_vat_machine.specs.Receiving.{release_exports, released}
 use Rattle.cp_vat_machine.specs.Go.{Leave}
 use Rattle.cp_vat_machine.specs.InUse.{caps_given, is_import, waiting_calls, other_values, idle_imports}
 use Rattle.cp_vat_machine.specs.Calling.{OwnDone}
@@ -53,7 +53,7 @@ pub record ChangesKeep : Type 0 where
 abbrev pub lowering : State → Message → Result (Table (Counted Cap)) PeerFault
 lowering s (messages.Release r) = released s.counts.exports r.id r.reference_count
 lowering s (messages.Finish f) =
-    if f.release_result_caps then lower s.counts.exports (results_in (kept_account (get s.entries.answers f.question_id))) else Ok s.counts.exports
+    if f.release_result_caps then release_exports s.counts.exports (results_in (kept_account (get s.entries.answers f.question_id))) else Ok s.counts.exports
 lowering s other = Ok s.counts.exports
 
 -- What each rule does to what a vat counts: a call of the application and waiting calls that leave change it little by little, and a message of another

@@ -19,7 +19,7 @@ use Rattle.cp_refs.specs.declared.route.Gate.TheVariants as gates
 use Rattle.cp_refs.specs.declared.route.Route.TheVariants as routes
 use Rattle.cp_vat_machine.specs.State.{State, gave}
 use Rattle.cp_vat_machine.specs.InUse.{waiting_calls, is_question_here}
-use Rattle.cp_vat_machine.specs.Say.{ComesTo, IsExport}
+use Rattle.cp_vat_machine.specs.Writing.{ResolvesTo, IsExport}
 use Rattle.cp_vat_machine.specs.Calling.{mark_of, on_wire, came_to, reference_of, old_target}
 use Rattle.cp_vat_machine.specs.Calling as calling
 use Rattle.cp_vat_worlds.specs.Ledger.{opens}
@@ -157,7 +157,7 @@ IsClosedPlace there (path_to q path) = (outcome : Outcome) × (get there.values.
 -- the place comes to this import of the other vat
 abbrev pub EndsAt : State → Option Cap → ℕ → Type 0
 EndsAt there None e = ⊥
-EndsAt there (Some place) e = ComesTo there.values place (caps.Import e)
+EndsAt there (Some place) e = ResolvesTo there.values place (caps.Import e)
 
 -- There is no such reference yet, nor a place for it.
 abbrev pub IsAbsent : State → State → Reference → Type 0

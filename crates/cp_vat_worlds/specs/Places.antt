@@ -7,8 +7,8 @@ use Rattle.cp_rpc.specs.declared.message.Message.TheVariants as messages
 use Rattle.cp_refs.specs.declared.cap.Cap.{Cap}
 use Rattle.cp_refs.specs.declared.cap.Cap.TheVariants as caps
 use Rattle.cp_vat_machine.specs.State.{State}
-use Rattle.cp_vat_machine.specs.Say.{IsExport}
-use Rattle.cp_vat_machine.specs.Take.{times}
+use Rattle.cp_vat_machine.specs.Writing.{IsExport}
+use Rattle.cp_vat_machine.specs.Receiving.{times}
 use Rattle.cp_vat_worlds.specs.Accounts.{is_finish_noted}
 use Rattle.cp_vat_worlds.specs.Ledger.{named_by}
 

@@ -18,7 +18,7 @@ use Rattle.cp_refs.specs.declared.values.QuestionKind.TheVariants as kinds
 use Rattle.cp_vat_machine.specs.State.{with_questions}
 use Rattle.cp_vat_machine.specs.Then.{Done, fault_if}
 use Rattle.cp_vat_machine.specs.Capacity.{cap_fits, outcome_fits}
-use Rattle.cp_vat_machine.specs.Say.{end_by}
+use Rattle.cp_vat_machine.specs.Writing.{end_by}
 use Rattle.cp_vat_machine.specs.Go.{finish_of}
 use Rattle.cp_vat_machine.specs.InUse.{caps_of, is_own, is_pipelined, is_unsettled}
 use Rattle.cp_vat_machine.specs.Calling.{not_all}

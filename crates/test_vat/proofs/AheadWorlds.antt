@@ -12,7 +12,7 @@ use Rattle.cp_refs.specs.Route.{promise_way}
 use Rattle.cp_refs.specs.Values.{ValueMaps}
 use Rattle.cp_refs.specs.declared.cap.Cap.TheVariants as caps
 use Rattle.cp_refs.specs.declared.outcome.Outcome.TheVariants as outcomes
-use Rattle.cp_vat_machine.specs.Say.{ComesTo, end_by, end_within}
+use Rattle.cp_vat_machine.specs.Writing.{ResolvesTo, end_by, end_within}
 use Rattle.cp_vat_machine.specs.Calling.{plain, on_wire, came_to, reference_of, question_reference}
 use Rattle.cp_vat_machine.specs.Calling as calling
 use Rattle.cp_vat_machine.specs.InUse.{is_question_here}
@@ -56,7 +56,7 @@ none_in (x ∷ before) after m is = cc
 place_is : place_of (world past).second.vat given_reference ≡ Some (caps.Promise 0)
 place_is = ap (answered_cap (0 ∷ [])) (get_is past.second.vat.answers 1)
 
-comes_back : (values : ValueMaps) → get values.promises 0 ≡ Some (Some (caps.Import 0)) → ComesTo values (caps.Promise 0) (caps.Import 0)
+comes_back : (values : ValueMaps) → get values.promises 0 ≡ Some (Some (caps.Import 0)) → ResolvesTo values (caps.Promise 0) (caps.Import 0)
 comes_back values is = (2, ap (λ o. end_by (λ next. end_within 1 values next) (caps.Promise 0) (promise_way 0 o)) is)
 
 ends_there : EndsAt (world past).second.vat (place_of (world past).second.vat given_reference) 0

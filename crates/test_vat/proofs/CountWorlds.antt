@@ -13,7 +13,7 @@ use Rattle.cp_refs.specs.declared.call.WaitingCall.{WaitingCall}
 use Rattle.cp_refs.specs.declared.call.Origin.TheVariants as origins
 use Rattle.cp_refs.specs.declared.route.Gate.TheVariants as gates
 use Rattle.cp_vat_machine.specs.InUse.{is_import, caps_given, value_unless}
-use Rattle.cp_vat_machine.specs.Take.{times, less_by}
+use Rattle.cp_vat_machine.specs.Receiving.{times, less_by}
 use Rattle.cp_vat_machine.specs.Step.{Receives}
 use Rattle.cp_vat_machine.specs.declared.fault.PeerFault.{PeerFault}
 use Rattle.cp_vat_machine.specs.declared.fault.PeerFault.TheVariants as faults

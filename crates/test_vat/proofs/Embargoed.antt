@@ -32,11 +32,11 @@ use Rattle.cp_refs.specs.declared.values.QuestionKind.TheVariants as kinds
 use Rattle.cp_vat_machine.specs.State.{State, new_state, none_over, with_over, with_exports}
 use Rattle.cp_vat_machine.specs.Then.{Done, Then, OrFull}
 use Rattle.cp_vat_machine.specs.Capacity.{Fresh}
-use Rattle.cp_vat_machine.specs.Say.{SayAll, promised}
-use Rattle.cp_vat_machine.specs.Take.{Take, TakeAll, taken_export}
+use Rattle.cp_vat_machine.specs.Writing.{WritesDescriptors, promised}
+use Rattle.cp_vat_machine.specs.Receiving.{ReceivesCap, ReceivesCaps, taken_export}
 use Rattle.cp_vat_machine.specs.Give.{GiveOwn, GiveOwnBy, question_settled}
 use Rattle.cp_vat_machine.specs.Go.{Underway, Go, GoTo, GoOut, call_of, sent}
-use Rattle.cp_vat_machine.specs.Asking.{TakeReturned, Settles, ReturnBy, ReturnOf, OnReturn}
+use Rattle.cp_vat_machine.specs.Asking.{ReceivesReturned, Settles, ReturnBy, ReturnOf, OnReturn}
 use Rattle.cp_vat_machine.specs.Calling.{OwnDone, Standing, on_wire, came_to, reference_of, asked, called, own_call, mark_of, with_mark, marked, disembargo_of, FirstEmbargoed, GoBack, GoFrom, Opens, call_refusals, DoCall}
 use Rattle.cp_vat_machine.specs.Step.{Step}
 use Rattle.cp_vat_machine.specs.declared.effect.Effect.{Effect}
@@ -119,7 +119,7 @@ IsSent new = (exports : Table (Counted Cap)) × (named : List Descriptor) × (ne
 sent_by : (first : List Effect) (mid : State) → GoOut marked_a (own_call s_a 1 with_object) (targets.PromisedAnswer (promised 0 [])) (origins.Own 1) (Ok (first, mid))
     → (exports : Table (Counted Cap)) × (named : List Descriptor) × (mid ≡ sent (with_exports marked_a exports) 1 named)
 sent_by first mid (entry, is_kept, goes) =
-    let (said, says, is) = then_ok (SayAll marked_a (caps.Object 3 ∷ [])) _ (first, mid) goes in
+    let (said, says, is) = then_ok (WritesDescriptors marked_a (caps.Object 3 ∷ [])) _ (first, mid) goes in
     let (e, exports, how, named_is, new_is) = says_object marked_a 3 said.0 said.1 says in
     (exports, said.0, ap {A = Done} (λ d. d.1) (ok_inj is) ∙ ap (λ s. sent s 1 said.0) new_is)
 
@@ -163,11 +163,11 @@ export_keeps : (s : State) (o : Option (Counted Cap)) (taken : Cap × State) →
 export_keeps s None taken is = absurd (err_not_ok (sym is))
 export_keeps s (Some entry) taken is = ap {A = Cap × State} (λ t. t.1) (ok_inj is)
 
-takes_keep : (s : State) (taken : Outcome × State) → TakeReturned s return_0.returned (Ok taken) → taken.1 ≡ s
+takes_keep : (s : State) (taken : Outcome × State) → ReceivesReturned s return_0.returned (Ok taken) → taken.1 ≡ s
 takes_keep s taken takes =
-    let (table, all, taken_is) = then_ok (TakeAll s (descriptors.ReceiverHosted 0 ∷ [])) _ taken takes in
-    let (first, one, more) = then_ok (Take s (descriptors.ReceiverHosted 0)) _ table all in
-    let (rest, none, table_is) = then_ok (TakeAll first.1 []) _ table more in
+    let (table, all, taken_is) = then_ok (ReceivesCaps s (descriptors.ReceiverHosted 0 ∷ [])) _ taken takes in
+    let (first, one, more) = then_ok (ReceivesCap s (descriptors.ReceiverHosted 0)) _ table all in
+    let (rest, none, table_is) = then_ok (ReceivesCaps first.1 []) _ table more in
     ap {A = Outcome × State} (λ t. t.1) (ok_inj taken_is)
     ∙ ap {A = List Cap × State} (λ t. t.1) (ok_inj table_is)
     ∙ ap {A = List Cap × State} (λ t. t.1) (ok_inj none)
@@ -190,7 +190,7 @@ own_settled s outcome done is_kept (entry, was_kept, gives) = (outcome, ok_inj (
 
 return_settles : (s : State) (done : Done) → get s.entries.questions 0 ≡ Some (new_exchange kept_0) → ReturnBy s return_0 kept_0 stages.Open (Ok done) → SettledBy s done
 return_settles s done is_kept returns =
-    let (taken, takes, settles) = then_ok (TakeReturned s return_0.returned) (λ taken. Settles taken.1 0 None taken.0) done returns in
+    let (taken, takes, settles) = then_ok (ReceivesReturned s return_0.returned) (λ taken. Settles taken.1 0 None taken.0) done returns in
     own_settled s taken.0 done is_kept (moved taken.1 (takes_keep s taken takes) taken.0 settles)
   where
     moved : (t : State) → t ≡ s → (outcome : Outcome) → GiveOwn t 0 outcome (Ok done) → GiveOwn s 0 outcome (Ok done)

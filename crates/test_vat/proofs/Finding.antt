@@ -11,8 +11,8 @@ use Rattle.cp_refs.specs.declared.cap.Cap.TheVariants as caps
 use Rattle.cp_refs.specs.declared.route.Route.{Route}
 use Rattle.cp_rpc.specs.declared.descriptor.Descriptor.TheVariants as descriptors
 use Rattle.cp_vat_machine.specs.Capacity.{Fresh, free, full, has_capacity}
-use Rattle.cp_vat_machine.specs.Say.{end_by, end_within, ComesTo, HasNoExport, Raise, counted, opened, has_no_capacity, SayEnd, Say, SayAll}
-use Rattle.cp_vat_machine.specs.Say.{promised as promised_answer}
+use Rattle.cp_vat_machine.specs.Writing.{end_by, end_within, ResolvesTo, HasNoExport, Raise, counted, opened, has_no_capacity, WritesEnd, WritesDescriptor, WritesDescriptors}
+use Rattle.cp_vat_machine.specs.Writing.{promised as promised_answer}
 use Rattle.cp_vat_machine.specs.declared.fault.PeerFault.TheVariants as faults
 use Rattle.test_vat.proofs.Known.{Listed, tabled, Known, state, at, get_is, size, len_is}
 use Rattle.test_vat.proofs.Found.{Finds, lacks, found, beside, plain, follow, find_each}
@@ -63,14 +63,14 @@ module _ (k : Known) where
 
   -- what follows the end of a capability's way, and its route
   module _ {A B F : Type 0} {view : A → B} (c : Cap) where
-    abbrev pub ending : (Rule : Cap → Result B F → Type 0) → ((last : Cap) → Finds view (Rule last)) → Finds view (λ out. (last : Cap) × ComesTo (state k).values c last × Rule last out)
+    abbrev pub ending : (Rule : Cap → Result B F → Type 0) → ((last : Cap) → Finds view (Rule last)) → Finds view (λ out. (last : Cap) × ResolvesTo (state k).values c last × Rule last out)
     ending Rule find = by (end_of 9 c) refl
       where
-        on : (last : Cap) → ComesTo (state k).values c last → Finds view (Rule last) → Finds view (λ out. (last : Cap) × ComesTo (state k).values c last × Rule last out)
+        on : (last : Cap) → ResolvesTo (state k).values c last → Finds view (Rule last) → Finds view (λ out. (last : Cap) × ResolvesTo (state k).values c last × Rule last out)
         on last to lacks = lacks
         on last to (found out holds) = found out (last, to, holds)
 
-        by : (o : Option Cap) → end_of 9 c ≡ o → Finds view (λ out. (last : Cap) × ComesTo (state k).values c last × Rule last out)
+        by : (o : Option Cap) → end_of 9 c ≡ o → Finds view (λ out. (last : Cap) × ResolvesTo (state k).values c last × Rule last out)
         by None e = lacks
         by (Some last) e = on last (9, end_is 9 c ∙ e) (find last)
 
@@ -201,7 +201,7 @@ promised k p = exported (caps.Promise p) (is_promise p) (same_promise p) (no_pro
 abbrev pub find_promise : (k : Known) (p : ℕ) → Finds beside (Raise (state k) (caps.Promise p))
 find_promise k p = raise_by (caps.Promise p) (is_promise p) (same_promise p) (no_promise p) k (promised k p)
 
-abbrev pub find_said_end : (k : Known) (c : Cap) → Finds beside (SayEnd (state k) c)
+abbrev pub find_said_end : (k : Known) (c : Cap) → Finds beside (WritesEnd (state k) c)
 find_said_end k caps.None = found (Ok (descriptors.None, k)) refl
 find_said_end k (caps.Object n) = follow _ (find_object k n) (λ raised. found (Ok (descriptors.SenderHosted raised.0, raised.1)) refl)
 find_said_end k (caps.Promise p) = follow _ (find_promise k p) (λ raised. found (Ok (descriptors.SenderPromise raised.0, raised.1)) refl)
@@ -209,8 +209,8 @@ find_said_end k (caps.Import i) = found (Ok (descriptors.ReceiverHosted i, k)) r
 find_said_end k (caps.Pipelined q path) = found (Ok (descriptors.ReceiverAnswer (promised_answer q path), k)) refl
 find_said_end k (caps.Broken x) = found (Ok (descriptors.None, k)) refl
 
-abbrev pub find_said : (k : Known) (c : Cap) → Finds beside (Say (state k) c)
-find_said k c = ending k c (SayEnd (state k)) (find_said_end k)
+abbrev pub find_said : (k : Known) (c : Cap) → Finds beside (WritesDescriptor (state k) c)
+find_said k c = ending k c (WritesEnd (state k)) (find_said_end k)
 
-abbrev pub find_all_said : (k : Known) (table : List Cap) → Finds beside (SayAll (state k) table)
-find_all_said k table = find_each Say find_said k table
+abbrev pub find_all_said : (k : Known) (table : List Cap) → Finds beside (WritesDescriptors (state k) table)
+find_all_said k table = find_each WritesDescriptor find_said k table

@@ -22,8 +22,8 @@ use Rattle.cp_refs.specs.declared.route.Gate.TheVariants as gates
 use Rattle.cp_refs.specs.declared.route.Route.{Route}
 use Rattle.cp_refs.specs.declared.route.Route.TheVariants as routes
 use Rattle.cp_vat_machine.specs.State.{gave}
-use Rattle.cp_vat_machine.specs.Say.{promised}
-use Rattle.cp_vat_machine.specs.Say.{mentions_of}
+use Rattle.cp_vat_machine.specs.Writing.{promised}
+use Rattle.cp_vat_machine.specs.Writing.{mentions_of}
 use Rattle.cp_vat_machine.specs.Go.{Underway, delivered, call_of, forwarding, sent, finish_after, GoOut, Go, GoTo, NoneOver, IsNext, without_call, underway, Leave, stays, leaves, finds_table_full}
 use Rattle.cp_vat_machine.specs.declared.effect.Effect.{Effect}
 use Rattle.cp_vat_machine.specs.declared.effect.Effect.TheVariants as effects

@@ -24,7 +24,7 @@ use Rattle.cp_refs.specs.declared.outcome.Outcome.{Outcome}
 use Rattle.cp_vat_machine.specs.Then.{fault_if}
 use Rattle.cp_vat_machine.specs.Capacity.{message_fits}
 use Rattle.cp_vat_machine.specs.Supported.{is_supported}
-use Rattle.cp_vat_machine.specs.Take.{path_of}
+use Rattle.cp_vat_machine.specs.Receiving.{path_of}
 use Rattle.cp_vat_machine.specs.Resolving.{OnRelease, given_back, releases_of, is_open_promise, TakeResolution, ResolveOf, OnResolve, echo_to, Echoes, EchoesExport, EchoesAnswer, EchoesTarget, is_under, embargo_ended, ended_by, OnDisembargo, told, UnknownToPeer}
 use Rattle.cp_vat_machine.specs.Step.{On, echo_fits, ReceivesIf, Receives}
 use Rattle.cp_vat_machine.specs.declared.effect.Effect.TheVariants as effects

@@ -20,7 +20,7 @@ use Rattle.cp_refs.specs.declared.cap.Cap.TheVariants as caps
 use Rattle.cp_refs.specs.declared.outcome.Outcome.{Outcome}
 use Rattle.cp_vat_machine.specs.State.{State, new_state, with_exports}
 use Rattle.cp_vat_machine.specs.Then.{Done, OrFull}
-use Rattle.cp_vat_machine.specs.Take.{released}
+use Rattle.cp_vat_machine.specs.Receiving.{released}
 use Rattle.cp_vat_machine.specs.Give.{Give, GiveAnswer, GiveBy, given, return_of}
 use Rattle.cp_vat_machine.specs.Go.{Leave}
 use Rattle.cp_vat_machine.specs.Doing.{DoAnswer, Quietly, answer_refusals}

@@ -16,7 +16,7 @@ use Rattle.cp_vat_machine.specs.Give.{GiveAnswer, given, return_of}
 use Rattle.cp_vat_machine.specs.Go.{IsNext, Leave, NoneOver, delivered, held_at, leaves, stays, without_call}
 use Rattle.cp_vat_machine.specs.Capacity.{Fresh, free}
 use Rattle.cp_vat_machine.specs.Run.{Run}
-use Rattle.cp_vat_machine.specs.Say.{HasNoExport, Raise, Say, SayAll, opened}
+use Rattle.cp_vat_machine.specs.Writing.{HasNoExport, Raise, WritesDescriptor, WritesDescriptors, opened}
 use Rattle.cp_vat_machine.specs.State.{State, gave, new_state, none_over, with_exports, with_over}
 use Rattle.cp_vat_machine.specs.Step.{Step, all_left, did, received}
 use Rattle.cp_vat_machine.specs.declared.entry.AnswerEntry.{AnswerEntry}
@@ -66,10 +66,10 @@ given_0 = given raised_0 0 (record { ticket = None; is_delivered = false; mentio
 raises_0 : Raise asked_0 (caps.Object 0) (Ok (0, raised_0))
 raises_0 = opened 0 (exports_none asked_0 refl (caps.Object 0)) fresh_first
 
-says_0 : Say asked_0 (caps.Object 0) (Ok (descriptors.SenderHosted 0, raised_0))
+says_0 : WritesDescriptor asked_0 (caps.Object 0) (Ok (descriptors.SenderHosted 0, raised_0))
 says_0 = (caps.Object 0, (1, refl), (Ok (0, raised_0), raises_0, refl))
 
-says_all_0 : SayAll asked_0 (caps.Object 0 ∷ []) (Ok (descriptors.SenderHosted 0 ∷ [], raised_0))
+says_all_0 : WritesDescriptors asked_0 (caps.Object 0 ∷ []) (Ok (descriptors.SenderHosted 0 ∷ [], raised_0))
 says_all_0 = (Ok (descriptors.SenderHosted 0, raised_0), says_0, (Ok ([], raised_0), refl, refl))
 
 abbrev pub returned_0 : Returned
@@ -223,7 +223,7 @@ r_3 = with_exports s_3' (insert s_3'.counts.exports 1 (new_counted (caps.Object 
 raises_5 : Raise s_3' (caps.Object 5) (Ok (1, r_3))
 raises_5 = opened 1 no_export_5 fresh_1
 
-says_5 : SayAll s_3' (caps.Object 5 ∷ []) (Ok (descriptors.SenderHosted 1 ∷ [], r_3))
+says_5 : WritesDescriptors s_3' (caps.Object 5 ∷ []) (Ok (descriptors.SenderHosted 1 ∷ [], r_3))
 says_5 = (Ok (descriptors.SenderHosted 1, r_3), (caps.Object 5, (1, refl), (Ok (1, r_3), raises_5, refl)), (Ok ([], r_3), refl, refl))
 
 abbrev pub returned_1 : Returned

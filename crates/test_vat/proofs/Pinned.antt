@@ -27,7 +27,7 @@ use Rattle.cp_refs.specs.declared.route.Route.TheVariants as routes
 use Rattle.cp_vat_machine.specs.State.{State, gave, with_exports, with_over, none_over}
 use Rattle.cp_vat_machine.specs.Then.{Done, Then, OrFull, after, fault_if}
 use Rattle.cp_vat_machine.specs.Capacity.{has_capacity}
-use Rattle.cp_vat_machine.specs.Say.{Raise, counted, counted_out, opened, has_no_capacity, ComesTo, SayEnd, SayAll}
+use Rattle.cp_vat_machine.specs.Writing.{Raise, counted, counted_out, opened, has_no_capacity, ResolvesTo, WritesEnd, WritesDescriptors}
 use Rattle.cp_vat_machine.specs.Doing.{DoAnswer, Quietly, answer_refusals}
 use Rattle.cp_vat_machine.specs.Give.{Give, SettleTied, given, GiveAnswer, GiveBy, return_of, returned_mentions}
 use Rattle.cp_vat_machine.specs.Go.{Underway, underway, without_call, Leave, NoneOver, Go, GoTo, held_at, delivered}
@@ -42,7 +42,7 @@ use Rattle.cp_rpc.specs.declared.message.Message.TheVariants as messages
 use Rattle.cp_refs.specs.declared.call.WaitingCall.{WaitingCall}
 use Rattle.cp_refs.specs.declared.call.Origin.TheVariants as origins
 use Rattle.cp_refs.specs.declared.route.Gate.TheVariants as gates
-use Rattle.cp_vat_machine.specs.Take.{TakeAll, released}
+use Rattle.cp_vat_machine.specs.Receiving.{ReceivesCaps, released}
 use Rattle.cp_vat_machine.specs.declared.effect.Effect.{Effect}
 use Rattle.cp_vat_machine.specs.declared.effect.Effect.TheVariants as effects
 use Rattle.cp_vat_machine.specs.declared.entry.AnswerEntry.{AnswerEntry}
@@ -60,7 +60,7 @@ use Rattle.test_vat.proofs.OneWaits.{s_1, s_2, s_2', s_3, s_3', entry_1, held_2,
 use Rattle.test_vat.proofs.Inverts.{is_closing, shows, quietly_ok, leave_ok, NextGoes, unless_ok, then_ok, quiet, ok_inj, some_inj, none_not_some}
 
 -- an object comes to itself, and a call on it goes there
-object_comes : (values : ValueMaps) (k : ℕ) (last : Cap) → ComesTo values (caps.Object k) last → last ≡ caps.Object k
+object_comes : (values : ValueMaps) (k : ℕ) (last : Cap) → ResolvesTo values (caps.Object k) last → last ≡ caps.Object k
 object_comes values k last (zero, is) = absurd (none_not_some is)
 object_comes values k last (suc n, is) = sym (some_inj is)
 
@@ -104,7 +104,7 @@ said_by old k e raised mid mid_again new d named rest raises is none said =
       ap (λ p. p.1) (ok_inj said) ∙ ap (λ p. p.1) (ok_inj none) ∙ ap (λ p. p.1) (ok_inj is) ∙ new_is,
     )
 
-says_by : (old : State) (k : ℕ) (last : Cap) (d : Descriptor) (mid mid_again new : State) (named rest : List Descriptor) → last ≡ caps.Object k → SayEnd old last (Ok (d, mid))
+says_by : (old : State) (k : ℕ) (last : Cap) (d : Descriptor) (mid mid_again new : State) (named rest : List Descriptor) → last ≡ caps.Object k → WritesEnd old last (Ok (d, mid))
     → ◌≡◌ {A = Result (List Descriptor × State) PeerFault} (Ok (rest, mid_again)) (Ok ([], mid))
     → ◌≡◌ {A = Result (List Descriptor × State) PeerFault} (Ok (named, new)) (Ok (d ∷ rest, mid_again))
     → SaysObject old k named new
@@ -112,7 +112,7 @@ says_by old k last d mid mid_again new named rest is ends none said =
     let (raised, raises, so) = then_ok _ _ _ (rw (is) at ends) in
     said_by old k raised.0 raised.1 mid mid_again new d named rest raises so none said
 
-pub says_object : (old : State) (k : ℕ) (named : List Descriptor) (new : State) → SayAll old (caps.Object k ∷ []) (Ok (named, new)) → SaysObject old k named new
+pub says_object : (old : State) (k : ℕ) (named : List Descriptor) (new : State) → WritesDescriptors old (caps.Object k ∷ []) (Ok (named, new)) → SaysObject old k named new
 says_object old k named new says =
     let (first, (last, comes, ends), more) = then_ok _ _ _ says in
     let (rest, none, said) = then_ok _ _ _ more in
@@ -260,9 +260,9 @@ goes_by old q target done taken is goes = rw (is) at goes
 
 call_goes : (old : State) (q : ℕ) (target : Target) (done : Done) → OnCall old (small q target) (Ok done) → Goes old q target done ([], old)
 call_goes old q target done does =
-    let (taken, none, goes) = then_ok (TakeAll old []) (λ taken. GoToTarget (entered taken.1 q) (peer_call taken.1 (small q target) taken.0) target) done (unless_ok
+    let (taken, none, goes) = then_ok (ReceivesCaps old []) (λ taken. GoToTarget (entered taken.1 q) (peer_call taken.1 (small q target) taken.0) target) done (unless_ok
     (call_faults old (small q target))
-    (Then (TakeAll old []) (λ taken. GoToTarget (entered taken.1 q) (peer_call taken.1 (small q target) taken.0) target))
+    (Then (ReceivesCaps old []) (λ taken. GoToTarget (entered taken.1 q) (peer_call taken.1 (small q target) taken.0) target))
     done
     does) in
     goes_by old q target done taken (ok_inj none) goes

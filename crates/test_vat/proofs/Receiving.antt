@@ -22,11 +22,11 @@ use Rattle.cp_refs.specs.declared.route.Route.TheVariants as routes
 use Rattle.cp_vat_machine.specs.State.{with_answers}
 use Rattle.cp_vat_machine.specs.Then.{Then, fault_if, after}
 use Rattle.cp_vat_machine.specs.Capacity.{has_ticket}
-use Rattle.cp_vat_machine.specs.Take.{path_of}
+use Rattle.cp_vat_machine.specs.Receiving.{path_of}
 use Rattle.cp_vat_machine.specs.Give.{GiveAnswer}
 use Rattle.cp_vat_machine.specs.Go.{Underway, finish_of}
 use Rattle.cp_vat_machine.specs.Answering.{bootstrap_outcome, OnBootstrap, target_faults, GoToExport, GoToAnswer, GoToTarget, peer_call, OnCall, without_answer, AtStage, FinishedBy, OnFinish}
-use Rattle.cp_vat_machine.specs.Asking.{TakeReturned, Settles, ReturnBy, is_asked, ReturnOf, OnReturn}
+use Rattle.cp_vat_machine.specs.Asking.{ReceivesReturned, Settles, ReturnBy, is_asked, ReturnOf, OnReturn}
 use Rattle.cp_vat_machine.specs.declared.entry.AnswerEntry.{AnswerEntry}
 use Rattle.cp_vat_machine.specs.declared.entry.QuestionEntry.{QuestionEntry}
 use Rattle.cp_vat_machine.specs.declared.fault.PeerFault.{PeerFault}
@@ -130,7 +130,7 @@ abbrev pub find_finished : (k : Known) (f : Finish) → Finds beside (OnFinish (
 find_finished k f = moved (FinishedBy (state k) f) (get_is k.answering f.question_id) (find_finished_by k f (at k.answering f.question_id))
 
 -- what was returned
-abbrev pub find_returned_taken : (k : Known) (returned : Returned) → Finds beside (TakeReturned (state k) returned)
+abbrev pub find_returned_taken : (k : Known) (returned : Returned) → Finds beside (ReceivesReturned (state k) returned)
 find_returned_taken k (returns.Results p) =
     follow _ (find_all_taken k p.cap_table) (λ taken. found (Ok (outcomes.Results p.content taken.0, taken.1)) refl)
 find_returned_taken k (returns.Exception x) = found (Ok (outcomes.Failed x, k)) refl

@@ -14,7 +14,7 @@ use Rattle.cp_refs.specs.declared.outcome.Outcome.{Outcome}
 use Rattle.cp_rpc.specs.declared.descriptor.Descriptor.{Descriptor}
 use Rattle.cp_rpc.specs.declared.descriptor.Descriptor.TheVariants as descriptors
 use Rattle.cp_vat_machine.specs.State.{State}
-use Rattle.cp_vat_machine.specs.Take.{path_of, held_once_more, held_import, answer_by, answer_of, tie, tied, TakeAnswer, taken_export, Take, TakeAll, less_by, lowered_by, lowered, times, lower, released}
+use Rattle.cp_vat_machine.specs.Receiving.{path_of, held_once_more, held_import, answer_by, answer_of, tie, tied, ReceivesAnswer, taken_export, ReceivesCap, ReceivesCaps, less_by, lowered_by, lowered, times, release_exports, released}
 use Rattle.cp_vat_machine.specs.declared.entry.ImportKind.{ImportKind}
 use Rattle.cp_vat_machine.specs.declared.entry.ImportKind.TheVariants as kinds
 use Rattle.cp_vat_machine.specs.declared.fault.PeerFault.{PeerFault}
@@ -76,7 +76,7 @@ tied_is k a path p =
       entries = record (state k).entries { answers = tables i };
     }
 
-abbrev pub find_taken_answer : (k : Known) (a : ℕ) (path : List ℕ) (o : Option (Option Outcome)) → Finds beside (TakeAnswer (state k) a path o)
+abbrev pub find_taken_answer : (k : Known) (a : ℕ) (path : List ℕ) (o : Option (Option Outcome)) → Finds beside (ReceivesAnswer (state k) a path o)
 find_taken_answer k a path None = found (Err faults.UnknownAnswer) refl
 find_taken_answer k a path (Some (Some outcome)) = found (Ok (cap_at outcome path, k)) refl
 find_taken_answer k a path (Some None) =
@@ -86,21 +86,21 @@ abbrev pub find_taken_export : (k : Known) (o : Option (Counted Cap)) → Finds 
 find_taken_export k None = found (Err faults.UnknownExport) refl
 find_taken_export k (Some entry) = found (Ok (entry.kept, k)) refl
 
-abbrev pub find_taken : (k : Known) (d : Descriptor) → Finds beside (Take (state k) d)
+abbrev pub find_taken : (k : Known) (d : Descriptor) → Finds beside (ReceivesCap (state k) d)
 find_taken k descriptors.None = found (Ok (caps.None, k)) refl
 find_taken k (descriptors.SenderHosted i) = follow _ (find_held k i kinds.Hosted) (λ new. found (Ok (caps.Import i, new)) refl)
 find_taken k (descriptors.SenderPromise i) = follow _ (find_held k i kinds.Promise) (λ new. found (Ok (caps.Import i, new)) refl)
 find_taken k (descriptors.ReceiverHosted e) = moved (λ o out. out ≡ taken_export (state k) o) (get_is k.exports e) (find_taken_export k (at k.exports e))
 find_taken k (descriptors.ReceiverAnswer answer) =
     moved
-    (TakeAnswer (state k) answer.question_id (path_of answer.transform))
+    (ReceivesAnswer (state k) answer.question_id (path_of answer.transform))
     (answer_is k answer.question_id)
     (find_taken_answer k answer.question_id (path_of answer.transform) (known_answer k answer.question_id))
 find_taken k (descriptors.ThirdPartyHosted t) = lacks
 find_taken k (descriptors.Unknown n) = lacks
 
-abbrev pub find_all_taken : (k : Known) (table : List Descriptor) → Finds beside (TakeAll (state k) table)
-find_all_taken k table = find_each Take find_taken k table
+abbrev pub find_all_taken : (k : Known) (table : List Descriptor) → Finds beside (ReceivesCaps (state k) table)
+find_all_taken k table = find_each ReceivesCap find_taken k table
 
 -- exports lowered
 abbrev pub less : Listed (Counted Cap) → ℕ → ℕ → Option (Counted Cap) → Listed (Counted Cap)
@@ -143,14 +143,14 @@ find_checked true is_past es = found (Err faults.UnknownExport) refl
 find_checked false true es = found (Err faults.ReleaseTooLarge) refl
 find_checked false false es = found (Ok es) refl
 
-pub lower_is : (es : Listed (Counted Cap)) (ids : List ℕ) → lower (tabled es) ids ≡ checked (list_any (λ e. is_none (at es e)) ids) (list_any (λ e. ltb (known_count es e) (times e ids)) ids) (tabled (lowered_all es ids))
+pub lower_is : (es : Listed (Counted Cap)) (ids : List ℕ) → release_exports (tabled es) ids ≡ checked (list_any (λ e. is_none (at es e)) ids) (list_any (λ e. ltb (known_count es e) (times e ids)) ids) (tabled (lowered_all es ids))
 lower_is es ids = λ i.
     checked
     (list_any (λ e. is_none (get_is es e i)) ids)
     (list_any (λ e. ltb (option_map_or (λ entry. entry.count) (get_is es e i) 0) (times e ids)) ids)
     (lowered_all_is es ids i)
 
-abbrev pub find_lowered : (es : Listed (Counted Cap)) (ids : List ℕ) → Finds tabled (λ exports. exports ≡ lower (tabled es) ids)
+abbrev pub find_lowered : (es : Listed (Counted Cap)) (ids : List ℕ) → Finds tabled (λ exports. exports ≡ release_exports (tabled es) ids)
 find_lowered es ids = moved (λ right exports. exports ≡ right) (lower_is es ids) (find_checked _ _ _)
 
 pub released_is : (es : Listed (Counted Cap)) (e n : ℕ) → released (tabled es) e n ≡ checked (is_none (at es e)) (ltb (known_count es e) n) (tabled (lowered_at es e n))
@@ -160,6 +160,6 @@ released_is es e n = λ i.
 abbrev pub find_released : (es : Listed (Counted Cap)) (e n : ℕ) → Finds tabled (λ exports. exports ≡ released (tabled es) e n)
 find_released es e n = moved (λ right exports. exports ≡ right) (released_is es e n) (find_checked _ _ _)
 
-abbrev pub find_lowered_if : (b : Bool) (es : Listed (Counted Cap)) (ids : List ℕ) → Finds tabled (λ exports. exports ≡ (if b then lower (tabled es) ids else Ok (tabled es)))
+abbrev pub find_lowered_if : (b : Bool) (es : Listed (Counted Cap)) (ids : List ℕ) → Finds tabled (λ exports. exports ≡ (if b then release_exports (tabled es) ids else Ok (tabled es)))
 find_lowered_if true es ids = find_lowered es ids
 find_lowered_if false es ids = found (Ok es) refl

@@ -17,7 +17,7 @@ use Rattle.cp_vat_machine.specs.declared.entry.AnswerEntry.{AnswerEntry}
 use Rattle.cp_vat_machine.specs.State.{State, none_over, with_over, with_exports}
 use Rattle.cp_vat_machine.specs.Go.{Leave, IsNext, NoneOver, delivered, without_call, stays, leaves}
 use Rattle.cp_vat_machine.specs.Give.{given, GiveAnswer, return_of}
-use Rattle.cp_vat_machine.specs.Say.{Raise, opened, SayAll}
+use Rattle.cp_vat_machine.specs.Writing.{Raise, opened, WritesDescriptors}
 use Rattle.cp_vat_machine.specs.Doing.{DoAnswer, answer_refusals}
 use Rattle.cp_vat_machine.specs.Answering.{OnCall}
 use Rattle.cp_vat_machine.specs.Step.{Step, received, did, all_left}
@@ -60,7 +60,7 @@ r_4 = with_exports s_4' (insert s_4'.counts.exports 1 (new_counted (caps.Object 
 raises_5 : Raise s_4' (caps.Object 5) (Ok (1, r_4))
 raises_5 = opened 1 no_export_5 fresh_1
 
-says_5 : SayAll s_4' (caps.Object 5 ∷ []) (Ok (descriptors.SenderHosted 1 ∷ [], r_4))
+says_5 : WritesDescriptors s_4' (caps.Object 5 ∷ []) (Ok (descriptors.SenderHosted 1 ∷ [], r_4))
 says_5 = (Ok (descriptors.SenderHosted 1, r_4), (caps.Object 5, (1, refl), (Ok (1, r_4), raises_5, refl)), (Ok ([], r_4), refl, refl))
 
 abbrev pub g_4 : State

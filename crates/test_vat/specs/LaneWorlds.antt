@@ -7,7 +7,7 @@ use Rattle.cp_refs.specs.declared.cap.Cap.TheVariants as caps
 use Rattle.cp_refs.specs.declared.call.Origin.TheVariants as origins
 use Rattle.cp_refs.specs.declared.outcome.Outcome.TheVariants as outcomes
 use Rattle.cp_vat_machine.specs.Run.{Moment}
-use Rattle.cp_vat_machine.specs.Say.{IsExport}
+use Rattle.cp_vat_machine.specs.Writing.{IsExport}
 use Rattle.cp_vat_machine.specs.declared.effect.Effect.TheVariants as effects
 use Rattle.cp_vat_machine.specs.declared.event.Event.TheVariants as events
 use Rattle.cp_vat_machine.specs.declared.event.Value.TheVariants as values

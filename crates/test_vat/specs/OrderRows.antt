@@ -13,8 +13,8 @@ use Rattle.cp_refs.specs.declared.call.Request.{Request}
 use Rattle.cp_refs.specs.declared.outcome.Outcome.{Outcome}
 use Rattle.cp_refs.specs.declared.call.Origin.TheVariants as origins
 use Rattle.cp_refs.specs.declared.outcome.Outcome.TheVariants as outcomes
-use Rattle.cp_vat_machine.specs.Say.{promised}
-use Rattle.cp_vat_machine.specs.Take.{answer_of}
+use Rattle.cp_vat_machine.specs.Writing.{promised}
+use Rattle.cp_vat_machine.specs.Receiving.{answer_of}
 use Rattle.cp_vat_machine.specs.Telling.{EachHasItsOwn}
 use Rattle.cp_vat_machine.specs.Give.{return_of}
 use Rattle.cp_vat_machine.specs.Go.{call_of}

@@ -22,7 +22,7 @@ use Rattle.cp_refs.specs.declared.route.Route.TheVariants as routes
 use Rattle.cp_vat_machine.specs.State.{State, none_over}
 use Rattle.cp_vat_machine.specs.Then.{Done, fault_if}
 use Rattle.cp_vat_machine.specs.Supported.{is_supported}
-use Rattle.cp_vat_machine.specs.Take.{answer_of, path_of, TakeAll}
+use Rattle.cp_vat_machine.specs.Receiving.{answer_of, path_of, ReceivesCaps}
 use Rattle.cp_vat_machine.specs.Answering.{is_answering, target_faults, GoToExport, GoToAnswer, GoToTarget, peer_call, entered, call_faults, OnCall}
 use Rattle.cp_vat_machine.specs.Go.{Underway, Go}
 use Rattle.cp_vat_machine.specs.Local.{IsExportable, AnswerIs}
@@ -180,6 +180,6 @@ on_call past old c first mid h within none supported later does =
     let unused = front_empty (use_faults old c) (target_faults old c.target) early in
     let aimed = back_empty (use_faults old c) (target_faults old c.target) early in
     let free = free_answer old c.question_id within (not_met (is_answering old c.question_id) _ unused) in
-    let parts = then_out {A = List Cap × State} {B = Done} (TakeAll old c.params.cap_table) _ (first, mid) (unless_out (call_faults old c) _ (first, mid) does) in
+    let parts = then_out {A = List Cap × State} {B = Done} (ReceivesCaps old c.params.cap_table) _ (first, mid) (unless_out (call_faults old c) _ (first, mid) does) in
     let well = take_all_keeps None [] c.params.cap_table old parts.0 within none parts.1 in
     target_by old c parts.0 within none well.1 free past h supported first mid later c.target refl aimed parts.2

@@ -20,8 +20,8 @@ use Rattle.cp_refs.specs.declared.route.Route.TheVariants as routes
 use Rattle.cp_vat_machine.specs.State.{State, with_questions}
 use Rattle.cp_vat_machine.specs.Then.{Done}
 use Rattle.cp_vat_machine.specs.Capacity.{Fresh}
-use Rattle.cp_vat_machine.specs.Say.{SayAll, promised}
-use Rattle.cp_vat_machine.specs.Take.{path_of}
+use Rattle.cp_vat_machine.specs.Writing.{WritesDescriptors, promised}
+use Rattle.cp_vat_machine.specs.Receiving.{path_of}
 use Rattle.cp_vat_machine.specs.Go.{Underway, delivered, forwarding, sent, finish_after, GoOut, Go}
 use Rattle.cp_vat_machine.specs.Local.{IsTicketOf}
 use Rattle.cp_vat_machine.specs.Exits.{to_target, sent_under, exit_by, given_to, failure_by, or_failure}
@@ -63,7 +63,7 @@ out_done : (s : State) (call : Underway) (target : Target) (origin : Origin) (do
     → IsOut s call target done
 out_done s call target (origins.Answer a) done out whose =
     let first = then_out {A = ℕ} {B = Done} (Fresh s.entries.questions) _ done out in
-    let parts = then_out {A = List Descriptor × State} {B = Done} (SayAll s call.request.caps) _ done first.2 in
+    let parts = then_out {A = List Descriptor × State} {B = Done} (WritesDescriptors s call.request.caps) _ done first.2 in
     let said = parts.0 in
     let only = all_only call.request.caps s said parts.1 in
     let entry : Exchange QuestionEntry = new_exchange (forwarding a call said.0) in
@@ -76,7 +76,7 @@ out_done s call target (origins.Answer a) done out whose =
     })
 out_done s call target (origins.Own q) done out whose =
     let entry = out.0 in
-    let parts = then_out {A = List Descriptor × State} {B = Done} (SayAll s call.request.caps) _ done out.2 in
+    let parts = then_out {A = List Descriptor × State} {B = Done} (WritesDescriptors s call.request.caps) _ done out.2 in
     let said = parts.0 in
     let only = all_only call.request.caps s said parts.1 in
     let last : State = sent said.1 q said.0 in

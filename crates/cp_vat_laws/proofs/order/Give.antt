@@ -16,7 +16,7 @@ use Rattle.cp_refs.specs.declared.outcome.Outcome.TheVariants as outcomes
 use Rattle.cp_refs.specs.declared.values.Question.{Question}
 use Rattle.cp_vat_machine.specs.State.{State, Exchanges}
 use Rattle.cp_vat_machine.specs.Then.{Done}
-use Rattle.cp_vat_machine.specs.Say.{SayAll}
+use Rattle.cp_vat_machine.specs.Writing.{WritesDescriptors}
 use Rattle.cp_vat_machine.specs.Give.{SettleTied, Returns, given, gone, GiveBy, answer_over, question_over, question_settled, is_path_of, without_question, GiveOwnBy, Give}
 use Rattle.cp_vat_machine.specs.Calling.{mark_of}
 use Rattle.cp_vat_machine.specs.Ports.{capability, is_there}
@@ -95,7 +95,7 @@ gone_closes s a outcome open_ ungiven =
 
 pub returned_only : (s : State) (outcome : Outcome) (said : Returned × State) → Returns s outcome (Ok said) → IsOnly s said.1
 returned_only s (outcomes.Results content table) said is =
-    let parts = then_out {A = List Descriptor × State} {B = Returned × State} (SayAll s table) _ said is in
+    let parts = then_out {A = List Descriptor × State} {B = Returned × State} (WritesDescriptors s table) _ said is in
     rw (ok_in _ _ parts.2) (all_only table s parts.0 parts.1)
 returned_only s (outcomes.Failed x) said is = rw (ok_in _ _ is) refl
 returned_only s outcomes.Canceled said is = rw (ok_in _ _ is) refl

@@ -22,7 +22,7 @@ use Rattle.cp_refs.specs.declared.values.Question.{Question}
 use Rattle.cp_vat_machine.specs.State.{State}
 use Rattle.cp_vat_machine.specs.Then.{Done}
 use Rattle.cp_vat_machine.specs.Capacity.{Fresh}
-use Rattle.cp_vat_machine.specs.Say.{SayAll, promised}
+use Rattle.cp_vat_machine.specs.Writing.{WritesDescriptors, promised}
 use Rattle.cp_vat_machine.specs.Give.{SettleTied, Returns, given, GiveBy, GiveOwnBy, Give}
 use Rattle.cp_vat_machine.specs.Go.{Underway, delivered, GoOut, Go}
 use Rattle.cp_vat_machine.specs.Ports.{Name, answer_path, capability, is_there}
@@ -40,10 +40,10 @@ IsSent other = Unit {0}
 out_same : (s : State) (call : Underway) (target : Target) (origin : Origin) (done : Done) → GoOut s call target origin (Ok done) → done.1.values ≡ s.values
 out_same s call target (origins.Answer a) done out =
     let first = then_out {A = ℕ} {B = Done} (Fresh s.entries.questions) _ done out in
-    let parts = then_out {A = List Descriptor × State} {B = Done} (SayAll s call.request.caps) _ done first.2 in
+    let parts = then_out {A = List Descriptor × State} {B = Done} (WritesDescriptors s call.request.caps) _ done first.2 in
     rw (ok_in _ _ parts.2) (ap (λ x. x.values) (all_only call.request.caps s parts.0 parts.1))
 out_same s call target (origins.Own q) done out =
-    let parts = then_out {A = List Descriptor × State} {B = Done} (SayAll s call.request.caps) _ done out.2 in
+    let parts = then_out {A = List Descriptor × State} {B = Done} (WritesDescriptors s call.request.caps) _ done out.2 in
     rw (ok_in _ _ parts.2) (ap (λ x. x.values) (all_only call.request.caps s parts.0 parts.1))
 
 delivered_same : (s : State) (origin : Origin) → (delivered s origin).values ≡ s.values

@@ -29,7 +29,7 @@ use Rattle.cp_refs.specs.declared.outcome.Outcome.{Outcome}
 use Rattle.cp_vat_machine.specs.State.{State, none_over, with_exports, with_answers}
 use Rattle.cp_vat_machine.specs.Then.{Done, Then, fault_if}
 use Rattle.cp_vat_machine.specs.Capacity.{has_capacity}
-use Rattle.cp_vat_machine.specs.Take.{answer_of, path_of, lower, released}
+use Rattle.cp_vat_machine.specs.Receiving.{answer_of, path_of, release_exports, released}
 use Rattle.cp_vat_machine.specs.Give.{GiveAnswer}
 use Rattle.cp_vat_machine.specs.Answering.{with_answer, bootstrap_outcome, is_answering, OnBootstrap, target_faults, without_answer, AtStage, FinishedBy, OnFinish}
 use Rattle.cp_vat_machine.specs.Resolving.{OnRelease, given_back, releases_of, is_open_promise, TakeResolution, resolved, ResolveOf, OnResolve, echo_to, EchoesExport, EchoesAnswer, EchoesTarget, ended_by, OnDisembargo, told, UnknownToPeer, OnUnimplemented, closed, OnAbort}
@@ -74,7 +74,7 @@ at_stage old f kept stages.Open done does =
     (ok_in _ _ does)
     (closes_quietly old [] (with_answers old (with_stage old.entries.answers f.question_id stages.Finished)) (same_closes old _ refl refl refl refl) (λ s. refl))
 at_stage old f kept stages.Returned done does =
-    let parts = then_out {A = Table (Counted Cap)} {B = Done} (λ exports. exports ≡ (if f.release_result_caps then lower old.counts.exports kept.mentions else Ok old.counts.exports)) _ done does in
+    let parts = then_out {A = Table (Counted Cap)} {B = Done} (λ exports. exports ≡ (if f.release_result_caps then release_exports old.counts.exports kept.mentions else Ok old.counts.exports)) _ done does in
     let mid : State = with_exports old parts.0 in
     rw
     (ok_in _ _ parts.2)
@@ -93,7 +93,7 @@ on_abort old x done does = rw (ok_in _ _ does) (closes_quietly old _ (closed old
 
 unknown_by : (old : State) (o : Option Message) (done : Done) → UnknownToPeer old o (Ok done) → DoesQuietly old done
 unknown_by old (Some (messages.Resolve r)) done does =
-    let parts = then_out {A = Table (Counted Cap)} {B = Done} (λ exports. exports ≡ lower old.counts.exports (given_back r.resolution)) _ done does in
+    let parts = then_out {A = Table (Counted Cap)} {B = Done} (λ exports. exports ≡ release_exports old.counts.exports (given_back r.resolution)) _ done does in
     rw (ok_in _ _ parts.2) (closes_quietly old [] (with_exports old parts.0) (exports_closes old parts.0) (λ s. refl))
 unknown_by old None done does = ok_out does
 unknown_by old (Some other) done does = ok_out does

@@ -15,11 +15,11 @@ use Rattle.cp_refs.specs.declared.call.Origin.TheVariants as origins
 use Rattle.cp_refs.specs.declared.outcome.Outcome.{Outcome}
 use Rattle.cp_vat_machine.specs.State.{State, none_over, with_exports}
 use Rattle.cp_vat_machine.specs.Then.{Done, Then, fault_if}
-use Rattle.cp_vat_machine.specs.Take.{TakeAll, lower}
+use Rattle.cp_vat_machine.specs.Receiving.{ReceivesCaps, release_exports}
 use Rattle.cp_vat_machine.specs.Give.{GiveAnswer, without_question}
 use Rattle.cp_vat_machine.specs.Go.{finish_of}
 use Rattle.cp_vat_machine.specs.Local.{ForwardsRightly}
-use Rattle.cp_vat_machine.specs.Asking.{TakeReturned, Settles, ReturnBy, is_asked, ReturnOf, OnReturn}
+use Rattle.cp_vat_machine.specs.Asking.{ReceivesReturned, Settles, ReturnBy, is_asked, ReturnOf, OnReturn}
 use Rattle.cp_vat_machine.specs.declared.entry.AnswerEntry.{AnswerEntry}
 use Rattle.cp_vat_machine.specs.declared.entry.QuestionEntry.{QuestionEntry}
 use Rattle.cp_vat_machine.specs.declared.fault.PeerFault.TheVariants as faults
@@ -57,9 +57,9 @@ pub record IsTakenIn (s : State) (taken : State) : Type 0 where
   pub within : Within taken None []
   pub grows : Grows s taken
 
-pub taken_in : (s : State) (returned : Returned) (taken : Outcome × State) → Within s None [] → s.waiting.over ≡ none_over → TakeReturned s returned (Ok taken) → IsTakenIn s taken.1
+pub taken_in : (s : State) (returned : Returned) (taken : Outcome × State) → Within s None [] → s.waiting.over ≡ none_over → ReceivesReturned s returned (Ok taken) → IsTakenIn s taken.1
 taken_in s (returns.Results p) taken w none does =
-    let parts = then_out {A = List Cap × State} {B = Outcome × State} (TakeAll s p.cap_table) _ taken does in
+    let parts = then_out {A = List Cap × State} {B = Outcome × State} (ReceivesCaps s p.cap_table) _ taken does in
     let well = take_all_keeps None [] p.cap_table s parts.0 w none parts.1 in
     rw (ok_in _ _ parts.2) (record { within = well.0; grows = well.1 })
 taken_in s (returns.Exception x) taken w none does = rw (ok_in _ _ does) (record { within = w; grows = grows_not s })
@@ -111,7 +111,7 @@ return_by : (old : State) (exports : Table (Counted Cap)) (r : Return) (entry : 
     → old.waiting.over ≡ none_over → get old.entries.questions r.answer_id ≡ Some entry → entry.stage ≡ stage → ReturnBy (with_exports old exports) r entry.kept stage (Ok done) → DoesQuietly old done
 return_by old exports r entry stages.Open done w none is at does =
     let s : State = with_exports old exports in
-    let parts = then_out {A = Outcome × State} {B = Done} (TakeReturned s r.returned) _ done does in
+    let parts = then_out {A = Outcome × State} {B = Done} (ReceivesReturned s r.returned) _ done does in
     settles_by old exports r.answer_id entry parts.0.1 parts.0.0 done none is at (taken_in s r.returned parts.0 w none parts.1) entry.kept.forwards refl parts.2
 return_by old exports r entry stages.Finished done w none is at does =
     let s : State = with_exports old exports in
@@ -126,9 +126,9 @@ return_of old r None done w none is does = ok_out does
 return_of old r (Some entry) done w none is does =
     let F = fault_if (not (is_asked entry.kept.is_sent entry.stage)) faults.UnknownQuestion in
     let parts =
-    then_out {A = Table (Counted Cap)} {B = Done} (λ exports. exports ≡ (if r.release_param_caps then lower old.counts.exports entry.kept.mentions else Ok old.counts.exports)) _ done
+    then_out {A = Table (Counted Cap)} {B = Done} (λ exports. exports ≡ (if r.release_param_caps then release_exports old.counts.exports entry.kept.mentions else Ok old.counts.exports)) _ done
     (unless_out {A = Done} F
-    (Then (λ exports. exports ≡ (if r.release_param_caps then lower old.counts.exports entry.kept.mentions else Ok old.counts.exports))
+    (Then (λ exports. exports ≡ (if r.release_param_caps then release_exports old.counts.exports entry.kept.mentions else Ok old.counts.exports))
     (λ exports. ReturnBy (with_exports old exports) r entry.kept entry.stage)) done does) in
     let lowered = fewer_exports w parts.0 (lower_if r.release_param_caps old.counts.exports parts.0 entry.kept.mentions w.counts parts.1) in
     return_by old parts.0 r entry entry.stage done lowered none is refl parts.2

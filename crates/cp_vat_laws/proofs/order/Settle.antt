@@ -11,7 +11,7 @@ use Rattle.cp_refs.specs.declared.cap.Cap.TheVariants as caps
 use Rattle.cp_refs.specs.declared.outcome.Outcome.{Outcome}
 use Rattle.cp_vat_machine.specs.State.{State, with_exports}
 use Rattle.cp_vat_machine.specs.Then.{Done}
-use Rattle.cp_vat_machine.specs.Say.{Raise, counted, counted_out, opened, has_no_capacity, SayEnd, Say, SayAll}
+use Rattle.cp_vat_machine.specs.Writing.{Raise, counted, counted_out, opened, has_no_capacity, WritesEnd, WritesDescriptor, WritesDescriptors}
 use Rattle.cp_vat_machine.specs.Give.{ResolvesEnd, Tells, settled, value_for, last_for, Settle, SettleTied}
 use Rattle.cp_vat_machine.specs.Local.{tied_to}
 use Rattle.cp_vat_machine.specs.declared.entry.Tied.{Tied}
@@ -35,7 +35,7 @@ raised_only old cap out (counted_out e is) = tt
 raised_only old cap out (opened e none fresh) = refl
 raised_only old cap out (has_no_capacity none is) = tt
 
-pub end_only : (old : State) (last : Cap) (said : Descriptor × State) → SayEnd old last (Ok said) → IsOnly old said.1
+pub end_only : (old : State) (last : Cap) (said : Descriptor × State) → WritesEnd old last (Ok said) → IsOnly old said.1
 end_only old caps.None said is = rw (ok_in _ _ is) refl
 end_only old (caps.Object k) said is =
     let parts = then_out {A = ℕ × State} {B = Descriptor × State} (Raise old (caps.Object k)) _ said is in
@@ -50,19 +50,19 @@ end_only old (caps.Broken x) said is = rw (ok_in _ _ is) refl
 only_both : (old mid new : State) → IsOnly old mid → IsOnly mid new → IsOnly old new
 only_both old mid new one more = more ∙ ap (λ s. with_exports s new.counts.exports) one
 
-pub all_only : (table : List Cap) (old : State) (said : List Descriptor × State) → SayAll old table (Ok said) → IsOnly old said.1
+pub all_only : (table : List Cap) (old : State) (said : List Descriptor × State) → WritesDescriptors old table (Ok said) → IsOnly old said.1
 all_only [] old said is = rw (ok_in _ _ is) refl
 all_only (cap ∷ table) old said is =
-    let first = then_out {A = Descriptor × State} {B = List Descriptor × State} (Say old cap) _ said is in
-    let rest = then_out {A = List Descriptor × State} {B = List Descriptor × State} (SayAll first.0.1 table) _ said first.2 in
+    let first = then_out {A = Descriptor × State} {B = List Descriptor × State} (WritesDescriptor old cap) _ said is in
+    let rest = then_out {A = List Descriptor × State} {B = List Descriptor × State} (WritesDescriptors first.0.1 table) _ said first.2 in
     rw (ok_in _ _ rest.2) (only_both old first.0.1 rest.0.1 (end_only old first.1.0 first.0 first.1.2) (all_only table first.0.1 rest.0 rest.1))
 
 resolved_only : (old : State) (last : Cap) (said : Resolution × State) → ResolvesEnd old last (Ok said) → IsOnly old said.1
-resolved_only old caps.None said is = let parts = then_out {A = Descriptor × State} {B = Resolution × State} (SayEnd old caps.None) _ said is in rw (ok_in _ _ parts.2) (end_only old caps.None parts.0 parts.1)
-resolved_only old (caps.Object k) said is = let parts = then_out {A = Descriptor × State} {B = Resolution × State} (SayEnd old (caps.Object k)) _ said is in rw (ok_in _ _ parts.2) (end_only old (caps.Object k) parts.0 parts.1)
-resolved_only old (caps.Promise p) said is = let parts = then_out {A = Descriptor × State} {B = Resolution × State} (SayEnd old (caps.Promise p)) _ said is in rw (ok_in _ _ parts.2) (end_only old (caps.Promise p) parts.0 parts.1)
-resolved_only old (caps.Import i) said is = let parts = then_out {A = Descriptor × State} {B = Resolution × State} (SayEnd old (caps.Import i)) _ said is in rw (ok_in _ _ parts.2) (end_only old (caps.Import i) parts.0 parts.1)
-resolved_only old (caps.Pipelined q path) said is = let parts = then_out {A = Descriptor × State} {B = Resolution × State} (SayEnd old (caps.Pipelined q path)) _ said is in rw (ok_in _ _ parts.2) (end_only old (caps.Pipelined q path) parts.0 parts.1)
+resolved_only old caps.None said is = let parts = then_out {A = Descriptor × State} {B = Resolution × State} (WritesEnd old caps.None) _ said is in rw (ok_in _ _ parts.2) (end_only old caps.None parts.0 parts.1)
+resolved_only old (caps.Object k) said is = let parts = then_out {A = Descriptor × State} {B = Resolution × State} (WritesEnd old (caps.Object k)) _ said is in rw (ok_in _ _ parts.2) (end_only old (caps.Object k) parts.0 parts.1)
+resolved_only old (caps.Promise p) said is = let parts = then_out {A = Descriptor × State} {B = Resolution × State} (WritesEnd old (caps.Promise p)) _ said is in rw (ok_in _ _ parts.2) (end_only old (caps.Promise p) parts.0 parts.1)
+resolved_only old (caps.Import i) said is = let parts = then_out {A = Descriptor × State} {B = Resolution × State} (WritesEnd old (caps.Import i)) _ said is in rw (ok_in _ _ parts.2) (end_only old (caps.Import i) parts.0 parts.1)
+resolved_only old (caps.Pipelined q path) said is = let parts = then_out {A = Descriptor × State} {B = Resolution × State} (WritesEnd old (caps.Pipelined q path)) _ said is in rw (ok_in _ _ parts.2) (end_only old (caps.Pipelined q path) parts.0 parts.1)
 resolved_only old (caps.Broken x) said is = rw (ok_in _ _ is) refl
 
 pub told_only : (old : State) (p : ℕ) (last : Cap) (done : Done) → Tells old p last (Ok done) → IsOnly old done.1 × AreQuiet done.0

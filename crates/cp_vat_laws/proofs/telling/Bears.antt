@@ -19,7 +19,7 @@ use Rattle.cp_refs.specs.declared.outcome.Outcome.{Outcome}
 use Rattle.cp_refs.specs.declared.outcome.Outcome.TheVariants as outcomes
 use Rattle.cp_vat_machine.specs.State.{State, with_exports}
 use Rattle.cp_vat_machine.specs.Then.{Done}
-use Rattle.cp_vat_machine.specs.Say.{ComesTo, end_by, end_within, IsExport, Raise, counted, counted_out, opened, has_no_capacity, SayEnd, Say, SayAll}
+use Rattle.cp_vat_machine.specs.Writing.{ResolvesTo, end_by, end_within, IsExport, Raise, counted, counted_out, opened, has_no_capacity, WritesEnd, WritesDescriptor, WritesDescriptors}
 use Rattle.cp_vat_machine.specs.Capacity.{free}
 use Rattle.cp_vat_machine.specs.Give.{ResolvesEnd, Tells, settled, value_for, last_for, Settle, SettleTied, Returns, given, gone, GiveBy, return_of}
 use Rattle.cp_vat_machine.specs.Doing.{is_settled}
@@ -76,7 +76,7 @@ comes_within : (values : ValueMaps) (n : ℕ) (c last : Cap) → end_within n va
 comes_within values zero c last e = none_out e
 comes_within values (suc n) c last e = comes_by values n c last (way values c) (λ next k. comes_within values n next last k) refl e
 
-pub comes_leads : (values : ValueMaps) (c last : Cap) → ComesTo values c last → LeadsTo values c last
+pub comes_leads : (values : ValueMaps) (c last : Cap) → ResolvesTo values c last → LeadsTo values c last
 comes_leads values c last h = comes_within values h.0 c last h.1
 
 abbrev IsEnd : Way → Type 0
@@ -98,13 +98,13 @@ open_by p None h = absurd h
 open_by p (Some None) h = refl
 open_by p (Some (Some v)) h = absurd h
 
-pub comes_open : (values : ValueMaps) (c : Cap) (p : ℕ) → ComesTo values c (caps.Promise p) → get values.promises p ≡ Some None
+pub comes_open : (values : ValueMaps) (c : Cap) (p : ℕ) → ResolvesTo values c (caps.Promise p) → get values.promises p ≡ Some None
 comes_open values c p h = open_by p (get values.promises p) (ends_within values h.0 c (caps.Promise p) h.1)
 
 -- What is said of a capability stands for it.
-module _ (turn : Turn) (s : State) (back : (c last : Cap) → ComesTo s.values c last → LeadsTo turn.before.values c last)
+module _ (turn : Turn) (s : State) (back : (c last : Cap) → ResolvesTo s.values c last → LeadsTo turn.before.values c last)
     (unsettled : (p : ℕ) → get s.values.promises p ≡ Some None → is_settled (get turn.before.values.promises p) ≡ false) where
-  end_stands : (cap last : Cap) (from : State) (said : Descriptor × State) → ComesTo s.values cap last → SayEnd from last (Ok said) → ExportsStay said.1 turn.after
+  end_stands : (cap last : Cap) (from : State) (said : Descriptor × State) → ResolvesTo s.values cap last → WritesEnd from last (Ok said) → ExportsStay said.1 turn.after
       → StandsFor turn said.0 cap × ExportsStay from said.1
   end_stands cap caps.None from said comes is stay = rw (ok_in _ _ is) (inl (back cap caps.None comes), λ e c h. h)
   end_stands cap (caps.Object k) from said comes is stay =
@@ -123,16 +123,16 @@ module _ (turn : Turn) (s : State) (back : (c last : Cap) → ComesTo s.values c
   end_stands cap (caps.Pipelined q path) from said comes is stay = rw (ok_in _ _ is) ((q, path, refl, back cap (caps.Pipelined q path) comes), λ e c h. h)
   end_stands cap (caps.Broken x) from said comes is stay = rw (ok_in _ _ is) (inr (x, back cap (caps.Broken x) comes), λ e c h. h)
 
-  all_stay : (table : List Cap) (from : State) (said : List Descriptor × State) → from.values ≡ s.values → SayAll from table (Ok said) → ExportsStay from said.1
+  all_stay : (table : List Cap) (from : State) (said : List Descriptor × State) → from.values ≡ s.values → WritesDescriptors from table (Ok said) → ExportsStay from said.1
   all_stay [] from said same is = rw (ok_in _ _ is) (λ e c h. h)
   all_stay (cap ∷ table) from said same is =
-      let first = then_out {A = Descriptor × State} {B = List Descriptor × State} (Say from cap) _ said is in
-      let rest = then_out {A = List Descriptor × State} {B = List Descriptor × State} (SayAll first.0.1 table) _ said first.2 in
+      let first = then_out {A = Descriptor × State} {B = List Descriptor × State} (WritesDescriptor from cap) _ said is in
+      let rest = then_out {A = List Descriptor × State} {B = List Descriptor × State} (WritesDescriptors first.0.1 table) _ said first.2 in
       let only = end_only from first.1.0 first.0 first.1.2 in
       let more = all_stay table first.0.1 rest.0 (ap (λ x. x.values) only ∙ same) rest.1 in
       rw (ok_in _ _ rest.2) (stay_both from first.0.1 rest.0.1 (end_stays from first.1.0 first.0 first.1.2) more)
     where
-      end_stays : (from : State) (last : Cap) (said : Descriptor × State) → SayEnd from last (Ok said) → ExportsStay from said.1
+      end_stays : (from : State) (last : Cap) (said : Descriptor × State) → WritesEnd from last (Ok said) → ExportsStay from said.1
       end_stays from caps.None said is = rw (ok_in _ _ is) (λ e c h. h)
       end_stays from (caps.Object k) said is =
           let parts = then_out {A = ℕ × State} {B = Descriptor × State} (Raise from (caps.Object k)) _ said is in
@@ -144,23 +144,23 @@ module _ (turn : Turn) (s : State) (back : (c last : Cap) → ComesTo s.values c
       end_stays from (caps.Pipelined q path) said is = rw (ok_in _ _ is) (λ e c h. h)
       end_stays from (caps.Broken x) said is = rw (ok_in _ _ is) (λ e c h. h)
 
-  all_stand : (table : List Cap) (from : State) (said : List Descriptor × State) → from.values ≡ s.values → SayAll from table (Ok said) → ExportsStay said.1 turn.after
+  all_stand : (table : List Cap) (from : State) (said : List Descriptor × State) → from.values ≡ s.values → WritesDescriptors from table (Ok said) → ExportsStay said.1 turn.after
       → AllZip (StandsFor turn) said.0 table
   all_stand [] from said same is stay = rw (ok_in _ _ is) tt
   all_stand (cap ∷ table) from said same is stay =
-      let first = then_out {A = Descriptor × State} {B = List Descriptor × State} (Say from cap) _ said is in
-      let rest = then_out {A = List Descriptor × State} {B = List Descriptor × State} (SayAll first.0.1 table) _ said first.2 in
+      let first = then_out {A = Descriptor × State} {B = List Descriptor × State} (WritesDescriptor from cap) _ said is in
+      let rest = then_out {A = List Descriptor × State} {B = List Descriptor × State} (WritesDescriptors first.0.1 table) _ said first.2 in
       let done = ok_in _ _ rest.2 in
       let only = end_only from first.1.0 first.0 first.1.2 in
       let values = ap (λ x. x.values) only ∙ same in
       let stay_on : ExportsStay rest.0.1 turn.after = subst (λ d. ExportsStay d.1 turn.after) done stay in
-      let comes : ComesTo s.values cap first.1.0 = subst (λ v. ComesTo v cap first.1.0) same first.1.1 in
+      let comes : ResolvesTo s.values cap first.1.0 = subst (λ v. ResolvesTo v cap first.1.0) same first.1.1 in
       let here = end_stands cap first.1.0 from first.0 comes first.1.2 (stay_both first.0.1 rest.0.1 turn.after (all_stay table first.0.1 rest.0 values rest.1) stay_on) in
       rw (done) (here.0, all_stand table first.0.1 rest.0 values rest.1 stay_on)
 
   pub bears : (outcome : Outcome) (said : Returned × State) → Returns s outcome (Ok said) → ExportsStay said.1 turn.after → Bears turn said.0 outcome
   bears (outcomes.Results content table) said is stay =
-      let parts = then_out {A = List Descriptor × State} {B = Returned × State} (SayAll s table) _ said is in
+      let parts = then_out {A = List Descriptor × State} {B = Returned × State} (WritesDescriptors s table) _ said is in
       let done = ok_in _ _ parts.2 in
       let stay_on : ExportsStay parts.0.1 turn.after = subst (λ d. ExportsStay d.1 turn.after) done stay in
       rw (done) (parts.0.0, refl, all_stand table s parts.0 refl parts.1 stay_on)
@@ -169,17 +169,17 @@ module _ (turn : Turn) (s : State) (back : (c last : Cap) → ComesTo s.values c
 
 -- exports stay where tied promises are settled
 resolved_stay : (old : State) (last : Cap) (said : Resolution × State) → ResolvesEnd old last (Ok said) → ExportsStay old said.1
-resolved_stay old caps.None said is = let parts = then_out {A = Descriptor × State} {B = Resolution × State} (SayEnd old caps.None) _ said is in rw (ok_in _ _ parts.2, ok_in _ _ parts.1) (λ e c h. h)
+resolved_stay old caps.None said is = let parts = then_out {A = Descriptor × State} {B = Resolution × State} (WritesEnd old caps.None) _ said is in rw (ok_in _ _ parts.2, ok_in _ _ parts.1) (λ e c h. h)
 resolved_stay old (caps.Object k) said is =
-    let parts = then_out {A = Descriptor × State} {B = Resolution × State} (SayEnd old (caps.Object k)) _ said is in
+    let parts = then_out {A = Descriptor × State} {B = Resolution × State} (WritesEnd old (caps.Object k)) _ said is in
     let raises = then_out {A = ℕ × State} {B = Descriptor × State} (Raise old (caps.Object k)) _ parts.0 parts.1 in
     rw (ok_in _ _ parts.2, ok_in _ _ raises.2) (raised_is old (caps.Object k) (Ok raises.0) raises.1).1
 resolved_stay old (caps.Promise p) said is =
-    let parts = then_out {A = Descriptor × State} {B = Resolution × State} (SayEnd old (caps.Promise p)) _ said is in
+    let parts = then_out {A = Descriptor × State} {B = Resolution × State} (WritesEnd old (caps.Promise p)) _ said is in
     let raises = then_out {A = ℕ × State} {B = Descriptor × State} (Raise old (caps.Promise p)) _ parts.0 parts.1 in
     rw (ok_in _ _ parts.2, ok_in _ _ raises.2) (raised_is old (caps.Promise p) (Ok raises.0) raises.1).1
-resolved_stay old (caps.Import i) said is = let parts = then_out {A = Descriptor × State} {B = Resolution × State} (SayEnd old (caps.Import i)) _ said is in rw (ok_in _ _ parts.2, ok_in _ _ parts.1) (λ e c h. h)
-resolved_stay old (caps.Pipelined q path) said is = let parts = then_out {A = Descriptor × State} {B = Resolution × State} (SayEnd old (caps.Pipelined q path)) _ said is in rw (ok_in _ _ parts.2, ok_in _ _ parts.1) (λ e c h. h)
+resolved_stay old (caps.Import i) said is = let parts = then_out {A = Descriptor × State} {B = Resolution × State} (WritesEnd old (caps.Import i)) _ said is in rw (ok_in _ _ parts.2, ok_in _ _ parts.1) (λ e c h. h)
+resolved_stay old (caps.Pipelined q path) said is = let parts = then_out {A = Descriptor × State} {B = Resolution × State} (WritesEnd old (caps.Pipelined q path)) _ said is in rw (ok_in _ _ parts.2, ok_in _ _ parts.1) (λ e c h. h)
 resolved_stay old (caps.Broken x) said is = rw (ok_in _ _ is) (λ e c h. h)
 
 tells_stay : (old : State) (p : ℕ) (last : Cap) (done : Done) → Tells old p last (Ok done) → ExportsStay old done.1

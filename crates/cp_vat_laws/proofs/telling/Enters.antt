@@ -22,7 +22,7 @@ use Rattle.cp_vat_machine.specs.State.{State, none_over}
 use Rattle.cp_vat_machine.specs.Then.{Done}
 use Rattle.cp_vat_machine.specs.Capacity.{Fresh}
 use Rattle.cp_vat_machine.specs.Supported.{is_supported}
-use Rattle.cp_vat_machine.specs.Take.{answer_of, path_of, TakeAll}
+use Rattle.cp_vat_machine.specs.Receiving.{answer_of, path_of, ReceivesCaps}
 use Rattle.cp_vat_machine.specs.Answering.{is_answering, target_faults, GoToExport, GoToAnswer, GoToTarget, peer_call, entered, call_faults, OnCall}
 use Rattle.cp_vat_machine.specs.Calling.{Standing, plain, on_wire, came_to, reference_of, called, own_call, mark_of, marked, has_mark_capacity, disembargo_of, GoBack, GoByValue, GoFrom, OwnDone, Opens, call_refusals, DoCall}
 use Rattle.cp_vat_machine.specs.Go.{Underway, held_at, Go, GoTo}
@@ -190,6 +190,6 @@ on_call_tells old c first mid within none supported does =
     let fine = no_faults (call_faults old c) _ (first, mid) does in
     let early = front_empty (use_faults old c ++ target_faults old c.target) (room_faults old) fine in
     let unused = not_met (is_answering old c.question_id) faults.QuestionInUse (front_empty (use_faults old c) (target_faults old c.target) early) in
-    let parts = then_out {A = List Cap × State} {B = Done} (TakeAll old c.params.cap_table) _ (first, mid) (unless_out (call_faults old c) _ (first, mid) does) in
+    let parts = then_out {A = List Cap × State} {B = Done} (ReceivesCaps old c.params.cap_table) _ (first, mid) (unless_out (call_faults old c) _ (first, mid) does) in
     let well = take_all_keeps None [] c.params.cap_table old parts.0 within none parts.1 in
     target_tells old c parts.0 within none well.1 unused supported first mid c.target refl parts.2

@@ -24,12 +24,12 @@ use Rattle.cp_refs.specs.declared.values.Question.{Question}
 use Rattle.cp_vat_machine.specs.State.{State, none_over, with_exports}
 use Rattle.cp_vat_machine.specs.Then.{Done, Then, fault_if}
 use Rattle.cp_vat_machine.specs.Capacity.{has_capacity}
-use Rattle.cp_vat_machine.specs.Say.{ComesTo, end_by, end_within}
-use Rattle.cp_vat_machine.specs.Take.{lower}
+use Rattle.cp_vat_machine.specs.Writing.{ResolvesTo, end_by, end_within}
+use Rattle.cp_vat_machine.specs.Receiving.{release_exports}
 use Rattle.cp_vat_machine.specs.Give.{settled, value_for, last_for, Settle, SettleTied, Returns, given, gone, GiveBy, GiveAnswer, GiveOwnBy, GiveOwn, without_question}
 use Rattle.cp_vat_machine.specs.Go.{finish_of}
 use Rattle.cp_vat_machine.specs.Answering.{with_answer, bootstrap_outcome, is_answering, OnBootstrap}
-use Rattle.cp_vat_machine.specs.Asking.{TakeReturned, Settles, ReturnBy, is_asked, ReturnOf, OnReturn}
+use Rattle.cp_vat_machine.specs.Asking.{ReceivesReturned, Settles, ReturnBy, is_asked, ReturnOf, OnReturn}
 use Rattle.cp_vat_machine.specs.Doing.{is_settled}
 use Rattle.cp_vat_machine.specs.Trace.{Turn}
 use Rattle.cp_vat_machine.specs.Telling.{Gift, asked_for, Brings, AskedGives, LeadsBy, LeadsWithin, LeadsTo, is_telling, was_finished, OriginTold, GiftTold}
@@ -95,7 +95,7 @@ module _ (values new : ValueMaps) (promises : (p : ℕ) (v : Cap) → get new.pr
   back_within zero c last e = none_out e
   back_within (suc n) c last e = back_by n c last (way new c) (λ next k. back_within n next last k) refl e
 
-  pub back_leads : (c last : Cap) → ComesTo new c last → LeadsTo values c last
+  pub back_leads : (c last : Cap) → ResolvesTo new c last → LeadsTo values c last
   back_leads c last h = back_within h.0 c last h.1
 
 -- A Bootstrap is answered.
@@ -233,7 +233,7 @@ unsettled_since old s since p open_ (Some (Some v)) is = none_out (some_out (sym
 
 module _ (old : State) (exports : Table (Counted Cap)) (r : Return) (entry : Exchange QuestionEntry) (taken : Outcome × State) (is : get old.entries.questions r.answer_id ≡ Some entry)
     (open_ : entry.stage ≡ stages.Open) (inn : IsTakenIn (with_exports old exports) taken.1) (since0 : IsSince old (with_exports old exports))
-    (takes : TakeReturned (with_exports old exports) r.returned (Ok taken)) where
+    (takes : ReceivesReturned (with_exports old exports) r.returned (Ok taken)) where
   since_of : (first : List Effect) (mid : State) → IsSince old taken.1
   since_of first mid = (returned_taken (return_turn old r first mid) r.returned (with_exports old exports) taken since0 takes).0
 
@@ -249,7 +249,7 @@ module _ (old : State) (exports : Table (Counted Cap)) (r : Return) (entry : Exc
 
   -- what leads on after what was taken in
   leads_back : (s : State) (first : List Effect) (mid : State) → s.values.promises ≡ taken.1.values.promises
-      → ((q : ℕ) (x : Question) → get s.values.questions q ≡ Some x → get taken.1.values.questions q ≡ Some x) → (c last : Cap) → ComesTo s.values c last → LeadsTo old.values c last
+      → ((q : ℕ) (x : Question) → get s.values.questions q ≡ Some x → get taken.1.values.questions q ≡ Some x) → (c last : Cap) → ResolvesTo s.values c last → LeadsTo old.values c last
   leads_back s first mid promises questions =
       back_leads old.values s.values (λ p v at. (since_of first mid).settled p v (ap (λ t. get t p) (sym promises) ∙ at))
       (λ q x at. ap (λ t. get t q) (sym (since_of first mid).questions) ∙ questions q x at)
@@ -297,7 +297,7 @@ return_by : (old : State) (exports : Table (Counted Cap)) (r : Return) (entry : 
     → old.waiting.over ≡ none_over → IsSince old (with_exports old exports) → get old.entries.questions r.answer_id ≡ Some entry → entry.stage ≡ stage
     → ReturnBy (with_exports old exports) r entry.kept stage (Ok done) → ReturnTells old r (Some entry) done
 return_by old exports r entry stages.Open done w none since is at does =
-    let parts = then_out {A = Outcome × State} {B = Done} (TakeReturned (with_exports old exports) r.returned) _ done does in
+    let parts = then_out {A = Outcome × State} {B = Done} (ReceivesReturned (with_exports old exports) r.returned) _ done does in
     settles_told old exports r entry parts.0 is at (taken_in (with_exports old exports) r.returned parts.0 w none parts.1) since parts.1 entry.kept.forwards done refl parts.2
 return_by old exports r entry stages.Finished done w none since is at does = (None, rw (at) refl, ap (λ d. filter is_telling d.0) (ok_in _ _ does))
 return_by old exports r entry stages.Returned done w none since is at does = absurd does
@@ -308,9 +308,9 @@ return_of old r None done w none is does = ok_out does
 return_of old r (Some entry) done w none is does =
     let F = fault_if (not (is_asked entry.kept.is_sent entry.stage)) faults.UnknownQuestion in
     let parts =
-    then_out {A = Table (Counted Cap)} {B = Done} (λ exports. exports ≡ (if r.release_param_caps then lower old.counts.exports entry.kept.mentions else Ok old.counts.exports)) _ done
+    then_out {A = Table (Counted Cap)} {B = Done} (λ exports. exports ≡ (if r.release_param_caps then release_exports old.counts.exports entry.kept.mentions else Ok old.counts.exports)) _ done
     (unless_out {A = Done} F
-    (Then (λ exports. exports ≡ (if r.release_param_caps then lower old.counts.exports entry.kept.mentions else Ok old.counts.exports))
+    (Then (λ exports. exports ≡ (if r.release_param_caps then release_exports old.counts.exports entry.kept.mentions else Ok old.counts.exports))
     (λ exports. ReturnBy (with_exports old exports) r entry.kept entry.stage)) done does) in
     let fewer = lower_if r.release_param_caps old.counts.exports parts.0 entry.kept.mentions w.counts parts.1 in
     return_by old parts.0 r entry entry.stage done (fewer_exports w parts.0 fewer) none (lowered_since old parts.0 fewer) is refl parts.2

@@ -18,9 +18,9 @@ use Rattle.cp_refs.specs.declared.outcome.Outcome.{Outcome}
 use Rattle.cp_vat_machine.specs.State.{State}
 use Rattle.cp_vat_machine.specs.Then.{Then}
 use Rattle.cp_vat_machine.specs.Capacity.{has_capacity, Fresh}
-use Rattle.cp_vat_machine.specs.Say.{IsExport}
-use Rattle.cp_vat_machine.specs.Take.{path_of, held_once_more, held_import, unfinished, answer_by, answer_of, tie, tied, TakeAnswer, taken_export, Take, TakeAll}
-use Rattle.cp_vat_machine.specs.Asking.{TakeReturned}
+use Rattle.cp_vat_machine.specs.Writing.{IsExport}
+use Rattle.cp_vat_machine.specs.Receiving.{path_of, held_once_more, held_import, unfinished, answer_by, answer_of, tie, tied, ReceivesAnswer, taken_export, ReceivesCap, ReceivesCaps}
+use Rattle.cp_vat_machine.specs.Asking.{ReceivesReturned}
 use Rattle.cp_vat_machine.specs.Trace.{Turn}
 use Rattle.cp_vat_machine.specs.Telling.{is_finished, was_finished, IsNewPromise, IsTiedAs, EachHasItsOwn, TakenAnswer, TakenAs, Brings}
 use Rattle.cp_vat_machine.specs.declared.entry.AnswerEntry.{AnswerEntry}
@@ -221,7 +221,7 @@ module _ (turn : Turn) where
         ),
       )
 
-  answer_taken : (s : State) (a : ℕ) (path : List ℕ) (o : Option (Option Outcome)) (taken : Cap × State) → IsSince turn.before s → answer_of s a ≡ o → TakeAnswer s a path o (Ok taken)
+  answer_taken : (s : State) (a : ℕ) (path : List ℕ) (o : Option (Option Outcome)) (taken : Cap × State) → IsSince turn.before s → answer_of s a ≡ o → ReceivesAnswer s a path o (Ok taken)
       → IsSince turn.before taken.1 × TiedStay s taken.1 × (TiedLast taken.1 turn.after → TakenAnswer turn a path o taken.0)
   answer_taken s a path None taken since at is = ok_out is
   answer_taken s a path (Some (Some outcome)) taken since at is = rw (ok_in _ _ is) (since, tied_not s, λ last. refl)
@@ -242,7 +242,7 @@ module _ (turn : Turn) where
       let held = held_since turn.before s i kind (get s.counts.imports i) parts.0 since parts.1 in
       rw (ok_in _ _ parts.2) (held.0, held.1, refl)
 
-  take_taken : (s : State) (d : Descriptor) (taken : Cap × State) → IsSince turn.before s → Take s d (Ok taken) → Taken turn s d taken
+  take_taken : (s : State) (d : Descriptor) (taken : Cap × State) → IsSince turn.before s → ReceivesCap s d (Ok taken) → Taken turn s d taken
   take_taken s descriptors.None taken since is = rw (ok_in _ _ is) (since, tied_not s, λ last. refl)
   take_taken s (descriptors.SenderHosted i) taken since is = let held = import_taken s i kinds.Hosted taken since is in (held.0, held.1, λ last. held.2)
   take_taken s (descriptors.SenderPromise i) taken since is = let held = import_taken s i kinds.Promise taken since is in (held.0, held.1, λ last. held.2)
@@ -260,17 +260,17 @@ since_self : (s : State) → IsSince s s
 since_self s = record { exports = λ e entry at. (entry.count, at); promises = λ p x at. at; settled = λ p v at. at; answers = refl; questions = refl; stages = λ a. refl }
 
 -- a promise stays as it is while a descriptor is taken in
-promises_stay : (turn : Turn) (s : State) (d : Descriptor) (taken : Cap × State) → Take s d (Ok taken) → (p : ℕ) (x : Option Cap) → get s.values.promises p ≡ Some x → get taken.1.values.promises p ≡ Some x
+promises_stay : (turn : Turn) (s : State) (d : Descriptor) (taken : Cap × State) → ReceivesCap s d (Ok taken) → (p : ℕ) (x : Option Cap) → get s.values.promises p ≡ Some x → get taken.1.values.promises p ≡ Some x
 promises_stay turn s d taken is = (take_taken (record turn { before = s }) s d taken (since_self s) is).0.promises
 
 module _ (turn : Turn) where
   -- A receiverAnswer of an answer that wasn't given is taken in as a promise that was free, and is open then.
-  tied_new : (s : State) (d : Descriptor) (taken : Cap × State) (p : ℕ) → IsSince turn.before s → Take s d (Ok taken) → IsTiedAs turn d taken.0 p
+  tied_new : (s : State) (d : Descriptor) (taken : Cap × State) (p : ℕ) → IsSince turn.before s → ReceivesCap s d (Ok taken) → IsTiedAs turn d taken.0 p
       → (get s.values.promises p ≡ None) × (get taken.1.values.promises p ≡ Some None)
   tied_new s (descriptors.ReceiverAnswer answer) taken p since is tie =
       let a = answer.question_id in
       let path = path_of answer.transform in
-      let there = subst (λ o. TakeAnswer s a path o (Ok taken)) (sym (answer_since turn.before s a since) ∙ tie.0) is in
+      let there = subst (λ o. ReceivesAnswer s a path o (Ok taken)) (sym (answer_since turn.before s a since) ∙ tie.0) is in
       let parts = then_out {A = ℕ} {B = Cap × State} (Fresh s.values.promises) (λ q out. out ≡ Ok (caps.Promise q, tied s a path q)) taken there in
       let made : taken ≡ (caps.Promise parts.0, tied s a path parts.0) = ok_in _ _ parts.2 in
       let same_cap : ◌≡◌ {A = Cap} (caps.Promise parts.0) (caps.Promise p) = sym (ap (λ (x : Cap × State). x.0) made) ∙ tie.1 in
@@ -287,22 +287,22 @@ module _ (turn : Turn) where
   tied_new s (descriptors.Unknown n) taken p since is tie = absurd tie
 
   -- none is taken in as a promise that exists
-  none_tied : (table : List Descriptor) (s : State) (taken : List Cap × State) (p : ℕ) → IsSince turn.before s → get s.values.promises p ≡ Some None → TakeAll s table (Ok taken)
+  none_tied : (table : List Descriptor) (s : State) (taken : List Cap × State) (p : ℕ) → IsSince turn.before s → get s.values.promises p ≡ Some None → ReceivesCaps s table (Ok taken)
       → AllZip (λ d cap. ¬ (IsTiedAs turn d cap p)) table taken.0
   none_tied [] s taken p since there is = rw (ok_in _ _ is) tt
   none_tied (d ∷ table) s taken p since there is =
-      let first = then_out {A = Cap × State} {B = List Cap × State} (Take s d) _ taken is in
-      let rest = then_out {A = List Cap × State} {B = List Cap × State} (TakeAll first.0.1 table) _ taken first.2 in
+      let first = then_out {A = Cap × State} {B = List Cap × State} (ReceivesCap s d) _ taken is in
+      let rest = then_out {A = List Cap × State} {B = List Cap × State} (ReceivesCaps first.0.1 table) _ taken first.2 in
       let here = take_taken turn s d first.0 since first.1 in
       let more = none_tied table first.0.1 rest.0 p here.0 (promises_stay turn s d first.0 first.1 p None there) rest.1 in
       rw (ok_in _ _ rest.2) (λ tie. none_out (sym (tied_new s d first.0 p since first.1 tie).0 ∙ there), more)
 
-  pub all_taken : (table : List Descriptor) (s : State) (taken : List Cap × State) → IsSince turn.before s → TakeAll s table (Ok taken)
+  pub all_taken : (table : List Descriptor) (s : State) (taken : List Cap × State) → IsSince turn.before s → ReceivesCaps s table (Ok taken)
       → IsSince turn.before taken.1 × TiedStay s taken.1 × (TiedLast taken.1 turn.after → AllZip (TakenAs turn) table taken.0) × EachHasItsOwn turn table taken.0
   all_taken [] s taken since is = rw (ok_in _ _ is) (since, tied_not s, λ last. tt, tt)
   all_taken (d ∷ table) s taken since is =
-      let first = then_out {A = Cap × State} {B = List Cap × State} (Take s d) _ taken is in
-      let rest = then_out {A = List Cap × State} {B = List Cap × State} (TakeAll first.0.1 table) _ taken first.2 in
+      let first = then_out {A = Cap × State} {B = List Cap × State} (ReceivesCap s d) _ taken is in
+      let rest = then_out {A = List Cap × State} {B = List Cap × State} (ReceivesCaps first.0.1 table) _ taken first.2 in
       let here = take_taken turn s d first.0 since first.1 in
       let more = all_taken table first.0.1 rest.0 here.0 rest.1 in
       let alone = λ (p : ℕ) (tie : IsTiedAs turn d first.0.0 p). none_tied table first.0.1 rest.0 p here.0 (tied_new s d first.0 p since first.1 tie).1 rest.1 in
@@ -314,10 +314,10 @@ module _ (turn : Turn) where
       )
 
   -- So what a Return bears is brought.
-  pub returned_taken : (returned : Returned) (s : State) (taken : Outcome × State) → IsSince turn.before s → TakeReturned s returned (Ok taken)
+  pub returned_taken : (returned : Returned) (s : State) (taken : Outcome × State) → IsSince turn.before s → ReceivesReturned s returned (Ok taken)
       → IsSince turn.before taken.1 × (TiedLast taken.1 turn.after → Brings turn returned taken.0)
   returned_taken (returns.Results p) s taken since is =
-      let parts = then_out {A = List Cap × State} {B = Outcome × State} (TakeAll s p.cap_table) _ taken is in
+      let parts = then_out {A = List Cap × State} {B = Outcome × State} (ReceivesCaps s p.cap_table) _ taken is in
       let all = all_taken p.cap_table s parts.0 since parts.1 in
       rw (ok_in _ _ parts.2) (all.0, λ last. (parts.0.0, refl, all.2 last, all.3))
   returned_taken (returns.Exception x) s taken since is = rw (ok_in _ _ is) (since, λ last. refl)

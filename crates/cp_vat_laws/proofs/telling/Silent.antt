@@ -25,7 +25,7 @@ use Rattle.cp_refs.specs.declared.outcome.Outcome.{Outcome}
 use Rattle.cp_vat_machine.specs.State.{State}
 use Rattle.cp_vat_machine.specs.Then.{Done, Then, fault_if}
 use Rattle.cp_vat_machine.specs.Capacity.{Fresh}
-use Rattle.cp_vat_machine.specs.Take.{answer_of, path_of, lower, released}
+use Rattle.cp_vat_machine.specs.Receiving.{answer_of, path_of, release_exports, released}
 use Rattle.cp_vat_machine.specs.Give.{settled, value_for, last_for, Settle}
 use Rattle.cp_vat_machine.specs.Go.{finish_of}
 use Rattle.cp_vat_machine.specs.InUse.{is_own_question, is_question_used, is_import_used, is_promise_used, is_unsettled}
@@ -120,7 +120,7 @@ on_release_silent old r done does =
 at_stage : (old : State) (f : Finish) (kept : AnswerEntry) (stage : Stage) (done : Done) → AtStage old f kept stage (Ok done) → IsSilent done.0
 at_stage old f kept stages.Open done does = rw (ok_in _ _ does) refl
 at_stage old f kept stages.Returned done does =
-    let parts = then_out {A = Table (Counted Cap)} {B = Done} (λ exports. exports ≡ (if f.release_result_caps then lower old.counts.exports kept.mentions else Ok old.counts.exports)) _ done does in
+    let parts = then_out {A = Table (Counted Cap)} {B = Done} (λ exports. exports ≡ (if f.release_result_caps then release_exports old.counts.exports kept.mentions else Ok old.counts.exports)) _ done does in
     rw (ok_in _ _ parts.2) refl
 at_stage old f kept stages.Finished done does = ok_out does
 
@@ -136,7 +136,7 @@ on_abort_silent old x done does = rw (ok_in _ _ does) refl
 
 unknown_by : (old : State) (o : Option Message) (done : Done) → UnknownToPeer old o (Ok done) → IsSilent done.0
 unknown_by old (Some (messages.Resolve r)) done does =
-    let parts = then_out {A = Table (Counted Cap)} {B = Done} (λ exports. exports ≡ lower old.counts.exports (given_back r.resolution)) _ done does in
+    let parts = then_out {A = Table (Counted Cap)} {B = Done} (λ exports. exports ≡ release_exports old.counts.exports (given_back r.resolution)) _ done does in
     rw (ok_in _ _ parts.2) refl
 unknown_by old None done does = ok_out does
 unknown_by old (Some other) done does = ok_out does

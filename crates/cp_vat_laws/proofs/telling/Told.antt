@@ -20,7 +20,7 @@ use Rattle.cp_refs.specs.declared.route.Route.TheVariants as routes
 use Rattle.cp_vat_machine.specs.State.{State}
 use Rattle.cp_vat_machine.specs.Then.{Done}
 use Rattle.cp_vat_machine.specs.Capacity.{Fresh}
-use Rattle.cp_vat_machine.specs.Say.{SayAll, promised}
+use Rattle.cp_vat_machine.specs.Writing.{WritesDescriptors, promised}
 use Rattle.cp_vat_machine.specs.Give.{Returns, GiveOwnBy, Give}
 use Rattle.cp_vat_machine.specs.Go.{Underway, finish_after, GoOut, Go, GoTo, IsNext, without_call, underway}
 use Rattle.cp_vat_machine.specs.Doing.{is_settled}
@@ -81,10 +81,10 @@ after_silent q stages.Returned = refl
 out_silent : (s : State) (call : Underway) (target : Target) (origin : Origin) (done : Done) → GoOut s call target origin (Ok done) → filter is_telling done.0 ≡ []
 out_silent s call target (origins.Answer a) done out =
     let first = then_out {A = ℕ} {B = Done} (Fresh s.entries.questions) _ done out in
-    let parts = then_out {A = List Descriptor × State} {B = Done} (SayAll s call.request.caps) _ done first.2 in
+    let parts = then_out {A = List Descriptor × State} {B = Done} (WritesDescriptors s call.request.caps) _ done first.2 in
     rw (ok_in _ _ parts.2) refl
 out_silent s call target (origins.Own q) done out =
-    let parts = then_out {A = List Descriptor × State} {B = Done} (SayAll s call.request.caps) _ done out.2 in
+    let parts = then_out {A = List Descriptor × State} {B = Done} (WritesDescriptors s call.request.caps) _ done out.2 in
     rw (ok_in _ _ parts.2) (after_silent q out.0.stage)
 
 -- A call that fails gives its exception, and no other gives anything: what is given is told.

@@ -32,7 +32,7 @@ use Rattle.cp_vat_machine.specs.declared.entry.AnswerEntry.{AnswerEntry}
 use Rattle.cp_vat_machine.specs.declared.entry.Tied.{Tied}
 use Rattle.cp_vat_machine.specs.declared.fault.PeerFault.{PeerFault}
 use Rattle.cp_vat_machine.specs.Capacity.{has_capacity}
-use Rattle.cp_vat_machine.specs.Take.{answer_of, path_of, TakeAll, lower}
+use Rattle.cp_vat_machine.specs.Receiving.{answer_of, path_of, ReceivesCaps, release_exports}
 use Rattle.cp_vat_machine.specs.Give.{GiveAnswer}
 use Rattle.cp_vat_machine.specs.Answering.{with_answer, bootstrap_outcome, is_answering, OnBootstrap, target_faults, GoToExport, GoToAnswer, GoToTarget, peer_call, entered, call_faults, OnCall, without_answer, AtStage, FinishedBy, OnFinish}
 use Rattle.cp_vat_machine.specs.declared.fault.PeerFault.TheVariants as faults
@@ -297,11 +297,11 @@ module _ (s : State) (c : Call) (table : List Cap) (h : Within s None []) (still
 
 pub call_keeps : (s : State) (c : Call) (done : Done) → Within s None [] → s.waiting.over ≡ none_over → OnCall s c (Ok done) → Within done.1 None []
 call_keeps s c done h still does =
-    let Rule : Result Done PeerFault → Type 0 = Then (TakeAll s c.params.cap_table)
+    let Rule : Result Done PeerFault → Type 0 = Then (ReceivesCaps s c.params.cap_table)
     (λ taken. GoToTarget (entered taken.1 c.question_id) (peer_call taken.1 c taken.0) c.target) in
     let rule = unless_out {A = Done} {F = PeerFault} (call_faults s c) Rule done does in
     let none : call_faults s c ≡ [] = no_faults {A = Done} {F = PeerFault} (call_faults s c) Rule done does in
-    let taken = then_out {A = List Cap × State} {B = Done} (TakeAll s c.params.cap_table) _ done rule in
+    let taken = then_out {A = List Cap × State} {B = Done} (ReceivesCaps s c.params.cap_table) _ done rule in
     let one = take_all_keeps None [] c.params.cap_table s taken.0 h still taken.1 in
     let fresh = no_answer s c.question_id
     (not_met (is_answering s c.question_id) faults.QuestionInUse
@@ -492,7 +492,7 @@ finish_at : (s : State) (f : Finish) (entry : Exchange AnswerEntry) (stage : Sta
 finish_at s f entry stages.Open done h was at does = rw (ok_in _ _ does, was) (finish_noted h f.question_id entry was at)
 finish_at s f entry stages.Returned done h was at does =
     let lowers = then_out {A = Table (Counted Cap)} {B = Done}
-    (λ exports. exports ≡ (if f.release_result_caps then lower s.counts.exports entry.kept.mentions else Ok s.counts.exports)) _ done does in
+    (λ exports. exports ≡ (if f.release_result_caps then release_exports s.counts.exports entry.kept.mentions else Ok s.counts.exports)) _ done does in
     let fewer = fewer_exports h lowers.0 (lower_if f.release_result_caps s.counts.exports lowers.0 entry.kept.mentions h.counts lowers.1) in
     rw (ok_in _ _ lowers.2) (answer_leaves fewer f.question_id entry was at)
 finish_at s f entry stages.Finished done h was at does = ok_out does

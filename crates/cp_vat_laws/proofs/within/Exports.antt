@@ -15,8 +15,8 @@ use Rattle.cp_refs.specs.declared.cap.Cap.TheVariants as caps
 use Rattle.cp_refs.specs.declared.call.Origin.{Origin}
 use Rattle.cp_vat_machine.specs.State.{State, with_exports}
 use Rattle.cp_vat_machine.specs.Capacity.{free}
-use Rattle.cp_vat_machine.specs.Take.{times, less_by, lowered_by, lowered, lower, released}
-use Rattle.cp_vat_machine.specs.Say.{Raise, counted, counted_out, opened, has_no_capacity, SayEnd, Say, SayAll}
+use Rattle.cp_vat_machine.specs.Receiving.{times, less_by, lowered_by, lowered, release_exports, released}
+use Rattle.cp_vat_machine.specs.Writing.{Raise, counted, counted_out, opened, has_no_capacity, WritesEnd, WritesDescriptor, WritesDescriptors}
 use Rattle.cp_vat_machine.specs.Give.{ResolvesEnd, Tells}
 use Rattle.cp_vat_machine.specs.Go.{Underway}
 use Rattle.cp_vat_machine.specs.Then.{Done}
@@ -144,7 +144,7 @@ module _ (hand : Option Origin) (next : List Tied) where
   raise_keeps s cap out h may (has_no_capacity none is) = tt
 
   -- what a capability comes to is sent
-  pub say_end_keeps : (s : State) (last : Cap) (said : Descriptor × State) → Within s hand next → IsEnding (way s.values last) → SayEnd s last (Ok said)
+  pub say_end_keeps : (s : State) (last : Cap) (said : Descriptor × State) → Within s hand next → IsEnding (way s.values last) → WritesEnd s last (Ok said)
       → OnlyExports s hand next said.1
   say_end_keeps s caps.None said h end is = rw (ok_in _ _ is) (h, refl)
   say_end_keeps s (caps.Object k) said h end is =
@@ -157,12 +157,12 @@ module _ (hand : Option Origin) (next : List Tied) where
   say_end_keeps s (caps.Pipelined q path) said h end is = rw (ok_in _ _ is) (h, refl)
   say_end_keeps s (caps.Broken x) said h end is = rw (ok_in _ _ is) (h, refl)
 
-  pub say_all_keeps : (table : List Cap) (s : State) (said : List Descriptor × State) → Within s hand next → SayAll s table (Ok said)
+  pub say_all_keeps : (table : List Cap) (s : State) (said : List Descriptor × State) → Within s hand next → WritesDescriptors s table (Ok said)
       → OnlyExports s hand next said.1
   say_all_keeps [] s said h is = rw (ok_in _ _ is) (h, refl)
   say_all_keeps (cap ∷ table) s said h is =
-      let first = then_out {A = Descriptor × State} {B = List Descriptor × State} (Say s cap) _ said is in
-      let rest = then_out {A = List Descriptor × State} {B = List Descriptor × State} (SayAll first.0.1 table) _ said first.2 in
+      let first = then_out {A = Descriptor × State} {B = List Descriptor × State} (WritesDescriptor s cap) _ said is in
+      let rest = then_out {A = List Descriptor × State} {B = List Descriptor × State} (WritesDescriptors first.0.1 table) _ said first.2 in
       let one = say_end_keeps s first.1.0 first.0 h (comes_to_end s.values cap first.1.0 first.1.1) first.1.2 in
       rw (ok_in _ _ rest.2) (only_both s first.0.1 rest.0.1 hand next one.1 (say_all_keeps table first.0.1 rest.0 one.0 rest.1))
 
@@ -171,19 +171,19 @@ module _ (hand : Option Origin) (next : List Tied) where
       → OnlyExports s hand next said.1
   resolves_keeps s (caps.Broken x) said h end is = rw (ok_in _ _ is) (h, refl)
   resolves_keeps s caps.None said h end is =
-      let parts = then_out {A = Descriptor × State} {B = Resolution × State} (SayEnd s caps.None) _ said is in
+      let parts = then_out {A = Descriptor × State} {B = Resolution × State} (WritesEnd s caps.None) _ said is in
       rw (ok_in _ _ parts.2) (say_end_keeps s caps.None parts.0 h end parts.1)
   resolves_keeps s (caps.Object k) said h end is =
-      let parts = then_out {A = Descriptor × State} {B = Resolution × State} (SayEnd s (caps.Object k)) _ said is in
+      let parts = then_out {A = Descriptor × State} {B = Resolution × State} (WritesEnd s (caps.Object k)) _ said is in
       rw (ok_in _ _ parts.2) (say_end_keeps s (caps.Object k) parts.0 h end parts.1)
   resolves_keeps s (caps.Promise p) said h end is =
-      let parts = then_out {A = Descriptor × State} {B = Resolution × State} (SayEnd s (caps.Promise p)) _ said is in
+      let parts = then_out {A = Descriptor × State} {B = Resolution × State} (WritesEnd s (caps.Promise p)) _ said is in
       rw (ok_in _ _ parts.2) (say_end_keeps s (caps.Promise p) parts.0 h end parts.1)
   resolves_keeps s (caps.Import i) said h end is =
-      let parts = then_out {A = Descriptor × State} {B = Resolution × State} (SayEnd s (caps.Import i)) _ said is in
+      let parts = then_out {A = Descriptor × State} {B = Resolution × State} (WritesEnd s (caps.Import i)) _ said is in
       rw (ok_in _ _ parts.2) (say_end_keeps s (caps.Import i) parts.0 h end parts.1)
   resolves_keeps s (caps.Pipelined q path) said h end is =
-      let parts = then_out {A = Descriptor × State} {B = Resolution × State} (SayEnd s (caps.Pipelined q path)) _ said is in
+      let parts = then_out {A = Descriptor × State} {B = Resolution × State} (WritesEnd s (caps.Pipelined q path)) _ said is in
       rw (ok_in _ _ parts.2) (say_end_keeps s (caps.Pipelined q path) parts.0 h end parts.1)
 
   pub tells_keeps : (s : State) (p : ℕ) (last : Cap) (done : Done) → Within s hand next → IsEnding (way s.values last) → Tells s p last (Ok done)
@@ -250,7 +250,7 @@ lowered_fewer (e ∷ ids) exports are =
     fewer_both exports (lowered_by exports e 1) (lowered (lowered_by exports e 1) ids) first
     (lowered_fewer ids (lowered_by exports e 1) (fewer_counts exports (lowered_by exports e 1) first))
 
-pub lower_fewer : (exports new : Table (Counted Cap)) (ids : List ℕ) → AreCounts exports → Ok new ≡ lower exports ids → AreFewer exports new
+pub lower_fewer : (exports new : Table (Counted Cap)) (ids : List ℕ) → AreCounts exports → Ok new ≡ release_exports exports ids → AreFewer exports new
 lower_fewer exports new ids are is = by (list_any (λ e. is_none (get exports e)) ids) (list_any (λ e. ltb (count_of exports e) (times e ids)) ids) is
   where
     by : (b c : Bool) → Ok new ≡ (if b then Err faults.UnknownExport else (if c then Err faults.ReleaseTooLarge else Ok (lowered exports ids)))
@@ -260,7 +260,7 @@ lower_fewer exports new ids are is = by (list_any (λ e. is_none (get exports e)
     by false false e = rw (ok_in _ _ e) (lowered_fewer ids exports are)
 
 -- where the peer asks for it
-pub lower_if : (b : Bool) (exports new : Table (Counted Cap)) (ids : List ℕ) → AreCounts exports → Ok new ≡ (if b then lower exports ids else Ok exports)
+pub lower_if : (b : Bool) (exports new : Table (Counted Cap)) (ids : List ℕ) → AreCounts exports → Ok new ≡ (if b then release_exports exports ids else Ok exports)
     → AreFewer exports new
 lower_if true exports new ids are is = lower_fewer exports new ids are is
 lower_if false exports new ids are is = rw (ok_in _ _ is) (fewer_same exports are)

@@ -23,7 +23,7 @@ use Rattle.cp_refs.specs.declared.route.Gate.{Gate}
 use Rattle.cp_refs.specs.declared.route.Gate.TheVariants as gates
 use Rattle.cp_vat_machine.specs.State.{State, gave, with_exports}
 use Rattle.cp_vat_machine.specs.Then.{Done}
-use Rattle.cp_vat_machine.specs.Say.{SayAll}
+use Rattle.cp_vat_machine.specs.Writing.{WritesDescriptors}
 use Rattle.cp_vat_machine.specs.Give.{SettleTied, Returns, returned_mentions, given, gone, GiveBy, GiveAnswer}
 use Rattle.cp_vat_machine.specs.InUse.{caps_of}
 use Rattle.cp_vat_machine.specs.Local.{waiting_of, forwarding_of, ForwardsRightly, tied_to, tied_in, HasNoTied, IsThere, AnswerIs}
@@ -315,7 +315,7 @@ module _ {s : State} {hand : Option Origin} (h : Within s hand []) (a : ℕ) (en
 returns_keeps : (s : State) (hand : Option Origin) (outcome : Outcome) (said : Returned × State) → Within s hand [] → Returns s outcome (Ok said)
     → OnlyExports s hand [] said.1
 returns_keeps s hand (outcomes.Results content table) said h is =
-    let parts = then_out {A = List Descriptor × State} {B = Returned × State} (SayAll s table) _ said is in
+    let parts = then_out {A = List Descriptor × State} {B = Returned × State} (WritesDescriptors s table) _ said is in
     rw (ok_in _ _ parts.2) (say_all_keeps hand [] table s parts.0 h parts.1)
 returns_keeps s hand (outcomes.Failed x) said h is = rw (ok_in _ _ is) (h, refl)
 returns_keeps s hand outcomes.Canceled said h is = rw (ok_in _ _ is) (h, refl)

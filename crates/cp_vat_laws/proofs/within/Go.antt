@@ -28,7 +28,7 @@ use Rattle.cp_refs.specs.declared.values.QuestionKind.TheVariants as kinds
 use Rattle.cp_vat_machine.specs.State.{State, gave, with_questions}
 use Rattle.cp_vat_machine.specs.Then.{Done}
 use Rattle.cp_vat_machine.specs.Capacity.{Fresh}
-use Rattle.cp_vat_machine.specs.Say.{SayAll, promised, mentions_of}
+use Rattle.cp_vat_machine.specs.Writing.{WritesDescriptors, promised, mentions_of}
 use Rattle.cp_vat_machine.specs.Give.{Give}
 use Rattle.cp_vat_machine.specs.Go.{Underway, delivered, forwarding, sent, GoOut, Go, GoTo}
 use Rattle.cp_vat_machine.specs.InUse.{caps_of, is_pipelined_of, is_at_question}
@@ -144,13 +144,13 @@ go_out_keeps : (s : State) (call : Underway) (target : Target) (origin : Origin)
     → Within done.1 None []
 go_out_keeps s call target (origins.Answer a) done is h i goes =
     let fresh = then_out {A = ℕ} {B = Done} (Fresh s.entries.questions) _ done goes in
-    let said = then_out {A = List Descriptor × State} {B = Done} (SayAll s call.request.caps) _ done fresh.2 in
+    let said = then_out {A = List Descriptor × State} {B = Done} (WritesDescriptors s call.request.caps) _ done fresh.2 in
     rw
     (ok_in _ _ said.2)
     (goes_on s said.0.1 call said.0.0 a fresh.0 is (say_all_keeps (Some (origins.Answer a)) [] call.request.caps s said.0 h said.1) i
     (fresh_is s.entries.questions (Ok fresh.0) fresh.1))
 go_out_keeps s call target (origins.Own q) done is h i goes =
-    let said = then_out {A = List Descriptor × State} {B = Done} (SayAll s call.request.caps) _ done goes.2 in
+    let said = then_out {A = List Descriptor × State} {B = Done} (WritesDescriptors s call.request.caps) _ done goes.2 in
     rw (ok_in _ _ said.2) (goes_own s said.0.1 call said.0.0 q is (say_all_keeps (Some (origins.Own q)) [] call.request.caps s said.0 h said.1) i)
 
 -- A call goes by its route.

@@ -27,7 +27,7 @@ use Rattle.cp_vat_machine.specs.State.{State, gave, none_over}
 use Rattle.cp_vat_machine.specs.Then.{Done, Then, fault_if}
 use Rattle.cp_vat_machine.specs.Local.{IsThere, HasWaiting, IsImportMark, IsExportable, IsEmbargoOf, import_value, path_value, IsPathMark}
 use Rattle.cp_vat_machine.specs.declared.fault.PeerFault.{PeerFault}
-use Rattle.cp_vat_machine.specs.Take.{answer_of, path_of, lower, released}
+use Rattle.cp_vat_machine.specs.Receiving.{answer_of, path_of, release_exports, released}
 use Rattle.cp_vat_machine.specs.Answering.{target_faults}
 use Rattle.cp_vat_machine.specs.Calling.{mark_of}
 use Rattle.cp_vat_machine.specs.Resolving.{OnRelease, given_back, is_open_promise, TakeResolution, resolved, ResolveOf, OnResolve, echo_to, EchoesExport, EchoesAnswer, EchoesTarget, is_under, embargo_ended, ended_by, OnDisembargo, UnknownToPeer, closed}
@@ -53,7 +53,7 @@ release_keeps s r done h does =
 -- a Resolve that the peer doesn't know
 unknown_resolve : (s : State) (r : Resolve) (done : Done) → Within s None [] → UnknownToPeer s (Some (messages.Resolve r)) (Ok done) → Within done.1 None []
 unknown_resolve s r done h does =
-    let parts = then_out {A = Table (Counted Cap)} {B = Done} (λ exports. exports ≡ lower s.counts.exports (given_back r.resolution)) _ done does in
+    let parts = then_out {A = Table (Counted Cap)} {B = Done} (λ exports. exports ≡ release_exports s.counts.exports (given_back r.resolution)) _ done does in
     rw (ok_in _ _ parts.2) (fewer_exports h parts.0 (lower_fewer s.counts.exports parts.0 (given_back r.resolution) h.counts parts.1))
 
 pub unknown_keeps : (s : State) (o : Option Message) (done : Done) → Within s None [] → UnknownToPeer s o (Ok done) → Within done.1 None []

@@ -23,9 +23,9 @@ use Rattle.cp_vat_machine.specs.InUse.{caps_of, is_pipelined_of}
 use Rattle.cp_vat_machine.specs.Local.{is_open_stage, is_forwarding, waiting_of, forwarding_of, one_if, ForwardsRightly, IsThere, OwnIs, is_wire, IsSentIf, IsOpenIf}
 use Rattle.cp_vat_machine.specs.declared.entry.QuestionEntry.{QuestionEntry}
 use Rattle.cp_vat_machine.specs.declared.fault.PeerFault.{PeerFault}
-use Rattle.cp_vat_machine.specs.Take.{TakeAll, lower}
+use Rattle.cp_vat_machine.specs.Receiving.{ReceivesCaps, release_exports}
 use Rattle.cp_vat_machine.specs.Give.{GiveAnswer, without_question}
-use Rattle.cp_vat_machine.specs.Asking.{TakeReturned, Settles, ReturnBy, is_asked, ReturnOf, OnReturn}
+use Rattle.cp_vat_machine.specs.Asking.{ReceivesReturned, Settles, ReturnBy, is_asked, ReturnOf, OnReturn}
 use Rattle.cp_vat_machine.specs.declared.fault.PeerFault.TheVariants as faults
 use Rattle.cp_vat_machine.proofs.Basics.{not_false, some_out, none_out, ok_in, then_out, is_equal, unless_out, ok_out}
 use Rattle.cp_vat_laws.specs.Within.{Within, is_in_hand, HasAnswerPlace, HasQuestionPlace, IsFit, IsOff}
@@ -40,10 +40,10 @@ use Rattle.cp_vat_laws.proofs.within.Go.{answer_in_hand}
 
 -- what was returned is taken in
 pub returned_keeps : (s : State) (returned : Returned) (taken : Outcome × State) → Within s None [] → s.waiting.over ≡ none_over
-    → TakeReturned s returned (Ok taken)
+    → ReceivesReturned s returned (Ok taken)
     → Within taken.1 None [] × Grows s taken.1 × AllByRecursion (IsFit taken.1) (caps_of taken.0)
 returned_keeps s (returns.Results p) taken h still is =
-    let parts = then_out {A = List Cap × State} {B = Outcome × State} (TakeAll s p.cap_table) _ taken is in
+    let parts = then_out {A = List Cap × State} {B = Outcome × State} (ReceivesCaps s p.cap_table) _ taken is in
     rw (ok_in _ _ parts.2) (take_all_keeps None [] p.cap_table s parts.0 h still parts.1)
 returned_keeps s (returns.Exception x) taken h still is = rw (ok_in _ _ is) (h, grows_not s, tt)
 returned_keeps s returns.Canceled taken h still is = rw (ok_in _ _ is) (h, grows_not s, tt)
@@ -152,7 +152,7 @@ return_by : (s : State) (r : Return) (entry : Exchange QuestionEntry) (stage : S
     → get s.entries.questions r.answer_id ≡ Some entry → entry.stage ≡ stage → entry.kept.is_sent ≡ true → ReturnBy s r entry.kept stage (Ok done)
     → Within done.1 None []
 return_by s r entry stages.Open done h still was at went does =
-    let taken = then_out {A = Outcome × State} {B = Done} (TakeReturned s r.returned) _ done does in
+    let taken = then_out {A = Outcome × State} {B = Done} (ReceivesReturned s r.returned) _ done does in
     let one = returned_keeps s r.returned taken.0 h still taken.1 in
     let there : get taken.0.1.entries.questions r.answer_id ≡ Some entry = ap (λ m. get m r.answer_id) one.1.asked ∙ was in
     settles_keeps taken.0.1 r.answer_id entry entry.kept.forwards taken.0.0 done one.0 there (rw (at) refl) went refl one.2 taken.2
@@ -177,13 +177,13 @@ return_of s r None done h still was does = ok_out does
 return_of s r (Some entry) done h still was does =
     let refusals : List PeerFault = fault_if (not (is_asked entry.kept.is_sent entry.stage)) faults.UnknownQuestion in
     let Rule : Result Done PeerFault → Type 0 =
-    Then (λ exports. exports ≡ (if r.release_param_caps then lower s.counts.exports entry.kept.mentions else Ok s.counts.exports))
+    Then (λ exports. exports ≡ (if r.release_param_caps then release_exports s.counts.exports entry.kept.mentions else Ok s.counts.exports))
     (λ exports. ReturnBy (with_exports s exports) r entry.kept entry.stage) in
     let rule = unless_out {A = Done} {F = PeerFault} refusals Rule done does in
     let none = no_faults {A = Done} {F = PeerFault} refusals Rule done does in
     let asked = not_false _ (not_met (not (is_asked entry.kept.is_sent entry.stage)) faults.UnknownQuestion none) in
     let lowers = then_out {A = Table (Counted Cap)} {B = Done}
-    (λ exports. exports ≡ (if r.release_param_caps then lower s.counts.exports entry.kept.mentions else Ok s.counts.exports)) _ done rule in
+    (λ exports. exports ≡ (if r.release_param_caps then release_exports s.counts.exports entry.kept.mentions else Ok s.counts.exports)) _ done rule in
     let fewer = fewer_exports h lowers.0 (lower_if r.release_param_caps s.counts.exports lowers.0 entry.kept.mentions h.counts lowers.1) in
     return_by (with_exports s lowers.0) r entry entry.stage done fewer still was refl (asked_sent entry.kept.is_sent entry.stage asked) lowers.2
 

@@ -21,7 +21,7 @@ use Rattle.cp_refs.specs.declared.route.Gate.{Gate}
 use Rattle.cp_refs.specs.declared.route.Gate.TheVariants as gates
 use Rattle.cp_vat_machine.specs.State.{State, gave, with_exports}
 use Rattle.cp_vat_machine.specs.Then.{Done}
-use Rattle.cp_vat_machine.specs.Say.{ComesTo, end_by, end_within}
+use Rattle.cp_vat_machine.specs.Writing.{ResolvesTo, end_by, end_within}
 use Rattle.cp_vat_machine.specs.Give.{settled, value_for, last_for, Settle, SettleTied}
 use Rattle.cp_vat_machine.specs.Texts.{promise_loop}
 use Rattle.cp_vat_machine.specs.InUse.{caps_of, is_promise, is_unsettled}
@@ -86,7 +86,7 @@ module _ (values : ValueMaps) (p : ℕ) (v : Option Cap) (open_ : get values.pro
   avoids (suc n) c last other comes = avoids_by n c last (way values c) (λ d. avoids n d last other) other refl comes
 
   -- the value that it is settled to has a route, and the way of what is told ends
-  pub settled_route : (value last : Cap) → ComesTo values value last → HasRoute (with_value values p v) (value_for p last value)
+  pub settled_route : (value last : Cap) → ResolvesTo values value last → HasRoute (with_value values p v) (value_for p last value)
   settled_route value caps.None comes = avoids comes.0 value caps.None refl comes.1
   settled_route value (caps.Object k) comes = avoids comes.0 value (caps.Object k) refl comes.1
   settled_route value (caps.Promise r) comes = by (r == p) refl

@@ -25,7 +25,7 @@ use Rattle.cp_refs.specs.declared.outcome.Outcome.{Outcome}
 use Rattle.cp_vat_machine.specs.State.{State, none_over}
 use Rattle.cp_vat_machine.specs.Then.{Then}
 use Rattle.cp_vat_machine.specs.Capacity.{has_capacity, Fresh, free, full}
-use Rattle.cp_vat_machine.specs.Take.{held_once_more, held_import, unfinished, answer_by, answer_of, path_of, tie, tied, TakeAnswer, taken_export, Take, TakeAll}
+use Rattle.cp_vat_machine.specs.Receiving.{held_once_more, held_import, unfinished, answer_by, answer_of, path_of, tie, tied, ReceivesAnswer, taken_export, ReceivesCap, ReceivesCaps}
 use Rattle.cp_vat_machine.specs.InUse.{caps_of}
 use Rattle.cp_vat_machine.specs.Local.{IsImportMark, is_open_stage, ForwardsRightly, tied_to, tied_in, HasNoTied, IsExportable, IsThere, AnswerIs}
 use Rattle.cp_vat_machine.specs.declared.entry.AnswerEntry.{AnswerEntry}
@@ -538,7 +538,7 @@ module _ (hand : Option Origin) (next : List Tied) where
 
   answer_keeps : (s : State) (a : ℕ) (path : List ℕ) (o : Option (Option Outcome)) (taken : Cap × State) → Within s hand next → s.waiting.over ≡ none_over
       → answer_of s a ≡ o
-      → TakeAnswer s a path o (Ok taken) → TakenWell s hand next taken
+      → ReceivesAnswer s a path o (Ok taken) → TakenWell s hand next taken
   answer_keeps s a path None taken h still given is = ok_out is
   answer_keeps s a path (Some (Some outcome)) taken h still given is =
       rw (ok_in _ _ is) (h, grows_not s, fit_at s outcome path (fit_table h a outcome (answer_given s a (Some outcome) given)))
@@ -558,7 +558,7 @@ module _ (hand : Option Origin) (next : List Tied) where
             (there_of (λ (x : Counted Cap). IsExportable s x.kept) (get s.counts.exports e) entry at (h.exports e)),
       )
 
-  pub take_keeps : (s : State) (d : Descriptor) (taken : Cap × State) → Within s hand next → s.waiting.over ≡ none_over → Take s d (Ok taken)
+  pub take_keeps : (s : State) (d : Descriptor) (taken : Cap × State) → Within s hand next → s.waiting.over ≡ none_over → ReceivesCap s d (Ok taken)
       → TakenWell s hand next taken
   take_keeps s descriptors.None taken h still is = rw (ok_in _ _ is) (h, grows_not s, (refl, tt, (1, refl)))
   take_keeps s (descriptors.SenderHosted i) taken h still is = import_keeps s i kinds.Hosted taken h is
@@ -571,12 +571,12 @@ module _ (hand : Option Origin) (next : List Tied) where
 
   -- a capability table is taken in
   pub take_all_keeps : (table : List Descriptor) (s : State) (taken : List Cap × State) → Within s hand next → s.waiting.over ≡ none_over
-      → TakeAll s table (Ok taken)
+      → ReceivesCaps s table (Ok taken)
       → Within taken.1 hand next × Grows s taken.1 × AllByRecursion (IsFit taken.1) taken.0
   take_all_keeps [] s taken h still is = rw (ok_in _ _ is) (h, grows_not s, tt)
   take_all_keeps (d ∷ table) s taken h still is =
-      let first = then_out {A = Cap × State} {B = List Cap × State} (Take s d) _ taken is in
-      let rest = then_out {A = List Cap × State} {B = List Cap × State} (TakeAll first.0.1 table) _ taken first.2 in
+      let first = then_out {A = Cap × State} {B = List Cap × State} (ReceivesCap s d) _ taken is in
+      let rest = then_out {A = List Cap × State} {B = List Cap × State} (ReceivesCaps first.0.1 table) _ taken first.2 in
       let one = take_keeps s d first.0 h still first.1 in
       let more = take_all_keeps table first.0.1 rest.0 one.0 (ap (λ w. w.over) one.1.waiting ∙ still) rest.1 in
       rw (ok_in _ _ rest.2) (more.0, grows_both one.1 more.1, (fit_grows one.0 more.1 first.0.0 one.2, more.2))

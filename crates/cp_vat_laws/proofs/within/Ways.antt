@@ -10,7 +10,7 @@ use Rattle.cp_refs.specs.declared.cap.Cap.TheVariants as caps
 use Rattle.cp_refs.specs.declared.outcome.Outcome.{Outcome}
 use Rattle.cp_refs.specs.declared.values.Question.{Question}
 use Rattle.cp_refs.specs.declared.values.QuestionKind.{QuestionKind}
-use Rattle.cp_vat_machine.specs.Say.{ComesTo, end_by, end_within}
+use Rattle.cp_vat_machine.specs.Writing.{ResolvesTo, end_by, end_within}
 use Rattle.cp_vat_machine.proofs.Basics.{some_out, none_out}
 
 -- a way that ends
@@ -100,7 +100,7 @@ ends_within : (values : ValueMaps) (n : ℕ) (c last : Cap) → end_within n val
 ends_within values zero c last e = none_out e
 ends_within values (suc n) c last e = end_found values n c last (way values c) (λ next. ends_within values n next last) refl e
 
-pub comes_to_end : (values : ValueMaps) (c last : Cap) → ComesTo values c last → IsEnding (way values last)
+pub comes_to_end : (values : ValueMaps) (c last : Cap) → ResolvesTo values c last → IsEnding (way values last)
 comes_to_end values c last comes = ends_within values comes.0 c last comes.1
 
 pub ending_promise : (p : ℕ) (o : Option (Option Cap)) → IsEnding (promise_way p o) → o ≡ Some None

@@ -17,7 +17,7 @@ use Rattle.cp_refs.specs.declared.values.Question.{Question}
 use Rattle.cp_refs.specs.declared.values.QuestionKind.{QuestionKind}
 use Rattle.cp_refs.specs.declared.values.QuestionKind.TheVariants as kinds
 use Rattle.cp_vat_machine.specs.Capacity.{cap_fits, caps_fit, content_fits, exception_fits}
-use Rattle.cp_vat_machine.specs.Say.{end_by, end_within, ComesTo}
+use Rattle.cp_vat_machine.specs.Writing.{end_by, end_within, ResolvesTo}
 use Rattle.cp_vat_laws.specs.Sizes.{CapFits, OutcomeFits, ValuesFit}
 
 pub both : (a b : Bool) → (a && b) ≡ true → (a ≡ true) × (b ≡ true)
@@ -110,7 +110,7 @@ module _ (v : ValueMaps) (fits : ValuesFit v) where
   end_within_fits (suc n) c last h to = end_by_fits n c last (way v c) (λ d. end_within_fits n d last) h (way_fits c h) to
 
   -- what a capability comes to
-  pub end_fits : (c last : Cap) → CapFits c → ComesTo v c last → CapFits last
+  pub end_fits : (c last : Cap) → CapFits c → ResolvesTo v c last → CapFits last
   end_fits c last h to = end_within_fits to.0 c last h to.1
 
   route_by_fits : (n : ℕ) (route : Route) (w : Way) → ((d : Cap) → CapFits d → route_within n v d ≡ Some route → RouteFits route) → WayFits w → route_by (λ d. route_within n v d) w ≡ Some route → RouteFits route

@@ -37,11 +37,11 @@ use Rattle.cp_refs.specs.declared.route.Route.TheVariants as routes
 use Rattle.cp_vat_machine.specs.State.{State, with_exports}
 use Rattle.cp_vat_machine.specs.Then.{Done, Then, fault_if}
 use Rattle.cp_vat_machine.specs.Capacity.{has_capacity, Fresh, cap_fits, caps_fit, content_fits, message_fits, payload_fits, resolution_fits, returned_fits}
-use Rattle.cp_vat_machine.specs.Take.{answer_by, answer_of, path_of, unfinished, held_once_more, held_import, less_by, lowered_by, lowered, lower, released, times, TakeAnswer, taken_export, Take, TakeAll}
+use Rattle.cp_vat_machine.specs.Receiving.{answer_by, answer_of, path_of, unfinished, held_once_more, held_import, less_by, lowered_by, lowered, release_exports, released, times, ReceivesAnswer, taken_export, ReceivesCap, ReceivesCaps}
 use Rattle.cp_vat_machine.specs.Give.{GiveAnswer, without_question}
 use Rattle.cp_vat_machine.specs.Go.{Underway}
 use Rattle.cp_vat_machine.specs.Answering.{with_answer, bootstrap_outcome, is_answering, OnBootstrap, target_faults, GoToExport, GoToAnswer, GoToTarget, peer_call, entered, call_faults, OnCall, AtStage, FinishedBy}
-use Rattle.cp_vat_machine.specs.Asking.{TakeReturned, Settles, ReturnBy, is_asked, ReturnOf}
+use Rattle.cp_vat_machine.specs.Asking.{ReceivesReturned, Settles, ReturnBy, is_asked, ReturnOf}
 use Rattle.cp_vat_machine.specs.Resolving.{OnRelease, is_open_promise, TakeResolution, ResolveOf, given_back, releases_of, echo_to, EchoesExport, EchoesAnswer, EchoesTarget, ended_by, OnDisembargo, UnknownToPeer, told}
 use Rattle.cp_vat_machine.specs.Step.{On, ReceivesIf, echo_fits, echoed}
 use Rattle.cp_vat_machine.specs.declared.effect.Effect.TheVariants as effects
@@ -77,7 +77,7 @@ lower_by true b x new is = ok_out is
 lower_by false true x new is = ok_out is
 lower_by false false x new is = ok_in _ _ is
 
-lower_fits : (exports new : Table (Counted Cap)) (ids : List ℕ) → AllExported exports → Ok new ≡ lower exports ids → AllExported new
+lower_fits : (exports new : Table (Counted Cap)) (ids : List ℕ) → AllExported exports → Ok new ≡ release_exports exports ids → AllExported new
 lower_fits exports new ids all is =
     subst AllExported (sym (lower_by (list_any (λ e. is_none (get exports e)) ids) (list_any (λ e. ltb (count_of exports e) (times e ids)) ids) (lowered exports ids) new is)) (lowered_fits ids exports all)
 
@@ -85,7 +85,7 @@ released_fits : (exports new : Table (Counted Cap)) (e n : ℕ) → AllExported 
 released_fits exports new e n all is =
     subst AllExported (sym (lower_by (is_none (get exports e)) (ltb (count_of exports e) n) (lowered_by exports e n) new is)) (less_fits exports e n (get exports e) all (all e))
 
-lower_if_fits : (b : Bool) (exports new : Table (Counted Cap)) (ids : List ℕ) → AllExported exports → Ok new ≡ cond b (lower exports ids) (Ok exports) → AllExported new
+lower_if_fits : (b : Bool) (exports new : Table (Counted Cap)) (ids : List ℕ) → AllExported exports → Ok new ≡ cond b (release_exports exports ids) (Ok exports) → AllExported new
 lower_if_fits true exports new ids all is = lower_fits exports new ids all is
 lower_if_fits false exports new ids all is = subst AllExported (sym (ok_in _ _ is)) all
 
@@ -137,7 +137,7 @@ module _ (s : State) (f : Fits s) where
   answer_kept : (a : ℕ) → IfSome (answer_of s a) (λ outcome. IfSome outcome OutcomeFits)
   answer_kept a = kept_answer (get s.entries.answers a) (get s.values.answers a) (f.values_fit.answers a)
 
-  answered_fits : (a : ℕ) (path : List ℕ) (o : Option (Option Outcome)) (taken : Cap × State) → IfSome o (λ outcome. IfSome outcome OutcomeFits) → TakeAnswer s a path o (Ok taken) → CapFits taken.0 × Fits taken.1
+  answered_fits : (a : ℕ) (path : List ℕ) (o : Option (Option Outcome)) (taken : Cap × State) → IfSome o (λ outcome. IfSome outcome OutcomeFits) → ReceivesAnswer s a path o (Ok taken) → CapFits taken.0 × Fits taken.1
   answered_fits a path None taken h is = ok_out is
   answered_fits a path (Some (Some outcome)) taken h is = rw (ok_in _ _ is) (at_fits outcome path h, f)
   answered_fits a path (Some None) taken h is =
@@ -148,7 +148,7 @@ module _ (s : State) (f : Fits s) where
   exported_fits None taken h is = ok_out is
   exported_fits (Some entry) taken h is = rw (ok_in _ _ is) (h, f)
 
-  take_fits : (d : Descriptor) (taken : Cap × State) → Take s d (Ok taken) → CapFits taken.0 × Fits taken.1
+  take_fits : (d : Descriptor) (taken : Cap × State) → ReceivesCap s d (Ok taken) → CapFits taken.0 × Fits taken.1
   take_fits descriptors.None taken is = rw (ok_in _ _ is) (refl, f)
   take_fits (descriptors.SenderHosted i) taken is = import_fits i kinds.Hosted taken is
   take_fits (descriptors.SenderPromise i) taken is = import_fits i kinds.Promise taken is
@@ -158,11 +158,11 @@ module _ (s : State) (f : Fits s) where
   take_fits (descriptors.ThirdPartyHosted t) taken is = absurd is
   take_fits (descriptors.Unknown n) taken is = absurd is
 
-take_all_fits : (table : List Descriptor) (s : State) (f : Fits s) (taken : List Cap × State) → TakeAll s table (Ok taken) → (list_all cap_fits taken.0 ≡ true) × (length taken.0 ≡ length table) × Fits taken.1
+take_all_fits : (table : List Descriptor) (s : State) (f : Fits s) (taken : List Cap × State) → ReceivesCaps s table (Ok taken) → (list_all cap_fits taken.0 ≡ true) × (length taken.0 ≡ length table) × Fits taken.1
 take_all_fits [] s f taken is = rw (ok_in _ _ is) (refl, refl, f)
 take_all_fits (d ∷ table) s f taken is =
-    let first = then_out {A = Cap × State} {B = List Cap × State} (Take s d) _ taken is in
-    let rest = then_out {A = List Cap × State} {B = List Cap × State} (TakeAll first.0.1 table) _ taken first.2 in
+    let first = then_out {A = Cap × State} {B = List Cap × State} (ReceivesCap s d) _ taken is in
+    let rest = then_out {A = List Cap × State} {B = List Cap × State} (ReceivesCaps first.0.1 table) _ taken first.2 in
     let one = take_fits s f d first.0 first.1 in
     let more = take_all_fits table first.0.1 one.1 rest.0 rest.1 in
     rw (ok_in _ _ rest.2) (all_both _ _ one.0 more.0, ap suc more.1, more.2)
@@ -193,7 +193,7 @@ module _ (s : State) (f : Fits s) where
 call_comes : (s : State) (f : Fits s) (c : Call) (done : Done) → payload_fits c.params ≡ true → OnCall s c (Ok done) → Good done
 call_comes s f c done h does =
     let rule = unless_out {A = Done} {F = PeerFault} (call_faults s c) _ done does in
-    let taken = then_out {A = List Cap × State} {B = Done} (TakeAll s c.params.cap_table) _ done rule.1 in
+    let taken = then_out {A = List Cap × State} {B = Done} (ReceivesCaps s c.params.cap_table) _ done rule.1 in
     let fits = take_all_fits c.params.cap_table s f taken.0 taken.1 in
     let sizes = payload_sizes c.params.content c.params.cap_table _ h in
     target_goes (entered taken.0.1 c.question_id) (with_answer_fits taken.0.1 fits.2 c.question_id (Some taken.0.1.next_ticket)) (peer_call taken.0.1 c taken.0.0) c.target done
@@ -214,9 +214,9 @@ bootstrap_comes s f a done does =
 
 module _ (s : State) (f : Fits s) where
   -- ---- a Return that comes
-  returned_taken : (returned : Returned) (taken : Outcome × State) → returned_fits returned ≡ true → TakeReturned s returned (Ok taken) → OutcomeFits taken.0 × Fits taken.1
+  returned_taken : (returned : Returned) (taken : Outcome × State) → returned_fits returned ≡ true → ReceivesReturned s returned (Ok taken) → OutcomeFits taken.0 × Fits taken.1
   returned_taken (returns.Results p) taken h is =
-      let parts = then_out {A = List Cap × State} {B = Outcome × State} (TakeAll s p.cap_table) _ taken is in
+      let parts = then_out {A = List Cap × State} {B = Outcome × State} (ReceivesCaps s p.cap_table) _ taken is in
       let fits = take_all_fits p.cap_table s f parts.0 parts.1 in
       let sizes = both (content_fits p.content) (leb (length p.cap_table) 1024) (both _ _ h).0 in
       rw (ok_in _ _ parts.2) (all_both _ _ sizes.0 (caps_taken parts.0.0 _ fits.0 fits.1 sizes.1), fits.2)
@@ -239,7 +239,7 @@ settles_fits s f q (Some a) outcome done h does =
 
 return_by : (s : State) (f : Fits s) (r : Return) (kept : QuestionEntry) (stage : Stage) (done : Done) → returned_fits r.returned ≡ true → ReturnBy s r kept stage (Ok done) → Good done
 return_by s f r kept stages.Open done h does =
-    let taken = then_out {A = Outcome × State} {B = Done} (TakeReturned s r.returned) _ done does in
+    let taken = then_out {A = Outcome × State} {B = Done} (ReceivesReturned s r.returned) _ done does in
     let fits = returned_taken s f r.returned taken.0 h taken.1 in
     settles_fits taken.0.1 fits.1 r.answer_id kept.forwards taken.0.0 done fits.0 taken.2
 return_by s f r kept stages.Finished done h does = rw (ok_in _ _ does) (tt, without_question_fits s f r.answer_id)
@@ -257,7 +257,7 @@ module _ (s : State) (f : Fits s) where
   finish_at : (fin : Finish) (kept : AnswerEntry) (stage : Stage) (done : Done) → AtStage s fin kept stage (Ok done) → Good done
   finish_at fin kept stages.Open done does = rw (ok_in _ _ does) (tt, f)
   finish_at fin kept stages.Returned done does =
-      let parts = then_out {A = Table (Counted Cap)} {B = Done} (λ exports. exports ≡ (cond fin.release_result_caps (lower s.counts.exports kept.mentions) (Ok s.counts.exports))) _ done does in
+      let parts = then_out {A = Table (Counted Cap)} {B = Done} (λ exports. exports ≡ (cond fin.release_result_caps (release_exports s.counts.exports kept.mentions) (Ok s.counts.exports))) _ done does in
       let lowered = lower_if_fits fin.release_result_caps s.counts.exports parts.0 kept.mentions f.exports_fit parts.1 in
       rw (ok_in _ _ parts.2) (tt, record { values_fit = answer_gone s f fin.question_id; exports_fit = lowered; calls_fit = f.calls_fit; over_fits = f.over_fits; embargoes_fit = f.embargoes_fit })
   finish_at fin kept stages.Finished done does = ok_out does
@@ -340,7 +340,7 @@ module _ (s : State) (f : Fits s) where
 
   unknown_comes : (o : Option Message) (done : Done) → UnknownToPeer s o (Ok done) → Good done
   unknown_comes (Some (messages.Resolve r)) done does =
-      let parts = then_out {A = Table (Counted Cap)} {B = Done} (λ exports. exports ≡ lower s.counts.exports (given_back r.resolution)) _ done does in
+      let parts = then_out {A = Table (Counted Cap)} {B = Done} (λ exports. exports ≡ release_exports s.counts.exports (given_back r.resolution)) _ done does in
       rw (ok_in _ _ parts.2) (tt, exports_fit s f parts.0 (lower_fits s.counts.exports parts.0 (given_back r.resolution) f.exports_fit parts.1))
   unknown_comes None done does = ok_out does
   unknown_comes (Some (messages.Unimplemented t)) done does = ok_out does

@@ -39,7 +39,7 @@ use Rattle.cp_refs.specs.declared.route.Route.TheVariants as routes
 use Rattle.cp_vat_machine.specs.State.{State, Over, gave, none_over, with_exports}
 use Rattle.cp_vat_machine.specs.Then.{Done, Then}
 use Rattle.cp_vat_machine.specs.Capacity.{Fresh, cap_fits, caps_fit, content_fits, exception_fits}
-use Rattle.cp_vat_machine.specs.Say.{Raise, counted, counted_out, opened, has_no_capacity, SayEnd, Say, SayAll, promised}
+use Rattle.cp_vat_machine.specs.Writing.{Raise, counted, counted_out, opened, has_no_capacity, WritesEnd, WritesDescriptor, WritesDescriptors, promised}
 use Rattle.cp_vat_machine.specs.Give.{ResolvesEnd, Tells, settled, value_for, last_for, Settle, SettleTied, Returns, given, gone, GiveBy, GiveAnswer, GiveOwnBy, Give}
 use Rattle.cp_vat_machine.specs.Go.{Underway, underway, delivered, finish_after, GoOut, Go, GoTo, Leave, stays, leaves, finds_table_full, without_call}
 use Rattle.cp_vat_machine.specs.Texts.{promise_loop}
@@ -209,7 +209,7 @@ module _ (s : State) (f : Fits s) where
   raised_fits cap out h (opened e none fresh) = exports_fit _ (every-insert (λ entry. CapFits entry.kept) s.counts.exports e _ f.exports_fit h)
   raised_fits cap out h (has_no_capacity none is) = tt
 
-  said_fits : (last : Cap) (said : Descriptor × State) → CapFits last → SayEnd s last (Ok said) → IsSaid said.0 × Fits said.1
+  said_fits : (last : Cap) (said : Descriptor × State) → CapFits last → WritesEnd s last (Ok said) → IsSaid said.0 × Fits said.1
   said_fits caps.None said h is = rw (ok_in _ _ is) (tt, f)
   said_fits (caps.Object k) said h is =
       let parts = then_out {A = ℕ × State} {B = Descriptor × State} (Raise s (caps.Object k)) _ said is in
@@ -222,13 +222,13 @@ module _ (s : State) (f : Fits s) where
   said_fits (caps.Broken x) said h is = rw (ok_in _ _ is) (tt, f)
 
 -- a table
-table_fits : (table : List Cap) (s : State) (said : List Descriptor × State) → Fits s → list_all cap_fits table ≡ true → SayAll s table (Ok said)
+table_fits : (table : List Cap) (s : State) (said : List Descriptor × State) → Fits s → list_all cap_fits table ≡ true → WritesDescriptors s table (Ok said)
     → AreSaid said.0 × (length said.0 ≡ length table) × Fits said.1
 table_fits [] s said f all is = rw (ok_in _ _ is) (tt, refl, f)
 table_fits (c ∷ table) s said f all is =
     let each = both (cap_fits c) (list_all cap_fits table) all in
-    let first = then_out {A = Descriptor × State} {B = List Descriptor × State} (Say s c) _ said is in
-    let rest = then_out {A = List Descriptor × State} {B = List Descriptor × State} (SayAll first.0.1 table) _ said first.2 in
+    let first = then_out {A = Descriptor × State} {B = List Descriptor × State} (WritesDescriptor s c) _ said is in
+    let rest = then_out {A = List Descriptor × State} {B = List Descriptor × State} (WritesDescriptors first.0.1 table) _ said first.2 in
     let one = said_fits s f first.1.0 first.0 (end_fits s.values f.values_fit c first.1.0 each.0 first.1.1) first.1.2 in
     let more = table_fits table first.0.1 rest.0 one.1 each.1 rest.1 in
     rw (ok_in _ _ rest.2) ((one.0, more.0), ap suc more.1, more.2)
@@ -247,9 +247,9 @@ value_fits p (caps.Pipelined q path) value h = h
 value_fits p (caps.Broken x) value h = h
 
 module _ (s : State) (f : Fits s) where
-  resolves_fits : (last : Cap) (said : Resolution × State) → CapFits last → Then (SayEnd s last) (λ said out. out ≡ Ok (resolutions.Cap said.0, said.1)) (Ok said) → ResolutionSaid said.0 × Fits said.1
+  resolves_fits : (last : Cap) (said : Resolution × State) → CapFits last → Then (WritesEnd s last) (λ said out. out ≡ Ok (resolutions.Cap said.0, said.1)) (Ok said) → ResolutionSaid said.0 × Fits said.1
   resolves_fits last said h is =
-      let parts = then_out {A = Descriptor × State} {B = Resolution × State} (SayEnd s last) _ said is in
+      let parts = then_out {A = Descriptor × State} {B = Resolution × State} (WritesEnd s last) _ said is in
       rw (ok_in _ _ parts.2) (said_fits s f last parts.0 h parts.1)
 
   resolution_fits : (last : Cap) (said : Resolution × State) → CapFits last → ResolvesEnd s last (Ok said) → ResolutionSaid said.0 × Fits said.1
@@ -285,7 +285,7 @@ tied_fits (tied ∷ more) s f outcome done h does =
 module _ (s : State) (f : Fits s) where
   returns_fit : (outcome : Outcome) (said : Returned × State) → OutcomeFits outcome → Returns s outcome (Ok said) → ReturnedSaid said.0 × Fits said.1
   returns_fit (outcomes.Results content table) said h does =
-      let parts = then_out {A = List Descriptor × State} {B = Returned × State} (SayAll s table) _ said does in
+      let parts = then_out {A = List Descriptor × State} {B = Returned × State} (WritesDescriptors s table) _ said does in
       let sizes = both (content_fits content) (caps_fit table) h in
       let caps = both (leb (length table) 1024) (list_all cap_fits table) sizes.1 in
       let said = table_fits table s parts.0 f caps.1 parts.1 in
@@ -355,13 +355,13 @@ module _ (s : State) (f : Fits s) where
   out_fits : (call : Underway) (target : Target) (origin : Origin) (done : Done) → RequestFits call.request → TargetSaid target → GoOut s call target origin (Ok done) → Good done
   out_fits call target (origins.Answer a) done h said goes =
       let first = then_out {A = ℕ} {B = Done} (Fresh s.entries.questions) _ done goes in
-      let parts = then_out {A = List Descriptor × State} {B = Done} (SayAll s call.request.caps) _ done first.2 in
+      let parts = then_out {A = List Descriptor × State} {B = Done} (WritesDescriptors s call.request.caps) _ done first.2 in
       let sizes = both (content_fits call.request.content) (caps_fit call.request.caps) h in
       let caps = both (leb (length call.request.caps) 1024) (list_all cap_fits call.request.caps) sizes.1 in
       let table = table_fits call.request.caps s parts.0 f caps.1 parts.1 in
       rw (ok_in _ _ parts.2) (((said, (sizes.0, subst (λ n. n ≤ 1024) (sym table.1) (at_most _ _ caps.0), table.0), refl), tt), table.2)
   out_fits call target (origins.Own q) done h said goes =
-      let parts = then_out {A = List Descriptor × State} {B = Done} (SayAll s call.request.caps) _ done goes.2 in
+      let parts = then_out {A = List Descriptor × State} {B = Done} (WritesDescriptors s call.request.caps) _ done goes.2 in
       let sizes = both (content_fits call.request.content) (caps_fit call.request.caps) h in
       let caps = both (leb (length call.request.caps) 1024) (list_all cap_fits call.request.caps) sizes.1 in
       let table = table_fits call.request.caps s parts.0 f caps.1 parts.1 in

@@ -31,11 +31,11 @@ use Rattle.cp_refs.specs.declared.outcome.Outcome.{Outcome}
 use Rattle.cp_vat_machine.specs.State.{State, with_exports}
 use Rattle.cp_vat_machine.specs.Then.{Done, fault_if}
 use Rattle.cp_vat_machine.specs.Capacity.{has_capacity, has_ticket, message_fits}
-use Rattle.cp_vat_machine.specs.Take.{answer_of, path_of, times, TakeAll, lowered, lower, lowered_by, released}
+use Rattle.cp_vat_machine.specs.Receiving.{answer_of, path_of, times, ReceivesCaps, lowered, release_exports, lowered_by, released}
 use Rattle.cp_vat_machine.specs.Give.{GiveAnswer, without_question}
 use Rattle.cp_vat_machine.specs.Supported.{is_supported}
 use Rattle.cp_vat_machine.specs.Answering.{with_answer, bootstrap_outcome, is_answering, OnBootstrap, target_faults, call_faults, entered, peer_call, OnCall, AtStage, FinishedBy}
-use Rattle.cp_vat_machine.specs.Asking.{TakeReturned, Settles, ReturnBy, is_asked, ReturnOf}
+use Rattle.cp_vat_machine.specs.Asking.{ReceivesReturned, Settles, ReturnBy, is_asked, ReturnOf}
 use Rattle.cp_vat_machine.specs.Resolving.{OnRelease, is_open_promise, TakeResolution, ResolveOf, echo_to, EchoesExport, EchoesAnswer, EchoesTarget, ended_by, OnDisembargo}
 use Rattle.cp_vat_machine.specs.Step.{On, ReceivesIf, Receives}
 use Rattle.cp_vat_machine.specs.declared.entry.AnswerEntry.{AnswerEntry}
@@ -88,7 +88,7 @@ call_spared old c out free does =
     (both_other (fault_if (is_answering old c.question_id) faults.QuestionInUse) (target_faults old c.target)
     (if_never (is_answering old c.question_id) faults.QuestionInUse (none_kept (get old.entries.answers c.question_id) free)) (target_other old c.target))
     (if_other (not (has_capacity old.entries.answers && has_ticket old)) faults.TableFull tt))
-    (λ rule. then_spared (TakeAll old c.params.cap_table) _ out (take_all_spared old c.params.cap_table)
+    (λ rule. then_spared (ReceivesCaps old c.params.cap_table) _ out (take_all_spared old c.params.cap_table)
     (λ taken first rest. target_spared (entered taken.1 c.question_id) (peer_call taken.1 c taken.0) c.target out rest) rule) does
 
 bootstrap_spared : (old : State) (a : ℕ) (out : Result Done PeerFault) → (accounts_of old).answers a ≡ None → OnBootstrap old a out → IsSpared out
@@ -100,8 +100,8 @@ bootstrap_spared old a out free does =
     (answer_spared (with_answer old a None) a (bootstrap_outcome old.bootstrap) out) does
 
 -- a Return
-taken_spared : (old : State) (returned : Returned) (out : Result (Outcome × State) PeerFault) → TakeReturned old returned out → IsSpared out
-taken_spared old (returns.Results p) out is = then_spared (TakeAll old p.cap_table) _ out (take_all_spared old p.cap_table) (λ taken first end. ok_spared out _ end) is
+taken_spared : (old : State) (returned : Returned) (out : Result (Outcome × State) PeerFault) → ReceivesReturned old returned out → IsSpared out
+taken_spared old (returns.Results p) out is = then_spared (ReceivesCaps old p.cap_table) _ out (take_all_spared old p.cap_table) (λ taken first end. ok_spared out _ end) is
 taken_spared old (returns.Exception x) out is = ok_spared out _ is
 taken_spared old returns.Canceled out is = ok_spared out _ is
 taken_spared old returns.ResultsSentElsewhere out is = absurd is
@@ -116,7 +116,7 @@ settles_spared old q (Some a) outcome out does =
 
 return_by : (old : State) (r : Return) (kept : QuestionEntry) (stage : Stage) (out : Result Done PeerFault) → ReturnBy old r kept stage out → IsSpared out
 return_by old r kept stages.Open out does =
-    then_spared (TakeReturned old r.returned) _ out (taken_spared old r.returned) (λ taken first rest. settles_spared taken.1 r.answer_id kept.forwards taken.0 out rest) does
+    then_spared (ReceivesReturned old r.returned) _ out (taken_spared old r.returned) (λ taken first rest. settles_spared taken.1 r.answer_id kept.forwards taken.0 out rest) does
 return_by old r kept stages.Finished out does = ok_spared out _ does
 return_by old r kept stages.Returned out does = absurd does
 
@@ -126,7 +126,7 @@ is_awaited true stages.Open mentions waits = refl
 is_awaited true stages.Finished mentions waits = refl
 is_awaited true stages.Returned mentions waits = absurd waits
 
-unlowered : (b : Bool) (exports : Table (Counted Cap)) (ids : List ℕ) → b ≡ false → IsSpared (if b then lower exports ids else Ok exports)
+unlowered : (b : Bool) (exports : Table (Counted Cap)) (ids : List ℕ) → b ≡ false → IsSpared (if b then release_exports exports ids else Ok exports)
 unlowered true exports ids never = absurd (true≢false never)
 unlowered false exports ids never = tt
 
@@ -136,7 +136,7 @@ return_of old r None out keeps waits does = absurd waits
 return_of old r (Some entry) out keeps waits does =
     unless_spared (fault_if (not (is_asked entry.kept.is_sent entry.stage)) faults.UnknownQuestion) _ out
     (if_never (not (is_asked entry.kept.is_sent entry.stage)) faults.UnknownQuestion (is_awaited entry.kept.is_sent entry.stage entry.kept.mentions waits))
-    (λ rule. then_spared (λ exports. exports ≡ (if r.release_param_caps then lower old.counts.exports entry.kept.mentions else Ok old.counts.exports)) _ out
+    (λ rule. then_spared (λ exports. exports ≡ (if r.release_param_caps then release_exports old.counts.exports entry.kept.mentions else Ok old.counts.exports)) _ out
     (λ o is. is_spared o _ is (unlowered r.release_param_caps old.counts.exports entry.kept.mentions keeps))
     (λ exports first rest. return_by (with_exports old exports) r entry.kept entry.stage out rest) rule) does
 
@@ -149,7 +149,7 @@ none_passes : (exports : Table (Counted Cap)) (all part : List ℕ) → ((e : �
 none_passes exports all [] fits = refl
 none_passes exports all (e ∷ part) fits = rw (fits_test (times e all) (count_of exports e) (fits e)) (none_passes exports all part fits)
 
-lower_spared : (exports : Table (Counted Cap)) (ids : List ℕ) → ((e : ℕ) → times e ids ≤ count_of exports e) → IsSpared (lower exports ids)
+lower_spared : (exports : Table (Counted Cap)) (ids : List ℕ) → ((e : ℕ) → times e ids ≤ count_of exports e) → IsSpared (release_exports exports ids)
 lower_spared exports ids fits = by (list_any (λ e. is_none (get exports e)) ids) (list_any (λ e. ltb (count_of exports e) (times e ids)) ids) (none_passes exports ids ids fits)
   where
     by : (b c : Bool) → c ≡ false → IsSpared (if b then Err faults.UnknownExport else (if c then Err faults.ReleaseTooLarge else Ok (lowered exports ids)))
@@ -180,7 +180,7 @@ release_spared old r out fits does =
     (λ exports first end. ok_spared out _ end) does
 
 lower_if_spared : (b : Bool) (exports : Table (Counted Cap)) (ids : List ℕ) → ((e : ℕ) → (if b then times e ids else 0) ≤ count_of exports e)
-    → IsSpared (if b then lower exports ids else Ok exports)
+    → IsSpared (if b then release_exports exports ids else Ok exports)
 lower_if_spared true exports ids fits = lower_spared exports ids fits
 lower_if_spared false exports ids fits = tt
 
@@ -189,7 +189,7 @@ finish_at : (old : State) (f : Finish) (kept : AnswerEntry) (stage : Stage) (out
     → AtStage old f kept stage out → IsSpared out
 finish_at old f kept stages.Open out fits does = ok_spared out _ does
 finish_at old f kept stages.Returned out fits does =
-    then_spared (λ exports. exports ≡ (if f.release_result_caps then lower old.counts.exports kept.mentions else Ok old.counts.exports)) _ out
+    then_spared (λ exports. exports ≡ (if f.release_result_caps then release_exports old.counts.exports kept.mentions else Ok old.counts.exports)) _ out
     (λ o is. is_spared o _ is (lower_if_spared f.release_result_caps old.counts.exports kept.mentions fits)) (λ exports first end. ok_spared out _ end) does
 finish_at old f kept stages.Finished out fits does = err_spared out faults.UnknownAnswer does tt
 

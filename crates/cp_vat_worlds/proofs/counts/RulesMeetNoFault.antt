@@ -27,8 +27,8 @@ use Rattle.cp_refs.specs.declared.route.Route.TheVariants as routes
 use Rattle.cp_vat_machine.specs.State.{State}
 use Rattle.cp_vat_machine.specs.Then.{Done, Then, Unless, Each}
 use Rattle.cp_vat_machine.specs.Capacity.{has_capacity, Fresh, free, full}
-use Rattle.cp_vat_machine.specs.Say.{Raise, counted, counted_out, opened, has_no_capacity, SayEnd, Say, SayAll, promised}
-use Rattle.cp_vat_machine.specs.Take.{answer_of, path_of, held_once_more, held_import, TakeAnswer, taken_export, Take, TakeAll}
+use Rattle.cp_vat_machine.specs.Writing.{Raise, counted, counted_out, opened, has_no_capacity, WritesEnd, WritesDescriptor, WritesDescriptors, promised}
+use Rattle.cp_vat_machine.specs.Receiving.{answer_of, path_of, held_once_more, held_import, ReceivesAnswer, taken_export, ReceivesCap, ReceivesCaps}
 use Rattle.cp_vat_machine.specs.Give.{ResolvesEnd, Tells, settled, value_for, last_for, Settle, SettleTied, Returns, given, gone, GiveBy, GiveAnswer, GiveOwnBy, GiveOwn, Give}
 use Rattle.cp_vat_machine.specs.Go.{Underway, GoOut, Go}
 use Rattle.cp_vat_machine.specs.Answering.{GoToExport, GoToAnswer, GoToTarget}
@@ -79,7 +79,7 @@ raise_spared old cap out (counted_out e is) = tt
 raise_spared old cap out (opened e none fresh) = tt
 raise_spared old cap out (has_no_capacity {fault = fault} none is) = fresh_spared old.counts.exports (Err fault) is
 
-said_spared : (old : State) (last : Cap) (out : Result (Descriptor × State) PeerFault) → SayEnd old last out → IsSpared out
+said_spared : (old : State) (last : Cap) (out : Result (Descriptor × State) PeerFault) → WritesEnd old last out → IsSpared out
 said_spared old caps.None out is = ok_spared out _ is
 said_spared old (caps.Object k) out is = then_spared (Raise old (caps.Object k)) _ out (raise_spared old (caps.Object k)) (λ raised first end. ok_spared out _ end) is
 said_spared old (caps.Promise p) out is = then_spared (Raise old (caps.Promise p)) _ out (raise_spared old (caps.Promise p)) (λ raised first end. ok_spared out _ end) is
@@ -87,18 +87,18 @@ said_spared old (caps.Import i) out is = ok_spared out _ is
 said_spared old (caps.Pipelined q path) out is = ok_spared out _ is
 said_spared old (caps.Broken x) out is = ok_spared out _ is
 
-table_spared : (old : State) (table : List Cap) (out : Result (List Descriptor × State) PeerFault) → SayAll old table out → IsSpared out
-table_spared old table out is = each_spared Say (λ s cap o says. said_spared s says.0 o says.2) table old out is
+table_spared : (old : State) (table : List Cap) (out : Result (List Descriptor × State) PeerFault) → WritesDescriptors old table out → IsSpared out
+table_spared old table out is = each_spared WritesDescriptor (λ s cap o says. said_spared s says.0 o says.2) table old out is
 
 -- what is settled
 resolves_spared : (old : State) (last : Cap) (out : Result (Resolution × State) PeerFault) → ResolvesEnd old last out → IsSpared out
 resolves_spared old (caps.Broken x) out is = ok_spared out _ is
-resolves_spared old caps.None out is = then_spared (SayEnd old caps.None) _ out (said_spared old caps.None) (λ said first end. ok_spared out _ end) is
-resolves_spared old (caps.Object k) out is = then_spared (SayEnd old (caps.Object k)) _ out (said_spared old (caps.Object k)) (λ said first end. ok_spared out _ end) is
-resolves_spared old (caps.Promise p) out is = then_spared (SayEnd old (caps.Promise p)) _ out (said_spared old (caps.Promise p)) (λ said first end. ok_spared out _ end) is
-resolves_spared old (caps.Import i) out is = then_spared (SayEnd old (caps.Import i)) _ out (said_spared old (caps.Import i)) (λ said first end. ok_spared out _ end) is
+resolves_spared old caps.None out is = then_spared (WritesEnd old caps.None) _ out (said_spared old caps.None) (λ said first end. ok_spared out _ end) is
+resolves_spared old (caps.Object k) out is = then_spared (WritesEnd old (caps.Object k)) _ out (said_spared old (caps.Object k)) (λ said first end. ok_spared out _ end) is
+resolves_spared old (caps.Promise p) out is = then_spared (WritesEnd old (caps.Promise p)) _ out (said_spared old (caps.Promise p)) (λ said first end. ok_spared out _ end) is
+resolves_spared old (caps.Import i) out is = then_spared (WritesEnd old (caps.Import i)) _ out (said_spared old (caps.Import i)) (λ said first end. ok_spared out _ end) is
 resolves_spared old (caps.Pipelined q path) out is =
-    then_spared (SayEnd old (caps.Pipelined q path)) _ out (said_spared old (caps.Pipelined q path)) (λ said first end. ok_spared out _ end) is
+    then_spared (WritesEnd old (caps.Pipelined q path)) _ out (said_spared old (caps.Pipelined q path)) (λ said first end. ok_spared out _ end) is
 
 tells_spared : (old : State) (p : ℕ) (last : Cap) (out : Result Done PeerFault) → Tells old p last out → IsSpared out
 tells_spared old p last out (inl h) = ok_spared out _ h.1
@@ -115,7 +115,7 @@ tied_spared (tied ∷ more) old outcome out does =
 
 -- what is given
 returns_spared : (old : State) (outcome : Outcome) (out : Result (Returned × State) PeerFault) → Returns old outcome out → IsSpared out
-returns_spared old (outcomes.Results content table) out is = then_spared (SayAll old table) _ out (table_spared old table) (λ said first end. ok_spared out _ end) is
+returns_spared old (outcomes.Results content table) out is = then_spared (WritesDescriptors old table) _ out (table_spared old table) (λ said first end. ok_spared out _ end) is
 returns_spared old (outcomes.Failed x) out is = ok_spared out _ is
 returns_spared old outcomes.Canceled out is = ok_spared out _ is
 
@@ -147,9 +147,9 @@ give_spared old (origins.Own q) outcome out does = own_spared old q outcome out 
 out_spared : (old : State) (call : Underway) (target : Target) (origin : Origin) (out : Result Done PeerFault) → GoOut old call target origin out → IsSpared out
 out_spared old call target (origins.Answer a) out goes =
     then_spared (Fresh old.entries.questions) _ out (fresh_spared old.entries.questions)
-    (λ q first. then_spared (SayAll old call.request.caps) _ out (table_spared old call.request.caps) (λ said also end. ok_spared out _ end)) goes
+    (λ q first. then_spared (WritesDescriptors old call.request.caps) _ out (table_spared old call.request.caps) (λ said also end. ok_spared out _ end)) goes
 out_spared old call target (origins.Own q) out goes =
-    then_spared (SayAll old call.request.caps) _ out (table_spared old call.request.caps) (λ said also end. ok_spared out _ end) goes.2
+    then_spared (WritesDescriptors old call.request.caps) _ out (table_spared old call.request.caps) (λ said also end. ok_spared out _ end) goes.2
 
 go_spared : (old : State) (call : Underway) (route : Route) (out : Result Done PeerFault) → Go old call route out → IsSpared out
 go_spared old call (routes.Deliver k) out goes = ok_spared out _ goes
@@ -199,7 +199,7 @@ held_spared old i kind None = by (has_capacity old.counts.imports)
 pub is_spared : {A : Type 0} (out other : Result A PeerFault) → out ≡ other → IsSpared other → IsSpared out
 is_spared out other is spared = rw (is) spared
 
-answered_spared : (old : State) (a : ℕ) (path : List ℕ) (o : Option (Option Outcome)) (out : Result (Cap × State) PeerFault) → TakeAnswer old a path o out → IsSpared out
+answered_spared : (old : State) (a : ℕ) (path : List ℕ) (o : Option (Option Outcome)) (out : Result (Cap × State) PeerFault) → ReceivesAnswer old a path o out → IsSpared out
 answered_spared old a path None out is = err_spared out faults.UnknownAnswer is tt
 answered_spared old a path (Some (Some outcome)) out is = ok_spared out _ is
 answered_spared old a path (Some None) out is = then_spared (Fresh old.values.promises) _ out (fresh_spared old.values.promises) (λ p first end. ok_spared out _ end) is
@@ -208,7 +208,7 @@ exported_spared : (old : State) (o : Option (Counted Cap)) → IsSpared (taken_e
 exported_spared old None = tt
 exported_spared old (Some entry) = tt
 
-pub take_spared : (old : State) (d : Descriptor) (out : Result (Cap × State) PeerFault) → Take old d out → IsSpared out
+pub take_spared : (old : State) (d : Descriptor) (out : Result (Cap × State) PeerFault) → ReceivesCap old d out → IsSpared out
 take_spared old descriptors.None out is = ok_spared out _ is
 take_spared old (descriptors.SenderHosted i) out is =
     then_spared (λ held. held ≡ held_import old i kinds.Hosted) _ out (λ o same. is_spared o _ same (held_spared old i kinds.Hosted (get old.counts.imports i))) (λ new first end. ok_spared out _ end) is
@@ -219,5 +219,5 @@ take_spared old (descriptors.ReceiverAnswer answer) out is = answered_spared old
 take_spared old (descriptors.ThirdPartyHosted t) out is = absurd is
 take_spared old (descriptors.Unknown n) out is = absurd is
 
-pub take_all_spared : (old : State) (table : List Descriptor) (out : Result (List Cap × State) PeerFault) → TakeAll old table out → IsSpared out
-take_all_spared old table out is = each_spared Take take_spared table old out is
+pub take_all_spared : (old : State) (table : List Descriptor) (out : Result (List Cap × State) PeerFault) → ReceivesCaps old table out → IsSpared out
+take_all_spared old table out is = each_spared ReceivesCap take_spared table old out is

@@ -3,7 +3,7 @@ use Rattle.std.specs.Prelude.{◌≡◌, refl, ℕ, ◌+◌, ◌==◌, if◌then
 use Rattle.std.proofs.Common.{arith, sym, true≢false}
 use Rattle.cp_rpc.specs.declared.message.Message.{Message}
 use Rattle.cp_rpc.specs.declared.message.Message.TheVariants as messages
-use Rattle.cp_vat_machine.specs.Take.{times}
+use Rattle.cp_vat_machine.specs.Receiving.{times}
 use Rattle.cp_vat_machine.specs.Give.{returned_mentions}
 use Rattle.cp_vat_machine.proofs.Basics.{is_equal}
 use Rattle.cp_vat_worlds.specs.Ledger.{finishes}

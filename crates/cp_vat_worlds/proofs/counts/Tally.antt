@@ -5,7 +5,7 @@ use Rattle.cp_tables.specs.declared.exchange.Stage.{Stage}
 use Rattle.cp_tables.specs.declared.exchange.Stage.TheVariants as stages
 use Rattle.cp_rpc.specs.declared.message.Message.{Message}
 use Rattle.cp_rpc.specs.declared.message.Message.TheVariants as messages
-use Rattle.cp_vat_machine.specs.Take.{times}
+use Rattle.cp_vat_machine.specs.Receiving.{times}
 use Rattle.cp_vat_machine.proofs.Basics.{some_out, none_out}
 use Rattle.cp_vat_worlds.specs.Ledger.{Traffic, came, sent, named_by, opens, returns_to, finishes, params_of, results_of, lowered_times, export_count, is_finished, taken_by, import_count, stage_returned, stage_finished, question_stage, answer_stage}
 use Rattle.cp_vat_worlds.specs.Accounts.{Account, Accounts, is_finish_noted, is_given_up, taken_in, results_at, results_in, params_in, lowerable, lowered_by, new_account, asked, is_releasing, given_up_at, question_finished, given_at, answer_given, Sent, return_noted, question_returned, finish_noted, answer_finished, Came}

@@ -12,7 +12,7 @@ use Rattle.cp_rpc.specs.declared.message.Message.{Message}
 use Rattle.cp_rpc.specs.declared.message.Message.TheVariants as messages
 use Rattle.cp_refs.specs.declared.cap.Cap.{Cap}
 use Rattle.cp_vat_machine.specs.State.{State, Counts}
-use Rattle.cp_vat_machine.specs.Take.{times, less_by, lowered_by, lowered, lower, released}
+use Rattle.cp_vat_machine.specs.Receiving.{times, less_by, lowered_by, lowered, release_exports, released}
 use Rattle.cp_vat_machine.specs.declared.fault.PeerFault.TheVariants as faults
 use Rattle.cp_vat_machine.proofs.Basics.{some_out, none_out, is_equal, is_itself, ok_out, ok_in, put_at, gone_at}
 use Rattle.cp_vat_worlds.specs.Accounts.{accounts_of, kept_account, results_in, lowerable}
@@ -124,7 +124,7 @@ pub record LoweredTo (old new : Table (Counted Cap)) : Type 0 where
 as_it_was : (old new : Table (Counted Cap)) → new ≡ old → LoweredTo old new
 as_it_was old new same = rw (same) (record { counts = λ all. all; was = λ f cap is. is })
 
-lower_to : (exports new : Table (Counted Cap)) (ids : List ℕ) → lower exports ids ≡ Ok new → LoweredTo exports new
+lower_to : (exports new : Table (Counted Cap)) (ids : List ℕ) → release_exports exports ids ≡ Ok new → LoweredTo exports new
 lower_to exports new ids is =
     by (list_any (λ e. is_none (get exports e)) ids) (list_any (λ e. ltb (count_of exports e) (times e ids)) ids) refl (sym is)
   where
@@ -150,7 +150,7 @@ released_to exports new e n is = by (is_none (get exports e)) (ltb (count_of exp
           was = λ f cap. less_from exports e n f cap (get exports e) refl;
         })
 
-lower_if : (b : Bool) (exports new : Table (Counted Cap)) (ids : List ℕ) → (if b then lower exports ids else Ok exports) ≡ Ok new → LoweredTo exports new
+lower_if : (b : Bool) (exports new : Table (Counted Cap)) (ids : List ℕ) → (if b then release_exports exports ids else Ok exports) ≡ Ok new → LoweredTo exports new
 lower_if true exports new ids is = lower_to exports new ids is
 lower_if false exports new ids is = as_it_was exports new (ok_in _ _ (sym is))
 
@@ -174,7 +174,7 @@ IsLoweredBy s m new e = count_of s.counts.exports e ≡ count_of new e + account
 not_lowered : (old new : Table (Counted Cap)) (e : ℕ) → new ≡ old → count_of old e ≡ count_of new e + 0
 not_lowered old new e same = rw (same) (omega arith)
 
-lowered_if : (b : Bool) (exports new : Table (Counted Cap)) (ids : List ℕ) (e : ℕ) → (if b then lower exports ids else Ok exports) ≡ Ok new
+lowered_if : (b : Bool) (exports new : Table (Counted Cap)) (ids : List ℕ) (e : ℕ) → (if b then release_exports exports ids else Ok exports) ≡ Ok new
     → count_of exports e ≡ count_of new e + (if b then times e ids else 0)
 lowered_if true exports new ids e is = lower_counts exports new ids (sym is) e
 lowered_if false exports new ids e is = not_lowered exports new e (ok_in _ _ (sym is))

@@ -25,7 +25,7 @@ use Rattle.cp_refs.specs.declared.values.QuestionKind.TheVariants as kinds
 use Rattle.cp_vat_machine.specs.State.{State, Counts}
 use Rattle.cp_vat_machine.specs.Then.{Done, Then}
 use Rattle.cp_vat_machine.specs.Capacity.{Fresh, free}
-use Rattle.cp_vat_machine.specs.Say.{Raise, counted, counted_out, opened, has_no_capacity, SayEnd, Say, SayAll}
+use Rattle.cp_vat_machine.specs.Writing.{Raise, counted, counted_out, opened, has_no_capacity, WritesEnd, WritesDescriptor, WritesDescriptors}
 use Rattle.cp_vat_machine.specs.Give.{ResolvesEnd, Tells, settled, value_for, last_for, Settle, SettleTied, Returns, given, gone, GiveBy, GiveAnswer, GiveOwnBy, Give}
 use Rattle.cp_vat_machine.specs.Go.{Underway, underway, delivered, GoOut, Go, GoTo, Leave, stays, leaves, finds_table_full, without_call}
 use Rattle.cp_vat_machine.specs.Calling.{Standing, plain, on_wire, came_to, reference_of, called, own_call, mark_of, with_mark, has_mark_capacity, marked, FirstEmbargoed, GoBack, GoByValue, GoFrom, OwnDone, call_refusals, DoCall}
@@ -52,7 +52,7 @@ module _ (start : Counts) where
   raise_to old cap out to (opened e none (free n is small room)) = changed to (named_first e cap is)
   raise_to old cap out to (has_no_capacity none is) = tt
 
-  end_to : (old : State) (last : Cap) (said : Descriptor × State) → To old → SayEnd old last (Ok said) → To said.1
+  end_to : (old : State) (last : Cap) (said : Descriptor × State) → To old → WritesEnd old last (Ok said) → To said.1
   end_to old caps.None said to is = rw (ok_in _ _ is) to
   end_to old (caps.Object k) said to is =
       let parts = then_out {A = ℕ × State} {B = Descriptor × State} (Raise old (caps.Object k)) _ said is in
@@ -64,18 +64,18 @@ module _ (start : Counts) where
   end_to old (caps.Pipelined q path) said to is = rw (ok_in _ _ is) to
   end_to old (caps.Broken x) said to is = rw (ok_in _ _ is) to
 
-  table_to : (table : List Cap) (old : State) (said : List Descriptor × State) → To old → SayAll old table (Ok said) → To said.1
+  table_to : (table : List Cap) (old : State) (said : List Descriptor × State) → To old → WritesDescriptors old table (Ok said) → To said.1
   table_to [] old said to is = rw (ok_in _ _ is) to
   table_to (cap ∷ table) old said to is =
-      let first = then_out {A = Descriptor × State} {B = List Descriptor × State} (Say old cap) _ said is in
-      let rest = then_out {A = List Descriptor × State} {B = List Descriptor × State} (SayAll first.0.1 table) _ said first.2 in
+      let first = then_out {A = Descriptor × State} {B = List Descriptor × State} (WritesDescriptor old cap) _ said is in
+      let rest = then_out {A = List Descriptor × State} {B = List Descriptor × State} (WritesDescriptors first.0.1 table) _ said first.2 in
       rw (ok_in _ _ rest.2) (table_to table first.0.1 rest.0 (end_to old first.1.0 first.0 to first.1.2) rest.1)
 
   -- promises that are settled
   resolves_to : (old : State) (last : Cap) (said : Resolution × State) → To old
-      → Then (SayEnd old last) (λ said out. out ≡ Ok (resolutions.Cap said.0, said.1)) (Ok said) → To said.1
+      → Then (WritesEnd old last) (λ said out. out ≡ Ok (resolutions.Cap said.0, said.1)) (Ok said) → To said.1
   resolves_to old last said to is =
-      let parts = then_out {A = Descriptor × State} {B = Resolution × State} (SayEnd old last) _ said is in
+      let parts = then_out {A = Descriptor × State} {B = Resolution × State} (WritesEnd old last) _ said is in
       rw (ok_in _ _ parts.2) (end_to old last parts.0 to parts.1)
 
   resolution_to : (old : State) (last : Cap) (said : Resolution × State) → To old → ResolvesEnd old last (Ok said) → To said.1
@@ -105,7 +105,7 @@ module _ (start : Counts) where
   -- outcomes that are given
   returns_to : (old : State) (outcome : Outcome) (said : Returned × State) → To old → Returns old outcome (Ok said) → To said.1
   returns_to old (outcomes.Results content table) said to does =
-      let parts = then_out {A = List Descriptor × State} {B = Returned × State} (SayAll old table) _ said does in
+      let parts = then_out {A = List Descriptor × State} {B = Returned × State} (WritesDescriptors old table) _ said does in
       rw (ok_in _ _ parts.2) (table_to table old parts.0 to parts.1)
   returns_to old (outcomes.Failed x) said to does = rw (ok_in _ _ does) to
   returns_to old outcomes.Canceled said to does = rw (ok_in _ _ does) to
@@ -143,10 +143,10 @@ module _ (start : Counts) where
   out_to : (old : State) (call : Underway) (target : Target) (origin : Origin) (done : Done) → To old → GoOut old call target origin (Ok done) → To done.1
   out_to old call target (origins.Answer a) done to goes =
       let first = then_out {A = ℕ} {B = Done} (Fresh old.entries.questions) _ done goes in
-      let parts = then_out {A = List Descriptor × State} {B = Done} (SayAll old call.request.caps) _ done first.2 in
+      let parts = then_out {A = List Descriptor × State} {B = Done} (WritesDescriptors old call.request.caps) _ done first.2 in
       rw (ok_in _ _ parts.2) (table_to call.request.caps old parts.0 to parts.1)
   out_to old call target (origins.Own q) done to goes =
-      let parts = then_out {A = List Descriptor × State} {B = Done} (SayAll old call.request.caps) _ done goes.2 in
+      let parts = then_out {A = List Descriptor × State} {B = Done} (WritesDescriptors old call.request.caps) _ done goes.2 in
       rw (ok_in _ _ parts.2) (table_to call.request.caps old parts.0 to parts.1)
 
   pub go_to : (old : State) (call : Underway) (route : Route) (done : Done) → To old → Go old call route (Ok done) → To done.1

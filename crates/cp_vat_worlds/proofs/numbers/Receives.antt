@@ -35,11 +35,11 @@ use Rattle.cp_vat_machine.specs.State.{State, Counts, with_exports}
 use Rattle.cp_vat_machine.specs.Then.{Done, Then, fault_if}
 use Rattle.cp_vat_machine.specs.Capacity.{has_capacity, Fresh, message_fits}
 use Rattle.cp_vat_machine.specs.Supported.{is_supported}
-use Rattle.cp_vat_machine.specs.Take.{answer_of, path_of, held_once_more, held_import, TakeAnswer, taken_export, Take, TakeAll, lower, released}
+use Rattle.cp_vat_machine.specs.Receiving.{answer_of, path_of, held_once_more, held_import, ReceivesAnswer, taken_export, ReceivesCap, ReceivesCaps, release_exports, released}
 use Rattle.cp_vat_machine.specs.Give.{GiveAnswer, without_question}
 use Rattle.cp_vat_machine.specs.Go.{Underway}
 use Rattle.cp_vat_machine.specs.Answering.{with_answer, bootstrap_outcome, is_answering, OnBootstrap, target_faults, GoToExport, GoToAnswer, GoToTarget, peer_call, entered, call_faults, OnCall, AtStage, FinishedBy}
-use Rattle.cp_vat_machine.specs.Asking.{TakeReturned, Settles, ReturnBy, is_asked, ReturnOf}
+use Rattle.cp_vat_machine.specs.Asking.{ReceivesReturned, Settles, ReturnBy, is_asked, ReturnOf}
 use Rattle.cp_vat_machine.specs.Resolving.{OnRelease, is_open_promise, TakeResolution, ResolveOf, echo_to, EchoesExport, EchoesAnswer, EchoesTarget, ended_by, OnDisembargo}
 use Rattle.cp_vat_machine.specs.Step.{On, ReceivesIf}
 use Rattle.cp_vat_machine.specs.declared.entry.AnswerEntry.{AnswerEntry}
@@ -87,7 +87,7 @@ module _ (start : Counts) where
       let parts = then_out {A = State} {B = Cap × State} (λ held. held ≡ held_import old i kind) _ taken is in
       rw (ok_in _ _ parts.2) (held_to old i kind (get old.counts.imports i) parts.0 refl to parts.1)
 
-  answered_to : (old : State) (a : ℕ) (path : List ℕ) (o : Option (Option Outcome)) (taken : Cap × State) → To start old → TakeAnswer old a path o (Ok taken) → To start taken.1
+  answered_to : (old : State) (a : ℕ) (path : List ℕ) (o : Option (Option Outcome)) (taken : Cap × State) → To start old → ReceivesAnswer old a path o (Ok taken) → To start taken.1
   answered_to old a path None taken to is = ok_out is
   answered_to old a path (Some (Some outcome)) taken to is = rw (ok_in _ _ is) to
   answered_to old a path (Some None) taken to is =
@@ -98,7 +98,7 @@ module _ (start : Counts) where
   exported_to old None taken to is = ok_out is
   exported_to old (Some entry) taken to is = rw (ok_in _ _ is) to
 
-  take_to : (old : State) (d : Descriptor) (taken : Cap × State) → To start old → Take old d (Ok taken) → To start taken.1
+  take_to : (old : State) (d : Descriptor) (taken : Cap × State) → To start old → ReceivesCap old d (Ok taken) → To start taken.1
   take_to old descriptors.None taken to is = rw (ok_in _ _ is) to
   take_to old (descriptors.SenderHosted i) taken to is = import_to old i kinds.Hosted taken to is
   take_to old (descriptors.SenderPromise i) taken to is = import_to old i kinds.Promise taken to is
@@ -108,11 +108,11 @@ module _ (start : Counts) where
   take_to old (descriptors.ThirdPartyHosted t) taken to is = absurd is
   take_to old (descriptors.Unknown n) taken to is = absurd is
 
-  take_all_to : (table : List Descriptor) (old : State) (taken : List Cap × State) → To start old → TakeAll old table (Ok taken) → To start taken.1
+  take_all_to : (table : List Descriptor) (old : State) (taken : List Cap × State) → To start old → ReceivesCaps old table (Ok taken) → To start taken.1
   take_all_to [] old taken to is = rw (ok_in _ _ is) to
   take_all_to (d ∷ table) old taken to is =
-      let first = then_out {A = Cap × State} {B = List Cap × State} (Take old d) _ taken is in
-      let rest = then_out {A = List Cap × State} {B = List Cap × State} (TakeAll first.0.1 table) _ taken first.2 in
+      let first = then_out {A = Cap × State} {B = List Cap × State} (ReceivesCap old d) _ taken is in
+      let rest = then_out {A = List Cap × State} {B = List Cap × State} (ReceivesCaps first.0.1 table) _ taken first.2 in
       rw (ok_in _ _ rest.2) (take_all_to table first.0.1 rest.0 (take_to old d first.0 to first.1) rest.1)
 
   -- a Call and a Bootstrap that come
@@ -133,7 +133,7 @@ module _ (start : Counts) where
   come_to : (old : State) (c : Call) (done : Done) → To start old → OnCall old c (Ok done) → To start done.1
   come_to old c done to does =
       let rule = unless_out {A = Done} {F = PeerFault} (call_faults old c) _ done does in
-      let taken = then_out {A = List Cap × State} {B = Done} (TakeAll old c.params.cap_table) _ done rule in
+      let taken = then_out {A = List Cap × State} {B = Done} (ReceivesCaps old c.params.cap_table) _ done rule in
       target_to (entered taken.0.1 c.question_id) (peer_call taken.0.1 c taken.0.0) c.target done (take_all_to c.params.cap_table old taken.0 to taken.1) taken.2
 
   bootstrap_to : (old : State) (a : ℕ) (done : Done) → To start old → OnBootstrap old a (Ok done) → To start done.1
@@ -143,9 +143,9 @@ module _ (start : Counts) where
       (GiveAnswer (with_answer old a None) a (bootstrap_outcome old.bootstrap)) done does)
 
   -- a Return that comes, which lowers nothing
-  returned_to : (old : State) (returned : Returned) (taken : Outcome × State) → To start old → TakeReturned old returned (Ok taken) → To start taken.1
+  returned_to : (old : State) (returned : Returned) (taken : Outcome × State) → To start old → ReceivesReturned old returned (Ok taken) → To start taken.1
   returned_to old (returns.Results p) taken to is =
-      let parts = then_out {A = List Cap × State} {B = Outcome × State} (TakeAll old p.cap_table) _ taken is in
+      let parts = then_out {A = List Cap × State} {B = Outcome × State} (ReceivesCaps old p.cap_table) _ taken is in
       rw (ok_in _ _ parts.2) (take_all_to p.cap_table old parts.0 to parts.1)
   returned_to old (returns.Exception x) taken to is = rw (ok_in _ _ is) to
   returned_to old returns.Canceled taken to is = rw (ok_in _ _ is) to
@@ -162,12 +162,12 @@ module _ (start : Counts) where
 
   return_by : (old : State) (r : Return) (kept : QuestionEntry) (stage : Stage) (done : Done) → To start old → ReturnBy old r kept stage (Ok done) → To start done.1
   return_by old r kept stages.Open done to does =
-      let taken = then_out {A = Outcome × State} {B = Done} (TakeReturned old r.returned) _ done does in
+      let taken = then_out {A = Outcome × State} {B = Done} (ReceivesReturned old r.returned) _ done does in
       settles_to taken.0.1 r.answer_id kept.forwards taken.0.0 done (returned_to old r.returned taken.0 to taken.1) taken.2
   return_by old r kept stages.Finished done to does = rw (ok_in _ _ does) to
   return_by old r kept stages.Returned done to does = absurd does
 
-  unlowered : (b : Bool) (old : State) (ids : List ℕ) (exports : Table (Counted Cap)) → b ≡ false → Ok exports ≡ (if b then lower old.counts.exports ids else Ok old.counts.exports)
+  unlowered : (b : Bool) (old : State) (ids : List ℕ) (exports : Table (Counted Cap)) → b ≡ false → Ok exports ≡ (if b then release_exports old.counts.exports ids else Ok old.counts.exports)
       → To start old → To start (with_exports old exports)
   unlowered true old ids exports none is to = absurd (true≢false none)
   unlowered false old ids exports none is to = rw (ok_in _ _ is) to
@@ -242,12 +242,12 @@ finish_at : (old : State) (f : Finish) (kept : AnswerEntry) (stage : Stage) (don
     → AtStage old f kept stage (Ok done) → Lowers old (messages.Finish f) done.1
 finish_at old f kept stages.Open done is does = rw (ok_in _ _ does, is) (old.counts.exports, by f.release_result_caps, unchanged)
   where
-    by : (b : Bool) → (if b then lower old.counts.exports [] else Ok old.counts.exports) ≡ Ok old.counts.exports
+    by : (b : Bool) → (if b then release_exports old.counts.exports [] else Ok old.counts.exports) ≡ Ok old.counts.exports
     by true = refl
     by false = refl
 finish_at old f kept stages.Returned done is does =
     let parts = then_out {A = Table (Counted Cap)} {B = Done}
-    (λ exports. exports ≡ (if f.release_result_caps then lower old.counts.exports kept.mentions else Ok old.counts.exports)) _ done does in
+    (λ exports. exports ≡ (if f.release_result_caps then release_exports old.counts.exports kept.mentions else Ok old.counts.exports)) _ done does in
     rw (ok_in _ _ parts.2, is) (parts.0, sym parts.1, unchanged)
 finish_at old f kept stages.Finished done is does = ok_out does
 

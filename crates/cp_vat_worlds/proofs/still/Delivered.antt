@@ -33,11 +33,11 @@ use Rattle.cp_vat_machine.specs.State.{State, none_over}
 use Rattle.cp_vat_machine.specs.Then.{Done, fault_if, OrFull}
 use Rattle.cp_vat_machine.specs.Capacity.{Fresh, has_capacity, message_fits}
 use Rattle.cp_vat_machine.specs.Supported.{is_supported}
-use Rattle.cp_vat_machine.specs.Take.{answer_of, path_of, TakeAll, lower}
+use Rattle.cp_vat_machine.specs.Receiving.{answer_of, path_of, ReceivesCaps, release_exports}
 use Rattle.cp_vat_machine.specs.Give.{Give, GiveAnswer, Settle, without_question}
 use Rattle.cp_vat_machine.specs.Go.{Underway, GoTo, Leave, stays, leaves, finds_table_full, without_call, underway}
 use Rattle.cp_vat_machine.specs.Answering.{with_answer, bootstrap_outcome, is_answering, GoToExport, GoToAnswer, GoToTarget, peer_call, entered, call_faults, target_faults, OnCall, AtStage, FinishedBy}
-use Rattle.cp_vat_machine.specs.Asking.{TakeReturned, Settles, ReturnBy, is_asked, ReturnOf}
+use Rattle.cp_vat_machine.specs.Asking.{ReceivesReturned, Settles, ReturnBy, is_asked, ReturnOf}
 use Rattle.cp_vat_machine.specs.Resolving.{is_open_promise, TakeResolution, ResolveOf, echo_to, EchoesExport, EchoesAnswer, EchoesTarget, ended_by, OnDisembargo}
 use Rattle.cp_vat_machine.specs.Calling.{plain, on_wire, came_to, reference_of, called, own_call, mark_of, marked, FirstEmbargoed, GoBack, GoByValue, GoFrom, OwnDone, call_refusals, DoCall}
 use Rattle.cp_vat_machine.specs.Calling as calling
@@ -190,7 +190,7 @@ target_below n s call (targets.Unknown m) done none below goes = absurd goes
 call_comes_below : (n : ℕ) (s : State) (c : Call) (done : Done) → Within s None [] → s.waiting.over ≡ none_over → NoneFinished s → OnCall s c (Ok done) → AllBelow n done.0
 call_comes_below n s c done h still none does =
     let rule = unless_out {A = Done} {F = PeerFault} (call_faults s c) _ done does in
-    let taken = then_out {A = List Cap × State} {B = Done} (TakeAll s c.params.cap_table) _ done rule in
+    let taken = then_out {A = List Cap × State} {B = Done} (ReceivesCaps s c.params.cap_table) _ done rule in
     let well = take_all_keeps None [] c.params.cap_table s taken.0 h still taken.1 in
     let later : NoneFinished (entered taken.0.1 c.question_id) = rw (well.1.asked) none in
     target_below n (entered taken.0.1 c.question_id) (peer_call taken.0.1 c taken.0.0) c.target done later tt taken.2
@@ -204,7 +204,7 @@ settles_below n s q (Some a) outcome done none does =
 return_below : (n : ℕ) (s : State) (r : Return) (entry : Exchange QuestionEntry) (stage : Stage) (done : Done) → Within s None [] → s.waiting.over ≡ none_over → NoneFinished s
     → ReturnBy s r entry.kept stage (Ok done) → AllBelow n done.0
 return_below n s r entry stages.Open done h still none does =
-    let taken = then_out {A = Outcome × State} {B = Done} (TakeReturned s r.returned) _ done does in
+    let taken = then_out {A = Outcome × State} {B = Done} (ReceivesReturned s r.returned) _ done does in
     let one = returned_taken s r.returned taken.0 h still taken.1 in
     let later : NoneFinished taken.0.1 = rw (one.grows.asked) none in
     settles_below n taken.0.1 r.answer_id entry.kept.forwards taken.0.0 done later taken.2
@@ -217,7 +217,7 @@ return_of_below n s r None done h still none keeps does = ok_out does
 return_of_below n s r (Some entry) done h still none keeps does =
     let rule = unless_out {A = Done} {F = PeerFault} (fault_if (not (is_asked entry.kept.is_sent entry.stage)) faults.UnknownQuestion) _ done does in
     let lowers = then_out {A = Table (Counted Cap)} {B = Done}
-    (λ exports. exports ≡ (if r.release_param_caps then lower s.counts.exports entry.kept.mentions else Ok s.counts.exports)) _ done rule in
+    (λ exports. exports ≡ (if r.release_param_caps then release_exports s.counts.exports entry.kept.mentions else Ok s.counts.exports)) _ done rule in
     let same = unlowered r.release_param_caps s entry.kept.mentions lowers.0 keeps lowers.1 in
     let by : ReturnBy s r entry.kept entry.stage (Ok done) = rw same at lowers.2 in
     return_below n s r entry entry.stage done h still none by
@@ -226,7 +226,7 @@ finish_below : (n : ℕ) (s : State) (f : Finish) (kept : AnswerEntry) (stage : 
 finish_below n s f kept stages.Open done does = rw (ok_in _ _ does) tt
 finish_below n s f kept stages.Returned done does =
     let parts = then_out {A = Table (Counted Cap)} {B = Done}
-    (λ exports. exports ≡ (if f.release_result_caps then lower s.counts.exports kept.mentions else Ok s.counts.exports)) _ done does in
+    (λ exports. exports ≡ (if f.release_result_caps then release_exports s.counts.exports kept.mentions else Ok s.counts.exports)) _ done does in
     rw (ok_in _ _ parts.2) tt
 finish_below n s f kept stages.Finished done does = ok_out does
 

@@ -25,7 +25,7 @@ use Rattle.cp_refs.specs.declared.values.QuestionKind.TheVariants as kinds
 use Rattle.cp_vat_machine.specs.State.{State}
 use Rattle.cp_vat_machine.specs.Then.{Done, fault_if, OrFull}
 use Rattle.cp_vat_machine.specs.Capacity.{Fresh, outcome_fits}
-use Rattle.cp_vat_machine.specs.Say.{IsExport}
+use Rattle.cp_vat_machine.specs.Writing.{IsExport}
 use Rattle.cp_vat_machine.specs.Give.{Give, Settle}
 use Rattle.cp_vat_machine.specs.Go.{Underway, held_at, GoTo}
 use Rattle.cp_vat_machine.specs.InUse.{has_question, has_promise, has_import, is_pipelined, caps_of}

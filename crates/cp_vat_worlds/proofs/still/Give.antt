@@ -22,7 +22,7 @@ use Rattle.cp_refs.specs.declared.outcome.Outcome.TheVariants as outcomes
 use Rattle.cp_refs.specs.declared.values.Question.{Question}
 use Rattle.cp_vat_machine.specs.State.{State, with_exports}
 use Rattle.cp_vat_machine.specs.Then.{Done, Then}
-use Rattle.cp_vat_machine.specs.Say.{IsExport, SayEnd, SayAll}
+use Rattle.cp_vat_machine.specs.Writing.{IsExport, WritesEnd, WritesDescriptors}
 use Rattle.cp_vat_machine.specs.Give.{resolve_of, ResolvesEnd, Tells, settled, value_for, last_for, Settle, SettleTied, Returns, returned_mentions, given, gone, return_of, GiveBy, GiveAnswer, question_over, question_settled, without_question, GiveOwnBy, Give}
 use Rattle.cp_vat_machine.specs.Resolving.{given_back}
 use Rattle.cp_vat_machine.specs.Local.{AreOne, tied_to, is_wire_kind}
@@ -41,9 +41,9 @@ use Rattle.cp_vat_worlds.proofs.still.Grows.{PlacesStay, Mails, TicketsStay, Gro
 use Rattle.cp_vat_worlds.proofs.still.Say.{IsOpenCap, SaidAs, said_none, said_end, said_all, open_end, said_not, said_places, said_refs, said_tickets}
 
 resolution_denoted : (old : State) (last : Cap) (said : Resolution × State) → AreOne old → IsOpenCap old last
-    → Then (SayEnd old last) (λ said out. out ≡ Ok (resolutions.Cap said.0, said.1)) (Ok said) → SaidAs old (given_back said.0) said.1
+    → Then (WritesEnd old last) (λ said out. out ≡ Ok (resolutions.Cap said.0, said.1)) (Ok said) → SaidAs old (given_back said.0) said.1
 resolution_denoted old last said one is says =
-    let parts = then_out {A = Descriptor × State} {B = Resolution × State} (SayEnd old last) _ said says in
+    let parts = then_out {A = Descriptor × State} {B = Resolution × State} (WritesEnd old last) _ said says in
     rw (ok_in _ _ parts.2) (said_end old last parts.0 one is parts.1)
 
 pub resolves_said : (old : State) (last : Cap) (said : Resolution × State) → AreOne old → IsOpenCap old last → ResolvesEnd old last (Ok said)
@@ -228,7 +228,7 @@ answers_as_were s a entry is = (entry, is, refl)
 pub returned_denoted : (old : State) (outcome : Outcome) (said : Returned × State) → AreOne old → Returns old outcome (Ok said)
     → SaidAs old (returned_mentions said.0) said.1
 returned_denoted old (outcomes.Results content table) said one says =
-    let parts = then_out {A = List Descriptor × State} {B = Returned × State} (SayAll old table) _ said says in
+    let parts = then_out {A = List Descriptor × State} {B = Returned × State} (WritesDescriptors old table) _ said says in
     rw (ok_in _ _ parts.2) (said_all table old parts.0 one parts.1)
 returned_denoted old (outcomes.Failed x) said one says = rw (ok_in _ _ says) (said_none old)
 returned_denoted old outcomes.Canceled said one says = rw (ok_in _ _ says) (said_none old)

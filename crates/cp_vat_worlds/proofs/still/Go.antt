@@ -23,7 +23,7 @@ use Rattle.cp_refs.specs.declared.values.Question.{Question}
 use Rattle.cp_vat_machine.specs.State.{State, with_questions}
 use Rattle.cp_vat_machine.specs.Then.{Done}
 use Rattle.cp_vat_machine.specs.Capacity.{Fresh}
-use Rattle.cp_vat_machine.specs.Say.{SayAll, promised, mentions_of}
+use Rattle.cp_vat_machine.specs.Writing.{WritesDescriptors, promised, mentions_of}
 use Rattle.cp_vat_machine.specs.Go.{Underway, held_at, delivered, call_of, forwarding, finish_after, GoOut, Go, GoTo, Leave, stays, leaves, finds_table_full, IsNext, without_call, underway}
 use Rattle.cp_vat_machine.specs.Local.{AreOne, is_open_stage, is_origin, one_if, IsTicketOf, AnswerIs, OwnIs, QuestionIs, is_wire, is_wire_kind, IsSentIf}
 use Rattle.cp_vat_machine.specs.declared.effect.Effect.{Effect}
@@ -188,13 +188,13 @@ pub out_grows : (old : State) (call : Underway) (target : Target) (origin : Orig
     → Grown old done.0 done.1
 out_grows old call target (origins.Answer a) done one goes =
     let fresh = then_out {A = ℕ} {B = Done} (Fresh old.entries.questions) _ done goes in
-    let parts = then_out {A = List Descriptor × State} {B = Done} (SayAll old call.request.caps) _ done fresh.2 in
+    let parts = then_out {A = List Descriptor × State} {B = Done} (WritesDescriptors old call.request.caps) _ done fresh.2 in
     let said = said_all call.request.caps old parts.0 one parts.1 in
     rw
     (ok_in _ _ parts.2)
     (grown_both (call_grows old fresh.0 target call.request parts.0.0 parts.0.1 said) (forwarding_grows parts.0.1 fresh.0 a call parts.0.0))
 out_grows old call target (origins.Own q) done one goes =
-    let parts = then_out {A = List Descriptor × State} {B = Done} (SayAll old call.request.caps) _ done goes.2 in
+    let parts = then_out {A = List Descriptor × State} {B = Done} (WritesDescriptors old call.request.caps) _ done goes.2 in
     let said = said_all call.request.caps old parts.0 one parts.1 in
     let there : get parts.0.1.entries.questions q ≡ Some goes.0 = ap (λ s. get s.entries.questions q) said.only ∙ goes.1 in
     let first = call_grows old q target call.request parts.0.0 parts.0.1 said in

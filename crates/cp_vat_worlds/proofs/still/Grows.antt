@@ -16,8 +16,8 @@ use Rattle.cp_refs.specs.declared.call.Origin.TheVariants as origins
 use Rattle.cp_refs.specs.declared.outcome.Outcome.{Outcome}
 use Rattle.cp_refs.specs.declared.values.Question.{Question}
 use Rattle.cp_vat_machine.specs.State.{State}
-use Rattle.cp_vat_machine.specs.Say.{ComesTo, IsExport, end_by, end_within}
-use Rattle.cp_vat_machine.specs.Take.{times}
+use Rattle.cp_vat_machine.specs.Writing.{ResolvesTo, IsExport, end_by, end_within}
+use Rattle.cp_vat_machine.specs.Receiving.{times}
 use Rattle.cp_vat_machine.specs.Local.{one_if, AreOne, is_wire_kind}
 use Rattle.cp_vat_machine.specs.declared.effect.Effect.{Effect}
 use Rattle.cp_vat_machine.proofs.Basics.{some_out, none_out, all_both}
@@ -103,7 +103,7 @@ module _ (old new : ValueMaps) (h : WaysStay old new) where
     end_on zero c e = none_out e
     end_on (suc n) c e = end_by_on n (end_on n) c (way old c) refl e
 
-  pub comes_import : (c : Cap) (i : ℕ) → ComesTo old c (caps.Import i) → ComesTo new c (caps.Import i)
+  pub comes_import : (c : Cap) (i : ℕ) → ResolvesTo old c (caps.Import i) → ResolvesTo new c (caps.Import i)
   comes_import c i comes = (comes.0, end_on (caps.Import i) (λ f. refl) comes.0 c comes.1)
 
 -- One after another.

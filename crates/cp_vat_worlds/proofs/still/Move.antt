@@ -12,7 +12,7 @@ use Rattle.cp_rpc.specs.declared.resolve.Resolve.{Resolve}
 use Rattle.cp_refs.specs.declared.cap.Cap.{Cap}
 use Rattle.cp_refs.specs.declared.cap.Cap.TheVariants as caps
 use Rattle.cp_vat_machine.specs.State.{State}
-use Rattle.cp_vat_machine.specs.Take.{times}
+use Rattle.cp_vat_machine.specs.Receiving.{times}
 use Rattle.cp_vat_machine.specs.Give.{returned_mentions}
 use Rattle.cp_vat_machine.specs.Calling.{OwnDone}
 use Rattle.cp_vat_machine.specs.Local.{Local}

@@ -39,11 +39,11 @@ use Rattle.cp_vat_machine.specs.State.{State, none_over, with_exports, with_answ
 use Rattle.cp_vat_machine.specs.Then.{Done, Then, fault_if}
 use Rattle.cp_vat_machine.specs.Capacity.{has_capacity, Fresh, message_fits}
 use Rattle.cp_vat_machine.specs.Supported.{is_supported}
-use Rattle.cp_vat_machine.specs.Take.{answer_of, path_of, held_once_more, held_import, tie, tied, TakeAnswer, taken_export, Take, TakeAll, lower}
+use Rattle.cp_vat_machine.specs.Receiving.{answer_of, path_of, held_once_more, held_import, tie, tied, ReceivesAnswer, taken_export, ReceivesCap, ReceivesCaps, release_exports}
 use Rattle.cp_vat_machine.specs.Give.{GiveAnswer, GiveOwn, GiveOwnBy, question_settled, without_question}
 use Rattle.cp_vat_machine.specs.Go.{Underway, finish_of}
 use Rattle.cp_vat_machine.specs.Answering.{with_answer, bootstrap_outcome, is_answering, OnBootstrap, GoToExport, GoToAnswer, GoToTarget, peer_call, entered, call_faults, OnCall, without_answer, AtStage, FinishedBy, target_faults}
-use Rattle.cp_vat_machine.specs.Asking.{TakeReturned, Settles, ReturnBy, is_asked, ReturnOf}
+use Rattle.cp_vat_machine.specs.Asking.{ReceivesReturned, Settles, ReturnBy, is_asked, ReturnOf}
 use Rattle.cp_vat_machine.specs.Resolving.{is_open_promise, TakeResolution, resolved, ResolveOf, echo_to, EchoesExport, EchoesAnswer, EchoesTarget, ended_by, OnDisembargo}
 use Rattle.cp_vat_machine.specs.Step.{On, ReceivesIf, Receives}
 use Rattle.cp_vat_machine.specs.Local.{AreOne, one_if, is_open_stage, ForwardsRightly, IsTicketOf}
@@ -115,7 +115,7 @@ held_answers old i kind taken is =
     let parts = then_out {A = State} {B = Cap × State} (λ held. held ≡ held_import old i kind) _ taken is in
     rw (ok_in _ _ parts.2) (answers_same old parts.0 (import_answers old i kind (get old.counts.imports i) parts.0 parts.1))
 
-answered_answers : (old : State) (a : ℕ) (path : List ℕ) (o : Option (Option Outcome)) (taken : Cap × State) → TakeAnswer old a path o (Ok taken)
+answered_answers : (old : State) (a : ℕ) (path : List ℕ) (o : Option (Option Outcome)) (taken : Cap × State) → ReceivesAnswer old a path o (Ok taken)
     → SameAnswers old taken.1
 answered_answers old a path None taken is = ok_out is
 answered_answers old a path (Some (Some outcome)) taken is = rw (ok_in _ _ is) (answers_as_were old)
@@ -127,7 +127,7 @@ exported_answers : (old : State) (o : Option (Counted Cap)) (taken : Cap × Stat
 exported_answers old None taken is = ok_out is
 exported_answers old (Some entry) taken is = rw (ok_in _ _ is) (answers_as_were old)
 
-pub take_answers : (old : State) (d : Descriptor) (taken : Cap × State) → Take old d (Ok taken) → SameAnswers old taken.1
+pub take_answers : (old : State) (d : Descriptor) (taken : Cap × State) → ReceivesCap old d (Ok taken) → SameAnswers old taken.1
 take_answers old descriptors.None taken is = rw (ok_in _ _ is) (answers_as_were old)
 take_answers old (descriptors.SenderHosted i) taken is = held_answers old i kinds.Hosted taken is
 take_answers old (descriptors.SenderPromise i) taken is = held_answers old i kinds.Promise taken is
@@ -143,11 +143,11 @@ answers_both old mid new one more a entry is =
     let first = one a last.0 last.1 in
     (first.0, first.1, last.2 ∙ first.2)
 
-pub take_all_answers : (table : List Descriptor) (old : State) (taken : List Cap × State) → TakeAll old table (Ok taken) → SameAnswers old taken.1
+pub take_all_answers : (table : List Descriptor) (old : State) (taken : List Cap × State) → ReceivesCaps old table (Ok taken) → SameAnswers old taken.1
 take_all_answers [] old taken is = rw (ok_in _ _ is) (answers_as_were old)
 take_all_answers (d ∷ table) old taken is =
-    let first = then_out {A = Cap × State} {B = List Cap × State} (Take old d) _ taken is in
-    let rest = then_out {A = List Cap × State} {B = List Cap × State} (TakeAll first.0.1 table) _ taken first.2 in
+    let first = then_out {A = Cap × State} {B = List Cap × State} (ReceivesCap old d) _ taken is in
+    let rest = then_out {A = List Cap × State} {B = List Cap × State} (ReceivesCaps first.0.1 table) _ taken first.2 in
     rw (ok_in _ _ rest.2) (answers_both old first.0.1 rest.0.1 (take_answers old d first.0 first.1) (take_all_answers table first.0.1 rest.0 rest.1))
 
 -- what is taken in keeps
@@ -273,7 +273,7 @@ module _ {s : State} (h : Within s None []) (still : s.waiting.over ≡ none_ove
   call_moved : (c : Call) (done : Done) → OnCall s c (Ok done) → Moved [] s done.0 done.1
   call_moved c done does =
       let rule = unless_out {A = Done} {F = PeerFault} (call_faults s c) _ done does in
-      let taken = then_out {A = List Cap × State} {B = Done} (TakeAll s c.params.cap_table) _ done rule in
+      let taken = then_out {A = List Cap × State} {B = Done} (ReceivesCaps s c.params.cap_table) _ done rule in
       let well = take_all_keeps None [] c.params.cap_table s taken.0 h still taken.1 in
       let answers = take_all_answers c.params.cap_table s taken.0 taken.1 in
       let mid : State = taken.0.1 in
@@ -370,10 +370,10 @@ pub record TakenIn (s : State) (new : State) : Type 0 where
   pub grows : Grows s new
   pub answers : SameAnswers s new
 
-pub returned_taken : (s : State) (returned : Returned) (taken : Outcome × State) → Within s None [] → s.waiting.over ≡ none_over → TakeReturned s returned (Ok taken)
+pub returned_taken : (s : State) (returned : Returned) (taken : Outcome × State) → Within s None [] → s.waiting.over ≡ none_over → ReceivesReturned s returned (Ok taken)
     → TakenIn s taken.1
 returned_taken s (returns.Results p) taken h still is =
-    let parts = then_out {A = List Cap × State} {B = Outcome × State} (TakeAll s p.cap_table) _ taken is in
+    let parts = then_out {A = List Cap × State} {B = Outcome × State} (ReceivesCaps s p.cap_table) _ taken is in
     let well = take_all_keeps None [] p.cap_table s parts.0 h still parts.1 in
     rw (ok_in _ _ parts.2) (record { within = well.0; grows = well.1; answers = take_all_answers p.cap_table s parts.0 parts.1 })
 returned_taken s (returns.Exception x) taken h still is = rw (ok_in _ _ is) (record { within = h; grows = grows_not s; answers = answers_as_were s })
@@ -387,7 +387,7 @@ module _ {s : State} (h : Within s None []) (still : s.waiting.over ≡ none_ove
   return_by : (r : Return) (entry : Exchange QuestionEntry) (stage : Stage) (done : Done) → get s.entries.questions r.answer_id ≡ Some entry → entry.stage ≡ stage
       → ReturnBy s r entry.kept stage (Ok done) → Moved [] s done.0 done.1
   return_by r entry stages.Open done is at does =
-      let taken = then_out {A = Outcome × State} {B = Done} (TakeReturned s r.returned) _ done does in
+      let taken = then_out {A = Outcome × State} {B = Done} (ReceivesReturned s r.returned) _ done does in
       let one = returned_taken s r.returned taken.0 h still taken.1 in
       let there : get taken.0.1.entries.questions r.answer_id ≡ Some entry = ap (λ m. get m r.answer_id) one.grows.asked ∙ is in
       let later : NoneFinished taken.0.1 = rw (one.grows.asked) none in
@@ -398,7 +398,7 @@ module _ {s : State} (h : Within s None []) (still : s.waiting.over ≡ none_ove
 
 -- that lowers nothing
 pub unlowered : (b : Bool) (s : State) (ids : List ℕ) (exports : Table (Counted Cap)) → b ≡ false
-    → Ok exports ≡ (if b then lower s.counts.exports ids else Ok s.counts.exports) → with_exports s exports ≡ s
+    → Ok exports ≡ (if b then release_exports s.counts.exports ids else Ok s.counts.exports) → with_exports s exports ≡ s
 unlowered true s ids exports none is = absurd (true≢false none)
 unlowered false s ids exports none is = rw (ok_in _ _ is) refl
 
@@ -408,7 +408,7 @@ return_of s r None done h still none keeps is does = ok_out does
 return_of s r (Some entry) done h still none keeps is does =
     let rule = unless_out {A = Done} {F = PeerFault} (fault_if (not (is_asked entry.kept.is_sent entry.stage)) faults.UnknownQuestion) _ done does in
     let lowers = then_out {A = Table (Counted Cap)} {B = Done}
-    (λ exports. exports ≡ (if r.release_param_caps then lower s.counts.exports entry.kept.mentions else Ok s.counts.exports)) _ done rule in
+    (λ exports. exports ≡ (if r.release_param_caps then release_exports s.counts.exports entry.kept.mentions else Ok s.counts.exports)) _ done rule in
     let same = unlowered r.release_param_caps s entry.kept.mentions lowers.0 keeps lowers.1 in
     let by : ReturnBy s r entry.kept entry.stage (Ok done) = rw same at lowers.2 in
     return_by h still none r entry entry.stage done is refl by
@@ -451,7 +451,7 @@ finish_at : (s : State) (f : Finish) (kept : AnswerEntry) (stage : Stage) (done 
 finish_at s f kept stages.Open done keeps does = rw (ok_in _ _ does) (noted_moved s f.question_id)
 finish_at s f kept stages.Returned done keeps does =
     let parts = then_out {A = Table (Counted Cap)} {B = Done}
-    (λ exports. exports ≡ (if f.release_result_caps then lower s.counts.exports kept.mentions else Ok s.counts.exports)) _ done does in
+    (λ exports. exports ≡ (if f.release_result_caps then release_exports s.counts.exports kept.mentions else Ok s.counts.exports)) _ done does in
     let same = unlowered f.release_result_caps s kept.mentions parts.0 keeps parts.1 in
     let is : done ≡ ([], without_answer s f.question_id) = ok_in _ _ parts.2 ∙ ap (λ x. ([], without_answer x f.question_id)) same in
     rw (is) (finish_moved s f.question_id)

@@ -9,9 +9,9 @@ use Rattle.cp_refs.specs.declared.cap.Cap.{Cap}
 use Rattle.cp_refs.specs.declared.cap.Cap.TheVariants as caps
 use Rattle.cp_vat_machine.specs.State.{State, with_exports}
 use Rattle.cp_vat_machine.specs.Capacity.{free}
-use Rattle.cp_vat_machine.specs.Say.{IsExport, Raise, counted, counted_out, opened, has_no_capacity, ComesTo, SayEnd, Say, SayAll, mentioned_by, mentions_of}
+use Rattle.cp_vat_machine.specs.Writing.{IsExport, Raise, counted, counted_out, opened, has_no_capacity, ResolvesTo, WritesEnd, WritesDescriptor, WritesDescriptors, mentioned_by, mentions_of}
 use Rattle.cp_vat_machine.specs.Local.{AreOne}
-use Rattle.cp_vat_machine.specs.Take.{times}
+use Rattle.cp_vat_machine.specs.Receiving.{times}
 use Rattle.cp_vat_machine.specs.declared.fault.PeerFault.{PeerFault}
 use Rattle.cp_vat_machine.proofs.Basics.{some_out, none_out, ok_in, then_out, is_equal, is_itself, put_at, all_both}
 use Rattle.cp_vat_laws.proofs.Tables.{all_of, there_of}
@@ -105,7 +105,7 @@ said_one : (old : State) (cap : Cap) (raised : ℕ × State) → Raised old cap 
 said_one old cap raised h is =
     record { only = h.only; exports = h.exports; one_export = h.one_export; named = ((cap, h.here, open_on old raised.1 cap h.only is), tt) }
 
-pub said_end : (old : State) (last : Cap) (said : Descriptor × State) → AreOne old → IsOpenCap old last → SayEnd old last (Ok said) → SaidAs old (mentioned_by said.0) said.1
+pub said_end : (old : State) (last : Cap) (said : Descriptor × State) → AreOne old → IsOpenCap old last → WritesEnd old last (Ok said) → SaidAs old (mentioned_by said.0) said.1
 said_end old caps.None said one is says = rw (ok_in _ _ says) (said_none old)
 said_end old (caps.Object k) said one is says =
     let parts = then_out {A = ℕ × State} {B = Descriptor × State} (Raise old (caps.Object k)) _ said says in
@@ -117,18 +117,18 @@ said_end old (caps.Import i) said one is says = rw (ok_in _ _ says) (said_none o
 said_end old (caps.Pipelined q path) said one is says = rw (ok_in _ _ says) (said_none old)
 said_end old (caps.Broken x) said one is says = rw (ok_in _ _ says) (said_none old)
 
-pub open_end : (s : State) (c last : Cap) → ComesTo s.values c last → IsOpenCap s last
+pub open_end : (s : State) (c last : Cap) → ResolvesTo s.values c last → IsOpenCap s last
 open_end s c (caps.Promise p) comes = comes_open s.values c p comes
 open_end s c last comes = tt
 
 named_on : {old new : State} {ids : List ℕ} → SaidAs old ids new → (e : ℕ) → IsNamed old e → IsNamed new e
 named_on {old = old} {new = new} h e is = (is.0, h.exports e is.0 is.1, open_on old new is.0 h.only is.2)
 
-pub said_all : (table : List Cap) (old : State) (said : List Descriptor × State) → AreOne old → SayAll old table (Ok said) → SaidAs old (mentions_of said.0) said.1
+pub said_all : (table : List Cap) (old : State) (said : List Descriptor × State) → AreOne old → WritesDescriptors old table (Ok said) → SaidAs old (mentions_of said.0) said.1
 said_all [] old said one says = rw (ok_in _ _ says) (said_none old)
 said_all (cap ∷ table) old said one says =
-    let first = then_out {A = Descriptor × State} {B = List Descriptor × State} (Say old cap) _ said says in
-    let rest = then_out {A = List Descriptor × State} {B = List Descriptor × State} (SayAll first.0.1 table) _ said first.2 in
+    let first = then_out {A = Descriptor × State} {B = List Descriptor × State} (WritesDescriptor old cap) _ said says in
+    let rest = then_out {A = List Descriptor × State} {B = List Descriptor × State} (WritesDescriptors first.0.1 table) _ said first.2 in
     let front = said_end old first.1.0 first.0 one (open_end old cap first.1.0 first.1.1) first.1.2 in
     let back = said_all table first.0.1 rest.0 (front.one_export one) rest.1 in
     rw

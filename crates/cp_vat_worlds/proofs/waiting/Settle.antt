@@ -17,7 +17,7 @@ use Rattle.cp_refs.specs.declared.route.Route.{Route}
 use Rattle.cp_refs.specs.declared.route.Route.TheVariants as routes
 use Rattle.cp_vat_machine.specs.State.{State, gave, with_exports}
 use Rattle.cp_vat_machine.specs.Then.{Done}
-use Rattle.cp_vat_machine.specs.Say.{ComesTo, SayEnd, end_by, end_within}
+use Rattle.cp_vat_machine.specs.Writing.{ResolvesTo, WritesEnd, end_by, end_within}
 use Rattle.cp_vat_machine.specs.Give.{ResolvesEnd, Tells, settled, value_for, Settle, SettleTied}
 use Rattle.cp_vat_machine.specs.Waits.{LeadsBy}
 use Rattle.cp_vat_machine.specs.Local.{tied_to}
@@ -143,11 +143,11 @@ route_end values (suc n) c last e = end_found values n c last (way values c) (λ
 abbrev Valued : ValueMaps → ℕ → Cap → Type 0
 Valued values p v = (to : Route) × Routes values v to × Elsewhere to p
 
-valued_by : (values : ValueMaps) (p : ℕ) (value last : Cap) → EndsOff (at_promise p) (way values last) → ComesTo values value last → Valued values p value
+valued_by : (values : ValueMaps) (p : ℕ) (value last : Cap) → EndsOff (at_promise p) (way values last) → ResolvesTo values value last → Valued values p value
 valued_by values p value last other comes =
     let found = route_end values comes.0 value last comes.1 in (found.0, found.2, subst (λ w. EndsOff (at_promise p) w) found.1 other)
 
-valued : (values : ValueMaps) (p : ℕ) (value last : Cap) → ComesTo values value last → Valued values p (value_for p last value)
+valued : (values : ValueMaps) (p : ℕ) (value last : Cap) → ResolvesTo values value last → Valued values p (value_for p last value)
 valued values p value caps.None comes = valued_by values p value caps.None refl comes
 valued values p value (caps.Object k) comes = valued_by values p value (caps.Object k) refl comes
 valued values p value (caps.Promise r) comes = by (r == p) refl
@@ -161,11 +161,11 @@ valued values p value (caps.Broken x) comes = valued_by values p value (caps.Bro
 
 -- telling it changes nothing but exports
 resolved_only : (old : State) (last : Cap) (said : Resolution × State) → ResolvesEnd old last (Ok said) → said.1 ≡ with_exports old said.1.counts.exports
-resolved_only old caps.None said is = let parts = then_out {A = Descriptor × State} {B = Resolution × State} (SayEnd old caps.None) _ said is in rw (ok_in _ _ parts.2) (said_end old caps.None parts.0 parts.1).only
-resolved_only old (caps.Object k) said is = let parts = then_out {A = Descriptor × State} {B = Resolution × State} (SayEnd old (caps.Object k)) _ said is in rw (ok_in _ _ parts.2) (said_end old (caps.Object k) parts.0 parts.1).only
-resolved_only old (caps.Promise p) said is = let parts = then_out {A = Descriptor × State} {B = Resolution × State} (SayEnd old (caps.Promise p)) _ said is in rw (ok_in _ _ parts.2) (said_end old (caps.Promise p) parts.0 parts.1).only
-resolved_only old (caps.Import i) said is = let parts = then_out {A = Descriptor × State} {B = Resolution × State} (SayEnd old (caps.Import i)) _ said is in rw (ok_in _ _ parts.2) (said_end old (caps.Import i) parts.0 parts.1).only
-resolved_only old (caps.Pipelined q path) said is = let parts = then_out {A = Descriptor × State} {B = Resolution × State} (SayEnd old (caps.Pipelined q path)) _ said is in rw (ok_in _ _ parts.2) (said_end old (caps.Pipelined q path) parts.0 parts.1).only
+resolved_only old caps.None said is = let parts = then_out {A = Descriptor × State} {B = Resolution × State} (WritesEnd old caps.None) _ said is in rw (ok_in _ _ parts.2) (said_end old caps.None parts.0 parts.1).only
+resolved_only old (caps.Object k) said is = let parts = then_out {A = Descriptor × State} {B = Resolution × State} (WritesEnd old (caps.Object k)) _ said is in rw (ok_in _ _ parts.2) (said_end old (caps.Object k) parts.0 parts.1).only
+resolved_only old (caps.Promise p) said is = let parts = then_out {A = Descriptor × State} {B = Resolution × State} (WritesEnd old (caps.Promise p)) _ said is in rw (ok_in _ _ parts.2) (said_end old (caps.Promise p) parts.0 parts.1).only
+resolved_only old (caps.Import i) said is = let parts = then_out {A = Descriptor × State} {B = Resolution × State} (WritesEnd old (caps.Import i)) _ said is in rw (ok_in _ _ parts.2) (said_end old (caps.Import i) parts.0 parts.1).only
+resolved_only old (caps.Pipelined q path) said is = let parts = then_out {A = Descriptor × State} {B = Resolution × State} (WritesEnd old (caps.Pipelined q path)) _ said is in rw (ok_in _ _ parts.2) (said_end old (caps.Pipelined q path) parts.0 parts.1).only
 resolved_only old (caps.Broken x) said is = rw (ok_in _ _ is) refl
 
 told_only : (old : State) (p : ℕ) (last : Cap) (done : Done) → Tells old p last (Ok done) → done.1 ≡ with_exports old done.1.counts.exports

@@ -18,7 +18,7 @@ use Rattle.cp_refs.specs.declared.route.Route.TheVariants as routes
 use Rattle.cp_vat_machine.specs.State.{State, gave}
 use Rattle.cp_vat_machine.specs.Then.{Done}
 use Rattle.cp_vat_machine.specs.Capacity.{Fresh}
-use Rattle.cp_vat_machine.specs.Say.{SayAll, promised}
+use Rattle.cp_vat_machine.specs.Writing.{WritesDescriptors, promised}
 use Rattle.cp_vat_machine.specs.Go.{Underway, held_at, delivered, GoOut, Go, IsNext, without_call, underway}
 use Rattle.cp_vat_machine.specs.Waits.{Port, on, on_answer, LeadsBy, PortRoutes, WaitsBy, WaitsAt, WaitRightly}
 use Rattle.cp_vat_machine.specs.declared.effect.Effect.{Effect}
@@ -98,7 +98,7 @@ pub out_same : (s : State) (call : Underway) (target : Target) (origin : Origin)
     → SameBut s done.1 × (done.1.waiting.calls ≡ s.waiting.calls)
 out_same s call target (origins.Answer a) done goes =
     let first = then_out {A = ℕ} {B = Done} (Fresh s.entries.questions) _ done goes in
-    let parts = then_out {A = List Descriptor × State} {B = Done} (SayAll s call.request.caps) _ done first.2 in
+    let parts = then_out {A = List Descriptor × State} {B = Done} (WritesDescriptors s call.request.caps) _ done first.2 in
     let said = said_all call.request.caps s parts.0 parts.1 in
     rw
     (ok_in _ _ parts.2) (
@@ -106,7 +106,7 @@ out_same s call target (origins.Answer a) done goes =
       ap (λ x. x.waiting.calls) said.only,
     )
 out_same s call target (origins.Own q) done goes =
-    let parts = then_out {A = List Descriptor × State} {B = Done} (SayAll s call.request.caps) _ done goes.2 in
+    let parts = then_out {A = List Descriptor × State} {B = Done} (WritesDescriptors s call.request.caps) _ done goes.2 in
     let said = said_all call.request.caps s parts.0 parts.1 in
     rw
     (ok_in _ _ parts.2) (

@@ -60,8 +60,8 @@ returns c =
           (inr (λ cycle. true≢false (sym (c.is_promise.ensures.no (comes_once old.values c.args.value c.in_ok-last.last (caps.Promise c.args.promise) came cycle)) ∙ c.if-is_promise.false), unless_passed (value_refusals old c.args.value) (OrFull (Quietly (Settle old c.args.promise c.args.value))) _ c.in_ok-check_value.ensures (Ok (quietly (done.0, new)), (Ok (done.0, new), done.2, refl), refl))),
     )
 
-pub come_to-requires : goal.come_to-requires
-come_to-requires c =
+pub resolve_cap-requires : goal.resolve_cap-requires
+resolve_cap-requires c =
     let old = state_of c.args.core.now in
     rw c.values.ensures (resolve_ends old (local_is_within old c.requires) c.args.promise c.args.value c.in_ok-check_resolve.ensures)
 

@@ -2,7 +2,7 @@ use Rattle.std.proofs.Common.{[], Ok, sym, append-nil}
 use Rattle.std.proofs.lemmas.Result.{err_from_is_err_and}
 use Rattle.cp_vat_state.specs.StateOf.{state_of}
 use Rattle.cp_vat.specs.Receiving.{Begins, bears}
-use Rattle.cp_vat.specs.declared.on_return.Rest.TheVariants as rests
+use Rattle.cp_vat.specs.declared.on_return.Remaining.TheVariants as rests
 use Rattle.cp_vat.proofs.Ready.{returned_may}
 use Rattle.cp_vat.proofs.Returning.{begins_at_fault, returns_settled, returns_at_fault}
 use Rattle.cp_vat.proofs.on_return.on_return.Goals as goal

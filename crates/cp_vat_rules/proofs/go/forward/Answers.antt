@@ -3,7 +3,7 @@ use Rattle.cp_rpc.specs.declared.descriptor.Descriptor.{Descriptor}
 use Rattle.cp_refs.specs.Values.{ValueMaps}
 use Rattle.cp_refs.specs.declared.cap.Cap.{Cap}
 use Rattle.cp_refs.specs.declared.call.Origin.TheVariants as origins
-use Rattle.cp_vat_machine.specs.Say.{SayAll, mentions_of}
+use Rattle.cp_vat_machine.specs.Writing.{WritesDescriptors, mentions_of}
 use Rattle.std.specs.FinMap.{insert}
 use Rattle.cp_tables.specs.Exchange.{new_exchange}
 use Rattle.cp_vat_machine.specs.State.{with_questions}
@@ -25,22 +25,22 @@ pub returns-in-Err-clause-acts : goal.returns-in-Err-clause-acts
 returns-in-Err-clause-acts c =
     let old = state_of c.args.core.now in
     let fresh = is_fresh c.args.core.now.questions c.in_ok-question.question c.in_ok-question.ensures.free (search rules) (rw c.len.ensures.value at c.len.ensures.few) (λ full. c.if-len-eq-LIMIT.false (c.len.ensures.value ∙ full)) in
-    let P : ValueMaps → Type 0 = λ v. Leaves (SayAll (with_parts old v c.args.core.now.exports) c.args.call.request.caps) (Err c.in-Err.halt) (with_parts old v c.say_all-said.new.exports) in
-    let Q : List Cap → Type 0 = λ caps. Leaves (SayAll (with_parts old c.values.result.now c.args.core.now.exports) caps) (Err c.in-Err.halt) (with_parts old c.values.result.now c.say_all-said.new.exports) in
-    acts_err (SayAll old c.args.call.request.caps) (GoOut old (underway_of c.args.call) c.args.target (origins.Answer c.args.answer)) _ _ _ _ _ (λ f r. (Ok c.in_ok-question.question, fresh, (Err f, r, refl)))
+    let P : ValueMaps → Type 0 = λ v. Leaves (WritesDescriptors (with_parts old v c.args.core.now.exports) c.args.call.request.caps) (Err c.in-Err.halt) (with_parts old v c.write_descriptors-said.new.exports) in
+    let Q : List Cap → Type 0 = λ caps. Leaves (WritesDescriptors (with_parts old c.values.result.now c.args.core.now.exports) caps) (Err c.in-Err.halt) (with_parts old c.values.result.now c.write_descriptors-said.new.exports) in
+    acts_err (WritesDescriptors old c.args.call.request.caps) (GoOut old (underway_of c.args.call) c.args.target (origins.Answer c.args.answer)) _ _ _ _ _ (λ f r. (Ok c.in_ok-question.question, fresh, (Err f, r, refl)))
     (subst P c.values.ensures (subst Q c.caps.ensures (c.in-Err.ensures.said old)))
 
 pub returns-in-Err-clause-unchanged : goal.returns-in-Err-clause-unchanged
 returns-in-Err-clause-unchanged c =
-    forward_undone (List Descriptor) (Unit {0}) c.in-Err.halt c.args.core.now c.in_ok-question.question _ c.open.new.self c.close.new.self c.say_all-said.new.exports c.in_ok-question.ensures.free c.in_ok-question.ensures.opened c.close.ensures c.in-Err.ensures.unchanged
+    forward_undone (List Descriptor) (Unit {0}) c.in-Err.halt c.args.core.now c.in_ok-question.question _ c.open.new.self c.close.new.self c.write_descriptors-said.new.exports c.in_ok-question.ensures.free c.in_ok-question.ensures.opened c.close.ensures c.in-Err.ensures.unchanged
 
 pub returns-clause-acts : goal.returns-clause-acts
 returns-clause-acts c =
     let old = state_of c.args.core.now in
     let fresh = is_fresh c.args.core.now.questions c.in_ok-question.question c.in_ok-question.ensures.free (search rules) (rw c.len.ensures.value at c.len.ensures.few) (λ full. c.if-len-eq-LIMIT.false (c.len.ensures.value ∙ full)) in
-    let said = with_parts old c.args.core.now.values c.say_all-said.new.exports in
-    let P : ValueMaps → Type 0 = λ v. SayAll (with_parts old v c.args.core.now.exports) c.args.call.request.caps (Ok (c.in-Ok.table, with_parts old v c.say_all-said.new.exports)) in
-    let Q : List Cap → Type 0 = λ caps. SayAll (with_parts old c.values.result.now c.args.core.now.exports) caps (Ok (c.in-Ok.table, with_parts old c.values.result.now c.say_all-said.new.exports)) in
+    let said = with_parts old c.args.core.now.values c.write_descriptors-said.new.exports in
+    let P : ValueMaps → Type 0 = λ v. WritesDescriptors (with_parts old v c.args.core.now.exports) c.args.call.request.caps (Ok (c.in-Ok.table, with_parts old v c.write_descriptors-said.new.exports)) in
+    let Q : List Cap → Type 0 = λ caps. WritesDescriptors (with_parts old c.values.result.now c.args.core.now.exports) caps (Ok (c.in-Ok.table, with_parts old c.values.result.now c.write_descriptors-said.new.exports)) in
     let noted = question_noted c.args.core.now.questions c.open.new.self c.note_mentions.new.questions c.in_ok-question.question _ c.in_ok-ids.ids c.in_ok-question.ensures.opened c.note_mentions.ensures in
     let named = ap (λ m. insert c.args.core.now.questions c.in_ok-question.question (new_exchange (record { forwards = Some c.args.answer; ticket = Some c.args.call.ticket; is_sent = true; is_delivered = false; mentions = m }))) (c.in_ok-ids.ensures ∙ ap mentions_of c.descriptors.ensures) in (
       _,

@@ -27,8 +27,8 @@ returns-clause-settled c s same =
     let told = c.in_ok-raised.ensures.told mid in
     rw (c.in_ok-settle_promise.ensures.put, c.in_ok-copy.ensures) (told.0, told.1, by _ told.2)
 
-pub come_to-requires : goal.come_to-requires
-come_to-requires c = rw c.values.ensures c.requires.ends
+pub resolve_cap-requires : goal.resolve_cap-requires
+resolve_cap-requires c = rw c.values.ensures c.requires.ends
 
 pub returns-clause-ends : goal.returns-clause-ends
 returns-clause-ends c =

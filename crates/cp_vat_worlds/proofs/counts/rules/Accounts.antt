@@ -17,7 +17,7 @@ use Rattle.cp_vat_machine.specs.State.{State, with_exports, with_questions, with
 use Rattle.cp_vat_machine.specs.Then.{Done, fault_if}
 use Rattle.cp_vat_machine.specs.InUse.{is_own_question, is_question_used}
 use Rattle.cp_vat_machine.specs.Capacity.{Fresh, free}
-use Rattle.cp_vat_machine.specs.Take.{times, lower}
+use Rattle.cp_vat_machine.specs.Receiving.{times, release_exports}
 use Rattle.cp_vat_machine.specs.Give.{without_question}
 use Rattle.cp_vat_machine.specs.Go.{finish_of}
 use Rattle.cp_vat_machine.specs.Answering.{OnFinish, FinishedBy, AtStage, without_answer}
@@ -179,7 +179,7 @@ nothing_lowered : (b : Bool) (n e : ℕ) → n ≡ n + (if b then times e [] els
 nothing_lowered true n e = omega arith
 nothing_lowered false n e = omega arith
 
-pub lowered_if : (b : Bool) (old : State) (X : Table (Counted Cap)) (mentions : List ℕ) → Ok X ≡ (if b then lower old.counts.exports mentions else Ok old.counts.exports) → (e : ℕ)
+pub lowered_if : (b : Bool) (old : State) (X : Table (Counted Cap)) (mentions : List ℕ) → Ok X ≡ (if b then release_exports old.counts.exports mentions else Ok old.counts.exports) → (e : ℕ)
     → (accounts_of old).exports e ≡ (accounts_of (with_exports old X)).exports e + (if b then times e mentions else 0)
 lowered_if true old X mentions is e = lower_counts old.counts.exports X mentions is e
 lowered_if false old X mentions is e = rw (ok_in _ _ is) (omega arith)
@@ -201,7 +201,7 @@ noted old f kept is =
     }
 
 taken_away : (old : State) (f : Finish) (kept : AnswerEntry) (X : Table (Counted Cap)) → get old.entries.answers f.question_id ≡ Some (record { stage = stages.Returned; kept = kept })
-    → Ok X ≡ (if f.release_result_caps then lower old.counts.exports kept.mentions else Ok old.counts.exports)
+    → Ok X ≡ (if f.release_result_caps then release_exports old.counts.exports kept.mentions else Ok old.counts.exports)
     → Hears old (messages.Finish f) [] (without_answer (with_exports old X) f.question_id)
 taken_away old f kept X is lowers =
     record {

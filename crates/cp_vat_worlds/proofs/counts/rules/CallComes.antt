@@ -29,7 +29,7 @@ use Rattle.cp_vat_machine.specs.State.{State}
 use Rattle.cp_vat_machine.specs.Then.{Done, fault_if}
 use Rattle.cp_vat_machine.specs.Capacity.{has_capacity}
 use Rattle.cp_vat_machine.specs.InUse.{caps_of}
-use Rattle.cp_vat_machine.specs.Take.{answer_of, path_of, times, TakeAll, less_by, lowered_by, lowered, lower, released}
+use Rattle.cp_vat_machine.specs.Receiving.{answer_of, path_of, times, ReceivesCaps, less_by, lowered_by, lowered, release_exports, released}
 use Rattle.cp_vat_machine.specs.Give.{GiveAnswer}
 use Rattle.cp_vat_machine.specs.Go.{Underway}
 use Rattle.cp_vat_machine.specs.Answering.{with_answer, bootstrap_outcome, is_answering, OnBootstrap, target_faults, GoToExport, GoToAnswer, GoToTarget, peer_call, entered, call_faults, OnCall, AtStage, FinishedBy, OnFinish}
@@ -97,7 +97,7 @@ call_enters old mid c taken orderly = (
 pub call_heeds : (old : State) (c : Call) (done : Done) → IsOrderly old → OnCall old c (Ok done) → Heeds old (messages.Call c) done.0 done.1
 call_heeds old c done orderly does =
     let rule = unless_out {A = Done} {F = PeerFault} (call_faults old c) _ done does in
-    let taken = then_out {A = List Cap × State} {B = Done} (TakeAll old c.params.cap_table) _ done rule in
+    let taken = then_out {A = List Cap × State} {B = Done} (ReceivesCaps old c.params.cap_table) _ done rule in
     let mid : State = entered taken.0.1 c.question_id in
     let enters = call_enters old taken.0.1 c (take_all_in c.params.cap_table old taken.0 taken.1) orderly in
     let goes = target_goes mid (peer_call taken.0.1 c taken.0.0) c.target done enters.1 tt taken.2 in
@@ -150,7 +150,7 @@ lowered_plain : (ids : List ℕ) (exports : Table (Counted Cap)) → ArePlainExp
 lowered_plain [] exports all = all
 lowered_plain (e ∷ ids) exports all = lowered_plain ids (lowered_by exports e 1) (less_all_plain exports e 1 all)
 
-pub lower_plain : (exports new : Table (Counted Cap)) (ids : List ℕ) → ArePlainExports exports → Ok new ≡ lower exports ids → ArePlainExports new
+pub lower_plain : (exports new : Table (Counted Cap)) (ids : List ℕ) → ArePlainExports exports → Ok new ≡ release_exports exports ids → ArePlainExports new
 lower_plain exports new ids all is =
     by (list_any (λ e. is_none (get exports e)) ids) (list_any (λ e. ltb (count_of exports e) (times e ids)) ids) is
   where
@@ -182,7 +182,7 @@ release_heeds old r done orderly does =
           }),
     )
 
-pub lower_if_plain : (b : Bool) (exports new : Table (Counted Cap)) (ids : List ℕ) → ArePlainExports exports → Ok new ≡ (if b then lower exports ids else Ok exports) → ArePlainExports new
+pub lower_if_plain : (b : Bool) (exports new : Table (Counted Cap)) (ids : List ℕ) → ArePlainExports exports → Ok new ≡ (if b then release_exports exports ids else Ok exports) → ArePlainExports new
 lower_if_plain true exports new ids all is = lower_plain exports new ids all is
 lower_if_plain false exports new ids all is = rw (ok_in _ _ is) all
 
@@ -191,7 +191,7 @@ finish_orderly old f kept stages.Open done orderly does =
     rw (ok_in _ _ does) (record { held = orderly.held; values = orderly.values; answers = orderly.answers; exports = orderly.exports })
 finish_orderly old f kept stages.Returned done orderly does =
     let parts = then_out {A = Table (Counted Cap)} {B = Done}
-    (λ exports. exports ≡ (if f.release_result_caps then lower old.counts.exports kept.mentions else Ok old.counts.exports)) _ done does in
+    (λ exports. exports ≡ (if f.release_result_caps then release_exports old.counts.exports kept.mentions else Ok old.counts.exports)) _ done does in
     rw
     (ok_in _ _ parts.2)
     (record {

@@ -10,8 +10,8 @@ use Rattle.cp_tables.specs.declared.counted.Counted.{Counted}
 use Rattle.cp_tables.proofs.CountedLemmas.{count_of-insert_same, count_of-insert_other, count_of-remove_same, count_of-remove_other}
 use Rattle.cp_refs.specs.declared.cap.Cap.{Cap}
 use Rattle.cp_vat_machine.specs.State.{State, with_exports}
-use Rattle.cp_vat_machine.specs.Take.{times, less_by, lowered_by, lowered, lower, released}
-use Rattle.cp_vat_machine.specs.Say.{Raise, counted, counted_out, opened, has_no_capacity}
+use Rattle.cp_vat_machine.specs.Receiving.{times, less_by, lowered_by, lowered, release_exports, released}
+use Rattle.cp_vat_machine.specs.Writing.{Raise, counted, counted_out, opened, has_no_capacity}
 use Rattle.cp_vat_machine.specs.Capacity.{free}
 use Rattle.cp_vat_machine.specs.declared.fault.PeerFault.{PeerFault}
 use Rattle.cp_vat_machine.specs.declared.fault.PeerFault.TheVariants as faults
@@ -132,7 +132,7 @@ fits_all table ids h f = elim (fits_of table ids ids f h) [
   | inr fits ↦ fits
 ]
 
-pub lower_counts : (table new : Table (Counted Cap)) (ids : List ℕ) → Ok new ≡ lower table ids → (f : ℕ) → count_of table f ≡ count_of new f + times f ids
+pub lower_counts : (table new : Table (Counted Cap)) (ids : List ℕ) → Ok new ≡ release_exports table ids → (f : ℕ) → count_of table f ≡ count_of new f + times f ids
 lower_counts table new ids is f = by (list_any (λ e. is_none (get table e)) ids) (list_any (λ e. ltb (count_of table e) (times e ids)) ids) refl is
   where
     by : (b c : Bool) → list_any (λ e. ltb (count_of table e) (times e ids)) ids ≡ c

@@ -20,8 +20,8 @@ use Rattle.cp_refs.specs.declared.outcome.Outcome.TheVariants as outcomes
 use Rattle.cp_vat_machine.specs.State.{State, with_exports}
 use Rattle.cp_vat_machine.specs.Then.{Done}
 use Rattle.cp_vat_machine.specs.InUse.{caps_of}
-use Rattle.cp_vat_machine.specs.Take.{times}
-use Rattle.cp_vat_machine.specs.Say.{SayAll}
+use Rattle.cp_vat_machine.specs.Receiving.{times}
+use Rattle.cp_vat_machine.specs.Writing.{WritesDescriptors}
 use Rattle.cp_vat_machine.specs.Give.{Returns, returned_mentions, given, gone, GiveBy, GiveAnswer, SettleTied, return_of, GiveOwnBy, GiveOwn, Give}
 use Rattle.cp_vat_machine.specs.Supported.{is_supported_returned}
 use Rattle.cp_vat_machine.specs.declared.entry.AnswerEntry.{AnswerEntry}
@@ -49,7 +49,7 @@ record Returning (old : State) (returned : Returned) (new : State) : Type 0 wher
 returns_as : (old : State) (outcome : Outcome) (said : Returned × State) → IsOrderly old → IsPlainTable (caps_of outcome) → Returns old outcome (Ok said)
     → Returning old said.0 said.1
 returns_as old (outcomes.Results content table) said orderly plain does =
-    let parts = then_out {A = List Descriptor × State} {B = Returned × State} (SayAll old table) _ said does in
+    let parts = then_out {A = List Descriptor × State} {B = Returned × State} (WritesDescriptors old table) _ said does in
     let all = said_all table old parts.0 parts.1 in
     rw
     (ok_in _ _ parts.2)

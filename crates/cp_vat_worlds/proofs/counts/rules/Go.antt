@@ -20,7 +20,7 @@ use Rattle.cp_refs.specs.declared.route.Route.TheVariants as routes
 use Rattle.cp_vat_machine.specs.State.{State, none_over, with_over, with_exports, with_questions}
 use Rattle.cp_vat_machine.specs.Then.{Done}
 use Rattle.cp_vat_machine.specs.Capacity.{Fresh}
-use Rattle.cp_vat_machine.specs.Say.{SayAll, promised, mentions_of}
+use Rattle.cp_vat_machine.specs.Writing.{WritesDescriptors, promised, mentions_of}
 use Rattle.cp_vat_machine.specs.Supported.{is_supported_target}
 use Rattle.cp_vat_machine.specs.Go.{Underway, held_at, delivered, forwarding, sent, GoOut, Go, GoTo, IsNext, Leave, stays, leaves, finds_table_full, without_call, underway}
 use Rattle.cp_vat_machine.specs.declared.effect.Effect.{Effect}
@@ -139,7 +139,7 @@ pub out_goes : (old : State) (call : Underway) (target : Target) (origin : Origi
     → GoOut old call target origin (Ok done) → Goes old done.0 done.1
 out_goes old call target (origins.Answer a) done orderly may to goes =
     let first = then_out {A = ℕ} {B = Done} (Fresh old.entries.questions) _ done goes in
-    let parts = then_out {A = List Descriptor × State} {B = Done} (SayAll old call.request.caps) _ done first.2 in
+    let parts = then_out {A = List Descriptor × State} {B = Done} (WritesDescriptors old call.request.caps) _ done first.2 in
     let said = said_all call.request.caps old parts.0 parts.1 in
     let plain = table_plain call.request.caps old parts.0 orderly.exports parts.1 in (
       peer_call_sent old call target a done to goes,
@@ -148,7 +148,7 @@ out_goes old call target (origins.Answer a) done orderly may to goes =
           (peer_orderly old parts.0.1 parts.0.1.counts.exports first.0 (forwarding a call parts.0.0) said.only plain orderly (free_out _ first.0 first.1) refl),
     )
 out_goes old call target (origins.Own q) done orderly may to goes =
-    let parts = then_out {A = List Descriptor × State} {B = Done} (SayAll old call.request.caps) _ done goes.2 in
+    let parts = then_out {A = List Descriptor × State} {B = Done} (WritesDescriptors old call.request.caps) _ done goes.2 in
     let said = said_all call.request.caps old parts.0 parts.1 in
     let plain = table_plain call.request.caps old parts.0 orderly.exports parts.1 in (
       own_call_sent old call target q done to (λ entry is. (back_of (get old.entries.questions q) entry is may.0).0) goes,

@@ -20,8 +20,8 @@ use Rattle.cp_refs.specs.declared.call.Origin.TheVariants as origins
 use Rattle.cp_refs.specs.declared.call.Request.{Request}
 use Rattle.cp_vat_machine.specs.State.{State, with_exports, with_questions}
 use Rattle.cp_vat_machine.specs.Then.{Done}
-use Rattle.cp_vat_machine.specs.Take.{times}
-use Rattle.cp_vat_machine.specs.Say.{SayAll, mentions_of}
+use Rattle.cp_vat_machine.specs.Receiving.{times}
+use Rattle.cp_vat_machine.specs.Writing.{WritesDescriptors, mentions_of}
 use Rattle.cp_vat_machine.specs.Go.{Underway, GoOut, call_of, forwarding, sent, finish_after}
 use Rattle.cp_vat_machine.specs.Capacity.{Fresh}
 use Rattle.cp_vat_machine.specs.Supported.{is_supported_target, is_supported_descriptor}
@@ -121,7 +121,7 @@ pub own_call_sent : (old : State) (call : Underway) (target : Target) (q : ℕ) 
     → ((entry : Exchange QuestionEntry) → get old.entries.questions q ≡ Some entry → IsUnsent entry) → GoOut old call target (origins.Own q) (Ok done)
     → Sends old done.0 done.1
 own_call_sent old call target q done to unsent goes =
-    let parts = then_out {A = List Descriptor × State} {B = Done} (SayAll old call.request.caps) _ done goes.2 in
+    let parts = then_out {A = List Descriptor × State} {B = Done} (WritesDescriptors old call.request.caps) _ done goes.2 in
     let said = said_all call.request.caps old parts.0 parts.1 in
     rw
     (ok_in _ _ parts.2)
@@ -158,7 +158,7 @@ pub peer_call_sent : (old : State) (call : Underway) (target : Target) (a : ℕ)
     → GoOut old call target (origins.Answer a) (Ok done) → Sends old done.0 done.1
 peer_call_sent old call target a done to goes =
     let first = then_out {A = ℕ} {B = Done} (Fresh old.entries.questions) _ done goes in
-    let parts = then_out {A = List Descriptor × State} {B = Done} (SayAll old call.request.caps) _ done first.2 in
+    let parts = then_out {A = List Descriptor × State} {B = Done} (WritesDescriptors old call.request.caps) _ done first.2 in
     let said = said_all call.request.caps old parts.0 parts.1 in
     rw
     (ok_in _ _ parts.2)

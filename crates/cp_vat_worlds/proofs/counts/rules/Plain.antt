@@ -18,7 +18,7 @@ use Rattle.cp_refs.specs.declared.outcome.Outcome.{Outcome}
 use Rattle.cp_refs.specs.declared.outcome.Outcome.TheVariants as outcomes
 use Rattle.cp_vat_machine.specs.State.{State}
 use Rattle.cp_vat_machine.specs.InUse.{is_pipelined, caps_of}
-use Rattle.cp_vat_machine.specs.Say.{Raise, counted, counted_out, opened, has_no_capacity, SayEnd, Say, SayAll, end_by, end_within}
+use Rattle.cp_vat_machine.specs.Writing.{Raise, counted, counted_out, opened, has_no_capacity, WritesEnd, WritesDescriptor, WritesDescriptors, end_by, end_within}
 use Rattle.cp_vat_machine.specs.Capacity.{free}
 use Rattle.cp_vat_machine.specs.declared.fault.PeerFault.{PeerFault}
 use Rattle.cp_vat_machine.proofs.Basics.{some_out, none_out, ok_in, or_first, or_second, then_out, put_at, gone_at}
@@ -109,7 +109,7 @@ same_plain : (old : State) (d : Descriptor) (said : Descriptor × State) → ◌
     → ArePlainExports said.1.counts.exports
 same_plain old d said is all = rw (ok_in _ _ is) all
 
-pub said_plain : (old : State) (last : Cap) (said : Descriptor × State) → ArePlainExports old.counts.exports → SayEnd old last (Ok said) → ArePlainExports said.1.counts.exports
+pub said_plain : (old : State) (last : Cap) (said : Descriptor × State) → ArePlainExports old.counts.exports → WritesEnd old last (Ok said) → ArePlainExports said.1.counts.exports
 said_plain old caps.None said all is = same_plain old descriptors.None said is all
 said_plain old (caps.Object k) said all is =
     let parts = then_out {A = ℕ × State} {B = Descriptor × State} (Raise old (caps.Object k)) _ said is in
@@ -122,7 +122,7 @@ said_plain old (caps.Pipelined q path) said all is = rw (ok_in _ _ is) all
 said_plain old (caps.Broken x) said all is = rw (ok_in _ _ is) all
 
 -- such a capability isn't sent as a receiverAnswer
-pub said_settled : (old : State) (last : Cap) (said : Descriptor × State) → IsPlain last → SayEnd old last (Ok said) → is_settled_descriptor said.0 ≡ true
+pub said_settled : (old : State) (last : Cap) (said : Descriptor × State) → IsPlain last → WritesEnd old last (Ok said) → is_settled_descriptor said.0 ≡ true
 said_settled old caps.None said plain is = rw (ok_in _ _ is) refl
 said_settled old (caps.Object k) said plain is =
     let parts = then_out {A = ℕ × State} {B = Descriptor × State} (Raise old (caps.Object k)) _ said is in
@@ -134,23 +134,23 @@ said_settled old (caps.Import i) said plain is = rw (ok_in _ _ is) refl
 said_settled old (caps.Pipelined q path) said plain is = absurd (true≢false plain)
 said_settled old (caps.Broken x) said plain is = rw (ok_in _ _ is) refl
 
-pub table_plain : (table : List Cap) (old : State) (said : List Descriptor × State) → ArePlainExports old.counts.exports → SayAll old table (Ok said)
+pub table_plain : (table : List Cap) (old : State) (said : List Descriptor × State) → ArePlainExports old.counts.exports → WritesDescriptors old table (Ok said)
     → ArePlainExports said.1.counts.exports
 table_plain [] old said all is = rw (ok_in _ _ is) all
 table_plain (cap ∷ table) old said all is =
-    let first = then_out {A = Descriptor × State} {B = List Descriptor × State} (Say old cap) _ said is in
-    let rest = then_out {A = List Descriptor × State} {B = List Descriptor × State} (SayAll first.0.1 table) _ said first.2 in
+    let first = then_out {A = Descriptor × State} {B = List Descriptor × State} (WritesDescriptor old cap) _ said is in
+    let rest = then_out {A = List Descriptor × State} {B = List Descriptor × State} (WritesDescriptors first.0.1 table) _ said first.2 in
     rw (ok_in _ _ rest.2) (table_plain table first.0.1 rest.0 (said_plain old first.1.0 first.0 all first.1.2) rest.1)
 
-said_values : (old : State) (last : Cap) (said : Descriptor × State) → SayEnd old last (Ok said) → said.1.values ≡ old.values
+said_values : (old : State) (last : Cap) (said : Descriptor × State) → WritesEnd old last (Ok said) → said.1.values ≡ old.values
 said_values old last said is = ap (λ s. s.values) (said_end old last said is).only
 
-pub table_settled : (table : List Cap) (old : State) (said : List Descriptor × State) → IsPlainTable table → ArePlainValues old.values.promises → SayAll old table (Ok said)
+pub table_settled : (table : List Cap) (old : State) (said : List Descriptor × State) → IsPlainTable table → ArePlainValues old.values.promises → WritesDescriptors old table (Ok said)
     → list_all is_settled_descriptor said.0 ≡ true
 table_settled [] old said plain values is = rw (ok_in _ _ is) refl
 table_settled (cap ∷ table) old said plain values is =
-    let first = then_out {A = Descriptor × State} {B = List Descriptor × State} (Say old cap) _ said is in
-    let rest = then_out {A = List Descriptor × State} {B = List Descriptor × State} (SayAll first.0.1 table) _ said first.2 in
+    let first = then_out {A = Descriptor × State} {B = List Descriptor × State} (WritesDescriptor old cap) _ said is in
+    let rest = then_out {A = List Descriptor × State} {B = List Descriptor × State} (WritesDescriptors first.0.1 table) _ said first.2 in
     let last = plain_end first.1.1.0 old.values cap first.1.0 values (or_first (is_pipelined cap) _ plain) first.1.1.1 in
     let same : first.0.1.values ≡ old.values = said_values old first.1.0 first.0 first.1.2 in
     rw

@@ -18,8 +18,8 @@ use Rattle.cp_vat_machine.specs.State.{State, with_exports}
 use Rattle.cp_vat_machine.specs.Then.{Done, fault_if}
 use Rattle.cp_vat_machine.specs.Capacity.{message_fits}
 use Rattle.cp_vat_machine.specs.Supported.{is_supported}
-use Rattle.cp_vat_machine.specs.Say.{mentioned_by, mentions_of}
-use Rattle.cp_vat_machine.specs.Take.{times, lower}
+use Rattle.cp_vat_machine.specs.Writing.{mentioned_by, mentions_of}
+use Rattle.cp_vat_machine.specs.Receiving.{times, release_exports}
 use Rattle.cp_vat_machine.specs.Resolving.{given_back, releases_of, is_open_promise, TakeResolution, resolved, ResolveOf, told, UnknownToPeer, OnAbort}
 use Rattle.cp_vat_machine.specs.Step.{On, ReceivesIf, Receives, Follows, all_left, found_full}
 use Rattle.cp_vat_machine.specs.declared.effect.Effect.{Effect}
@@ -127,7 +127,7 @@ resolve_of old r (Some entry) done orderly does =
 unknown_heeds : (old : State) (t : Node) (o : Option Message) (done : Done) → told t ≡ o → IsOrderly old → UnknownToPeer old o (Ok done)
     → Heeds old (messages.Unimplemented t) done.0 done.1
 unknown_heeds old t (Some (messages.Resolve r)) done is orderly does =
-    let parts = then_out {A = Table (Counted Cap)} {B = Done} (λ exports. exports ≡ lower old.counts.exports (given_back r.resolution)) _ done does in
+    let parts = then_out {A = Table (Counted Cap)} {B = Done} (λ exports. exports ≡ release_exports old.counts.exports (given_back r.resolution)) _ done does in
     rw
     (ok_in _ _ parts.2) (
       record {

@@ -18,11 +18,11 @@ use Rattle.cp_refs.specs.declared.outcome.Outcome.{Outcome}
 use Rattle.cp_vat_machine.specs.State.{State, with_exports, with_questions}
 use Rattle.cp_vat_machine.specs.Then.{Done, Then, Unless, fault_if}
 use Rattle.cp_vat_machine.specs.InUse.{caps_of}
-use Rattle.cp_vat_machine.specs.Take.{TakeAll, lower}
-use Rattle.cp_vat_machine.specs.Say.{mentions_of}
+use Rattle.cp_vat_machine.specs.Receiving.{ReceivesCaps, release_exports}
+use Rattle.cp_vat_machine.specs.Writing.{mentions_of}
 use Rattle.cp_vat_machine.specs.Give.{returned_mentions, GiveAnswer, GiveOwnBy, question_settled, without_question}
 use Rattle.cp_vat_machine.specs.Go.{finish_of}
-use Rattle.cp_vat_machine.specs.Asking.{TakeReturned, Settles, ReturnBy, is_asked, ReturnOf, OnReturn}
+use Rattle.cp_vat_machine.specs.Asking.{ReceivesReturned, Settles, ReturnBy, is_asked, ReturnOf, OnReturn}
 use Rattle.cp_vat_machine.specs.declared.effect.Effect.TheVariants as effects
 use Rattle.cp_vat_machine.specs.declared.entry.QuestionEntry.{QuestionEntry}
 use Rattle.cp_vat_machine.specs.declared.fault.PeerFault.TheVariants as faults
@@ -67,9 +67,9 @@ table_names (returns.Unknown n) = refl
 abbrev ReturnedIn : State → Returned → Outcome × State → Type 0
 ReturnedIn old returned taken = TakenIn old (table_of returned) taken.1 × IsPlainTable (caps_of taken.0)
 
-returned_in : (old : State) (returned : Returned) (taken : Outcome × State) → IsOrderly old → TakeReturned old returned (Ok taken) → ReturnedIn old returned taken
+returned_in : (old : State) (returned : Returned) (taken : Outcome × State) → IsOrderly old → ReceivesReturned old returned (Ok taken) → ReturnedIn old returned taken
 returned_in old (returns.Results p) taken orderly is =
-    let parts = then_out {A = List Cap × State} {B = Outcome × State} (TakeAll old p.cap_table) _ taken is in
+    let parts = then_out {A = List Cap × State} {B = Outcome × State} (ReceivesCaps old p.cap_table) _ taken is in
     rw (ok_in _ _ parts.2) (take_all_in p.cap_table old parts.0 parts.1, take_all_plain p.cap_table old parts.0 orderly.answers orderly.exports parts.1)
 returned_in old (returns.Exception x) taken orderly is = rw (ok_in _ _ is) (taken_none old, refl)
 returned_in old returns.Canceled taken orderly is = rw (ok_in _ _ is) (taken_none old, refl)
@@ -80,7 +80,7 @@ returned_in old (returns.Unknown n) taken orderly is = absurd is
 
 -- first the exports that the params named are lowered, if the Return asks for it
 abbrev Lowers : State → Return → QuestionEntry → Table (Counted Cap) → Type 0
-Lowers old r kept X = Ok X ≡ (if r.release_param_caps then lower old.counts.exports kept.mentions else Ok old.counts.exports)
+Lowers old r kept X = Ok X ≡ (if r.release_param_caps then release_exports old.counts.exports kept.mentions else Ok old.counts.exports)
 
 lowered_orderly : (old : State) (r : Return) (kept : QuestionEntry) (X : Table (Counted Cap)) → Lowers old r kept X → IsOrderly old → IsOrderly (with_exports old X)
 lowered_orderly old r kept X lowers orderly =
@@ -193,7 +193,7 @@ open_heeds : (old : State) (r : Return) (kept : QuestionEntry) (X : Table (Count
     → Heeds old (messages.Return r) done.0 done.1
 open_heeds old r kept X done orderly lowers is is_sent does =
     let low : State = with_exports old X in
-    let taking = then_out {A = Outcome × State} {B = Done} (TakeReturned low r.returned) _ done does in
+    let taking = then_out {A = Outcome × State} {B = Done} (ReceivesReturned low r.returned) _ done does in
     let taken = returned_in low r.returned taking.0 (lowered_orderly old r kept X lowers orderly) taking.1 in
     settles_heed old taking.0.1 r kept X lowers taken.0 orderly is is_sent kept.forwards taking.0.0 done taken.1 taking.2
 
@@ -238,7 +238,7 @@ return_at : (old : State) (r : Return) (kept : QuestionEntry) (stage : Stage) (i
     → Unless
     (fault_if (not (is_asked is_sent stage)) faults.UnknownQuestion)
     (Then
-    (λ exports. exports ≡ (if r.release_param_caps then lower old.counts.exports kept.mentions else Ok old.counts.exports))
+    (λ exports. exports ≡ (if r.release_param_caps then release_exports old.counts.exports kept.mentions else Ok old.counts.exports))
     (λ exports. ReturnBy (with_exports old exports) r kept stage))
     (Ok done)
     → Heeds old (messages.Return r) done.0 done.1

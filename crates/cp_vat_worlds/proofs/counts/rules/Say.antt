@@ -9,8 +9,8 @@ use Rattle.cp_rpc.specs.declared.descriptor.Descriptor.TheVariants as descriptor
 use Rattle.cp_refs.specs.declared.cap.Cap.{Cap}
 use Rattle.cp_refs.specs.declared.cap.Cap.TheVariants as caps
 use Rattle.cp_vat_machine.specs.State.{State, with_exports}
-use Rattle.cp_vat_machine.specs.Take.{times}
-use Rattle.cp_vat_machine.specs.Say.{SayEnd, Say, SayAll, promised, mentioned_by, mentions_of}
+use Rattle.cp_vat_machine.specs.Receiving.{times}
+use Rattle.cp_vat_machine.specs.Writing.{WritesEnd, WritesDescriptor, WritesDescriptors, promised, mentioned_by, mentions_of}
 use Rattle.cp_vat_machine.specs.Supported.{is_known_op, is_supported_descriptor}
 use Rattle.cp_vat_machine.proofs.Basics.{ok_in, then_out}
 use Rattle.cp_vat_worlds.proofs.counts.rules.Counted.{times_more, raised_as}
@@ -38,7 +38,7 @@ said_raised : (old : State) (e : ℕ) (new : State) (d : Descriptor) → mention
     → ((f : ℕ) → count_of new.counts.exports f ≡ count_of old.counts.exports f + times f (e ∷ [])) → Said old (d ∷ []) new
 said_raised old e new d named supported only counts = record { only = only; counted = λ f. rw (named) (counts f); supported = rw (supported) refl }
 
-pub said_end : (old : State) (last : Cap) (said : Descriptor × State) → SayEnd old last (Ok said) → Said old (said.0 ∷ []) said.1
+pub said_end : (old : State) (last : Cap) (said : Descriptor × State) → WritesEnd old last (Ok said) → Said old (said.0 ∷ []) said.1
 said_end old caps.None said is = rw (ok_in _ _ is) (said_as_it_is old descriptors.None refl refl)
 said_end old (caps.Object k) said is =
     let parts = then_out _ _ _ is in
@@ -77,11 +77,11 @@ said_both old mid new d ds one more =
       supported = both_true _ _ (first_true (is_supported_descriptor d) _ one.supported) more.supported;
     }
 
-pub said_all : (table : List Cap) (old : State) (said : List Descriptor × State) → SayAll old table (Ok said) → Said old said.0 said.1
+pub said_all : (table : List Cap) (old : State) (said : List Descriptor × State) → WritesDescriptors old table (Ok said) → Said old said.0 said.1
 said_all [] old said is = rw (ok_in _ _ is) (record { only = refl; counted = λ f. omega arith; supported = refl })
 said_all (cap ∷ table) old said is =
-    let first = then_out {A = Descriptor × State} {B = List Descriptor × State} (Say old cap) _ said is in
-    let rest = then_out {A = List Descriptor × State} {B = List Descriptor × State} (SayAll first.0.1 table) _ said first.2 in
+    let first = then_out {A = Descriptor × State} {B = List Descriptor × State} (WritesDescriptor old cap) _ said is in
+    let rest = then_out {A = List Descriptor × State} {B = List Descriptor × State} (WritesDescriptors first.0.1 table) _ said first.2 in
     rw
     (ok_in _ _ rest.2)
     (said_both old first.0.1 rest.0.1 first.0.0 rest.0.0 (said_end old first.1.0 first.0 first.1.2) (said_all table first.0.1 rest.0 rest.1))

@@ -17,8 +17,8 @@ use Rattle.cp_vat_machine.specs.State.{State, with_exports}
 use Rattle.cp_vat_machine.specs.Then.{Done, Then}
 use Rattle.cp_vat_machine.specs.Texts.{promise_loop}
 use Rattle.cp_vat_machine.specs.InUse.{caps_of}
-use Rattle.cp_vat_machine.specs.Take.{times}
-use Rattle.cp_vat_machine.specs.Say.{SayEnd, mentioned_by}
+use Rattle.cp_vat_machine.specs.Receiving.{times}
+use Rattle.cp_vat_machine.specs.Writing.{WritesEnd, mentioned_by}
 use Rattle.cp_vat_machine.specs.Give.{ResolvesEnd, Tells, settled, value_for, last_for, Settle, SettleTied, resolve_of}
 use Rattle.cp_vat_machine.specs.Resolving.{given_back}
 use Rattle.cp_vat_machine.specs.Supported.{is_supported_descriptor, is_supported_resolution}
@@ -39,9 +39,9 @@ pub record Resolving (old : State) (resolution : Resolution) (new : State) : Typ
   pub plain : ArePlainExports new.counts.exports
 
 resolves_cap : (old : State) (last : Cap) (said : Resolution × State) → IsPlain last → ArePlainExports old.counts.exports
-    → Then (SayEnd old last) (λ said out. out ≡ Ok (resolutions.Cap said.0, said.1)) (Ok said) → Resolving old said.0 said.1
+    → Then (WritesEnd old last) (λ said out. out ≡ Ok (resolutions.Cap said.0, said.1)) (Ok said) → Resolving old said.0 said.1
 resolves_cap old last said plain all does =
-    let parts = then_out {A = Descriptor × State} {B = Resolution × State} (SayEnd old last) _ said does in
+    let parts = then_out {A = Descriptor × State} {B = Resolution × State} (WritesEnd old last) _ said does in
     let ended = said_end old last parts.0 parts.1 in
     rw
     (ok_in _ _ parts.2)

@@ -13,8 +13,8 @@ use Rattle.cp_refs.specs.declared.cap.Cap.{Cap}
 use Rattle.cp_refs.specs.declared.outcome.Outcome.{Outcome}
 use Rattle.cp_vat_machine.specs.State.{State}
 use Rattle.cp_vat_machine.specs.Capacity.{has_capacity, Fresh}
-use Rattle.cp_vat_machine.specs.Say.{mentioned_by, mentions_of}
-use Rattle.cp_vat_machine.specs.Take.{times, held_import, held_once_more, unfinished, answer_by, answer_of, path_of, tie, tied, TakeAnswer, taken_export, Take, TakeAll}
+use Rattle.cp_vat_machine.specs.Writing.{mentioned_by, mentions_of}
+use Rattle.cp_vat_machine.specs.Receiving.{times, held_import, held_once_more, unfinished, answer_by, answer_of, path_of, tie, tied, ReceivesAnswer, taken_export, ReceivesCap, ReceivesCaps}
 use Rattle.cp_vat_machine.specs.declared.entry.AnswerEntry.{AnswerEntry}
 use Rattle.cp_vat_machine.specs.declared.entry.ImportKind.{ImportKind}
 use Rattle.cp_vat_machine.specs.declared.entry.ImportKind.TheVariants as kinds
@@ -104,7 +104,7 @@ tied_in old a p path d none =
       counted = λ i. rw (none) (omega arith);
     }
 
-answer_in : (old : State) (a : ℕ) (path : List ℕ) (o : Option (Option Outcome)) (d : Descriptor) (taken : Cap × State) → mentioned_by d ≡ [] → TakeAnswer old a path o (Ok taken)
+answer_in : (old : State) (a : ℕ) (path : List ℕ) (o : Option (Option Outcome)) (d : Descriptor) (taken : Cap × State) → mentioned_by d ≡ [] → ReceivesAnswer old a path o (Ok taken)
     → TakenIn old (d ∷ []) taken.1
 answer_in old a path None d taken none is = ok_out is
 answer_in old a path (Some (Some outcome)) d taken none is = same_in old d taken.1 none (ap (λ t. t.1) (ok_in _ _ is))
@@ -116,7 +116,7 @@ taken_export_out : (old : State) (o : Option (Counted Cap)) (taken : Cap × Stat
 taken_export_out old None taken is = ok_out is
 taken_export_out old (Some entry) taken is = ap (λ t. t.1) (ok_in _ _ is)
 
-pub take_in : (old : State) (d : Descriptor) (taken : Cap × State) → Take old d (Ok taken) → TakenIn old (d ∷ []) taken.1
+pub take_in : (old : State) (d : Descriptor) (taken : Cap × State) → ReceivesCap old d (Ok taken) → TakenIn old (d ∷ []) taken.1
 take_in old descriptors.None taken is = same_in old descriptors.None taken.1 refl (ap (λ t. t.1) (ok_in _ _ is))
 take_in old (descriptors.SenderHosted i) taken is =
     let parts = then_out {A = State} {B = Cap × State} (λ held. held ≡ held_import old i kinds.Hosted) _ taken is in
@@ -149,11 +149,11 @@ both_in old mid new d ds one more =
       );
     }
 
-pub take_all_in : (table : List Descriptor) (old : State) (taken : List Cap × State) → TakeAll old table (Ok taken) → TakenIn old table taken.1
+pub take_all_in : (table : List Descriptor) (old : State) (taken : List Cap × State) → ReceivesCaps old table (Ok taken) → TakenIn old table taken.1
 take_all_in [] old taken is = rw (ok_in _ _ is) (taken_none old)
 take_all_in (d ∷ table) old taken is =
-    let first = then_out {A = Cap × State} {B = List Cap × State} (Take old d) _ taken is in
-    let rest = then_out {A = List Cap × State} {B = List Cap × State} (TakeAll first.0.1 table) _ taken first.2 in
+    let first = then_out {A = Cap × State} {B = List Cap × State} (ReceivesCap old d) _ taken is in
+    let rest = then_out {A = List Cap × State} {B = List Cap × State} (ReceivesCaps first.0.1 table) _ taken first.2 in
     rw (ok_in _ _ rest.2) (both_in old first.0.1 rest.0.1 d table (take_in old d first.0 first.1) (take_all_in table first.0.1 rest.0 rest.1))
 
 -- No path of a question is taken in, since none is exported, and none is in an answer that was given.
@@ -161,7 +161,7 @@ export_plain : (old : State) (o : Option (Counted Cap)) (taken : Cap × State) �
 export_plain old None taken plain is = ok_out is
 export_plain old (Some entry) taken plain is = rw (ap (λ t. t.0) (ok_in _ _ is)) plain
 
-answer_plain : (old : State) (a : ℕ) (path : List ℕ) (o : Option (Option Outcome)) (taken : Cap × State) → IsPlainAnswer o → TakeAnswer old a path o (Ok taken) → IsPlain taken.0
+answer_plain : (old : State) (a : ℕ) (path : List ℕ) (o : Option (Option Outcome)) (taken : Cap × State) → IsPlainAnswer o → ReceivesAnswer old a path o (Ok taken) → IsPlain taken.0
 answer_plain old a path None taken plain is = ok_out is
 answer_plain old a path (Some (Some outcome)) taken plain is = rw (ap (λ t. t.0) (ok_in _ _ is)) (plain_at outcome path plain)
 answer_plain old a path (Some None) taken plain is =
@@ -177,7 +177,7 @@ kept_plain : (entry : Option (Exchange AnswerEntry)) (o : Option (Option Outcome
 kept_plain None o plain = tt
 kept_plain (Some entry) o plain = unfinished_plain entry.stage o plain
 
-pub take_plain : (old : State) (d : Descriptor) (taken : Cap × State) → ArePlainAnswers old.values.answers → ArePlainExports old.counts.exports → Take old d (Ok taken)
+pub take_plain : (old : State) (d : Descriptor) (taken : Cap × State) → ArePlainAnswers old.values.answers → ArePlainExports old.counts.exports → ReceivesCap old d (Ok taken)
     → IsPlain taken.0
 take_plain old descriptors.None taken given all is = rw (ok_in _ _ is) refl
 take_plain old (descriptors.SenderHosted i) taken given all is =
@@ -194,11 +194,11 @@ take_plain old (descriptors.ThirdPartyHosted t) taken given all is = absurd is
 take_plain old (descriptors.Unknown n) taken given all is = absurd is
 
 pub take_all_plain : (table : List Descriptor) (old : State) (taken : List Cap × State) → ArePlainAnswers old.values.answers → ArePlainExports old.counts.exports
-    → TakeAll old table (Ok taken) → IsPlainTable taken.0
+    → ReceivesCaps old table (Ok taken) → IsPlainTable taken.0
 take_all_plain [] old taken given all is = rw (ok_in _ _ is) refl
 take_all_plain (d ∷ table) old taken given all is =
-    let first = then_out {A = Cap × State} {B = List Cap × State} (Take old d) _ taken is in
-    let rest = then_out {A = List Cap × State} {B = List Cap × State} (TakeAll first.0.1 table) _ taken first.2 in
+    let first = then_out {A = Cap × State} {B = List Cap × State} (ReceivesCap old d) _ taken is in
+    let rest = then_out {A = List Cap × State} {B = List Cap × State} (ReceivesCaps first.0.1 table) _ taken first.2 in
     let one = take_in old d first.0 first.1 in
     rw
     (ok_in _ _ rest.2)

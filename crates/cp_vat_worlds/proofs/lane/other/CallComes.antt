@@ -24,7 +24,7 @@ use Rattle.cp_refs.specs.declared.route.Route.TheVariants as routes
 use Rattle.cp_vat_machine.specs.State.{State, none_over}
 use Rattle.cp_vat_machine.specs.Then.{Done, fault_if}
 use Rattle.cp_vat_machine.specs.Capacity.{Fresh, has_capacity}
-use Rattle.cp_vat_machine.specs.Take.{held_once_more, held_import, answer_of, path_of, tie, tied, TakeAnswer, taken_export, Take, TakeAll}
+use Rattle.cp_vat_machine.specs.Receiving.{held_once_more, held_import, answer_of, path_of, tie, tied, ReceivesAnswer, taken_export, ReceivesCap, ReceivesCaps}
 use Rattle.cp_vat_machine.specs.Answering.{with_answer, bootstrap_outcome, is_answering, OnBootstrap, GoToTarget, peer_call, entered, call_faults, target_faults, OnCall}
 use Rattle.cp_vat_machine.specs.Go.{Underway, Go}
 use Rattle.cp_vat_machine.specs.Local.{AnswerIs}
@@ -105,7 +105,7 @@ left_held s i kind None new left is = by (has_capacity s.counts.imports) is
     by true e = rw (ok_in _ _ e) left
     by false e = ok_out e
 
-pub left_taken : (s : State) (d : Descriptor) (taken : Cap × State) → NoneLeft s → Take s d (Ok taken) → NoneLeft taken.1
+pub left_taken : (s : State) (d : Descriptor) (taken : Cap × State) → NoneLeft s → ReceivesCap s d (Ok taken) → NoneLeft taken.1
 left_taken s descriptors.None taken left is = rw (ok_in _ _ is) left
 left_taken s (descriptors.SenderHosted i) taken left is =
     let parts = then_out {A = State} {B = Cap × State} (λ held. held ≡ held_import s i kinds.Hosted) _ taken is in
@@ -120,7 +120,7 @@ left_taken s (descriptors.ReceiverHosted e) taken left is = by (get s.counts.exp
     by (Some entry) e = rw (ok_in _ _ e) left
 left_taken s (descriptors.ReceiverAnswer answer) taken left is = by (answer_of s answer.question_id) is
   where
-    by : (o : Option (Option Outcome)) → TakeAnswer s answer.question_id (path_of answer.transform) o (Ok taken) → NoneLeft taken.1
+    by : (o : Option (Option Outcome)) → ReceivesAnswer s answer.question_id (path_of answer.transform) o (Ok taken) → NoneLeft taken.1
     by None e = ok_out e
     by (Some (Some outcome)) e = rw (ok_in _ _ e) left
     by (Some None) e =
@@ -129,11 +129,11 @@ left_taken s (descriptors.ReceiverAnswer answer) taken left is = by (answer_of s
 left_taken s (descriptors.ThirdPartyHosted t) taken left is = absurd is
 left_taken s (descriptors.Unknown n) taken left is = absurd is
 
-pub left_all : (table : List Descriptor) (s : State) (taken : List Cap × State) → NoneLeft s → TakeAll s table (Ok taken) → NoneLeft taken.1
+pub left_all : (table : List Descriptor) (s : State) (taken : List Cap × State) → NoneLeft s → ReceivesCaps s table (Ok taken) → NoneLeft taken.1
 left_all [] s taken left is = rw (ok_in _ _ is) left
 left_all (d ∷ table) s taken left is =
-    let first = then_out {A = Cap × State} {B = List Cap × State} (Take s d) _ taken is in
-    let rest = then_out {A = List Cap × State} {B = List Cap × State} (TakeAll first.0.1 table) _ taken first.2 in
+    let first = then_out {A = Cap × State} {B = List Cap × State} (ReceivesCap s d) _ taken is in
+    let rest = then_out {A = List Cap × State} {B = List Cap × State} (ReceivesCaps first.0.1 table) _ taken first.2 in
     rw (ok_in _ _ rest.2) (left_all table first.0.1 rest.0 (left_taken s d first.0 left first.1) rest.1)
 
 -- what is kept when a message was taken
@@ -191,7 +191,7 @@ module _ (here : End) (s final : State) (b : Bootstrap) (rest : List Message) (k
 -- A Call is taken.
 module _ (here : End) (s final : State) (c : Call) (rest : List Message) (known : IsThere here s final (messages.Call c ∷ rest)) (w : Within s None [])
     (still : s.waiting.over ≡ none_over) (none : NoneFinished s) (left : NoneLeft s) (once : list_any (opens c.question_id) rest ≡ false)
-    (fresh : (q : ℕ) → get s.entries.questions q ≡ None → IsFreshThere here q) (table : List Cap) (t : State) (takes : TakeAll s c.params.cap_table (Ok (table, t)))
+    (fresh : (q : ℕ) → get s.entries.questions q ≡ None → IsFreshThere here q) (table : List Cap) (t : State) (takes : ReceivesCaps s c.params.cap_table (Ok (table, t)))
     (unmet : get s.entries.answers c.question_id ≡ None) (done : Done) (goes : GoToTarget (entered t c.question_id) (peer_call t c table) c.target (Ok done))
     (later : PlacesStay done.1 final) where
   abbrev qa : ℕ
@@ -349,5 +349,5 @@ on_call_kept here s final c rest known w still none left once fresh done does la
     (not_met _ _
     (front_empty (fault_if (is_answering s c.question_id) faults.QuestionInUse) (target_faults s c.target)
     (front_empty (fault_if (is_answering s c.question_id) faults.QuestionInUse ++ target_faults s c.target) _ fine))) in
-    let parts = then_out {A = List Cap × State} {B = Done} (TakeAll s c.params.cap_table) _ done (unless_out (call_faults s c) _ done does) in
+    let parts = then_out {A = List Cap × State} {B = Done} (ReceivesCaps s c.params.cap_table) _ done (unless_out (call_faults s c) _ done does) in
     call_kept here s final c rest known w still none left once fresh parts.0.0 parts.0.1 parts.1 unmet done parts.2 later

@@ -29,8 +29,8 @@ use Rattle.cp_refs.specs.declared.route.Route.{Route}
 use Rattle.cp_refs.specs.declared.route.Route.TheVariants as routes
 use Rattle.cp_vat_machine.specs.State.{State}
 use Rattle.cp_vat_machine.specs.Then.{Done}
-use Rattle.cp_vat_machine.specs.Say.{ComesTo}
-use Rattle.cp_vat_machine.specs.Take.{unfinished, answer_by, answer_of, path_of}
+use Rattle.cp_vat_machine.specs.Writing.{ResolvesTo}
+use Rattle.cp_vat_machine.specs.Receiving.{unfinished, answer_by, answer_of, path_of}
 use Rattle.cp_vat_machine.specs.Answering.{GoToExport, GoToAnswer, GoToTarget}
 use Rattle.cp_vat_machine.specs.Calling.{old_target}
 use Rattle.cp_vat_machine.specs.Go.{Underway, held_at, GoOut, Go, GoTo}
@@ -196,7 +196,7 @@ module _ (s : State) (left : NoneLeft s) (call : Underway) (done : Done) where
           subst (λ o. GoToAnswer s call q (path_of (map (λ field. ops.GetPointerField field) path)) o (Ok done)) (same ∙ open_) goes in
           subst (λ g. Go s call (routes.Wait g) (Ok done)) (ap (λ p. gates.Answer q p) (path_again path) ∙ sym is) go
 
-  goto_import : (cap : Cap) (e : ℕ) → ComesTo s.values cap (caps.Import e) → GoTo s call cap (Ok done) → Go s call (routes.Import e) (Ok done)
+  goto_import : (cap : Cap) (e : ℕ) → ResolvesTo s.values cap (caps.Import e) → GoTo s call cap (Ok done) → Go s call (routes.Import e) (Ok done)
   goto_import cap e comes goto =
       let route : goto.0 ≡ routes.Import e = one_route s.values cap goto.0 (routes.Import e) goto.1 (comes_routes s.values cap e comes) in rw route at goto.2
 

@@ -20,8 +20,8 @@ use Rattle.cp_refs.specs.declared.values.QuestionKind.{QuestionKind}
 use Rattle.cp_refs.specs.declared.values.QuestionKind.TheVariants as kinds
 use Rattle.cp_vat_machine.specs.State.{State}
 use Rattle.cp_vat_machine.specs.Then.{Done}
-use Rattle.cp_vat_machine.specs.Say.{IsExport}
-use Rattle.cp_vat_machine.specs.Take.{lower}
+use Rattle.cp_vat_machine.specs.Writing.{IsExport}
+use Rattle.cp_vat_machine.specs.Receiving.{release_exports}
 use Rattle.cp_vat_machine.specs.Answering.{without_answer, AtStage, FinishedBy, OnFinish}
 use Rattle.cp_vat_machine.specs.Calling.{mark_of, plain, on_wire, came_to, question_reference, path_reference}
 use Rattle.cp_vat_machine.specs.Local.{Local, is_open_stage, AnswerIs, OwnIs, QuestionIs, is_wire, is_wire_kind, IsSentIf, IsPathMark}
@@ -401,7 +401,7 @@ module _ (here : End) (s final : State) (f : Finish) (rest sent : List Message) 
       absurd (never_fits ((accounts_of here.vat).questions a) (returns_of a here.inbox) (rw (stays_mistaken a rest) at (fits ungiven stands)))
   at_stage entry is stages.Returned at done does later =
       let parts = then_out {A = Table (Counted Cap)} {B = Done}
-      (λ exports. exports ≡ (if f.release_result_caps then lower s.counts.exports entry.kept.mentions else Ok s.counts.exports)) _ done does in
+      (λ exports. exports ≡ (if f.release_result_caps then release_exports s.counts.exports entry.kept.mentions else Ok s.counts.exports)) _ done does in
       let same = unlowered f.release_result_caps s entry.kept.mentions parts.0 keeps parts.1 in
       let same_done : done ≡ ([], without_answer s a) = ok_in _ _ parts.2 ∙ ap (λ x. ([], without_answer x a)) same in
       subst (λ d. HeardKept here s (messages.Finish f ∷ rest) d rest final) (sym same_done) (leaves entry is at (subst (λ d. PlacesStay d.1 final) same_done later))

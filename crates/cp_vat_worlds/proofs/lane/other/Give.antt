@@ -21,7 +21,7 @@ use Rattle.cp_refs.specs.declared.route.Gate.TheVariants as gates
 use Rattle.cp_refs.specs.declared.values.Question.{Question}
 use Rattle.cp_vat_machine.specs.State.{State, gave, with_exports}
 use Rattle.cp_vat_machine.specs.Then.{Done}
-use Rattle.cp_vat_machine.specs.Say.{Raise, counted, counted_out, opened, has_no_capacity, IsExport, SayEnd, Say, SayAll}
+use Rattle.cp_vat_machine.specs.Writing.{Raise, counted, counted_out, opened, has_no_capacity, IsExport, WritesEnd, WritesDescriptor, WritesDescriptors}
 use Rattle.cp_vat_machine.specs.Give.{ResolvesEnd, Tells, settled, value_for, last_for, Settle, SettleTied, Returns, given, returned_mentions, return_of, GiveBy, question_settled, GiveOwnBy, Give}
 use Rattle.cp_vat_machine.specs.Local.{AreOne, tied_to}
 use Rattle.cp_vat_machine.specs.declared.effect.Effect.{Effect}
@@ -84,7 +84,7 @@ raised_fresh old cap out new (counted_out e is) = tt
 raised_fresh old cap out new (opened e none at) = λ i. put_fresh old e 1 cap i new
 raised_fresh old cap out new (has_no_capacity none is) = tt
 
-end_fresh : (old : State) (last : Cap) (said : Descriptor × State) → IsOpenCap old last → SayEnd old last (Ok said) → (i : ℕ) → FreshBy old said.1 i
+end_fresh : (old : State) (last : Cap) (said : Descriptor × State) → IsOpenCap old last → WritesEnd old last (Ok said) → (i : ℕ) → FreshBy old said.1 i
 end_fresh old caps.None said open_ is i = rw (ok_in _ _ is) (λ none. inl none)
 end_fresh old (caps.Object k) said open_ is i =
     let parts = then_out {A = ℕ × State} {B = Descriptor × State} (Raise old (caps.Object k)) _ said is in
@@ -101,11 +101,11 @@ place_on : (mid new : State) (i : ℕ) → ((e : ℕ) (c : Cap) → IsExport mid
 place_on mid new i exports same (inl (p, export_, open_)) = inl (p, exports i (caps.Promise p) export_, ap (λ m. get m p) same ∙ open_)
 place_on mid new i exports same (inr (k, export_)) = inr (k, exports i (caps.Object k) export_)
 
-pub all_fresh : (table : List Cap) (old : State) (said : List Descriptor × State) → AreOne old → SayAll old table (Ok said) → (i : ℕ) → FreshBy old said.1 i
+pub all_fresh : (table : List Cap) (old : State) (said : List Descriptor × State) → AreOne old → WritesDescriptors old table (Ok said) → (i : ℕ) → FreshBy old said.1 i
 all_fresh [] old said one says i = rw (ok_in _ _ says) (λ none. inl none)
 all_fresh (c ∷ table) old said one says i =
-    let first = then_out {A = Descriptor × State} {B = List Descriptor × State} (Say old c) _ said says in
-    let rest = then_out {A = List Descriptor × State} {B = List Descriptor × State} (SayAll first.0.1 table) _ said first.2 in
+    let first = then_out {A = Descriptor × State} {B = List Descriptor × State} (WritesDescriptor old c) _ said says in
+    let rest = then_out {A = List Descriptor × State} {B = List Descriptor × State} (WritesDescriptors first.0.1 table) _ said first.2 in
     let here = said_end old first.1.0 first.0 one (open_end old c first.1.0 first.1.1) first.1.2 in
     let there = said_all table first.0.1 rest.0 (here.one_export one) rest.1 in
     rw
@@ -121,15 +121,15 @@ all_fresh (c ∷ table) old said one says i =
 resolved_fresh : (old : State) (last : Cap) (said : Resolution × State) → IsOpenCap old last → ResolvesEnd old last (Ok said) → (i : ℕ) → FreshBy old said.1 i
 resolved_fresh old (caps.Broken x) said open_ is i = rw (ok_in _ _ is) (λ none. inl none)
 resolved_fresh old caps.None said open_ is i =
-    let parts = then_out {A = Descriptor × State} {B = Resolution × State} (SayEnd old caps.None) _ said is in rw (ok_in _ _ parts.2) (end_fresh old caps.None parts.0 open_ parts.1 i)
+    let parts = then_out {A = Descriptor × State} {B = Resolution × State} (WritesEnd old caps.None) _ said is in rw (ok_in _ _ parts.2) (end_fresh old caps.None parts.0 open_ parts.1 i)
 resolved_fresh old (caps.Object k) said open_ is i =
-    let parts = then_out {A = Descriptor × State} {B = Resolution × State} (SayEnd old (caps.Object k)) _ said is in rw (ok_in _ _ parts.2) (end_fresh old (caps.Object k) parts.0 open_ parts.1 i)
+    let parts = then_out {A = Descriptor × State} {B = Resolution × State} (WritesEnd old (caps.Object k)) _ said is in rw (ok_in _ _ parts.2) (end_fresh old (caps.Object k) parts.0 open_ parts.1 i)
 resolved_fresh old (caps.Promise p) said open_ is i =
-    let parts = then_out {A = Descriptor × State} {B = Resolution × State} (SayEnd old (caps.Promise p)) _ said is in rw (ok_in _ _ parts.2) (end_fresh old (caps.Promise p) parts.0 open_ parts.1 i)
+    let parts = then_out {A = Descriptor × State} {B = Resolution × State} (WritesEnd old (caps.Promise p)) _ said is in rw (ok_in _ _ parts.2) (end_fresh old (caps.Promise p) parts.0 open_ parts.1 i)
 resolved_fresh old (caps.Import j) said open_ is i =
-    let parts = then_out {A = Descriptor × State} {B = Resolution × State} (SayEnd old (caps.Import j)) _ said is in rw (ok_in _ _ parts.2) (end_fresh old (caps.Import j) parts.0 open_ parts.1 i)
+    let parts = then_out {A = Descriptor × State} {B = Resolution × State} (WritesEnd old (caps.Import j)) _ said is in rw (ok_in _ _ parts.2) (end_fresh old (caps.Import j) parts.0 open_ parts.1 i)
 resolved_fresh old (caps.Pipelined q path) said open_ is i =
-    let parts = then_out {A = Descriptor × State} {B = Resolution × State} (SayEnd old (caps.Pipelined q path)) _ said is in rw (ok_in _ _ parts.2) (end_fresh old (caps.Pipelined q path) parts.0 open_ parts.1 i)
+    let parts = then_out {A = Descriptor × State} {B = Resolution × State} (WritesEnd old (caps.Pipelined q path)) _ said is in rw (ok_in _ _ parts.2) (end_fresh old (caps.Pipelined q path) parts.0 open_ parts.1 i)
 
 pub none_in : {X : Type 0} (p : X → Bool) (xs : List X) → count_by p xs ≡ 0 → list_any p xs ≡ false
 none_in p [] is = refl
@@ -240,7 +240,7 @@ tied_chain (tied ∷ more) old outcome done one are settles =
 -- An answer is given.
 returned_fresh : (old : State) (outcome : Outcome) (said : Returned × State) → AreOne old → Returns old outcome (Ok said) → (i : ℕ) → FreshBy old said.1 i
 returned_fresh old (outcomes.Results content table) said one is i =
-    let parts = then_out {A = List Descriptor × State} {B = Returned × State} (SayAll old table) _ said is in rw (ok_in _ _ parts.2) (all_fresh table old parts.0 one parts.1 i)
+    let parts = then_out {A = List Descriptor × State} {B = Returned × State} (WritesDescriptors old table) _ said is in rw (ok_in _ _ parts.2) (all_fresh table old parts.0 one parts.1 i)
 returned_fresh old (outcomes.Failed x) said one is i = rw (ok_in _ _ is) (λ none. inl none)
 returned_fresh old outcomes.Canceled said one is i = rw (ok_in _ _ is) (λ none. inl none)
 

@@ -12,7 +12,7 @@ use Rattle.cp_refs.specs.declared.cap.Cap.TheVariants as caps
 use Rattle.cp_refs.specs.declared.route.Gate.{Gate}
 use Rattle.cp_refs.specs.declared.route.Gate.TheVariants as gates
 use Rattle.cp_vat_machine.specs.State.{State}
-use Rattle.cp_vat_machine.specs.Say.{IsExport, end_within}
+use Rattle.cp_vat_machine.specs.Writing.{IsExport, end_within}
 use Rattle.cp_vat_machine.specs.Calling.{mark_of}
 use Rattle.cp_vat_machine.proofs.Basics.{some_out, none_out}
 use Rattle.cp_vat_worlds.specs.World.{End, with_mail}

@@ -24,7 +24,7 @@ use Rattle.cp_refs.specs.declared.route.Gate.TheVariants as gates
 use Rattle.cp_refs.specs.declared.route.Route.TheVariants as routes
 use Rattle.cp_vat_machine.specs.State.{State}
 use Rattle.cp_vat_machine.specs.Then.{Done, Then}
-use Rattle.cp_vat_machine.specs.Say.{Raise, ComesTo, IsExport, end_by, end_within, SayEnd, Say, SayAll}
+use Rattle.cp_vat_machine.specs.Writing.{Raise, ResolvesTo, IsExport, end_by, end_within, WritesEnd, WritesDescriptor, WritesDescriptors}
 use Rattle.cp_vat_machine.specs.Give.{ResolvesEnd, Tells, settled, value_for, last_for, Settle, Returns, given, return_of, resolve_of}
 use Rattle.cp_vat_machine.specs.Local.{AreOne}
 use Rattle.cp_vat_machine.specs.Texts.{promise_loop}
@@ -55,7 +55,7 @@ route_within_import : (values : ValueMaps) (e n : ℕ) (c : Cap) → end_within 
 route_within_import values e zero c at = none_out at
 route_within_import values e (suc n) c at = route_in values e n (route_within_import values e n) c (way values c) refl at
 
-pub comes_routes : (values : ValueMaps) (c : Cap) (e : ℕ) → ComesTo values c (caps.Import e) → Routes values c (routes.Import e)
+pub comes_routes : (values : ValueMaps) (c : Cap) (e : ℕ) → ResolvesTo values c (caps.Import e) → Routes values c (routes.Import e)
 comes_routes values c e comes = (comes.0, route_within_import values e comes.0 c comes.1)
 
 -- What is said of a capability, by which something comes back, is the import to which it comes.
@@ -70,7 +70,7 @@ abbrev back_or : ℕ → Descriptor → ℕ
 back_or n (descriptors.ReceiverHosted e) = e
 back_or n other = n
 
-said_end : (old : State) (last : Cap) (said : Descriptor × State) (e : ℕ) → SayEnd old last (Ok said) → said.0 ≡ descriptors.ReceiverHosted e → last ≡ caps.Import e
+said_end : (old : State) (last : Cap) (said : Descriptor × State) (e : ℕ) → WritesEnd old last (Ok said) → said.0 ≡ descriptors.ReceiverHosted e → last ≡ caps.Import e
 said_end old caps.None said e is at = not_back said.0 e at (rw (ok_in _ _ is) refl)
 said_end old (caps.Object k) said e is at =
     let parts = then_out {A = ℕ × State} {B = Descriptor × State} (Raise old (caps.Object k)) _ said is in not_back said.0 e at (rw (ok_in _ _ parts.2) refl)
@@ -81,25 +81,25 @@ said_end old (caps.Import i) said e is at =
 said_end old (caps.Pipelined q path) said e is at = not_back said.0 e at (rw (ok_in _ _ is) refl)
 said_end old (caps.Broken x) said e is at = not_back said.0 e at (rw (ok_in _ _ is) refl)
 
-said_at : (table : List Cap) (old : State) (said : List Descriptor × State) (values : ValueMaps) → old.values ≡ values → SayAll old table (Ok said) → (i e : ℕ)
-    → slice_get said.0 i ≡ Some (descriptors.ReceiverHosted e) → ComesTo values (slice_index_or table i caps.None) (caps.Import e)
+said_at : (table : List Cap) (old : State) (said : List Descriptor × State) (values : ValueMaps) → old.values ≡ values → WritesDescriptors old table (Ok said) → (i e : ℕ)
+    → slice_get said.0 i ≡ Some (descriptors.ReceiverHosted e) → ResolvesTo values (slice_index_or table i caps.None) (caps.Import e)
 said_at [] old said values same says i e at = none_out (sym (ap (λ ds. slice_get ds i) (ap (λ x. x.0) (ok_in _ _ says))) ∙ at)
 said_at (c ∷ table) old said values same says zero e at =
-    let first = then_out {A = Descriptor × State} {B = List Descriptor × State} (Say old c) _ said says in
-    let rest = then_out {A = List Descriptor × State} {B = List Descriptor × State} (SayAll first.0.1 table) _ said first.2 in
+    let first = then_out {A = Descriptor × State} {B = List Descriptor × State} (WritesDescriptor old c) _ said says in
+    let rest = then_out {A = List Descriptor × State} {B = List Descriptor × State} (WritesDescriptors first.0.1 table) _ said first.2 in
     let here : Some first.0.0 ≡ Some (descriptors.ReceiverHosted e) = sym (ap (λ ds. slice_get ds 0) (ap (λ x. x.0) (ok_in _ _ rest.2))) ∙ at in
     let last = said_end old first.1.0 first.0 e first.1.2 (some_out here) in
     rw (← same, ← last) first.1.1
 said_at (c ∷ table) old said values same says (suc i) e at =
-    let first = then_out {A = Descriptor × State} {B = List Descriptor × State} (Say old c) _ said says in
-    let rest = then_out {A = List Descriptor × State} {B = List Descriptor × State} (SayAll first.0.1 table) _ said first.2 in
+    let first = then_out {A = Descriptor × State} {B = List Descriptor × State} (WritesDescriptor old c) _ said says in
+    let rest = then_out {A = List Descriptor × State} {B = List Descriptor × State} (WritesDescriptors first.0.1 table) _ said first.2 in
     let there : slice_get rest.0.0 i ≡ Some (descriptors.ReceiverHosted e) = sym (ap (λ ds. slice_get ds (suc i)) (ap (λ x. x.0) (ok_in _ _ rest.2))) ∙ at in
     said_at table first.0.1 rest.0 values (ap (λ s. s.values) (end_only old first.1.0 first.0 first.1.2) ∙ same) rest.1 i e there
 
 -- What is returned at a path
 at_node : (values : ValueMaps) (table : List Cap) (ds : List Descriptor) (e : ℕ)
-    → ((i : ℕ) → slice_get ds i ≡ Some (descriptors.ReceiverHosted e) → ComesTo values (slice_index_or table i caps.None) (caps.Import e)) → (node : Node)
-    → descriptor_at node ds ≡ Some (descriptors.ReceiverHosted e) → ComesTo values (cap_in table node) (caps.Import e)
+    → ((i : ℕ) → slice_get ds i ≡ Some (descriptors.ReceiverHosted e) → ResolvesTo values (slice_index_or table i caps.None) (caps.Import e)) → (node : Node)
+    → descriptor_at node ds ≡ Some (descriptors.ReceiverHosted e) → ResolvesTo values (cap_in table node) (caps.Import e)
 at_node values table ds e each (cap i) at = each i at
 at_node values table ds e each null at = none_out at
 at_node values table ds e each (struct ws ts) at = none_out at
@@ -108,9 +108,9 @@ at_node values table ds e each (ptrs ts) at = none_out at
 at_node values table ds e each (structs a b items) at = none_out at
 
 returned_at : (old : State) (outcome : Outcome) (said : Returned × State) (path : List ℕ) (e : ℕ) → Returns old outcome (Ok said)
-    → path_returned path said.0 ≡ Some (descriptors.ReceiverHosted e) → ComesTo old.values (cap_at outcome path) (caps.Import e)
+    → path_returned path said.0 ≡ Some (descriptors.ReceiverHosted e) → ResolvesTo old.values (cap_at outcome path) (caps.Import e)
 returned_at old (outcomes.Results content table) said path e returns_ at =
-    let parts = then_out {A = List Descriptor × State} {B = Returned × State} (SayAll old table) _ said returns_ in
+    let parts = then_out {A = List Descriptor × State} {B = Returned × State} (WritesDescriptors old table) _ said returns_ in
     let there : descriptor_at (node_along content path) parts.0.0 ≡ Some (descriptors.ReceiverHosted e) = sym (ap (λ x. path_returned path x.0) (ok_in _ _ parts.2)) ∙ at in
     at_node old.values table parts.0.0 e (λ i. said_at table old parts.0 old.values refl parts.1 i e) (node_along content path) there
 returned_at old (outcomes.Failed x) said path e returns_ at = none_out (sym (ap (λ y. path_returned path y.0) (ok_in _ _ returns_)) ∙ at)
@@ -198,22 +198,22 @@ resolved_end old (caps.Broken x) said e is at = none_out (sym (ap (λ y. resolve
 resolved_end old caps.None said e is at = by_end old caps.None said e is at
   where
     by_end : (old : State) (last : Cap) (said : Resolution × State) (e : ℕ)
-        → Then (SayEnd old last) (λ said out. out ≡ Ok (resolutions.Cap said.0, said.1)) (Ok said)
+        → Then (WritesEnd old last) (λ said out. out ≡ Ok (resolutions.Cap said.0, said.1)) (Ok said)
         → resolved_as said.0 ≡ Some (descriptors.ReceiverHosted e) → last ≡ caps.Import e
     by_end old last said e is at =
-        let parts = then_out {A = Descriptor × State} {B = Resolution × State} (SayEnd old last) _ said is in
+        let parts = then_out {A = Descriptor × State} {B = Resolution × State} (WritesEnd old last) _ said is in
         said_end old last parts.0 e parts.1 (some_out (sym (ap (λ y. resolved_as y.0) (ok_in _ _ parts.2)) ∙ at))
 resolved_end old (caps.Object k) said e is at =
-    let parts = then_out {A = Descriptor × State} {B = Resolution × State} (SayEnd old (caps.Object k)) _ said is in
+    let parts = then_out {A = Descriptor × State} {B = Resolution × State} (WritesEnd old (caps.Object k)) _ said is in
     said_end old (caps.Object k) parts.0 e parts.1 (some_out (sym (ap (λ y. resolved_as y.0) (ok_in _ _ parts.2)) ∙ at))
 resolved_end old (caps.Promise p) said e is at =
-    let parts = then_out {A = Descriptor × State} {B = Resolution × State} (SayEnd old (caps.Promise p)) _ said is in
+    let parts = then_out {A = Descriptor × State} {B = Resolution × State} (WritesEnd old (caps.Promise p)) _ said is in
     said_end old (caps.Promise p) parts.0 e parts.1 (some_out (sym (ap (λ y. resolved_as y.0) (ok_in _ _ parts.2)) ∙ at))
 resolved_end old (caps.Import i) said e is at =
-    let parts = then_out {A = Descriptor × State} {B = Resolution × State} (SayEnd old (caps.Import i)) _ said is in
+    let parts = then_out {A = Descriptor × State} {B = Resolution × State} (WritesEnd old (caps.Import i)) _ said is in
     said_end old (caps.Import i) parts.0 e parts.1 (some_out (sym (ap (λ y. resolved_as y.0) (ok_in _ _ parts.2)) ∙ at))
 resolved_end old (caps.Pipelined q path) said e is at =
-    let parts = then_out {A = Descriptor × State} {B = Resolution × State} (SayEnd old (caps.Pipelined q path)) _ said is in
+    let parts = then_out {A = Descriptor × State} {B = Resolution × State} (WritesEnd old (caps.Pipelined q path)) _ said is in
     said_end old (caps.Pipelined q path) parts.0 e parts.1 (some_out (sym (ap (λ y. resolved_as y.0) (ok_in _ _ parts.2)) ∙ at))
 
 abbrev is_import : Cap → Bool
@@ -260,7 +260,7 @@ module _ (old : State) (p : ℕ) (value : Cap) (done : Done) (one : AreOne old) 
       → EndsAt done.1 (place_of done.1 (import_ i)) e × LeadsBack done.1 e (gates.Promise p)
   settled_ends i e export_ is =
       let parts = import_for p e last value is in
-      let comes : ComesTo old.values value (caps.Import e) = rw (parts.0) at settles_.1 in
+      let comes : ResolvesTo old.values value (caps.Import e) = rw (parts.0) at settles_.1 in
       let on = comes_import old.values done.1.values grows.grown.places.ways value e comes in
       let stays_ = grows.grown.places.exports i (caps.Promise p) export_ in
       let promise : get done.1.values.promises p ≡ Some (Some value) = settled_promise ∙ ap (λ v. Some (Some v)) parts.1 in (

@@ -21,7 +21,7 @@ use Rattle.cp_refs.specs.declared.route.Gate.{Gate}
 use Rattle.cp_refs.specs.declared.route.Gate.TheVariants as gates
 use Rattle.cp_vat_machine.specs.State.{State, none_over, gave}
 use Rattle.cp_vat_machine.specs.Then.{Done, fault_if}
-use Rattle.cp_vat_machine.specs.Take.{answer_of, path_of}
+use Rattle.cp_vat_machine.specs.Receiving.{answer_of, path_of}
 use Rattle.cp_vat_machine.specs.Answering.{target_faults}
 use Rattle.cp_vat_machine.specs.Calling.{mark_of}
 use Rattle.cp_vat_machine.specs.Resolving.{is_open_promise, TakeResolution, resolved, ResolveOf, OnResolve, echo_to, EchoesExport, EchoesAnswer, EchoesTarget, embargo_ended, ended_by, OnDisembargo}

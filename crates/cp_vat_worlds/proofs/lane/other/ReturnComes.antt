@@ -20,8 +20,8 @@ use Rattle.cp_refs.specs.declared.outcome.Outcome.{Outcome}
 use Rattle.cp_refs.specs.declared.values.Question.{Question}
 use Rattle.cp_vat_machine.specs.State.{State, none_over, with_exports}
 use Rattle.cp_vat_machine.specs.Then.{Done, Then, fault_if, after}
-use Rattle.cp_vat_machine.specs.Take.{TakeAll, lower}
-use Rattle.cp_vat_machine.specs.Asking.{TakeReturned, Settles, ReturnBy, is_asked, ReturnOf, OnReturn}
+use Rattle.cp_vat_machine.specs.Receiving.{ReceivesCaps, release_exports}
+use Rattle.cp_vat_machine.specs.Asking.{ReceivesReturned, Settles, ReturnBy, is_asked, ReturnOf, OnReturn}
 use Rattle.cp_vat_machine.specs.Give.{without_question, GiveAnswer, Give}
 use Rattle.cp_vat_machine.specs.Go.{finish_of}
 use Rattle.cp_vat_machine.specs.Local.{QuestionIs, OwnIs, ForwardsRightly}
@@ -156,9 +156,9 @@ module _ (here : End) (s final : State) (rest : List Message) (known : IsThere h
       }
 
 -- what is returned is taken in
-returned_left : (s : State) (returned : Returned) (taken : Outcome × State) → NoneLeft s → TakeReturned s returned (Ok taken) → NoneLeft taken.1
+returned_left : (s : State) (returned : Returned) (taken : Outcome × State) → NoneLeft s → ReceivesReturned s returned (Ok taken) → NoneLeft taken.1
 returned_left s (returns.Results p) taken left does =
-    let parts = then_out {A = List Cap × State} {B = Outcome × State} (TakeAll s p.cap_table) _ taken does in rw (ok_in _ _ parts.2) (left_all p.cap_table s parts.0 left parts.1)
+    let parts = then_out {A = List Cap × State} {B = Outcome × State} (ReceivesCaps s p.cap_table) _ taken does in rw (ok_in _ _ parts.2) (left_all p.cap_table s parts.0 left parts.1)
 returned_left s (returns.Exception x) taken left does = rw (ok_in _ _ does) left
 returned_left s returns.Canceled taken left does = rw (ok_in _ _ does) left
 returned_left s returns.ResultsSentElsewhere taken left does = absurd does
@@ -166,7 +166,7 @@ returned_left s other taken left does = absurd does
 
 module _ (here : End) (s final : State) (r : Return) (rest : List Message) (known : IsThere here s final (messages.Return r ∷ rest)) (w : Within s None []) (still : s.waiting.over ≡ none_over)
     (none : NoneFinished s) (left : NoneLeft s) (entry : Exchange QuestionEntry) (is : get s.entries.questions r.answer_id ≡ Some entry) (open_ : entry.stage ≡ stages.Open)
-    (fresh : IsFreshThere here r.answer_id) (taken : Outcome × State) (takes : TakeReturned s r.returned (Ok taken)) (done : Done) (later : PlacesStay done.1 final) where
+    (fresh : IsFreshThere here r.answer_id) (taken : Outcome × State) (takes : ReceivesReturned s r.returned (Ok taken)) (done : Done) (later : PlacesStay done.1 final) where
   abbrev q : ℕ
   q = r.answer_id
 
@@ -284,7 +284,7 @@ on_return_kept here s final r rest known w still none left keeps fresh done does
     by_stage : (entry : Exchange QuestionEntry) → get s.entries.questions r.answer_id ≡ Some entry → (stage : Stage) → entry.stage ≡ stage → ReturnBy s r entry.kept stage (Ok done)
         → HeardKept here s (messages.Return r ∷ rest) done rest final
     by_stage entry is stages.Open at does =
-        let parts = then_out {A = Outcome × State} {B = Done} (TakeReturned s r.returned) _ done does in
+        let parts = then_out {A = Outcome × State} {B = Done} (ReceivesReturned s r.returned) _ done does in
         settles_kept here s final r rest known w still none left entry is at fresh parts.0 parts.1 done later entry.kept.forwards refl parts.2
     by_stage entry is stages.Finished at does =
         let not = there_of (λ (e : Exchange QuestionEntry). is_finish_noted e.stage ≡ false) (get s.entries.questions r.answer_id) entry is (none r.answer_id) in
@@ -296,10 +296,10 @@ on_return_kept here s final r rest known w still none left keeps fresh done does
     by (Some entry) is does =
         let F = fault_if (not (is_asked entry.kept.is_sent entry.stage)) faults.UnknownQuestion in
         let parts =
-        then_out {A = Table (Counted Cap)} {B = Done} (λ exports. exports ≡ (if r.release_param_caps then lower s.counts.exports entry.kept.mentions else Ok s.counts.exports)) _ done
+        then_out {A = Table (Counted Cap)} {B = Done} (λ exports. exports ≡ (if r.release_param_caps then release_exports s.counts.exports entry.kept.mentions else Ok s.counts.exports)) _ done
         (unless_out {A = Done} F
-        (Then (λ exports. exports ≡ (if r.release_param_caps then lower s.counts.exports entry.kept.mentions else Ok s.counts.exports))
+        (Then (λ exports. exports ≡ (if r.release_param_caps then release_exports s.counts.exports entry.kept.mentions else Ok s.counts.exports))
         (λ exports. ReturnBy (with_exports s exports) r entry.kept entry.stage)) done does) in
-        let same_exports = exports_kept r.release_param_caps (lower s.counts.exports entry.kept.mentions) s.counts.exports parts.0 keeps parts.1 in
+        let same_exports = exports_kept r.release_param_caps (release_exports s.counts.exports entry.kept.mentions) s.counts.exports parts.0 keeps parts.1 in
         let returned_by = subst (λ x. ReturnBy (with_exports s x) r entry.kept entry.stage (Ok done)) same_exports parts.2 in
         by_stage entry is entry.stage refl returned_by

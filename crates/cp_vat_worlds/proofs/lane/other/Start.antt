@@ -17,7 +17,7 @@ use Rattle.cp_refs.specs.declared.cap.Cap.{Cap}
 use Rattle.cp_refs.specs.declared.cap.Cap.TheVariants as caps
 use Rattle.cp_refs.specs.declared.outcome.Outcome.{Outcome}
 use Rattle.cp_vat_machine.specs.State.{State}
-use Rattle.cp_vat_machine.specs.Say.{IsExport, end_by, end_within}
+use Rattle.cp_vat_machine.specs.Writing.{IsExport, end_by, end_within}
 use Rattle.cp_vat_machine.specs.Calling.{mark_of}
 use Rattle.cp_vat_machine.specs.Local.{Local, is_open_stage, AnswerIs, IsExportable, IsImportMark}
 use Rattle.cp_vat_machine.specs.Local as local

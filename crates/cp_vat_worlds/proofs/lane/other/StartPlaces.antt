@@ -23,9 +23,9 @@ use Rattle.cp_vat_machine.specs.State.{State, none_over}
 use Rattle.cp_vat_machine.specs.Then.{Done, fault_if}
 use Rattle.cp_vat_machine.specs.Capacity.{has_capacity, message_fits}
 use Rattle.cp_vat_machine.specs.Supported.{is_supported}
-use Rattle.cp_vat_machine.specs.Take.{TakeAll, lower}
+use Rattle.cp_vat_machine.specs.Receiving.{ReceivesCaps, release_exports}
 use Rattle.cp_vat_machine.specs.Give.{GiveAnswer, GiveOwn, GiveOwnBy, without_question}
-use Rattle.cp_vat_machine.specs.Asking.{TakeReturned, Settles, ReturnBy, ReturnOf, is_asked, OnReturn}
+use Rattle.cp_vat_machine.specs.Asking.{ReceivesReturned, Settles, ReturnBy, ReturnOf, is_asked, OnReturn}
 use Rattle.cp_vat_machine.specs.Answering.{with_answer, bootstrap_outcome, is_answering, OnBootstrap, peer_call, entered, call_faults, target_faults, OnCall}
 use Rattle.cp_vat_machine.specs.Resolving.{OnDisembargo}
 use Rattle.cp_vat_machine.specs.Go.{Leave}
@@ -100,7 +100,7 @@ module _ (s : State) (w : Within s None []) (still : s.waiting.over ≡ none_ove
       (not_met _ _
       (front_empty (fault_if (is_answering s c.question_id) faults.QuestionInUse) (target_faults s c.target)
       (front_empty (fault_if (is_answering s c.question_id) faults.QuestionInUse ++ target_faults s c.target) _ (no_faults (call_faults s c) _ done does)))) in
-      let taken = then_out {A = List Cap × State} {B = Done} (TakeAll s c.params.cap_table) _ done (unless_out (call_faults s c) _ done does) in
+      let taken = then_out {A = List Cap × State} {B = Done} (ReceivesCaps s c.params.cap_table) _ done (unless_out (call_faults s c) _ done does) in
       let all = take_all_keeps None [] c.params.cap_table s taken.0 w still taken.1 in
       let t : State = taken.0.1 in
       let new : get t.values.answers c.question_id ≡ None = ap (λ x. get x c.question_id) all.1.answers ∙ unanswered_of s w c.question_id free in
@@ -135,7 +135,7 @@ module _ (s : State) (w : Within s None []) (still : s.waiting.over ≡ none_ove
       at_stage : (entry : Exchange QuestionEntry) → get s.entries.questions r.answer_id ≡ Some entry → (stage : Stage) → entry.stage ≡ stage → ReturnBy s r entry.kept stage (Ok done)
           → PlacesStay s done.1
       at_stage entry is stages.Open at gives =
-          let taken = then_out {A = Outcome × State} {B = Done} (TakeReturned s r.returned) _ done gives in
+          let taken = then_out {A = Outcome × State} {B = Done} (ReceivesReturned s r.returned) _ done gives in
           let one = returned_taken s r.returned taken.0 w still taken.1 in
           let there : get taken.0.1.entries.questions r.answer_id ≡ Some entry = ap (λ m. get m r.answer_id) one.grows.asked ∙ is in
           places_both (taken_places one.grows) (settles_stay taken.0.1 r.answer_id entry taken.0.0 done one.within there at entry.kept.forwards refl taken.2)
@@ -149,7 +149,7 @@ module _ (s : State) (w : Within s None []) (still : s.waiting.over ≡ none_ove
       by (Some entry) is gives =
           let rule = unless_out {A = Done} {F = PeerFault} (fault_if (not (is_asked entry.kept.is_sent entry.stage)) faults.UnknownQuestion) _ done gives in
           let lowers = then_out {A = Table (Counted Cap)} {B = Done}
-          (λ exports. exports ≡ (if r.release_param_caps then lower s.counts.exports entry.kept.mentions else Ok s.counts.exports)) _ done rule in
+          (λ exports. exports ≡ (if r.release_param_caps then release_exports s.counts.exports entry.kept.mentions else Ok s.counts.exports)) _ done rule in
           let same = unlowered r.release_param_caps s entry.kept.mentions lowers.0 keeps lowers.1 in
           at_stage entry is entry.stage refl (rw same at lowers.2)
 

@@ -10,7 +10,7 @@ use Rattle.cp_refs.specs.declared.cap.Cap.{Cap}
 use Rattle.cp_refs.specs.declared.outcome.Outcome.{Outcome}
 use Rattle.cp_refs.specs.declared.route.Gate.TheVariants as gates
 use Rattle.cp_vat_machine.specs.State.{State, none_over}
-use Rattle.cp_vat_machine.specs.Take.{TakeAll}
+use Rattle.cp_vat_machine.specs.Receiving.{ReceivesCaps}
 use Rattle.cp_vat_machine.proofs.Basics.{none_out, is_equal, is_itself, put_at}
 use Rattle.cp_vat_laws.specs.Within.{Within}
 use Rattle.cp_vat_laws.proofs.within.Take.{Grows, take_all_keeps}
@@ -94,7 +94,7 @@ grows_kept s new h =
       no_echo = λ n. refl;
     }
 
-pub take_chain : (table : List Descriptor) (s : State) (taken : List Cap × State) → Within s None [] → s.waiting.over ≡ none_over → TakeAll s table (Ok taken) → Chain s [] taken.1
+pub take_chain : (table : List Descriptor) (s : State) (taken : List Cap × State) → Within s None [] → s.waiting.over ≡ none_over → ReceivesCaps s table (Ok taken) → Chain s [] taken.1
 take_chain table s taken w none is = chain_one (grows_kept s taken.1 (take_all_keeps None [] table s taken w none is).1)
 
 -- An answer is opened.

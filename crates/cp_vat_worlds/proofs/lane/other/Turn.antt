@@ -32,7 +32,7 @@ use Rattle.cp_refs.specs.declared.route.Route.TheVariants as routes
 use Rattle.cp_vat_machine.specs.State.{State, gave, with_questions}
 use Rattle.cp_vat_machine.specs.Then.{Done}
 use Rattle.cp_vat_machine.specs.Capacity.{Fresh}
-use Rattle.cp_vat_machine.specs.Say.{IsExport, SayAll, promised}
+use Rattle.cp_vat_machine.specs.Writing.{IsExport, WritesDescriptors, promised}
 use Rattle.cp_vat_machine.specs.Give.{Give}
 use Rattle.cp_vat_machine.specs.Go.{Underway, IsNext, delivered, call_of, finish_after, forwarding, sent, GoOut, Go, GoTo, without_call, underway}
 use Rattle.cp_vat_machine.specs.Local.{AreOne, IsTicketOf}
@@ -145,7 +145,7 @@ fresh_on old mid new values_ exports fresh i none = by (fresh i none)
 out_steady : (old : State) (call : Underway) (target : Target) (origin : Origin) (done : Done) → AreOne old → GoOut old call target origin (Ok done) → Steady old done
 out_steady old call target (origins.Answer a) done one goes =
     let fresh = then_out {A = ℕ} {B = Done} (Fresh old.entries.questions) _ done goes in
-    let parts = then_out {A = List Descriptor × State} {B = Done} (SayAll old call.request.caps) _ done fresh.2 in
+    let parts = then_out {A = List Descriptor × State} {B = Done} (WritesDescriptors old call.request.caps) _ done fresh.2 in
     let only = all_only call.request.caps old parts.0 parts.1 in
     let said = said_all call.request.caps old parts.0 one parts.1 in
     let last : State = with_questions parts.0.1 (insert parts.0.1.entries.questions fresh.0 (new_exchange (forwarding a call parts.0.0))) in
@@ -160,7 +160,7 @@ out_steady old call target (origins.Answer a) done one goes =
       no_echo = λ n. refl;
     })
 out_steady old call target (origins.Own q) done one goes =
-    let parts = then_out {A = List Descriptor × State} {B = Done} (SayAll old call.request.caps) _ done goes.2 in
+    let parts = then_out {A = List Descriptor × State} {B = Done} (WritesDescriptors old call.request.caps) _ done goes.2 in
     let only = all_only call.request.caps old parts.0 parts.1 in
     let said = said_all call.request.caps old parts.0 one parts.1 in
     rw
@@ -262,7 +262,7 @@ pub record Forwarded (old : State) (target : Target) (a : ℕ) (done : Done) : T
 pub out_forwarded : (old : State) (call : Underway) (target : Target) (a : ℕ) (done : Done) → GoOut old call target (origins.Answer a) (Ok done) → Forwarded old target a done
 out_forwarded old call target a done goes =
     let fresh = then_out {A = ℕ} {B = Done} (Fresh old.entries.questions) _ done goes in
-    let parts = then_out {A = List Descriptor × State} {B = Done} (SayAll old call.request.caps) _ done fresh.2 in
+    let parts = then_out {A = List Descriptor × State} {B = Done} (WritesDescriptors old call.request.caps) _ done fresh.2 in
     let only = all_only call.request.caps old parts.0 parts.1 in
     let c : Call =
     record {

@@ -20,7 +20,7 @@ use Rattle.cp_refs.specs.declared.values.QuestionKind.TheVariants as kinds
 use Rattle.cp_vat_machine.specs.State.{State}
 use Rattle.cp_vat_machine.specs.Then.{Done, fault_if}
 use Rattle.cp_vat_machine.specs.Capacity.{has_capacity, has_ticket, Fresh, cap_fits, request_fits}
-use Rattle.cp_vat_machine.specs.Say.{IsExport}
+use Rattle.cp_vat_machine.specs.Writing.{IsExport}
 use Rattle.cp_vat_machine.specs.InUse.{is_own, has_question, has_promise, has_import, is_local_path}
 use Rattle.cp_vat_machine.specs.Go.{held_at, delivered, Go, GoTo, Leave}
 use Rattle.cp_vat_machine.specs.Calling.{plain, on_wire, came_to, import_reference, question_reference, reference_of, called, own_call, mark_of, with_mark, has_mark_capacity, marked, old_target, FirstEmbargoed, GoBack, GoByValue, GoFrom, OwnDone, not_all, call_refusals, DoCall}

@@ -17,8 +17,8 @@ use Rattle.cp_refs.specs.declared.route.Route.{Route}
 use Rattle.cp_refs.specs.declared.route.Route.TheVariants as routes
 use Rattle.cp_vat_machine.specs.State.{State, none_over}
 use Rattle.cp_vat_machine.specs.Then.{Done}
-use Rattle.cp_vat_machine.specs.Say.{IsExport}
-use Rattle.cp_vat_machine.specs.Take.{TakeAll}
+use Rattle.cp_vat_machine.specs.Writing.{IsExport}
+use Rattle.cp_vat_machine.specs.Receiving.{ReceivesCaps}
 use Rattle.cp_vat_machine.specs.Answering.{GoToTarget, peer_call, entered, call_faults, OnCall}
 use Rattle.cp_vat_machine.specs.Go as going
 use Rattle.cp_vat_machine.specs.Go.{Underway, Go, GoTo}
@@ -259,7 +259,7 @@ module _ (s : State) (c : Call) (rest : List Message) (there : End) (ref : Refer
   h : Within s None []
   h = local_is_within s local_
 
-  module _ (table : List Cap) (t : State) (takes : TakeAll s c.params.cap_table (Ok (table, t))) (done : Done)
+  module _ (table : List Cap) (t : State) (takes : ReceivesCaps s c.params.cap_table (Ok (table, t))) (done : Done)
       (goes : GoToTarget (entered t c.question_id) (peer_call t c table) c.target (Ok done)) where
     abbrev new : State
     new = entered t c.question_id
@@ -328,5 +328,5 @@ module _ (s : State) (c : Call) (rest : List Message) (there : End) (ref : Refer
 
   pub call_comes : (done : Done) → OnCall s c (Ok done) → LaneHolds (record { vat = s; inbox = its ∷ rest }) there ref made delivered → CallThen done.0 done.1
   call_comes done does holds =
-      let parts = then_out {A = List Cap × State} {B = Done} (TakeAll s c.params.cap_table) _ done (unless_out {A = Done} {F = PeerFault} (call_faults s c) _ done does) in
+      let parts = then_out {A = List Cap × State} {B = Done} (ReceivesCaps s c.params.cap_table) _ done (unless_out {A = Done} {F = PeerFault} (call_faults s c) _ done does) in
       came_lane parts.0.0 parts.0.1 parts.1 done parts.2 holds

@@ -17,7 +17,7 @@ use Rattle.cp_refs.specs.declared.route.Gate.TheVariants as gates
 use Rattle.cp_refs.specs.declared.values.QuestionKind.{QuestionKind}
 use Rattle.cp_refs.specs.declared.values.QuestionKind.TheVariants as kinds
 use Rattle.cp_vat_machine.specs.State.{State}
-use Rattle.cp_vat_machine.specs.Say.{IsExport}
+use Rattle.cp_vat_machine.specs.Writing.{IsExport}
 use Rattle.cp_vat_machine.specs.InUse.{waiting_calls}
 use Rattle.cp_vat_machine.specs.Calling.{came_to, import_reference, path_reference, question_reference, reference_of, own_call, mark_of}
 use Rattle.cp_vat_machine.specs.Local.{Local, IsWaiting, is_wire, IsPathMark}

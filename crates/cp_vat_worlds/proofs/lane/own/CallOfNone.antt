@@ -16,7 +16,7 @@ use Rattle.cp_refs.specs.declared.route.Route.TheVariants as routes
 use Rattle.cp_vat_machine.specs.State.{State}
 use Rattle.cp_vat_machine.specs.Then.{Done}
 use Rattle.cp_vat_machine.specs.Capacity.{Fresh}
-use Rattle.cp_vat_machine.specs.Say.{SayAll, promised}
+use Rattle.cp_vat_machine.specs.Writing.{WritesDescriptors, promised}
 use Rattle.cp_vat_machine.specs.Go.{Underway, call_of, GoOut, Go}
 use Rattle.cp_vat_machine.specs.Local.{is_wire}
 use Rattle.cp_vat_machine.specs.declared.effect.Effect.{Effect}
@@ -119,7 +119,7 @@ module _ (old : State) (call : Underway) (a : ℕ) (from : call.origin ≡ origi
   out_calm : (target : Target) (done : Done) → GoOut old call target (origins.Answer a) (Ok done) → Calm old done.0 done.1
   out_calm target done goes =
       let fresh = then_out {A = ℕ} {B = Done} (Fresh old.entries.questions) _ done goes in
-      let parts = then_out {A = List Descriptor × State} {B = Done} (SayAll old call.request.caps) _ done fresh.2 in
+      let parts = then_out {A = List Descriptor × State} {B = Done} (WritesDescriptors old call.request.caps) _ done fresh.2 in
       let only = (said_all call.request.caps old parts.0 parts.1).only in
       let none = unvalued fresh.0 (free_out old.entries.questions fresh.0 fresh.1) in
       let calm = calm_only old parts.0.1 (call_of fresh.0 target call.request parts.0.0 ∷ []) only

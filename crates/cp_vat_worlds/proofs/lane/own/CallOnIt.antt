@@ -19,7 +19,7 @@ use Rattle.cp_refs.specs.declared.values.Question.{Question}
 use Rattle.cp_refs.specs.declared.values.QuestionKind.{QuestionKind}
 use Rattle.cp_refs.specs.declared.values.QuestionKind.TheVariants as kinds
 use Rattle.cp_vat_machine.specs.State.{State}
-use Rattle.cp_vat_machine.specs.Say.{IsExport}
+use Rattle.cp_vat_machine.specs.Writing.{IsExport}
 use Rattle.cp_vat_machine.specs.Go.{call_of}
 use Rattle.cp_vat_machine.specs.Calling.{plain, on_wire, came_to, path_reference, question_reference, reference_of, mark_of, old_target, disembargo_of}
 use Rattle.cp_vat_machine.specs.Local.{Local, IsWaiting}

@@ -29,7 +29,7 @@ use Rattle.cp_refs.specs.declared.values.QuestionKind.TheVariants as kinds
 use Rattle.cp_vat_machine.specs.State.{State}
 use Rattle.cp_vat_machine.specs.Then.{Done}
 use Rattle.cp_vat_machine.specs.Capacity.{Fresh}
-use Rattle.cp_vat_machine.specs.Say.{SayAll, promised, mentions_of}
+use Rattle.cp_vat_machine.specs.Writing.{WritesDescriptors, promised, mentions_of}
 use Rattle.cp_vat_machine.specs.Give.{GiveOwnBy}
 use Rattle.cp_vat_machine.specs.Go.{Underway, held_at, delivered, call_of, sent, GoOut, Go, GoTo}
 use Rattle.cp_vat_machine.specs.Calling.{plain, on_wire, came_to, reference_of, question_reference, called, own_call, mark_of, with_mark, has_mark_capacity, marked, old_target, disembargo_of, FirstEmbargoed, GoBack, GoByValue, GoFrom}
@@ -184,7 +184,7 @@ module _ (s : State) (q : ℕ) (request : Request) (none : NoneFinished s) (fres
     -- its Call goes out
     pub goes_out : (target : Target) (done : Done) → GoOut mid call target (origins.Own q) (Ok done) → WentOut q request target mid done
     goes_out target done goes =
-        let parts = then_out {A = List Descriptor × State} {B = Done} (SayAll mid request.caps) _ done goes.2 in
+        let parts = then_out {A = List Descriptor × State} {B = Done} (WritesDescriptors mid request.caps) _ done goes.2 in
         let said : State = parts.0.1 in
         let only = (said_all request.caps mid parts.0 parts.1).only in
         let bearing = bearing_both mid said (sent said q parts.0.0) (bearing_same mid said (ap (λ x. x.entries.questions) only))

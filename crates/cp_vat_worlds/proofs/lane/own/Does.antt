@@ -17,7 +17,7 @@ use Rattle.cp_refs.specs.declared.values.QuestionKind.TheVariants as kinds
 use Rattle.cp_vat_machine.specs.State.{State, none_over}
 use Rattle.cp_vat_machine.specs.Then.{Done, OrFull}
 use Rattle.cp_vat_machine.specs.Capacity.{Fresh}
-use Rattle.cp_vat_machine.specs.Say.{IsExport}
+use Rattle.cp_vat_machine.specs.Writing.{IsExport}
 use Rattle.cp_vat_machine.specs.Give.{Give, GiveOwnBy, Settle, question_settled}
 use Rattle.cp_vat_machine.specs.Calling.{OwnDone}
 use Rattle.cp_vat_machine.specs.Doing.{Quietly, DoAnswer, DoPromise, DoResolve, answer_refusals, resolve_refusals, value_refusals, Resolves, awaits, is_ungiven, is_ungiven_question, promise_made}

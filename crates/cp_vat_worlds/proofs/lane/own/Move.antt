@@ -11,7 +11,7 @@ use Rattle.cp_refs.specs.declared.cap.Cap.{Cap}
 use Rattle.cp_vat_machine.specs.State.{State, none_over}
 use Rattle.cp_vat_machine.specs.Then.{Done, fault_if}
 use Rattle.cp_vat_machine.specs.Supported.{is_supported}
-use Rattle.cp_vat_machine.specs.Say.{IsExport}
+use Rattle.cp_vat_machine.specs.Writing.{IsExport}
 use Rattle.cp_vat_machine.specs.Go.{Leave}
 use Rattle.cp_vat_machine.specs.Resolving.{OnDisembargo}
 use Rattle.cp_vat_machine.specs.Capacity.{message_fits}

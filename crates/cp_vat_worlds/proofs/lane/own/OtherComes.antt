@@ -21,8 +21,8 @@ use Rattle.cp_refs.specs.declared.outcome.Outcome.{Outcome}
 use Rattle.cp_vat_machine.specs.State.{State, with_answers}
 use Rattle.cp_vat_machine.specs.Then.{Done, fault_if}
 use Rattle.cp_vat_machine.specs.Capacity.{has_capacity}
-use Rattle.cp_vat_machine.specs.Say.{IsExport}
-use Rattle.cp_vat_machine.specs.Take.{answer_of, path_of, lower}
+use Rattle.cp_vat_machine.specs.Writing.{IsExport}
+use Rattle.cp_vat_machine.specs.Receiving.{answer_of, path_of, release_exports}
 use Rattle.cp_vat_machine.specs.Give.{GiveAnswer}
 use Rattle.cp_vat_machine.specs.Answering.{with_answer, bootstrap_outcome, is_answering, OnBootstrap, without_answer, AtStage, FinishedBy, OnFinish, target_faults}
 use Rattle.cp_vat_machine.specs.Resolving.{echo_to, EchoesExport, EchoesAnswer, EchoesTarget, OnDisembargo}
@@ -93,7 +93,7 @@ module _ (s : State) (rest : List Message) (there : End) (ref : Reference) (made
   finish_at kept stages.Open done does holds = rw (ok_in _ _ does) (noted_lane holds)
   finish_at kept stages.Returned done does holds =
       let parts = then_out {A = Table (Counted Cap)} {B = Done}
-      (λ exports. exports ≡ (if f.release_result_caps then lower s.counts.exports kept.mentions else Ok s.counts.exports)) _ done does in
+      (λ exports. exports ≡ (if f.release_result_caps then release_exports s.counts.exports kept.mentions else Ok s.counts.exports)) _ done does in
       let same = unlowered f.release_result_caps s kept.mentions parts.0 keeps parts.1 in
       let is : done ≡ ([], without_answer s f.question_id) = ok_in _ _ parts.2 ∙ ap (λ x. ([], without_answer x f.question_id)) same in
       rw (is) (left_lane holds)

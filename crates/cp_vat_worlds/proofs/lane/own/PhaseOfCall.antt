@@ -12,7 +12,7 @@ use Rattle.cp_refs.specs.declared.route.Gate.{Gate}
 use Rattle.cp_refs.specs.declared.route.Gate.TheVariants as gates
 use Rattle.cp_vat_machine.specs.State.{State}
 use Rattle.cp_vat_machine.specs.InUse.{waiting_calls}
-use Rattle.cp_vat_machine.specs.Say.{IsExport}
+use Rattle.cp_vat_machine.specs.Writing.{IsExport}
 use Rattle.cp_vat_machine.specs.Calling.{on_wire, mark_of, reference_of}
 use Rattle.cp_vat_machine.proofs.Basics.{all_front, all_back, all_both}
 use Rattle.cp_vat_laws.proofs.Tables.{here_of, all_values}

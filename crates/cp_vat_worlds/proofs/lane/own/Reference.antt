@@ -16,7 +16,7 @@ use Rattle.cp_refs.specs.declared.values.Question.{Question}
 use Rattle.cp_refs.specs.declared.values.QuestionKind.{QuestionKind}
 use Rattle.cp_refs.specs.declared.values.QuestionKind.TheVariants as kinds
 use Rattle.cp_vat_machine.specs.State.{State, gave}
-use Rattle.cp_vat_machine.specs.Say.{IsExport}
+use Rattle.cp_vat_machine.specs.Writing.{IsExport}
 use Rattle.cp_vat_machine.specs.Give.{question_settled}
 use Rattle.cp_vat_machine.specs.Calling.{on_wire, came_to, import_reference, question_reference, path_reference, reference_of, mark_of}
 use Rattle.cp_vat_machine.specs.Local.{is_wire}

@@ -16,8 +16,8 @@ use Rattle.cp_refs.specs.declared.cap.Cap.TheVariants as caps
 use Rattle.cp_refs.specs.declared.call.WaitingCall.{WaitingCall}
 use Rattle.cp_vat_machine.specs.State.{State, none_over}
 use Rattle.cp_vat_machine.specs.Then.{Done, Then, fault_if}
-use Rattle.cp_vat_machine.specs.Say.{IsExport, mentioned_by, mentions_of}
-use Rattle.cp_vat_machine.specs.Take.{times, held_import, taken_export, Take}
+use Rattle.cp_vat_machine.specs.Writing.{IsExport, mentioned_by, mentions_of}
+use Rattle.cp_vat_machine.specs.Receiving.{times, held_import, taken_export, ReceivesCap}
 use Rattle.cp_vat_machine.specs.Resolving.{is_open_promise, TakeResolution, resolved, ResolveOf, OnResolve}
 use Rattle.cp_vat_machine.specs.Calling.{on_wire, came_to, import_reference, reference_of}
 use Rattle.cp_vat_machine.specs.Local.{Local}
@@ -207,7 +207,7 @@ import_taken s i kind taken is =
     let parts = then_out {A = State} {B = Cap × State} (λ held. held ≡ held_import s i kind) _ taken is in
     rw (ok_in _ _ parts.2) (λ object. object)
 
-pub taken_as : (s : State) (d : Descriptor) (taken : Cap × State) → IsTrue (is_settled_descriptor d) → Take s d (Ok taken) → IsTakenAs (Some d) taken.1 taken.0
+pub taken_as : (s : State) (d : Descriptor) (taken : Cap × State) → IsTrue (is_settled_descriptor d) → ReceivesCap s d (Ok taken) → IsTakenAs (Some d) taken.1 taken.0
 taken_as s descriptors.None taken settled is = rw (ok_in _ _ is) (λ object. object)
 taken_as s (descriptors.SenderHosted i) taken settled is = import_taken s i kinds.Hosted taken is
 taken_as s (descriptors.SenderPromise i) taken settled is = import_taken s i kinds.Promise taken is

@@ -26,11 +26,11 @@ use Rattle.cp_refs.specs.declared.values.QuestionKind.{QuestionKind}
 use Rattle.cp_refs.specs.declared.values.QuestionKind.TheVariants as kinds
 use Rattle.cp_vat_machine.specs.State.{State, gave, none_over, with_exports}
 use Rattle.cp_vat_machine.specs.Then.{Done, Then, fault_if, after}
-use Rattle.cp_vat_machine.specs.Say.{IsExport, mentions_of}
-use Rattle.cp_vat_machine.specs.Take.{times, lower}
+use Rattle.cp_vat_machine.specs.Writing.{IsExport, mentions_of}
+use Rattle.cp_vat_machine.specs.Receiving.{times, release_exports}
 use Rattle.cp_vat_machine.specs.Give.{GiveAnswer, GiveOwnBy, question_settled, is_path_of, without_question}
 use Rattle.cp_vat_machine.specs.Go.{finish_of}
-use Rattle.cp_vat_machine.specs.Asking.{TakeReturned, Settles, ReturnBy, is_asked, ReturnOf, OnReturn}
+use Rattle.cp_vat_machine.specs.Asking.{ReceivesReturned, Settles, ReturnBy, is_asked, ReturnOf, OnReturn}
 use Rattle.cp_vat_machine.specs.Calling.{plain, on_wire, came_to, question_reference, reference_of, mark_of}
 use Rattle.cp_vat_machine.specs.Local.{Local, is_wire, IsPathMark, QuestionIs, OwnIs}
 use Rattle.cp_vat_machine.specs.declared.effect.Effect.{Effect}
@@ -440,7 +440,7 @@ module _ (s : State) (r : Return) (rest : List Message) (there : End) (ref : Ref
         returning_unopened r.answer_id entry.kept.mentions (named_by (messages.Return r)) (returns_of r.answer_id rest) there.inbox
         (standing_of ((accounts_of there.vat).answers r.answer_id)) (returned_fits s r rest there agree entry is open_ is_sent)
 
-    module _ (taken : Outcome × State) (takes : TakeReturned s r.returned (Ok taken)) where
+    module _ (taken : Outcome × State) (takes : ReceivesReturned s r.returned (Ok taken)) where
       abbrev t : State
       t = taken.1
 
@@ -502,7 +502,7 @@ module _ (s : State) (r : Return) (rest : List Message) (there : End) (ref : Ref
     return_by : (stage : Stage) → entry.stage ≡ stage → (done : Done) → ReturnBy s r entry.kept stage (Ok done) → LaneHolds returned_here there ref made delivered
         → ReturnedThen done.0 done.1
     return_by stages.Open at done does holds =
-        let parts = then_out {A = Outcome × State} {B = Done} (TakeReturned s r.returned) _ done does in
+        let parts = then_out {A = Outcome × State} {B = Done} (ReceivesReturned s r.returned) _ done does in
         settles_then parts.0 parts.1 entry.kept.forwards refl done parts.2 holds
     return_by stages.Finished at done does holds = absurd (apart (sym open_ ∙ at))
       where
@@ -515,14 +515,14 @@ module _ (s : State) (r : Return) (rest : List Message) (there : End) (ref : Ref
   return_of_ None is done does holds = ok_out does
   return_of_ (Some entry) is done does holds =
       let Rule : Result Done PeerFault → Type 0 =
-      Then (λ exports. exports ≡ (if r.release_param_caps then lower s.counts.exports entry.kept.mentions else Ok s.counts.exports))
+      Then (λ exports. exports ≡ (if r.release_param_caps then release_exports s.counts.exports entry.kept.mentions else Ok s.counts.exports))
       (λ exports. ReturnBy (with_exports s exports) r entry.kept entry.stage) in
       let test = fault_if (not (is_asked entry.kept.is_sent entry.stage)) faults.UnknownQuestion in
       let rule = unless_out {A = Done} {F = PeerFault} test Rule done does in
       let asked = not_false _ (not_met (not (is_asked entry.kept.is_sent entry.stage)) faults.UnknownQuestion (no_faults {A = Done} {F = PeerFault} test Rule done does)) in
       let is_open = asked_open s none r.answer_id entry is entry.stage refl asked in
       let lowers = then_out {A = Table (Counted Cap)} {B = Done}
-      (λ exports. exports ≡ (if r.release_param_caps then lower s.counts.exports entry.kept.mentions else Ok s.counts.exports)) _ done rule in
+      (λ exports. exports ≡ (if r.release_param_caps then release_exports s.counts.exports entry.kept.mentions else Ok s.counts.exports)) _ done rule in
       let same = unlowered r.release_param_caps s entry.kept.mentions lowers.0 agree.usual.0.1.0 lowers.1 in
       return_by entry is is_open.0 is_open.1 entry.stage refl done (rw same at lowers.2) holds
 

@@ -14,10 +14,10 @@ use Rattle.cp_refs.specs.declared.cap.Cap.{Cap}
 use Rattle.cp_refs.specs.declared.cap.Cap.TheVariants as caps
 use Rattle.cp_refs.specs.declared.outcome.Outcome.{Outcome}
 use Rattle.cp_vat_machine.specs.State.{State, none_over}
-use Rattle.cp_vat_machine.specs.Say.{mentions_of}
-use Rattle.cp_vat_machine.specs.Take.{times, Take, TakeAll}
+use Rattle.cp_vat_machine.specs.Writing.{mentions_of}
+use Rattle.cp_vat_machine.specs.Receiving.{times, ReceivesCap, ReceivesCaps}
 use Rattle.cp_vat_machine.specs.Give.{returned_mentions}
-use Rattle.cp_vat_machine.specs.Asking.{TakeReturned}
+use Rattle.cp_vat_machine.specs.Asking.{ReceivesReturned}
 use Rattle.cp_vat_machine.proofs.Basics.{ok_in, then_out}
 use Rattle.cp_vat_laws.specs.Within.{Within}
 use Rattle.cp_vat_laws.proofs.within.Take.{take_keeps, take_all_keeps}
@@ -41,11 +41,11 @@ taken_on old new (Some (descriptors.Unknown n)) value same taken = taken
 
 -- each of a capability table, and null past its end
 item_taken : (table : List Descriptor) (s : State) (taken : List Cap × State) → Within s None [] → s.waiting.over ≡ none_over
-    → IsTrue (list_all is_settled_descriptor table) → TakeAll s table (Ok taken) → (i : ℕ) → IsTakenAs (slice_get table i) taken.1 (slice_index_or taken.0 i caps.None)
+    → IsTrue (list_all is_settled_descriptor table) → ReceivesCaps s table (Ok taken) → (i : ℕ) → IsTakenAs (slice_get table i) taken.1 (slice_index_or taken.0 i caps.None)
 item_taken [] s taken w still settled is i = rw (ok_in _ _ is) (λ object. object)
 item_taken (d ∷ table) s taken w still settled is i =
-    let first = then_out {A = Cap × State} {B = List Cap × State} (Take s d) _ taken is in
-    let rest = then_out {A = List Cap × State} {B = List Cap × State} (TakeAll first.0.1 table) _ taken first.2 in
+    let first = then_out {A = Cap × State} {B = List Cap × State} (ReceivesCap s d) _ taken is in
+    let rest = then_out {A = List Cap × State} {B = List Cap × State} (ReceivesCaps first.0.1 table) _ taken first.2 in
     let one = take_keeps None [] s d first.0 w still first.1 in
     let over : first.0.1.waiting.over ≡ none_over = ap (λ x. x.over) one.1.waiting ∙ still in
     let more = take_all_keeps None [] table first.0.1 rest.0 one.0 over rest.1 in
@@ -70,9 +70,9 @@ place_taken table taken s each (ptrs nodes) = λ object. object
 place_taken table taken s each (structs words nodes others) = λ object. object
 
 pub path_taken : (s : State) (returned : Returned) (taken : Outcome × State) → Within s None [] → s.waiting.over ≡ none_over → IsTrue (is_settled_returned returned)
-    → TakeReturned s returned (Ok taken) → (path : List ℕ) → IsTakenAs (path_returned path returned) taken.1 (cap_at taken.0 path)
+    → ReceivesReturned s returned (Ok taken) → (path : List ℕ) → IsTakenAs (path_returned path returned) taken.1 (cap_at taken.0 path)
 path_taken s (returns.Results p) taken w still settled is path =
-    let parts = then_out {A = List Cap × State} {B = Outcome × State} (TakeAll s p.cap_table) _ taken is in
+    let parts = then_out {A = List Cap × State} {B = Outcome × State} (ReceivesCaps s p.cap_table) _ taken is in
     rw
     (ok_in _ _ parts.2)
     (place_taken p.cap_table parts.0.0 parts.0.1 (item_taken p.cap_table s parts.0 w still settled parts.1) (node_along p.content path))
@@ -89,9 +89,9 @@ pub record IsTable (old : State) (returned : Returned) (new : State) : Type 0 wh
   pub counted : (i : ℕ) → count_of new.counts.imports i ≡ count_of old.counts.imports i + times i (mentions_of (returned_table returned))
   pub named : mentions_of (returned_table returned) ≡ returned_mentions returned
 
-pub table_taken : (s : State) (returned : Returned) (taken : Outcome × State) → TakeReturned s returned (Ok taken) → IsTable s returned taken.1
+pub table_taken : (s : State) (returned : Returned) (taken : Outcome × State) → ReceivesReturned s returned (Ok taken) → IsTable s returned taken.1
 table_taken s (returns.Results p) taken is =
-    let parts = then_out {A = List Cap × State} {B = Outcome × State} (TakeAll s p.cap_table) _ taken is in
+    let parts = then_out {A = List Cap × State} {B = Outcome × State} (ReceivesCaps s p.cap_table) _ taken is in
     rw
     (ok_in _ _ parts.2)
     (record { back = take_all_back p.cap_table s parts.0 parts.1; counted = (take_all_in p.cap_table s parts.0 parts.1).counted; named = refl })

@@ -14,8 +14,8 @@ use Rattle.cp_refs.specs.declared.route.Gate.{Gate}
 use Rattle.cp_vat_machine.specs.State.{State, gave}
 use Rattle.cp_vat_machine.specs.Then.{Then}
 use Rattle.cp_vat_machine.specs.Capacity.{has_capacity, Fresh}
-use Rattle.cp_vat_machine.specs.Say.{IsExport, mentions_of}
-use Rattle.cp_vat_machine.specs.Take.{times, answer_of, path_of, held_once_more, held_import, TakeAnswer, taken_export, Take, TakeAll}
+use Rattle.cp_vat_machine.specs.Writing.{IsExport, mentions_of}
+use Rattle.cp_vat_machine.specs.Receiving.{times, answer_of, path_of, held_once_more, held_import, ReceivesAnswer, taken_export, ReceivesCap, ReceivesCaps}
 use Rattle.cp_vat_machine.specs.Calling.{plain, on_wire, came_to, import_reference, question_reference, reference_of, mark_of}
 use Rattle.cp_vat_machine.specs.Calling as calling
 use Rattle.cp_vat_machine.specs.declared.entry.ImportKind.{ImportKind}
@@ -80,7 +80,7 @@ import_back old i kind taken is =
     let parts = then_out {A = State} {B = Cap × State} (λ held. held ≡ held_import old i kind) _ taken is in
     rw (ok_in _ _ parts.2) (held_back old i kind (get old.counts.imports i) parts.0 parts.1)
 
-answer_back : (old : State) (a : ℕ) (path : List ℕ) (o : Option (Option Outcome)) (taken : Cap × State) → TakeAnswer old a path o (Ok taken) → ResolvesNone old taken.1
+answer_back : (old : State) (a : ℕ) (path : List ℕ) (o : Option (Option Outcome)) (taken : Cap × State) → ReceivesAnswer old a path o (Ok taken) → ResolvesNone old taken.1
 answer_back old a path None taken is = ok_out is
 answer_back old a path (Some (Some outcome)) taken is = rw (ok_in _ _ is) (λ i value at. at)
 answer_back old a path (Some None) taken is =
@@ -91,7 +91,7 @@ export_back : (old : State) (o : Option (Counted Cap)) (taken : Cap × State) �
 export_back old None taken is = ok_out is
 export_back old (Some entry) taken is = rw (ok_in _ _ is) (λ i value at. at)
 
-pub take_back : (old : State) (d : Descriptor) (taken : Cap × State) → Take old d (Ok taken) → ResolvesNone old taken.1
+pub take_back : (old : State) (d : Descriptor) (taken : Cap × State) → ReceivesCap old d (Ok taken) → ResolvesNone old taken.1
 take_back old descriptors.None taken is = rw (ok_in _ _ is) (λ i value at. at)
 take_back old (descriptors.SenderHosted i) taken is = import_back old i kinds.Hosted taken is
 take_back old (descriptors.SenderPromise i) taken is = import_back old i kinds.Promise taken is
@@ -101,11 +101,11 @@ take_back old (descriptors.ReceiverAnswer answer) taken is =
 take_back old (descriptors.ThirdPartyHosted t) taken is = absurd is
 take_back old (descriptors.Unknown n) taken is = absurd is
 
-pub take_all_back : (table : List Descriptor) (old : State) (taken : List Cap × State) → TakeAll old table (Ok taken) → ResolvesNone old taken.1
+pub take_all_back : (table : List Descriptor) (old : State) (taken : List Cap × State) → ReceivesCaps old table (Ok taken) → ResolvesNone old taken.1
 take_all_back [] old taken is = rw (ok_in _ _ is) (λ i value at. at)
 take_all_back (d ∷ table) old taken is =
-    let first = then_out {A = Cap × State} {B = List Cap × State} (Take old d) _ taken is in
-    let rest = then_out {A = List Cap × State} {B = List Cap × State} (TakeAll first.0.1 table) _ taken first.2 in
+    let first = then_out {A = Cap × State} {B = List Cap × State} (ReceivesCap old d) _ taken is in
+    let rest = then_out {A = List Cap × State} {B = List Cap × State} (ReceivesCaps first.0.1 table) _ taken first.2 in
     rw
     (ok_in _ _ rest.2)
     (λ i value at. take_back old d first.0 first.1 i value (take_all_back table first.0.1 rest.0 rest.1 i value at))

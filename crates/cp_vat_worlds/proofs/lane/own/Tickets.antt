@@ -26,11 +26,11 @@ use Rattle.cp_vat_machine.specs.State.{State, none_over}
 use Rattle.cp_vat_machine.specs.Then.{Done, fault_if, OrFull}
 use Rattle.cp_vat_machine.specs.Capacity.{Fresh, has_capacity, message_fits}
 use Rattle.cp_vat_machine.specs.Supported.{is_supported}
-use Rattle.cp_vat_machine.specs.Take.{TakeAll, lower}
+use Rattle.cp_vat_machine.specs.Receiving.{ReceivesCaps, release_exports}
 use Rattle.cp_vat_machine.specs.Give.{Give, GiveAnswer, Settle, without_question}
 use Rattle.cp_vat_machine.specs.Go.{Underway}
 use Rattle.cp_vat_machine.specs.Answering.{with_answer, bootstrap_outcome, is_answering, OnBootstrap, peer_call, entered, call_faults, OnCall, AtStage, FinishedBy}
-use Rattle.cp_vat_machine.specs.Asking.{TakeReturned, Settles, ReturnBy, is_asked, ReturnOf}
+use Rattle.cp_vat_machine.specs.Asking.{ReceivesReturned, Settles, ReturnBy, is_asked, ReturnOf}
 use Rattle.cp_vat_machine.specs.Resolving.{is_open_promise, TakeResolution, ResolveOf, ended_by, OnDisembargo}
 use Rattle.cp_vat_machine.specs.Calling.{asked, OwnDone}
 use Rattle.cp_vat_machine.specs.Doing.{Quietly, answer_refusals, resolve_refusals, value_refusals, Resolves}
@@ -128,7 +128,7 @@ gone_owns s q a entry is forwards r = by (q == r) refl
 module _ (s : State) (h : Within s None []) (still : s.waiting.over ≡ none_over) (none : NoneFinished s) where
   call_owns : (c : Call) (done : Done) → OnCall s c (Ok done) → SameOwns s done.1
   call_owns c done does =
-      let parts = then_out {A = List Cap × State} {B = Done} (TakeAll s c.params.cap_table) _ done (unless_out {A = Done} {F = PeerFault} (call_faults s c) _ done does) in
+      let parts = then_out {A = List Cap × State} {B = Done} (ReceivesCaps s c.params.cap_table) _ done (unless_out {A = Done} {F = PeerFault} (call_faults s c) _ done does) in
       let well = take_all_keeps None [] c.params.cap_table s parts.0 h still parts.1 in
       let new : State = entered parts.0.1 c.question_id in
       let hand : Underway = peer_call parts.0.1 c parts.0.0 in
@@ -148,7 +148,7 @@ module _ (s : State) (h : Within s None []) (still : s.waiting.over ≡ none_ove
   return_owns : (r : Return) (entry : Exchange QuestionEntry) (stage : Stage) (done : Done) → get s.entries.questions r.answer_id ≡ Some entry → entry.stage ≡ stage
       → ReturnBy s r entry.kept stage (Ok done) → SameOwns s done.1
   return_owns r entry stages.Open done is at does =
-      let taken = then_out {A = Outcome × State} {B = Done} (TakeReturned s r.returned) _ done does in
+      let taken = then_out {A = Outcome × State} {B = Done} (ReceivesReturned s r.returned) _ done does in
       let one = returned_taken s r.returned taken.0 h still taken.1 in
       let none_t : NoneFinished taken.0.1 = rw (one.grows.asked) none in
       let later = settles_owns taken.0.1 r.answer_id entry entry.kept.forwards taken.0.0 done none_t (ap (λ m. get m r.answer_id) one.grows.asked ∙ is) refl taken.2 in
@@ -164,7 +164,7 @@ module _ (s : State) (h : Within s None []) (still : s.waiting.over ≡ none_ove
   return_of_owns r (Some entry) done is keeps does =
       let rule = unless_out {A = Done} {F = PeerFault} (fault_if (not (is_asked entry.kept.is_sent entry.stage)) faults.UnknownQuestion) _ done does in
       let lowers = then_out {A = Table (Counted Cap)} {B = Done}
-      (λ exports. exports ≡ (if r.release_param_caps then lower s.counts.exports entry.kept.mentions else Ok s.counts.exports)) _ done rule in
+      (λ exports. exports ≡ (if r.release_param_caps then release_exports s.counts.exports entry.kept.mentions else Ok s.counts.exports)) _ done rule in
       let same = unlowered r.release_param_caps s entry.kept.mentions lowers.0 keeps lowers.1 in
       let by : ReturnBy s r entry.kept entry.stage (Ok done) = rw same at lowers.2 in
       return_owns r entry entry.stage done is refl by
@@ -173,7 +173,7 @@ module _ (s : State) (h : Within s None []) (still : s.waiting.over ≡ none_ove
   finish_owns f kept stages.Open done does = rw (ok_in _ _ does) (λ q. refl)
   finish_owns f kept stages.Returned done does =
       let parts = then_out {A = Table (Counted Cap)} {B = Done}
-      (λ exports. exports ≡ (if f.release_result_caps then lower s.counts.exports kept.mentions else Ok s.counts.exports)) _ done does in
+      (λ exports. exports ≡ (if f.release_result_caps then release_exports s.counts.exports kept.mentions else Ok s.counts.exports)) _ done does in
       rw (ok_in _ _ parts.2) (λ q. refl)
   finish_owns f kept stages.Finished done does = ok_out does
 

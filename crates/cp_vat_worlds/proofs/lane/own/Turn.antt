@@ -34,7 +34,7 @@ use Rattle.cp_refs.specs.declared.values.QuestionKind.TheVariants as kinds
 use Rattle.cp_vat_machine.specs.State.{State, gave, with_exports}
 use Rattle.cp_vat_machine.specs.Then.{Done}
 use Rattle.cp_vat_machine.specs.Capacity.{Fresh}
-use Rattle.cp_vat_machine.specs.Say.{IsExport, SayAll, promised}
+use Rattle.cp_vat_machine.specs.Writing.{IsExport, WritesDescriptors, promised}
 use Rattle.cp_vat_machine.specs.Give.{question_settled, GiveOwnBy, Give}
 use Rattle.cp_vat_machine.specs.Go as going
 use Rattle.cp_vat_machine.specs.Go.{Underway, held_at, delivered, sent, finish_after, call_of, GoOut, Go, GoTo, IsNext, without_call, underway}
@@ -146,7 +146,7 @@ module _ {s : State} {inbox : List Message} {other : End} (h : Midway s inbox ot
   out_calm : (target : Target) (origin : Origin) (done : Done) → call.origin ≡ origin → GoOut left (underway call) target origin (Ok done) → Calm left done.0 done.1
   out_calm target (origins.Answer a) done from goes =
       let fresh = then_out {A = ℕ} {B = Done} (Fresh left.entries.questions) _ done goes in
-      let parts = then_out {A = List Descriptor × State} {B = Done} (SayAll left call.request.caps) _ done fresh.2 in
+      let parts = then_out {A = List Descriptor × State} {B = Done} (WritesDescriptors left call.request.caps) _ done fresh.2 in
       let only = (said_all call.request.caps left parts.0 parts.1).only in
       let none : get s.values.questions fresh.0 ≡ None = fresh_value h.within fresh.0 (free_out s.entries.questions fresh.0 fresh.1) in
       let calm = calm_only left parts.0.1 (call_of fresh.0 target call.request parts.0.0 ∷ []) only
@@ -155,7 +155,7 @@ module _ {s : State} {inbox : List Message} {other : End} (h : Midway s inbox ot
       (ok_in _ _ parts.2)
       (record { imports = calm.imports; questions = calm.questions; marks = calm.marks; gave_ = calm.gave_; no_open = calm.no_open; no_loop = calm.no_loop })
   out_calm target (origins.Own q) done from goes =
-      let parts = then_out {A = List Descriptor × State} {B = Done} (SayAll left call.request.caps) _ done goes.2 in
+      let parts = then_out {A = List Descriptor × State} {B = Done} (WritesDescriptors left call.request.caps) _ done goes.2 in
       let only = (said_all call.request.caps left parts.0 parts.1).only in
       let off = wire_off q (get s.values.questions q) refl from in
       let none_after = no_finish s q goes.0 goes.0.stage h.unfinished goes.1 refl in

@@ -20,7 +20,7 @@ use Rattle.cp_refs.specs.declared.route.Route.TheVariants as routes
 use Rattle.cp_vat_machine.specs.State.{State, with_exports, with_questions}
 use Rattle.cp_vat_machine.specs.Then.{Done}
 use Rattle.cp_vat_machine.specs.Capacity.{Fresh}
-use Rattle.cp_vat_machine.specs.Say.{SayAll, promised, mentions_of}
+use Rattle.cp_vat_machine.specs.Writing.{WritesDescriptors, promised, mentions_of}
 use Rattle.cp_vat_machine.specs.Go.{Underway, held_at, call_of, forwarding, sent, finish_after, GoOut, Go, GoTo}
 use Rattle.cp_vat_machine.specs.declared.effect.Effect.{Effect}
 use Rattle.cp_vat_machine.specs.declared.effect.Effect.TheVariants as effects
@@ -71,7 +71,7 @@ pub out_went : (old : State) (call : Underway) (target : Target) (origin : Origi
     → GoOut old call target origin (Ok done) → Went call old done.0 done.1
 out_went old call target (origins.Answer a) done none is goes =
     let fresh = then_out {A = ℕ} {B = Done} (Fresh old.entries.questions) _ done goes in
-    let parts = then_out {A = List Descriptor × State} {B = Done} (SayAll old call.request.caps) _ done fresh.2 in
+    let parts = then_out {A = List Descriptor × State} {B = Done} (WritesDescriptors old call.request.caps) _ done fresh.2 in
     let only = (said_all call.request.caps old parts.0 parts.1).only in
     let mid : State = parts.0.1 in
     let new : State = with_questions mid (insert mid.entries.questions fresh.0 (new_exchange (forwarding a call parts.0.0))) in
@@ -79,7 +79,7 @@ out_went old call target (origins.Answer a) done none is goes =
     rw (is) (forwarding_opened old mid fresh.0 a call parts.0.0 only (free_out old.entries.questions fresh.0 fresh.1)) in
     rw (ok_in _ _ parts.2) (sent_ {new = new} fresh.0 target parts.0.0 refl (ap (λ s. s.waiting.calls) only) opened)
 out_went old call target (origins.Own q) done none is goes =
-    let parts = then_out {A = List Descriptor × State} {B = Done} (SayAll old call.request.caps) _ done goes.2 in
+    let parts = then_out {A = List Descriptor × State} {B = Done} (WritesDescriptors old call.request.caps) _ done goes.2 in
     let mid : State = parts.0.1 in
     let only = (said_all call.request.caps old parts.0 parts.1).only in
     let same = bearing_both old mid (sent mid q parts.0.0) (bearing_same old mid (ap (λ s. s.entries.questions) only))

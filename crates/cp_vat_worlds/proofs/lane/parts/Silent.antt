@@ -23,7 +23,7 @@ use Rattle.cp_refs.specs.declared.outcome.Outcome.{Outcome}
 use Rattle.cp_refs.specs.declared.outcome.Outcome.TheVariants as outcomes
 use Rattle.cp_vat_machine.specs.State.{State, with_exports}
 use Rattle.cp_vat_machine.specs.Then.{Done, Then}
-use Rattle.cp_vat_machine.specs.Say.{SayEnd, SayAll}
+use Rattle.cp_vat_machine.specs.Writing.{WritesEnd, WritesDescriptors}
 use Rattle.cp_vat_machine.specs.Give.{resolve_of, ResolvesEnd, Tells, settled, value_for, last_for, Settle, SettleTied, Returns, given, gone, return_of, GiveBy, GiveAnswer, question_settled, GiveOwnBy, GiveOwn, Give}
 use Rattle.cp_vat_machine.specs.Go.{delivered}
 use Rattle.cp_vat_machine.specs.declared.effect.Effect.{Effect}
@@ -120,10 +120,10 @@ silent_only old new effects only call delivery =
     }
 
 -- a promise that is settled
-resolution_only : (old : State) (last : Cap) (said : Resolution × State) → Then (SayEnd old last) (λ said out. out ≡ Ok (resolutions.Cap said.0, said.1)) (Ok said)
+resolution_only : (old : State) (last : Cap) (said : Resolution × State) → Then (WritesEnd old last) (λ said out. out ≡ Ok (resolutions.Cap said.0, said.1)) (Ok said)
     → said.1 ≡ with_exports old said.1.counts.exports
 resolution_only old last said says =
-    let parts = then_out {A = Descriptor × State} {B = Resolution × State} (SayEnd old last) _ said says in
+    let parts = then_out {A = Descriptor × State} {B = Resolution × State} (WritesEnd old last) _ said says in
     rw (ok_in _ _ parts.2) (said_end old last parts.0 parts.1).only
 
 pub resolves_only : (old : State) (last : Cap) (said : Resolution × State) → ResolvesEnd old last (Ok said) → said.1 ≡ with_exports old said.1.counts.exports
@@ -161,7 +161,7 @@ tied_silent (tied ∷ more) old outcome done settles =
 -- an outcome that is given
 pub returns_only : (old : State) (outcome : Outcome) (said : Returned × State) → Returns old outcome (Ok said) → said.1 ≡ with_exports old said.1.counts.exports
 returns_only old (outcomes.Results content table) said says =
-    let parts = then_out {A = List Descriptor × State} {B = Returned × State} (SayAll old table) _ said says in
+    let parts = then_out {A = List Descriptor × State} {B = Returned × State} (WritesDescriptors old table) _ said says in
     rw (ok_in _ _ parts.2) (said_all table old parts.0 parts.1).only
 returns_only old (outcomes.Failed x) said says = rw (ok_in _ _ says) refl
 returns_only old outcomes.Canceled said says = rw (ok_in _ _ says) refl

@@ -1,5 +1,5 @@
 use Rattle.std.proofs.Common.{rules, ◌∙◌, sym}
-use Rattle.cp_vat_machine.specs.Say.{opened, has_no_capacity}
+use Rattle.cp_vat_machine.specs.Writing.{opened, has_no_capacity}
 use Rattle.cp_vat_state.specs.Index.{cap_of}
 use Rattle.cp_vat_state.proofs.Numbering.{is_fresh, none_fresh}
 use Rattle.cp_vat_state.proofs.Indexing.{raise_out, raise_more, raised_to, has_none, indexed-counted, indexed-opened, lowered_again, if_some, none_if, same_count, counted_back, opened_back}
