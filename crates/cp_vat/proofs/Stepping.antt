@@ -18,7 +18,7 @@ use Rattle.cp_vat_laws.proofs.within.Step.{does_within, receives_within, step_ke
 use Rattle.cp_vat_state.specs.Halts.{Acts}
 use Rattle.cp_vat_state.specs.declared.halt.Halt.{Halt}
 use Rattle.cp_vat_state.specs.declared.halt.Halt.TheVariants as halts
-use Rattle.cp_vat.specs.Stepping.{answered, effects_of, Calls, Ends, CallEnds, MessageEnds, Rests, Stays}
+use Rattle.cp_vat.specs.Stepping.{answered, effects_of, Calls, Ends, CallEnds, MessageEnds, BetweenEvents, Stays}
 
 module _ {A : Type 0} (value : A → Value) (event : Event) (old : State) where
   -- A call that an allocation failure refuses says nothing; any other refusal is the rule's, and changes nothing.
@@ -55,8 +55,8 @@ module _ {A : Type 0} (value : A → Value) (event : Event) (old : State) where
   call_steps mid new (Err fault) none after result nothing still done ended = was_refused mid new fault after result still (refusal_of mid fault none after done) ended
 
   -- after it the vat rests, if it did before
-  call_rests : (mid new : State) (done : Result A VatFault) (none after : List Effect) (result : Result (Acted A) VatFault) → none ≡ [] → Rests old → old.is_closed ≡ false
-      → Calls (Does old event) value old done none after mid → CallEnds mid done after result new → Rests new
+  call_rests : (mid new : State) (done : Result A VatFault) (none after : List Effect) (result : Result (Acted A) VatFault) → none ≡ [] → BetweenEvents old → old.is_closed ≡ false
+      → Calls (Does old event) value old done none after mid → CallEnds mid done after result new → BetweenEvents new
   call_rests mid new done none after result nothing rested still acts ended open_ =
       step_keeps old new event (answered value result) (effects_of result) (rested still) open_ (call_steps mid new done none after result nothing still acts ended)
 
@@ -76,7 +76,7 @@ module _ {A : Type 0} (value : A → Value) (event : Event) (old : State) where
       (call_rests mid new done none after result nothing stayed.0 still acts ended, (call_sends mid new done none after result nothing stayed.1 still acts ended).1)
 
   -- after its own part it holds within the event
-  pub call_within : (mid : State) (done : Result A VatFault) (none after : List Effect) → Rests old → old.is_closed ≡ false → Calls (Does old event) value old done none after mid
+  pub call_within : (mid : State) (done : Result A VatFault) (none after : List Effect) → BetweenEvents old → old.is_closed ≡ false → Calls (Does old event) value old done none after mid
       → IfOk done (λ _. Within mid None [])
   call_within mid (Ok x) none after rested still acts = does_within old event (value x, acts.0, mid) (rested still) acts.2
   call_within mid (Err fault) none after rested still acts = tt
@@ -98,8 +98,8 @@ module _ (m : Message) (old : State) where
   message_steps mid new (Err halts.OutOfMemory) none after result nothing still done ended = rw ended.0 (ran_out (events.Receive m) still ended.1)
 
   -- after it the vat rests, if it did before
-  message_rests : (mid new : State) (done : Result (Unit {0}) Halt) (none after : List Effect) (result : Result (Acted (Unit {0})) VatFault) → none ≡ [] → Rests old → old.is_closed ≡ false
-      → Acts (Receives old m) done none after mid → MessageEnds mid done after result new → Rests new
+  message_rests : (mid new : State) (done : Result (Unit {0}) Halt) (none after : List Effect) (result : Result (Acted (Unit {0})) VatFault) → none ≡ [] → BetweenEvents old → old.is_closed ≡ false
+      → Acts (Receives old m) done none after mid → MessageEnds mid done after result new → BetweenEvents new
   message_rests mid new done none after result nothing rested still acts ended open_ =
       step_keeps old new (events.Receive m) (answered (λ _. values.Nothing) result) (effects_of result) (rested still) open_ (message_steps mid new done none after result nothing still acts ended)
 
@@ -119,7 +119,7 @@ module _ (m : Message) (old : State) where
       (message_rests mid new done none after result nothing stayed.0 still acts ended, (message_sends mid new done none after result nothing stayed.1 still acts ended).1)
 
   -- after its own part it holds within the event
-  pub message_within : (mid : State) (done : Result (Unit {0}) Halt) (none after : List Effect) → Rests old → old.is_closed ≡ false → Acts (Receives old m) done none after mid
+  pub message_within : (mid : State) (done : Result (Unit {0}) Halt) (none after : List Effect) → BetweenEvents old → old.is_closed ≡ false → Acts (Receives old m) done none after mid
       → IfOk done (λ _. Within mid None [])
   message_within mid (Ok x) none after rested still acts = receives_within old m (acts.0, mid) (rested still) acts.2
   message_within mid (Err halt) none after rested still acts = tt

@@ -14,12 +14,12 @@ use Rattle.cp_vat_state.specs.declared.halt.Halt.{Halt}
 use Rattle.cp_vat_state.specs.declared.halt.Halt.TheVariants as halts
 
 -- The vat rests: it holds what it keeps between events, unless it is closed.
-abbrev pub Rests : State → Type 0
-Rests s = s.is_closed ≡ false → Local s
+abbrev pub BetweenEvents : State → Type 0
+BetweenEvents s = s.is_closed ≡ false → Local s
 
 -- Between events it rests, and what it keeps is within the sizes, so that each message that it will send can be written.
 abbrev pub Stays : State → Type 0
-Stays s = Rests s × FitsOpen s
+Stays s = BetweenEvents s × FitsOpen s
 
 module _ {A : Type 0} where
   -- the value, or the refusal

@@ -35,7 +35,7 @@ pub(crate) fn on_resolve(
     if !is_open_promise(core, id, import.kept) {
         return Err(Halt::Fault(PeerFault::NotAnOpenPromise));
     }
-    let value = take_resolution(core, message.resolution)?;
+    let value = receive_resolution(core, message.resolution)?;
     core.values.put_import(id, Some(value))?;
     Ok(())
 }
@@ -82,7 +82,7 @@ fn is_open_promise(core: &Core, id: u32, kind: ImportKind) -> bool
 }
 
 /// Takes in what an import was resolved to.
-fn take_resolution(core: &mut Core, resolution: Resolution) -> Result<Cap, Halt>
+fn receive_resolution(core: &mut Core, resolution: Resolution) -> Result<Cap, Halt>
     requires { is_supported_resolution resolution ≡ true }
     ensures { Leaves (TakeResolution (state_of core.old) resolution) result (state_of core.new) }
 {

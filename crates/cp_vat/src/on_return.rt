@@ -39,7 +39,7 @@ pub(crate) trait Bearing: Drop {
 
     /// It is taken in as an outcome. Of one that is read in place a content or an exception is made once
     /// nothing is at fault.
-    fn take_in(self, core: &mut Core) -> Result<Outcome, Halt>
+    fn receive(self, core: &mut Core) -> Result<Outcome, Halt>
         requires { is_supported_returned (borne self) ≡ true }
         ensures { Leaves (ReceivesReturned (state_of core.old) (borne self)) result (state_of core.new) };
 }
@@ -59,7 +59,7 @@ pub(crate) fn on_return<B: Bearing>(
     match begin(core, id, release_param_caps)? {
         Remaining::Nothing => Ok(()),
         Remaining::Settle { forwards } => {
-            let outcome = bearing.take_in(core)?;
+            let outcome = bearing.receive(core)?;
             settle(core, id, forwards, outcome, effects)
         }
     }
@@ -68,7 +68,7 @@ pub(crate) fn on_return<B: Bearing>(
 impl Bearing for Returned {
     ghost borne = { λ r. r };
 
-    fn take_in(self, core: &mut Core) -> Result<Outcome, Halt> {
+    fn receive(self, core: &mut Core) -> Result<Outcome, Halt> {
         match self {
             Returned::Results(payload) => {
                 let caps = receive_caps(core, payload.cap_table.descriptors())?;
@@ -87,7 +87,7 @@ impl Bearing for Returned {
 impl<'a> Bearing for &'a ReturnedView<View<'a>> {
     ghost borne = { λ r. viewed_returned (λ t. t) r.now };
 
-    fn take_in(self, core: &mut Core) -> Result<Outcome, Halt> {
+    fn receive(self, core: &mut Core) -> Result<Outcome, Halt> {
         match self {
             ReturnedView::Results(payload) => {
                 let table = payload.cap_table.cap_table(core.alloc)?;

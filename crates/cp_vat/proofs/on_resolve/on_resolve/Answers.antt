@@ -7,5 +7,5 @@ pub returns : goal.returns
 returns c = (
   [],
   sym (append-nil c.args.effects.now.items),
-  rw c.in_ok-put_import.ensures.put (resolves_open (state_of c.args.core.now) (state_of c.take_resolution.new.core) c.args.message c.in-Some.import.now c.in_ok-value.value c.in-Some.ensures.value (sym c.if-not-is_open_promise.false ∙ c.is_open_promise.ensures) c.in_ok-value.ensures),
+  rw c.in_ok-put_import.ensures.put (resolves_open (state_of c.args.core.now) (state_of c.receive_resolution.new.core) c.args.message c.in-Some.import.now c.in_ok-value.value c.in-Some.ensures.value (sym c.if-not-is_open_promise.false ∙ c.is_open_promise.ensures) c.in_ok-value.ensures),
 )
