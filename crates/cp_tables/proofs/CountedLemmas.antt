@@ -22,10 +22,6 @@ module _ {X : Type 0} where
   pub AreCounts-remove : (table : Table (Counted X)) (id : ℕ) → AreCounts table → AreCounts (remove table id)
   AreCounts-remove table id = every-remove (λ e. IsCount e.count) table id
 
-  -- one entry alone
-  pub one_count : (id : ℕ) (entry : Counted X) → IsCount entry.count → AreCounts (insert empty id entry)
-  one_count id entry = AreCounts-insert empty id entry (AreCounts-empty X)
-
   -- an entry that is there has a count
   pub count_here : (table : Table (Counted X)) (id : ℕ) (entry : Counted X) → Some entry ≡ get table id → AreCounts table → IsCount entry.count
   count_here table id entry there counts = rw (← there) at (counts id)

@@ -12,9 +12,6 @@ use crate::slots::Slots;
 use std::alloc::Global;
 use std::marker::Model;
 
-#[cfg(test)]
-mod tests;
-
 /// The exports of an end: the capabilities that it sent, under numbers that it picks (rpc.capnp,
 /// `ExportId`).
 ///

@@ -13,9 +13,6 @@ use std::alloc::Global;
 use std::collections::btree_map::Keys;
 use std::marker::Model;
 
-#[cfg(test)]
-mod tests;
-
 /// The imports of an end: the capabilities that it received, under numbers that its peer picks
 /// (rpc.capnp, `ImportId`).
 ///

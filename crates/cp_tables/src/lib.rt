@@ -31,6 +31,3 @@ pub use questions::Questions;
 
 /// How many entries a table holds at most.
 pub const LIMIT: usize = 65_536;
-
-#[cfg(test)]
-mod tests;

@@ -1,4 +1,4 @@
-//! Tests of cp_refs and cp_vat_state, over their libraries. They are one crate, since what std and these libraries say is read anew for
+//! Tests of cp_tables, cp_refs and cp_vat_state, over their libraries. They are one crate, since what std and these libraries say is read anew for
 //! each.
 #![tactic(auto)]
 
@@ -22,6 +22,8 @@ mod marks;
 mod parts;
 #[cfg(test)]
 mod routes;
+#[cfg(test)]
+mod tables;
 #[cfg(test)]
 mod values;
 #[cfg(test)]

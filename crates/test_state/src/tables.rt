@@ -1,7 +1,9 @@
 //! Each call on its happy path, each refusal, numbers used again, and the limits.
 
-use super::*;
 use TableFault::{Full, OutOfMemory, Taken, TooMany, Unknown};
+use cp_tables::{
+    Answers, Counted, Embargoes, Exchange, Exports, Imports, Questions, Stage, TableFault,
+};
 use std::process::Abort;
 
 const LAST: u32 = 65_535;
