@@ -19,7 +19,7 @@ use crate::resolve::resolve_cap;
 use cp_refs::{Cap, KeptOutcome, PromiseId, failed};
 use cp_rpc::{Message, Resolution, Resolve};
 use cp_vat_machine::{Effect, Tied};
-use cp_vat_state::{Core, Exported, Gates, Gift, Halt, Hosted, NumberedValues};
+use cp_vat_state::{Core, Exported, Gates, Gift, Halt, Hosted, Resolutions};
 use std::alloc::{AllocError, Global};
 
 /// A promise that was settled, whose gate is still to be ended.
@@ -60,7 +60,7 @@ pub fn settle(
 /// were opened. Their gates are still to be ended. Where a table is full nothing changes.
 pub(crate) fn settle_tied(
     alloc: Global,
-    values: &mut NumberedValues,
+    values: &mut Resolutions,
     exports: &mut Exported,
     outcome: &KeptOutcome,
     tied: &[Tied],
@@ -104,7 +104,7 @@ pub(crate) fn end_gates(
 /// Settles a promise, whose gate is still to be ended. One whose value leads back to it is broken.
 fn settle_value(
     alloc: Global,
-    values: &mut NumberedValues,
+    values: &mut Resolutions,
     exports: &mut Exported,
     promise: PromiseId,
     value: Cap,
@@ -199,7 +199,7 @@ fn raised_of(resolution: &Resolution) -> Option<u32>
 
 /// Takes back what settling promises did, the last first.
 fn take_back(
-    values: &mut NumberedValues,
+    values: &mut Resolutions,
     exports: &mut Exported,
     settled: &[SettledPromise],
 ) -> Result<(), AllocError>
@@ -214,7 +214,7 @@ fn take_back(
 
 /// Takes back what settling a promise did.
 fn take_one_back(
-    values: &mut NumberedValues,
+    values: &mut Resolutions,
     exports: &mut Exported,
     one: &SettledPromise,
 ) -> Result<(), AllocError>

@@ -9,7 +9,7 @@ use Rattle.cp_refs.specs.declared.outcome.Outcome.{Outcome}
 use Rattle.cp_refs.specs.declared.values.Question.{Question}
 use Rattle.cp_vat_machine.specs.InUse.{caps_given}
 use Rattle.cp_vat_state.specs.Sought.{question_caps, named_by, awaited_at}
-use Rattle.cp_vat_state.specs.Counts.{number_of, times_named, times_in, IsMore, IsLess, IsSame}
+use Rattle.cp_vat_state.specs.Counts.{number_of, times_named, times_in, IsMore, IsLess}
 use Rattle.cp_vat_state.specs.Holding.{AreHeld, AreHeldByCalls, IsMoreBy, IsLessBy, AreLedTo}
 use Rattle.cp_vat_state.specs.declared.counted_calls.Uses.{Uses}
 use Rattle.cp_tables.specs.Table.{Table}
@@ -30,10 +30,6 @@ question_of_entry : (o : Option Question) (s : Sought) → of_entry (λ question
 question_of_entry None s = refl
 question_of_entry (Some question) s = refl
 
--- what was counted more and then less is counted as before
-pub back_again : (h h1 h2 : Holders) (came went : List Cap) → went ≡ came → IsMore h h1 (times_in came) → IsLess h1 h2 (times_in went) → IsSame h h2
-back_again h h1 h2 came went same more less s = let less' = rw same at (less s) in omega (arith, more s, less')
-
 pub held_nothing : (kept imported : Holders) → ((s : Sought) → number_of kept s ≡ 0) → ((s : Sought) → number_of imported s ≡ 0)
     → AreHeld (record { promises = empty; imports = empty; answers = empty; questions = empty }) kept imported
 held_nothing kept imported none none_imported =
@@ -43,13 +39,17 @@ held_nothing kept imported none none_imported =
       imported_so_often = λ s. omega (arith, none_imported s, held-empty (λ (value : Option Cap). times_in (option_to_list value) s));
     }
 
+-- an open promise holds nothing
+pub held-open_promise : (v : ValueMaps) (kept imported : Holders) (id : ℕ) → AreHeld v kept imported → get v.promises id ≡ None → AreHeld (record v { promises = insert v.promises id None }) kept imported
+held-open_promise v kept imported id is free =
+    record {
+      kept_so_often =
+          λ s. let times = λ (value : Option Cap). times_in (option_to_list value) s in let nothing : times None ≡ 0 = refl in
+          omega (arith, is.kept_so_often s, nothing, held-insert times v.promises id None, ap (of_entry times) free);
+      imported_so_often = is.imported_so_often;
+    }
+
 module _ (v : ValueMaps) (kept imported h1 h2 : Holders) (came went : List Cap) (is : AreHeld v kept imported) where
-  pub held_kept : IsSame kept h2 → AreHeld v h2 imported
-  held_kept same = record { kept_so_often = λ s. same s ∙ is.kept_so_often s; imported_so_often = is.imported_so_often }
-
-  pub held_imported : IsSame imported h2 → AreHeld v kept h2
-  held_imported same = record { kept_so_often = is.kept_so_often; imported_so_often = λ s. same s ∙ is.imported_so_often s }
-
   module _ (less : IsLess h1 h2 (times_in went)) where
     module _ (more : IsMore kept h1 (times_in came)) where
       pub held-put_promise : (id : ℕ) (value : Option Cap) → came ≡ option_to_list value → went ≡ option_to_list (option_flatten (get v.promises id))

@@ -36,11 +36,6 @@ some_there (Some x) h = (x, refl)
 pub has_capacity-not_full : (n : ℕ) → n ≤ 65536 → n ≢ 65536 → ltb n 65536 ≡ true
 has_capacity-not_full n few other = grind (arith, nat_tests)
 
--- what was put, or not
-pub put_or_not : {A E V : Type 0} (P : V → Type 0) (r : Result A E) (old put new : V) → OnOk r (new ≡ put) → OnErr r (new ≡ old) → P put → P old → P new
-put_or_not P (Ok x) old put new ok err put_holds old_holds = rw ok put_holds
-put_or_not P (Err x) old put new ok err put_holds old_holds = rw err old_holds
-
 module _ {X : Type 0} where
   -- a number that is free in a table that isn't full is fresh
   pub is_fresh : (table : Table X) (n : ℕ) → get table n ≡ None → n < 2 ^ 32 → len table ≤ 65536 → len table ≢ 65536 → Fresh table (Ok n)

@@ -1,11 +1,10 @@
 //! What a vat is made of: exports with the way from a capability to them, waiting calls with what the
-//! gates gave that ended, values with the numbers of promises, marks and embargoes. Each part keeps
-//! its own invariant, and `Core` is all of them.
+//! gates gave that ended, what promises, imports, answers and questions came to, marks and embargoes.
+//! Each part keeps its own invariant, and `Core` is all of them.
 #![tactic(auto)]
 
 mod counted_calls;
 mod counted_embargoes;
-mod counted_values;
 mod counts;
 mod exports;
 mod gates;
@@ -17,8 +16,8 @@ mod own_promises;
 mod parts;
 mod path_marks;
 mod paths;
+mod resolutions;
 mod sought;
-mod values;
 
 pub use exports::{Exported, Hosted};
 pub use gates::{Gates, Gift, Next};
@@ -27,4 +26,4 @@ pub use marks::Marks;
 pub use own_promises::OwnPromises;
 pub use parts::Core;
 pub use path_marks::PathMarks;
-pub use values::NumberedValues;
+pub use resolutions::Resolutions;

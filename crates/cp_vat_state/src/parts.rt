@@ -8,7 +8,7 @@ use crate::exports::Exported;
 use crate::gates::Gates;
 use crate::marks::Marks;
 use crate::own_promises::OwnPromises;
-use crate::values::NumberedValues;
+use crate::resolutions::Resolutions;
 use cp_tables::{Answers, Imports, Questions};
 use cp_vat_machine::{AnswerEntry, ImportKind, QuestionEntry};
 use std::alloc::Global;
@@ -17,7 +17,7 @@ use std::alloc::Global;
 #[derive(Drop)]
 pub struct Core {
     pub alloc: Global,
-    pub values: NumberedValues,
+    pub values: Resolutions,
     pub questions: Questions<QuestionEntry>,
     pub answers: Answers<AnswerEntry>,
     pub own_promises: OwnPromises,
@@ -37,7 +37,7 @@ impl Core {
     {
         Core {
             alloc,
-            values: NumberedValues::new(alloc),
+            values: Resolutions::new(alloc),
             questions: Questions::new(alloc),
             answers: Answers::new(alloc),
             own_promises: OwnPromises::new(alloc),

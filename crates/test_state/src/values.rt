@@ -3,17 +3,17 @@
 use cp_refs::{Cap, KeptOutcome, Outcome, PromiseId, QuestionKind};
 use cp_tables::TableFault;
 use cp_vat_machine::PeerFault;
-use cp_vat_state::{Halt, NumberedValues, OwnPromises};
+use cp_vat_state::{Halt, OwnPromises, Resolutions};
 use std::alloc::Global;
 use std::process::Abort;
 
 /// Opens a promise.
-fn open(rt: &impl Abort, values: &mut NumberedValues) -> PromiseId {
+fn open(rt: &impl Abort, values: &mut Resolutions) -> PromiseId {
     values.open_promise().expect(rt, "a promise")
 }
 
 /// Settles a promise with an object.
-fn settle(rt: &impl Abort, values: &mut NumberedValues, id: PromiseId, object: u32) {
+fn settle(rt: &impl Abort, values: &mut Resolutions, id: PromiseId, object: u32) {
     if values.values().promise(id).is_some() {
         let settled = values.settle_promise(id, Cap::Object(object));
         settled.expect(rt, "memory");
@@ -21,18 +21,18 @@ fn settle(rt: &impl Abort, values: &mut NumberedValues, id: PromiseId, object: u
 }
 
 /// The promise is open.
-fn expect_open(rt: &impl Abort, values: &NumberedValues, id: PromiseId) {
+fn expect_open(rt: &impl Abort, values: &Resolutions, id: PromiseId) {
     check!(rt; matches!(values.values().promise(id), Some(None)));
 }
 
 /// The promise came to this object.
-fn expect_object(rt: &impl Abort, values: &NumberedValues, id: PromiseId, object: u32) {
+fn expect_object(rt: &impl Abort, values: &Resolutions, id: PromiseId, object: u32) {
     check!(rt; matches!(values.values().promise(id), Some(Some(Cap::Object(k))) if *k == object));
 }
 
 #[test]
 fn promises_are_numbered(rt: HostRuntime) {
-    let mut values = NumberedValues::new(rt.alloc());
+    let mut values = Resolutions::new(rt.alloc());
     let first = open(&rt, &mut values);
     let second = open(&rt, &mut values);
     check!(&rt; first != second);
@@ -46,23 +46,23 @@ fn promises_are_numbered(rt: HostRuntime) {
 }
 
 /// Puts what an import came to.
-fn put_import(rt: &impl Abort, values: &mut NumberedValues, id: u32, value: Option<Cap>) {
+fn put_import(rt: &impl Abort, values: &mut Resolutions, id: u32, value: Option<Cap>) {
     let put = values.put_import(id, value);
     put.expect(rt, "memory");
 }
 
 /// The import came to nothing yet.
-fn expect_no_value(rt: &impl Abort, values: &NumberedValues, id: u32) {
+fn expect_no_value(rt: &impl Abort, values: &Resolutions, id: u32) {
     check!(rt; matches!(values.values().import(id), Some(None)));
 }
 
 /// The import came to another one.
-fn expect_import(rt: &impl Abort, values: &NumberedValues, id: u32, other: u32) {
+fn expect_import(rt: &impl Abort, values: &Resolutions, id: u32, other: u32) {
     check!(rt; matches!(values.values().import(id), Some(Some(Cap::Import(k))) if *k == other));
 }
 
 /// An import may be open, and come to something.
-fn check_imports(rt: &impl Abort, values: &mut NumberedValues) {
+fn check_imports(rt: &impl Abort, values: &mut Resolutions) {
     put_import(rt, values, 5, None);
     expect_no_value(rt, values, 5);
     put_import(rt, values, 5, Some(Cap::Import(6)));
@@ -77,7 +77,7 @@ fn canceled(rt: &impl Abort, alloc: Global) -> KeptOutcome {
 }
 
 /// An answer came to something, until it is taken out.
-fn check_answers(rt: &impl Abort, alloc: Global, values: &mut NumberedValues) {
+fn check_answers(rt: &impl Abort, alloc: Global, values: &mut Resolutions) {
     let put = values.put_answer(5, Some(canceled(rt, alloc)));
     put.expect(rt, "memory");
     check!(rt; matches!(values.values().answer(5), Some(Some(_))));
@@ -87,27 +87,27 @@ fn check_answers(rt: &impl Abort, alloc: Global, values: &mut NumberedValues) {
 
 #[test]
 fn imports_and_answers_come_to_something(rt: HostRuntime) {
-    let mut values = NumberedValues::new(rt.alloc());
+    let mut values = Resolutions::new(rt.alloc());
     check_imports(&rt, &mut values);
     check_answers(&rt, rt.alloc(), &mut values);
     drop(values);
 }
 
 /// Settles a question, if it exists.
-fn cancel(rt: &impl Abort, alloc: Global, values: &mut NumberedValues, id: u32) {
+fn cancel(rt: &impl Abort, alloc: Global, values: &mut Resolutions, id: u32) {
     let settled = values.settle_question(id, canceled(rt, alloc));
     settled.expect(rt, "memory");
 }
 
 /// The question's messages are on the wire, and it is settled or not.
-fn expect_question(rt: &impl Abort, values: &NumberedValues, id: u32, is_settled: bool) {
+fn expect_question(rt: &impl Abort, values: &Resolutions, id: u32, is_settled: bool) {
     let question = values.values().question(id).expect(rt, "a question");
     check!(rt; question.kind == QuestionKind::Wire && question.outcome.is_some() == is_settled);
 }
 
 #[test]
 fn questions_come_to_something(rt: HostRuntime) {
-    let mut values = NumberedValues::new(rt.alloc());
+    let mut values = Resolutions::new(rt.alloc());
     let opened = values.open_question(5, QuestionKind::Wire);
     opened.expect(&rt, "memory");
     expect_question(&rt, &values, 5, false);

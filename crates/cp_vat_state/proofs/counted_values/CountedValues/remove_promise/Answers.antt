@@ -1,9 +1,0 @@
-use Rattle.std.proofs.Common.{option_to_list, ap, ◌∙◌}
-use Rattle.std.specs.Option.{option_flatten}
-use Rattle.cp_vat_state.proofs.Keeping.{held-remove_promise}
-use Rattle.cp_vat_state.proofs.counted_values.CountedValues.remove_promise.Goals as goal
-
-pub invariant_of-self : goal.invariant_of-self
-invariant_of-self c =
-    rw c.remove_promise.ensures.removed
-    (held-remove_promise c.self.inside.values c.self.inside.kept c.self.inside.imported c.lower_all.new.self c.caps_of_value.result.now c.self.invariant c.lower_all.ensures c.args.id (c.caps_of_value.ensures ∙ ap option_to_list c.flatten-old.ensures ∙ ap (λ o. option_to_list (option_flatten o)) c.remove_promise.ensures.value))

@@ -1,8 +1,0 @@
-use Rattle.std.proofs.Common.{Some}
-use Rattle.cp_vat_state.specs.Numbers.{AreNumbered}
-use Rattle.cp_vat_state.proofs.Numbering.{put_or_not, numbered-put}
-use Rattle.cp_vat_state.proofs.values.NumberedValues.settle_promise.Goals as goal
-
-pub invariant_of-self : goal.invariant_of-self
-invariant_of-self c =
-    put_or_not (λ v. AreNumbered v.promises c.self.inside.numbers) c.put_promise.result _ _ _ c.put_promise.ensures.put c.put_promise.ensures.err (numbered-put _ _ c.args.id (Some c.args.value) c.self.invariant (rw (← c.self.view_is) at c.requires)) c.self.invariant
