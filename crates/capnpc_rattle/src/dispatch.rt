@@ -1,12 +1,11 @@
 //! What passes calls on to the methods of objects.
 
-use crate::book::{Book, Named};
+use crate::book::Named;
 use crate::methods::Way;
 use crate::out::{Arg, Out};
 use crate::sheet::Sheet;
 use crate::structs::signature;
-use cp_types::{Node, NodeKind};
-use std::alloc::AllocError;
+use cp_types::Node;
 
 const CALL: &str = "
 /// Passes a call on to the method of an object that its interface and its number name.
@@ -15,25 +14,12 @@ pub fn dispatch_$1<T: $0Server>(
     object: &mut T,
     call: &Call,
 ) -> Result<Reply, AllocError>
-";
-
-const OWN_CLAUSE: &str =
-    "    ensures on_$4 { IsOf $2 $3 call.now → Passes T.$0Server.$8_gives object.old call.now result object.new }
-";
-
-const SUPER_CLAUSE: &str =
-    "    ensures on_$1_$4 { IsOf $2 $3 call.now → Passes T.$0Server.$8_gives object.old call.now result object.new }
-";
-
-const PAST_CLAUSE: &str =
-    "    ensures past_$1 { IsPast $2 $3 call.now → Refuses object.old call.now result object.new }
-";
-
-const CALL_BODY: &str = "{
+    ensures { IfOk result (λ reply. $2 object.old call.now reply object.new) }
+{
     match call.request.interface {
 ";
 
-const CALL_ARM: &str = "        $2 => dispatch_$1_method(alloc, object, call),
+const CALL_ARM: &str = "        $0 => dispatch_$1_method(alloc, object, call),
 ";
 
 const END: &str = "        _ => refuse(alloc, call, MethodFault::Unimplemented),
@@ -48,14 +34,7 @@ pub fn dispatch_$1_method<T: $0Server>(
     object: &mut T,
     call: &Call,
 ) -> Result<Reply, AllocError>
-";
-
-const METHOD_CLAUSE: &str =
-    "    ensures on_$4 { call.now.request.method ≡ $3 → Passes T.$0Server.$8_gives object.old call.now result object.new }
-";
-
-const METHODS_CLAUSE: &str =
-    "    ensures past { $3 ≤ call.now.request.method → Refuses object.old call.now result object.new }
+    ensures { IfOk result (λ reply. $0MethodTakes T.$1_kind object.old call.now reply object.new) }
 {
     match call.request.method {
 ";
@@ -77,7 +56,7 @@ const PASS_HEAD_WIDE: &str = "fn pass_$8<T: $0Server>(
 ) -> Result<Reply, AllocError>";
 
 const PASS_BODY: &str = "
-    ensures { Passes T.$0Server.$8_gives object.old call.now result object.new }
+    ensures { IfOk result (λ reply. Passes T.$1_kind.on_$8 object.old call.now reply object.new) }
 {
     match call.params() {
         Ok(body) => {
@@ -100,79 +79,43 @@ const PASS_END: &str = "
 /// What this code cites of other crates.
 const CITED: &str = "cp_stubs::MethodFault\ncp_stubs::refuse\n";
 
-/// Writes what passes calls on to the methods of an interface's objects.
+/// Writes what passes calls on to the methods of an interface's objects, whose calls this takes.
 pub fn dispatch<'b>(
-    book: &'b Book<'_>,
     sheet: &mut Sheet<'b>,
-    (node, named): (&'b Node, &'b Named),
-    ways: &[Way<'b>],
+    named: &'b Named,
+    family: &[(&'b Node, &'b Named)],
+    (ways, takes): (&[Way<'b>], &str),
 ) {
     sheet.libraries.put(CITED);
-    match family(book, (node, named)) {
-        Ok(family) => by_interface(book, sheet, named, family.as_slice()),
-        Err(_) => sheet.code.is_full = true,
-    }
+    by_interface(sheet, named, family, takes);
     by_number(sheet, named, ways);
     for way in ways {
         pass(sheet, way);
     }
 }
 
-/// An interface, and all that it extends.
-fn family<'b>(
-    book: &'b Book<'_>,
-    (node, named): (&'b Node, &'b Named),
-) -> Result<Vec<(&'b Node, &'b Named)>, AllocError> {
-    let mut all = Vec::new(book.alloc);
-    all.push((node, named))?;
-    for id in book.supers(node.id) {
-        if let (Some(node), Some(named)) = (book.schema.find(*id), book.find(*id)) {
-            all.push((node, named))?;
-        }
-    }
-    Ok(all)
-}
-
 /// Writes the function that passes a call on by its interface.
 fn by_interface<'b>(
-    book: &'b Book<'_>,
     sheet: &mut Sheet<'b>,
     named: &'b Named,
     family: &[(&'b Node, &'b Named)],
+    takes: &str,
 ) {
     let args = [
         Arg::Text(named.name.as_str()),
         Arg::Text(named.word.as_str()),
+        Arg::Text(takes),
     ];
     sheet.code.fill(CALL, &args);
     sheet.export("dispatch_$0", named.word.as_str());
-    let mut arms = Out::new(sheet.alloc);
-    let mut past = Out::new(sheet.alloc);
-    let mut elsewhere = Out::new(sheet.alloc);
     for (node, each) in family {
-        let count = on_each(book, sheet, named, (*node, *each));
-        let args = [
-            Arg::Text(each.name.as_str()),
-            Arg::Text(each.word.as_str()),
-            Arg::Hex(node.id),
-            Arg::Number(count),
-        ];
-        past.fill(PAST_CLAUSE, &args);
-        arms.fill(CALL_ARM, &args);
-        elsewhere.fill("$2 ∷ ", &args);
+        let args = [Arg::Hex(node.id), Arg::Text(each.word.as_str())];
+        sheet.code.fill(CALL_ARM, &args);
         if each.id != named.id {
             cite_methods(sheet, each);
         }
     }
-    let code = &mut sheet.code;
-    code.put(past.as_str());
-    code.put("    ensures elsewhere { IsElsewhere (");
-    code.put(elsewhere.as_str());
-    code.put("[]) call.now → Refuses object.old call.now result object.new }\n");
-    code.put(CALL_BODY);
-    code.put(arms.as_str());
-    code.put(END);
-    code.is_full |= past.is_full || arms.is_full || elsewhere.is_full;
+    sheet.code.put(END);
 }
 
 /// Imports what passes on the calls of an interface that is extended.
@@ -190,45 +133,16 @@ fn cite_methods(sheet: &mut Sheet<'_>, each: &Named) {
     }
 }
 
-/// Writes a clause for each method of an interface that an object of another one, or of this one, has. Gives their number.
-fn on_each<'b>(
-    book: &'b Book<'_>,
-    sheet: &mut Sheet<'b>,
-    named: &Named,
-    (node, each): (&'b Node, &'b Named),
-) -> u64 {
-    let NodeKind::Interface(of) = &node.kind else {
-        return 0;
-    };
-    let clause = if each.id == named.id {
-        OWN_CLAUSE
-    } else {
-        SUPER_CLAUSE
-    };
-    for (number, method) in of.methods.iter().enumerate() {
-        if let Ok(way) = Way::of(book, (node, each), (number, method)) {
-            sheet.code.fill(clause, &way.args());
-        }
-    }
-    of.methods.len() as u64
-}
-
 /// Writes the function that passes a call on by its number.
 fn by_number<'b>(sheet: &mut Sheet<'b>, named: &'b Named, ways: &[Way<'b>]) {
     let head = [
         Arg::Text(named.name.as_str()),
         Arg::Text(named.word.as_str()),
-        Arg::Text(""),
-        Arg::Number(ways.len() as u64),
     ];
     sheet.code.fill(METHODS, &head);
     let mut name = Out::new(sheet.alloc);
     name.fill("dispatch_$1_method", &head);
     sheet.export("$0", name.as_str());
-    for way in ways {
-        sheet.code.fill(METHOD_CLAUSE, &way.args());
-    }
-    sheet.code.fill(METHODS_CLAUSE, &head);
     for way in ways {
         sheet.code.fill(METHOD_ARM, &way.args());
     }

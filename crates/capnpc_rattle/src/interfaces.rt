@@ -1,8 +1,9 @@
-//! The code of interfaces: a typed client, a trait for objects, and what passes calls on to them.
+//! The code of interfaces: a typed client, a trait for objects, what these do, and what passes calls on to them.
 
 use crate::book::{Book, Named};
 use crate::clients::client;
 use crate::dispatch::dispatch;
+use crate::kinds::{family, kind, takes_of};
 use crate::methods::Way;
 use crate::servers::server;
 use crate::sheet::Sheet;
@@ -31,6 +32,25 @@ fn whole<'b>(
     ways: &[Way<'b>],
 ) {
     client(book, sheet, (node, named), of, ways);
-    server(book, sheet, (node, named), of, ways);
-    dispatch(book, sheet, (node, named), ways);
+    match family(book, (node, named)) {
+        Ok(family) => objects(book, sheet, of, family.as_slice(), ways),
+        Err(_) => sheet.code.is_full = true,
+    }
+}
+
+/// Writes what objects of an interface are, which stands first among all that it extends.
+fn objects<'b>(
+    book: &'b Book<'_>,
+    sheet: &mut Sheet<'b>,
+    of: &'b Interface,
+    family: &[(&'b Node, &'b Named)],
+    ways: &[Way<'b>],
+) {
+    if let Some((node, named)) = family.first() {
+        let takes = takes_of(sheet.alloc, named, family);
+        kind(sheet, named, family, ways);
+        server(book, sheet, (*node, *named), of, (ways, takes.as_str()));
+        dispatch(sheet, named, family, (ways, takes.as_str()));
+        sheet.code.is_full |= takes.is_full;
+    }
 }

@@ -18,6 +18,7 @@ mod drafts;
 mod enums;
 mod getters;
 mod interfaces;
+mod kinds;
 mod methods;
 mod names;
 mod out;

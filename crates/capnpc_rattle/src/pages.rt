@@ -77,11 +77,7 @@ impl Sheet<'_> {
     /// The text of the module's definitions.
     pub fn specs_text(&self, schema: &str) -> Out {
         let args = [Arg::Text(self.module), Arg::Text(schema)];
-        let mut text = Out::of(
-            self.alloc,
-            "-- The enums and unions of `$0` of $1.\n",
-            &args,
-        );
+        let mut text = Out::of(self.alloc, self.heading, &args);
         of_specs(self, &mut text);
         text.put(self.specs.as_str());
         text

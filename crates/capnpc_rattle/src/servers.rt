@@ -10,11 +10,9 @@ use cp_types::{Interface, Node};
 
 const TRAIT: &str = "
 /// An object of `interface $1`.
-pub trait $0Server: $2 {";
-
-const GIVES: &str = "
-    /// What a call of `$5` leads to.
-    ghost $8_gives: { Method Self } = { λ _ _ _ _ _. Unit {0} };
+pub trait $0Server: $2 {
+    /// What calls of its methods lead to. Of an object that doesn't say it nothing is known.
+    ghost $3_kind: { $0Kind Self } = { any_$3 };
 ";
 
 const METHOD: &str =
@@ -27,7 +25,7 @@ const METHOD_WIDE: &str = "    fn $4(
     ) -> Result<Answer<$7Draft>, MethodFault>";
 
 const METHOD_CLAUSE: &str = "
-        ensures { Gives (λ d. d.body) $8_gives self.old call.now params.now.body result self.new };
+        ensures { Gives (λ d. d.body) $1_kind.on_$8 self.old call.now params.now.body result self.new };
 ";
 
 const SERVANT: &str = "}
@@ -40,6 +38,8 @@ pub struct $0Servant<T: $0Server> {
 }
 
 impl<T: $0Server> Servant for $0Servant<T> {
+    ghost kind = { seen_as (λ s. s.object) (taking ($3) T.kind) };
+
     fn call(&mut self, ticket: u64, request: Request) -> Result<Reply, AllocError> {
         let call = Call { ticket, request };
         dispatch_$2(self.alloc, &mut self.object, &call)
@@ -77,27 +77,31 @@ std::alloc::AllocError
 std::alloc::Global
 ";
 
+/// The definitions that the glue cites.
+const WORDS: &str = "\
+ghost use Rattle.cp_servants.specs.Servant.{seen_as};
+ghost use Rattle.cp_stubs.specs.Objects.{taking};
+";
+
 /// What the methods of a trait cite of other crates.
 const METHODS_CITED: &str = "cp_stubs::Answer\ncp_stubs::MethodFault\n";
 
-/// Writes the trait of an interface's objects, and the glue by which they are served.
+/// Writes the trait of an interface's objects, and the glue by which they are served, whose calls this takes.
 pub fn server<'b>(
     book: &'b Book<'_>,
     sheet: &mut Sheet<'b>,
     (node, named): (&'b Node, &'b Named),
     of: &'b Interface,
-    ways: &[Way<'b>],
+    (ways, takes): (&[Way<'b>], &str),
 ) {
     let supers = supers(book, sheet, of);
     let head = [
         Arg::Text(named.name.as_str()),
         Arg::Text(node.name()),
         Arg::Text(supers.as_str()),
+        Arg::Text(named.word.as_str()),
     ];
     sheet.code.fill(TRAIT, &head);
-    for way in ways {
-        sheet.code.fill(GIVES, &way.args());
-    }
     for way in ways {
         method(book, sheet, node, way);
     }
@@ -105,9 +109,11 @@ pub fn server<'b>(
         Arg::Text(named.name.as_str()),
         Arg::Text(node.name()),
         Arg::Text(named.word.as_str()),
+        Arg::Text(takes),
     ];
     sheet.code.fill(SERVANT, &args);
     sheet.libraries.put(CITED);
+    sheet.cited.put(WORDS);
     sheet.export("$0Server", named.name.as_str());
     sheet.export("$0Servant", named.name.as_str());
 }

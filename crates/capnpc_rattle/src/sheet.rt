@@ -5,6 +5,9 @@ use crate::out::{Arg, Out};
 use std::alloc::Global;
 use std::mem;
 
+/// The first line of definitions of enums and unions.
+const HEADING: &str = "-- The enums and unions of `$0` of $1.\n";
+
 /// A module of a generated crate.
 #[derive(Drop)]
 pub struct Sheet<'b> {
@@ -16,6 +19,8 @@ pub struct Sheet<'b> {
     /// Its private functions, which come after all else.
     pub helpers: Out,
     pub specs: Out,
+    /// The first line of its definitions, a template of the module's name and that of the schema's file.
+    pub heading: &'static str,
     /// The types that it declares, by their paths, a line each.
     pub exports: Out,
     /// Its definitions that clauses cite.
@@ -44,6 +49,7 @@ impl<'b> Sheet<'b> {
             code: Out::new(alloc),
             helpers: Out::new(alloc),
             specs: Out::new(alloc),
+            heading: HEADING,
             exports: Out::new(alloc),
             words: Out::new(alloc),
             imports: Out::new(alloc),

@@ -57,10 +57,9 @@ const LIBRARY: [Module; 13] = [
     (
         "cp_stubs.specs.Dispatch",
         &[
+            "Anything",
             "Gives",
             "IsElsewhere",
-            "IsOf",
-            "IsPast",
             "Method",
             "Passes",
             "Refuses",
@@ -142,7 +141,7 @@ const SIZES: &str = "Rattle.cp_words.specs.declared.pointer.ElementSize.TheVaria
 /// Whether a text has a word, comments aside.
 fn has_word(text: &str, word: &str) -> bool {
     for line in text.lines() {
-        if !line.trim_start().starts_with("///") && line_has(line, word) {
+        if !is_comment(line) && line_has(line, word) {
             return true;
         }
     }
@@ -152,11 +151,17 @@ fn has_word(text: &str, word: &str) -> bool {
 /// Whether a text has a part, comments aside.
 fn has_part(text: &str, part: &str) -> bool {
     for line in text.lines() {
-        if !line.trim_start().starts_with("///") && line.contains(part) {
+        if !is_comment(line) && line.contains(part) {
             return true;
         }
     }
     false
+}
+
+/// Whether a line is a comment of code or of definitions.
+fn is_comment(line: &str) -> bool {
+    let line = line.trim_start();
+    line.starts_with("///") || line.starts_with("--")
 }
 
 /// Whether a line has a word: letters, digits and underscores, with none of these beside them.

@@ -1,6 +1,5 @@
 -- What a method does for a call, and what a call comes to that no method takes.
-use Rattle.std.specs.Prelude.{◌≡◌, ◌≢◌, ℕ, ◌≤◌, List, [], ◌∷◌, Some, Result, Ok, Err, IfSome, IfOk}
-use Rattle.std.specs.declared.alloc.AllocError.{AllocError}
+use Rattle.std.specs.Prelude.{◌≡◌, ◌≢◌, ℕ, List, [], ◌∷◌, Some, Result, Ok, Err, IfSome}
 use Rattle.cp_tree.specs.Node.{Node}
 use Rattle.cp_fields.specs.Pointers.{struct_field}
 use Rattle.cp_fields.specs.declared.kind.WrongKind.{WrongKind}
@@ -15,17 +14,13 @@ use Rattle.cp_stubs.specs.Replies.{reply_to, refusal_of}
 abbrev pub Method : Type 0 → Type 1
 Method S = S → Call → Node → Reply → S → Type 0
 
+-- what a method may do of which the object says nothing
+abbrev pub Anything : {S : Type 0} → Method S
+Anything old call params reply new = Unit {0}
+
 -- A method was called with these params, and answered this: its relation holds of what goes to the peer for that. Nothing is said where memory ran out.
 abbrev pub Gives : {S A : Type 0} → (A → Node) → Method S → S → Call → Node → Result (Answer A) MethodFault → S → Type 0
 Gives content method old call params answered new = IfSome (reply_to content call.request.caps answered) (λ reply. method old call params reply new)
-
--- a call of this method of this interface
-abbrev pub IsOf : ℕ → ℕ → Call → Type 0
-IsOf interface method call = (call.request.interface ≡ interface) × (call.request.method ≡ method)
-
--- a call of this interface, whose methods have the numbers below this one, of another method
-abbrev pub IsPast : ℕ → ℕ → Call → Type 0
-IsPast interface methods call = (call.request.interface ≡ interface) × (methods ≤ call.request.method)
 
 -- a call of none of these interfaces
 abbrev pub IsElsewhere : List ℕ → Call → Type 0
@@ -36,15 +31,15 @@ IsElsewhere (interface ∷ more) call = (call.request.interface ≢ interface) �
 abbrev pub Fails : {S : Type 0} → MethodFault → S → Call → Reply → S → Type 0
 Fails fault old call reply new = (refusal_of call.request.caps fault ≡ Some reply) × (new ≡ old)
 
--- A call that no method takes is answered unimplemented, and the object is as it was. Nothing is said where memory ran out.
-abbrev pub Refuses : {S : Type 0} → S → Call → Result Reply AllocError → S → Type 0
-Refuses old call result new = IfOk result (λ reply. Fails faults.Unimplemented old call reply new)
+-- a call that no method takes is answered unimplemented, and the object is as it was
+abbrev pub Refuses : {S : Type 0} → S → Call → Reply → S → Type 0
+Refuses old call reply new = Fails faults.Unimplemented old call reply new
 
 -- a call with these params was passed on to a method; params that are no struct fail it
 abbrev pub PassesTo : {S : Type 0} → Method S → S → Call → Result Node WrongKind → Reply → S → Type 0
 PassesTo method old call (Ok params) reply new = method old call params reply new
 PassesTo method old call (Err fault) reply new = Fails (faults.WrongKind fault) old call reply new
 
--- A call was passed on to a method. Nothing is said where memory ran out.
-abbrev pub Passes : {S : Type 0} → Method S → S → Call → Result Reply AllocError → S → Type 0
-Passes method old call result new = IfOk result (λ reply. PassesTo method old call (struct_field call.request.content) reply new)
+-- a call was passed on to a method
+abbrev pub Passes : {S : Type 0} → Method S → S → Call → Reply → S → Type 0
+Passes method old call reply new = PassesTo method old call (struct_field call.request.content) reply new

@@ -1,5 +1,6 @@
 pub mod Replies
 pub mod Dispatch
+pub mod Objects
 pub mod Promises
 pub mod Calls
 pub mod Payloads

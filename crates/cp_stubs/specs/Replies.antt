@@ -6,7 +6,6 @@ use Rattle.cp_rpc.specs.declared.exception.Exception.{Exception}
 use Rattle.cp_rpc.specs.declared.exception.ExceptionKind.TheVariants as kinds
 use Rattle.cp_refs.specs.declared.cap.Cap.{Cap}
 use Rattle.cp_refs.specs.declared.cap.Cap.TheVariants as caps
-use Rattle.cp_refs.specs.declared.outcome.Outcome.{Outcome}
 use Rattle.cp_refs.specs.declared.outcome.Outcome.TheVariants as outcomes
 use Rattle.cp_fields.specs.declared.text.TextFault.{TextFault}
 use Rattle.cp_fields.specs.declared.text.TextFault.TheVariants as texts

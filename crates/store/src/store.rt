@@ -1,8 +1,11 @@
 //! `store` of store.capnp.
 
-ghost use Rattle.std.specs.Prelude.{◌≡◌, ◌≤◌, ◌∷◌, []};
+ghost use Rattle.std.specs.Prelude.{◌≡◌, IfOk, []};
 ghost use Rattle.cp_stubs.specs.Calls.{Makes, request_of};
-ghost use Rattle.cp_stubs.specs.Dispatch.{Gives, IsElsewhere, IsOf, IsPast, Method, Passes, Refuses};
+ghost use Rattle.cp_stubs.specs.Dispatch.{Gives, Passes};
+ghost use Rattle.cp_servants.specs.Servant.{seen_as};
+ghost use Rattle.cp_stubs.specs.Objects.{taking};
+ghost use Rattle.store.specs.Store.{StoreKind, StoreMethodTakes, StoreTakes, any_store};
 
 use crate::store_get_params::{StoreGetParamsDraft, StoreGetParamsView};
 use crate::store_get_results::{StoreGetResultsDraft, StoreGetResultsPromise};
@@ -80,11 +83,8 @@ impl StoreClient {
 
 /// An object of `interface Store`.
 pub trait StoreServer: Object {
-    /// What a call of `put` leads to.
-    ghost put_gives: { Method Self } = { λ _ _ _ _ _. Unit {0} };
-
-    /// What a call of `get` leads to.
-    ghost get_gives: { Method Self } = { λ _ _ _ _ _. Unit {0} };
+    /// What calls of its methods lead to. Of an object that doesn't say it nothing is known.
+    ghost store_kind: { StoreKind Self } = { any_store };
 
     /// Keeps a text under a key, in place of the one before.
     fn put(
@@ -92,7 +92,7 @@ pub trait StoreServer: Object {
         call: &Call,
         params: &StorePutParamsView<'_>,
     ) -> Result<Answer<StorePutResultsDraft>, MethodFault>
-        ensures { Gives (λ d. d.body) put_gives self.old call.now params.now.body result self.new };
+        ensures { Gives (λ d. d.body) store_kind.on_put self.old call.now params.now.body result self.new };
 
     /// The text of a key, or none.
     fn get(
@@ -100,7 +100,7 @@ pub trait StoreServer: Object {
         call: &Call,
         params: &StoreGetParamsView<'_>,
     ) -> Result<Answer<StoreGetResultsDraft>, MethodFault>
-        ensures { Gives (λ d. d.body) get_gives self.old call.now params.now.body result self.new };
+        ensures { Gives (λ d. d.body) store_kind.on_get self.old call.now params.now.body result self.new };
 }
 
 /// An object of `interface Store`, as a connection serves it.
@@ -111,6 +111,8 @@ pub struct StoreServant<T: StoreServer> {
 }
 
 impl<T: StoreServer> Servant for StoreServant<T> {
+    ghost kind = { seen_as (λ s. s.object) (taking (StoreTakes T.store_kind) T.kind) };
+
     fn call(&mut self, ticket: u64, request: Request) -> Result<Reply, AllocError> {
         let call = Call { ticket, request };
         dispatch_store(self.alloc, &mut self.object, &call)
@@ -139,10 +141,7 @@ pub fn dispatch_store<T: StoreServer>(
     object: &mut T,
     call: &Call,
 ) -> Result<Reply, AllocError>
-    ensures on_put { IsOf 0xea2f6e3bf233ec72 0 call.now → Passes T.StoreServer.put_gives object.old call.now result object.new }
-    ensures on_get { IsOf 0xea2f6e3bf233ec72 1 call.now → Passes T.StoreServer.get_gives object.old call.now result object.new }
-    ensures past_store { IsPast 0xea2f6e3bf233ec72 2 call.now → Refuses object.old call.now result object.new }
-    ensures elsewhere { IsElsewhere (0xea2f6e3bf233ec72 ∷ []) call.now → Refuses object.old call.now result object.new }
+    ensures { IfOk result (λ reply. StoreTakes T.store_kind object.old call.now reply object.new) }
 {
     match call.request.interface {
         0xea2f6e3bf233ec72 => dispatch_store_method(alloc, object, call),
@@ -156,9 +155,7 @@ pub fn dispatch_store_method<T: StoreServer>(
     object: &mut T,
     call: &Call,
 ) -> Result<Reply, AllocError>
-    ensures on_put { call.now.request.method ≡ 0 → Passes T.StoreServer.put_gives object.old call.now result object.new }
-    ensures on_get { call.now.request.method ≡ 1 → Passes T.StoreServer.get_gives object.old call.now result object.new }
-    ensures past { 2 ≤ call.now.request.method → Refuses object.old call.now result object.new }
+    ensures { IfOk result (λ reply. StoreMethodTakes T.store_kind object.old call.now reply object.new) }
 {
     match call.request.method {
         0 => pass_put(alloc, object, call),
@@ -169,7 +166,7 @@ pub fn dispatch_store_method<T: StoreServer>(
 
 /// Passes a call of `put` on.
 fn pass_put<T: StoreServer>(alloc: Global, object: &mut T, call: &Call) -> Result<Reply, AllocError>
-    ensures { Passes T.StoreServer.put_gives object.old call.now result object.new }
+    ensures { IfOk result (λ reply. Passes T.store_kind.on_put object.old call.now reply object.new) }
 {
     match call.params() {
         Ok(body) => {
@@ -183,7 +180,7 @@ fn pass_put<T: StoreServer>(alloc: Global, object: &mut T, call: &Call) -> Resul
 
 /// Passes a call of `get` on.
 fn pass_get<T: StoreServer>(alloc: Global, object: &mut T, call: &Call) -> Result<Reply, AllocError>
-    ensures { Passes T.StoreServer.get_gives object.old call.now result object.new }
+    ensures { IfOk result (λ reply. Passes T.store_kind.on_get object.old call.now reply object.new) }
 {
     match call.params() {
         Ok(body) => {
