@@ -1,0 +1,4 @@
+pub mod Directory
+pub mod Friend
+pub mod Named
+pub mod Watcher

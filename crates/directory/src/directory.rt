@@ -1,8 +1,11 @@
 //! `directory` of directory.capnp.
 
-ghost use Rattle.std.specs.Prelude.{◌≡◌, IfOk, ◌≤◌, ◌∷◌, []};
+ghost use Rattle.std.specs.Prelude.{◌≡◌, IfOk, []};
 ghost use Rattle.cp_stubs.specs.Calls.{Makes, request_of};
-ghost use Rattle.cp_stubs.specs.Dispatch.{Gives, IsElsewhere, IsOf, IsPast, Method, Passes, Refuses};
+ghost use Rattle.cp_stubs.specs.Dispatch.{Gives, Passes};
+ghost use Rattle.cp_servants.specs.Servant.{seen_as};
+ghost use Rattle.cp_stubs.specs.Objects.{taking};
+ghost use Rattle.directory.specs.Directory.{DirectoryKind, DirectoryMethodTakes, DirectoryTakes, any_directory};
 
 use crate::directory_add_params::{DirectoryAddParamsDraft, DirectoryAddParamsView};
 use crate::directory_add_results::{DirectoryAddResultsDraft, DirectoryAddResultsPromise};
@@ -118,14 +121,8 @@ impl DirectoryClient {
 
 /// An object of `interface Directory`.
 pub trait DirectoryServer: NamedServer {
-    /// What a call of `find` leads to.
-    ghost find_gives: { Method Self } = { λ _ _ _ _ _. Unit {0} };
-
-    /// What a call of `add` leads to.
-    ghost add_gives: { Method Self } = { λ _ _ _ _ _. Unit {0} };
-
-    /// What a call of `watch` leads to.
-    ghost watch_gives: { Method Self } = { λ _ _ _ _ _. Unit {0} };
+    /// What calls of its methods lead to. Of an object that doesn't say it nothing is known.
+    ghost directory_kind: { DirectoryKind Self } = { any_directory };
 
     /// The person of this name.
     fn find(
@@ -133,7 +130,7 @@ pub trait DirectoryServer: NamedServer {
         call: &Call,
         params: &DirectoryFindParamsView<'_>,
     ) -> Result<Answer<DirectoryFindResultsDraft>, MethodFault>
-        ensures { Gives (λ d. d.body) find_gives self.old call.now params.now.body result self.new };
+        ensures { Gives (λ d. d.body) directory_kind.on_find self.old call.now params.now.body result self.new };
 
     /// Adds a person, and says how many there are.
     fn add(
@@ -141,7 +138,7 @@ pub trait DirectoryServer: NamedServer {
         call: &Call,
         params: &DirectoryAddParamsView<'_>,
     ) -> Result<Answer<DirectoryAddResultsDraft>, MethodFault>
-        ensures { Gives (λ d. d.body) add_gives self.old call.now params.now.body result self.new };
+        ensures { Gives (λ d. d.body) directory_kind.on_add self.old call.now params.now.body result self.new };
 
     /// Has a watcher told of each person that is added from now on.
     fn watch(
@@ -149,7 +146,7 @@ pub trait DirectoryServer: NamedServer {
         call: &Call,
         params: &DirectoryWatchParamsView<'_>,
     ) -> Result<Answer<DirectoryWatchResultsDraft>, MethodFault>
-        ensures { Gives (λ d. d.body) watch_gives self.old call.now params.now.body result self.new };
+        ensures { Gives (λ d. d.body) directory_kind.on_watch self.old call.now params.now.body result self.new };
 }
 
 /// An object of `interface Directory`, as a connection serves it.
@@ -160,6 +157,8 @@ pub struct DirectoryServant<T: DirectoryServer> {
 }
 
 impl<T: DirectoryServer> Servant for DirectoryServant<T> {
+    ghost kind = { seen_as (λ s. s.object) (taking (DirectoryTakes T.directory_kind T.named_kind) T.kind) };
+
     fn call(&mut self, ticket: u64, request: Request) -> Result<Reply, AllocError> {
         let call = Call { ticket, request };
         dispatch_directory(self.alloc, &mut self.object, &call)
@@ -188,13 +187,7 @@ pub fn dispatch_directory<T: DirectoryServer>(
     object: &mut T,
     call: &Call,
 ) -> Result<Reply, AllocError>
-    ensures on_find { IsOf 0x9514fc2e86d0c4a5 0 call.now → Passes T.DirectoryServer.find_gives object.old call.now result object.new }
-    ensures on_add { IsOf 0x9514fc2e86d0c4a5 1 call.now → Passes T.DirectoryServer.add_gives object.old call.now result object.new }
-    ensures on_watch { IsOf 0x9514fc2e86d0c4a5 2 call.now → Passes T.DirectoryServer.watch_gives object.old call.now result object.new }
-    ensures on_named_name { IsOf 0xbffed73d640ec5ac 0 call.now → Passes T.NamedServer.name_gives object.old call.now result object.new }
-    ensures past_directory { IsPast 0x9514fc2e86d0c4a5 3 call.now → Refuses object.old call.now result object.new }
-    ensures past_named { IsPast 0xbffed73d640ec5ac 1 call.now → Refuses object.old call.now result object.new }
-    ensures elsewhere { IsElsewhere (0x9514fc2e86d0c4a5 ∷ 0xbffed73d640ec5ac ∷ []) call.now → Refuses object.old call.now result object.new }
+    ensures { IfOk result (λ reply. DirectoryTakes T.directory_kind T.named_kind object.old call.now reply object.new) }
 {
     match call.request.interface {
         0x9514fc2e86d0c4a5 => dispatch_directory_method(alloc, object, call),
@@ -209,10 +202,7 @@ pub fn dispatch_directory_method<T: DirectoryServer>(
     object: &mut T,
     call: &Call,
 ) -> Result<Reply, AllocError>
-    ensures on_find { call.now.request.method ≡ 0 → Passes T.DirectoryServer.find_gives object.old call.now result object.new }
-    ensures on_add { call.now.request.method ≡ 1 → Passes T.DirectoryServer.add_gives object.old call.now result object.new }
-    ensures on_watch { call.now.request.method ≡ 2 → Passes T.DirectoryServer.watch_gives object.old call.now result object.new }
-    ensures past { 3 ≤ call.now.request.method → Refuses object.old call.now result object.new }
+    ensures { IfOk result (λ reply. DirectoryMethodTakes T.directory_kind object.old call.now reply object.new) }
 {
     match call.request.method {
         0 => pass_find(alloc, object, call),
@@ -228,7 +218,7 @@ fn pass_find<T: DirectoryServer>(
     object: &mut T,
     call: &Call,
 ) -> Result<Reply, AllocError>
-    ensures { Passes T.DirectoryServer.find_gives object.old call.now result object.new }
+    ensures { IfOk result (λ reply. Passes T.directory_kind.on_find object.old call.now reply object.new) }
 {
     match call.params() {
         Ok(body) => {
@@ -246,7 +236,7 @@ fn pass_add<T: DirectoryServer>(
     object: &mut T,
     call: &Call,
 ) -> Result<Reply, AllocError>
-    ensures { Passes T.DirectoryServer.add_gives object.old call.now result object.new }
+    ensures { IfOk result (λ reply. Passes T.directory_kind.on_add object.old call.now reply object.new) }
 {
     match call.params() {
         Ok(body) => {
@@ -264,7 +254,7 @@ fn pass_watch<T: DirectoryServer>(
     object: &mut T,
     call: &Call,
 ) -> Result<Reply, AllocError>
-    ensures { Passes T.DirectoryServer.watch_gives object.old call.now result object.new }
+    ensures { IfOk result (λ reply. Passes T.directory_kind.on_watch object.old call.now reply object.new) }
 {
     match call.params() {
         Ok(body) => {

@@ -1,8 +1,11 @@
 //! `friend` of directory.capnp.
 
-ghost use Rattle.std.specs.Prelude.{◌≡◌, ◌≤◌, ◌∷◌, []};
+ghost use Rattle.std.specs.Prelude.{◌≡◌, IfOk, []};
 ghost use Rattle.cp_stubs.specs.Calls.{Makes, request_of};
-ghost use Rattle.cp_stubs.specs.Dispatch.{Gives, IsElsewhere, IsOf, IsPast, Method, Passes, Refuses};
+ghost use Rattle.cp_stubs.specs.Dispatch.{Gives, Passes};
+ghost use Rattle.cp_servants.specs.Servant.{seen_as};
+ghost use Rattle.cp_stubs.specs.Objects.{taking};
+ghost use Rattle.directory.specs.Friend.{FriendKind, FriendMethodTakes, FriendTakes, any_friend};
 
 use crate::friend_greet_params::{FriendGreetParamsDraft, FriendGreetParamsView};
 use crate::friend_greet_results::{FriendGreetResultsDraft, FriendGreetResultsPromise};
@@ -56,8 +59,8 @@ impl FriendClient {
 
 /// An object of `interface Friend`.
 pub trait FriendServer: Object {
-    /// What a call of `greet` leads to.
-    ghost greet_gives: { Method Self } = { λ _ _ _ _ _. Unit {0} };
+    /// What calls of its methods lead to. Of an object that doesn't say it nothing is known.
+    ghost friend_kind: { FriendKind Self } = { any_friend };
 
     /// `greet @0`.
     fn greet(
@@ -65,7 +68,7 @@ pub trait FriendServer: Object {
         call: &Call,
         params: &FriendGreetParamsView<'_>,
     ) -> Result<Answer<FriendGreetResultsDraft>, MethodFault>
-        ensures { Gives (λ d. d.body) greet_gives self.old call.now params.now.body result self.new };
+        ensures { Gives (λ d. d.body) friend_kind.on_greet self.old call.now params.now.body result self.new };
 }
 
 /// An object of `interface Friend`, as a connection serves it.
@@ -76,6 +79,8 @@ pub struct FriendServant<T: FriendServer> {
 }
 
 impl<T: FriendServer> Servant for FriendServant<T> {
+    ghost kind = { seen_as (λ s. s.object) (taking (FriendTakes T.friend_kind) T.kind) };
+
     fn call(&mut self, ticket: u64, request: Request) -> Result<Reply, AllocError> {
         let call = Call { ticket, request };
         dispatch_friend(self.alloc, &mut self.object, &call)
@@ -104,9 +109,7 @@ pub fn dispatch_friend<T: FriendServer>(
     object: &mut T,
     call: &Call,
 ) -> Result<Reply, AllocError>
-    ensures on_greet { IsOf 0x894dfe56aa40455e 0 call.now → Passes T.FriendServer.greet_gives object.old call.now result object.new }
-    ensures past_friend { IsPast 0x894dfe56aa40455e 1 call.now → Refuses object.old call.now result object.new }
-    ensures elsewhere { IsElsewhere (0x894dfe56aa40455e ∷ []) call.now → Refuses object.old call.now result object.new }
+    ensures { IfOk result (λ reply. FriendTakes T.friend_kind object.old call.now reply object.new) }
 {
     match call.request.interface {
         0x894dfe56aa40455e => dispatch_friend_method(alloc, object, call),
@@ -120,8 +123,7 @@ pub fn dispatch_friend_method<T: FriendServer>(
     object: &mut T,
     call: &Call,
 ) -> Result<Reply, AllocError>
-    ensures on_greet { call.now.request.method ≡ 0 → Passes T.FriendServer.greet_gives object.old call.now result object.new }
-    ensures past { 1 ≤ call.now.request.method → Refuses object.old call.now result object.new }
+    ensures { IfOk result (λ reply. FriendMethodTakes T.friend_kind object.old call.now reply object.new) }
 {
     match call.request.method {
         0 => pass_greet(alloc, object, call),
@@ -135,7 +137,7 @@ fn pass_greet<T: FriendServer>(
     object: &mut T,
     call: &Call,
 ) -> Result<Reply, AllocError>
-    ensures { Passes T.FriendServer.greet_gives object.old call.now result object.new }
+    ensures { IfOk result (λ reply. Passes T.friend_kind.on_greet object.old call.now reply object.new) }
 {
     match call.params() {
         Ok(body) => {

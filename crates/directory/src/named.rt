@@ -1,8 +1,11 @@
 //! `named` of directory.capnp.
 
-ghost use Rattle.std.specs.Prelude.{◌≡◌, ◌≤◌, ◌∷◌, []};
+ghost use Rattle.std.specs.Prelude.{◌≡◌, IfOk, []};
 ghost use Rattle.cp_stubs.specs.Calls.{Makes, request_of};
-ghost use Rattle.cp_stubs.specs.Dispatch.{Gives, IsElsewhere, IsOf, IsPast, Method, Passes, Refuses};
+ghost use Rattle.cp_stubs.specs.Dispatch.{Gives, Passes};
+ghost use Rattle.cp_servants.specs.Servant.{seen_as};
+ghost use Rattle.cp_stubs.specs.Objects.{taking};
+ghost use Rattle.directory.specs.Named.{NamedKind, NamedMethodTakes, NamedTakes, any_named};
 
 use crate::named_name_params::{NamedNameParamsDraft, NamedNameParamsView};
 use crate::named_name_results::{NamedNameResultsDraft, NamedNameResultsPromise};
@@ -56,8 +59,8 @@ impl NamedClient {
 
 /// An object of `interface Named`.
 pub trait NamedServer: Object {
-    /// What a call of `name` leads to.
-    ghost name_gives: { Method Self } = { λ _ _ _ _ _. Unit {0} };
+    /// What calls of its methods lead to. Of an object that doesn't say it nothing is known.
+    ghost named_kind: { NamedKind Self } = { any_named };
 
     /// `name @0`.
     fn name(
@@ -65,7 +68,7 @@ pub trait NamedServer: Object {
         call: &Call,
         params: &NamedNameParamsView<'_>,
     ) -> Result<Answer<NamedNameResultsDraft>, MethodFault>
-        ensures { Gives (λ d. d.body) name_gives self.old call.now params.now.body result self.new };
+        ensures { Gives (λ d. d.body) named_kind.on_name self.old call.now params.now.body result self.new };
 }
 
 /// An object of `interface Named`, as a connection serves it.
@@ -76,6 +79,8 @@ pub struct NamedServant<T: NamedServer> {
 }
 
 impl<T: NamedServer> Servant for NamedServant<T> {
+    ghost kind = { seen_as (λ s. s.object) (taking (NamedTakes T.named_kind) T.kind) };
+
     fn call(&mut self, ticket: u64, request: Request) -> Result<Reply, AllocError> {
         let call = Call { ticket, request };
         dispatch_named(self.alloc, &mut self.object, &call)
@@ -104,9 +109,7 @@ pub fn dispatch_named<T: NamedServer>(
     object: &mut T,
     call: &Call,
 ) -> Result<Reply, AllocError>
-    ensures on_name { IsOf 0xbffed73d640ec5ac 0 call.now → Passes T.NamedServer.name_gives object.old call.now result object.new }
-    ensures past_named { IsPast 0xbffed73d640ec5ac 1 call.now → Refuses object.old call.now result object.new }
-    ensures elsewhere { IsElsewhere (0xbffed73d640ec5ac ∷ []) call.now → Refuses object.old call.now result object.new }
+    ensures { IfOk result (λ reply. NamedTakes T.named_kind object.old call.now reply object.new) }
 {
     match call.request.interface {
         0xbffed73d640ec5ac => dispatch_named_method(alloc, object, call),
@@ -120,8 +123,7 @@ pub fn dispatch_named_method<T: NamedServer>(
     object: &mut T,
     call: &Call,
 ) -> Result<Reply, AllocError>
-    ensures on_name { call.now.request.method ≡ 0 → Passes T.NamedServer.name_gives object.old call.now result object.new }
-    ensures past { 1 ≤ call.now.request.method → Refuses object.old call.now result object.new }
+    ensures { IfOk result (λ reply. NamedMethodTakes T.named_kind object.old call.now reply object.new) }
 {
     match call.request.method {
         0 => pass_name(alloc, object, call),
@@ -135,7 +137,7 @@ fn pass_name<T: NamedServer>(
     object: &mut T,
     call: &Call,
 ) -> Result<Reply, AllocError>
-    ensures { Passes T.NamedServer.name_gives object.old call.now result object.new }
+    ensures { IfOk result (λ reply. Passes T.named_kind.on_name object.old call.now reply object.new) }
 {
     match call.params() {
         Ok(body) => {

@@ -1,8 +1,11 @@
 //! `watcher` of directory.capnp.
 
-ghost use Rattle.std.specs.Prelude.{◌≡◌, ◌≤◌, ◌∷◌, []};
+ghost use Rattle.std.specs.Prelude.{◌≡◌, IfOk};
 ghost use Rattle.cp_stubs.specs.Calls.{Makes, request_of};
-ghost use Rattle.cp_stubs.specs.Dispatch.{Gives, IsElsewhere, IsOf, IsPast, Method, Passes, Refuses};
+ghost use Rattle.cp_stubs.specs.Dispatch.{Gives, Passes};
+ghost use Rattle.cp_servants.specs.Servant.{seen_as};
+ghost use Rattle.cp_stubs.specs.Objects.{taking};
+ghost use Rattle.directory.specs.Watcher.{WatcherKind, WatcherMethodTakes, WatcherTakes, any_watcher};
 
 use crate::watcher_added_params::{WatcherAddedParamsDraft, WatcherAddedParamsView};
 use cp_refs::{Cap, Outcome, Request};
@@ -60,8 +63,8 @@ impl WatcherClient {
 
 /// An object of `interface Watcher`.
 pub trait WatcherServer: Object {
-    /// What a call of `added` leads to.
-    ghost added_gives: { Method Self } = { λ _ _ _ _ _. Unit {0} };
+    /// What calls of its methods lead to. Of an object that doesn't say it nothing is known.
+    ghost watcher_kind: { WatcherKind Self } = { any_watcher };
 
     /// `added @0`.
     fn added(
@@ -69,7 +72,7 @@ pub trait WatcherServer: Object {
         call: &Call,
         params: &WatcherAddedParamsView<'_>,
     ) -> Result<Answer<StreamResultDraft>, MethodFault>
-        ensures { Gives (λ d. d.body) added_gives self.old call.now params.now.body result self.new };
+        ensures { Gives (λ d. d.body) watcher_kind.on_added self.old call.now params.now.body result self.new };
 }
 
 /// An object of `interface Watcher`, as a connection serves it.
@@ -80,6 +83,8 @@ pub struct WatcherServant<T: WatcherServer> {
 }
 
 impl<T: WatcherServer> Servant for WatcherServant<T> {
+    ghost kind = { seen_as (λ s. s.object) (taking (WatcherTakes T.watcher_kind) T.kind) };
+
     fn call(&mut self, ticket: u64, request: Request) -> Result<Reply, AllocError> {
         let call = Call { ticket, request };
         dispatch_watcher(self.alloc, &mut self.object, &call)
@@ -108,9 +113,7 @@ pub fn dispatch_watcher<T: WatcherServer>(
     object: &mut T,
     call: &Call,
 ) -> Result<Reply, AllocError>
-    ensures on_added { IsOf 0xf860f7ea5357d1bb 0 call.now → Passes T.WatcherServer.added_gives object.old call.now result object.new }
-    ensures past_watcher { IsPast 0xf860f7ea5357d1bb 1 call.now → Refuses object.old call.now result object.new }
-    ensures elsewhere { IsElsewhere (0xf860f7ea5357d1bb ∷ []) call.now → Refuses object.old call.now result object.new }
+    ensures { IfOk result (λ reply. WatcherTakes T.watcher_kind object.old call.now reply object.new) }
 {
     match call.request.interface {
         0xf860f7ea5357d1bb => dispatch_watcher_method(alloc, object, call),
@@ -124,8 +127,7 @@ pub fn dispatch_watcher_method<T: WatcherServer>(
     object: &mut T,
     call: &Call,
 ) -> Result<Reply, AllocError>
-    ensures on_added { call.now.request.method ≡ 0 → Passes T.WatcherServer.added_gives object.old call.now result object.new }
-    ensures past { 1 ≤ call.now.request.method → Refuses object.old call.now result object.new }
+    ensures { IfOk result (λ reply. WatcherMethodTakes T.watcher_kind object.old call.now reply object.new) }
 {
     match call.request.method {
         0 => pass_added(alloc, object, call),
@@ -139,7 +141,7 @@ fn pass_added<T: WatcherServer>(
     object: &mut T,
     call: &Call,
 ) -> Result<Reply, AllocError>
-    ensures { Passes T.WatcherServer.added_gives object.old call.now result object.new }
+    ensures { IfOk result (λ reply. Passes T.watcher_kind.on_added object.old call.now reply object.new) }
 {
     match call.params() {
         Ok(body) => {

@@ -11,14 +11,17 @@ pub struct Counter {
     pub count: u64,
 }
 
-impl Object for Counter {}
+impl Object for Counter {
+    ghost use Rattle.cp_stubs.specs.Objects.{still};
+
+    ghost kind = { still };
+}
 
 impl WatcherServer for Counter {
-    ghost use Rattle.cp_tree.specs.Seen.{pointee_of};
-    ghost use Rattle.cp_fields.specs.Pointers.{struct_field};
+    ghost use Rattle.directory.specs.Watcher.{any_watcher};
     ghost use Rattle.test_stubs.specs.Counter.{Counts};
 
-    ghost added_gives = { λ old call params reply new. Counts old.count (struct_field (pointee_of params 0)) new.count };
+    ghost watcher_kind = { record any_watcher { on_added = λ old call params reply new. Counts old.count params new.count } };
 
     fn added(
         &mut self,

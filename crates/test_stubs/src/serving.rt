@@ -1,5 +1,7 @@
 //! Objects that are called through the glue.
 
+ghost use Rattle.std.specs.Prelude.{◌≡◌};
+
 use crate::counter::Counter;
 use crate::shelf::Shelf;
 use cp_refs::{Cap, Caps, Outcome, Request};
@@ -138,8 +140,11 @@ fn methods_answer_now_or_later(rt: HostRuntime) {
     check!(&rt; named.is_some_and(|ids| ids.ids().is_empty()));
 }
 
-/// How many a counter has counted that was told of one person. What it is told is a call by the glue.
-fn counted(rt: &impl Abort, alloc: Global) -> u64 {
+/// How many a counter has counted that was told of one person, by the glue, and polled then. That it is one follows from the
+/// counter's kind alone.
+fn counted(rt: &impl Abort, alloc: Global) -> u64
+    ensures { result ≡ 1 }
+{
     let mut watcher = WatcherServant {
         alloc,
         object: Counter { alloc, count: 0 },
@@ -149,6 +154,8 @@ fn counted(rt: &impl Abort, alloc: Global) -> u64 {
     let request = client.added_request(params, Table::new(alloc));
     let reply = watcher.call(1, request).expect(rt, "memory");
     drop(reply);
+    let settled = watcher.poll().expect(rt, "memory");
+    drop(settled);
     watcher.object.count
 }
 
