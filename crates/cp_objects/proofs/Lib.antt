@@ -1,2 +1,4 @@
+pub mod Counting
+pub mod Holding
 pub mod Living
 pub mod Working

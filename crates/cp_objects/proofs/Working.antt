@@ -1,5 +1,5 @@
 -- How work goes on.
-use Rattle.std.proofs.Common.{◌≡◌, ◌↔◌, ◌<◌, ◌+◌, ℕ, drop, get_or, add-one, List, [], ◌++◌, Option, Some, None, IsSome, Bool, true, false, IsTrue, ◌||◌, Result, Ok, Err, OnOk, refl, sym, ap, ◌∙◌, length}
+use Rattle.std.proofs.Common.{◌≡◌, ◌↔◌, ◌<◌, ◌+◌, ℕ, drop, get_or, add-one, List, [], Option, Some, None, IsSome, Bool, true, false, IsTrue, ◌||◌, Result, Ok, Err, OnOk, refl, sym, ap, ◌∙◌, length}
 use Rattle.std.proofs.lemmas.Bool.{false≢true}
 use Rattle.std.proofs.Math.Seq.{drop-cons}
 use Rattle.std.specs.FinMap.{get, remove}
@@ -13,7 +13,7 @@ use Rattle.cp_servants.specs.declared.servant.Settled.{Settled}
 use Rattle.cp_servants.specs.Servant.{Kind}
 use Rattle.cp_objects.specs.declared.asker.Asker.{Asker}
 use Rattle.cp_objects.specs.declared.notice.Notice.TheVariants as notices
-use Rattle.cp_objects.specs.Work.{Work, Answers, IsDone, Notes, Tries, TriesEach}
+use Rattle.cp_objects.specs.Work.{Work, Answers, GivesUp, IsDone, LetsGo, Notes, TriesEach, TriesUnheld}
 use Rattle.cp_objects.specs.Calling.{HandsBack, to_user, to_object, Hears, MakesCalls}
 use Rattle.cp_objects.specs.Rounds.{Settles, is_stranger, is_awaited, PollsFrom, WorksOff, none_left}
 
@@ -32,11 +32,10 @@ pub settles_stranger : (old : Work) (w : Option Settled) (settled : Settled) (a 
 settles_stranger old w settled a e none r =
     rw (e, r, ← is_remove old.awaited old.awaited settled.ticket none (λ q h. refl)) (is_stranger settled none)
 
-pub settles_awaited : (old : Work) (w : Option Settled) (settled : Settled) (origin : Origin) (link : Link) (a : Table Origin) {new : Work} → w ≡ Some settled
-    → get old.awaited settled.ticket ≡ Some origin → a ≡ remove old.awaited settled.ticket → Answers old.link origin settled.outcome link
-    → new ≡ record old { link = link; awaited = a; given_up = old.given_up ++ settled.gives_up } → Settles old w true new
-settles_awaited old w settled origin link a e got r answers p =
-    rw e (is_awaited settled origin link got answers (p ∙ ap (λ (t : Table Origin). record old { link = link; awaited = t; given_up = old.given_up ++ settled.gives_up }) r))
+pub settles_awaited : (old : Work) (w : Option Settled) (settled : Settled) (origin : Origin) (link : Link) (a : Table Origin) (mid : Work) {new : Work} → w ≡ Some settled
+    → get old.awaited settled.ticket ≡ Some origin → a ≡ remove old.awaited settled.ticket → GivesUp settled.gives_up (record old { awaited = a }) mid
+    → Answers mid.link origin settled.outcome link → new ≡ record mid { link = link } → Settles old w true new
+settles_awaited old w settled origin link a mid e got r gives answers same = rw e (is_awaited settled origin link {mid = mid} got (rw r at gives) answers same)
 
 -- nothing more was given
 pub so_far : {A : Type 0} {kind : Kind A} {place : ℕ} {old new : Work} {objects others : List A} (gave : Bool) → PollsFrom kind place old (gave || false) new objects others
@@ -44,8 +43,13 @@ pub so_far : {A : Type 0} {kind : Kind A} {place : ℕ} {old new : Work} {object
 so_far true h = h
 so_far false h = h
 
+-- one is given up, and then the others
+pub gives_next : (items : List ℕ) (i d : ℕ) {old mid : Work} (last : Work) → i < length items → LetsGo (get_or items i d) old mid → GivesUp (drop (i + 1) items) mid last
+    → GivesUp (drop i items) old last
+gives_next items i d {mid = mid} last h let_go rest = rw (drop-cons items i d h) (mid, let_go, rw add-one at rest)
+
 -- one is tried, and then the others
-pub tries_next : (items : List ℕ) (i d : ℕ) {old mid : Work} (last : Work) → i < length items → Tries old (get_or items i d) mid → TriesEach mid (drop (i + 1) items) last
+pub tries_next : (items : List ℕ) (i d : ℕ) {old mid : Work} (last : Work) → i < length items → TriesUnheld old (get_or items i d) mid → TriesEach mid (drop (i + 1) items) last
     → TriesEach old (drop i items) last
 tries_next items i d {mid = mid} last h tried rest = rw (drop-cons items i d h) (mid, tried, rw add-one at rest)
 
@@ -58,9 +62,9 @@ pub hands_to_user : {A : Type 0} {kind : Kind A} (old : Work) (asked : Table Ask
 hands_to_user old asked question outcome none r noted =
     to_user none (rw (r, ← is_remove old.asked old.asked question none (λ q h. refl)) at noted) refl
 
-pub hands_to_object : {A : Type 0} {kind : Kind A} (old : Work) (asked : Table Asker) (question : ℕ) (outcome : Outcome) (asker : Asker) (link : Link) {new : Work}
+pub hands_to_object : {A : Type 0} {kind : Kind A} (old : Work) (asked : Table Asker) (question : ℕ) (outcome : Outcome) (asker : Asker) (link : Link) {told new : Work}
     {objects between others : List A}
     → get old.asked question ≡ Some asker → asked ≡ remove old.asked question → IsDone old.link (events.Finish question) link
-    → Hears kind asker.place asker.mark outcome objects between → MakesCalls kind asker.place (record old { link = link; asked = asked }) new between others
+    → Hears kind asker.place asker.mark outcome (record old { link = link; asked = asked }) told objects between → MakesCalls kind asker.place told new between others
     → HandsBack kind question outcome old new objects others
-hands_to_object old asked question outcome asker link got r done heard calls = to_object asker link got done heard (rw r at calls)
+hands_to_object old asked question outcome asker link got r done heard calls = to_object asker link got done (rw r at heard) calls

@@ -2,6 +2,7 @@
 use Rattle.std.specs.Prelude.{◌≡◌, ◌⊎◌, ℕ, ◌≤◌, true, false, IsSome, List, Option, Some, None, Ok, Err, length}
 use Rattle.std.specs.FinMap.{get, insert, remove}
 use Rattle.cp_refs.specs.declared.outcome.Outcome.{Outcome}
+use Rattle.cp_vat_machine.specs.InUse.{caps_of}
 use Rattle.cp_vat_machine.specs.declared.event.Event.TheVariants as events
 use Rattle.cp_vat_machine.specs.declared.event.Value.TheVariants as values
 use Rattle.cp_vat_machine.specs.declared.fault.VatFault.{VatFault}
@@ -14,7 +15,7 @@ use Rattle.cp_objects.specs.declared.notice.Notice.TheVariants as notices
 use Rattle.cp_servants.specs.declared.servant.Ask.{Ask}
 use Rattle.cp_servants.specs.Outcomes.{refused_call}
 use Rattle.cp_servants.specs.Servant.{Kind, AsksAt, TellsAt}
-use Rattle.cp_objects.specs.Work.{Work, IsDone, IsEnd, Notes}
+use Rattle.cp_objects.specs.Work.{Work, Holds, IsDone, IsEnd, Notes}
 
 -- why the object at this place isn't asked for calls: none may be made, or there is no such object, or the connection ended
 abbrev pub IsUnasked : {A : Type 0} → ℕ → Work → List A → Type 0
@@ -22,10 +23,10 @@ IsUnasked place work objects = (work.may_call ≡ false) ⊎ ((length objects �
 
 -- Of objects of one kind.
 module _ {A : Type 0} (kind : Kind A) where
-  -- The object at this place is told what its call of this mark came to; past the objects nobody is.
-  pub data Hears (place mark : ℕ) (outcome : Outcome) (objects others : List A) : Type 0 where
-    by_object : TellsAt kind place mark outcome objects others → Hears place mark outcome objects others
-    by_none : length objects ≤ place → others ≡ objects → Hears place mark outcome objects others
+  -- The object at this place is told what its call of this mark came to, and is given the capabilities of that; past the objects nobody is.
+  pub data Hears (place mark : ℕ) (outcome : Outcome) (old new : Work) (objects others : List A) : Type 0 where
+    by_object : Holds (caps_of outcome) old new → TellsAt kind place mark outcome objects others → Hears place mark outcome old new objects others
+    by_none : length objects ≤ place → new ≡ old → others ≡ objects → Hears place mark outcome old new objects others
 
   -- The object at this place says which call it makes next. If it isn't asked, it makes none.
   pub data NextCall (place : ℕ) (work : Work) (ask : Option Ask) (objects others : List A) : Type 0 where
@@ -38,7 +39,7 @@ module _ {A : Type 0} (kind : Kind A) where
     is_made : (question : ℕ) (link : Link) → Acts old.link (events.Call ask.cap ask.request) (Ok (values.Question question)) link
         → new ≡ record old { link = link; asked = insert old.asked question (record { place = place; mark = ask.mark }) } → others ≡ objects → MakesCall place ask old new objects others
     is_refused : (refusal : VatFault) (link : Link) → Acts old.link (events.Call ask.cap ask.request) (Err (faults.Refused refusal)) link
-        → new ≡ record old { link = link } → Hears place ask.mark refused_call objects others → MakesCall place ask old new objects others
+        → Hears place ask.mark refused_call (record old { link = link }) new objects others → MakesCall place ask old new objects others
     had_ended : (fault : ConnectionFault) (link : Link) → IsEnd fault → Acts old.link (events.Call ask.cap ask.request) (Err fault) link
         → new ≡ record old { link = link } → others ≡ objects → MakesCall place ask old new objects others
 
@@ -51,6 +52,6 @@ module _ {A : Type 0} (kind : Kind A) where
   -- An outcome is handed back: to the object whose call it is of, whose question is finished, and which may make calls then; or it is noted for the user.
   pub data HandsBack (question : ℕ) (outcome : Outcome) (old new : Work) (objects others : List A) : Type 0 where
     to_user : get old.asked question ≡ None → Notes (notices.Settled question outcome) old new → others ≡ objects → HandsBack question outcome old new objects others
-    to_object : {between : List A} (asker : Asker) (link : Link) → get old.asked question ≡ Some asker → IsDone old.link (events.Finish question) link
-        → Hears asker.place asker.mark outcome objects between → MakesCalls asker.place (record old { link = link; asked = remove old.asked question }) new between others
-        → HandsBack question outcome old new objects others
+    to_object : {told : Work} {between : List A} (asker : Asker) (link : Link) → get old.asked question ≡ Some asker → IsDone old.link (events.Finish question) link
+        → Hears asker.place asker.mark outcome (record old { link = link; asked = remove old.asked question }) told objects between
+        → MakesCalls asker.place told new between others → HandsBack question outcome old new objects others

@@ -1,3 +1,4 @@
+pub mod Holders
 pub mod Work
 pub mod Calling
 pub mod Rounds

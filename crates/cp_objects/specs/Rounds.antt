@@ -1,5 +1,5 @@
 -- What a connection asks of its objects, and what they give.
-use Rattle.std.specs.Prelude.{◌≡◌, ℕ, ◌+◌, ◌≤◌, Bool, true, false, ◌||◌, IsSome, List, [], ◌∷◌, ◌++◌, Option, Some, None, length}
+use Rattle.std.specs.Prelude.{◌≡◌, ℕ, ◌+◌, ◌≤◌, Bool, true, false, ◌||◌, IsSome, List, [], ◌∷◌, Option, Some, None, length}
 use Rattle.std.specs.FinMap.{get, remove}
 use Rattle.cp_refs.specs.declared.call.Origin.{Origin}
 use Rattle.cp_refs.specs.declared.call.Request.{Request}
@@ -14,28 +14,29 @@ use Rattle.cp_servants.specs.declared.servant.Reply.TheVariants as replies
 use Rattle.cp_servants.specs.declared.servant.Settled.{Settled}
 use Rattle.cp_servants.specs.Outcomes.{no_such_object}
 use Rattle.cp_servants.specs.Servant.{Kind, CallsAt, PollsAt}
-use Rattle.cp_objects.specs.Work.{Work, Answers, Notes, Replies, Releases}
+use Rattle.cp_objects.specs.Work.{Work, Answers, GivesUp, Holds, Notes, Replies, Releases}
 use Rattle.cp_objects.specs.Calling.{HandsBack, MakesCalls}
 
--- What a poll gave settles a call that is awaited, and the imports that the object gives up are noted. A ticket that isn't awaited is dropped.
+-- What a poll gave settles a call that is awaited, once the object gave imports up. A ticket that isn't awaited is dropped.
 pub data Settles (old : Work) : Option Settled → Bool → Work → Type 0 where
   gives_none : Settles old None false old
   is_stranger : (settled : Settled) → get old.awaited settled.ticket ≡ None → Settles old (Some settled) false old
-  is_awaited : (settled : Settled) (origin : Origin) (link : Link) {new : Work} → get old.awaited settled.ticket ≡ Some origin → Answers old.link origin settled.outcome link
-      → new ≡ record old { link = link; awaited = remove old.awaited settled.ticket; given_up = old.given_up ++ settled.gives_up } → Settles old (Some settled) true new
+  is_awaited : (settled : Settled) (origin : Origin) (link : Link) {mid new : Work} → get old.awaited settled.ticket ≡ Some origin
+      → GivesUp settled.gives_up (record old { awaited = remove old.awaited settled.ticket }) mid → Answers mid.link origin settled.outcome link
+      → new ≡ record mid { link = link } → Settles old (Some settled) true new
 
 -- Of objects of one kind.
 module _ {A : Type 0} (kind : Kind A) where
-  -- The object at this place is called, and replies this; past the objects the call fails.
-  pub data Gives (k ticket : ℕ) (call : Request) (reply : Reply) (objects others : List A) : Type 0 where
-    by_object : CallsAt kind k ticket call reply objects others → Gives k ticket call reply objects others
-    by_none : length objects ≤ k → reply ≡ replies.Now no_such_object [] → others ≡ objects → Gives k ticket call reply objects others
+  -- The object at this place is called, so it is given the call's capabilities, and replies this; past the objects the call fails.
+  pub data Gives (k ticket : ℕ) (call : Request) (reply : Reply) (old new : Work) (objects others : List A) : Type 0 where
+    by_object : Holds call.caps old new → CallsAt kind k ticket call reply objects others → Gives k ticket call reply old new objects others
+    by_none : length objects ≤ k → reply ≡ replies.Now no_such_object [] → new ≡ old → others ≡ objects → Gives k ticket call reply old new objects others
 
   -- What a happening asks is done: a call goes to its object, whose reply counts, and which may make calls then; an outcome is handed back; and that the vat
   -- closed is noted.
   abbrev pub Handles : Happening → Work → Work → List A → List A → Type 0
   Handles (happenings.Delivered k origin ticket call) old new objects others =
-      (reply : Reply) × (mid : Work) × (between : List A) × Gives k ticket call reply objects between × Replies old origin ticket reply mid
+      (reply : Reply) × (called mid : Work) × (between : List A) × Gives k ticket call reply old called objects between × Replies called origin ticket reply mid
       × MakesCalls kind k mid new between others
   Handles (happenings.Settled question outcome) old new objects others = HandsBack kind question outcome old new objects others
   Handles (happenings.Closed reason) old new objects others = Notes (notices.Closed reason) old new × (others ≡ objects)

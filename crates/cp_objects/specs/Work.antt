@@ -1,8 +1,9 @@
 -- A connection, with what is still to be done for its objects.
-use Rattle.std.specs.Prelude.{◌≡◌, ◌≢◌, ℕ, Bool, List, [], ◌∷◌, ◌++◌, Result, Ok, Err}
-use Rattle.std.specs.FinMap.{insert, empty}
+use Rattle.std.specs.Prelude.{◌≡◌, ◌≢◌, ℕ, ◌<◌, ◌≤◌, ◌-◌, Bool, if◌then◌else◌, List, [], ◌∷◌, ◌++◌, Result, Ok, Err}
+use Rattle.std.specs.FinMap.{insert, remove, empty}
 use Rattle.cp_tables.specs.Table.{Table}
 use Rattle.cp_refs.specs.declared.call.Origin.{Origin}
+use Rattle.cp_refs.specs.declared.cap.Cap.{Cap}
 use Rattle.cp_refs.specs.declared.outcome.Outcome.{Outcome}
 use Rattle.cp_vat_machine.specs.declared.event.Event.{Event}
 use Rattle.cp_vat_machine.specs.declared.event.Event.TheVariants as events
@@ -20,21 +21,23 @@ use Rattle.cp_objects.specs.declared.asker.Asker.{Asker}
 use Rattle.cp_objects.specs.declared.notice.Notice.{Notice}
 use Rattle.cp_servants.specs.declared.servant.Reply.{Reply}
 use Rattle.cp_servants.specs.declared.servant.Reply.TheVariants as replies
-use Rattle.cp_servants.specs.Outcomes.{bad_outcome}
+use Rattle.cp_servants.specs.Outcomes.{bad_outcome, named_imports}
+use Rattle.cp_objects.specs.Holders.{holders, held_by_more}
 
--- The connection, whether objects may call, the calls whose objects answer later, by their tickets, the calls that objects made, by their questions, the
--- imports that objects gave up, and what is no object's business and wasn't taken.
+-- The connection, whether objects may call, the calls whose objects answer later, by their tickets, the calls that objects made, by their questions, how many
+-- objects hold each import, the imports that objects gave up and that none held then, and what is no object's business and wasn't taken.
 pub record Work : Type 0 where
   pub link : Link
   pub may_call : Bool
   pub awaited : Table Origin
   pub asked : Table Asker
+  pub held : Table ℕ
   pub given_up : List ℕ
   pub notices : List Notice
 
 -- nothing is owed yet
 abbrev pub begun : Bool → Link → Work
-begun may_call link = record { link = link; may_call = may_call; awaited = empty; asked = empty; given_up = []; notices = [] }
+begun may_call link = record { link = link; may_call = may_call; awaited = empty; asked = empty; held = empty; given_up = []; notices = [] }
 
 -- Of the connection nothing was done but calls of the application, and that it was asked what happened: no byte of the peer was taken, and none written.
 abbrev pub Lives : Link → Link → Type 0
@@ -44,9 +47,23 @@ Lives old new = (handed : List Happening) × Life old [] [] handed new
 abbrev pub Notes : Notice → Work → Work → Type 0
 Notes notice old new = new ≡ record old { notices = old.notices ++ notice ∷ [] }
 
--- imports more were given up
+-- An object is given these capabilities. Where objects may call, each import that they name has a holder more.
+abbrev pub Holds : List Cap → Work → Work → Type 0
+Holds caps old new = new ≡ record old { held = if old.may_call then held_by_more old.held (named_imports caps) else old.held }
+
+-- an import more is to be released
+abbrev pub Frees : ℕ → Work → Work → Type 0
+Frees i old new = new ≡ record old { given_up = old.given_up ++ i ∷ [] }
+
+-- An object gives an import up. If others hold it, there is one holder less; and else it is held no more, and is to be released.
+pub data LetsGo (i : ℕ) (old new : Work) : Type 0 where
+  others_hold : 1 < holders old.held i → new ≡ record old { held = insert old.held i (holders old.held i - 1) } → LetsGo i old new
+  none_holds : holders old.held i ≤ 1 → Frees i (record old { held = remove old.held i }) new → LetsGo i old new
+
+-- an object gives imports up, one after another
 abbrev pub GivesUp : List ℕ → Work → Work → Type 0
-GivesUp imports old new = new ≡ record old { given_up = old.given_up ++ imports }
+GivesUp [] old new = new ≡ old
+GivesUp (i ∷ more) old new = (mid : Work) × LetsGo i old mid × GivesUp more mid new
 
 -- memory sufficed
 abbrev pub HadMemory : Result Value ConnectionFault → Type 0
@@ -74,15 +91,15 @@ pub data Answers (old : Link) (origin : Origin) (outcome : Outcome) (new : Link)
   is_replaced : (refusal : VatFault) (mid : Link) → Acts old (events.Answer origin outcome) (Err (faults.Refused refusal)) mid
       → IsDone mid (events.Answer origin bad_outcome) new → Answers old origin outcome new
 
--- What follows an object's answer to a call: at once the call is answered, and the imports that the object gives up are noted; later it is awaited.
+-- What follows an object's answer to a call: at once the object gives imports up, and the call is answered; later it is awaited.
 abbrev pub Replies : Work → Origin → ℕ → Reply → Work → Type 0
 Replies old origin ticket (replies.Now outcome gives_up) new =
-    (link : Link) × Answers old.link origin outcome link × (new ≡ record old { link = link; given_up = old.given_up ++ gives_up })
+    (mid : Work) × (link : Link) × GivesUp gives_up old mid × Answers mid.link origin outcome link × (new ≡ record mid { link = link })
 Replies old origin ticket replies.Later new = new ≡ record old { awaited = insert old.awaited ticket origin }
 
 -- An import whose release was refused stays if it is still in use, and else is dropped.
 pub data Stays (i : ℕ) (refusal : VatFault) (old new : Work) : Type 0 where
-  is_used : refusal ≡ refusals.InUse → GivesUp (i ∷ []) old new → Stays i refusal old new
+  is_used : refusal ≡ refusals.InUse → Frees i old new → Stays i refusal old new
   is_dropped : refusal ≢ refusals.InUse → new ≡ old → Stays i refusal old new
 
 -- An import that was given up is tried: it is released; or that is refused; or the connection had ended, and it is dropped.
@@ -93,11 +110,16 @@ pub data Tries (old : Work) (i : ℕ) (new : Work) : Type 0 where
   had_ended : (fault : ConnectionFault) (link : Link) → IsEnd fault → Acts old.link (events.Release i) (Err fault) link → new ≡ record old { link = link }
       → Tries old i new
 
+-- An import that was given up is tried; but where an object holds it again it is dropped, until that gives it up.
+pub data TriesUnheld (old : Work) (i : ℕ) (new : Work) : Type 0 where
+  is_held : 1 ≤ holders old.held i → new ≡ old → TriesUnheld old i new
+  is_free : holders old.held i ≡ 0 → Tries old i new → TriesUnheld old i new
+
 -- imports are tried one after another
 abbrev pub TriesEach : Work → List ℕ → Work → Type 0
 TriesEach old [] new = new ≡ old
-TriesEach old (i ∷ more) new = (mid : Work) × Tries old i mid × TriesEach mid more new
+TriesEach old (i ∷ more) new = (mid : Work) × TriesUnheld old i mid × TriesEach mid more new
 
--- all imports that were given up are tried, and those that are still in use stay
+-- All imports that were given up are tried, but for those that are held again. Those that are still in use stay.
 abbrev pub Releases : Work → Work → Type 0
 Releases old new = TriesEach (record old { given_up = [] }) old.given_up new

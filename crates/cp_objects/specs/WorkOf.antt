@@ -4,4 +4,12 @@ use Rattle.cp_objects.specs.declared.objects.Objects.{Objects}
 use Rattle.cp_objects.specs.Work.{Work}
 
 abbrev pub work_of : Objects → Link → Work
-work_of o link = record { link = link; may_call = o.may_call; awaited = o.awaited; asked = o.asked; given_up = o.given_up.items; notices = o.notices.items }
+work_of o link = record {
+  link = link;
+  may_call = o.may_call;
+  awaited = o.awaited;
+  asked = o.asked;
+  held = o.holders.counts;
+  given_up = o.given_up.items;
+  notices = o.notices.items;
+}

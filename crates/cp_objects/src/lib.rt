@@ -2,6 +2,7 @@
 #![tactic(auto)]
 
 mod asker;
+mod holders;
 mod notice;
 mod objects;
 

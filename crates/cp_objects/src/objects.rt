@@ -1,21 +1,23 @@
 //! What is done for the objects of a connection.
 
-ghost use Rattle.std.specs.Prelude.{◌≡◌, ◌∷◌, ◌↔◌, [], true, false, IfOk, IsSome, IsTrue, OnOk};
+ghost use Rattle.std.specs.Prelude.{◌≡◌, ◌↔◌, true, false, IfOk, IsSome, IsTrue, OnOk};
+ghost use Rattle.cp_vat_machine.specs.InUse.{caps_of};
 ghost use Rattle.cp_vat_machine.specs.declared.event.Event.TheVariants as events;
 ghost use Rattle.cp_connection.specs.Link.{Link};
 ghost use Rattle.cp_servants.specs.Outcomes.{bad_outcome};
-ghost use Rattle.cp_objects.specs.Work.{begun, Answers, GivesUp, IsDone, Lives, Notes, Releases, Replies, Stays, Tries};
+ghost use Rattle.cp_objects.specs.Work.{begun, Answers, Frees, GivesUp, Holds, IsDone, LetsGo, Lives, Notes, Releases, Replies, Stays, Tries, TriesUnheld};
 ghost use Rattle.cp_objects.specs.Calling.{HandsBack, Hears, MakesCall, MakesCalls, NextCall};
 ghost use Rattle.cp_objects.specs.Rounds.{Gives, Handles, HandsOver, PollsFrom, Rounds, Settles, WorksOff};
 ghost use Rattle.cp_objects.specs.WorkOf.{work_of};
 
 use crate::asker::Asker;
+use crate::holders::Holders;
 use crate::notice::Notice;
 use cp_connection::{Connection, ConnectionFault, Happening};
-use cp_refs::{Origin, Outcome, Request};
+use cp_refs::{Caps, Origin, Outcome, Request};
 use cp_servants::{
-    Ask, Awaited, Reply, Servant, Settled, ask_at, bad_outcome, call_at, no_such_object, poll_at,
-    refused_call, tell_at,
+    Ask, Awaited, Reply, Servant, Settled, ask_at, bad_outcome, call_at, named_imports,
+    no_such_object, poll_at, refused_call, tell_at,
 };
 use cp_tables::Entries;
 use cp_vat_machine::{Ids, VatFault};
@@ -51,10 +53,17 @@ use std::mem;
 /// that the object got. What a call came to goes to its object (`Servant::told`), and the question is finished; it is no
 /// notice. Where the vat refuses the call, the object is told of the exception `call refused`.
 ///
+/// So an object may keep an import that others were given too. Made by `that_call`, it counts the holders of each import:
+/// an object holds one once for each call, and each outcome of its own calls, whose table names it. The import is
+/// released when it was given up as often. What you yourself hold or release isn't counted. Made by `new`, it counts
+/// none, and the first object that gives an import up releases it.
+///
 /// # Errors, and what each leaves
 ///
 /// `AllocError` says that memory ran out: for the connection, which ended then; for an object; or here. A call may be
 /// lost by it, so close the connection. What was done with the connection before is what its contract says (Lives).
+/// Where memory runs out as holders are counted, the object wasn't called or told, and holds only some of the imports, or
+/// none.
 pub struct Objects {
     alloc: Global,
     /// Whether objects may call.
@@ -62,7 +71,8 @@ pub struct Objects {
     awaited: Awaited,
     /// The calls that objects made, by their questions.
     asked: Entries<Asker>,
-    /// The imports that objects gave up, until they are released.
+    holders: Holders,
+    /// The imports that objects gave up and that none held then, until they are released.
     given_up: Vec<u32>,
     /// What is no object's business, in order.
     notices: VecDeque<Notice>,
@@ -76,6 +86,7 @@ impl Drop for Objects {
             may_call: _,
             awaited: _,
             asked: _,
+            holders: _,
             given_up: _,
             notices: _,
         } = self;
@@ -150,6 +161,7 @@ impl Objects {
             may_call,
             awaited: Awaited::new(alloc),
             asked: Entries::new(alloc),
+            holders: Holders::new(alloc),
             given_up: Vec::new(alloc),
             notices: VecDeque::new(alloc),
         }
@@ -173,7 +185,7 @@ impl Objects {
                 call,
             } => {
                 let place = object as usize;
-                let reply = reply_of(self.alloc, objects, place, ticket, call)?;
+                let reply = self.reply_of(objects, place, ticket, call)?;
                 self.reply(connection, origin, ticket, reply)?;
                 self.make_calls(connection, objects, place)
             }
@@ -207,7 +219,7 @@ impl Objects {
             return self.note(Notice::Settled { question, outcome });
         };
         finish(connection, question)?;
-        tell(objects, asker.place, asker.mark, outcome)?;
+        self.tell(objects, asker.place, asker.mark, outcome)?;
         self.make_calls(connection, objects, asker.place)
     }
 
@@ -264,7 +276,10 @@ impl Objects {
         };
         match fault {
             ConnectionFault::OutOfMemory => Err(AllocError),
-            ConnectionFault::Refused(_) => tell(objects, place, mark, refused_call(self.alloc)?),
+            ConnectionFault::Refused(_) => {
+                let outcome = refused_call(self.alloc)?;
+                self.tell(objects, place, mark, outcome)
+            }
             ConnectionFault::Closed => Ok(()),
             ConnectionFault::Unreadable { .. } => Ok(()),
         }
@@ -290,11 +305,85 @@ impl Objects {
         }
     }
 
-    /// Notes imports that were given up.
+    /// What the object at a place replies to a call, whose capabilities it is given; past the objects the call fails.
+    fn reply_of<O: Servant>(
+        &mut self,
+        objects: &mut [O],
+        place: usize,
+        ticket: u64,
+        request: Request,
+    ) -> Result<Reply, AllocError>
+        ensures { IfOk result (λ reply. (link : Link) → Gives O.kind place ticket request reply (work_of self.old link) (work_of self.new link) objects.old objects.new) }
+    {
+        if place < objects.len() {
+            self.hold(&request.caps)?;
+            let reply = call_at(objects, place, ticket, request)?;
+            return Ok(reply);
+        }
+        Ok(Reply::Now {
+            outcome: no_such_object(self.alloc)?,
+            gives_up: Ids::new(Vec::new(self.alloc)),
+        })
+    }
+
+    /// Tells the object at a place what a call of its own came to, whose capabilities it is given. Past the objects
+    /// nobody is told.
+    fn tell<O: Servant>(
+        &mut self,
+        objects: &mut [O],
+        place: usize,
+        mark: u64,
+        outcome: Outcome,
+    ) -> Result<(), AllocError>
+        ensures { OnOk result ((link : Link) → Hears O.kind place mark outcome (work_of self.old link) (work_of self.new link) objects.old objects.new) }
+    {
+        if place < objects.len() {
+            self.hold_given(&outcome)?;
+            return tell_at(objects, place, mark, outcome);
+        }
+        Ok(())
+    }
+
+    /// Notes that an object is given what an outcome gives.
+    fn hold_given(&mut self, outcome: &Outcome) -> Result<(), AllocError>
+        ensures { OnOk result ((link : Link) → Holds (caps_of outcome.now) (work_of self.old link) (work_of self.new link)) }
+    {
+        match outcome {
+            Outcome::Results { caps, .. } => self.hold(caps),
+            Outcome::Failed(_) => Ok(()),
+            Outcome::Canceled => Ok(()),
+        }
+    }
+
+    /// Notes that an object is given capabilities: where objects may call, each import that they name has a holder more.
+    fn hold(&mut self, caps: &Caps) -> Result<(), AllocError>
+        ensures { OnOk result ((link : Link) → Holds caps.now (work_of self.old link) (work_of self.new link)) }
+    {
+        if !self.may_call {
+            return Ok(());
+        }
+        let imports = named_imports(self.alloc, caps)?;
+        self.holders.raise_each(imports.ids())
+    }
+
+    /// Notes that an object gives imports up.
     fn give_up(&mut self, imports: &Ids) -> Result<(), AllocError>
         ensures { OnOk result ((link : Link) → GivesUp imports.now (work_of self.old link) (work_of self.new link)) }
     {
-        self.given_up.extend_from_slice(imports.ids())
+        for import in imports.ids() {
+            self.let_go(*import)?;
+        }
+        Ok(())
+    }
+
+    /// Notes that an object gives an import up, which is to be released unless others hold it.
+    fn let_go(&mut self, import: u32) -> Result<(), AllocError>
+        ensures { OnOk result ((link : Link) → LetsGo import (work_of self.old link) (work_of self.new link)) }
+    {
+        if self.holders.lower(import) {
+            return Ok(());
+        }
+        self.free(import)
     }
 
     /// Polls each object once, in order, until the connection ended. Says whether an outcome was given that was awaited.
@@ -340,16 +429,27 @@ impl Objects {
         Ok(true)
     }
 
-    /// Tries to release each import that was given up. One that is still in use stays.
+    /// Tries to release each import that was given up and isn't held again. One that is still in use stays.
     fn release_all(&mut self, connection: &mut Connection) -> Result<(), AllocError>
         ensures done { OnOk result (Releases (work_of self.old connection.old) (work_of self.new connection.new)) }
         ensures lives { Lives connection.old connection.new }
     {
         let imports = mem::replace(&mut self.given_up, Vec::new(self.alloc));
         for import in &imports {
-            self.release(connection, *import)?;
+            self.release_unheld(connection, *import)?;
         }
         Ok(())
+    }
+
+    /// Tries to release an import that was given up, unless an object holds it again.
+    fn release_unheld(&mut self, connection: &mut Connection, import: u32) -> Result<(), AllocError>
+        ensures done { OnOk result (TriesUnheld (work_of self.old connection.old) import (work_of self.new connection.new)) }
+        ensures lives { Lives connection.old connection.new }
+    {
+        if self.holders.of(import) > 0 {
+            return Ok(());
+        }
+        self.release(connection, import)
     }
 
     /// Tries to release an import that was given up.
@@ -374,53 +474,18 @@ impl Objects {
         ensures { OnOk result ((link : Link) → Stays import refusal (work_of self.old link) (work_of self.new link)) }
     {
         match refusal {
-            VatFault::InUse => self.keep(import),
+            VatFault::InUse => self.free(import),
             _ => Ok(()),
         }
     }
 
-    /// Keeps an import that is still in use, so that it is tried again.
-    fn keep(&mut self, import: u32) -> Result<(), AllocError>
-        ensures { OnOk result ((link : Link) → GivesUp (import ∷ []) (work_of self.old link) (work_of self.new link)) }
+    /// Notes that an import is to be released.
+    fn free(&mut self, import: u32) -> Result<(), AllocError>
+        ensures { OnOk result ((link : Link) → Frees import (work_of self.old link) (work_of self.new link)) }
     {
         self.given_up.push(import)?;
         Ok(())
     }
-}
-
-/// What the object at a place replies to a call; past the objects the call fails.
-fn reply_of<O: Servant>(
-    alloc: Global,
-    objects: &mut [O],
-    place: usize,
-    ticket: u64,
-    request: Request,
-) -> Result<Reply, AllocError>
-    ensures { IfOk result (λ reply. Gives O.kind place ticket request reply objects.old objects.new) }
-{
-    if place < objects.len() {
-        let reply = call_at(objects, place, ticket, request)?;
-        return Ok(reply);
-    }
-    Ok(Reply::Now {
-        outcome: no_such_object(alloc)?,
-        gives_up: Ids::new(Vec::new(alloc)),
-    })
-}
-
-/// Tells the object at a place what a call of its own came to. Past the objects nobody is told.
-fn tell<O: Servant>(
-    objects: &mut [O],
-    place: usize,
-    mark: u64,
-    outcome: Outcome,
-) -> Result<(), AllocError>
-    ensures { OnOk result (Hears O.kind place mark outcome objects.old objects.new) }
-{
-    if place < objects.len() {
-        return tell_at(objects, place, mark, outcome);
-    }
-    Ok(())
 }
 
 /// Finishes the question of an object's call. Nothing is sent once the connection ended.

@@ -448,6 +448,7 @@ rests_new mode = record {
     given_up = refl;
     none_call = refl;
     none_asked = refl;
+    none_held = refl;
     happens = refl;
     bytes = [];
     frames = refl;

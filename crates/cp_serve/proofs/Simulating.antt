@@ -54,6 +54,7 @@ use Rattle.cp_objects.specs.declared.notice.Notice.TheVariants as notices
 use Rattle.cp_objects.specs.Work as objects
 use Rattle.cp_objects.specs.Calling as calling
 use Rattle.cp_objects.specs.Rounds as rounds
+use Rattle.cp_objects.proofs.Holding.{holds_unnoted, gives_up_all, tries_all}
 use Rattle.cp_serve.specs.Work.{Work, Did, IsDone, Answers, is_taken, was_closed, is_replaced, Replies, Tries, is_released, is_used, is_dropped, TriesEach, Releases}
 use Rattle.cp_serve.specs.Service.{Delivers, to_object, to_none, WorksOff, none_left, acts, Settles, gives_none, is_stranger, is_awaited, PollsFrom, Rounds, TakesMessage, takes, written}
 use Rattle.cp_serve.specs.Service as service
@@ -243,6 +244,7 @@ module _ (base : Link) (w : Work) (o : objects.Work) (h : Matches base w o) wher
     given_up = f;
     none_call = h.none_call;
     none_asked = h.none_asked;
+    none_held = h.none_held;
     happens = h.happens;
     bytes = h.bytes;
     frames = h.frames;
@@ -268,6 +270,7 @@ module _ (base : Link) (w : Work) (o : objects.Work) (h : Matches base w o) wher
     given_up = h.given_up;
     none_call = h.none_call;
     none_asked = h.none_asked;
+    none_held = h.none_held;
     happens = happens;
     bytes = h.bytes;
     frames = subst (λ (ms : List Message). AreFramesOf base.mode ms h.bytes) (sym all) h.frames;
@@ -297,6 +300,7 @@ module _ (base : Link) (w : Work) (o : objects.Work) (h : Matches base w o) wher
         given_up = h.given_up;
         none_call = h.none_call;
         none_asked = h.none_asked;
+        none_held = h.none_held;
         happens = d.happens ∙ ap (λ (x : List Happening). x ++ happening_by d.effects) h.happens ∙ sym (happening_both w.effects d.effects here.1);
         bytes = h.bytes ++ d.bytes;
         frames =
@@ -430,9 +434,12 @@ module _ (base : Link) (w : Work) (o : objects.Work) (h : Matches base w o) wher
 follows_replies : {base : Link} {w : Work} {o new : objects.Work} → Matches base w o → (origin : Origin) (ticket : ℕ) (reply : Reply) → objects.Replies o origin ticket reply new
     → (next : Work) × Replies w origin ticket reply next × Matches base next new
 follows_replies {base = base} {w = w} {o = o} h origin ticket (replies.Now outcome gives_up) r =
-    let more = follows_answers base (record w { given_up = w.given_up ++ gives_up }) (record o { given_up = o.given_up ++ gives_up })
-    (owes base w o h w.awaited o.awaited (w.given_up ++ gives_up) (o.given_up ++ gives_up) h.awaited (ap (λ (x : List ℕ). x ++ gives_up) h.given_up)) origin outcome r.0 r.1 in
-    (more.0, more.1, subst (λ (x : objects.Work). Matches base more.0 x) (sym r.2) more.2)
+    let owed : objects.Work = record o { given_up = o.given_up ++ gives_up } in
+    let all : r.0 ≡ owed = gives_up_all gives_up o h.none_held r.2 in
+    let more = follows_answers base (record w { given_up = w.given_up ++ gives_up }) owed
+    (owes base w o h w.awaited o.awaited (w.given_up ++ gives_up) (o.given_up ++ gives_up) h.awaited (ap (λ (x : List ℕ). x ++ gives_up) h.given_up)) origin outcome r.1
+    (subst (λ (x : objects.Work). objects.Answers x.link origin outcome r.1) all r.3) in
+    (more.0, more.1, subst (λ (x : objects.Work). Matches base more.0 x) (sym (r.4 ∙ ap (λ (x : objects.Work). record x { link = r.1 }) all)) more.2)
 follows_replies {base = base} {w = w} {o = o} h origin ticket replies.Later r =
     let a : Table Origin = insert w.awaited ticket origin in (
       record w { awaited = a },
@@ -445,11 +452,17 @@ follows_settles : {base : Link} {w : Work} {o new : objects.Work} → Matches ba
     → (next : Work) × Settles w settled gave next × Matches base next new
 follows_settles {w = w} h settled gave rounds.gives_none = (w, gives_none, h)
 follows_settles {w = w} h settled gave (rounds.is_stranger s none) = (w, is_stranger s (ap (λ (t : Table Origin). get t s.ticket) (sym h.awaited) ∙ none), h)
-follows_settles {base = base} {w = w} {o = o} h settled gave (rounds.is_awaited s origin link got answers e) =
-    let more = follows_answers base (record w { awaited = remove w.awaited s.ticket; given_up = w.given_up ++ s.gives_up }) (record o { awaited = remove o.awaited s.ticket; given_up = o.given_up ++ s.gives_up })
+follows_settles {base = base} {w = w} {o = o} h settled gave (rounds.is_awaited s origin link {mid = mid} got gives answers e) =
+    let taken : objects.Work = record o { awaited = remove o.awaited s.ticket } in
+    let owed : objects.Work = record o { awaited = remove o.awaited s.ticket; given_up = o.given_up ++ s.gives_up } in
+    let all : mid ≡ owed = gives_up_all s.gives_up taken h.none_held gives in
+    let more = follows_answers base (record w { awaited = remove w.awaited s.ticket; given_up = w.given_up ++ s.gives_up }) owed
     (owes base w o h (remove w.awaited s.ticket) (remove o.awaited s.ticket) (w.given_up ++ s.gives_up) (o.given_up ++ s.gives_up) (ap (λ (t : Table Origin). remove t s.ticket) h.awaited) (ap (λ (x : List ℕ). x ++ s.gives_up) h.given_up))
-    origin s.outcome link answers in
-    (more.0, is_awaited s origin (ap (λ (t : Table Origin). get t s.ticket) (sym h.awaited) ∙ got) more.1, subst (λ (x : objects.Work). Matches base more.0 x) (sym e) more.2)
+    origin s.outcome link (subst (λ (x : objects.Work). objects.Answers x.link origin s.outcome link) all answers) in (
+      more.0,
+      is_awaited s origin (ap (λ (t : Table Origin). get t s.ticket) (sym h.awaited) ∙ got) more.1,
+      subst (λ (x : objects.Work). Matches base more.0 x) (sym (e ∙ ap (λ (x : objects.Work). record x { link = link }) all)) more.2,
+    )
 
 -- ---- objects that may not call make no calls
 
@@ -498,17 +511,21 @@ module _ {A : Type 0} {kind : Kind A} where
   sends_off seen (effects.Closed reason ∷ more) w e h = (w, (λ next last k. k), h, subst HasNoSend (sym e) tt)
 
   -- a call that is delivered
-  delivers : {base : Link} {w : Work} {o mid new : objects.Work} {seen between others : List A} (k : ℕ) (origin : Origin) (ticket : ℕ) (call : Request) (reply : Reply) → Matches base w o
-      → rounds.Gives kind k ticket call reply seen between → objects.Replies o origin ticket reply mid → calling.MakesCalls kind k mid new between others
+  delivers : {base : Link} {w : Work} {o given mid new : objects.Work} {seen between others : List A} (k : ℕ) (origin : Origin) (ticket : ℕ) (call : Request) (reply : Reply)
+      → Matches base w o → rounds.Gives kind k ticket call reply o given seen between → objects.Replies given origin ticket reply mid → calling.MakesCalls kind k mid new between others
       → (next : Work) × Delivers kind w seen k origin ticket call next others × Matches base next new
-  delivers {base = base} {w = w} {seen = seen} {between = between} {others = others} k origin ticket call reply h gives replied called =
-      let more = follows_replies h origin ticket reply replied in
+  delivers {base = base} {w = w} {o = o} {given = given} {mid = mid} {seen = seen} {between = between} {others = others} k origin ticket call reply h gives replied called =
+      let more = follows_replies h origin ticket reply (subst (λ (x : objects.Work). objects.Replies x origin ticket reply mid) (unnoted gives) replied) in
       let none = no_calls more.2.none_call called in
       (more.0, by more.0 more.1 none.1 gives, subst (λ (x : objects.Work). Matches base more.0 x) (sym none.0) more.2)
     where
-      by : (next : Work) → Replies w origin ticket reply next → others ≡ between → rounds.Gives kind k ticket call reply seen between → Delivers kind w seen k origin ticket call next others
-      by next r same (rounds.by_object changes) = subst (λ (x : List A). Delivers kind w seen k origin ticket call next x) (sym same) (to_object reply changes r)
-      by next r same (rounds.by_none past is still) =
+      unnoted : rounds.Gives kind k ticket call reply o given seen between → given ≡ o
+      unnoted (rounds.by_object holds changes) = holds_unnoted call.caps o h.none_call holds
+      unnoted (rounds.by_none past is same still) = same
+
+      by : (next : Work) → Replies w origin ticket reply next → others ≡ between → rounds.Gives kind k ticket call reply o given seen between → Delivers kind w seen k origin ticket call next others
+      by next r same (rounds.by_object holds changes) = subst (λ (x : List A). Delivers kind w seen k origin ticket call next x) (sym same) (to_object reply changes r)
+      by next r same (rounds.by_none past is idle still) =
           to_none past
           (subst (λ (g : List ℕ). Answers (record w { given_up = g }) origin no_such_object next) (append-nil w.given_up) (subst (λ (x : Reply). Replies w origin ticket x next) is r)) (same ∙ still)
 
@@ -537,7 +554,7 @@ module _ {base : Link} {o : objects.Work} (first : Happening) (link : Link) (out
         let heads : first ≡ happenings.Delivered k origin ticket call = cc (all) in
         let tails : link.happened ≡ happening_by rest = cc (all) in
         let parts = subst (λ (x : Happening). rounds.Handles kind x (record o { link = link }) mid seen between) heads handled in
-        let done = delivers k origin ticket call parts.0 (one_taken (effects.Deliver k origin ticket call) rest e refl refl tails) parts.3 parts.4 parts.5 in
+        let done = delivers k origin ticket call parts.0 (one_taken (effects.Deliver k origin ticket call) rest e refl refl tails) parts.4 parts.5 parts.6 in
         (effects.Deliver k origin ticket call, rest, done.0, e, done.1, done.2)
 
     one_settled : (q : ℕ) (outcome : Outcome) (rest : List Effect) → v.effects ≡ effects.Settled q outcome ∷ rest → Acted kind base v mid seen between
@@ -626,7 +643,7 @@ module _ {A : Type 0} {kind : Kind A} where
 follows_each : {base : Link} (imports : List ℕ) {w : Work} {o new : objects.Work} → Matches base w o → objects.TriesEach o imports new → (next : Work) × TriesEach w imports next × Matches base next new
 follows_each {base = base} [] {w = w} h e = (w, refl, subst (λ (x : objects.Work). Matches base w x) (sym e) h)
 follows_each {base = base} (i ∷ more) {w = w} {o = o} h tries =
-    let one = follows_tries base w o h i tries.0 tries.1 in
+    let one = follows_tries base w o h i tries.0 (tries_all i h.none_held tries.1) in
     let rest = follows_each more one.2 tries.2 in
     (rest.0, (one.0, one.1, rest.1), rest.2)
 
@@ -673,6 +690,7 @@ rests_after {w = w} {o = o} h none link vat happened fault = record {
     given_up = h.given_up;
     none_call = h.none_call;
     none_asked = h.none_asked;
+    none_held = h.none_held;
     happens = happened ∙ h.happens;
     bytes = [];
     frames = subst (λ (es : List Effect). AreFramesOf link.mode (sent_by es) []) (sym none) refl;

@@ -47,6 +47,7 @@ pub record Matches (base : Link) (w : Work) (o : objects.Work) : Type 0 where
   pub given_up : o.given_up ≡ w.given_up
   pub none_call : o.may_call ≡ false
   pub none_asked : o.asked ≡ empty
+  pub none_held : o.held ≡ empty
   pub happens : o.link.happened ≡ happening_by w.effects
   pub bytes : List ℕ
   pub frames : AreFramesOf base.mode (w.sent ++ sent_by w.effects) bytes

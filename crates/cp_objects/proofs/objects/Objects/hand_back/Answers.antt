@@ -15,7 +15,8 @@ returns-in_default-clause-lives g c = lives_none c.args.connection.now
 pub returns-clause-done : goal.returns-clause-done
 returns-clause-done g c =
     after_ok c.make_calls.result c.make_calls.ensures.done (λ calls. hands_to_object (work_of c.args.self.now c.args.connection.now) c.remove.new.self c.args.question c.args.outcome
-    c.in-Some.asker c.finish.new.connection (sym c.remove.ensures.value ∙ c.in-Some.is) c.remove.ensures.removed c.in_ok-finish.ensures.done c.in_ok-tell.ensures calls)
+    c.in-Some.asker c.finish.new.connection (sym c.remove.ensures.value ∙ c.in-Some.is) c.remove.ensures.removed c.in_ok-finish.ensures.done
+    (c.in_ok-tell.ensures c.finish.new.connection) calls)
 
 pub returns-clause-lives : goal.returns-clause-lives
 returns-clause-lives g c = lives_both c.finish.ensures.lives c.make_calls.ensures.lives

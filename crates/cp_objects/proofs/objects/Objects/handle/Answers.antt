@@ -8,7 +8,7 @@ returns-in_err-reply-in-Delivered-clause-lives g c = lives_none c.args.connectio
 
 pub returns-in_ok-reply-in-Delivered-2-clause-done : goal.returns-in_ok-reply-in-Delivered-2-clause-done
 returns-in_ok-reply-in-Delivered-2-clause-done g c =
-    after_ok c.make_calls.result c.make_calls.ensures.done (λ calls. rw c.in-Delivered.is (_, _, _, c.in_ok-reply-in-Delivered.ensures, c.in_ok-reply-in-Delivered-2.ensures.done, calls))
+    after_ok c.make_calls.result c.make_calls.ensures.done (λ calls. rw c.in-Delivered.is (_, _, _, _, c.in_ok-reply-in-Delivered.ensures c.args.connection.now, c.in_ok-reply-in-Delivered-2.ensures.done, calls))
 
 pub returns-in_ok-reply-in-Delivered-2-clause-lives : goal.returns-in_ok-reply-in-Delivered-2-clause-lives
 returns-in_ok-reply-in-Delivered-2-clause-lives g c = lives_both c.reply.ensures.lives c.make_calls.ensures.lives

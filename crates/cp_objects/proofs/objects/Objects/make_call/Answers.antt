@@ -11,18 +11,18 @@ returns-in-Ok-clause-done g c = after_ok c.put.result c.put.ensures.put (λ put.
 pub returns-in-Ok-clause-lives : goal.returns-in-Ok-clause-lives
 returns-in-Ok-clause-lives g c = lives_call c.args.connection.now c.call.new.self c.args.ask.cap c.args.ask.request c.call.result c.call.ensures
 
-pub returns-in_err-refused_call-in-Refused-clause-lives : goal.returns-in_err-refused_call-in-Refused-clause-lives
-returns-in_err-refused_call-in-Refused-clause-lives g c = lives_call c.args.connection.now c.call.new.self c.args.ask.cap c.args.ask.request c.call.result c.call.ensures
+pub returns-in_err-outcome-in-Refused-clause-lives : goal.returns-in_err-outcome-in-Refused-clause-lives
+returns-in_err-outcome-in-Refused-clause-lives g c = lives_call c.args.connection.now c.call.new.self c.args.ask.cap c.args.ask.request c.call.result c.call.ensures
 
 pub returns-in-OutOfMemory-clause-lives : goal.returns-in-OutOfMemory-clause-lives
 returns-in-OutOfMemory-clause-lives g c = lives_call c.args.connection.now c.call.new.self c.args.ask.cap c.args.ask.request c.call.result c.call.ensures
 
-pub returns-in_ok-refused_call-in-Refused-clause-done : goal.returns-in_ok-refused_call-in-Refused-clause-done
-returns-in_ok-refused_call-in-Refused-clause-done g c =
-    after_ok c.tell.result c.tell.ensures (λ heard. is_refused c.in-Refused.field-0 c.call.new.self (rw c.in-Refused.is at c.in-Err.ensures) refl (rw c.in_ok-refused_call-in-Refused.ensures at heard))
+pub returns-in_ok-outcome-in-Refused-clause-done : goal.returns-in_ok-outcome-in-Refused-clause-done
+returns-in_ok-outcome-in-Refused-clause-done g c =
+    after_ok c.tell.result c.tell.ensures (λ heard. is_refused c.in-Refused.field-0 c.call.new.self (rw c.in-Refused.is at c.in-Err.ensures) (rw c.in_ok-outcome-in-Refused.ensures at (heard c.call.new.self)))
 
-pub returns-in_ok-refused_call-in-Refused-clause-lives : goal.returns-in_ok-refused_call-in-Refused-clause-lives
-returns-in_ok-refused_call-in-Refused-clause-lives g c = lives_call c.args.connection.now c.call.new.self c.args.ask.cap c.args.ask.request c.call.result c.call.ensures
+pub returns-in_ok-outcome-in-Refused-clause-lives : goal.returns-in_ok-outcome-in-Refused-clause-lives
+returns-in_ok-outcome-in-Refused-clause-lives g c = lives_call c.args.connection.now c.call.new.self c.args.ask.cap c.args.ask.request c.call.result c.call.ensures
 
 pub returns-in-Closed-clause-done : goal.returns-in-Closed-clause-done
 returns-in-Closed-clause-done g c = had_ended faults.Closed _ tt (rw c.in-Closed.is at c.in-Err.ensures) refl refl

@@ -11,8 +11,8 @@ loop-import-init c =
     let all : c.deref-import-items.result.now ≡ c.args.self.now.given_up.items = search rules in
     (λ last rest. rw (none, all) at rest, lives_none c.args.connection.now)
 
-pub returns-in_err-release-clause-lives : goal.returns-in_err-release-clause-lives
-returns-in_err-release-clause-lives c = lives_both c.loop-import.invariant.1 c.in_err-release.ensures.lives
+pub returns-in_err-release_unheld-clause-lives : goal.returns-in_err-release_unheld-clause-lives
+returns-in_err-release_unheld-clause-lives c = lives_both c.loop-import.invariant.1 c.in_err-release_unheld.ensures.lives
 
 pub returns-clause-done : goal.returns-clause-done
 returns-clause-done c = c.loop-import.invariant.0 (work_of c.loop-import.self c.loop-import.connection) (rw (drop_of_length-le c.deref-import-items.result.now c.loop-import-test.false) refl)
@@ -22,6 +22,6 @@ returns-clause-lives c = c.loop-import.invariant.1
 
 pub loop-import-preserved : goal.loop-import-preserved
 loop-import-preserved c = (
-  λ last rest. c.loop-import.invariant.0 last (tries_next c.deref-import-items.result.now c.loop-import.import-index _ last c.loop-import-test.true c.in_ok-release.ensures.done rest),
-  lives_both c.loop-import.invariant.1 c.in_ok-release.ensures.lives,
+  λ last rest. c.loop-import.invariant.0 last (tries_next c.deref-import-items.result.now c.loop-import.import-index _ last c.loop-import-test.true c.in_ok-release_unheld.ensures.done rest),
+  lives_both c.loop-import.invariant.1 c.in_ok-release_unheld.ensures.lives,
 )

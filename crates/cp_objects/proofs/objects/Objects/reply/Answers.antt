@@ -1,4 +1,5 @@
 use Rattle.std.proofs.Common.{refl}
+use Rattle.cp_objects.specs.WorkOf.{work_of}
 use Rattle.cp_objects.proofs.Living.{lives_none}
 use Rattle.cp_objects.proofs.Working.{after_ok}
 use Rattle.cp_objects.proofs.objects.Objects.reply.Goals as goal
@@ -7,7 +8,9 @@ pub returns-in_err-give_up-in-Now-clause-lives : goal.returns-in_err-give_up-in-
 returns-in_err-give_up-in-Now-clause-lives c = lives_none c.args.connection.now
 
 pub returns-in_ok-give_up-in-Now-clause-done : goal.returns-in_ok-give_up-in-Now-clause-done
-returns-in_ok-give_up-in-Now-clause-done c = after_ok c.answer.result c.answer.ensures.done (λ answers. rw c.in-Now.is (_, answers, c.in_ok-give_up-in-Now.ensures _))
+returns-in_ok-give_up-in-Now-clause-done c =
+    after_ok c.answer.result c.answer.ensures.done
+    (λ answers. rw c.in-Now.is (work_of c.give_up.new.self c.args.connection.now, c.answer.new.connection, c.in_ok-give_up-in-Now.ensures c.args.connection.now, answers, refl))
 
 pub returns-in-Later-clause-done : goal.returns-in-Later-clause-done
 returns-in-Later-clause-done c = after_ok c.put.result c.put.ensures (λ put. rw (c.in-Later.is, put) refl)

@@ -1,4 +1,4 @@
-use Rattle.std.proofs.Common.{sym, ◌∙◌}
+use Rattle.std.proofs.Common.{refl, sym, ◌∙◌}
 use Rattle.cp_objects.specs.Rounds.{gives_none}
 use Rattle.cp_objects.specs.WorkOf.{work_of}
 use Rattle.cp_objects.proofs.Living.{lives_none}
@@ -24,4 +24,5 @@ returns-in_err-give_up-clause-lives c = lives_none c.args.connection.now
 pub returns-clause-done : goal.returns-clause-done
 returns-clause-done c =
     settles_awaited (work_of c.args.self.now c.args.connection.now) c.args.settled c.in-Some.settled c.in-Some-take.origin c.answer.new.connection c.take.new.self
-    c.in-Some.is (sym c.in-Some-take.ensures.value) c.take.ensures.removed c.in_ok-answer.ensures.done (c.in_ok-give_up.ensures _)
+    (work_of c.give_up.new.self c.args.connection.now) c.in-Some.is (sym c.in-Some-take.ensures.value) c.take.ensures.removed
+    (c.in_ok-give_up.ensures c.args.connection.now) c.in_ok-answer.ensures.done refl

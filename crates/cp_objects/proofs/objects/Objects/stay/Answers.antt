@@ -4,7 +4,7 @@ use Rattle.cp_objects.proofs.Working.{after_ok}
 use Rattle.cp_objects.proofs.objects.Objects.stay.Goals as goal
 
 pub returns-in-InUse : goal.returns-in-InUse
-returns-in-InUse c = after_ok c.keep.result c.keep.ensures (λ kept link. is_used c.in-InUse.is (kept link))
+returns-in-InUse c = after_ok c.free.result c.free.ensures (λ freed link. is_used c.in-InUse.is (freed link))
 
 pub returns-in_default : goal.returns-in_default
 returns-in_default c = λ link. is_dropped c.in_default.not-InUse refl

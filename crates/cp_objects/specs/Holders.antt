@@ -1,0 +1,18 @@
+-- How many objects hold each import.
+use Rattle.std.specs.Prelude.{ℕ, ◌+◌, List, [], ◌∷◌}
+use Rattle.std.specs.Option.{unwrap_or}
+use Rattle.std.specs.FinMap.{get, insert}
+use Rattle.cp_tables.specs.Table.{Table}
+
+-- how many objects hold an import
+abbrev pub holders : Table ℕ → ℕ → ℕ
+holders held i = unwrap_or (get held i) 0
+
+-- an object more holds it
+abbrev pub held_by_one_more : Table ℕ → ℕ → Table ℕ
+held_by_one_more held i = insert held i (holders held i + 1)
+
+-- an object more holds each of these imports
+abbrev pub held_by_more : Table ℕ → List ℕ → Table ℕ
+held_by_more held [] = held
+held_by_more held (i ∷ more) = held_by_more (held_by_one_more held i) more
