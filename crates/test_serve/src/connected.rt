@@ -26,11 +26,15 @@ pub struct Session {
 impl Session {
     /// A session with this object and a Cell.
     pub fn new(rt: &impl Abort, alloc: Global, owed: Objects, object: Object) -> Session {
-        let objects = vec![in alloc; object, Object::cell(alloc)];
+        Session::of(rt, alloc, owed, [object, Object::cell(alloc)])
+    }
+
+    /// A session with these objects.
+    pub fn of(rt: &impl Abort, alloc: Global, owed: Objects, objects: [Object; 2]) -> Session {
         Session {
             connection: Connection::new(alloc, Mode::Plain, Limits::standard(), Some(0)),
             owed,
-            objects: objects.ok().expect(rt, "memory"),
+            objects: Vec::from_array(alloc, objects).ok().expect(rt, "memory"),
         }
     }
 

@@ -92,10 +92,10 @@ impl Servant for Object {
     }
 
     fn told(&mut self, mark: u64, outcome: Outcome) -> Result<(), AllocError> {
-        if let Object::Adder(adder) = self {
-            adder.told(mark, outcome);
+        match self {
+            Object::Adder(adder) => adder.told(mark, outcome),
+            _ => Ok(()),
         }
-        Ok(())
     }
 }
 
