@@ -35,6 +35,10 @@ const MOST: usize = 0xffff_ffff;
 /// In a turn the objects get the calls that came, in order, and then they are polled until none gives an outcome and none
 /// says that it may give more. Nothing is read before they had their turn and all that is sent was written.
 ///
+/// An import that several objects were given is released when each of them gave it up. What the client itself was given
+/// isn't counted: an object that gives up the same import takes it from the client too, unless a question of the
+/// client's that wasn't finished still gives it.
+///
 /// # Errors, and what each leaves
 ///
 /// Those of the client. Where memory runs out in a turn, a call or an outcome may be lost: the client takes no more bytes
