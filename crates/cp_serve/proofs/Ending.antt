@@ -16,7 +16,7 @@ use Rattle.cp_serve.specs.declared.serving.Server.{Server}
 use Rattle.cp_serve.specs.Work.{Work}
 use Rattle.cp_serve.specs.Service.{Rounds, none_yet, one_more, written}
 use Rattle.cp_serve.specs.Output.{Device, Writes, WritesPart, IsOver, IsServed, IsCutOff, IsStopped}
-use Rattle.cp_serve.specs.Matching.{Matches, Rests}
+use Rattle.cp_serve.specs.Matching.{Matches, IsAllDone}
 use Rattle.cp_serve.specs.Reached.{owed, ahead, ready_of, AllOut, Reached, Closes, EndsPart, EndsSo, IsUnended, Rounded, report_of}
 use Rattle.cp_serve.proofs.Running.{ran_takes, ran_closes, run_of}
 use Rattle.cp_serve.proofs.Written.{ahead_none, queued, writes_none, writes_both, writes_all, part_later}
@@ -26,7 +26,7 @@ use Rattle.cp_serve.proofs.Landing.{lands_writes, breaks_part, is_written_out}
 
 module _ {A : Type 0} {kind : Kind A} where
   -- no round followed yet
-  pub closes_none : (first : Work) (s : Server) (seen : List A) (to : Device) → Rests first (owed s) → AllOut s → Closes kind first s seen to true s seen to
+  pub closes_none : (first : Work) (s : Server) (seen : List A) (to : Device) → IsAllDone first (owed s) → AllOut s → Closes kind first s seen to true s seen to
   closes_none first s seen to rests out = record {
     sent = [];
     last = first;
@@ -89,7 +89,7 @@ module _ {A : Type 0} {kind : Kind A} where
             last = written went.0;
             closes = one_more h.closes still went.1 refl refl;
             rests =
-                subst (λ (x : Server). Rests (written went.0) (owed x)) (sym (is_written_out s new ready l e))
+                subst (λ (x : Server). IsAllDone (written went.0) (owed x)) (sym (is_written_out s new ready l e))
                 (rests_after went.2 went.3 (record s.connection { unwritten = [] }) refl refl refl);
             writes = writes_both before to after h.writes (lands_writes to after (ready_of s) moved same goes);
             counts = λ n i.

@@ -46,7 +46,7 @@ use Rattle.cp_serve.specs.Work.{Work}
 use Rattle.cp_serve.specs.Service.{TakesAll, none_taken, takes_more, written, new_work}
 use Rattle.cp_serve.specs.Output.{Device, Writes, IsPlace, IsFaultOfRest, IsOver, HasTaken, IsCutOff, StopsFor, ReadsTo}
 use Rattle.cp_serve.specs.Faults.{fault_of}
-use Rattle.cp_serve.specs.Matching.{Matches, Rests}
+use Rattle.cp_serve.specs.Matching.{Matches, IsAllDone}
 use Rattle.cp_serve.specs.Reached.{owed, ahead, ready_of, AllOut, Reached, ReadsOn, Serves, GoesOn, Fills, TakesFront, FrontStops, WorksOut, Concludes, IsNew}
 use Rattle.cp_serve.proofs.Written.{ahead_none, queued, writes_none, writes_both, writes_all}
 use Rattle.cp_serve.proofs.Simulating.{refusal_is, open_work, closed_work, rests_after, follows_message}
@@ -94,9 +94,9 @@ module _ {A : Type 0} {kind : Kind A} where
 
 -- ---- connections that go on as they were
 
-pub rests_as : {w : Work} {o : objects.Work} → Rests w o → (link : Link) → link.vat ≡ o.link.vat → link.happened ≡ o.link.happened → link.fault ≡ o.link.fault → Rests w (record o { link = link })
+pub rests_as : {w : Work} {o : objects.Work} → IsAllDone w o → (link : Link) → link.vat ≡ o.link.vat → link.happened ≡ o.link.happened → link.fault ≡ o.link.fault → IsAllDone w (record o { link = link })
 rests_as {w = w} {o = o} r link vat happened fault =
-    subst (λ (x : Work). Rests x (record o { link = link })) (ap (λ (ms : List Message). record w { sent = ms }) (sym r.none_unsent)) (rests_after r.matches r.none_left link vat happened fault)
+    subst (λ (x : Work). IsAllDone x (record o { link = link })) (ap (λ (ms : List Message). record w { sent = ms }) (sym r.none_unsent)) (rests_after r.matches r.none_left link vat happened fault)
 
 -- so many bytes came as were read
 came_is : (mode : Mode) (limits : Bounds) (state : frames.State) (b : List ℕ) → frames.IsReading state → frames.Stands mode limits state b → frames.taken_of state ≡ length b
@@ -158,7 +158,7 @@ module _ {A : Type 0} {kind : Kind A} {mode : Mode} {start : List A} {held : Dev
   module _ (bytes rest front : List ℕ) (s new : Server) (m : Message) (mid link : Link) {seen others : List A} {to : Device} (r : Reached kind mode start held bytes rest s seen to) (on : ReadsOn rest s)
       (reads : Reads s.connection front m mid) (d : Does mid (events.Receive m) (Ok values.Nothing) link) (works : WorksOut kind (record s { connection = link }) new seen others)
       (ready : new.ready ≡ length new.connection.unwritten) where
-    begins : Rests r.last (record (owed s) { link = mid })
+    begins : IsAllDone r.last (record (owed s) { link = mid })
     begins = rests_as r.rests mid (ap (λ (l : Link). l.vat) reads.same) (ap (λ (l : Link). l.happened) reads.same) (ap (λ (l : Link). l.fault) reads.same)
 
     counts_bytes : mid.tally.bytes ≡ min (s.connection.tally.bytes + length (rest ++ front)) (2 ^ 64 - 1)
@@ -440,7 +440,7 @@ one_more_piece bytes piece pieces n h e some = omega (arith, h, e, some, length-
 
 -- ---- a server to which nothing has come
 
-rests_new : (mode : Mode) → Rests new_work (objects.begun false (new_link mode standard (Some 0)))
+rests_new : (mode : Mode) → IsAllDone new_work (objects.begun false (new_link mode standard (Some 0)))
 rests_new mode = record {
   matches = record {
     vat = refl;
@@ -478,7 +478,7 @@ module _ {A : Type 0} {kind : Kind A} where
           messages = refl;
           last = new_work;
           takes = none_taken;
-          rests = subst (λ (x : objects.Work). Rests new_work x) (sym (new.owes s.connection ∙ ap (λ (x : Link). objects.begun false x) l)) (rests_new mode);
+          rests = subst (λ (x : objects.Work). IsAllDone new_work x) (sym (new.owes s.connection ∙ ap (λ (x : Link). objects.begun false x) l)) (rests_new mode);
           writes = subst (λ (d : Device). Writes mode [] held d) (sym (ahead_none held s.connection.unwritten (ap (λ (x : Link). x.unwritten) l))) (writes_none held);
           all_ready = new.ready ∙ ap (λ (x : List ℕ). length x) (sym (ap (λ (x : Link). x.unwritten) l));
           place = ap (λ (x : Link). x.tally.bytes) l ∙ omega arith;

@@ -245,8 +245,8 @@ module _ {A : Type 0} {kind : Kind A} where
   rests_off old new objects others (acts {mid = mid} {between = between} effect rest e act tail) = rests_off mid new between others tail
 
 -- nothing is left to be worked off, unless the vat closed
-abbrev pub Rests : Work → Type 0
-Rests w = w.closed ≡ None → w.effects ≡ []
+abbrev pub IsWorkedOff : Work → Type 0
+IsWorkedOff w = w.closed ≡ None → w.effects ≡ []
 
 module _ {A : Type 0} {kind : Kind A} where
   works_polls : (place : ℕ) (old new : Work) (objects others : List A) (gave : Bool) → PollsFrom kind place old objects gave new others → Works old new []
@@ -268,7 +268,7 @@ module _ {A : Type 0} {kind : Kind A} where
       let added = adds_releases mid released released_all in
       works_both old mid new (works_polls 0 old mid objects between gave polled) (works_both mid released new (works_adds mid released added) (works_off released new between others (added.closed ∙ is_open) off))
 
-  rests_round : (old new : Work) (objects others : List A) (gave : Bool) → Rounds kind old objects gave new others → Rests new
+  rests_round : (old new : Work) (objects others : List A) (gave : Bool) → Rounds kind old objects gave new others → IsWorkedOff new
   rests_round old new objects others gave (is_closed polled closed) = λ e. absurd (none_some new.closed e closed)
   rests_round old new objects others gave (releases mid released between polled is_open released_all off) = λ e. rests_off released new between others off
 
@@ -278,7 +278,7 @@ module _ {A : Type 0} {kind : Kind A} where
       works_both old received new (works_adds old received added)
       (works_both received mid new (works_off received mid objects between (added.closed ∙ is_open) off) (works_round mid new between others gave round))
 
-  rests_message : (old new : Work) (objects others : List A) (m : Message) → TakesMessage kind old objects m new others → Rests new
+  rests_message : (old new : Work) (objects others : List A) (m : Message) → TakesMessage kind old objects m new others → IsWorkedOff new
   rests_message old new objects others m (takes received mid between gave done off round) = rests_round mid new between others gave round
 
 -- So far these messages were received and those sent.
@@ -288,13 +288,13 @@ pub record Ran (taken sent : List Message) (last : Work) : Type 0 where
   pub receives : received history ≡ taken
   pub sends : (more : List Effect) → sent_by (effects_of history ++ more) ≡ sent ++ (last.sent ++ later last.closed (last.effects ++ more))
   pub reason : (more : List Effect) → closed_by (effects_of history ++ more) ≡ ends last.closed (last.effects ++ more)
-  pub rests : Rests last
+  pub rests : IsWorkedOff last
   pub none_left : last.sent ≡ []
 
 ran_none : Ran [] [] new_work
 ran_none = record { history = []; steps = refl; receives = refl; sends = λ more. refl; reason = λ more. refl; rests = λ h. refl; none_left = refl }
 
-ran_more : {taken sent ms : List Message} (w new last : Work) → Ran taken sent w → Works w new ms → last ≡ written new → Rests new → Ran (taken ++ ms) (sent ++ new.sent) last
+ran_more : {taken sent ms : List Message} (w new last : Work) → Ran taken sent w → Works w new ms → last ≡ written new → IsWorkedOff new → Ran (taken ++ ms) (sent ++ new.sent) last
 ran_more {taken = taken} {sent = sent} {ms = ms} w new last h k e rests =
     subst (λ (x : Work). Ran (taken ++ ms) (sent ++ new.sent) x) (sym e) (record {
       history = h.history ++ k.history;

@@ -58,7 +58,7 @@ use Rattle.cp_objects.proofs.Holding.{holds_unnoted, gives_up_all, tries_all}
 use Rattle.cp_serve.specs.Work.{Work, Did, IsDone, Answers, is_taken, was_closed, is_replaced, Replies, Tries, is_released, is_used, is_dropped, TriesEach, Releases}
 use Rattle.cp_serve.specs.Service.{Delivers, to_object, to_none, WorksOff, none_left, acts, Settles, gives_none, is_stranger, is_awaited, PollsFrom, Rounds, TakesMessage, takes, written}
 use Rattle.cp_serve.specs.Service as service
-use Rattle.cp_serve.specs.Matching.{reason_in, ended_if, is_over, ClosesBy, IsBetween, Matches, Rests}
+use Rattle.cp_serve.specs.Matching.{reason_in, ended_if, is_over, ClosesBy, IsBetween, Matches, IsAllDone}
 use Rattle.cp_serve.proofs.Closing.{closes_both, tells_closing}
 
 -- ---- effects one after another, of which the first don't close the vat
@@ -682,7 +682,7 @@ and_none n = omega arith
 
 -- Nothing is left to be done but to write, and the connection goes on as it was.
 pub rests_after : {base : Link} {w : Work} {o : objects.Work} → Matches base w o → w.effects ≡ [] → (link : Link) → link.vat ≡ o.link.vat → link.happened ≡ o.link.happened → link.fault ≡ o.link.fault
-    → Rests (written w) (record o { link = link })
+    → IsAllDone (written w) (record o { link = link })
 rests_after {w = w} {o = o} h none link vat happened fault = record {
   matches = record {
     vat = vat ∙ h.vat;

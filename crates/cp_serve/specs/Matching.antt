@@ -63,7 +63,7 @@ pub record Matches (base : Link) (w : Work) (o : objects.Work) : Type 0 where
   pub reason : reason_in o.notices ≡ w.closed
 
 -- nothing is left to be done
-pub record Rests (w : Work) (o : objects.Work) : Type 0 where
+pub record IsAllDone (w : Work) (o : objects.Work) : Type 0 where
   pub matches : Matches o.link w o
   pub none_left : w.effects ≡ []
   pub none_unsent : w.sent ≡ []

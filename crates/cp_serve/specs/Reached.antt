@@ -24,7 +24,7 @@ use Rattle.cp_servants.specs.Servant.{Kind}
 use Rattle.cp_serve.specs.Work.{Work}
 use Rattle.cp_serve.specs.Service.{TakesAll, ClosesAll, new_work}
 use Rattle.cp_serve.specs.Output.{Device, device, Ends, Writes, WritesPart, IsPlace, IsOver, IsServedAt, IsStopped, IsStoppedAt, ReadsTo, ReadsUpTo, StopsFor}
-use Rattle.cp_serve.specs.Matching.{reason_in, Rests}
+use Rattle.cp_serve.specs.Matching.{reason_in, IsAllDone}
 
 -- the connection of a server, with what is owed to its objects
 abbrev pub owed : Server → work.Work
@@ -92,7 +92,7 @@ module _ {A : Type 0} (kind : Kind A) where
     pub messages : Messages mode standard bytes taken rest
     pub last : Work
     pub takes : TakesAll kind new_work start taken sent last objects
-    pub rests : Rests last (owed s)
+    pub rests : IsAllDone last (owed s)
     pub writes : Writes mode sent held (ahead to s.connection.unwritten)
     pub all_ready : s.ready ≡ length s.connection.unwritten
     pub place : IsPlace bytes rest s.connection.tally.bytes
@@ -118,7 +118,7 @@ module _ {A : Type 0} (kind : Kind A) where
     pub sent : List Message
     pub last : Work
     pub closes : ClosesAll kind first objects gave sent last others
-    pub rests : Rests last (owed new)
+    pub rests : IsAllDone last (owed new)
     pub writes : Writes old.connection.mode sent before after
     pub counts : CountsMore old.connection.tally.sent (length sent) new.connection.tally.sent
     pub all_out : AllOut new
@@ -217,8 +217,8 @@ module _ {A : Type 0} (kind : Kind A) where
 
   -- rounds followed to their end
   abbrev pub EndsAll : Server → Out A → Server → Type 0
-  EndsAll old o new = (first : Work) → Rests first (owed old) → AllOut old → EndsSo first old o.objects o.old new o.others o.new
+  EndsAll old o new = (first : Work) → IsAllDone first (owed old) → AllOut old → EndsSo first old o.objects o.old new o.others o.new
 
   -- rounds weren't ended
   abbrev pub EndingStops : Server → Out A → ServeFault → Type 0
-  EndingStops old o fault = (first : Work) → Rests first (owed old) → AllOut old → EndsPart first old o.objects o.old o.new × IsUnended o.old o.new fault
+  EndingStops old o fault = (first : Work) → IsAllDone first (owed old) → AllOut old → EndsPart first old o.objects o.old o.new × IsUnended o.old o.new fault
