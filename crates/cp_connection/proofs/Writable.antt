@@ -1,5 +1,5 @@
 -- A message that a vat sends is put after a block, unless memory runs out.
-use Rattle.std.proofs.Common.{◌≡◌, ℕ, ◌≤◌, ◌&&◌, leb, Bool, true, false, List, [], ◌∷◌, refl, sym, true≢false, ◌∙◌, arith, inl, inr}
+use Rattle.std.proofs.Common.{◌≡◌, ℕ, ◌≤◌, ◌&&◌, leb, Bool, true, false, [], ◌∷◌, refl, sym, true≢false, ◌∙◌, arith, inl, inr}
 use Rattle.std.proofs.lemmas.Bool.Decides.{nat_tests}
 use Rattle.cp_words.specs.Limits.{standard}
 use Rattle.cp_tree.specs.Node.{no_nodes, node, depth, cost}

@@ -1,5 +1,5 @@
 -- How work goes on.
-use Rattle.std.proofs.Common.{◌≡◌, ◌↔◌, ◌<◌, ◌+◌, ℕ, drop, get_or, add-one, List, [], Option, Some, None, IsSome, Bool, true, false, IsTrue, ◌||◌, Result, Ok, Err, OnOk, refl, sym, ap, ◌∙◌, length}
+use Rattle.std.proofs.Common.{◌≡◌, ◌↔◌, ◌<◌, ◌+◌, ℕ, drop, get_or, add-one, List, [], Option, Some, None, IsSome, Bool, true, false, IsTrue, ◌||◌, Result, Ok, Err, OnOk, refl, sym, ◌∙◌, length}
 use Rattle.std.proofs.lemmas.Bool.{false≢true}
 use Rattle.std.proofs.Math.Seq.{drop-cons}
 use Rattle.std.specs.FinMap.{get, remove}

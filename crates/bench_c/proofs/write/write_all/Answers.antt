@@ -1,4 +1,4 @@
-use Rattle.std.proofs.Common.{◌+◌, ℕ, List, rules, subst, sym}
+use Rattle.std.proofs.Common.{◌+◌, rules, subst, sym}
 use Rattle.bench_c.specs.Kept.{AreFirstWritten}
 use Rattle.bench_c.specs.Write.{IsFrameOf}
 use Rattle.bench_c.proofs.Trees.{written_more}
