@@ -24,10 +24,10 @@ generate() { # REQUEST ARGUMENT..
     fi
 }
 
-compare() { # CRATE
+compare() { # CRATE [FOLDER]    the folder that what is kept of the crate lies in
     local part
     for part in src specs; do
-        diff -r "$room/$1/$part" "$root/crates/$1/$part" || differ=1
+        diff -r "$room/$1/$part" "${2-$root/crates/$1}/$part" || differ=1
     done
 }
 
@@ -37,11 +37,13 @@ if command -v capnp >/dev/null; then
     (cd "$root/crates/addressbook" && capnp compile -o- addressbook.capnp) >"$room/request"
     generate "$room/request" --drafts
     compare addressbook
-    for it in directory store; do
-        (cd "$root/crates/$it" && capnp compile -o- "$it.capnp") >"$room/request"
-        generate "$room/request" --interfaces
-        compare "$it"
-    done
+    (cd "$root/crates/store" && capnp compile -o- store.capnp) >"$room/request"
+    generate "$room/request" --interfaces
+    compare store
+    "$root/nightly/interfaces/lay.sh" "$root/nightly/interfaces/crates/directory" "$room/kept"
+    (cd "$room/kept" && capnp compile -o- directory.capnp) >"$room/request"
+    generate "$room/request" --interfaces
+    compare directory "$room/kept"
 fi
 [ "$differ" -eq 0 ] || fail "the plugin writes otherwise than what is kept, as shown above"
 say "the plugin writes again what is kept"
