@@ -32,8 +32,7 @@ impl StoreServer for Shelf {
         let key = params.key()?.text(self.alloc)?;
         let value = params.value()?.text(self.alloc)?;
         self.texts.insert(key, value)?;
-        let results = StorePutResultsDraft::new(self.alloc)?;
-        Ok(Answer::of(self.alloc, results))
+        Ok(Answer::of(self.alloc, StorePutResultsDraft::new(self.alloc)?))
     }
 
     fn get(
