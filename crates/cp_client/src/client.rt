@@ -212,18 +212,18 @@ impl<R: Read + Drop, W: Write + Drop> Client<R, W> {
         self.flush()?;
         self.session.goes_on()?;
         self.read()?;
-        self.take()?;
+        self.receive()?;
         Ok(())
     }
 
     /// Takes bytes up to the end of a message, or of those that were read.
-    fn take(&mut self) -> Result<(), ClientFault>
+    fn receive(&mut self) -> Result<(), ClientFault>
         requires { self.old.session.over ≡ None }
         ensures exchanges { let at = seat R.remaining W.contents in Exchanges (at self.old) (at self.new) }
         ensures same { (self.new.from ≡ self.old.from) × (self.new.to ≡ self.old.to) }
         ensures ended { IfErr result IsConnections }
     {
-        self.session.take()
+        self.session.receive()
     }
 
     /// Reads a piece, where nothing is left of one.

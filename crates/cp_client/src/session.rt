@@ -114,7 +114,7 @@ impl Session {
     }
 
     /// Takes the bytes up to the end of the next message.
-    pub(crate) fn take(&mut self) -> Result<(), ClientFault>
+    pub(crate) fn receive(&mut self) -> Result<(), ClientFault>
         requires { self.old.over ≡ None }
         ensures exchanges { Between self.old self.new Exchanges }
         ensures ended { IfErr result IsConnections }

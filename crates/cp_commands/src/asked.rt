@@ -29,10 +29,7 @@ impl Asked {
             methods: BTreeMap::new(alloc),
         };
         let mut questions = Occurrences::new(alloc);
-        let mut reader = match mode {
-            Mode::Plain => FrameReader::plain(alloc, limits),
-            Mode::Packed => FrameReader::packed(alloc, limits),
-        };
+        let mut reader = FrameReader::new(alloc, mode, limits);
         for (_, segments) in &reader.feed(bytes)? {
             asked.add(&mut questions, segments, limits)?;
         }

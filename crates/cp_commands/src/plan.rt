@@ -87,14 +87,11 @@ impl Plan<'_> {
             Plan::Unpack => (Mode::Packed, Limits::standard()),
             Plan::Recut { mode, .. } => (*mode, Limits::standard()),
         };
-        match mode {
-            Mode::Plain => FrameReader::plain(alloc, limits),
-            Mode::Packed => FrameReader::packed(alloc, limits),
-        }
+        FrameReader::new(alloc, mode, limits)
     }
 
     /// Does the command on a frame.
-    fn take<W: Write>(
+    fn do_frame<W: Write>(
         &self,
         segments: &Segments,
         last: &mut Last,
@@ -119,7 +116,7 @@ impl Plan<'_> {
     }
 
     /// Does the command on each frame that ends in the piece. Says whether one does.
-    fn take_piece<W: Write>(
+    fn do_piece<W: Write>(
         &self,
         reader: &mut FrameReader,
         piece: &[u8],
@@ -132,7 +129,7 @@ impl Plan<'_> {
             let Some((taken, segments, back)) = reader.next(left)? else {
                 break;
             };
-            self.take(&segments, last, out)?;
+            self.do_frame(&segments, last, out)?;
             reader.reuse(segments);
             progress.frames = progress.frames.saturating_add(1);
             progress.bytes = progress.bytes.saturating_add(taken);
@@ -167,7 +164,7 @@ impl Plan<'_> {
                 Err(error) if error.kind() == ErrorKind::Interrupted => continue,
                 Err(error) => return Err(Stop::Reading(error)),
             };
-            let ended = self.take_piece(&mut reader, &piece[..length], &mut last, out, progress)?;
+            let ended = self.do_piece(&mut reader, &piece[..length], &mut last, out, progress)?;
             most = if ended { PIECE } else { asked + PIECE / 2 };
         }
         Err(Stop::Reading(io::Error::from(ErrorKind::Other)))

@@ -17,7 +17,7 @@ use std::marker::Model;
 use std::mem;
 
 /// The most bytes for which an empty block keeps its memory.
-const KEPT: usize = 1_048_576;
+const KEPT: usize = 2_097_152;
 
 /// Frames that are to be written, of which a front may have been.
 #[derive(Drop)]

@@ -25,9 +25,9 @@ pub record Reader : Type 0 where
   pub words : ℕ
   pub spare : ℕ
 
--- the most that a buffer has room for that is kept for later frames: 1 MiB
+-- the most that a buffer has room for that is kept for later frames: 2 MiB
 abbrev pub most_spare : ℕ
-most_spare = 131072
+most_spare = 262144
 
 -- the rests of two streams go on alike: they are the same, or unpack to the same whatever follows
 abbrev pub GoesOnAs : Mode → List ℕ → List ℕ → Type 0

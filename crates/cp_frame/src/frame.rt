@@ -309,7 +309,7 @@ fn first_segment(alloc: Global, size: usize, spare: &mut Spare) -> Result<Vec<u6
     ensures items { IfOk result (λ v. v.items ≡ []) }
     ensures capacity { IfOk result (λ v. (vec_capacity v ≤ FIRST_CAPACITY) ⊎ (vec_capacity v ≡ vec_capacity spare.old.words)) }
 {
-    spare.take(alloc, size.min(FIRST_CAPACITY), size)
+    spare.buffer_for(alloc, size.min(FIRST_CAPACITY), size)
 }
 
 /// Puts away each segment that is whole.

@@ -125,7 +125,7 @@ impl FrameReader {
     }
 
     /// Takes back a message that isn't needed any more, for the buffer of its first segment, in which the reader
-    /// may make a later frame. It keeps one such buffer, the largest of those of at most 1 MiB, and none of its
+    /// may make a later frame. It keeps one such buffer, the largest of those of at most 2 MiB, and none of its
     /// words. What has come of the stream stays as it is.
     pub fn reuse(&mut self, segments: Segments)
         ensures stays { IsAsBefore self.old self.new }
@@ -178,7 +178,7 @@ impl FrameReader {
 
     /// How many bytes that aren't whole words, and how many words of the open frame, its segment
     /// table included, the reader keeps: at most 9 bytes, and no more words than have come whole. That is all that it
-    /// keeps of the stream. Beside it there is the buffer for later frames (`spare`), of at most 1 MiB, without words.
+    /// keeps of the stream. Beside it there is the buffer for later frames (`spare`), of at most 2 MiB, without words.
     pub fn held(&self) -> (usize, usize)
         ensures bytes { result.0 ≡ self.now.bytes }
         ensures words { result.1 ≡ self.now.words }
@@ -191,8 +191,8 @@ impl FrameReader {
         )
     }
 
-    /// How many words the buffer has room for that the reader keeps for later frames: at most 131,072, which take
-    /// 1 MiB, however large the frames were that were given back.
+    /// How many words the buffer has room for that the reader keeps for later frames: at most 262,144, which take
+    /// 2 MiB, however large the frames were that were given back.
     pub fn spare(&self) -> usize
         ensures spare { result ≡ self.now.spare }
         ensures little { result ≤ most_spare }

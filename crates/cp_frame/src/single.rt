@@ -26,7 +26,7 @@ pub fn take_whole<'a>(
     };
     let (_, body) = bytes.split_at(WORD);
     let (front, back) = body.split_at(WORD * size);
-    let mut words = spare.take(alloc, size, size)?;
+    let mut words = spare.buffer_for(alloc, size, size)?;
     take_in(&mut words, front)?;
     let taken = (WORD + WORD * size) as u64;
     Ok(Some((taken, Segments::one(words), back)))

@@ -9,8 +9,8 @@ use std::mem;
 /// How many times the words of a segment the capacity of its buffer may be.
 const MOST_SPARE: usize = 8;
 
-/// How many words a buffer that is kept has room for at the most: 1 MiB.
-const MOST_KEPT: usize = 131_072;
+/// How many words a buffer that is kept has room for at the most: 2 MiB.
+const MOST_KEPT: usize = 262_144;
 
 /// A buffer that was given back, for the words of a later segment. It holds none.
 #[derive(Drop)]
@@ -47,7 +47,7 @@ impl Spare {
 
     /// A list for this many words: in this buffer, where its capacity is neither less than is asked for nor far
     /// more than the words need, or else in one of that capacity.
-    pub fn take(
+    pub fn buffer_for(
         &mut self,
         alloc: Global,
         capacity: usize,

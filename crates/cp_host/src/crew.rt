@@ -42,7 +42,11 @@ impl<O: Servant> Crew<O> {
     }
 
     /// Takes a piece, within the limits, and keeps the rest.
-    pub(crate) fn take(&mut self, piece: &[u8], limits: &HostLimits) -> Result<(), ConnectionFault>
+    pub(crate) fn receive(
+        &mut self,
+        piece: &[u8],
+        limits: &HostLimits,
+    ) -> Result<(), ConnectionFault>
         ensures { OnOk result (KeepsRest self.old.connection piece.now self.old.rest.items self.new.connection self.new.rest.items) }
     {
         let objects = self.objects.as_mut_slice();
@@ -52,7 +56,7 @@ impl<O: Servant> Crew<O> {
     }
 
     /// Takes what is left of a piece, within the limits.
-    pub(crate) fn take_rest(&mut self, limits: &HostLimits) -> Result<(), ConnectionFault>
+    pub(crate) fn receive_rest(&mut self, limits: &HostLimits) -> Result<(), ConnectionFault>
         ensures { OnOk result (KeepsRest self.old.connection self.old.rest.items [] self.new.connection self.new.rest.items) }
     {
         let objects = self.objects.as_mut_slice();

@@ -113,7 +113,7 @@ impl<O: Servant> Guest<O> {
         }
         let messages = self.crew.messages();
         let done = if self.crew.untaken() > 0 {
-            self.crew.take_rest(limits)
+            self.crew.receive_rest(limits)
         } else if self.wire.is_readable() {
             self.read(piece, limits, now)?
         } else if self.crew.asks_again() {
@@ -137,7 +137,7 @@ impl<O: Servant> Guest<O> {
         let done = match self.wire.read(piece)? {
             Got::Bytes(count) => {
                 self.seat.move_at(now);
-                self.crew.take(&piece[..count], limits)
+                self.crew.receive(&piece[..count], limits)
             }
             Got::Nothing => Ok(()),
             Got::End => {

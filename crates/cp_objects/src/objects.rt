@@ -421,7 +421,7 @@ impl Objects {
         let Some(settled) = settled else {
             return Ok(false);
         };
-        let Some(origin) = self.awaited.take(settled.ticket) else {
+        let Some(origin) = self.awaited.remove(settled.ticket) else {
             return Ok(false);
         };
         self.give_up(&settled.gives_up)?;

@@ -182,6 +182,7 @@ impl<S: Source> SendResultsToView<S> {
 
 impl<S: Source> CallView<S> {
     /// Checks the call that a struct says.
+    #[inline(never)]
     pub(crate) fn check(t: &S) -> Result<(), SchemaFault>
         requires { IsStructField (S.seen t.now) }
         ensures { Checks (call_faults (S.seen t.now)) result }
@@ -191,6 +192,7 @@ impl<S: Source> CallView<S> {
     }
 
     /// The call that a struct says.
+    #[inline(never)]
     pub(crate) fn of(t: &S) -> Result<CallView<S>, SchemaFault>
         requires { IsStructField (S.seen t.now) }
         ensures { Gives (viewed_call S.seen) (call_denoted (S.seen t.now)) (call_faults (S.seen t.now)) result }

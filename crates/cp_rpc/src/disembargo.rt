@@ -115,6 +115,7 @@ impl Disembargo {
 
 impl<S: Source> DisembargoView<S> {
     /// Checks the disembargo that a struct says.
+    #[inline(never)]
     pub(crate) fn check(t: &S) -> Result<(), SchemaFault>
         requires { IsStructField (S.seen t.now) }
         ensures { Checks (disembargo_faults (S.seen t.now)) result }
@@ -123,6 +124,7 @@ impl<S: Source> DisembargoView<S> {
     }
 
     /// The disembargo that a struct says.
+    #[inline(never)]
     pub(crate) fn of(t: &S) -> Result<DisembargoView<S>, SchemaFault>
         requires { IsStructField (S.seen t.now) }
         ensures { Gives (viewed_disembargo S.seen) (disembargo_denoted (S.seen t.now)) (disembargo_faults (S.seen t.now)) result }

@@ -145,6 +145,7 @@ impl ExceptionKind {
 
 impl<S: Source> ExceptionView<S> {
     /// Checks the exception that a struct says.
+    #[inline(never)]
     pub(crate) fn check(t: &S) -> Result<(), SchemaFault>
         requires { IsStructField (S.seen t.now) }
         ensures { Checks (exception_faults (S.seen t.now)) result }
@@ -155,6 +156,7 @@ impl<S: Source> ExceptionView<S> {
     }
 
     /// The exception that a struct says.
+    #[inline(never)]
     pub(crate) fn of(t: &S) -> Result<ExceptionView<S>, SchemaFault>
         requires { IsStructField (S.seen t.now) }
         ensures { Gives (viewed_exception S.seen) (exception_denoted (S.seen t.now)) (exception_faults (S.seen t.now)) result }

@@ -226,6 +226,8 @@ impl<S: Source> MessageIn<S> {
         }
     }
 
+    // What reads a member with members of its own isn't inlined: the places of its locals would be cleared here for each message.
+
     /// The message that a struct says.
     pub(crate) fn of(t: &S) -> Result<MessageIn<S>, SchemaFault>
         requires { IsStructField (S.seen t.now) }

@@ -161,6 +161,7 @@ impl<S: Source> ResolutionView<S> {
 
 impl<S: Source> ResolveView<S> {
     /// Checks the resolve that a struct says.
+    #[inline(never)]
     pub(crate) fn check(t: &S) -> Result<(), SchemaFault>
         requires { IsStructField (S.seen t.now) }
         ensures { Checks (resolve_faults (S.seen t.now)) result }
@@ -173,6 +174,7 @@ impl<S: Source> ResolveView<S> {
     }
 
     /// The resolve that a struct says.
+    #[inline(never)]
     pub(crate) fn of(t: &S) -> Result<ResolveView<S>, SchemaFault>
         requires { IsStructField (S.seen t.now) }
         ensures { Gives (viewed_resolve S.seen) (resolve_denoted (S.seen t.now)) (resolve_faults (S.seen t.now)) result }

@@ -208,6 +208,7 @@ impl<S: Source> ReturnedView<S> {
 
 impl<S: Source> ReturnView<S> {
     /// Checks the return that a struct says.
+    #[inline(never)]
     pub(crate) fn check(t: &S) -> Result<(), SchemaFault>
         requires { IsStructField (S.seen t.now) }
         ensures { Checks (return_faults (S.seen t.now)) result }
@@ -220,6 +221,7 @@ impl<S: Source> ReturnView<S> {
     }
 
     /// The return that a struct says.
+    #[inline(never)]
     pub(crate) fn of(t: &S) -> Result<ReturnView<S>, SchemaFault>
         requires { IsStructField (S.seen t.now) }
         ensures { Gives (viewed_return S.seen) (return_denoted (S.seen t.now)) (return_faults (S.seen t.now)) result }

@@ -47,7 +47,7 @@ impl Awaited {
     }
 
     /// An outcome is awaited no more. `None` says that it wasn't.
-    pub fn take(&mut self, ticket: u64) -> Option<Origin>
+    pub fn remove(&mut self, ticket: u64) -> Option<Origin>
         ensures value { result ≡ map.get self.old ticket }
         ensures removed { self.new ≡ map.remove self.old ticket }
     {

@@ -437,10 +437,10 @@ fn expect_spare(
 fn a_large_buffer_is_not_kept_for_later_frames(rt: HostRuntime) {
     let piece = vec![in rt.alloc(); 0x8au8; 64_000].expect(&rt, "memory");
     let mut reader = new_reader(rt.alloc());
-    expect_spare(&rt, rt.alloc(), &mut reader, 131_073, 0);
+    expect_spare(&rt, rt.alloc(), &mut reader, 262_145, 0);
     expect_spare(&rt, rt.alloc(), &mut reader, 1_000, 1_000);
-    expect_spare(&rt, rt.alloc(), &mut reader, 131_072, 131_072);
-    expect_spare(&rt, rt.alloc(), &mut reader, 8_388_608, 131_072);
+    expect_spare(&rt, rt.alloc(), &mut reader, 262_144, 262_144);
+    expect_spare(&rt, rt.alloc(), &mut reader, 8_388_608, 262_144);
     expect_fed(&rt, &mut reader, &LARGE_TABLE, Ok(0));
     expect_large_after(&rt, reader, &piece, 25);
     drop(piece);

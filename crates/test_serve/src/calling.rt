@@ -100,7 +100,7 @@ fn expect_sent(
     lines: &str,
 ) {
     let bytes = bytes_of(rt, alloc, frames);
-    session.take(rt, &bytes).expect(rt, "memory");
+    session.receive(rt, &bytes).expect(rt, "memory");
     session.end().expect(rt, "memory");
     let outgoing = session.connection.outgoing();
     expect_lines(rt, alloc, outgoing, Mode::Plain, lines);

@@ -39,7 +39,7 @@ impl Session {
     }
 
     /// Takes bytes of the peer, piece by piece.
-    pub fn take(&mut self, rt: &impl Abort, bytes: &[u8]) -> Result<(), AllocError> {
+    pub fn receive(&mut self, rt: &impl Abort, bytes: &[u8]) -> Result<(), AllocError> {
         for piece in bytes.chunks(PIECE) {
             let mut taken = 0;
             for _ in 0..piece.len() {
@@ -86,7 +86,7 @@ fn an_object_may_fail(rt: HostRuntime) {
     let alloc = rt.alloc();
     let mut session = Session::new(&rt, alloc, Objects::new(alloc), Object::Starved);
     let bytes = bytes_of(&rt, alloc, &[BOOTSTRAP, LATER]);
-    let taken = session.take(&rt, &bytes);
+    let taken = session.receive(&rt, &bytes);
     check!(&rt; taken.is_err());
     let outgoing = session.connection.outgoing();
     expect_lines(&rt, alloc, outgoing, Mode::Plain, WAITING);
@@ -99,7 +99,7 @@ fn a_desk_goes_on_by_itself(rt: HostRuntime) {
     let alloc = rt.alloc();
     let mut session = Session::new(&rt, alloc, Objects::new(alloc), Object::desk(alloc));
     let bytes = bytes_of(&rt, alloc, &[BOOTSTRAP, LATER]);
-    session.take(&rt, &bytes).expect(&rt, "memory");
+    session.receive(&rt, &bytes).expect(&rt, "memory");
     let waits = any_again(&session.objects);
     session.end().expect(&rt, "memory");
     let waits_still = any_again(&session.objects);

@@ -81,10 +81,7 @@ fn push_lines(rt: &impl Abort, alloc: Global, lines: &mut String, frames: &[(u64
 
 /// The messages of a stream, as lines.
 fn lines_of(rt: &impl Abort, alloc: Global, bytes: &[u8], mode: Mode) -> String {
-    let mut reader = match mode {
-        Mode::Plain => FrameReader::plain(alloc, Limits::standard()),
-        Mode::Packed => FrameReader::packed(alloc, Limits::standard()),
-    };
+    let mut reader = FrameReader::new(alloc, mode, Limits::standard());
     let frames = reader.feed(bytes).ok().expect(rt, "frames");
     check!(rt; reader.finish().is_ok());
     drop(reader);

@@ -5,8 +5,8 @@ use Rattle.cp_client.proofs.Going.{exchanges_both}
 use Rattle.cp_client.proofs.Waiting.{stops_reading, stops_connections}
 use Rattle.cp_client.proofs.client.Client.step.Goals as goal
 
-pub take-requires : goal.take-requires
-take-requires g c = c.in_ok-read.ensures.same.0 ∙ c.in_ok-goes_on.ensures.goes_on
+pub receive-requires : goal.receive-requires
+receive-requires g c = c.in_ok-read.ensures.same.0 ∙ c.in_ok-goes_on.ensures.goes_on
 
 pub returns-in_err-goes_on-clause-stops : goal.returns-in_err-goes_on-clause-stops
 returns-in_err-goes_on-clause-stops g c =
@@ -22,10 +22,10 @@ returns-in_err-read-clause-stops g c =
     let f = c.in_ok-flush.ensures in
     rw (p.1, p.2) (stops_reading _ _ f.none_failed f.written (ap (device g.W.Write.contents) c.in_err-read.ensures.same.1) c.in_err-read.ensures.stops)
 
-pub returns-in_err-take-clause-exchanges : goal.returns-in_err-take-clause-exchanges
-returns-in_err-take-clause-exchanges g c =
-    exchanges_both (exchanges_both c.in_ok-flush.ensures.exchanges c.in_ok-read.ensures.exchanges) c.in_err-take.ensures.exchanges
+pub returns-in_err-receive-clause-exchanges : goal.returns-in_err-receive-clause-exchanges
+returns-in_err-receive-clause-exchanges g c =
+    exchanges_both (exchanges_both c.in_ok-flush.ensures.exchanges c.in_ok-read.ensures.exchanges) c.in_err-receive.ensures.exchanges
 
 pub returns-clause-exchanges : goal.returns-clause-exchanges
 returns-clause-exchanges g c =
-    exchanges_both (exchanges_both c.in_ok-flush.ensures.exchanges c.in_ok-read.ensures.exchanges) c.in_ok-take.ensures.exchanges
+    exchanges_both (exchanges_both c.in_ok-flush.ensures.exchanges c.in_ok-read.ensures.exchanges) c.in_ok-receive.ensures.exchanges

@@ -1,5 +1,5 @@
 use Rattle.cp_tables.proofs.TableLemmas.{get-listed, listed-remove}
-use Rattle.cp_servants.proofs.awaited.Awaited.take.Goals as goal
+use Rattle.cp_servants.proofs.awaited.Awaited.remove.Goals as goal
 
 pub returns-clause-value : goal.returns-clause-value
 returns-clause-value c = rw (← c.self.view_is, get-listed) c.remove.ensures.value

@@ -1,7 +1,7 @@
 use Rattle.std.proofs.Common.{ℕ, List, refl, subst}
 use Rattle.cp_connection.specs.Receiving.{Receives, IsUnreceived}
 use Rattle.cp_client.proofs.Going.{exchanges_took, exchanges_failed}
-use Rattle.cp_client.proofs.session.Session.take.Goals as goal
+use Rattle.cp_client.proofs.session.Session.receive.Goals as goal
 
 pub returns-in-Ok-clause-exchanges : goal.returns-in-Ok-clause-exchanges
 returns-in-Ok-clause-exchanges c = λ from to.
