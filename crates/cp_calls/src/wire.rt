@@ -27,7 +27,8 @@ pub(crate) struct Wire<S> {
     stream: S,
     poll: Poll,
     events: Events,
-    timeout: Option<Duration>,
+    /// How many seconds a wait takes at the most.
+    timeout: Option<u32>,
     /// The bytes that came before they were asked for, and how many of them were given out.
     ahead: Vec<u8>,
     given: usize,
@@ -54,7 +55,7 @@ impl<S: Source + Read + Write + Drop> Wire<S> {
             stream,
             poll,
             events: Events::with_capacity(alloc, 1)?,
-            timeout: time_of(plan.timeout),
+            timeout: plan.timeout,
             ahead: Vec::new(alloc),
             given: 0,
             is_shut: false,
@@ -152,15 +153,27 @@ impl<S: Source + Read + Write + Drop> Wire<S> {
         Ok(())
     }
 
-    /// Waits until something comes, or can be written. (A signal ends a wait as its time does.)
+    /// Waits until something comes, or can be written, and for as many seconds as are given at the most. It waits for each of them by
+    /// itself: a signal ends a wait, and so takes no more than that second.
     fn wait(&mut self) -> io::Result<()> {
-        if let Err(error) = self.poll.poll(&mut self.events, self.timeout) {
-            return Err(self.fail(error));
+        let Some(seconds) = self.timeout else {
+            return self.wait_for(None);
+        };
+        for _ in 0..seconds {
+            self.wait_for(Some(Duration::from_secs(1)))?;
+            if !self.events.is_empty() {
+                return Ok(());
+            }
         }
-        if self.events.is_empty() && self.timeout.is_some() {
-            return Err(io::Error::from(ErrorKind::TimedOut));
+        Err(io::Error::from(ErrorKind::TimedOut))
+    }
+
+    /// Waits until something comes, or can be written, or the time is over.
+    fn wait_for(&mut self, time: Option<Duration>) -> io::Result<()> {
+        match self.poll.poll(&mut self.events, time) {
+            Ok(()) => Ok(()),
+            Err(error) => Err(self.fail(error)),
         }
-        Ok(())
     }
 
     /// Keeps why the peer takes nothing more.
@@ -209,13 +222,5 @@ impl<'a, S: Source + Read + Write + Drop> Write for Side<'a, S> {
 
     fn flush(&mut self) -> io::Result<()> {
         Ok(())
-    }
-}
-
-/// The longest wait for something to come or to go.
-fn time_of(timeout: Option<u32>) -> Option<Duration> {
-    match timeout {
-        Some(seconds) => Some(Duration::from_secs(seconds as u64)),
-        None => None,
     }
 }
