@@ -79,14 +79,32 @@ copy_sources() { # FOLDER CRATE..
     done
 }
 
+lay_library() { mkdir "$2/crates/$1/out" && link "$root/crates/$1/out/rlib" "$2/crates/$1/out/rlib"; } # CRATE FOLDER: as it is built
+
+lines_of() { awk -v of=" $* " '{ name = $1; sub(/[:#].*/, "", name) } name && index(of, " " name " ")' "$root/crates.txt"; } # CRATE..
+
 lay_out() { # CRATE SOURCES FOLDER: a repository of this crate and of those below as they are built. No rt writes to these
     local it
     mkdir -p "$3/crates"
     for it in ${stands[$1]}; do
         link "$2/$it" "$3/crates/$it"
-        [ "$it" = "$1" ] || { mkdir "$3/crates/$it/out"; link "$root/crates/$it/out/rlib" "$3/crates/$it/out/rlib"; }
+        [ "$it" = "$1" ] || lay_library "$it" "$3"
     done
-    awk -v of=" ${stands[$1]} " '{ name = $1; sub(/[:#].*/, "", name) } name && index(of, " " name " ")' "$root/crates.txt" >"$3/crates.txt"
+    lines_of "${stands[$1]}" >"$3/crates.txt"
+}
+
+# FOLDER CRATE..: builds these crates, and makes a repository of them and of those that they use, for a program that the repository
+# here hasn't: its sources go into FOLDER/crates, and its line after those of FOLDER/crates.txt
+lay_beside() {
+    local to=$1 it
+    shift
+    "$root/tools/build.sh" "$@"
+    read_crates
+    closure "$@"
+    rm -rf "$to/crates"
+    copy_sources "$to/crates" "${order[@]}"
+    for it in "${order[@]}"; do lay_library "$it" "$to"; done
+    lines_of "${order[@]}" >"$to/crates.txt"
 }
 
 members() { # SESSION..: their processes that haven't ended

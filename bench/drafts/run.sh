@@ -4,27 +4,9 @@
 #
 # The program of ours is main.code, proved and built over the libraries as they are built: two minutes at first.
 set -eu
-. "$(dirname "${BASH_SOURCE[0]}")/../../tools/build.sh"
+. "$(dirname "${BASH_SOURCE[0]}")/../../tools/crates.sh"
 here=$(cd "$(dirname "${BASH_SOURCE[0]}")" && pwd)
 mkdir -p "$1" && folder=$(cd "$1" && pwd)
-libraries=(addressbook cp_writing cp_frame)
-
-take_libraries() { # the libraries, as they are built, and the program above them
-    local it
-    read_crates
-    closure "${libraries[@]}"
-    rm -rf "$folder/crates" "$folder/crates.txt"
-    for it in "${order[@]}"; do
-        mkdir -p "$folder/crates/$it/out"
-        cp -a "$root/crates/$it"/{src,specs} "$folder/crates/$it/"
-        [ ! -d "$root/crates/$it/proofs" ] || cp -a "$root/crates/$it/proofs" "$folder/crates/$it/"
-        cp -a "$root/crates/$it/out/rlib" "$folder/crates/$it/out/"
-        grep "^$it:" "$root/crates.txt" >>"$folder/crates.txt"
-    done
-    mkdir -p "$folder/crates/time_drafts/src"
-    cp "$here/main.code" "$folder/crates/time_drafts/src/main.rt"
-    printf 'time_drafts: cp_words cp_tree cp_writing cp_packed cp_frame cp_fields cp_drafts addressbook anyhow\n' >>"$folder/crates.txt"
-}
 
 ours() { # links the program, if it isn't built, and runs it
     (cd "$folder/crates/time_drafts" && rt run >"$folder/said" 2>&1) || { tail -n 20 "$folder/said" >&2; exit 1; }
@@ -37,7 +19,9 @@ theirs() {
     "$folder/reference"
 }
 
-build "${libraries[@]}"
-take_libraries
+lay_beside "$folder" addressbook cp_writing cp_frame
+mkdir -p "$folder/crates/time_drafts/src"
+cp "$here/main.code" "$folder/crates/time_drafts/src/main.rt"
+echo "time_drafts: cp_words cp_tree cp_writing cp_packed cp_frame cp_fields cp_drafts addressbook anyhow" >>"$folder/crates.txt"
 ours
 theirs

@@ -5,24 +5,19 @@
 set -eu
 here=$(cd "$(dirname "${BASH_SOURCE[0]}")" && pwd)
 . "$here/../../tools/crates.sh"
-read_crates
-closure jamdrosek
-"$root/tools/build.sh" jamdrosek capnpc_rattle
+"$root/tools/build.sh" capnpc_rattle
 mkdir -p "$1"
 room=$(cd "$1" && pwd)/room
-rm -rf "$room/crates"
-copy_sources "$room/crates" "${order[@]}"
-for it in "${order[@]}"; do mkdir "$room/crates/$it/out" && link "$root/crates/$it/out/rlib" "$room/crates/$it/out/rlib"; done
+lay_beside "$room" jamdrosek
 for it in "$here"/crates/*; do "$here/lay.sh" "$it" "$room/crates/$(basename "$it")"; done
 mkdir -p "$room/crates/interfaces/src"
 for it in "$here"/*.code; do cp "$it" "$room/crates/interfaces/src/$(basename "$it" .code).rt"; done
 cp "$room"/crates/example_directory/src/{shelf,counter}.rt "$room/crates/interfaces/src/"
 {
-    awk -v of=" ${order[*]} " '{ name = $1; sub(/[:#].*/, "", name) } name && index(of, " " name " ")' "$root/crates.txt"
     cat "$here/crates.list"
     (cd "$here" && capnp compile -o- calculator.capnp) | (cd "$room/crates" && "$root/crates/capnpc_rattle/out/capnpc_rattle" --interfaces)
     echo "interfaces: jamdrosek calculator directory anyhow"
-} >"$room/crates.txt"
+} >>"$room/crates.txt"
 cp "$root/HANDLES" "$room/"
 (cd "$room/crates/interfaces" && rt run -- - 0) || true # (which builds it, and finds no server there)
 cp "$room/crates/interfaces/out/interfaces" "$room/../interfaces"

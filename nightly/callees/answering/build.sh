@@ -3,15 +3,10 @@
 set -eu
 here=$(cd "$(dirname "${BASH_SOURCE[0]}")" && pwd)
 . "$here/../../../tools/crates.sh"
-read_crates
-closure cp_exports cp_contents
-"$root/tools/build.sh" cp_exports cp_contents
 mkdir -p "$1"
 room=$(cd "$1" && pwd)/room
-rm -rf "$room/crates"
-copy_sources "$room/crates" "${order[@]}"
-for it in "${order[@]}"; do mkdir "$room/crates/$it/out" && link "$root/crates/$it/out/rlib" "$room/crates/$it/out/rlib"; done
+lay_beside "$room" cp_exports cp_contents
 mkdir -p "$room/crates/answering/src" && cp "$here/main.code" "$room/crates/answering/src/main.rt"
-{ cat "$root/crates.txt" | awk -v of=" ${order[*]} " '{ name = $1; sub(/[:#].*/, "", name) } name && index(of, " " name " ")'; echo "answering: cp_words cp_frame cp_vat_machine cp_refs cp_servants cp_client cp_exports cp_contents anyhow"; } >"$room/crates.txt"
+echo "answering: cp_words cp_frame cp_vat_machine cp_refs cp_servants cp_client cp_exports cp_contents anyhow" >>"$room/crates.txt"
 (cd "$room/crates/answering" && rt run -- 0) || true # (which builds it, and then has no trials)
 cp "$room/crates/answering/out/answering" "$room/../answering"
