@@ -42,9 +42,24 @@ use sheet::Sheet;
 use std::io::Read;
 use std::{env, fs};
 
+/// What `--help` prints.
+const USAGE: &str = "\
+usage: capnp compile -oFOLDER/capnpc_rattle:OUT X.capnp
+       capnp compile -o- X.capnp | capnpc_rattle [--crate=NAME] [--drafts] [--interfaces] [--print]
+
+Writes a crate of views for each schema file into the current folder.
+
+  --crate=NAME  The crate's name, in place of the file's
+  --drafts      Drafts too, by which structs are written
+  --interfaces  Typed clients and objects of interfaces, and drafts
+  --print       Print the files, and write none
+";
+
 /// What the plugin is asked to do with what it makes.
 #[derive(Drop)]
 struct Task {
+    /// Whether it only prints how it is used.
+    helps: bool,
     /// The crate's name; empty where it is the file's.
     krate: String,
     /// Whether the crate has drafts.
@@ -59,6 +74,7 @@ impl Task {
     /// What the arguments say.
     fn new(rt: &HostRuntime) -> anyhow::Result<Task> {
         let mut task = Task {
+            helps: false,
             krate: String::new(rt.alloc()),
             drafts: false,
             interfaces: false,
@@ -68,6 +84,8 @@ impl Task {
             let word = word.as_str();
             if let Some(name) = word.strip_prefix("--crate=") {
                 task.krate.push_str(name)?;
+            } else if word == "--help" {
+                task.helps = true;
             } else if word == "--drafts" {
                 task.drafts = true;
             } else if word == "--interfaces" {
@@ -231,6 +249,10 @@ fn answer(rt: &HostRuntime, task: &Task, schema: &Schema) -> anyhow::Result<()> 
 
 fn main(rt: HostRuntime) -> anyhow::Result<()> {
     let task = Task::new(&rt)?;
+    if task.helps {
+        print!(rt; "{USAGE}")?;
+        return Ok(());
+    }
     let mut bytes = Vec::new(rt.alloc());
     rt.stdin().read_to_end(&mut bytes)?;
     answer(&rt, &task, &Schema::read(rt.alloc(), &bytes)?)
