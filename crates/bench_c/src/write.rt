@@ -7,7 +7,7 @@ ghost use Rattle.bench_c.specs.Write.{AreTreesOf, AreWritten, IsRewritten, Gives
 
 use crate::fill::fill;
 use crate::read::limits_of;
-use cp_frame::{FrameReader, write_after};
+use cp_frame::{FrameReader, Mode, write_after};
 use cp_reading::read_root;
 use cp_tree::Object;
 use cp_words::{Limits, Segments};
@@ -111,7 +111,7 @@ fn write_all(alloc: Global, trees: &[Object], words: u32, limits: Limits, out: &
         let Ok(segments) = write_segments(alloc, tree, words, limits) else {
             return false;
         };
-        let Ok(()) = write_after(out, &segments, limits) else {
+        let Ok(()) = write_after(alloc, out, &segments, Mode::Plain, limits) else {
             return false;
         };
     }

@@ -1,11 +1,6 @@
 -- What is noted of effects. No public clause names these.
 use Rattle.std.specs.Prelude.{◌≡◌, ℕ, List, [], ◌∷◌, ◌++◌, length}
-use Rattle.cp_words.specs.Limits.{standard}
 use Rattle.cp_frame.specs.declared.mode.Mode.{Mode}
-use Rattle.cp_rpc.specs.declared.message.Message.{Message}
-use Rattle.cp_stream.specs.declared.fault.StreamFault.{StreamFault}
-use Rattle.cp_stream.specs.declared.fault.StreamFault.TheVariants as streams
-use Rattle.cp_stream.specs.Write.{IsUnwrittenFor}
 use Rattle.cp_vat_machine.specs.declared.effect.Effect.{Effect}
 use Rattle.cp_connection.specs.declared.agenda.Agenda.{Agenda}
 use Rattle.cp_connection.specs.declared.happening.Happening.{Happening}
@@ -47,8 +42,3 @@ pub record IsNew (mode : Mode) (new : Agenda) : Type 0 where
   pub no_bytes : new.outgoing ≡ []
   pub no_happenings : new.happened.items ≡ []
   pub none_sent : new.sent ≡ 0
-
--- why a message isn't put after a block: it isn't laid out, or memory ran out for the frame, or for the block
-abbrev pub IsUnput : Message → StreamFault → Type 0
-IsUnput m (streams.Refused at refusal) = IsUnwrittenFor standard standard.frame_words 1 m refusal
-IsUnput m streams.Device = Unit {0}

@@ -5,16 +5,14 @@ ghost use Rattle.cp_words.specs.Limits.{standard};
 ghost use Rattle.cp_stream.specs.Write.{IsNotLaidOut, IsUnwrittenFor};
 ghost use Rattle.cp_vat_laws.specs.Sizes.{IsWritable};
 ghost use Rattle.cp_connection.specs.Effects.{Puts};
-ghost use Rattle.cp_connection.specs.Noting.{IsUnput};
 
 use cp_frame::Mode;
 use cp_rpc::Message;
-use cp_stream::{Refusal, StreamFault, Tap, write_message};
+use cp_stream::{Refusal, put_message};
 use cp_tree::WriteFault;
 use cp_words::Limits;
 use std::alloc::{AllocError, Global};
 use std::marker::Model;
-use std::mem;
 
 /// The most bytes for which an empty block keeps its memory.
 const KEPT: usize = 2_097_152;
@@ -124,27 +122,9 @@ fn put_after(
     ensures put { OnOk result (Puts mode message.now block.old.items block.new.items) }
     ensures same { OnErr result (block.new.items ≡ block.old.items) }
 {
-    let length = block.len();
-    let mut after = Tap::new(mem::replace(block, Vec::new(alloc)));
-    let written = write_message(alloc, &mut after, message, mode, Limits::standard());
-    *block = after.into_inner();
-    match written {
+    match put_message(alloc, block, message, mode, Limits::standard()) {
         Ok(()) => Ok(()),
-        Err(fault) => {
-            block.truncate(length);
-            Err(memory_fault(fault, message))
-        }
-    }
-}
-
-/// Why a message's frame isn't put after a block: memory ran out, for the frame or for the block.
-fn memory_fault(fault: StreamFault, message: &Message) -> AllocError
-    requires writable { IsWritable message.now }
-    requires fault { IsUnput message.now fault }
-{
-    match fault {
-        StreamFault::Refused { refusal, .. } => refusal_fault(refusal, message),
-        StreamFault::Device => AllocError,
+        Err(refusal) => Err(refusal_fault(refusal, message)),
     }
 }
 

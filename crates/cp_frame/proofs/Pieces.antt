@@ -1,5 +1,5 @@
 -- A frame that is written in packed pieces.
-use Rattle.std.proofs.Common.{◌≡◌, ◌==◌, if◌then◌else◌, Bool, true, false, ℕ, ◌+◌, ◌-◌, ◌*◌, ◌/◌, ◌%◌, ◌^◌, ◌<◌, ◌≤◌, List, [], ◌∷◌, ◌++◌, length, take, get_or, sym, ◌∙◌, ap, subst, append_assoc, length-append, arith}
+use Rattle.std.proofs.Common.{◌≡◌, ◌==◌, if◌then◌else◌, Bool, true, false, ℕ, ◌+◌, ◌-◌, ◌*◌, ◌/◌, ◌%◌, ◌^◌, ◌<◌, ◌≤◌, List, [], ◌∷◌, ◌++◌, length, take, get_or, Result, Ok, Err, OnErr, refl, sym, ◌∙◌, ap, subst, append_assoc, length-append, arith}
 use Rattle.std.specs.List.{AllZip, flat_map}
 use Rattle.std.specs.Int.{to_le_bytes, w32, w64}
 use Rattle.std.specs.Global.{Vec}
@@ -7,9 +7,9 @@ use Rattle.std.proofs.lemmas.List.{append-nil, take_all}
 use Rattle.std.proofs.lemmas.Grind.{flat_map-append}
 use Rattle.cp_frame.specs.declared.mode.Mode.TheVariants as modes
 use Rattle.cp_frame.specs.Framed.{spelled, sizes_of, table}
-use Rattle.cp_frame.specs.Frame.{IsWritten, padded_table}
+use Rattle.cp_frame.specs.Frame.{IsWritten, IsWrittenAfter, padded_table}
 use Rattle.cp_packed.specs.Packed.{Spelt}
-use Rattle.cp_packed.specs.Packing.{PutsSpelt}
+use Rattle.cp_packed.specs.Packing.{PutsSpelt, Appends}
 use Rattle.cp_words.specs.Segments.{words_of}
 use Rattle.cp_packed.specs.Words.{words_in, AreBytes, bytes_of}
 use Rattle.cp_frame.proofs.Numbers.{length_spelled, bytes_of_word}
@@ -26,35 +26,63 @@ all_zip-push [] (y ∷ T) s t h k = absurd h
 all_zip-push (x ∷ S) [] s t h k = absurd h
 all_zip-push (x ∷ S) (y ∷ T) s t h k = (h.0, all_zip-push S T s t h.1 k)
 
--- The table and some segments were written.
-pub record WritesPieces (head : List ℕ) (S : List (List ℕ)) (out : List ℕ) : Type 0 where
+-- After some bytes the table and some segments were written.
+pub record WritesPieces (start head : List ℕ) (S : List (List ℕ)) (out : List ℕ) : Type 0 where
   pub front : List ℕ
   pub pieces : List (List ℕ)
   pub first : Spelt head front
   pub each : AllZip Spelt S pieces
-  pub text : out ≡ front ++ flat_map (λ piece. piece) pieces
+  pub text : out ≡ start ++ (front ++ flat_map (λ piece. piece) pieces)
 
-pub pieces_none : (head old out : List ℕ) → old ≡ [] → PutsSpelt old out head → WritesPieces head [] out
-pieces_none head old out e h =
-    record { front = h.0; pieces = []; first = h.1; each = tt; text = h.2 ∙ ap (λ (b : List ℕ). b ++ h.0) e ∙ sym (append-nil h.0) }
+pub pieces_none : (head start old out : List ℕ) → old ≡ start → PutsSpelt old out head → WritesPieces start head [] out
+pieces_none head start old out e h =
+    record {
+      front = h.0;
+      pieces = [];
+      first = h.1;
+      each = tt;
+      text = h.2 ∙ ap (λ (b : List ℕ). b ++ h.0) e ∙ ap (λ (b : List ℕ). start ++ b) (sym (append-nil h.0));
+    }
 
-pub pieces_more : (head : List ℕ) (vs : List (Vec ℕ)) (i : ℕ) (v : Vec ℕ) (words old out : List ℕ) → i < length vs → v ≡ get_or vs i v → words ≡ v.items
-    → WritesPieces head (take i (words_of vs)) old → PutsSpelt old out words → WritesPieces head (take (i + 1) (words_of vs)) out
-pieces_more head vs i v words old out l r e h p =
+pub pieces_more : (start head : List ℕ) (vs : List (Vec ℕ)) (i : ℕ) (v : Vec ℕ) (words old out : List ℕ) → i < length vs → v ≡ get_or vs i v → words ≡ v.items
+    → WritesPieces start head (take i (words_of vs)) old → PutsSpelt old out words → WritesPieces start head (take (i + 1) (words_of vs)) out
+pieces_more start head vs i v words old out l r e h p =
     let piece : Spelt v.items p.0 = subst (λ (ws : List ℕ). Spelt ws p.0) e p.1 in
+    let before : List ℕ = flat_map (λ (piece : List ℕ). piece) h.pieces in
     record {
       front = h.front;
       pieces = h.pieces ++ p.0 ∷ [];
       first = h.first;
       each = subst (λ (S : List (List ℕ)). AllZip Spelt S (h.pieces ++ p.0 ∷ [])) (sym (next_list vs i v l r)) (all_zip-push (take i (words_of vs)) h.pieces v.items p.0 h.each piece);
       text =
-          p.2 ∙ ap (λ (b : List ℕ). b ++ p.0) h.text ∙ append_assoc h.front (flat_map (λ piece. piece) h.pieces) p.0
-          ∙ ap (λ (b : List ℕ). h.front ++ (flat_map (λ piece. piece) h.pieces ++ b)) (sym (append-nil p.0)) ∙ ap (λ (b : List ℕ). h.front ++ b) (sym (flat_map-append (λ (piece : List ℕ). piece) h.pieces (p.0 ∷ [])));
+          p.2 ∙ ap (λ (b : List ℕ). b ++ p.0) h.text ∙ append_assoc start (h.front ++ before) p.0
+          ∙ ap (λ (b : List ℕ). start ++ b) (
+          append_assoc h.front before p.0
+          ∙ ap (λ (b : List ℕ). h.front ++ (before ++ b)) (sym (append-nil p.0)) ∙ ap (λ (b : List ℕ). h.front ++ b) (sym (flat_map-append (λ (piece : List ℕ). piece) h.pieces (p.0 ∷ []))));
     }
 
-pub pieces_all : (head : List ℕ) (S : List (List ℕ)) (i : ℕ) (out : List ℕ) → padded_table S ≡ bytes_of head → length S ≤ i → WritesPieces head (take i S) out → IsWritten modes.Packed S out
-pieces_all head S i out e l h =
-    (head, h.front, h.pieces, e, h.first, subst (λ (T : List (List ℕ)). AllZip Spelt T h.pieces) (take_all i S l) h.each, h.text)
+pub pieces_all : (start head : List ℕ) (S : List (List ℕ)) (i : ℕ) (out : List ℕ) → padded_table S ≡ bytes_of head → length S ≤ i → WritesPieces start head (take i S) out
+    → IsWrittenAfter modes.Packed S start out
+pieces_all start head S i out e l h = (
+  h.front ++ flat_map (λ piece. piece) h.pieces,
+  h.text,
+  (head, h.front, h.pieces, e, h.first, subst (λ (T : List (List ℕ)). AllZip Spelt T h.pieces) (take_all i S l) h.each, refl),
+)
+
+-- a frame after nothing is the frame
+pub written_alone : (S : List (List ℕ)) (out : List ℕ) → IsWrittenAfter modes.Packed S [] out → IsWritten modes.Packed S out
+written_alone S out h = subst (λ (b : List ℕ). IsWritten modes.Packed S b) (sym h.1) h.2
+
+-- bytes that were appended after what was written
+pub pieces_grown : (start head : List ℕ) (S : List (List ℕ)) (old new : List ℕ) → WritesPieces start head S old → Appends old new → Appends start new
+pieces_grown start head S old new h k =
+    let written : List ℕ = h.front ++ flat_map (λ (piece : List ℕ). piece) h.pieces in
+    (written ++ k.0, k.1 ∙ ap (λ (b : List ℕ). b ++ k.0) h.text ∙ append_assoc start written k.0)
+
+-- what holds anyhow holds at an `Err`
+pub on_err_too : {T E P : Type 0} (r : Result T E) → P → OnErr r P
+on_err_too (Ok x) p = tt
+on_err_too (Err e) p = p
 
 -- the padded table is whole words
 pub length_table : (S : List (List ℕ)) → 0 < length S → length (padded_table S) ≡ 8 * (length S / 2 + 1)

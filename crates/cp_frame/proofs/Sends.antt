@@ -12,7 +12,7 @@ use Rattle.cp_packed.specs.Packed.{Spelt}
 use Rattle.cp_packed.specs.Packing.{PutsFront, PutsSpelt}
 use Rattle.cp_words.specs.Segments.{words_of}
 use Rattle.cp_frame.specs.Sending.{Moves, Sends, SendsForm, SendsSpelt}
-use Rattle.cp_frame.proofs.Pieces.{WritesPieces, pieces_none, pieces_more, pieces_all}
+use Rattle.cp_frame.proofs.Pieces.{WritesPieces, pieces_none, pieces_more, pieces_all, written_alone}
 use Rattle.cp_packed.proofs.Sparing.{front_none, front_all}
 
 pub appends_none : (held : Option (List ℕ)) → Appends held held []
@@ -71,10 +71,10 @@ sends_all held new before after words left h e = (h.sent, h.appends, front_all b
 pub record SendsPieces (held new : Option (List ℕ)) (head : List ℕ) (S : List (List ℕ)) (buffer : List ℕ) : Type 0 where
   pub sent : List ℕ
   pub appends : Appends held new sent
-  pub writes : WritesPieces head S (sent ++ buffer)
+  pub writes : WritesPieces [] head S (sent ++ buffer)
 
 pub sends_table : (held : Option (List ℕ)) (head buffer : List ℕ) → PutsSpelt [] buffer head → SendsPieces held held head [] buffer
-sends_table held head buffer h = record { sent = []; appends = appends_none held; writes = pieces_none head [] buffer refl h }
+sends_table held head buffer h = record { sent = []; appends = appends_none held; writes = pieces_none head [] [] buffer refl h }
 
 spelt_after : (sent before after words : List ℕ) → PutsSpelt before after words → PutsSpelt (sent ++ before) (sent ++ after) words
 spelt_after sent before after words h = (h.0, h.1, ap (λ (b : List ℕ). sent ++ b) h.2 ∙ sym (append_assoc sent before h.0))
@@ -87,12 +87,12 @@ sends_piece held mid new head vs i v words before after l r e h k =
     record {
       sent = h.sent ++ k.0;
       appends = appends_both held mid new h.sent k.0 h.appends k.1;
-      writes = pieces_more head vs i v words (h.sent ++ before) ((h.sent ++ k.0) ++ after) l r e h.writes more;
+      writes = pieces_more [] head vs i v words (h.sent ++ before) ((h.sent ++ k.0) ++ after) l r e h.writes more;
     }
 
 pub sends_pieces : (held mid new : Option (List ℕ)) (head : List ℕ) (S : List (List ℕ)) (i : ℕ) (buffer : List ℕ) → padded_table S ≡ bytes_of head → length S ≤ i → SendsPieces held mid head (take i S) buffer
     → Appends mid new buffer → SendsForm modes.Packed S held new
-sends_pieces held mid new head S i buffer e l h k = (h.sent ++ buffer, pieces_all head S i (h.sent ++ buffer) e l h.writes, appends_both held mid new h.sent buffer h.appends k)
+sends_pieces held mid new head S i buffer e l h k = (h.sent ++ buffer, written_alone S (h.sent ++ buffer) (pieces_all [] head S i (h.sent ++ buffer) e l h.writes), appends_both held mid new h.sent buffer h.appends k)
 
 -- what holds at an `Ok`, and what follows from it
 pub on_ok_then : {X E A B : Type 0} (r : Result X E) → (A → B) → OnOk r A → OnOk r B

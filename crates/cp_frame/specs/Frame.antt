@@ -37,18 +37,18 @@ IsWritten modes.Packed S b =
     (head : List ℕ) × (front : List ℕ) × (pieces : List (List ℕ))
     × (padded_table S ≡ bytes_of head) × Spelt head front × AllZip Spelt S pieces × (b ≡ front ++ flat_map (λ piece. piece) pieces)
 
--- the same as it is, after the bytes that are held
-abbrev pub IsWrittenAfter : List (List ℕ) → List ℕ → List ℕ → Type 0
-IsWrittenAfter S old new = new ≡ old ++ (padded_table S ++ flat_map bytes_of S)
+-- the frame that is written comes after the bytes held before
+abbrev pub IsWrittenAfter : Mode → List (List ℕ) → List ℕ → List ℕ → Type 0
+IsWrittenAfter mode S old new = (frame : List ℕ) × (new ≡ old ++ frame) × IsWritten mode S frame
 
 -- the bytes are what is written of these segments
 pub record Written (mode : Mode) (limits : Bounds) (S : List (List ℕ)) (b : List ℕ) : Type 0 where
   pub within : IsWithin limits S
   pub form : IsWritten mode S b
 
--- what is written of these segments, as it is, comes after the bytes held before
-abbrev pub WrittenAfter : Bounds → List (List ℕ) → List ℕ → List ℕ → Type 0
-WrittenAfter limits S old new = (frame : List ℕ) × (new ≡ old ++ frame) × Written modes.Plain limits S frame
+-- what is written of these segments within the limits comes after the bytes held before
+abbrev pub WrittenAfter : Mode → Bounds → List (List ℕ) → List ℕ → List ℕ → Type 0
+WrittenAfter mode limits S old new = (frame : List ℕ) × (new ≡ old ++ frame) × Written mode limits S frame
 
 -- why a frame isn't written: a limit is passed, the number of segments first, or memory ran out
 abbrev pub IsRefusedFor : Bounds → List (List ℕ) → FrameFault → Type 0

@@ -1,9 +1,10 @@
 //! Writing frames.
 
-ghost use Rattle.std.specs.Prelude.{◌≡◌, [], ◌+◌, ◌^◌, ◌<◌, ◌≤◌, ◌++◌, IfOk, OnOk, IfErr, IfSome, IfNone, length, sum};
+ghost use Rattle.std.specs.Prelude.{◌≡◌, [], ◌+◌, ◌^◌, ◌<◌, ◌≤◌, ◌++◌, IfOk, OnOk, OnErr, IfErr, IfSome, IfNone, length, sum};
 ghost use Rattle.cp_frame.specs.Framed.{sizes_of};
 ghost use Rattle.cp_packed.specs.Words.{bytes_of};
-ghost use Rattle.cp_frame.specs.Frame.{IsWithin, Written, WrittenAfter, IsWritten, IsWrittenAfter, IsRefusedFor, padded_table};
+ghost use Rattle.cp_packed.specs.Packing.{Appends};
+ghost use Rattle.cp_frame.specs.Frame.{IsWithin, Written, WrittenAfter, IsWrittenAfter, IsRefusedFor, padded_table};
 ghost use Rattle.cp_frame.specs.Sending.{PutsTable};
 ghost use Rattle.cp_words.specs.Segments.{words_of};
 ghost use Rattle.cp_frame.specs.declared.mode.Mode.TheVariants.{Plain, Packed};
@@ -17,12 +18,13 @@ use std::alloc::{AllocError, Global};
 /// How many bytes are reserved for a packed frame at first. A large one is mostly shorter than it could be.
 const FIRST_CAPACITY: usize = 65_536;
 
-/// Writes the segment table.
+/// Writes the segment table. At an `Err` some of it may be written.
 pub fn push_table(out: &mut Vec<u8>, segments: &[Vec<u64>]) -> Result<(), AllocError>
     requires some { 0 < length segments.now }
     requires few { length segments.now ≤ 512 }
     requires small { sum (sizes_of (words_of segments.now)) < 2 ^ 32 }
-    ensures { OnOk result (out.new.items ≡ out.old.items ++ padded_table (words_of segments.now)) }
+    ensures put { OnOk result (out.new.items ≡ out.old.items ++ padded_table (words_of segments.now)) }
+    ensures grown { OnErr result (Appends out.old.items out.new.items) }
 {
     out.extend_from_slice(&((segments.len() - 1) as u32).to_le_bytes())?;
     for segment in segments {
@@ -46,7 +48,7 @@ pub fn count_words(segments: &[Vec<u64>], limits: Limits) -> Result<u64, FrameFa
     words_in(segments, limits.frame_words() as u64).ok_or(FrameFault::FrameTooLarge)
 }
 
-/// Writes the segment table, packed as one piece.
+/// Writes the segment table, packed as one piece. At an `Err` some of it may be written.
 pub fn push_packed_table(
     alloc: Global,
     out: &mut Vec<u8>,
@@ -55,7 +57,8 @@ pub fn push_packed_table(
     requires some { 0 < length segments.now }
     requires few { length segments.now ≤ 512 }
     requires small { sum (sizes_of (words_of segments.now)) < 2 ^ 32 }
-    ensures { OnOk result (PutsTable (words_of segments.now) out.old.items out.new.items) }
+    ensures put { OnOk result (PutsTable (words_of segments.now) out.old.items out.new.items) }
+    ensures grown { OnErr result (Appends out.old.items out.new.items) }
 {
     // Most messages have one segment.
     if segments.len() == 1 {
@@ -65,30 +68,33 @@ pub fn push_packed_table(
     push_packed(out, &table)
 }
 
-/// Writes the bytes of the segments' frame in the plain form, as `write_frame` gives them, after what
-/// `out` holds.
+/// Writes the bytes of the segments' frame, as `write_frame` gives them, after what `out` holds.
 ///
 /// Where the limits are passed, `TooManySegments` (F1) is reported, or else `FrameTooLarge` (F2). At an
-/// `Err` `out` is empty.
-pub fn write_after(out: &mut Vec<u8>, segments: &Segments, limits: Limits) -> Result<(), FrameFault>
-    ensures written { OnOk result (WrittenAfter limits segments.now out.old.items out.new.items) }
+/// `Err` `out` holds what it held.
+pub fn write_after(
+    alloc: Global,
+    out: &mut Vec<u8>,
+    segments: &Segments,
+    mode: Mode,
+    limits: Limits,
+) -> Result<(), FrameFault>
+    ensures written { OnOk result (WrittenAfter mode limits segments.now out.old.items out.new.items) }
     ensures refused { IfErr result (IsRefusedFor limits segments.now) }
-    ensures nothing { IfErr result (λ fault. out.new.items ≡ []) }
+    ensures same { OnErr result (out.new.items ≡ out.old.items) }
 {
+    let length = out.len();
     let segments = segments.lists();
-    match count_words(segments, limits) {
-        Ok(words) => {
-            if write_plain(out, segments, words).is_err() {
-                out.clear();
-                return Err(FrameFault::OutOfMemory);
-            }
-            Ok(())
-        }
-        Err(fault) => {
-            out.clear();
-            Err(fault)
-        }
+    let words = count_words(segments, limits)?;
+    let done = match mode {
+        Mode::Plain => write_plain(out, segments, words),
+        Mode::Packed => write_packed(alloc, out, segments, words),
+    };
+    if done.is_err() {
+        out.truncate(length);
+        return Err(FrameFault::OutOfMemory);
     }
+    Ok(())
 }
 
 /// Writes the bytes of the segments' frame as `write_frame` gives them, over what `out` holds,
@@ -105,20 +111,10 @@ pub fn write_over(
 ) -> Result<(), FrameFault>
     ensures written { OnOk result (Written mode limits segments.now out.new.items) }
     ensures refused { IfErr result (IsRefusedFor limits segments.now) }
-    ensures nothing { IfErr result (λ fault. out.new.items ≡ []) }
+    ensures nothing { OnErr result (out.new.items ≡ []) }
 {
     out.clear();
-    let segments = segments.lists();
-    let words = count_words(segments, limits)?;
-    let done = match mode {
-        Mode::Plain => write_plain(out, segments, words),
-        Mode::Packed => write_packed(alloc, out, segments, words),
-    };
-    if done.is_err() {
-        out.clear();
-        return Err(FrameFault::OutOfMemory);
-    }
-    Ok(())
+    write_after(alloc, out, segments, mode, limits)
 }
 
 /// The bytes of the segments' frame (encoding specification, "Serialization Over a Stream" and
@@ -171,13 +167,14 @@ fn table_words(alloc: Global, segments: &[Vec<u64>]) -> Result<Vec<u64>, AllocEr
     Ok(words)
 }
 
-/// Writes the frame of the segments, in the plain form, after what `out` holds.
+/// Writes the frame of the segments, in the plain form, after what `out` holds. At an `Err` some of it may be written.
 fn write_plain(out: &mut Vec<u8>, segments: &[Vec<u64>], words: u64) -> Result<(), AllocError>
     requires some { 0 < length segments.now }
     requires few { length segments.now ≤ 512 }
     requires words { words ≡ sum (sizes_of (words_of segments.now)) }
     requires small { words ≤ 67108864 }
-    ensures { OnOk result (IsWrittenAfter (words_of segments.now) out.old.items out.new.items) }
+    ensures put { OnOk result (IsWrittenAfter Plain (words_of segments.now) out.old.items out.new.items) }
+    ensures grown { OnErr result (Appends out.old.items out.new.items) }
 {
     let table = segments.len() / 2 + 1;
     out.reserve(8 * (table + words as usize))?;
@@ -188,19 +185,19 @@ fn write_plain(out: &mut Vec<u8>, segments: &[Vec<u64>], words: u64) -> Result<(
     Ok(())
 }
 
-/// Writes the frame of the segments, in the packed form: the table and each segment are a piece each.
+/// The same in the packed form: the table and each segment are a piece each.
 fn write_packed(
     alloc: Global,
     out: &mut Vec<u8>,
     segments: &[Vec<u64>],
     words: u64,
 ) -> Result<(), AllocError>
-    requires none { out.old.items ≡ [] }
     requires some { 0 < length segments.now }
     requires few { length segments.now ≤ 512 }
     requires words { words ≡ sum (sizes_of (words_of segments.now)) }
     requires small { words ≤ 67108864 }
-    ensures { OnOk result (IsWritten Packed (words_of segments.now) out.new.items) }
+    ensures put { OnOk result (IsWrittenAfter Packed (words_of segments.now) out.old.items out.new.items) }
+    ensures grown { OnErr result (Appends out.old.items out.new.items) }
 {
     let table = segments.len() / 2 + 1;
     let most = LONGEST * (table + words as usize);

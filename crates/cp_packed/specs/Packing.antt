@@ -22,6 +22,10 @@ pub record PutsFront (old out words left : List ℕ) : Type 0 where
   pub text : out ≡ old ++ front
   pub goes : (b : List ℕ) → Spelt left b → Spelt words (front ++ b)
 
+-- bytes were appended
+abbrev pub Appends : List ℕ → List ℕ → Type 0
+Appends old new = (more : List ℕ) × (new ≡ old ++ more)
+
 -- the words were appended packed
 abbrev pub PutsSpelt : List ℕ → List ℕ → List ℕ → Type 0
 PutsSpelt old new words = (bytes : List ℕ) × Spelt words bytes × (new ≡ old ++ bytes)

@@ -1,8 +1,8 @@
 //! Packing words.
 
-ghost use Rattle.std.specs.Prelude.{◌≡◌, ◌≤◌, ◌<◌, ◌+◌, ◌-◌, ◌++◌, [], IfOk, OnOk, length, take};
+ghost use Rattle.std.specs.Prelude.{◌≡◌, ◌≤◌, ◌<◌, ◌+◌, ◌-◌, ◌++◌, [], IfOk, OnOk, OnErr, length, take};
 ghost use Rattle.cp_packed.specs.Words.{bytes_of};
-ghost use Rattle.cp_packed.specs.Packing.{PutsFront, PutsSpelt, HasRoom};
+ghost use Rattle.cp_packed.specs.Packing.{PutsFront, PutsSpelt, HasRoom, Appends};
 
 use crate::ahead::{AHEAD, put_next};
 use crate::runs::MOST;
@@ -16,9 +16,11 @@ const BLOCK: usize = 64;
 /// How many words are packed at once, beside those of the last run and those that are looked at ahead.
 const STEP: usize = 1_024;
 
-/// Appends words as they are: eight bytes each, the lowest first. The error is an allocation failure.
+/// Appends words as they are: eight bytes each, the lowest first. The error is an allocation failure, after which some bytes may be
+/// appended.
 pub fn push_plain(out: &mut Vec<u8>, words: &[u64]) -> Result<(), AllocError>
-    ensures { OnOk result (out.new.items ≡ out.old.items ++ bytes_of words.now) }
+    ensures put { OnOk result (out.new.items ≡ out.old.items ++ bytes_of words.now) }
+    ensures grown { OnErr result (Appends out.old.items out.new.items) }
 {
     // By way of the stack: capacity made in `out` would be filled before it is written.
     let mut block = [0; 8 * BLOCK];
@@ -34,7 +36,7 @@ pub fn push_plain(out: &mut Vec<u8>, words: &[u64]) -> Result<(), AllocError>
 }
 
 /// Appends groups that words begin with, until no more than this many words are left, and gives
-/// these back. The error is an allocation failure.
+/// these back. The error is an allocation failure, after which some bytes may be appended.
 pub fn push_groups<'a>(
     out: &mut Vec<u8>,
     words: &'a [u64],
@@ -43,6 +45,7 @@ pub fn push_groups<'a>(
     ensures front { IfOk result (λ back. PutsFront out.old.items out.new.items words.now back.now) }
     ensures few { IfOk result (λ back. length back.now ≤ most) }
     ensures none { IfOk result (λ back. length words.now ≤ most → back.now ≡ words.now) }
+    ensures grown { OnErr result (Appends out.old.items out.new.items) }
 {
     let mut left = words;
     'packing: while most < left.len() {
@@ -51,9 +54,10 @@ pub fn push_groups<'a>(
     Ok(left)
 }
 
-/// Appends words, packed as one piece. The error is an allocation failure.
+/// Appends words, packed as one piece. The error is an allocation failure, after which some bytes may be appended.
 pub fn push_packed(out: &mut Vec<u8>, words: &[u64]) -> Result<(), AllocError>
-    ensures { OnOk result (PutsSpelt out.old.items out.new.items words.now) }
+    ensures put { OnOk result (PutsSpelt out.old.items out.new.items words.now) }
+    ensures grown { OnErr result (Appends out.old.items out.new.items) }
 {
     push_groups(out, words, 0)?;
     Ok(())
@@ -66,6 +70,7 @@ fn push_some<'a>(out: &mut Vec<u8>, words: &'a [u64], most: usize) -> Result<&'a
     requires few { length words.now ≤ most + 1024 }
     ensures front { IfOk result (λ back. PutsFront out.old.items out.new.items words.now back.now) }
     ensures few { IfOk result (λ back. length back.now ≤ most) }
+    ensures same { OnErr result (out.new.items ≡ out.old.items) }
 {
     let start = out.len();
     let count = words.len().min(STEP + MOST + AHEAD + 1);

@@ -40,6 +40,10 @@ pub record IsWrittenAs (mode : Mode) (limits : Bounds) (words segments : ℕ) (m
   pub laid : IsLaidOutAs limits words segments m lists
   pub written : Written mode limits lists b
 
+-- the frame that a message is written as comes after these bytes
+abbrev pub IsPut : Mode → Bounds → ℕ → ℕ → Message → List ℕ → List ℕ → Type 0
+IsPut mode limits words segments m old new = (b : List ℕ) × IsWrittenAs mode limits words segments m b × (new ≡ old ++ b)
+
 -- These bytes went out, and the tap counts them, which goes on at 0 after the greatest u64.
 pub record Passes {T : Type 0} (contents : T → Option (List ℕ)) (old new : Tap T) (b : List ℕ) : Type 0 where
   pub appends : Appends (contents (inner_of old)) (contents (inner_of new)) b

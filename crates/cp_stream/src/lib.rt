@@ -17,4 +17,4 @@ pub use read::{read_message, read_segments};
 pub use reader::MessageReader;
 pub use tap::Tap;
 pub use view::{check_of, view_of};
-pub use write::{frame_of_view, write_message, write_message_in, write_whole};
+pub use write::{frame_of_view, put_message, write_message, write_message_in, write_whole};

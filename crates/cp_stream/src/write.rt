@@ -1,14 +1,14 @@
 //! Writing messages, each as one frame.
 
-ghost use Rattle.std.specs.Prelude.{◌≡◌, ◌⊎◌, IfOk, IfErr, OnOk};
+ghost use Rattle.std.specs.Prelude.{◌≡◌, ◌⊎◌, IfOk, IfErr, OnOk, OnErr};
 ghost use Rattle.cp_rpc.specs.Viewed.{viewed};
 ghost use Rattle.cp_stream.specs.Reader.{IsMemory};
 ghost use Rattle.cp_stream.specs.declared.fault.StreamFault.TheVariants.{Device};
-ghost use Rattle.cp_stream.specs.Write.{IsLaidOutAs, IsNotLaidOut, IsWrittenAs, IsUnwrittenFor, IsSent, IsCutShort, Sends, Breaks};
+ghost use Rattle.cp_stream.specs.Write.{IsLaidOutAs, IsNotLaidOut, IsWrittenAs, IsPut, IsUnwrittenFor, IsSent, IsCutShort, Sends, Breaks};
 
 use crate::fault::{Refusal, StreamFault, refused};
 use crate::tap::Tap;
-use cp_frame::{Mode, write_frame};
+use cp_frame::{Mode, write_after};
 use cp_rpc::{Message, MessageView, SchemaFault, draft_of};
 use cp_tree::WriteFault;
 use cp_words::{Limits, Segments};
@@ -72,6 +72,22 @@ pub fn write_message<W: Write>(
     write_message_in(alloc, to, message, mode, limits.frame_words(), limits)
 }
 
+/// Puts the frame that `write_message` writes of a message after what a block holds. Faults are those, without a place, and
+/// then the block holds what it held.
+pub fn put_message(
+    alloc: Global,
+    block: &mut Vec<u8>,
+    message: &Message,
+    mode: Mode,
+    limits: Limits,
+) -> Result<(), Refusal>
+    ensures put { OnOk result (IsPut mode limits limits.frame_words 1 message.now block.old.items block.new.items) }
+    ensures refused { IfErr result (IsUnwrittenFor limits limits.frame_words 1 message.now) }
+    ensures same { OnErr result (block.new.items ≡ block.old.items) }
+{
+    put_frame(alloc, block, message, mode, limits.frame_words(), limits)
+}
+
 /// The bytes of the frame that `write_message` writes the message of a view as. Faults are those, without a place, and S3 if
 /// memory runs out for the message.
 pub fn frame_of_view(
@@ -102,9 +118,27 @@ fn frame_of(
     ensures written { IfOk result (λ b. IsWrittenAs mode limits max_words limits.segments message.now b.items) }
     ensures refused { IfErr result (IsUnwrittenFor limits max_words limits.segments message.now) }
 {
-    let segments = segments_of(alloc, message, max_words, limits)?;
-    let frame = write_frame(alloc, &segments, mode, limits)?;
+    let mut frame = Vec::new(alloc);
+    put_frame(alloc, &mut frame, message, mode, max_words, limits)?;
     Ok(frame)
+}
+
+/// Puts the frame that a message is written as after what a block holds.
+fn put_frame(
+    alloc: Global,
+    block: &mut Vec<u8>,
+    message: &Message,
+    mode: Mode,
+    max_words: u32,
+    limits: Limits,
+) -> Result<(), Refusal>
+    ensures put { OnOk result (IsPut mode limits max_words limits.segments message.now block.old.items block.new.items) }
+    ensures refused { IfErr result (IsUnwrittenFor limits max_words limits.segments message.now) }
+    ensures same { OnErr result (block.new.items ≡ block.old.items) }
+{
+    let segments = segments_of(alloc, message, max_words, limits)?;
+    write_after(alloc, block, &segments, mode, limits)?;
+    Ok(())
 }
 
 /// The segments that a message is laid out in.

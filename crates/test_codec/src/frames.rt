@@ -527,7 +527,7 @@ fn a_frame_is_written_over_another(rt: HostRuntime) {
 /// A frame is written after what is in `out`.
 fn expect_after(rt: &impl Abort, alloc: Global, out: &mut Vec<u8>, bytes: &[u8]) {
     let segments = segments_of(rt, new_reader(alloc), bytes);
-    let written = write_after(out, &segments, Limits::standard());
+    let written = write_after(alloc, out, &segments, Mode::Plain, Limits::standard());
     drop(segments);
     expect_reported(rt, written, Ok(()));
 }

@@ -6,4 +6,4 @@ use Rattle.cp_frame.proofs.Pieces.{WritesPieces}
 use Rattle.cp_frame.proofs.write.write_packed.Given as goal
 
 abbrev pub invariant-loop-segment : goal.invariant-loop-segment
-invariant-loop-segment l = (head : List ℕ) × (padded_table (words_of l.segments) ≡ bytes_of head) × WritesPieces head (take l.segment-index (words_of l.segments)) l.out.items
+invariant-loop-segment l = (head : List ℕ) × (padded_table (words_of l.segments) ≡ bytes_of head) × WritesPieces l.fn.out.items head (take l.segment-index (words_of l.segments)) l.out.items

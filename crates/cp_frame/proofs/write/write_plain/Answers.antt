@@ -12,5 +12,5 @@ loop-segment-preserved c =
     let i = c.loop-segment.segment-index in
     let front = c.args.out.now.items ++ padded_table (words_of vs) in
     let before = flat_map bytes_of (take i (words_of vs)) in
-    c.in_ok-push_plain.ensures ∙ ap (λ (b : List ℕ). b ++ bytes_of c.deref.result.now) c.loop-segment.invariant ∙ append_assoc front before (bytes_of c.deref.result.now)
+    c.in_ok-push_plain.ensures.put ∙ ap (λ (b : List ℕ). b ++ bytes_of c.deref.result.now) c.loop-segment.invariant ∙ append_assoc front before (bytes_of c.deref.result.now)
     ∙ ap (λ (ws : List ℕ). front ++ (before ++ bytes_of ws)) c.deref.ensures.value ∙ ap (λ (b : List ℕ). front ++ b) (sym (next_body vs i c.segment-item.result c.loop-segment-test.true c.segment-item.is))
