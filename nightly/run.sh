@@ -8,6 +8,7 @@
 #   memory    each test of allocation failures, once for each allocation       the proofs of three crates with their tests, and minutes
 #   moves     100 seeds of 120 random moves of two vats                        a minute
 #   peers     sessions of C++ clients, and of peers at fault                   15 seconds
+#   matrix    clients and servers of the C++ and the Rust library, each with each   some minutes, the first time with the Rust library's build
 #   relay     sessions of C++ clients and of peers at fault through a relay    a minute
 #   fields    texts of schemas, read by generated code and by the reference tool   half an hour
 #   host      many connections at once, and the sessions of peers with them    four minutes
@@ -20,11 +21,11 @@
 #   edits     the edits of each must-fail-more/                                a proof of each of these crates, and hours
 #   plants    wrong bodies that rt makes up, in ten crates                     hours; wants a quiet machine, and its lines want reading
 #
-# Debian packages: g++ clang libclang-rt-14-dev make libcapnp-dev capnproto. Rattle's rt is in PATH.
+# Debian packages: g++ clang libclang-rt-14-dev make libcapnp-dev capnproto cargo librust-capnp-rpc-dev librust-async-io-dev. Rattle's rt is in PATH.
 set -u
 here=$(cd "$(dirname "${BASH_SOURCE[0]}")" && pwd)
 root=$(dirname "$here")
-all=(look memory moves peers relay fields host callees interfaces sessions served starved fuzz edits plants)
+all=(look memory moves peers matrix relay fields host callees interfaces sessions served starved fuzz edits plants)
 planted=(cp_words cp_tables cp_writing cp_packed cp_frame cp_rpc cp_stream cp_refs cp_vat cp_serve)
 
 [ $# -ge 1 ] || { sed -n '2,/^# Debian/s/^# \{0,1\}//p' "$0" >&2; exit 2; }
@@ -55,6 +56,8 @@ moves() {
 }
 
 peers() { built && "$here/peers/run.sh" "$server" "$folder"; }
+
+matrix() { built && "$here/callees/answering/build.sh" "$folder" && "$here/peers/matrix.sh" "$server" "$folder" "$folder/answering"; }
 
 relay() { built && "$here/relay/run.sh" "$server" "$folder/relay"; }
 

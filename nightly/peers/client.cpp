@@ -1,7 +1,13 @@
 // Whole sessions with `capnp_cli serve`, by the reference library's client.
 // Usage: client PORT first|second|abort|reset|many COUNT    COUNT sessions of this kind, one after another
+//        client PORT trial 1                                with a server of trial.capnp
+//        client PORT drop|exit 1                            with either: calls are open as this gives them up and disconnects, or as
+//                                                           its process ends
+//        client PORT left 1                                 with either: prints `open` once calls are open, and sees them fail as the
+//                                                           server goes
+//        client PORT late 1                                 with either: calls again after 4 seconds, when the server has closed
 // The status is 0 if each went as it should; else an exception says what didn't.
-#include "desk.capnp.h"
+#include "trial.capnp.h"
 #include <capnp/rpc-twoparty.h>
 #include <capnp/rpc.capnp.h>
 #include <capnp/serialize.h>
@@ -27,6 +33,33 @@ class Gift final : public Cell::Server {
 
  private:
   bool& is_gone;
+};
+
+// An object of the client's that only fails.
+class Refuser final : public Cell::Server {
+  kj::Promise<void> get(GetContext context) override { return KJ_EXCEPTION(OVERLOADED, "not today"); }
+};
+
+// A Cell of the client's. It notes when the server released it.
+class OwnCell final : public Cell::Server {
+ public:
+  OwnCell(uint64_t held, bool& is_gone) : held(held), is_gone(is_gone) {}
+  ~OwnCell() noexcept(false) { is_gone = true; }
+
+ private:
+  uint64_t held;
+  bool& is_gone;
+
+  kj::Promise<void> add(AddContext context) override {
+    held += context.getParams().getAmount();
+    context.getResults().setValue(held);
+    return kj::READY_NOW;
+  }
+
+  kj::Promise<void> get(GetContext context) override {
+    context.getResults().setValue(held);
+    return kj::READY_NOW;
+  }
 };
 
 // One connection, and the Desk at its other end.
@@ -59,7 +92,19 @@ struct Session {
   }
 
   uint64_t get(Cell::Client cell) { return cell.getRequest().send().wait(io.waitScope).getValue(); }
+
+  void pause(unsigned milliseconds) { io.provider->getTimer().afterDelay(milliseconds * kj::MILLISECONDS).wait(io.waitScope); }
 };
+
+// The call fails so, with this text at the end of its own.
+template <class Call>
+static void refused(kj::Exception::Type type, kj::StringPtr text, Call call) {
+  KJ_IF_MAYBE(exception, kj::runCatchingExceptions(call)) {
+    KJ_REQUIRE(exception->getType() == type && exception->getDescription().endsWith(text), *exception);
+  } else {
+    KJ_FAIL_REQUIRE("no exception", text);
+  }
+}
 
 // Calls that are answered at once and later, and calls on what they will give.
 static void first(kj::AsyncIoContext& io, unsigned port) {
@@ -85,12 +130,8 @@ static void first(kj::AsyncIoContext& io, unsigned port) {
 static void second(kj::AsyncIoContext& io, unsigned port) {
   Session session(io, port);
   auto& wait = io.waitScope;
-  auto refused = [&](kj::Maybe<kj::Exception> thrown, kj::Exception::Type type) {
-    KJ_IF_MAYBE(exception, thrown) { KJ_REQUIRE(exception->getType() == type, *exception); } else { KJ_FAIL_REQUIRE("no exception"); }
-  };
-  refused(kj::runCatchingExceptions([&] { session.desk.neverRequest().send().wait(wait); }), kj::Exception::Type::UNIMPLEMENTED);
-  auto wrong = session.desk.castAs<Cell>();
-  refused(kj::runCatchingExceptions([&] { wrong.getRequest().send().wait(wait); }), kj::Exception::Type::UNIMPLEMENTED);
+  refused(kj::Exception::Type::UNIMPLEMENTED, "no such method", [&] { session.desk.neverRequest().send().wait(wait); });
+  refused(kj::Exception::Type::UNIMPLEMENTED, "no such method", [&] { session.get(session.desk.castAs<Cell>()); });
 
   bool first_gone = false, second_gone = false;
   auto request = session.desk.laterRequest();
@@ -116,6 +157,114 @@ static void second(kj::AsyncIoContext& io, unsigned port) {
   // It is given up before its answer.
   { auto dropped = session.desk.laterRequest().send(); }
   for (int i = 0; i < 5; i++) KJ_REQUIRE(session.get(cell) == 1003);
+}
+
+// A server that calls what it is given, gives it back, and answers in another order than it was asked in.
+static void trial(kj::AsyncIoContext& io, unsigned port) {
+  Session session(io, port);
+  auto& wait = io.waitScope;
+  auto trial = session.desk.castAs<Trial>();
+  auto later = trial.laterRequest().send();
+  auto waits = session.add(later.getCell(), 1);
+  auto now = trial.nowRequest().send();
+  KJ_REQUIRE(session.add(now.getCell(), 41).wait(wait) == 41);
+  KJ_REQUIRE(waits.wait(wait) == 101);
+  KJ_REQUIRE(session.get(now.wait(wait).getCell()) == 41);
+  KJ_REQUIRE(session.get(later.wait(wait).getCell()) == 101);
+
+  bool is_gone = false;
+  {
+    Cell::Client given = kj::heap<OwnCell>(1000, is_gone);
+    auto called = trial.nowRequest();
+    called.setGift(given);
+    KJ_REQUIRE(session.get(called.send().getCell()) == 1005);
+    auto told = trial.tellRequest();
+    told.setCell(given);
+    KJ_REQUIRE(told.send().wait(wait).getValue() == 1005);
+    refused(kj::Exception::Type::OVERLOADED, "remote exception: remote exception: not today", [&] {
+      auto failing = trial.tellRequest();
+      failing.setCell(kj::heap<Refuser>());
+      failing.send().wait(wait);
+    });
+    refused(kj::Exception::Type::FAILED, "remote exception: no", [&] { trial.neverRequest().send().wait(wait); });
+    // It gives it back: calls on the promise, before it came to that and after, stay in order.
+    auto become = trial.becomeRequest();
+    become.setMilliseconds(100);
+    become.setCell(given);
+    auto back = become.send().wait(wait).getCell();
+    auto one = session.add(back, 1), three = session.add(back, 2);
+    session.pause(150);
+    KJ_REQUIRE(session.add(back, 3).wait(wait) == 1011);
+    KJ_REQUIRE(one.wait(wait) == 1006);
+    KJ_REQUIRE(three.wait(wait) == 1008);
+    refused(kj::Exception::Type::FAILED, "remote exception: it came to nothing", [&] {
+      auto broken = trial.becomeRequest();
+      broken.setMilliseconds(20);
+      session.get(broken.send().getCell());
+    });
+  }
+  std::vector<kj::Promise<uint64_t>> numbers;
+  for (uint64_t turn = 0; turn < 1000; turn++) {
+    auto after = trial.afterRequest();
+    after.setMilliseconds(turn * 7 % 100);
+    after.setNumber(turn);
+    numbers.push_back(after.send().then([](capnp::Response<Trial::AfterResults> response) { return response.getNumber(); }));
+  }
+  for (uint64_t turn = 0; turn < 1000; turn++) KJ_REQUIRE(numbers[turn].wait(wait) == turn);
+  for (int turn = 0; turn < 100 && !is_gone; turn++) session.pause(20);
+  KJ_REQUIRE(is_gone, "what was given wasn't released");
+}
+
+// Calls that stay open: of a Trial many, of `capnp_cli serve` one, which must be the last that is sent.
+static std::vector<kj::Promise<void>> open(Session& session) {
+  auto trial = session.desk.castAs<Trial>();
+  bool is_trial = true;
+  KJ_IF_MAYBE(exception, kj::runCatchingExceptions([&] { trial.afterRequest().send().wait(session.io.waitScope); })) { is_trial = false; }
+  session.pause(100);
+  std::vector<kj::Promise<void>> calls;
+  for (uint64_t turn = 0; is_trial && turn < 100; turn++) {
+    auto after = trial.afterRequest();
+    after.setMilliseconds(10000);
+    calls.push_back(after.send().ignoreResult());
+  }
+  if (!is_trial) calls.push_back(session.desk.laterRequest().send().ignoreResult());
+  session.pause(100);
+  return calls;
+}
+
+static void drop(kj::AsyncIoContext& io, unsigned port) {
+  Session session(io, port);
+  open(session);
+  session.pause(100);
+}
+
+static void exit_with_open(kj::AsyncIoContext& io, unsigned port) {
+  Session session(io, port);
+  auto calls = open(session);
+  _exit(0);
+}
+
+static void left(kj::AsyncIoContext& io, unsigned port) {
+  Session session(io, port);
+  // (A host answers its one call, and is asked again.)
+  for (bool is_gone = false; !is_gone;) {
+    auto calls = open(session);
+    printf("open\n");
+    fflush(stdout);
+    for (auto& call : calls) {
+      KJ_IF_MAYBE(exception, kj::runCatchingExceptions([&] { call.wait(io.waitScope); })) {
+        KJ_REQUIRE(exception->getType() == kj::Exception::Type::DISCONNECTED, *exception);
+        is_gone = true;
+      }
+    }
+  }
+}
+
+static void late(kj::AsyncIoContext& io, unsigned port) {
+  Session session(io, port);
+  session.desk.nowRequest().send().wait(io.waitScope);
+  session.pause(4000);
+  refused(kj::Exception::Type::DISCONNECTED, "", [&] { session.desk.nowRequest().send().wait(io.waitScope); });
 }
 
 static int connected(unsigned port) {
@@ -178,13 +327,18 @@ static bool session(kj::AsyncIoContext& io, unsigned port, const std::string& ki
   else if (kind == "second") second(io, port);
   else if (kind == "abort") abort_session(port);
   else if (kind == "reset") reset(port);
+  else if (kind == "trial") trial(io, port);
+  else if (kind == "drop") drop(io, port);
+  else if (kind == "exit") exit_with_open(io, port);
+  else if (kind == "left") left(io, port);
+  else if (kind == "late") late(io, port);
   else return false;
   return true;
 }
 
 int main(int argc, char** argv) {
   if (argc != 4) {
-    fprintf(stderr, "usage: client PORT first|second|abort|reset|many COUNT\n");
+    fprintf(stderr, "usage: client PORT first|second|abort|reset|many|trial|drop|exit|left|late COUNT\n");
     return 2;
   }
   unsigned port = atoi(argv[1]);
