@@ -13,6 +13,7 @@
 #   fields    texts of schemas, read by generated code and by the reference tool   half an hour
 #   host      many connections at once, and the sessions of peers with them    four minutes
 #   callees   calls of servers by the reference library, and of peers at fault two minutes
+#   faults    sessions with faults of memory, system calls, peers and disk     ten minutes
 #   interfaces typed clients and objects with those of the reference library  the proofs of five crates of its own, and a minute
 #   sessions  15,000 random sessions with two servers                          ten minutes
 #   served    20 million messages of random sessions, served in memory         a minute, and half of one with the address sanitizer
@@ -25,7 +26,7 @@
 set -u
 here=$(cd "$(dirname "${BASH_SOURCE[0]}")" && pwd)
 root=$(dirname "$here")
-all=(look memory moves peers matrix relay fields host callees interfaces sessions served starved fuzz edits plants)
+all=(look memory moves peers matrix relay fields host callees faults interfaces sessions served starved fuzz edits plants)
 planted=(cp_words cp_tables cp_writing cp_packed cp_frame cp_rpc cp_stream cp_refs cp_vat cp_serve)
 
 [ $# -ge 1 ] || { sed -n '2,/^# Debian/s/^# \{0,1\}//p' "$0" >&2; exit 2; }
@@ -68,6 +69,8 @@ fields() {
 host() { built && "$here/host/run.sh" "$server" "$folder"; }
 
 callees() { built && "$here/callees/run.sh" "$server" "$folder/callees"; }
+
+faults() { built && "$here/faults/run.sh" "$server" "$folder/faults"; }
 
 interfaces() { "$here/interfaces/run.sh" "$folder/interfaces"; }
 
