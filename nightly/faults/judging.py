@@ -5,12 +5,10 @@ import re
 
 from session import BUILD
 
-MEMORY = "OutOfMemory|out of memory|memory ran out"
-LINE = re.compile(  # (as docs/PROFILE.md has them)
-    r"(\d+: )?"
-    r"(refused at byte \d+: [BFGS]\d+ [A-Z]\w+.*|refused: V10 OutOfMemory|device(: [^:]+){0,2}|the peer's messages ended|error: out of memory|/.*: .*)"
-    r"( \((peer \d|[<>])\))?"
-)
+MEMORY = "OutOfMemory|out of memory|memory ran out|wanted memory"
+# The lines that docs/PROFILE.md has: of status 1, and of status 2. A path is that of a request.
+REFUSAL = r"refused at byte \d+: [BFGS]\d+ [A-Z]\w+.*|(call \d+: )?refused: V10 OutOfMemory|the peer's messages ended"
+FAILURE = r"device(: [^:]+){0,2}|error: out of memory|call \d+: column \d+: wanted memory|/[^:]*: .*"
 
 
 def naming(error):
@@ -49,10 +47,9 @@ def wrong_with(whole, outcome, cause=None):
     if not cause or outcome.status not in (1, 2):
         return "it doesn't end as without the fault"
     lines = [it for it in outcome.lines if it not in whole.lines]
-    if outcome.changed != 2 and not (len(lines) == 1 and LINE.fullmatch(lines[0]) and re.search(cause, lines[0])):
-        return "no line that says why"
-    if lines and outcome.status != (1 if re.match(r"(\d+: )?(refused|the peer)", lines[0]) else 2):
-        return "not the status of its line"
+    told = re.fullmatch(rf"(\d+: )?({[REFUSAL, FAILURE][outcome.status - 1]})( \((peer \d|[<>])\))?", "".join(lines))
+    if outcome.changed != 2 and not (told and re.search(cause, lines[0])):
+        return "no line of this status that says why"
     return wrong_bytes(whole, outcome, {place for it in lines for place in peers_of(it, len(whole.got))})
 
 
@@ -60,7 +57,7 @@ class Tally:
     """What came of the runs of a trial: how many of each kind of fault, in which ways they ended, and what was wrong."""
 
     def __init__(self):
-        self.kinds, self.ways, self.wrong = collections.Counter(), collections.Counter(), []
+        self.kinds, self.ways, self.wrong, self.note = collections.Counter(), collections.Counter(), [], ""
 
     def add(self, kind, wrong, outcome, place=""):
         self.kinds[kind] += 1
@@ -71,6 +68,6 @@ class Tally:
     def tell(self, name):
         if self.kinds:
             kinds = ", ".join(f"{count} {kind}" for kind, count in self.kinds.items())
-            print(f"{name}: {kinds}; wrong: {len(self.wrong) or 'none'}", *self.wrong[:9], sep="\n    ", flush=True)
+            print(f"{name}: {kinds}{self.note}; wrong: {len(self.wrong) or 'none'}", *self.wrong[:9], sep="\n    ", flush=True)
         with open(f"{BUILD}/ways", "a") as file:
             print(name, *(f"    {count} {way}" for way, count in sorted(self.ways.items())), sep="\n", file=file)
