@@ -13,7 +13,7 @@
 #   fields    texts of schemas, read by generated code and by the reference tool   half an hour
 #   host      many connections at once, and the sessions of peers with them    four minutes
 #   callees   calls of servers by the reference library, and of peers at fault two minutes
-#   faults    sessions with faults of memory, system calls, peers and disk     ten minutes
+#   faults    sessions with faults of memory, system calls, peers and disk     five minutes
 #   interfaces typed clients and objects with those of the reference library  the proofs of five crates of its own, and a minute
 #   sessions  15,000 random sessions with two servers                          ten minutes
 #   served    20 million messages of random sessions, served in memory         a minute, and half of one with the address sanitizer
