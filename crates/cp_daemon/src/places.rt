@@ -105,7 +105,7 @@ where
         let Some(news) = host.next(rt)? else {
             break;
         };
-        let status = hear(rt.alloc(), host, &news, err)?;
+        let status = hear(rt.alloc(), host, &news, err);
         if first == ACCEPTED {
             first = status;
         }
@@ -113,19 +113,17 @@ where
     Ok(first)
 }
 
-/// Does what news of a connection asks, and gives the status that it leads to.
-fn hear<E: Write>(
-    alloc: Global,
-    host: &mut Host<Sample>,
-    news: &News,
-    err: &mut E,
-) -> io::Result<u8> {
+/// Does what news of a connection asks, and gives the status that it leads to. One that can't be served has ended by that; the
+/// others go on.
+fn hear<E: Write>(alloc: Global, host: &mut Host<Sample>, news: &News, err: &mut E) -> u8 {
     match news {
-        News::Came { .. } => admit(alloc, host)?,
-        News::Refused { .. } => (),
-        News::Ended { peer, end, .. } => return Ok(report(end, *peer, err)),
+        News::Came { peer, .. } => match admit(alloc, host) {
+            Ok(()) => ACCEPTED,
+            Err(error) => report(&End::Failed(error), *peer, err),
+        },
+        News::Refused { .. } => ACCEPTED,
+        News::Ended { peer, end, .. } => report(end, *peer, err),
     }
-    Ok(ACCEPTED)
 }
 
 /// Serves the connection that came last with a Desk and a Cell.
