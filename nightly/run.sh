@@ -11,6 +11,7 @@
 #   matrix    clients and servers of the C++ and the Rust library, each with each   some minutes, the first time with the Rust library's build
 #   relay     sessions of C++ clients and of peers at fault through a relay    a minute
 #   fields    texts of schemas, read by generated code and by the reference tool   half an hour
+#   schemas   random schemas, shown and read by generated code as by the reference tool   half an hour
 #   host      many connections at once, and the sessions of peers with them    four minutes
 #   callees   calls of servers by the reference library, and of peers at fault two minutes
 #   faults    sessions with faults of memory, system calls, peers and disk     five minutes
@@ -26,7 +27,7 @@
 set -u
 here=$(cd "$(dirname "${BASH_SOURCE[0]}")" && pwd)
 root=$(dirname "$here")
-all=(look memory moves peers matrix relay fields host callees faults interfaces sessions served starved fuzz edits plants)
+all=(look memory moves peers matrix relay fields schemas host callees faults interfaces sessions served starved fuzz edits plants)
 planted=(cp_words cp_tables cp_writing cp_packed cp_frame cp_rpc cp_stream cp_refs cp_vat cp_serve)
 
 [ $# -ge 1 ] || { sed -n '2,/^# Debian/s/^# \{0,1\}//p' "$0" >&2; exit 2; }
@@ -66,6 +67,12 @@ fields() {
     "$root/tools/build.sh" capnpc_rattle cp_cli && "$root/tools/generated.sh" &&
         "$here/fields/run.sh" "$root/crates/capnpc_rattle/out/capnpc_rattle" "$folder/fields" "$server"
 }
+
+schemas() {
+    "$root/tools/build.sh" capnpc_rattle cp_cli &&
+        "$here/schemas/run.sh" "$root/crates/capnpc_rattle/out/capnpc_rattle" "$folder/schemas" "$server"
+}
+
 host() { built && "$here/host/run.sh" "$server" "$folder"; }
 
 callees() { built && "$here/callees/run.sh" "$server" "$folder/callees"; }

@@ -24,7 +24,7 @@ class Copier(Printer):
             copied = f"if let Some(cap) = {read} {{ {to}.{setter}(cap); }}"
         elif code == 14 and kind["elem"]["kind"] == 16:
             node = self.nodes[kind["elem"]["id"]]
-            self.types.add(self.name(node) + "ListDraft")
+            self.cite(node, "ListDraft")
             copied = (f"let mut items = {self.name(node)}ListDraft::new(alloc); "
                       f"for item in {read} {{ items.push({self.struct(node)}(alloc, &item)?)?; }} {to}.{setter}(items);")
         elif code == 14 and kind["elem"]["kind"] in VECTORS:
@@ -58,7 +58,7 @@ class Copier(Printer):
                 members.append(field)
         if members:
             name = self.name(node)
-            self.types.add(name + "Which")
+            self.cite(node, "Which")
             arms = ""
             for field in sorted(members, key=lambda f: f["disc"]):
                 arms += f"{name}Which::{variant(field['name'])} => {{ {self.tag(node, field, to)} {self.field(field, at, to, prefix)} }}\n"
@@ -77,7 +77,8 @@ class Copier(Printer):
         function = "copy_" + words(name)
         if name not in self.done:
             self.done.add(name)
-            self.types.update({name + "View", name + "Draft"})
+            self.cite(node, "View")
+            self.cite(node, "Draft")
             body = self.fields(node, "at", "to", "")
             self.functions.append(f"fn {function}(alloc: Global, at: &{name}View<'_>) -> anyhow::Result<{name}Draft> {{\n"
                                   f"let mut to = {name}Draft::new(alloc)?;\n{body}Ok(to)\n}}\n")
@@ -99,8 +100,7 @@ use cp_tree::Whole;
 use cp_words::Limits;
 use std::alloc::Global;
 use std::io::{{self, Read}};
-use {self.krate}::{{{", ".join(sorted(self.types))}}};
-
+{self.imports()}
 fn whole_at(alloc: Global, body: &StructView<'_>, place: u32) -> anyhow::Result<Whole> {{
     Whole::new(body.pointer(place).tree(alloc)?).map_err(|_| anyhow!("no message can hold this"))
 }}

@@ -2,6 +2,7 @@
 """print.py REQUEST STRUCT [FIELD..]    writes a program that prints messages as `capnp decode --short` does, over what capnpc_rattle
 makes of the same request. With FIELDs it prints these of the struct alone, and what null stands for too. Names and offsets come from
 the request alone, read by request.py."""
+import os
 import re
 import sys
 
@@ -9,7 +10,17 @@ from request import load
 
 INTEGERS = {2: "i8", 3: "i16", 4: "i32", 5: "i64", 6: "u8", 7: "u16", 8: "u32", 9: "u64"}
 FLOATS = {10: "f32", 11: "f64"}
-RESERVED = {"struct", "match", "of", "self", "type", "which", "result", "data", "box", "size"}
+HERE = os.path.dirname(os.path.abspath(__file__))
+
+
+def listed(name):
+    """A list of words that the plugin has, which names of fields and types may not be."""
+    with open(os.path.join(HERE, "../../crates/capnpc_rattle/src/names.rt"), encoding="utf-8") as file:
+        return set(re.search(rf'{name}: &str = "([^"]*)"', file.read()).group(1).replace("\\", "").split())
+
+
+RESERVED = listed("OF_RATTLE") | listed("OF_PROOFS") | listed("OF_CRATES")
+AMBIGUOUS, TAKEN = {"Data", "Struct", "Structs", "Text"}, listed("TYPES")
 
 
 def words(name):
@@ -27,12 +38,20 @@ def camel(title):
 class Printer:
     def __init__(self, path, chosen=()):
         self.chosen = chosen
-        self.nodes, _, files = load(path)
-        self.krate = files[0]["name"].split("/")[-1].split(".")[0]
+        self.nodes, _, _ = load(path)
         self.types, self.done, self.functions = set(), set(), []
 
     def name(self, node):
-        return camel(node["name"].split(":")[1])
+        name = camel(node["name"].split(":")[1])
+        return name + ("_" if name in AMBIGUOUS or node["kind"] == 2 and name in TAKEN else "")
+
+    def cite(self, node, ending=""):
+        """Has a type imported from its file's crate."""
+        self.types.add((os.path.basename(node["name"].split(":")[0]).split(".")[0], self.name(node) + ending))
+
+    def imports(self):
+        crates = sorted({krate for krate, _ in self.types})
+        return "".join(f"use {krate}::{{{', '.join(sorted(n for k, n in self.types if k == krate))}}};\n" for krate in crates)
 
     def value(self, kind, at, depth=0):
         """Statements that print the value `at` of a type."""
@@ -53,6 +72,8 @@ class Printer:
             item = f"item{depth}"
             element = self.value(inner, item + ("?" if fails else ""), depth + 1)
             return f"line.open('[')?; for {item} in {at} {{ line.item()?; {element} }} line.close(']')?;"
+        if code == 17:
+            return f'let _ = {at}; line.text.push_str("<external capability>")?;'
         if code == 18:
             return f'let _ = {at}; line.text.push_str("<opaque pointer>")?;'
         node = self.nodes[kind["id"]]
@@ -69,7 +90,7 @@ class Printer:
         if name in self.done:
             return
         self.done.add(name)
-        self.types.add(name)
+        self.cite(node)
         arms = "".join(f"        {name}::{variant(item)} => \"{item}\",\n" for item in node["enumerants"])
         self.functions.append(f"fn {words(name)}_text(line: &mut Line, value: {name}) -> anyhow::Result<()> {{\n"
                               f"    let text = match value {{\n{arms}        {name}::Unknown(number) => {{\n"
@@ -96,7 +117,7 @@ class Printer:
     def member(self, node, field):
         """Statements that print a member of a union, by what it holds, if it is the one that is set."""
         name = self.name(node)
-        self.types.add(name + "Member")
+        self.cite(node, "Member")
         arm = f"{name}Member::{variant(field['name'])}"
         head = f'line.field("{field["name"]}")?;'
         if field["which"] == 1:
@@ -120,7 +141,7 @@ class Printer:
         if name in self.done:
             return
         self.done.add(name)
-        self.types.add(name + "View")
+        self.cite(node, "View")
         body = ""
         chosen = [f for f in node["fields"] if f["name"] in self.chosen]
         for field in chosen or node["fields"]:
@@ -145,8 +166,7 @@ use cp_reading::View;
 use cp_words::Limits;
 use line::{{Line, has}};
 use std::io::Read;
-use {self.krate}::{{{", ".join(sorted(self.types))}}};
-
+{self.imports()}
 {"".join(f + chr(10) for f in self.functions)}fn main(rt: HostRuntime) -> anyhow::Result<()> {{
     let mut bytes = Vec::new(rt.alloc());
     rt.stdin().read_to_end(&mut bytes)?;

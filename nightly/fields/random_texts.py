@@ -12,13 +12,22 @@ DEEPEST = 5
 
 
 class Values:
-    def __init__(self, path, seed):
-        self.nodes, _, _ = load(path)
-        self.random = random.Random(seed)
+    """Random values of the types of `nodes`, which are as request.py reads them."""
+
+    def __init__(self, nodes, source):
+        self.nodes = nodes
+        self.random = source
 
     def number(self, low, high):
         """The edges more often than others."""
         return self.random.choice([low, high, 0, 1, self.random.randint(low, high)])
+
+    def float(self, _code):
+        number = self.random.choice([0.5, -1.25, 1e10, 3.0, self.random.randint(-10**6, 10**6) / 8])
+        return self.random.choice(["inf", "-inf", "nan", repr(struct.unpack("<f", struct.pack("<f", number))[0])])
+
+    def text(self):
+        return '"' + "".join(self.random.choice("ab z\u00e9\u4e2d") for _ in range(self.random.randint(0, 9))) + '"'
 
     def value(self, kind, depth):
         code = kind["kind"]
@@ -29,10 +38,9 @@ class Values:
         if code in RANGES:
             return str(self.number(*RANGES[code]))
         if code in (10, 11):
-            number = self.random.choice([0.5, -1.25, 1e10, 3.0, self.random.randint(-10**6, 10**6) / 8])
-            return self.random.choice(["inf", "-inf", "nan", repr(struct.unpack("<f", struct.pack("<f", number))[0])])
+            return self.float(code)
         if code == 12:
-            return '"' + "".join(self.random.choice("ab z\u00e9\u4e2d") for _ in range(self.random.randint(0, 9))) + '"'
+            return self.text()
         if code == 13:
             return '0x"' + "".join(f"{self.random.randrange(256):02x}" for _ in range(self.random.randint(1, 9))) + '"'
         if code == 14:
@@ -58,8 +66,10 @@ class Values:
         return "(" + ", ".join(parts) + ")"
 
 
-path, root, seed, count = sys.argv[1], sys.argv[2], int(sys.argv[3]), int(sys.argv[4])
-values = Values(path, seed)
-node = next(n for n in values.nodes.values() if n["name"].endswith(":" + root))
-for _ in range(count):
-    print(values.struct(node, 0))
+if __name__ == "__main__":
+    path, root, seed, count = sys.argv[1], sys.argv[2], int(sys.argv[3]), int(sys.argv[4])
+    nodes, _, _ = load(path)
+    values = Values(nodes, random.Random(seed))
+    node = next(n for n in nodes.values() if n["name"].endswith(":" + root))
+    for _ in range(count):
+        print(values.struct(node, 0))

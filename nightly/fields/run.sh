@@ -16,20 +16,8 @@ mkdir -p "$2" && room=$(cd "$2" && pwd)
 here=$(cd "$(dirname "${BASH_SOURCE[0]}")" && pwd)
 root=$(dirname "$(dirname "$here")")
 command=${3:+$(realpath "$3")}
-libraries=(cp_words cp_tree cp_reading cp_writing cp_packed cp_frame cp_rpc cp_stream cp_fields cp_drafts cp_structs)
+. "$here/libraries.sh"
 failed=0
-
-take_libraries() {
-    rm -rf "$room/crates" "$room/crates.txt"
-    mkdir -p "$room/crates"
-    cp "$root/HANDLES" "$room/"
-    for it in "${libraries[@]}"; do
-        mkdir "$room/crates/$it"
-        cp -a "$root/crates/$it/src" "$root/crates/$it/specs" "$room/crates/$it/"
-        [ ! -d "$root/crates/$it/proofs" ] || cp -a "$root/crates/$it/proofs" "$room/crates/$it/"
-        grep "^$it:" "$root/crates.txt" >>"$room/crates.txt"
-    done
-}
 
 wide() { # a schema of 300 fields of the widths in turn, and a message that sets every seventh
     local types=(Bool Int8 UInt16 Int32 UInt64 Text Float64 UInt8 Int64 Bool) at
