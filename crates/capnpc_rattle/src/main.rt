@@ -30,6 +30,7 @@ mod setters;
 mod sheet;
 mod structs;
 mod trees;
+mod twice;
 mod unions;
 mod uses;
 
@@ -41,6 +42,7 @@ use pages::{line_of, name_twice, root_text, sheets, specs_root};
 use sheet::Sheet;
 use std::io::Read;
 use std::{env, fs};
+use twice::found_twice;
 
 /// What `--help` prints.
 const USAGE: &str = "\
@@ -228,6 +230,9 @@ fn check(sheets: &[Sheet<'_>]) -> anyhow::Result<()> {
         }
         if sheet.is_full() {
             bail!("memory ran out");
+        }
+        if let Some(name) = found_twice(sheet) {
+            bail!("{}: two things are called {}", sheet.module, name.as_str());
         }
     }
     match name_twice(sheets) {

@@ -2,9 +2,11 @@
 
 /// Types that generated code or definitions have from elsewhere.
 const TYPES: &str = "\
-    AllocError Bool Box Constant ConstantBody DataView DraftFault Drop Err Global Item List ListRef None Ok Option \
-    Past Pointee Reads Result Self Some String StructDraft StructView StructsDraft TextView Tree Type Unit Vec Whole \
-    WrongKind";
+    AllocError Anything Bool Box CapFault Caps Constant ConstantBody DataView DraftFault Drop \
+    Err Finds Gives Global HoldsOneMore IsElsewhere Item List ListRef Makes Method None Ok \
+    Option Passes Past Payload Pointee Promised Reads Refuses Request Result Results Self Some \
+    String StructDraft StructView StructsDraft Table Target TextView TooLong Tree Type Unit Vec \
+    Whole WrongKind";
 
 /// Words of Rattle.
 const OF_RATTLE: &str = "\
@@ -41,7 +43,7 @@ pub fn is_reserved(name: &str) -> bool {
 
 /// Whether the name of a struct or a group is one that it can't begin with.
 pub fn is_ambiguous(name: &str) -> bool {
-    name == "Data" || name == "Struct" || name == "Text"
+    name == "Data" || name == "Struct" || name == "Structs" || name == "Text"
 }
 
 /// Whether an enum's name is one that generated code or definitions have from elsewhere.
