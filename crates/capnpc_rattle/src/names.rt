@@ -21,9 +21,9 @@ const OF_PROOFS: &str = "\
     ground hcom infix infixl infixr module mutual new now old open package record \
     requires result ruleset tcoe unfold unfoldable unfolding";
 
-/// Methods that each view has, and files of each crate, and libraries.
+/// Methods that each view has, of its own or of every type, and files of each crate, and libraries.
 const OF_CRATES: &str = "\
-    body clone member of of_item size which \
+    body clone into member of of_item size try_into which \
     constants contracts core declared lib main specs std";
 
 /// Whether one of the words, with spaces between, is this.
