@@ -13,6 +13,7 @@
 #   fields    texts of schemas, read by generated code and by the reference tool   half an hour
 #   schemas   random schemas, shown and read by generated code as by the reference tool   half an hour
 #   host      many connections at once, and the sessions of peers with them    four minutes
+#   load      an hour of 1,000 connections that come and go                    an hour and a minute, of which it takes half a processor
 #   callees   calls of servers by the reference library, and of peers at fault two minutes
 #   faults    sessions with faults of memory, system calls, peers and disk     five minutes
 #   interfaces typed clients and objects with those of the reference library  the proofs of five crates of its own, and a minute
@@ -27,7 +28,7 @@
 set -u
 here=$(cd "$(dirname "${BASH_SOURCE[0]}")" && pwd)
 root=$(dirname "$here")
-all=(look memory moves peers matrix relay fields schemas host callees faults interfaces sessions served starved fuzz edits plants)
+all=(look memory moves peers matrix relay fields schemas host load callees faults interfaces sessions served starved fuzz edits plants)
 planted=(cp_words cp_tables cp_writing cp_packed cp_frame cp_rpc cp_stream cp_refs cp_vat cp_serve)
 
 [ $# -ge 1 ] || { sed -n '2,/^# Debian/s/^# \{0,1\}//p' "$0" >&2; exit 2; }
@@ -74,6 +75,8 @@ schemas() {
 }
 
 host() { built && "$here/host/run.sh" "$server" "$folder"; }
+
+load() { built && "$here/load/run.sh" "$server" "$folder/load" 3600; }
 
 callees() { built && "$here/callees/run.sh" "$server" "$folder/callees"; }
 
