@@ -196,7 +196,7 @@ class Connection {
 
   // Goes on by a step.
   void turn() {
-    if (is_slow) take();
+    take();
     if (phase == OVER) return;
     bool waits = phase == LEAVING || asker.awaits();
     KJ_REQUIRE(!waits || seconds_since(heard) < PATIENCE + (phase == LEAVING ? IDLE : 0), "nothing comes");

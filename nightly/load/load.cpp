@@ -108,7 +108,8 @@ class Load {
     epoll_event events[256];
     int ready = epoll_wait(poll, events, 256, 5);
     for (int i = 0; i < ready; i++) step(*(Connection*)events[i].data.ptr, &Connection::take);
-    while (!queue.empty() && queue.top().when <= Clock::now()) {
+    // Each connection has one turn at most, so that what came is read in time on a busy machine, too.
+    for (auto now = Clock::now(); !queue.empty() && queue.top().when <= now;) {
       auto whom = queue.top().whom;
       queue.pop();
       step(*whom, &Connection::turn);

@@ -38,5 +38,5 @@ if [ -s "$build/missing" ] || [ -s "$build/more" ] || [ "$status" != "$wanted" ]
     head -n 3 "$build/missing" "$build/more" >&2
     exit 1
 fi
-sed 's/ (peer.*//; s/byte [0-9]*/byte N/' "$build/said" | sort | uniq -c | sort -rn
+sed 's/ (peer.*//; s/byte [0-9][0-9]*/byte N/' "$build/said" | sort | uniq -c | sort -rn
 echo "$(wc -l <"$build/must") lines that it was to say were said, and $(($(wc -l <"$build/said") - $(wc -l <"$build/must"))) more of those that were closed with answers outstanding"
