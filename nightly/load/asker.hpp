@@ -127,6 +127,12 @@ class Asker {
     });
   }
 
+  // Calls a pointer of what an `add` or a `get` gives, which has none.
+  void call_value(uint32_t number) {
+    auto& question = questions[number];
+    call({CELL, false, number, question.serial << 32, question.waits && !question.returned}, Kind::NO_POINTER);
+  }
+
   // Params: the amount, sometimes much beside it, and objects that the server is to release. (It keeps those of a call that fails before
   // it gets to an object until the connection ends.)
   void give(rpc::Payload::Builder params, uint64_t amount, bool has_objects) {
@@ -278,12 +284,6 @@ class Asker {
       auto target = one_of(known);
       call(target, kind_of_call(target.interface));
     }
-  }
-
-  // Calls a pointer of what an `add` or a `get` gives, which has none.
-  void call_value(uint32_t number) {
-    auto& question = questions[number];
-    call({CELL, false, number, question.serial << 32, question.waits && !question.returned}, Kind::NO_POINTER);
   }
 
   // Makes a message that comes back, and so do before it all answers that needn't wait.

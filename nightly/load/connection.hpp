@@ -4,6 +4,7 @@
 #include "asker.hpp"
 #include <sys/epoll.h>
 #include <unistd.h>
+#include <cmath>
 #include <cstdio>
 #include <fstream>
 
@@ -141,7 +142,7 @@ class Connection {
     KJ_REQUIRE(way != HALF || !asker.has_gifts_out(), "not all that it was given was released");
     if (way == SILENT || way == STOPPED) {
       double waited = seconds_since(heard), limit = way == SILENT ? IDLE : MESSAGE;
-      KJ_REQUIRE(waited > limit - 1 && waited < limit + 8, "it waited for another time", waited);
+      KJ_REQUIRE(std::abs(waited - limit) < 10, "it waited for another time", waited);
     }
     close_it();
   }

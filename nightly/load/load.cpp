@@ -77,8 +77,8 @@ class Load {
   }
 
   void open() {
-    double turns = plan.seconds * plan.at_once / plan.count / pause() - 2;  // of a mean life, but for those of its end
-    uint32_t asking = random.one_in(20) ? 0 : random.below(uint32_t(std::max(1.0, 2 * turns)));
+    double turns = plan.seconds * plan.at_once / plan.count / pause();  // of a mean life
+    uint32_t asking = random.one_in(20) ? 0 : random.below(uint32_t(2 * turns) + 1);
     auto whom = std::make_shared<Connection>(totals, plan.port, plan.seed * 1000003 + opened, a_way(), asking);
     opened++;
     whom->watch(poll);
