@@ -57,11 +57,11 @@ class Connection {
     totals.ended[way]++;
   }
 
-  // Sends what was made. `false`: some of it is left.
+  // Sends what was made; of a slow one not all before the next turn. `false`: some of it is left.
   bool flush(bool wholly) {
+    size_t most = unsent.size() + (is_slow && !wholly ? random.below(asker.made.size() + 1) : asker.made.size());
     unsent.insert(unsent.end(), asker.made.begin(), asker.made.end());
     asker.made.clear();
-    size_t most = is_slow && !wholly ? random.below(unsent.size() + 1) : unsent.size();
     ssize_t n = send(fd, unsent.data(), most, MSG_DONTWAIT | MSG_NOSIGNAL);
     KJ_REQUIRE(n >= 0 || errno == EAGAIN, "the server closed before it was to", errno);
     if (n > 0) {
