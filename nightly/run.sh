@@ -13,7 +13,7 @@
 #   fields    texts of schemas, read by generated code and by the reference tool   half an hour
 #   schemas   random schemas, shown and read by generated code as by the reference tool   half an hour
 #   host      many connections at once, and the sessions of peers with them    four minutes
-#   load      an hour of 1,000 connections that come and go                    an hour and a minute, of which it takes half a processor
+#   load      an hour of 1,000 connections that come and go                    an hour and two minutes, with a fifth of a processor
 #   callees   calls of servers by the reference library, and of peers at fault two minutes
 #   faults    sessions with faults of memory, system calls, peers and disk     five minutes
 #   interfaces typed clients and objects with those of the reference library  the proofs of five crates of its own, and a minute
