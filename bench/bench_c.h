@@ -31,9 +31,25 @@ struct cpb_served {
   size_t written;
   uint8_t how;
 };
-// Serves a Script, a Cell and a Desk, objects 0 to 2, to a peer that sends these bytes, in pieces of at most this many (0 counts as 1). Of the
-// Script's first calls each is answered with a capability, which the next number of `named` says: an object, or from 2^32 on an import,
-// counted from there; 0 leaves it without an answer, as each later call is left. Puts what fits of what is written into the buffer.
-cpb_served cpb_serve(const uint8_t* bytes, size_t length, bool packed, size_t piece, const uint64_t* named, size_t numbers, uint8_t* buffer,
-                     size_t size);
+// Serves a Script, a Cell and a Desk, objects 0 to 2, to a peer that sends these bytes, a piece of at most `first` and then pieces of at
+// most `piece` (0 counts as 1). Of the Script's first calls each is answered with a capability, which the next number of `named` says: an
+// object, or from 2^32 on an import, counted from there; 0 leaves it without an answer, as each later call is left. Puts what fits of what
+// is written into the buffer.
+cpb_served cpb_serve(const uint8_t* bytes, size_t length, bool packed, size_t first, size_t piece, const uint64_t* named, size_t numbers,
+                     uint8_t* buffer, size_t size);
+// The number of bytes of lines that say what was given, and of what was written.
+struct cpb_told {
+  size_t lines, written;
+};
+// Plays a script on a client whose peer sends these bytes, in pieces as above. The lines of a script are `bootstrap`, `call TARGET i=H m=N
+// {T caps[..]}`, `wait N` and `finish N` of question N, `release N` of import N, and `serve`, which takes messages until they end. Each gives
+// a line: the question, its outcome, `done`, or why it is refused; a last one says what was taken and sent in all, and why the vat closed.
+// Puts what fits of these lines into `lines`, and of what the client wrote into the buffer. Where memory runs out there are no lines.
+cpb_told cpb_call(const uint8_t* script, size_t script_length, const uint8_t* bytes, size_t length, bool packed, size_t first, size_t piece,
+                  uint8_t* lines, size_t lines_size, uint8_t* buffer, size_t size);
+// Feeds these bytes to a relay, in pieces as above, and ends them. At `form` 0 a message goes out as it was read, at 1 anew in the plain
+// form, else anew in the packed one. Puts what fits of what went out into the buffer, and of the fault that ended it, if there was one,
+// into `line`.
+cpb_told cpb_relay(const uint8_t* bytes, size_t length, bool packed, uint8_t form, size_t first, size_t piece, uint8_t* line, size_t line_size,
+                   uint8_t* buffer, size_t size);
 }

@@ -175,7 +175,7 @@ constexpr size_t ROOM = 64 << 20;
 // The server takes all that in. Gives the number of bytes that it wrote.
 inline size_t serve(const Peer& peer) {
   static std::vector<uint8_t> room(ROOM);
-  auto served = cpb_serve(peer.bytes.data(), peer.bytes.size(), false, SIZE_MAX, peer.named.data(), peer.named.size(), room.data(), ROOM);
+  auto served = cpb_serve(peer.bytes.data(), peer.bytes.size(), false, SIZE_MAX, SIZE_MAX, peer.named.data(), peer.named.size(), room.data(), ROOM);
   if (served.how || served.written > ROOM) {
     fprintf(stderr, "a session ended by %d with %zu bytes written\n", served.how, served.written);
     exit(1);
@@ -186,7 +186,7 @@ inline size_t serve(const Peer& peer) {
 // The same, and tests that nothing failed in what the server sends.
 inline void check(const Peer& peer) {
   std::vector<capnp::word> room(ROOM / 8);
-  auto served = cpb_serve(peer.bytes.data(), peer.bytes.size(), false, SIZE_MAX, peer.named.data(), peer.named.size(),
+  auto served = cpb_serve(peer.bytes.data(), peer.bytes.size(), false, SIZE_MAX, SIZE_MAX, peer.named.data(), peer.named.size(),
                           reinterpret_cast<uint8_t*>(room.data()), ROOM);
   kj::ArrayPtr<const capnp::word> left(room.data(), served.written / 8);
   while (left.size()) {

@@ -1,11 +1,8 @@
 // Sessions that are served in memory, over the static library bench_c.
 #pragma once
 #include "../../bench/bench_c.h"
-#include "messages.hpp"
-#include <chrono>
+#include "cuts.hpp"
 
-constexpr auto LIMIT = std::chrono::seconds(2);
-constexpr size_t WHOLE = ~size_t(0);
 enum How : uint8_t { ENDED, CLOSED, REFUSED, DEVICE, OUT_OF_MEMORY };
 inline uint64_t events = 0;  // that were served
 
@@ -16,12 +13,10 @@ struct Answer {
   bool operator==(const Answer& other) const { return bytes == other.bytes && how == other.how; }
 };
 
-// Serves these bytes, read by pieces of at most this many. `named` is what the first calls of object 0 are answered with.
-inline Answer served(const Bytes& bytes, bool packed, size_t piece, const std::vector<uint64_t>& named) {
+// Serves these bytes, cut so. `named` is what the first calls of object 0 are answered with.
+inline Answer served(const Bytes& bytes, bool packed, Cut cut, const std::vector<uint64_t>& named) {
   static Bytes room(1 << 20);
-  auto start = std::chrono::steady_clock::now();
-  auto served = cpb_serve(bytes.data(), bytes.size(), packed, piece, named.data(), named.size(), room.data(), room.size());
-  KJ_REQUIRE(std::chrono::steady_clock::now() - start < LIMIT, "too long");
+  auto served = timed([&] { return cpb_serve(bytes.data(), bytes.size(), packed, cut.first, cut.piece, named.data(), named.size(), room.data(), room.size()); });
   KJ_REQUIRE(served.written <= room.size(), "more bytes than were foreseen", served.written);
   return {{room.begin(), room.begin() + served.written}, served.how};
 }
@@ -30,11 +25,11 @@ struct Session : Written {
   std::vector<uint64_t> named;
 
   // Makes the messages one by one, by what came back for those before.
-  explicit Session(Random& random) {
+  explicit Session(Random& random, uint32_t most = 100) {
     Maker maker(random);
     size_t heard = 0;
     for (uint32_t n = random.below(30); n > 0; n--) named.push_back(random.one_in(3) ? 0 : random.one_in(2) ? random.below(4) : (1ull << 32) + random.below(9));
-    for (uint32_t n = 1 + random.below(100); n > 0; n--) {
+    for (uint32_t n = 1 + random.below(most); n > 0; n--) {
       capnp::MallocMessageBuilder message;
       maker.make(message.initRoot<rpc::Message>());
       add(message);

@@ -1,4 +1,4 @@
-//! A buffer that the caller gives.
+//! Buffers that the caller gives.
 
 ghost use Rattle.std.specs.Prelude.{◌≡◌};
 ghost use Rattle.bench_c.specs.Given.{over};
@@ -9,4 +9,12 @@ pub fn fill<T: Copy>(buffer: &mut [T], items: &[T])
 {
     let count = items.len().min(buffer.len());
     buffer[..count].copy_from_slice(&items[..count]);
+}
+
+/// How many bytes the lines have that say what was given, and how many were written.
+#[repr(C)]
+#[derive(Drop)]
+pub struct Told {
+    pub lines: usize,
+    pub written: usize,
 }

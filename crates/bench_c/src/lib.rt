@@ -6,18 +6,24 @@
 #![tactic(auto)]
 
 mod book;
+mod call;
 mod fill;
 mod packed;
+mod pieces;
 mod play;
 mod read;
+mod relay;
 mod serve;
 mod write;
 
 pub use book::cpb_read_book;
+pub use call::cpb_call;
+pub use fill::Told;
 pub use packed::{cpb_pack, cpb_unpack};
 pub use play::cpb_play;
 pub use read::{
     cpb_packed_frames, cpb_packed_frames_within, cpb_read_frames, cpb_read_frames_within,
 };
+pub use relay::cpb_relay;
 pub use serve::{Served, cpb_serve};
 pub use write::{cpb_write_frames, cpb_write_frames_within};

@@ -1,12 +1,11 @@
 //! A server over bytes in memory.
 
 ghost use Rattle.std.specs.Prelude.{◌≡◌, ◌⊎◌, IfOk, map};
-ghost use Rattle.std.specs.Io.{ReadsAtMost};
-ghost use Rattle.std.specs.Io.KnownBytes.{ReadConsumes};
 ghost use Rattle.bench_c.specs.Given.{GivesNone};
 ghost use Rattle.bench_c.specs.Serve.{IsUnserved, GivesServed, mode_of, how_ended, cap_of, reply_of};
 
 use crate::fill::fill;
+use crate::pieces::Pieces;
 use cp_frame::Mode;
 use cp_refs::{Cap, Caps, Outcome};
 use cp_samples::{Cell, Desk, Sample, Script};
@@ -16,7 +15,6 @@ use cp_stream::{StreamFault, Tap};
 use cp_tree::{Tree, Whole};
 use cp_vat_machine::Ids;
 use std::alloc::{AllocError, Global};
-use std::io::{self, Read};
 
 /// What was written, and how the server ended.
 #[repr(C)]
@@ -32,17 +30,18 @@ pub struct Served {
 /// Where memory ran out before a server began.
 const UNSERVED: Served = Served { written: 0, how: 4 };
 
-/// Serves a Script, a Cell and a Desk, objects 0 to 2, to a peer that sends these bytes, in pieces of at
-/// most this many (0 counts as 1). Of the Script's first calls each is answered with a capability, which
-/// the next number of `named` says: an object, or from 2^32 on an import, counted from there; 0 leaves it
-/// without an answer, as each later call is left. Says how many bytes were written and how that ended, and puts
-/// what fits of them into the buffer. Where memory runs out before it begins, nothing is written, and
+/// Serves a Script, a Cell and a Desk, objects 0 to 2, to a peer that sends these bytes, a piece of at most
+/// `first` and then pieces of at most `piece` (0 counts as 1). Of the Script's first calls each is answered with a
+/// capability, which the next number of `named` says: an object, or from 2^32 on an import, counted from there; 0
+/// leaves it without an answer, as each later call is left. Says how many bytes were written and how that ended,
+/// and puts what fits of them into the buffer. Where memory runs out before it begins, nothing is written, and
 /// the buffer stays as it was.
 #[unsafe(no_mangle)]
 pub extern "C" fn cpb_serve(
     alloc: Global,
     bytes: &[u8],
     packed: bool,
+    first: usize,
     piece: usize,
     named: &[u64],
     buffer: &mut [u8],
@@ -55,7 +54,8 @@ pub extern "C" fn cpb_serve(
     let Ok(mut objects) = objects_of(alloc, named) else {
         return UNSERVED;
     };
-    let mut from = Tap::new(Pieces { left: bytes, piece });
+    let left = bytes;
+    let mut from = Tap::new(Pieces { left, first, piece });
     let mut to = Tap::new(written);
     let ended = serve_each(alloc, &mut from, &mut to, &mut objects, mode_of(packed));
     let written = to.into_inner();
@@ -63,30 +63,6 @@ pub extern "C" fn cpb_serve(
     Served {
         written: written.len(),
         how: how_ended(&ended),
-    }
-}
-
-/// A reader that gives at most this many bytes at once.
-#[derive(Drop)]
-struct Pieces<'a> {
-    left: &'a [u8],
-    piece: usize,
-}
-
-impl<'a> Read for Pieces<'a> {
-    ghost use Rattle.std.specs.Prelude.{Some};
-
-    ghost remaining = { λ p. Some p.left.now };
-
-    fn read(&mut self, buf: &mut [u8]) -> io::Result<usize>
-        ensures bound { ReadsAtMost result buf.new }
-        ensures bytes { ReadConsumes (Some self.old.left.now) (Some self.new.left.now) result buf.new }
-    {
-        let most = self.left.len().min(self.piece.max(1));
-        let mut piece = &self.left[..most];
-        let count = piece.read(buf)?;
-        self.left = &self.left[count..];
-        Ok(count)
     }
 }
 
@@ -138,7 +114,7 @@ fn cap_of(number: u64) -> Cap
 }
 
 /// The form that bytes are in.
-fn mode_of(packed: bool) -> Mode
+pub fn mode_of(packed: bool) -> Mode
     ensures { result ≡ mode_of packed }
 {
     if packed { Mode::Packed } else { Mode::Plain }
