@@ -27,6 +27,7 @@ struct Random {
 
 // Makes the messages of one session.
 class Maker {
+ protected:
   Random& random;
   std::map<uint32_t, std::vector<uint32_t>> questions;  // those that were not finished, with the exports that their results name
   std::map<uint32_t, uint32_t> exports;                 // of the server, as often as they were named and not given back
