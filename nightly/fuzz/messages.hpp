@@ -98,6 +98,7 @@ class Maker {
     make(call.initTarget());
     call.setInterfaceId(random.one_in(20) ? random.below(9) : random.one_in(2) ? DESK : CELL);
     call.setMethodId(random.one_in(20) ? 2 : random.below(2));
+    if (at_once && call.getInterfaceId() == DESK) call.setMethodId(0);
     make(call.initParams());
     if (random.one_in(150)) call.getSendResultsTo().setYourself();
     call.setQuestionId(a_new_question());
@@ -134,6 +135,8 @@ class Maker {
   }
 
  public:
+  bool at_once = false;  // whether no call of a Desk's is answered later, with a poll
+
   explicit Maker(Random& random) : random(random) {}
 
   // What came back: a Return names exports once more.

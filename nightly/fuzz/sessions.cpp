@@ -1,10 +1,11 @@
 // Sessions of a peer that isn't trusted, with `capnp_cli serve` and `capnp_cli serve --packed`.
-// Usage: sessions PLAIN-PORT PACKED-PORT SEED COUNT
+// Usage: sessions PLAIN-PORT PACKED-PORT SEED COUNT [at-once]
 //
 // A session is a row of random messages. It is made while it is played, so that its numbers mostly fit what came back; then it is
 // played again: at once, cut at random places, and packed and cut, one of four with frames dropped, repeated or swapped. The
 // bytes that come back must be the same each time, and be messages that answer those that were sent. A session that takes longer
-// than its limit, or breaks one of these, is reported with its number.
+// than its limit, or breaks one of these, is reported with its number. With `at-once` no call is answered later: when `serve
+// --at-once` polls its objects depends on when bytes come.
 #include "../connect.hpp"
 #include "messages.hpp"
 #include <fcntl.h>
@@ -21,11 +22,12 @@ constexpr int LIMIT_MILLISECONDS = 10000;
 
 struct Session : Written {
   // Makes the messages one by one. After each comes one that isn't supported: when it comes back, so did all that the message led to.
-  Session(Random& random, unsigned port) {
+  Session(Random& random, unsigned port, bool at_once) {
     kj::AutoCloseFd connection(connected(port));
     kj::FdInputStream bare(connection.get());
     kj::BufferedInputStreamWrapper input(bare);
     Maker maker(random);
+    maker.at_once = at_once;
     for (uint32_t n = 1 + random.below(200); n > 0; n--) {
       capnp::MallocMessageBuilder message, mark;
       maker.make(message.initRoot<rpc::Message>());
@@ -93,8 +95,8 @@ Bytes play(unsigned port, const Bytes& bytes, Random* cuts) {
 }  // namespace
 
 int main(int argc, char** argv) {
-  if (argc != 5) {
-    fprintf(stderr, "usage: sessions PLAIN-PORT PACKED-PORT SEED COUNT\n");
+  if (argc != 5 && argc != 6) {
+    fprintf(stderr, "usage: sessions PLAIN-PORT PACKED-PORT SEED COUNT [at-once]\n");
     return 2;
   }
   unsigned plain = atoi(argv[1]), packed = atoi(argv[2]);
@@ -102,7 +104,7 @@ int main(int argc, char** argv) {
   std::map<std::string, uint64_t> aborts;
   for (uint64_t number = 0; number < count; number++) {
     Random random{std::mt19937_64(seed * 1000003 + number)};
-    Session session(random, plain);
+    Session session(random, plain, argc == 6);
     if (random.one_in(4)) session.change(random);
     messages += session.plain.size();
     auto bytes = joined(session.plain);
