@@ -18,9 +18,12 @@
 #   faults    sessions with faults of memory, system calls, peers and disk     five minutes
 #   interfaces typed clients and objects with those of the reference library  the proofs of five crates of its own, and a minute
 #   sessions  15,000 random sessions with two servers                          ten minutes
+#   crowd     the same with servers that serve 16 of them at once              ten minutes
 #   served    20 million messages of random sessions, served in memory         a minute, and half of one with the address sanitizer
+#   pieces    sessions, clients' peers and relayed streams, cut at each byte   some three minutes
 #   starved   1,000 random sessions, once for each of their allocations        five minutes
 #   fuzz      10 million frames by libFuzzer, and 600,000 with the sanitizer   two minutes on four processors
+#   night     100 million inputs over all these; INPUTS=N has another number   some hour on four processors
 #   edits     the edits of each must-fail-more/                                a proof of each of these crates, and hours
 #   plants    wrong bodies that rt makes up, in ten crates                     hours; wants a quiet machine, and its lines want reading
 #
@@ -28,7 +31,8 @@
 set -u
 here=$(cd "$(dirname "${BASH_SOURCE[0]}")" && pwd)
 root=$(dirname "$here")
-all=(look memory moves peers matrix relay fields schemas host load callees faults interfaces sessions served starved fuzz edits plants)
+all=(look memory moves peers matrix relay fields schemas host load callees faults interfaces sessions crowd served pieces starved fuzz edits plants)
+alone=night # runs only where it is named: it takes as long as all others
 planted=(cp_words cp_tables cp_writing cp_packed cp_frame cp_rpc cp_stream cp_refs cp_vat cp_serve)
 
 [ $# -ge 1 ] || { sed -n '2,/^# Debian/s/^# \{0,1\}//p' "$0" >&2; exit 2; }
@@ -86,7 +90,17 @@ interfaces() { "$here/interfaces/run.sh" "$folder/interfaces"; }
 
 sessions() { built && "$here/fuzz/sessions.sh" "$server" "$folder" 15000 7; }
 
+crowd() { built && "$here/fuzz/sessions.sh" "$server" "$folder" 15000 8 16; }
+
 served() { fuzzers served served-asan && "$folder/served" 11 20000000 && "$folder/served-asan" 21 1000000; }
+
+pieces() {
+    local program
+    fuzzers {cut,client,passed}{,-asan} || return 1
+    for program in cut client passed; do
+        "$folder/$program" 31 1000000 && "$folder/$program-asan" 32 50000 || return 1
+    done
+}
 
 starved() { fuzzers starved && "$folder/starved" 3 1000; }
 
@@ -110,6 +124,25 @@ fuzz() {
     return "$failed"
 }
 
+of_night() { # NUMBER INPUTS    what one processor does: half of the inputs are frames, the others streams of messages
+    local program
+    for program in cut client passed; do
+        nice -n 10 "$folder/$program" "$1" "$(($2 / 6))" || return 1
+    done
+    nice -n 10 "$folder/served" "$1" "$(($2 / 6))" && one_fuzzer fuzz "$1" "$(($2 / 2))" && tail -n 2 "$folder/fuzz.$1/log"
+}
+
+night() {
+    local number processors inputs=${INPUTS:-100000000} failed=0 started=()
+    fuzzers fuzz seeds served cut client passed && built || return 1
+    processors=$(nproc)
+    for number in $(seq "$processors"); do
+        (of_night "$number" "$((inputs / processors))") & started+=($!)
+    done
+    for number in "${started[@]}"; do wait "$number" || failed=1; done
+    "$here/fuzz/sessions.sh" "$server" "$folder" "$((inputs / 5000))" 9 16 && return "$failed"
+}
+
 edits() {
     local it failed=0
     for it in "$root"/crates/*/must-fail-more; do
@@ -129,7 +162,7 @@ failed=0
 TIMEFORMAT='%R %U %S'
 [ $# -gt 0 ] || set -- "${all[@]}"
 for part; do
-    [[ " ${all[*]} " == *" $part "* ]] || { echo "no part $part: ${all[*]}" >&2; exit 2; }
+    [[ " ${all[*]} $alone " == *" $part "* ]] || { echo "no part $part: ${all[*]} $alone" >&2; exit 2; }
 done
 for part; do
     read -r seconds user system < <({ time { "$part" >"$folder/$part.log" 2>&1; echo "$?" >"$folder/$part.status"; }; } 2>&1 | tail -n 1)
