@@ -7,7 +7,7 @@
 //                                                           server goes
 //        client PORT late 1                                 with either: calls again after 4 seconds, when the server has closed
 // The status is 0 if each went as it should; else an exception says what didn't.
-#include "trial.capnp.h"
+#include "cell.hpp"
 #include <capnp/rpc-twoparty.h>
 #include <capnp/rpc.capnp.h>
 #include <capnp/serialize.h>
@@ -41,25 +41,13 @@ class Refuser final : public Cell::Server {
 };
 
 // A Cell of the client's. It notes when the server released it.
-class OwnCell final : public Cell::Server {
+class OwnCell final : public CellServer {
  public:
-  OwnCell(uint64_t held, bool& is_gone) : held(held), is_gone(is_gone) {}
+  OwnCell(uint64_t held, bool& is_gone) : CellServer(held), is_gone(is_gone) {}
   ~OwnCell() noexcept(false) { is_gone = true; }
 
  private:
-  uint64_t held;
   bool& is_gone;
-
-  kj::Promise<void> add(AddContext context) override {
-    held += context.getParams().getAmount();
-    context.getResults().setValue(held);
-    return kj::READY_NOW;
-  }
-
-  kj::Promise<void> get(GetContext context) override {
-    context.getResults().setValue(held);
-    return kj::READY_NOW;
-  }
 };
 
 // One connection, and the Desk at its other end.

@@ -1,0 +1,21 @@
+// A Cell over the reference library.
+#pragma once
+#include "trial.capnp.h"
+
+class CellServer : public Cell::Server {
+  uint64_t held;
+
+ public:
+  explicit CellServer(uint64_t held) : held(held) {}
+
+  kj::Promise<void> add(AddContext context) override {
+    held += context.getParams().getAmount();
+    context.getResults().setValue(held);
+    return kj::READY_NOW;
+  }
+
+  kj::Promise<void> get(GetContext context) override {
+    context.getResults().setValue(held);
+    return kj::READY_NOW;
+  }
+};
