@@ -23,7 +23,7 @@
 #   pieces    sessions, clients' peers and relayed streams, cut at each byte   some three minutes
 #   starved   1,000 random sessions, once for each of their allocations        five minutes
 #   fuzz      10 million frames by libFuzzer, and 600,000 with the sanitizer   two minutes on four processors
-#   night     100 million inputs over all these; INPUTS=N has another number   some hour on four processors
+#   night     100 million inputs over all these; INPUTS=N has another number   a quarter of an hour on four idle processors
 #   edits     the edits of each must-fail-more/                                a proof of each of these crates, and hours
 #   plants    wrong bodies that rt makes up, in ten crates                     hours; wants a quiet machine, and its lines want reading
 #

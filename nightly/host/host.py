@@ -239,11 +239,11 @@ def idle():
 
 
 def one_that_does_not_read():
+    block = b"".join(call(question) + finish(question) for question in range(1, 200_000))
     server = Server(2, "--at-once", "2", "--idle", "3")
     deaf, other = server.peer(4096).send(bootstrap(0)), server.peer().send(bootstrap(0))
     assert other.kinds(1) == [RETURN]
     deaf.socket.setblocking(False)
-    block = b"".join(call(question) + finish(question) for question in range(1, 200_000))
     sent, worst, question, start = 0, 0, 0, time.time()
     while time.time() - start < 2:
         try:
