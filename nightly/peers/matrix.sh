@@ -6,7 +6,8 @@
 #                            open calls or dies with them, and the server goes while calls are open, or closes. ANSWERING, the program
 #                            of ../callees/answering, has objects that these servers call. A line for each pair: passed, or what differs
 set -eu
-command=$1 build=$2 answering=${3:-} served=17311 relayed=17312
+command=$1 build=$2 answering=${3:-} served=${PORT:-17311}
+relayed=$((served + 1))
 here=$(cd "$(dirname "${BASH_SOURCE[0]}")" && pwd)
 . "$here/../begin.sh"
 make -s -C "$here" BUILD="$build" all rust
@@ -45,10 +46,14 @@ client() { # LIBRARY
     esac >"$build/said.client" 2>&1
 }
 
-ended() { # NAME PID STATUS..    a process ends so
+was_reset() { # NAME    which a process of COMMAND said last
+    tail -n 1 "$build/said.$1" | grep -qE '^device: (Connection reset by peer|Broken pipe) \(os error (104|32)\) \(([<>]|peer .*)\)$'
+}
+
+ended() { # NAME PID STATUS..    a process ends so; with status 2 only where its peer reset it
     local status=0
     wait "$2" || status=$?
-    [[ " ${*:3} " == *" $status "* ]] || differs+=" $session: $1 ended with status $status: $(tail -n 1 "$build/said.$1");"
+    [[ " ${*:3} " == *" $status "* ]] && { [ "$status" != 2 ] || was_reset "$1"; } || differs+=" $session: $1 ended with status $status: $(tail -n 1 "$build/said.$1");"
 }
 
 stop() { # the server, which doesn't end by itself
