@@ -128,9 +128,9 @@ class Load {
     took.clear();
   }
 
-  // At first buffers and tables grow to what they need.
+  // At first buffers and tables grow to what they need, which takes some two minutes.
   void check_memory() {
-    if (plan.seconds < 600) return;
+    if (plan.seconds < 300) return;
     auto most = [&](size_t from, size_t to) { return *std::max_element(memories.begin() + from, memories.begin() + to); };
     auto size = memories.size();
     KJ_REQUIRE(most(size / 2, size) <= most(size / 4, size / 2) * 11 / 10 + 256, "its memory grew");
@@ -152,9 +152,10 @@ class Load {
       round();
       if (opened + 1 < plan.count && seconds_since(start) >= plan.seconds * (memories.size() + 1) / REPORTS) report();
     }
-    check_memory();
     for (int way = 0; way < WAYS; way++) printf("%7lu ended: %s\n", totals.ended[way], NAMES[way]);
     printf("%lu connections, %lu messages, %lu questions, %lu answers\n", over, totals.messages, totals.asked, totals.answered);
+    fflush(stdout);
+    check_memory();
   }
 };
 

@@ -5,7 +5,7 @@
 #                                                           didn't serve to its end, and no other. Before it 10 seconds with none of these
 set -eu
 command=$1 build=$2 seconds=${3:-60} at_once=${4:-1000} rate=${5:-8000} seed=${6:-1}
-port=17240
+port=${PORT:-17240}
 here=$(cd "$(dirname "${BASH_SOURCE[0]}")" && pwd)
 . "$here/../begin.sh"
 make -s -C "$here" BUILD="$build"
