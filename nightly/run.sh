@@ -23,7 +23,8 @@
 #   pieces    sessions, clients' peers and relayed streams, cut at each byte   some three minutes
 #   starved   1,000 random sessions, once for each of their allocations        five minutes
 #   fuzz      10 million frames by libFuzzer, and 600,000 with the sanitizer   two minutes on four processors
-#   night     100 million inputs over all these; INPUTS=N has another number   a quarter of an hour on four idle processors
+#   night     100 million inputs over all these; INPUTS=N has another number,  a quarter of an hour on four idle processors
+#             SEED=N others of them
 #   edits     the edits of each must-fail-more/                                a proof of each of these crates, and hours
 #   plants    wrong bodies that rt makes up, in ten crates                     hours; wants a quiet machine, and its lines want reading
 #
@@ -126,21 +127,30 @@ fuzz() {
 
 of_night() { # NUMBER INPUTS    what one processor does: half of the inputs are frames, the others streams of messages
     local program
-    for program in cut client passed; do
-        nice -n 10 "$folder/$program" "$1" "$(($2 / 6))" || return 1
+    for program in cut client passed served; do
+        nice -n 10 "$folder/$program" "$1" "$(($2 / 6))" >"$folder/$program.$1.said" || return 1
     done
-    nice -n 10 "$folder/served" "$1" "$(($2 / 6))" && one_fuzzer fuzz "$1" "$(($2 / 2))" && tail -n 2 "$folder/fuzz.$1/log"
+    one_fuzzer fuzz "$1" "$(($2 / 2))"
+}
+
+tried() { # PATTERN FILE..    the sum of the numbers before these words
+    cat "${@:2}" | grep -oE "[0-9]+ $1" | awk '{ sum += $1 } END { printf "%.0f\n", sum }'
 }
 
 night() {
-    local number processors inputs=${INPUTS:-100000000} failed=0 started=()
+    local number program processors inputs=${INPUTS:-100000000} first=${SEED:-1} failed=0 started=()
     fuzzers fuzz seeds served cut client passed && built || return 1
     processors=$(nproc)
-    for number in $(seq "$processors"); do
+    for number in $(seq "$first" "$((first + processors - 1))"); do
         (of_night "$number" "$((inputs / processors))") & started+=($!)
     done
     for number in "${started[@]}"; do wait "$number" || failed=1; done
-    "$here/fuzz/sessions.sh" "$server" "$folder" "$((inputs / 5000))" 9 16 && return "$failed"
+    "$here/fuzz/sessions.sh" "$server" "$folder" "$((inputs / 5000))" "$((8 + first))" 16 || failed=1
+    echo "inputs, with those of seeds before: $(
+        for program in cut client passed served; do echo -n "$program $(tried '(inputs|events)' "$folder/$program".*.said), "; done
+        tried tried "$folder"/fuzz.*/log
+    ) frames"
+    return "$failed"
 }
 
 edits() {

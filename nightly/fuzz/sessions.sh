@@ -5,7 +5,7 @@
 set -euo pipefail
 server=$1 build=$2 count=${3:-1000} seed=${4:-1} at_once=${5:-}
 here=$(cd "$(dirname "${BASH_SOURCE[0]}")" && pwd)
-plain=$((17200 + seed % 100 * 2)) packed=$((17201 + seed % 100 * 2)) options=()
+plain=$((${PORT:-17200} + seed % 100 * 2)) packed=$((plain + 1)) options=()
 [ -z "$at_once" ] || options=(--at-once "$at_once")
 make -s -C "$here" B="$build" "$build/sessions"
 
