@@ -4,11 +4,13 @@
 //   window       64 calls of Cell.add under way at a time
 //   pipeline     Desk.now, and Cell.add on what it will give, in one round trip; each counts as one call
 //   large        one call of Cell.add after another, whose params hold 1 MiB that the Cell doesn't read
+//   large-results   one call of Blob.get after another, whose results hold 1 MiB that the client doesn't read; the server offers a Blob
 //   raw-seq      as seq, by frames made beforehand over a bare socket, so that nearly all the time is the server's
 //   raw-window   as window, by such frames
 //   raw-full     as raw-seq, after 60,000 calls that were answered and not finished, so that the server's tables are nearly full
-// The status is 0 if the Cell's number is right in the end.
+// The status is 0 if the number of the Cell or the Blob is right in the end.
 #include "../../nightly/connect.hpp"
+#include "blob.capnp.h"
 #include "desk.capnp.h"
 #include <capnp/rpc-twoparty.h>
 #include <capnp/rpc.capnp.h>
@@ -39,16 +41,32 @@ class Timer {
   }
 };
 
+// A server, as the reference library's client has it.
+struct Peer {
+  kj::AsyncIoContext io = kj::setupAsyncIo();
+  kj::WaitScope& wait = io.waitScope;
+  kj::Own<kj::AsyncIoStream> stream;
+  capnp::TwoPartyVatNetwork network;
+  capnp::RpcSystem<rpc::twoparty::VatId> system;
+
+  explicit Peer(unsigned port)
+      : stream(io.provider->getNetwork().parseAddress("127.0.0.1", port).wait(wait)->connect().wait(wait)),
+        network(*stream, rpc::twoparty::Side::CLIENT),
+        system(capnp::makeRpcClient(network)) {}
+
+  template <class T>
+  typename T::Client bootstrap() {
+    capnp::MallocMessageBuilder message(8);
+    auto id = message.initRoot<rpc::twoparty::VatId>();
+    id.setSide(rpc::twoparty::Side::SERVER);
+    return system.bootstrap(id).castAs<T>();
+  }
+};
+
 static void by_library(unsigned port, const std::string& mode, uint64_t calls) {
-  auto io = kj::setupAsyncIo();
-  auto& wait = io.waitScope;
-  auto stream = io.provider->getNetwork().parseAddress("127.0.0.1", port).wait(wait)->connect().wait(wait);
-  capnp::TwoPartyVatNetwork network(*stream, rpc::twoparty::Side::CLIENT);
-  auto system = capnp::makeRpcClient(network);
-  capnp::MallocMessageBuilder message(8);
-  auto id = message.initRoot<rpc::twoparty::VatId>();
-  id.setSide(rpc::twoparty::Side::SERVER);
-  auto desk = system.bootstrap(id).castAs<Desk>();
+  Peer peer(port);
+  auto& wait = peer.wait;
+  auto desk = peer.bootstrap<Desk>();
   auto cell = desk.nowRequest().send().wait(wait).getCell();
   auto add = [&](Cell::Client cell) {
     auto request = cell.addRequest(capnp::MessageSize{4, 0});
@@ -88,6 +106,21 @@ static void by_library(unsigned port, const std::string& mode, uint64_t calls) {
   }
   timer.report(calls);
   KJ_REQUIRE(last == 1 + adds, last);
+}
+
+static void large_results(unsigned port, uint64_t calls) {
+  Peer peer(port);
+  auto blob = peer.bootstrap<Blob>();
+  auto get = [&] {
+    auto response = blob.getRequest(capnp::MessageSize{4, 0}).send().wait(peer.wait);
+    KJ_REQUIRE(response.getBytes().size() == LARGE);
+    return response.getCalls();
+  };
+  uint64_t last = get();
+  Timer timer;
+  for (uint64_t i = 0; i < calls; i++) last = get();
+  timer.report(calls);
+  KJ_REQUIRE(last == 1 + calls, last);
 }
 
 // A connection that frames of one segment come by.
@@ -242,7 +275,7 @@ static void by_frames(unsigned port, uint32_t window, uint32_t kept, uint64_t ca
 
 int main(int argc, char** argv) {
   if (argc != 4) {
-    fprintf(stderr, "usage: client PORT seq|window|pipeline|large|raw-seq|raw-window|raw-full CALLS\n");
+    fprintf(stderr, "usage: client PORT seq|window|pipeline|large|large-results|raw-seq|raw-window|raw-full CALLS\n");
     return 2;
   }
   unsigned port = atoi(argv[1]);
@@ -251,6 +284,7 @@ int main(int argc, char** argv) {
   if (mode == "raw-seq") by_frames(port, 1, 0, calls);
   else if (mode == "raw-window") by_frames(port, 64, 0, calls);
   else if (mode == "raw-full") by_frames(port, 1, 60000, calls);
+  else if (mode == "large-results") large_results(port, calls);
   else by_library(port, mode, (calls + 63) / 64 * 64);
   return 0;
 }

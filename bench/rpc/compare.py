@@ -1,9 +1,10 @@
 #!/usr/bin/env python3
-"""Times `capnp_cli serve` beside the reference library's server of the same objects, and prints the ratios of their times.
+"""Times `capnp_cli serve` beside the reference library's server of the same objects, and prints the ratios of their times. In the mode
+`large-results` the server is a program over cp_serve, `giving`, and both have a Blob.
 
     compare.py --build FOLDER [--runs 7] [--calls 30000] [--only WORD] [--cpus 1,2] [--enforce]
 
-The two servers run in turn on one processor, the same client on another, and a call's time is the client's by the clock. A
+`giving/build.sh FOLDER` builds `giving`, `make BUILD=FOLDER` the rest. The two servers run in turn on one processor, the same client on another, and a call's time is the client's by the clock. A
 ratio is ours over the reference's: below 1 we are faster. The spread is the median over the least, ours and the
 reference's. With --enforce the status is 1 where a ratio passes its goal. `client.cpp` says what the modes are.
 """
@@ -21,31 +22,38 @@ from servers import free_port, wait_for
 COMMAND = HERE.parent.parent / "crates/cp_cli/out/cp_cli"
 
 # The greatest ratio that is asked for.
-GOALS = {"seq": 0.85, "window": 0.9, "pipeline": 0.85, "large": 1.2, "raw-seq": 0.75, "raw-window": 0.45, "raw-full": 0.75}
+GOALS = {"seq": 0.85, "window": 0.9, "pipeline": 0.85, "large": 1.2, "large-results": 0.9, "raw-seq": 0.75, "raw-window": 0.45, "raw-full": 0.75}
 
 
 def run(words, mode, args):
-    """Microseconds a call, against a server of its own."""
+    """Microseconds a call, against a server of its own. `PORT` among the words is its port."""
     port = free_port()
     here, there = args.cpus.split(",")
-    server = subprocess.Popen(["taskset", "-c", there, *words, str(port), "1"])
+    server = subprocess.Popen(["taskset", "-c", there, *(str(port) if it == "PORT" else it for it in words)])
     wait_for(server, port)
-    calls = args.calls // 30 if mode == "large" else args.calls
+    calls = args.calls // 30 if mode.startswith("large") else args.calls
     client = ["taskset", "-c", here, str(args.build / "client"), str(port), mode, str(calls)]
     took = float(subprocess.run(client, stdout=subprocess.PIPE, check=True, timeout=120).stdout) / 1e3
     server.wait(5)
     return took
 
 
+def servers(mode, args):
+    """The words of both servers, ours first."""
+    theirs = [str(args.build / "server"), "PORT", "1"]
+    if mode == "large-results":
+        return [[str(args.build / "giving"), "PORT", "1"], [*theirs, "blob"]]
+    return [[str(args.command), "serve", "PORT", "1"], theirs]
+
+
 def compare(mode, args):
     """Prints a row; whether the goal is met."""
-    servers = [[str(args.command), "serve"], [str(args.build / "server")]]
-    times = [[run(words, mode, args) for words in servers] for _ in range(args.runs)]
+    times = [[run(words, mode, args) for words in servers(mode, args)] for _ in range(args.runs)]
     ours, theirs = zip(*times)
     mine, other = statistics.median(ours), statistics.median(theirs)
     met = mine / other <= GOALS[mode]
     spread = f"{mine / min(ours):.2f} {other / min(theirs):.2f}"
-    print(f"{mode:<12}{mine:>9.1f} us{other:>9.1f} us{mine / other:>8.2f}{GOALS[mode]:>7.2f}   {spread}  {'' if met else 'over'}", flush=True)
+    print(f"{mode:<15}{mine:>9.1f} us{other:>9.1f} us{mine / other:>8.2f}{GOALS[mode]:>7.2f}   {spread}  {'' if met else 'over'}", flush=True)
     return met
 
 
@@ -60,7 +68,7 @@ def main():
     words.add_argument("--enforce", action="store_true")
     args = words.parse_args()
     print(f"{args.runs} runs of each, in turn; load {os.getloadavg()[0]:.1f}")
-    print(f"{'mode':<12}{'ours':>12}{'reference':>12}{'ratio':>8}{'goal':>7}   spread")
+    print(f"{'mode':<15}{'ours':>12}{'reference':>12}{'ratio':>8}{'goal':>7}   spread")
     met = [compare(mode, args) for mode in GOALS if args.only in mode]
     return 1 if args.enforce and not all(met) else 0
 
