@@ -8,7 +8,7 @@ here=$(cd "$(dirname "${BASH_SOURCE[0]}")" && pwd)
 python3 "$here/host.py" "$command"
 "$here/../peers/run.sh" "$command" "$build" 10000 --at-once 64
 
-begin "$port" "$command" serve --at-once 64 "$port" 240
+begin "$port" "$command" serve --at-once 64 "$port" 280
 for turn in $(seq 10); do
     "$build/hostile" "$port" few & peers+=($!)
 done

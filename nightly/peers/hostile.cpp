@@ -188,6 +188,19 @@ void limits() {
   };
   expect("a body that can be sent back", "", unsupported(62));
   expect("a body a level too deep", "P11 echo too large", unsupported(63));
+  // A Call that isn't supported, and in it a list of structs of size zero, which takes two words whatever its length.
+  auto hollow = [](uint32_t count, bool is_table) {
+    return Script().bootstrap(0).call(1, [=](rpc::Call::Builder call) {
+      call.getSendResultsTo().setYourself();
+      auto list = is_table ? capnp::toAny(call.getParams()).getPointerSection()[1]
+                           : capnp::toAny(call.initTarget().initPromisedAnswer()).getPointerSection()[0];
+      list.initAsListOfAnyStruct(0, 0, count);
+    });
+  };
+  for (bool is_table : {true, false}) {
+    expect("a list that can be sent back", "", hollow(1000, is_table));
+    expect("a list of 8,000,000 that can't", "P11 echo too large", hollow(8000000, is_table));
+  }
 }
 
 void full_tables() {

@@ -10,12 +10,18 @@ here=$(cd "$(dirname "${BASH_SOURCE[0]}")" && pwd)
 . "$here/../begin.sh"
 make -s -C "$here" BUILD="$build"
 
-few=${4:+few} peers=26
-[ -z "$few" ] || peers=24
+few=${4:+few} peers=31
+[ -z "$few" ] || peers=29
 begin "$port" "${serve[@]}" "$port" "$peers"
 "$build/hostile" "$port" $few
+peak=$(awk '$1 == "VmHWM:" { print $2 }' "/proc/$pid/status")
+"$build/client" "$port" first 1
 wait "$pid"
-echo "hostile: each fault has its Abort, and each limit its edge"
+if [ "$peak" -gt 262144 ]; then
+    echo "it took $peak kB" >&2
+    exit 1
+fi
+echo "hostile: each fault has its Abort, and each limit its edge; it took $peak kB"
 
 for kind in first second abort; do
     begin "$port" "${serve[@]}" "$port" 1

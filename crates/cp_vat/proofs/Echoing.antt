@@ -1,5 +1,5 @@
 -- When the echo of a message can be written.
-use Rattle.std.proofs.Common.{◌≡◌, ℕ, ◌≤◌, leb, ◌&&◌, Bool, true, false, Decides, [], ◌∷◌, Ok, Err, refl, sym, ◌∙◌, subst, arith}
+use Rattle.std.proofs.Common.{◌≡◌, ℕ, ◌≤◌, leb, ◌&&◌, Bool, true, false, Decides, is_some, [], ◌∷◌, Option, Some, None, Ok, Err, refl, sym, ◌∙◌, subst, arith}
 use Rattle.std.proofs.lemmas.Bool.Decides.{nat_tests}
 use Rattle.cp_tree.specs.Node.{Node, depth, cost}
 use Rattle.cp_rpc.specs.Written.{message_written}
@@ -10,7 +10,9 @@ use Rattle.cp_vat_machine.specs.State.{State}
 use Rattle.cp_vat_machine.specs.Step.{echo_fits, echoed}
 use Rattle.cp_vat_machine.specs.declared.effect.Effect.TheVariants as effects
 use Rattle.cp_vat_machine.specs.declared.fault.PeerFault.TheVariants as faults
+use Rattle.cp_vat.specs.Echoing.{Charges, lists_of_message}
 use Rattle.cp_vat.proofs.Costing.{message_cost}
+use Rattle.cp_vat.proofs.Lists.{message_lists}
 
 at_most : (a b : ℕ) → a ≤ b → leb a b ≡ true
 at_most a b h = grind (arith, nat_tests)
@@ -56,3 +58,8 @@ is_too_long s m long = rw (not_wrapped (message_written m) (λ small. absurd (di
   where
     differ : false ≡ true → ⊥
     differ e = cc
+
+-- nor is one whose lists cost more than may be written
+pub is_too_dear : (s : State) (m : Message) (left : Option ℕ) → Charges 8388605 (lists_of_message m) left → is_some left ≡ false → Err faults.EchoTooLarge ≡ echoed s m
+is_too_dear s m None more is = rw (not_wrapped (message_written m) (λ small. omega (arith, message_lists m, small.1, more))) refl
+is_too_dear s m (Some rest) more is = absurd (cc)

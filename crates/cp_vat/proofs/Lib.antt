@@ -6,8 +6,9 @@ pub mod Telling
 pub mod Returning
 pub mod Taking
 pub mod Entering
-pub mod Echoing
 pub mod Costing
+pub mod Lists
+pub mod Echoing
 pub mod Faulting
 pub mod Stepping
 pub mod Refusing

@@ -7,3 +7,4 @@ pub mod Returning
 pub mod Receiving
 pub mod Running
 pub mod Kept
+pub mod Echoing

@@ -8,6 +8,7 @@ mod asking;
 mod calling;
 mod checks;
 mod content;
+mod echo;
 mod ending;
 mod giving_up;
 mod going;

@@ -1,17 +1,16 @@
-//! What an Unimplemented does, and how a message that isn't supported is sent back.
+//! What an Unimplemented does.
 
-ghost use Rattle.std.specs.Prelude.{◌≡◌, Some};
+ghost use Rattle.std.specs.Prelude.{Some};
 ghost use Rattle.cp_rpc.specs.Viewed.{viewed};
 ghost use Rattle.cp_vat_machine.specs.Resolving.{OnUnimplemented, UnknownToPeer};
-ghost use Rattle.cp_vat_machine.specs.Step.{echoed};
-ghost use Rattle.cp_vat_state.specs.Halts.{Acts, Quiet};
+ghost use Rattle.cp_vat_state.specs.Halts.{Quiet};
 ghost use Rattle.cp_vat_state.specs.StateOf.{state_of};
 
 use crate::on_resolve::{given_back, given_back_view};
 use cp_reading::View;
-use cp_rpc::{Message, MessageIn, MessageView, SchemaFault, message_of, message_view, tree_of};
-use cp_tree::{Shape, Whole, WriteFault, fits};
-use cp_vat_machine::{Effect, PeerFault};
+use cp_rpc::{Message, MessageIn, MessageView, SchemaFault, message_of, message_view};
+use cp_tree::{Shape, Whole};
+use cp_vat_machine::PeerFault;
 use cp_vat_rules::exports::release_exports;
 use cp_vat_state::{Core, Halt};
 
@@ -43,33 +42,6 @@ pub(crate) fn on_unimplemented_view(core: &mut Core, tree: &View) -> Result<(), 
         Ok(message) => unknown_view_to_peer(core, &message),
         Err(_) => Err(Halt::Fault(PeerFault::PeerLacksLevelOne)),
     }
-}
-
-/// How deep a tree is at most that an Unimplemented holds.
-const ECHO_DEPTH: u32 = 63;
-
-/// How much it costs at most.
-const ECHO_COST: u64 = 8_388_605;
-
-/// A message that isn't supported is sent back as its tree, if that can be written.
-pub(crate) fn echo(core: &Core, message: &Message, effects: &mut Vec<Effect>) -> Result<(), Halt>
-    ensures { Acts (λ out. out ≡ echoed (state_of core.now) message.now) result effects.old.items effects.new.items (state_of core.now) }
-{
-    if !message.fits() {
-        return Err(Halt::Fault(PeerFault::EchoTooLarge));
-    }
-    let root = match tree_of(core.alloc, message) {
-        Ok(root) => root,
-        Err(WriteFault::OutOfMemory) => return Err(Halt::OutOfMemory),
-        // No list is too long, and nothing else is refused.
-        Err(_) => unreachable!(),
-    };
-    if !fits(root.tree(), ECHO_DEPTH, ECHO_COST) {
-        return Err(Halt::Fault(PeerFault::EchoTooLarge));
-    }
-    let tree = Whole::from_shaped(root.into_tree());
-    effects.push(Effect::Send(Message::Unimplemented(tree)))?;
-    Ok(())
 }
 
 /// What a message does that the peer doesn't know.

@@ -9,13 +9,14 @@ ghost use Rattle.cp_vat_machine.specs.Resolving.{OnAbort};
 ghost use Rattle.cp_vat_state.specs.Halts.{Acts};
 ghost use Rattle.cp_vat_state.specs.StateOf.{state_of};
 
+use crate::echo::{echo, echo_view};
 use crate::on_bootstrap::on_bootstrap;
 use crate::on_call::{on_call, without_content};
 use crate::on_disembargo::on_disembargo;
 use crate::on_finish::{on_finish, on_release};
 use crate::on_resolve::on_resolve;
 use crate::on_return::on_return;
-use crate::on_unimplemented::{echo, on_unimplemented, on_unimplemented_view};
+use crate::on_unimplemented::{on_unimplemented, on_unimplemented_view};
 use crate::sizes::{message_fits, message_fits_view};
 use crate::supported::{is_supported, is_supported_view};
 use cp_rpc::{Exception, Message, MessageIn, MessageView};
@@ -43,8 +44,7 @@ pub(crate) fn receive(
     act_on(core, message, effects)
 }
 
-/// The same of a message that is read in place, which is looked at in its view first. One that isn't
-/// supported is made, since it is sent back.
+/// The same of a message that is read in place, which is looked at in its view first.
 pub(crate) fn receive_view(
     core: &mut Core,
     message: &MessageView,
@@ -54,7 +54,7 @@ pub(crate) fn receive_view(
     ensures { Acts (Receives (state_of core.old) (viewed message.now)) result effects.old.items effects.new.items (state_of core.new) }
 {
     if !is_supported_view(message) {
-        return echo(core, &message.message(core.alloc)?, effects);
+        return echo_view(core, message, effects);
     }
     if !message_fits_view(message) {
         return Err(Halt::Fault(PeerFault::PayloadTooLarge));

@@ -1,7 +1,7 @@
 use Rattle.std.proofs.Common.{sym, ◌∙◌}
 use Rattle.cp_vat_state.specs.StateOf.{state_of}
 use Rattle.cp_vat.proofs.Echoing.{is_echoed, is_too_long}
-use Rattle.cp_vat.proofs.on_unimplemented.echo.Goals as goal
+use Rattle.cp_vat.proofs.echo.echo.Goals as goal
 
 pub returns-then-not-fits : goal.returns-then-not-fits
 returns-then-not-fits c = is_too_long (state_of c.args.core.now) c.args.message.now (sym c.fits.ensures ∙ c.if-not-fits.true)

@@ -1,0 +1,128 @@
+//! How a message that isn't supported is sent back.
+
+ghost use Rattle.std.specs.Prelude.{◌≡◌, ◌*◌};
+ghost use Rattle.cp_rpc.specs.Viewed.{viewed, viewed_descriptor, viewed_resolution, viewed_returned, viewed_target};
+ghost use Rattle.cp_vat_machine.specs.Step.{echoed};
+ghost use Rattle.cp_vat_state.specs.Halts.{Acts};
+ghost use Rattle.cp_vat_state.specs.StateOf.{state_of};
+ghost use Rattle.cp_vat.specs.Echoing.{Charges, lists_of_descriptor, lists_of_message, lists_of_resolution, lists_of_returned, lists_of_table, lists_of_target};
+
+use cp_reading::View;
+use cp_rpc::{
+    CapTableView, DescriptorView, Message, MessageIn, MessageView, ResolutionView, ReturnedView,
+    TargetView, tree_of,
+};
+use cp_tree::{Whole, WriteFault, fits};
+use cp_vat_machine::{Effect, PeerFault};
+use cp_vat_state::{Core, Halt};
+
+/// How deep a tree is at most that an Unimplemented holds.
+const ECHO_DEPTH: u32 = 63;
+
+/// How much it costs at most.
+const ECHO_COST: u64 = 8_388_605;
+
+/// A message that isn't supported is sent back as its tree, if that can be written.
+pub(crate) fn echo(core: &Core, message: &Message, effects: &mut Vec<Effect>) -> Result<(), Halt>
+    ensures { Acts (λ out. out ≡ echoed (state_of core.now) message.now) result effects.old.items effects.new.items (state_of core.now) }
+{
+    if !message.fits() {
+        return Err(Halt::Fault(PeerFault::EchoTooLarge));
+    }
+    let root = match tree_of(core.alloc, message) {
+        Ok(root) => root,
+        Err(WriteFault::OutOfMemory) => return Err(Halt::OutOfMemory),
+        // No list is too long, and nothing else is refused.
+        Err(_) => unreachable!(),
+    };
+    if !fits(root.tree(), ECHO_DEPTH, ECHO_COST) {
+        return Err(Halt::Fault(PeerFault::EchoTooLarge));
+    }
+    let tree = Whole::from_shaped(root.into_tree());
+    effects.push(Effect::Send(Message::Unimplemented(tree)))?;
+    Ok(())
+}
+
+/// The same of a message that is read in place. Its lists are counted first: a list of few bytes may have
+/// millions of elements, and none of them is made where the tree would be too large.
+pub(crate) fn echo_view(
+    core: &Core,
+    message: &MessageView,
+    effects: &mut Vec<Effect>,
+) -> Result<(), Halt>
+    ensures { Acts (λ out. out ≡ echoed (state_of core.now) (viewed message.now)) result effects.old.items effects.new.items (state_of core.now) }
+{
+    if charge_message(ECHO_COST, message).is_none() {
+        return Err(Halt::Fault(PeerFault::EchoTooLarge));
+    }
+    echo(core, &message.message(core.alloc)?, effects)
+}
+
+/// What is left of a cost after the lists of a message. `None`: they cost more.
+fn charge_message(left: u64, message: &MessageView) -> Option<u64>
+    ensures { Charges left (lists_of_message (viewed message.now)) result }
+{
+    match message {
+        MessageIn::Call(call) => {
+            let left = charge_target(left, &call.target)?;
+            charge_table(left, &call.params.cap_table)
+        }
+        MessageIn::Return(returned) => charge_returned(left, &returned.returned),
+        MessageIn::Resolve(resolve) => charge_resolution(left, &resolve.resolution),
+        MessageIn::Disembargo(disembargo) => charge_target(left, &disembargo.target),
+        _ => Some(left),
+    }
+}
+
+fn charge_target(left: u64, target: &TargetView<View>) -> Option<u64>
+    ensures { Charges left (lists_of_target (viewed_target (λ t. t) target.now)) result }
+{
+    match target {
+        TargetView::PromisedAnswer(answer) => charge_each(left, answer.transform.len(), 2),
+        _ => Some(left),
+    }
+}
+
+fn charge_returned(left: u64, returned: &ReturnedView<View>) -> Option<u64>
+    ensures { Charges left (lists_of_returned (viewed_returned (λ t. t) returned.now)) result }
+{
+    match returned {
+        ReturnedView::Results(payload) => charge_table(left, &payload.cap_table),
+        _ => Some(left),
+    }
+}
+
+fn charge_resolution(left: u64, resolution: &ResolutionView<View>) -> Option<u64>
+    ensures { Charges left (lists_of_resolution (viewed_resolution (λ t. t) resolution.now)) result }
+{
+    match resolution {
+        ResolutionView::Cap(descriptor) => charge_descriptor(left, descriptor),
+        _ => Some(left),
+    }
+}
+
+fn charge_table(left: u64, table: &CapTableView<View>) -> Option<u64>
+    ensures { Charges left (lists_of_table table.now) result }
+{
+    let mut rest = charge_each(left, table.len(), 3)?;
+    for i in 0..table.len() {
+        rest = charge_descriptor(rest, &table.descriptor(i))?;
+    }
+    Some(rest)
+}
+
+fn charge_descriptor(left: u64, descriptor: &DescriptorView<View>) -> Option<u64>
+    ensures { Charges left (lists_of_descriptor (viewed_descriptor (λ t. t) descriptor.now)) result }
+{
+    match descriptor {
+        DescriptorView::ReceiverAnswer(answer) => charge_each(left, answer.transform.len(), 2),
+        _ => Some(left),
+    }
+}
+
+/// What is left of a cost after this many elements, each of which costs this.
+fn charge_each(left: u64, count: usize, cost: u64) -> Option<u64>
+    ensures { Charges left (count * cost) result }
+{
+    left.checked_sub((count as u64).checked_mul(cost)?)
+}
