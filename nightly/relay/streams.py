@@ -5,9 +5,10 @@
 
 Each frame, plain and packed, has to pass as it is, in two pieces cut anywhere; with a byte changed, cut short, or within a limit
 that it passes, what passes must be the bytes that `check` accepts, and the line on standard error that of `check`. Then a
-target that stops reading, a client and a target that reset, a target that isn't there, and connections that go on beside
-one that is refused.
+target that stops reading, a client and a target that reset, also inside a frame, a target that isn't there, and connections
+that go on beside one that is refused.
 """
+import collections
 import pathlib
 import random
 import socket
@@ -180,6 +181,35 @@ def resets(frame):
     require(status == 2 and len(lines.splitlines()) == 2, lines)
 
 
+def resets_inside(frame):
+    """A write to a peer that resets may fail first, and take the socket's error: then the frame that it leaves open isn't refused."""
+    turns = 60
+    relay = Relay(count=turns)
+    for turn in range(turns):
+        near, far = relay.connect()
+        source, other = (near, far) if turn % 2 else (far, near)
+        source.sendall(frame + frame[:9])
+        require(other.recv(1 << 16) == frame, "the frame")
+        thread = threading.Thread(target=write_until_it_breaks, args=(other, frame * 100))
+        thread.start()
+        source.recv(1 << 16)
+        reset(source)
+        require(drain(other) == b"", "bytes from nowhere")
+        thread.join()
+        other.close()
+    status, lines = relay.end()
+    print("resets inside a frame:", status, dict(collections.Counter(line.split(": ", 1)[1] for line in lines.splitlines())), flush=True)
+    require(status == 2 and lines.count(": device: ") == len(lines.splitlines()) == turns, lines)
+
+
+def write_until_it_breaks(stream, frames):
+    try:
+        while True:
+            stream.sendall(frames)
+    except OSError:
+        pass
+
+
 def no_target():
     with socket.socket() as it:
         it.bind(("127.0.0.1", 0))
@@ -220,6 +250,7 @@ def main():
     side_by_side(frame)
     no_target()
     resets(frame)
+    resets_inside(frame)
     stops_reading(frame)
     frames_pass()
 

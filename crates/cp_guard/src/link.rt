@@ -3,6 +3,9 @@
 use crate::plan::{ACCEPTED, BROKEN, Plan, REFUSED};
 use crate::watch::{Place, Watch};
 use crate::way::{End, Way};
+use cp_frame::FrameFault;
+use cp_relay::Why;
+use cp_stream::Refusal;
 use mio::event::Event;
 use mio::net::TcpStream;
 use std::alloc::{AllocError, Global};
@@ -25,6 +28,19 @@ impl Ended {
             End::Well => ACCEPTED,
             End::Refused(_) => REFUSED,
             End::Unread(_) | End::Unwritten(_) => BROKEN,
+        }
+    }
+
+    /// Whether the other direction's end is the one to be reported. A stream that couldn't be written to was reset: that
+    /// it ends inside a message follows from it, since the failed write took the error that a read would have met.
+    fn yields_to(&self, other: &Ended) -> bool {
+        match self.end {
+            End::Well => true,
+            End::Refused(fault) => {
+                fault.why == Why::Refused(Refusal::Frame(FrameFault::Truncated))
+                    && matches!(other.end, End::Unwritten(_))
+            }
+            End::Unread(_) | End::Unwritten(_) => false,
         }
     }
 
@@ -163,7 +179,7 @@ impl Link {
         let there = ended_in(&self.there, false);
         let back = ended_in(&self.back, true);
         if let (Some(one), Some(other)) = (there, back) {
-            return Some(if one.status() == ACCEPTED { other } else { one });
+            return Some(if one.yields_to(&other) { other } else { one });
         }
         let one = there.or(back)?;
         if one.ends_both() { Some(one) } else { None }
