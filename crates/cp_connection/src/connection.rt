@@ -75,6 +75,7 @@ impl Model for Connection {
 
 impl Connection {
     ghost use Rattle.std.specs.Prelude.{◌≡◌, ◌<◌, [], ℕ, List, OnOk, IfOk, IfErr, length};
+    ghost use Rattle.std.specs.FinMap as map;
     ghost use Rattle.cp_frame.specs.Reader.{taken_of};
     ghost use Rattle.cp_vat_machine.specs.declared.event.Event.TheVariants as events;
     ghost use Rattle.cp_vat_machine.specs.declared.event.Value.TheVariants as values;
@@ -229,12 +230,16 @@ impl Connection {
         ensures unwritten { result.unwritten ≡ length self.now.unwritten }
         ensures happenings { result.happenings ≡ length self.now.happened }
         ensures entries { result.entries ≡ entries_of self.now.vat }
+        ensures imports { result.imports ≡ map.len self.now.vat.counts.imports }
+        ensures promises { result.promises ≡ map.len self.now.vat.values.promises }
     {
         Held {
             came: self.parts.frames.taken(),
             unwritten: self.parts.agenda.outgoing.len(),
             happenings: self.parts.agenda.happened.len(),
             entries: self.parts.vat.entries(),
+            imports: self.parts.vat.imports(),
+            promises: self.parts.vat.promises(),
         }
     }
 }

@@ -47,4 +47,8 @@ pub struct Held {
     pub happenings: usize,
     /// The questions, answers and imports of its vat.
     pub entries: usize,
+    /// The imports of its vat, which `entries` counts too.
+    pub imports: usize,
+    /// The promises of its vat.
+    pub promises: usize,
 }

@@ -1,6 +1,7 @@
 //! One end of a connection.
 
 ghost use Rattle.std.specs.Prelude.{◌≡◌};
+ghost use Rattle.std.specs.FinMap as map;
 ghost use Rattle.cp_rpc.specs.Viewed.{viewed};
 ghost use Rattle.cp_vat_machine.specs.State.{new_state};
 ghost use Rattle.cp_vat_machine.specs.Step.{Step};
@@ -103,6 +104,20 @@ impl Vat {
         ensures { result ≡ entries_of self.now }
     {
         self.core.questions.len() + self.core.answers.len() + self.core.imports.len()
+    }
+
+    /// How many imports it has.
+    pub fn imports(&self) -> usize
+        ensures { result ≡ map.len self.now.counts.imports }
+    {
+        self.core.imports.len()
+    }
+
+    /// How many promises it has: those that were made here, and those that its peer's tables tied to answers.
+    pub fn promises(&self) -> usize
+        ensures { result ≡ map.len self.now.values.promises }
+    {
+        self.core.values.values().promises().len()
     }
 
     /// Takes in a message of the peer's.
