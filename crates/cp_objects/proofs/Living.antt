@@ -4,6 +4,7 @@ use Rattle.cp_refs.specs.declared.call.Origin.{Origin}
 use Rattle.cp_refs.specs.declared.call.Request.{Request}
 use Rattle.cp_refs.specs.declared.cap.Cap.{Cap}
 use Rattle.cp_refs.specs.declared.outcome.Outcome.{Outcome}
+use Rattle.cp_vat_machine.specs.declared.acted.Idle.{Idle}
 use Rattle.cp_vat_machine.specs.declared.event.Event.{Event}
 use Rattle.cp_vat_machine.specs.declared.event.Event.TheVariants as events
 use Rattle.cp_vat_machine.specs.declared.event.Value.{Value}
@@ -53,3 +54,7 @@ lives_call old new cap request result h = lives_act (events.Call cap request) (a
 
 pub lives_finish : {A : Type 0} (old new : Link) (question : ℕ) (result : Result A ConnectionFault) → Acts old (events.Finish question) (answered (λ _. values.Nothing) result) new → Lives old new
 lives_finish old new question result h = lives_act (events.Finish question) (answered (λ _. values.Nothing) result) tt h
+
+-- what came of asking what isn't in use
+pub lives_idle : (old new : Link) (result : Result Idle ConnectionFault) → Acts old events.Idle (answered (λ idle. values.Idle idle.imports idle.promises) result) new → Lives old new
+lives_idle old new result h = lives_act events.Idle (answered (λ idle. values.Idle idle.imports idle.promises) result) tt h

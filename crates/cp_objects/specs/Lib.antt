@@ -2,4 +2,5 @@ pub mod Holders
 pub mod Work
 pub mod Calling
 pub mod Rounds
+pub mod Idle
 pub mod WorkOf

@@ -30,6 +30,13 @@ impl Holders {
         self.counts.get(import).copied().unwrap_or(0)
     }
 
+    /// How many imports are held.
+    pub(crate) fn len(&self) -> usize
+        ensures { result ≡ map.len self.now.counts }
+    {
+        self.counts.iter().len()
+    }
+
     /// One object more holds each of these imports. Where memory runs out, that is so of the first of them, or of none.
     pub(crate) fn raise_each(&mut self, imports: &[u32]) -> Result<(), AllocError>
         ensures raised { OnOk result (self.new.counts ≡ held_by_more self.old.counts imports.now) }

@@ -1,13 +1,15 @@
 //! What is done for the objects of a connection.
 
 ghost use Rattle.std.specs.Prelude.{◌≡◌, ◌↔◌, true, false, IfOk, IsSome, IsTrue, OnOk};
+ghost use Rattle.std.specs.FinMap as map;
 ghost use Rattle.cp_vat_machine.specs.InUse.{caps_of};
 ghost use Rattle.cp_vat_machine.specs.declared.event.Event.TheVariants as events;
 ghost use Rattle.cp_connection.specs.Link.{Link};
 ghost use Rattle.cp_servants.specs.Outcomes.{bad_outcome};
-ghost use Rattle.cp_objects.specs.Work.{begun, Answers, Frees, GivesUp, Holds, IsDone, LetsGo, Lives, Notes, Releases, Replies, Stays, Tries, TriesUnheld};
+ghost use Rattle.cp_objects.specs.Work.{begun, Answers, Frees, GivesUp, Holds, IsDone, LetsGo, Lives, Notes, Releases, Replies, Stays, Tries, TriesEach, TriesUnheld};
 ghost use Rattle.cp_objects.specs.Calling.{HandsBack, Hears, MakesCall, MakesCalls, NextCall};
 ghost use Rattle.cp_objects.specs.Rounds.{Gives, Handles, HandsOver, PollsFrom, Rounds, Settles, WorksOff};
+ghost use Rattle.cp_objects.specs.Idle.{ReleasesIdle};
 ghost use Rattle.cp_objects.specs.WorkOf.{work_of};
 
 use crate::asker::Asker;
@@ -40,6 +42,7 @@ use std::mem;
 ///    by then, and gives back imports that objects gave up.
 /// 5. Before you wait for the peer, go on with rounds while `any_again` says that an object may give more, and write
 ///    what is to go out.
+/// 6. Where objects may call, and you hold no import yourself, call `release_idle` from time to time.
 ///
 /// # What becomes of a call
 ///
@@ -57,6 +60,9 @@ use std::mem;
 /// an object holds one once for each call, and each outcome of its own calls, whose table names it. The import is
 /// released when it was given up as often. What you yourself hold or release isn't counted. Made by `new`, it counts
 /// none, and the first object that gives an import up releases it.
+///
+/// Some imports no object is given: those of a call that fails before it reaches one, and what a promise of the peer's came
+/// to. `release_idle` releases them.
 ///
 /// # Errors, and what each leaves
 ///
@@ -143,6 +149,41 @@ impl Objects {
         self.release_all(connection)?;
         self.work_off(connection, objects)?;
         Ok(gave)
+    }
+
+    /// Releases each import that nothing of the vat uses and that no object holds, in the order in which `idle` of the
+    /// connection names them: such as came with a call that failed before it reached an object, and what a promise came
+    /// to that was held then. It goes over all imports and promises of the vat.
+    ///
+    /// It is for a connection whose imports nobody holds but these objects: what you yourself were given is released too.
+    /// Nothing is released where holders aren't counted (`new`), and while something that happened wasn't worked off, as
+    /// that may give an import to an object.
+    pub fn release_idle(&mut self, connection: &mut Connection) -> Result<(), AllocError>
+        ensures done { OnOk result (ReleasesIdle (work_of self.old connection.old) (work_of self.new connection.new)) }
+        ensures lives { Lives connection.old connection.new }
+    {
+        let are_counted = self.may_call;
+        if !are_counted {
+            return Ok(());
+        }
+        if connection.held().happenings > 0 {
+            return Ok(());
+        }
+        let fault = match connection.idle() {
+            Ok(idle) => return self.release_each(connection, idle.imports.ids()),
+            Err(fault) => fault,
+        };
+        match fault {
+            ConnectionFault::OutOfMemory => Err(AllocError),
+            _ => Ok(()),
+        }
+    }
+
+    /// How many imports are held by objects: none where holders aren't counted (`new`).
+    pub fn held_imports(&self) -> usize
+        ensures { (link : Link) → result ≡ map.len (work_of self.now link).held }
+    {
+        self.holders.len()
     }
 
     /// Hands out the first notice that wasn't taken.
@@ -435,13 +476,25 @@ impl Objects {
         ensures lives { Lives connection.old connection.new }
     {
         let imports = mem::replace(&mut self.given_up, Vec::new(self.alloc));
-        for import in &imports {
+        self.release_each(connection, &imports)
+    }
+
+    /// Tries to release each of these imports, unless an object holds it.
+    fn release_each(
+        &mut self,
+        connection: &mut Connection,
+        imports: &[u32],
+    ) -> Result<(), AllocError>
+        ensures done { OnOk result (TriesEach (work_of self.old connection.old) imports.now (work_of self.new connection.new)) }
+        ensures lives { Lives connection.old connection.new }
+    {
+        for import in imports {
             self.release_unheld(connection, *import)?;
         }
         Ok(())
     }
 
-    /// Tries to release an import that was given up, unless an object holds it again.
+    /// Tries to release an import, unless an object holds it.
     fn release_unheld(&mut self, connection: &mut Connection, import: u32) -> Result<(), AllocError>
         ensures done { OnOk result (TriesUnheld (work_of self.old connection.old) import (work_of self.new connection.new)) }
         ensures lives { Lives connection.old connection.new }
@@ -452,7 +505,7 @@ impl Objects {
         self.release(connection, import)
     }
 
-    /// Tries to release an import that was given up.
+    /// Tries to release an import.
     fn release(&mut self, connection: &mut Connection, import: u32) -> Result<(), AllocError>
         ensures done { OnOk result (Tries (work_of self.old connection.old) import (work_of self.new connection.new)) }
         ensures lives { Lives connection.old connection.new }

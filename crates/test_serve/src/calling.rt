@@ -127,13 +127,13 @@ fn no_object_may_call(rt: HostRuntime) {
 }
 
 /// A reply at once, by which these imports are given up.
-fn giving_up(rt: &impl Abort, alloc: Global, outcome: Outcome, imports: &[u32]) -> Reply {
+pub fn giving_up(rt: &impl Abort, alloc: Global, outcome: Outcome, imports: &[u32]) -> Reply {
     let gives_up = Ids::new(imports.to_vec(alloc).ok().expect(rt, "memory"));
     Reply::Now { outcome, gives_up }
 }
 
 /// A Script of these replies.
-fn replying(rt: &impl Abort, alloc: Global, replies: [Reply; 3]) -> Object {
+pub fn replying(rt: &impl Abort, alloc: Global, replies: [Reply; 3]) -> Object {
     let replies = Vec::from_array(alloc, replies).ok().expect(rt, "memory");
     Object::Script(Script::new(replies, Vec::new(alloc)))
 }

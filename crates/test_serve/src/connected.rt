@@ -69,6 +69,16 @@ impl Session {
         self.owed.round(&mut self.connection, &mut self.objects)
     }
 
+    /// The imports that nobody holds are released.
+    pub fn release_idle(&mut self) -> Result<(), AllocError> {
+        self.owed.release_idle(&mut self.connection)
+    }
+
+    /// How many imports are held.
+    pub fn held_imports(&self) -> usize {
+        self.owed.held_imports()
+    }
+
     /// Rounds follow, until one gives nothing that is awaited.
     pub fn end(&mut self) -> Result<(), AllocError> {
         for _ in 0..u64::MAX {

@@ -28,6 +28,8 @@ mod faults;
 #[cfg(test)]
 mod frames;
 #[cfg(test)]
+mod idle;
+#[cfg(test)]
 mod kinds;
 #[cfg(test)]
 mod servants;

@@ -40,6 +40,8 @@ fn frames_are_of_their_lines(rt: HostRuntime) {
         GIVING_AGAIN,
         ADD_GIVING,
         ADD_GIVING_AGAIN,
+        GIVING_PROMISE,
+        RESOLVE,
         FINISH,
         STRANGE_FINISH,
         FIRST_FINISH,
