@@ -5,6 +5,7 @@ ghost use Rattle.cp_host.specs.Feeding.{KeepsRest};
 
 use crate::feeding::feed;
 use crate::plan::Plan;
+use crate::search::Search;
 use cp_connection::{Connection, ConnectionFault};
 use cp_objects::{Notice, Objects};
 use cp_seats::HostLimits;
@@ -26,6 +27,7 @@ pub(crate) struct Crew<O> {
     rest: Vec<u8>,
     /// An object gave what was awaited when all were polled last.
     gave: bool,
+    search: Search,
 }
 
 impl<O: Servant> Crew<O> {
@@ -34,10 +36,11 @@ impl<O: Servant> Crew<O> {
         Crew {
             alloc,
             connection: Connection::new(alloc, plan.mode, plan.messages, Some(0)),
-            work: Objects::new(alloc),
+            work: Objects::that_call(alloc),
             objects,
             rest: Vec::new(alloc),
             gave: false,
+            search: Search::new(),
         }
     }
 
@@ -76,6 +79,20 @@ impl<O: Servant> Crew<O> {
     pub(crate) fn round(&mut self) -> Result<(), ConnectionFault> {
         let objects = self.objects.as_mut_slice();
         self.gave = self.work.round(&mut self.connection, objects)?;
+        Ok(())
+    }
+
+    /// Where it is due, releases the imports that nothing of the vat uses and that no object holds. Nobody else holds any.
+    pub(crate) fn release_idle(&mut self) -> Result<(), ConnectionFault> {
+        let messages = self.messages();
+        let by_objects = self.work.held_imports();
+        if self
+            .search
+            .is_due(&self.connection.held(), by_objects, messages)
+        {
+            self.work.release_idle(&mut self.connection)?;
+            self.search.note(&self.connection.held(), messages);
+        }
         Ok(())
     }
 
@@ -133,7 +150,7 @@ impl<O: Servant> Crew<O> {
     }
 }
 
-/// Why the vat closed, if it did. A server asks nothing of its peer, so nothing else is told.
+/// Why the vat closed, if it did. Objects alone ask something of the peer, and are told what it came to, so nothing else is told.
 fn reason_of(notice: Notice) -> Option<Reason> {
     match notice {
         Notice::Closed(reason) => Some(reason),

@@ -106,25 +106,36 @@ impl<O: Servant> Guest<O> {
         Ok(self.leave(now))
     }
 
-    /// Takes what is left of a piece, or the next one, or polls the objects.
+    /// Goes on, where its peer reads.
     fn serve(&mut self, piece: &mut [u8], limits: &HostLimits, now: u64) -> io::Result<()> {
         if !self.seat.may_take(limits, self.crew.outgoing().len()) {
             return Ok(());
         }
         let messages = self.crew.messages();
-        let done = if self.crew.untaken() > 0 {
-            self.crew.receive_rest(limits)
-        } else if self.wire.is_readable() {
-            self.read(piece, limits, now)?
-        } else if self.crew.asks_again() {
-            self.crew.round()
-        } else {
-            Ok(())
-        };
+        let done = self.go_on(piece, limits, now)?;
         let ended = self.crew.messages() != messages;
         self.seat.take_at(now, ended, self.crew.is_open());
+        let done = self.clear_up(done);
         self.judge(done);
         Ok(())
+    }
+
+    /// Takes what is left of a piece, or the next one, or polls the objects.
+    fn go_on(
+        &mut self,
+        piece: &mut [u8],
+        limits: &HostLimits,
+        now: u64,
+    ) -> io::Result<Result<(), ConnectionFault>> {
+        if self.crew.untaken() > 0 {
+            Ok(self.crew.receive_rest(limits))
+        } else if self.wire.is_readable() {
+            self.read(piece, limits, now)
+        } else if self.crew.asks_again() {
+            Ok(self.crew.round())
+        } else {
+            Ok(Ok(()))
+        }
     }
 
     /// Reads a piece, and takes it.
@@ -146,6 +157,12 @@ impl<O: Servant> Guest<O> {
             }
         };
         Ok(done)
+    }
+
+    /// Releases imports that nobody holds, after something was done.
+    fn clear_up(&mut self, done: Result<(), ConnectionFault>) -> Result<(), ConnectionFault> {
+        done?;
+        self.crew.release_idle()
     }
 
     /// Notes whether the connection ended by what was done.
@@ -173,6 +190,7 @@ impl<O: Servant> Guest<O> {
     fn give_more(&mut self, limits: &HostLimits) {
         if self.crew.gives_more() && self.crew.outgoing().len() <= limits.ahead {
             let done = self.crew.round();
+            let done = self.clear_up(done);
             self.judge(done);
         }
     }

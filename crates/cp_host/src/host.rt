@@ -47,6 +47,9 @@ pub enum News {
 /// value that they hold together, as by an `Rc`: all calls are made in one thread, one after another. An object that is to
 /// know its connection is made with its number.
 ///
+/// They may call what they were given (`Servant::ask`), and are told what that came to. Nobody else uses a connection's imports: each is released once no
+/// object holds it, nor anything of the vat, also one that came with a call which reached no object.
+///
 /// # What each connection gets
 ///
 /// - Connections that can go on have turns, one after another. In a turn what waits is written, and one piece of at most

@@ -9,6 +9,7 @@ mod feeding;
 mod guest;
 mod host;
 mod plan;
+mod search;
 mod time;
 
 pub use end::End;
