@@ -14,7 +14,8 @@ import tempfile
 import time
 
 DESK = 0xE5A1000000000001
-ABORT, CALL, RETURN, FINISH, BOOTSTRAP = 1, 2, 3, 4, 8
+CELL = 0xE5A1000000000002
+ABORT, CALL, RETURN, FINISH, RELEASE, BOOTSTRAP = 1, 2, 3, 4, 6, 8
 
 
 def words(*numbers):
@@ -37,6 +38,13 @@ def call(question, method=0):
     """A call of the Desk, as export 0."""
     target = [struct_at(2, 1, 1), 0, 0, 0, 0]
     return frame(words(struct_at(0, 1, 1), CALL, struct_at(0, 3, 3), question | method << 32, DESK, 0, *target))
+
+
+def call_of_answer(question, answer, given):
+    """A call of the first pointer of an answer, which gives the object of this number."""
+    target = [1 << 32, struct_at(0, 1, 1), answer, 0xF_0000_0001, 1 << 32 | 4, 1]
+    params = [0, 0x17_0000_0001, struct_at(1, 1, 1), given << 32 | 1, 0]
+    return frame(words(struct_at(0, 1, 1), CALL, struct_at(0, 3, 3), question | 1 << 32, CELL, 0, struct_at(2, 1, 1), struct_at(7, 0, 2), 0, *target, *params))
 
 
 def finish(question):
@@ -273,6 +281,23 @@ def one_that_finishes_nothing():
     server.ended(1, "closed: too many bytes are kept")
 
 
+def calls_that_fail():
+    """Calls on an exception, which reach no object: each is answered, and what it gave is released."""
+    server = Server(1, "--at-once", "2")
+    peer = server.peer().send(bootstrap(0), call(1, method=2))
+    assert peer.kinds(2) == [RETURN, RETURN]
+    for first in range(2, 8_002, 100):
+        questions = range(first, first + 100)
+        for it in questions:
+            peer.send(call_of_answer(it, 1, it), finish(it))
+        came = [peer.message() for _ in range(200)]
+        assert [kind for kind, _ in came].count(RETURN) == 100
+        released = sorted(struct.unpack_from("<II", body, 24) for kind, body in came if kind == RELEASE)
+        assert released == [(it, 1) for it in questions], released
+    peer.close()
+    server.ended()
+
+
 def silent_and_half_open():
     server = Server(1001, "--at-once", "1001")
     peer = server.peer().send(bootstrap(0))
@@ -341,6 +366,7 @@ TRIALS = [
     idle,
     one_that_does_not_read,
     one_that_finishes_nothing,
+    calls_that_fail,
     silent_and_half_open,
     opened_and_closed,
     a_path,

@@ -123,7 +123,7 @@ class Asker {
         answer.setQuestionId(target.number);
         if (target.interface == CELL) answer.initTransform(1)[0].setGetPointerField(0);
       }
-      give(call.initParams(), amount, kind != Kind::NO_POINTER);
+      give(call.initParams(), amount);
     });
   }
 
@@ -133,14 +133,14 @@ class Asker {
     call({CELL, false, number, question.serial << 32, question.waits && !question.returned}, Kind::NO_POINTER);
   }
 
-  // Params: the amount, sometimes much beside it, and objects that the server is to release. (It keeps those of a call that fails before
-  // it gets to an object until the connection ends.)
-  void give(rpc::Payload::Builder params, uint64_t amount, bool has_objects) {
+  // Params: the amount, sometimes much beside it, and objects that the server is to release, also those of a call that fails before it gets
+  // to an object.
+  void give(rpc::Payload::Builder params, uint64_t amount) {
     uint32_t more = random.one_in(500) ? random.below(1 << 14) : random.below(8);
     auto words = params.getContent().initAsAnyStruct(1 + more, 0).getDataSection();
     memcpy(words.begin(), &amount, sizeof amount);
     for (size_t i = sizeof amount; i < words.size(); i += 8) words[i] = random.below(256);
-    for (auto descriptor : params.initCapTable(has_objects && random.one_in(3) ? random.below(4) : 0)) {
+    for (auto descriptor : params.initCapTable(random.one_in(3) ? random.below(4) : 0)) {
       uint32_t id = random.below(20);
       descriptor.setSenderHosted(id);
       gifts[id]++;
