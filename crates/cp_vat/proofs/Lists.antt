@@ -1,10 +1,10 @@
 -- The lists of a message cost no more than the tree that it is written as.
-use Rattle.std.proofs.Common.{◌≡◌, ℕ, zero, suc, ◌+◌, ◌*◌, ◌<◌, ◌≤◌, List, [], ◌∷◌, length, take, map, get_or, refl, ◌∙◌, add-one, arith}
+use Rattle.std.proofs.Common.{◌≡◌, ℕ, zero, suc, ◌+◌, ◌*◌, ◌<◌, ◌≤◌, List, [], ◌∷◌, length, take, map, get_or, ◌∙◌, add-one, arith}
 use Rattle.std.proofs.lemmas.List.{length-map}
-use Rattle.cp_tree.specs.Node.{Node, cost, body_cost}
+use Rattle.cp_tree.specs.Node.{cost, body_cost}
 use Rattle.cp_tree.specs.NodeOf.{bodies_of}
 use Rattle.cp_tree.proofs.Trees.{number_in}
-use Rattle.cp_rpc.specs.Written.{body_written, cap_table_written, descriptor_written, descriptor_pointer, list_written, member_written, message_written, op_written, payload_written, promised_answer_written, resolution_pointer, returned_pointer, target_pointer}
+use Rattle.cp_rpc.specs.Written.{body_written, cap_table_written, descriptor_written, descriptor_pointer, list_written, member_written, message_written, op_written, promised_answer_written, resolution_pointer, returned_pointer, target_pointer}
 use Rattle.cp_rpc.specs.declared.promised_answer.PromisedAnswer.{PromisedAnswer}
 use Rattle.cp_rpc.specs.declared.target.Target.{Target}
 use Rattle.cp_rpc.specs.declared.target.Target.TheVariants as targets
