@@ -4,9 +4,11 @@
 mod awaited;
 mod outcomes;
 mod placed;
+mod request;
 mod servant;
 
 pub use awaited::Awaited;
 pub use outcomes::{bad_outcome, named_imports, no_such_method, no_such_object, refused_call};
-pub use placed::{any_again, ask_at, call_at, poll_at, tell_at};
+pub use placed::{any_again, ask_at, call_at, call_view_at, poll_at, tell_at};
+pub use request::RequestView;
 pub use servant::{Ask, Reply, Servant, Settled};

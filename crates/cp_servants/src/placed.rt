@@ -1,11 +1,13 @@
 //! Objects by their places.
 
 ghost use Rattle.std.specs.Prelude.{◌≡◌, ◌<◌, IfOk, OnOk, length, true};
+ghost use Rattle.cp_servants.specs.Requests.{request_of};
 ghost use Rattle.cp_servants.specs.Servant.{AsksAt, CallsAt, PollsAt, TellsAt, SomeMaySayMore};
 
+use crate::request::RequestView;
 use crate::servant::{Ask, Reply, Servant, Settled};
 use cp_refs::{Outcome, Request};
-use std::alloc::AllocError;
+use std::alloc::{AllocError, Global};
 
 /// Calls the object at a place, under a ticket. `Err`: memory ran out for it.
 pub fn call_at<O: Servant>(
@@ -18,6 +20,21 @@ pub fn call_at<O: Servant>(
     ensures { IfOk result (λ reply. CallsAt O.kind place ticket request reply objects.old objects.new) }
 {
     let reply = objects[place].call(ticket, request)?;
+    Ok(reply)
+}
+
+/// Calls the object at a place, under a ticket, with params that are lent. `Err`: memory ran out for it.
+pub fn call_view_at<O: Servant>(
+    alloc: Global,
+    objects: &mut [O],
+    place: usize,
+    ticket: u64,
+    request: RequestView<'_>,
+) -> Result<Reply, AllocError>
+    requires { place < length objects.old }
+    ensures { IfOk result (λ reply. CallsAt O.kind place ticket (request_of request.entry) reply objects.old objects.new) }
+{
+    let reply = objects[place].call_view(alloc, ticket, request)?;
     Ok(reply)
 }
 

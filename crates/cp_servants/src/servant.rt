@@ -1,11 +1,13 @@
 //! Objects that answer calls.
 
 ghost use Rattle.std.specs.Prelude.{◌≡◌, true, IfOk, OnOk};
+ghost use Rattle.cp_servants.specs.Requests.{request_of};
 ghost use Rattle.cp_servants.specs.Servant.{Kind, any, Asks, IsTold};
 
+use crate::request::RequestView;
 use cp_refs::{Cap, Outcome, Request};
 use cp_vat_machine::Ids;
-use std::alloc::AllocError;
+use std::alloc::{AllocError, Global};
 
 /// What an object answers to a call.
 #[derive(Drop)]
@@ -45,6 +47,19 @@ pub trait Servant: Drop {
     fn call(&mut self, ticket: u64, request: Request) -> Result<Reply, AllocError>
         ensures { IfOk result (λ reply. kind.takes self.old ticket request reply self.new) };
 
+    /// Takes a call whose params are lent, as `call` takes one. Unless the object does it otherwise, a tree of them is made for `call`.
+    fn call_view(
+        &mut self,
+        alloc: Global,
+        ticket: u64,
+        request: RequestView<'_>,
+    ) -> Result<Reply, AllocError>
+        ensures { IfOk result (λ reply. kind.takes self.old ticket (request_of request.entry) reply self.new) }
+    {
+        let request = request.request(alloc)?;
+        self.call(ticket, request)
+    }
+
     /// Says what one of the calls came to that were to be answered later, if any did.
     fn poll(&mut self) -> Result<Option<Settled>, AllocError>
         ensures { IfOk result (λ settled. kind.polls self.old settled self.new) };
@@ -83,6 +98,15 @@ impl Servant for Box<dyn Servant> {
 
     fn call(&mut self, ticket: u64, request: Request) -> Result<Reply, AllocError> {
         (**self).call(ticket, request)
+    }
+
+    fn call_view(
+        &mut self,
+        alloc: Global,
+        ticket: u64,
+        request: RequestView<'_>,
+    ) -> Result<Reply, AllocError> {
+        (**self).call_view(alloc, ticket, request)
     }
 
     fn poll(&mut self) -> Result<Option<Settled>, AllocError> {
