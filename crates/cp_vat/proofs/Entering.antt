@@ -11,17 +11,20 @@ use Rattle.cp_vat_machine.specs.Go.{Go, Underway}
 use Rattle.cp_rpc.proofs.Firsts.{none-left, none-right}
 use Rattle.cp_refs.specs.declared.cap.Cap.{Cap}
 use Rattle.cp_vat_machine.specs.State.{State}
-use Rattle.cp_vat_machine.specs.Then.{Then, fault_if}
+use Rattle.cp_vat_machine.specs.Then.{Done, Then, fault_if}
 use Rattle.cp_vat_machine.specs.Capacity.{has_capacity, has_ticket}
 use Rattle.cp_vat_machine.specs.Receiving.{ReceivesCaps}
 use Rattle.cp_vat_machine.specs.Answering.{OnCall, GoToTarget, call_faults, entered, is_answering, peer_call, target_faults}
 use Rattle.cp_vat_machine.specs.declared.effect.Effect.{Effect}
+use Rattle.cp_vat_machine.specs.declared.fault.PeerFault.{PeerFault}
 use Rattle.cp_vat_machine.specs.declared.fault.PeerFault.TheVariants as faults
 use Rattle.cp_vat_state.specs.Halts.{Acts, Leaves}
 use Rattle.cp_vat_state.specs.declared.halt.Halt.{Halt}
 use Rattle.cp_vat_state.specs.declared.halt.Halt.TheVariants as halts
 use Rattle.cp_vat.specs.Judging.{judged}
-use Rattle.cp_vat.specs.Receiving.{Carries, Leads}
+use Rattle.cp_vat.specs.Arriving.{TakesIn}
+use Rattle.cp_vat.specs.Lending.{ActsLending}
+use Rattle.cp_vat.specs.Receiving.{Carries, with_content}
 use Rattle.cp_vat.proofs.Judged.{none_judged, unless_passed}
 use Rattle.cp_vat.proofs.Acting.{acts_by}
 use Rattle.cp_vat.proofs.Taking.{takes_keep}
@@ -71,14 +74,16 @@ module _ (old mid : State) (c : Call) (caps : List Cap) (passed : Ok tt ≡ judg
       let room = fewer _ _ rooms.1 in
       omega arith
 
-  -- it goes by its target's route
-  pub call_goes : (s : State) (ticket : ℕ) → s ≡ entered mid c.question_id → ticket ≡ mid.next_ticket → (result : Result (Unit {0}) Halt) (before after : List Effect) (new : State)
-      → Acts (GoToTarget s (record (peer_call mid c caps) { ticket = ticket }) c.target) result before after new → Acts (OnCall old c) result before after new
-  call_goes s ticket is is_next result before after new goes =
-      acts_by (GoToTarget (entered mid c.question_id) (peer_call mid c caps) c.target) (OnCall old c) result before after new
-      (λ out went. unless_passed (call_faults old c) _ out passed (Ok (caps, mid), taken, went))
-      (subst (λ t. Acts (GoToTarget (entered mid c.question_id) (record (peer_call mid c caps) { ticket = t }) c.target) result before after new) is_next
-      (subst (λ q. Acts (GoToTarget q (record (peer_call mid c caps) { ticket = ticket }) c.target) result before after new) is goes))
+  -- what it does by its target's route is what it does
+  pub call_arrives : (s : State) (ticket : ℕ) → s ≡ entered mid c.question_id → ticket ≡ mid.next_ticket → (out : Result Done PeerFault)
+      → GoToTarget s (record (peer_call mid c caps) { ticket = ticket }) c.target out → OnCall old c out
+  call_arrives s ticket is is_next out goes =
+      unless_passed (call_faults old c) _ out passed (
+        Ok (caps, mid),
+        taken,
+        subst (λ t. GoToTarget (entered mid c.question_id) (record (peer_call mid c caps) { ticket = t }) c.target out) is_next
+            (subst (λ q. GoToTarget q (record (peer_call mid c caps) { ticket = ticket }) c.target out) is goes),
+      )
 
 -- a fault of its capability table
 pub call_fails : (old mid : State) (c : Call) (halt : Halt) (before : List Effect) → Ok tt ≡ judged (call_faults old c) → Leaves (ReceivesCaps old c.params.cap_table) (Err halt) mid → Acts (OnCall old c) (Err halt) before before mid
@@ -86,10 +91,18 @@ call_fails old mid c (halts.Fault fault) before passed fails =
     unless_passed (call_faults old c) (λ out. Then (ReceivesCaps old c.params.cap_table) (λ taken. GoToTarget (entered taken.1 c.question_id) (peer_call taken.1 c taken.0) c.target) out) (Err fault) passed (Err fault, fails, refl)
 call_fails old mid c halts.OutOfMemory before passed fails = tt
 
-module _ (s : State) (u : Underway) (route : Route) (target : Target) (leads : Leads s target route) (result : Result (Unit {0}) Halt) (before after : List Effect) (new : State) where
-  -- a call that goes by its target's route goes to its target
-  pub goes_to_target : Acts (Go s u route) result before after new → Acts (GoToTarget s u target) result before after new
-  goes_to_target went = acts_by (Go s u route) (GoToTarget s u target) result before after new (leads u) went
+-- so whatever content it bears
+pub takes_none : (old mid : State) (c : Call) (halt : Halt) → Ok tt ≡ judged (call_faults old c) → Leaves (ReceivesCaps old c.params.cap_table) (Err halt) mid → TakesIn old c (Err halt) mid
+takes_none old mid c (halts.Fault fault) passed fails = λ t. call_fails old mid (with_content c t) (halts.Fault fault) [] passed fails
+takes_none old mid c halts.OutOfMemory passed fails = tt
+
+pub none_taken : (old mid : State) (c : Call) (t : Node) (halt : Halt) (before after : List Effect) → TakesIn old c (Err halt) mid → Acts (OnCall old (with_content c t)) (Err halt) before after mid
+none_taken old mid c t (halts.Fault fault) before after fails = fails t
+none_taken old mid c t halts.OutOfMemory before after fails = tt
+
+pub none_lent : (old mid : State) (c : Call) (t : Node) (halt : Halt) (before after : List Effect) → TakesIn old c (Err halt) mid → ActsLending (OnCall old (with_content c t)) (Err halt) before after mid
+none_lent old mid c t (halts.Fault fault) before after fails = fails t
+none_lent old mid c t halts.OutOfMemory before after fails = tt
 
 -- A call that fails goes so whatever content it carries.
 pub goes_carrying : (s : State) (u : Underway) (carried : Node) (route : Route) (result : Result (Unit {0}) Halt) (before after : List Effect) (new : State)

@@ -15,3 +15,4 @@ pub mod Refusing
 pub mod Ways
 pub mod Moments
 pub mod Ready
+pub mod Lending

@@ -8,3 +8,5 @@ pub mod Receiving
 pub mod Running
 pub mod Kept
 pub mod Echoing
+pub mod Arriving
+pub mod Lending

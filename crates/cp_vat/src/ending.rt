@@ -4,8 +4,10 @@ ghost use Rattle.std.specs.Prelude.{◌≡◌, ◌++◌, [], None, IfOk, OnOk};
 ghost use Rattle.cp_vat_machine.specs.Step.{aborts};
 ghost use Rattle.cp_vat_laws.specs.Within.{Within};
 ghost use Rattle.cp_vat_state.specs.StateOf.{state_of};
+ghost use Rattle.cp_vat.specs.Lending.{LendingEnds};
 ghost use Rattle.cp_vat.specs.Stepping.{CallEnds, Ends, MessageEnds};
 
+use crate::lent::Lent;
 use cp_refs::failed;
 use cp_rpc::Message;
 use cp_vat_machine::{Acted, Effect, Effects, PeerFault, Reason, VatFault};
@@ -55,6 +57,27 @@ pub(crate) fn end_message(
         Err(Halt::OutOfMemory) => {
             core.is_closed = true;
             Err(VatFault::OutOfMemory)
+        }
+    }
+}
+
+/// Ends a message that may lend a call.
+pub(crate) fn end_lending<'a>(
+    core: &mut Core,
+    done: Result<Option<Lent<'a>>, Halt>,
+    effects: Vec<Effect>,
+) -> Result<Acted<Option<Lent<'a>>>, VatFault>
+    requires { IfOk done (λ _. Within (state_of core.old) None []) }
+    ensures { LendingEnds (state_of core.old) done.entry effects.items result (state_of core.new) }
+{
+    match done {
+        Ok(lent) => follow(core, lent, effects),
+        Err(halt) => {
+            let acted = end_message(core, Err(halt), effects)?;
+            Ok(Acted {
+                value: None,
+                effects: acted.effects,
+            })
         }
     }
 }

@@ -12,6 +12,7 @@ mod echo;
 mod ending;
 mod giving_up;
 mod going;
+mod lent;
 mod on_bootstrap;
 mod on_call;
 mod on_disembargo;
@@ -26,5 +27,6 @@ mod sizes;
 mod supported;
 mod vat;
 
+pub use lent::Lent;
 pub use running::run;
 pub use vat::Vat;

@@ -1,8 +1,10 @@
 //! What a Call does.
 
-ghost use Rattle.std.specs.Prelude.{◌≡◌, ◌<◌, ◌^◌, ◌-◌, ◌≢◌, [], None, OnOk, IfOk, true};
+ghost use Rattle.std.specs.Prelude.{◌≡◌, ◌<◌, ◌^◌, ◌-◌, ◌≢◌, [], Some, None, Ok, OnOk, IfOk, true};
 ghost use Rattle.std.specs.FinMap as map;
 ghost use Rattle.cp_vat_machine.specs.Answering.{GoToAnswer, GoToExport, OnCall, entered, target_faults};
+ghost use Rattle.cp_refs.specs.declared.route.Route.TheVariants.{Deliver};
+ghost use Rattle.cp_vat_machine.specs.Go.{Go};
 ghost use Rattle.cp_vat_machine.specs.Local.{Local};
 ghost use Rattle.cp_vat_machine.specs.Receiving.{answer_of};
 ghost use Rattle.cp_vat_machine.specs.Supported.{is_supported, is_supported_target};
@@ -10,13 +12,17 @@ ghost use Rattle.cp_rpc.specs.Viewed.{viewed_call};
 ghost use Rattle.cp_rpc.specs.declared.message.Message.TheVariants as messages;
 ghost use Rattle.cp_vat_state.specs.Halts.{Acts, OnlyAllocationFails};
 ghost use Rattle.cp_vat_state.specs.StateOf.{state_of};
+ghost use Rattle.cp_vat_rules.specs.Going.{MayGo};
+ghost use Rattle.cp_vat.specs.Arriving.{TakesIn, bearing};
+ghost use Rattle.cp_vat.specs.Lending.{ActsLending, deliveries};
 ghost use Rattle.cp_vat.specs.Receiving.{Carries, HoldsWithin, Leads, LeadsBy, with_content};
 
 use crate::checks::check_call;
 use crate::content::Content;
+use crate::lent::Lent;
 use crate::on_bootstrap::open_answer;
 use cp_reading::View;
-use cp_refs::{Gate, Origin, Path, Request, Route};
+use cp_refs::{Caps, Gate, Origin, Path, Request, Route};
 use cp_rpc::{Call, CallView, Payload, Target};
 use cp_tree::Whole;
 use cp_vat_machine::Effect;
@@ -26,9 +32,16 @@ use cp_vat_rules::receive::{answer_of, receive_caps};
 use cp_vat_state::{Core, Halt};
 use std::alloc::{AllocError, Global};
 
-/// A Call's capability table is taken in, it opens an answer and has the next ticket, and goes by its
-/// target's route. Its content comes beside it. One that is read in place is made last, once it is known
-/// where the call goes.
+/// Where a Call goes that was taken in, and with what but its content.
+#[derive(Drop)]
+struct Arrival {
+    ticket: u64,
+    caps: Caps,
+    route: Route,
+}
+
+/// A Call is taken in, and goes by its route. Its content comes beside it. One that is read in place is made last,
+/// once it is known where the call goes.
 pub(crate) fn on_call<C: Content>(
     core: &mut Core,
     call: Call,
@@ -39,24 +52,27 @@ pub(crate) fn on_call<C: Content>(
     requires local { Local (state_of core.old) }
     ensures { Acts (OnCall (state_of core.old) (with_content call (C.seen content))) result effects.old.items effects.new.items (state_of core.new) }
 {
-    if let Err(fault) = check_call(core, &call) {
-        return Err(Halt::Fault(fault));
+    let arrival = arrive(core, &call)?;
+    go_on(core, &call, arrival, content, effects)
+}
+
+/// The same of a Call that is read in place. One that goes to an object is lent to it, and its content isn't made.
+pub(crate) fn on_call_lending<'a>(
+    core: &mut Core,
+    call: Call,
+    content: View<'a>,
+    effects: &mut Vec<Effect>,
+) -> Result<Option<Lent<'a>>, Halt>
+    requires supported { is_supported (messages.Call call) ≡ true }
+    requires local { Local (state_of core.old) }
+    ensures { ActsLending (OnCall (state_of core.old) (with_content call content.entry)) result effects.old.items effects.new.items (state_of core.new) }
+{
+    let arrival = arrive(core, &call)?;
+    if let Route::Deliver(object) = arrival.route {
+        return Ok(Some(lend(core, &call, arrival, object, content)));
     }
-    let caps = receive_caps(core, call.params.cap_table.descriptors())?;
-    let ticket = enter(core, call.question_id)?;
-    let route = route_to(core, &call.target)?;
-    let content = content_for(core.alloc, &route, content)?;
-    let underway = Underway {
-        ticket,
-        origin: Origin::Answer(call.question_id),
-        request: Request {
-            interface: call.interface_id,
-            method: call.method_id,
-            content,
-            caps,
-        },
-    };
-    go(core, underway, route, effects)
+    go_on(core, &call, arrival, content, effects)?;
+    Ok(None)
 }
 
 /// A Call that is read in place, made but for its content.
@@ -74,6 +90,74 @@ pub(crate) fn without_content(alloc: Global, call: &CallView<View>) -> Result<Ca
             cap_table: call.params.cap_table.cap_table(alloc)?,
         },
     })
+}
+
+/// A Call's capability table is taken in, it opens an answer and has the next ticket, and takes its target's route.
+fn arrive(core: &mut Core, call: &Call) -> Result<Arrival, Halt>
+    requires supported { is_supported (messages.Call call.now) ≡ true }
+    requires local { Local (state_of core.old) }
+    ensures { TakesIn (state_of core.old) call.now result (state_of core.new) }
+{
+    if let Err(fault) = check_call(core, call) {
+        return Err(Halt::Fault(fault));
+    }
+    let caps = receive_caps(core, call.params.cap_table.descriptors())?;
+    let ticket = enter(core, call.question_id)?;
+    let route = route_to(core, &call.target)?;
+    Ok(Arrival {
+        ticket,
+        caps,
+        route,
+    })
+}
+
+/// A Call that was taken in goes by its route.
+fn go_on<C: Content>(
+    core: &mut Core,
+    call: &Call,
+    arrival: Arrival,
+    content: C,
+    effects: &mut Vec<Effect>,
+) -> Result<(), Halt>
+    requires { MayGo (state_of core.old) (bearing call.now arrival (C.seen content)) }
+    ensures { Acts (Go (state_of core.old) (bearing call.now arrival (C.seen content)) arrival.route) result effects.old.items effects.new.items (state_of core.new) }
+{
+    let content = content_for(core.alloc, &arrival.route, content)?;
+    let underway = Underway {
+        ticket: arrival.ticket,
+        origin: Origin::Answer(call.question_id),
+        request: Request {
+            interface: call.interface_id,
+            method: call.method_id,
+            content,
+            caps: arrival.caps,
+        },
+    };
+    go(core, underway, arrival.route, effects)
+}
+
+/// A Call that was taken in is lent to its object.
+fn lend<'a>(
+    core: &mut Core,
+    call: &Call,
+    arrival: Arrival,
+    object: u32,
+    content: View<'a>,
+) -> Lent<'a>
+    ensures { Go (state_of core.old) (bearing call.now arrival content.entry) (Deliver object) (Ok (deliveries (Some result), state_of core.new)) }
+{
+    if let Some(kept) = core.answers.kept_mut(call.question_id) {
+        kept.is_delivered = true;
+    }
+    Lent {
+        object,
+        origin: Origin::Answer(call.question_id),
+        ticket: arrival.ticket,
+        interface: call.interface_id,
+        method: call.method_id,
+        content,
+        caps: arrival.caps,
+    }
 }
 
 /// The content that a call carries which takes this route. One that fails needs none.

@@ -8,10 +8,12 @@ ghost use Rattle.cp_vat_machine.specs.Supported.{is_supported};
 ghost use Rattle.cp_vat_machine.specs.Resolving.{OnAbort};
 ghost use Rattle.cp_vat_state.specs.Halts.{Acts};
 ghost use Rattle.cp_vat_state.specs.StateOf.{state_of};
+ghost use Rattle.cp_vat.specs.Lending.{ActsLending};
 
 use crate::echo::{echo, echo_view};
+use crate::lent::Lent;
 use crate::on_bootstrap::on_bootstrap;
-use crate::on_call::{on_call, without_content};
+use crate::on_call::{on_call, on_call_lending, without_content};
 use crate::on_disembargo::on_disembargo;
 use crate::on_finish::{on_finish, on_release};
 use crate::on_resolve::on_resolve;
@@ -60,6 +62,38 @@ pub(crate) fn receive_view(
         return Err(Halt::Fault(PeerFault::PayloadTooLarge));
     }
     act_on_view(core, message, effects)
+}
+
+/// The same of a message that is read in place, but that a call which goes to an object is lent to it.
+pub(crate) fn receive_lending<'a>(
+    core: &mut Core,
+    message: &MessageView<'a>,
+    effects: &mut Vec<Effect>,
+) -> Result<Option<Lent<'a>>, Halt>
+    requires { Local (state_of core.old) }
+    ensures { ActsLending (Receives (state_of core.old) (viewed message.now)) result effects.old.items effects.new.items (state_of core.new) }
+{
+    let MessageIn::Call(call) = message else {
+        return receive_whole(core, message, effects);
+    };
+    if !is_supported_view(message) || !message_fits_view(message) {
+        return receive_whole(core, message, effects);
+    }
+    let content = call.params.content.again();
+    on_call_lending(core, without_content(core.alloc, call)?, content, effects)
+}
+
+/// The same where nothing is lent.
+fn receive_whole<'a>(
+    core: &mut Core,
+    message: &MessageView<'a>,
+    effects: &mut Vec<Effect>,
+) -> Result<Option<Lent<'a>>, Halt>
+    requires { Local (state_of core.old) }
+    ensures { ActsLending (Receives (state_of core.old) (viewed message.now)) result effects.old.items effects.new.items (state_of core.new) }
+{
+    receive_view(core, message, effects)?;
+    Ok(None)
 }
 
 /// What a message does, by its member.

@@ -9,9 +9,11 @@ ghost use Rattle.cp_vat_machine.specs.declared.event.Event.TheVariants as events
 ghost use Rattle.cp_vat_machine.specs.declared.event.Value.TheVariants as values;
 ghost use Rattle.cp_vat_laws.specs.Sizes.{AreWritable};
 ghost use Rattle.cp_vat.specs.Kept.{entries_of};
+ghost use Rattle.cp_vat.specs.Lending.{effects_lending};
 ghost use Rattle.cp_vat.specs.Stepping.{answered, effects_of};
 
-use crate::ending::{end_call, end_message};
+use crate::ending::{end_call, end_lending, end_message};
+use crate::lent::Lent;
 use crate::{answering, asking, calling, giving_up, receiving};
 use cp_refs::{Cap, Origin, Outcome, PromiseId, Request};
 use cp_rpc::{Message, MessageView};
@@ -26,7 +28,7 @@ use std::marker::Model;
 /// # In which order calls are made
 ///
 /// 1. `new` makes a vat, with the object that the peer's Bootstrap gets.
-/// 2. `receive`, or `receive_view` for one that is read in place, takes each message of the peer, in the order
+/// 2. `receive`, or `receive_view` or `receive_lending` for one that is read in place, takes each message of the peer, in the order
 ///    in which they came. The other calls may come between any two messages.
 /// 3. Do what the effects of each call ask, in order, and after those of all calls before it. If you call the
 ///    vat while effects are left, as to `answer` a `Deliver`, put the new ones at the end of that queue.
@@ -34,7 +36,7 @@ use std::marker::Model;
 ///
 /// # Calls by what they are for
 ///
-/// - The peer's messages: `receive`, `receive_view`.
+/// - The peer's messages: `receive`, `receive_view`, `receive_lending`.
 /// - Questions: `bootstrap` asks for the peer's object, and `call` calls a capability. Either gives a number,
 ///   which `Cap::Pipelined` may name at once. `finish` gives the question up, once, before or after its outcome.
 /// - Calls that were delivered: `answer`, once for each.
@@ -146,6 +148,23 @@ impl Vat {
         let mut effects = Vec::new(self.core.alloc);
         let done = receiving::receive_view(&mut self.core, &message, &mut effects);
         end_message(&mut self.core, done, effects)
+    }
+
+    /// Takes in a message of the peer's that is read in place, as `receive_view` does, but that a call which goes to an object is
+    /// lent to it: no tree of its params is made, and no effect says that it is delivered. It comes before the effects.
+    pub fn receive_lending<'a>(
+        &mut self,
+        message: MessageView<'a>,
+    ) -> Result<Acted<Option<Lent<'a>>>, VatFault>
+        ensures step { Step self.old (events.Receive (viewed message.entry)) (answered (λ _. values.Nothing) result) (effects_lending result) self.new }
+        ensures writable { AreWritable (effects_of result) }
+    {
+        if self.core.is_closed {
+            return Err(VatFault::Closed);
+        }
+        let mut effects = Vec::new(self.core.alloc);
+        let done = receiving::receive_lending(&mut self.core, &message, &mut effects);
+        end_lending(&mut self.core, done, effects)
     }
 
     /// Asks for the peer's bootstrap capability, and gives the question's number.
