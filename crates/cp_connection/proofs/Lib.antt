@@ -7,3 +7,4 @@ pub mod Concluding
 pub mod Reading
 pub mod Moving
 pub mod Living
+pub mod Lending

@@ -5,6 +5,7 @@ pub mod Noting
 pub mod Link
 pub mod Doing
 pub mod Receiving
+pub mod Lending
 pub mod Moves
 pub mod LinkOf
 pub mod Lives

@@ -1,7 +1,10 @@
 -- A connection by its parts. No public clause names these.
-use Rattle.std.specs.Prelude.{◌≡◌, ℕ, Bool, true, false, List, Option, Some, None, Result}
+use Rattle.std.specs.Prelude.{◌≡◌, ℕ, ◌+◌, ◌-◌, ◌^◌, min, if◌then◌else◌, Bool, true, false, List, Option, Some, None, Result, Ok, Err}
+use Rattle.cp_frame.specs.Reader as readers
 use Rattle.cp_frame.specs.declared.fault.FrameFault.{FrameFault}
 use Rattle.cp_frame.specs.declared.fault.FrameFault.TheVariants as frames
+use Rattle.cp_stream.specs.Stream.{HoldsNone}
+use Rattle.cp_stream.specs.declared.fault.Refusal.{Refusal}
 use Rattle.cp_stream.specs.declared.fault.Refusal.TheVariants as refusals
 use Rattle.cp_vat_machine.specs.State.{State}
 use Rattle.cp_vat_machine.specs.Step.{Step}
@@ -14,6 +17,9 @@ use Rattle.cp_vat.specs.Stepping as vat
 use Rattle.cp_connection.specs.declared.fault.ConnectionFault.{ConnectionFault}
 use Rattle.cp_connection.specs.declared.fault.ConnectionFault.TheVariants as faults
 use Rattle.cp_connection.specs.Doing.{Acts, answered}
+use Rattle.cp_connection.specs.Effects.{closes}
+use Rattle.cp_connection.specs.Noting.{Notes, Stays}
+use Rattle.cp_connection.specs.Refusing.{refusal_of}
 use Rattle.cp_connection.specs.Link.{Link, HasCome}
 use Rattle.cp_connection.specs.declared.parts.Parts.{Parts}
 
@@ -61,3 +67,34 @@ abbrev pub Concludes : {A : Type 0} → Parts → Result (Acted A) VatFault → 
 Concludes {A} old acted result new =
     (before : State) (event : Event) (value : A → Value) → Step before event (vat.answered value acted) (vat.effects_of acted) old.vat
     → Acts (record (link_of old) { vat = before }) event (answered value result) (link_of new)
+
+-- The frame with these segments and this many bytes ends in the piece, and this follows it. Nothing changed but the reader of frames.
+pub record GivesFrame (old : Parts) (piece : List ℕ) (taken : ℕ) (segments : List (List ℕ)) (back : List ℕ) (new : Parts) : Type 0 where
+  pub was_open : old.fault ≡ None
+  pub gives : readers.GivesNext old.frames piece taken segments new.frames back
+  pub same : new ≡ record old { frames = new.frames }
+
+-- a message of this many bytes is counted
+pub record CountsOne (old : Parts) (taken : ℕ) (new : Parts) : Type 0 where
+  pub bytes : new.bytes ≡ min (old.bytes + taken) (2 ^ 64 - 1)
+  pub messages : new.messages ≡ min (old.messages + 1) (2 ^ 64 - 1)
+  pub same : new ≡ record old { bytes = new.bytes; messages = new.messages }
+
+-- A frame holds no message, for which the connection ends.
+pub record RefusesFrame (old : Parts) (segments : List (List ℕ)) (fault : ConnectionFault) (new : Parts) : Type 0 where
+  pub refusal : Refusal
+  pub none : HoldsNone old.limits segments refusal
+  pub told : fault ≡ faults.Unreadable old.bytes refusal
+  pub same : new ≡ record old { fault = Some fault }
+
+-- What the vat gave is noted, and its value given; or memory ran out for that, and its effects are lost; or it refused, which ends the connection where
+-- memory ran out.
+abbrev pub NotesAll : {A : Type 0} → Parts → Result (Acted A) VatFault → Result A ConnectionFault → Parts → Type 0
+NotesAll old (Ok acted) (Ok value) new =
+    (value ≡ acted.value) × Notes old.agenda acted.effects new.agenda
+    × (new ≡ record old { agenda = new.agenda; fault = new.fault }) × (new.fault ≡ (if closes acted.effects then Some faults.Closed else old.fault))
+NotesAll old (Ok acted) (Err fault) new =
+    (fault ≡ faults.OutOfMemory) × Stays old.agenda new.agenda
+    × (new ≡ record old { agenda = new.agenda; is_lost = true; fault = Some faults.OutOfMemory })
+NotesAll old (Err refusal) (Ok value) new = ⊥
+NotesAll old (Err refusal) (Err fault) new = (fault ≡ refusal_of refusal) × (new ≡ record old { fault = refused_by refusal old.fault })

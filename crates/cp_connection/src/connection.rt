@@ -10,8 +10,9 @@ use crate::happening::{Happening, Held, Tally};
 use crate::parts::Parts;
 use cp_frame::Mode;
 use cp_refs::{Cap, Origin, Outcome, PromiseId, Request};
+use cp_vat::Lent;
 use cp_vat_machine::{Event, Idle, Value};
-use cp_words::Limits;
+use cp_words::{Limits, Segments};
 use std::alloc::Global;
 use std::marker::Model;
 
@@ -83,6 +84,7 @@ impl Connection {
     ghost use Rattle.cp_connection.specs.Link.{HasCome, new_link};
     ghost use Rattle.cp_connection.specs.Doing.{Acts, answered};
     ghost use Rattle.cp_connection.specs.Receiving.{Receives, IsUnreceived, EndsWell, EndsBadly, Wrote, HandsOut};
+    ghost use Rattle.cp_connection.specs.Lending.{ReceivesLending};
 
     /// A connection to which nothing came, which gives this object to a Bootstrap. What comes is read within these
     /// limits; what goes out keeps to the standard ones.
@@ -108,6 +110,32 @@ impl Connection {
         ensures unreceived { IfErr result (λ fault. (taken : List ℕ) × IsUnreceived self.old piece.now taken fault self.new) }
     {
         self.parts.receive(piece)
+    }
+
+    /// As `receive`, but a call that the message leads to at once, of an object of this end, is lent out of its frame, which is put
+    /// into `frame`: no tree of its params is made. It is handed out by that, and comes before what `next` gives. Give the frame
+    /// back by `reuse` once nothing of it is lent. Nothing is lent while something that happened wasn't taken.
+    ///
+    /// # Errors
+    ///
+    /// Those of `receive`.
+    pub fn receive_lending<'f>(
+        &mut self,
+        piece: &[u8],
+        frame: &'f mut Segments,
+    ) -> Result<(usize, Option<Lent<'f>>), ConnectionFault>
+        ensures received { IfOk result (λ r. ReceivesLending self.old piece.now r.0 r.1 self.new) }
+        ensures goes_on { IfOk result (λ r. 0 < length piece.now → 0 < r.0) }
+        ensures unreceived { IfErr result (λ fault. (taken : List ℕ) × IsUnreceived self.old piece.now taken fault self.new) }
+    {
+        self.parts.receive_lending(piece, frame)
+    }
+
+    /// Takes back a frame, for the memory of a later one.
+    pub fn reuse(&mut self, frame: Segments)
+        ensures { self.new ≡ self.old }
+    {
+        self.parts.frames.reuse(frame);
     }
 
     /// Ends the bytes of the peer, after a message. The application may still make its calls.

@@ -1,6 +1,6 @@
 //! What a connection is made of.
 
-ghost use Rattle.std.specs.Prelude.{◌≡◌, ◌<◌, [], ℕ, List, Some, None, IfOk, IfErr, OnOk, length};
+ghost use Rattle.std.specs.Prelude.{◌≡◌, ◌<◌, [], ℕ, List, Some, None, IfOk, IfErr, IfSome, IfNone, OnOk, length};
 ghost use Rattle.cp_rpc.specs.Viewed.{viewed};
 ghost use Rattle.cp_stream.specs.Stream.{Holds, HoldsNone};
 ghost use Rattle.cp_vat_machine.specs.declared.event.Event.TheVariants as events;
@@ -9,9 +9,10 @@ ghost use Rattle.cp_vat_laws.specs.Sizes.{AreWritable};
 ghost use Rattle.cp_vat.specs.Stepping.{effects_of};
 ghost use Rattle.cp_connection.specs.Refusing.{refusal_of};
 ghost use Rattle.cp_connection.specs.Link.{new_link, HasCome};
-ghost use Rattle.cp_connection.specs.Doing.{Acts, answered};
-ghost use Rattle.cp_connection.specs.Receiving.{Receives, IsUnreceived, EndsWell, EndsBadly};
-ghost use Rattle.cp_connection.specs.LinkOf.{link_of, KeepsUp, Concludes, unread_at, refused_by};
+ghost use Rattle.cp_connection.specs.Doing.{Acts, Refuses, answered};
+ghost use Rattle.cp_connection.specs.Receiving.{Receives, ReadsOn, IsUnreceived, EndsWell, EndsBadly};
+ghost use Rattle.cp_connection.specs.LinkOf.{link_of, KeepsUp, Concludes, CountsOne, GivesFrame, NotesAll, RefusesFrame, unread_at, refused_by};
+ghost use Rattle.cp_connection.specs.Lending.{DoesLending, ReceivesLending};
 ghost use Rattle.cp_connection.specs.declared.fault.ConnectionFault.TheVariants.{Unreadable};
 
 use crate::agenda::Agenda;
@@ -19,7 +20,7 @@ use crate::fault::ConnectionFault;
 use cp_frame::{FrameFault, FrameReader, Mode};
 use cp_rpc::MessageView;
 use cp_stream::{Refusal, StreamFault, view_of};
-use cp_vat::Vat;
+use cp_vat::{Lent, Vat};
 use cp_vat_machine::{Acted, Event, Value, VatFault};
 use cp_words::{Limits, Segments};
 use std::alloc::Global;
@@ -68,23 +69,39 @@ impl Parts {
         ensures goes_on { IfOk result (λ count. 0 < length piece.now → 0 < count) }
         ensures unreceived { IfErr result (λ fault. (taken : List ℕ) × IsUnreceived (link_of self.old) piece.now taken fault (link_of self.new)) }
     {
-        if let Some(fault) = self.fault {
-            return Err(fault);
-        }
-        let (taken, segments, back) = match self.frames.next(piece) {
-            Ok(Some(next)) => next,
-            Ok(None) => return Ok(piece.len()),
-            Err(fault) => return Err(self.fail(self.unread(fault))),
+        let Some((taken, segments, back)) = self.next_frame(piece)? else {
+            return Ok(piece.len());
         };
-        let message = match self.message_in(&segments) {
-            Ok(message) => message,
-            Err(refusal) => return Err(self.fail(self.unreadable(refusal))),
-        };
-        self.bytes = self.bytes.saturating_add(taken);
-        self.messages = self.messages.saturating_add(1);
+        let message = self.read(taken, &segments)?;
         self.take_in(message)?;
         self.frames.reuse(segments);
         Ok(piece.len() - back.len())
+    }
+
+    /// The same, where a call that goes to an object is lent to it out of the frame. Nothing is lent while something that happened
+    /// wasn't taken.
+    pub fn receive_lending<'f>(
+        &mut self,
+        piece: &[u8],
+        frame: &'f mut Segments,
+    ) -> Result<(usize, Option<Lent<'f>>), ConnectionFault>
+        requires keeps { KeepsUp self.old }
+        ensures keeps { KeepsUp self.new }
+        ensures received { IfOk result (λ r. ReceivesLending (link_of self.old) piece.now r.0 r.1 (link_of self.new)) }
+        ensures goes_on { IfOk result (λ r. 0 < length piece.now → 0 < r.0) }
+        ensures unreceived { IfErr result (λ fault. (taken : List ℕ) × IsUnreceived (link_of self.old) piece.now taken fault (link_of self.new)) }
+    {
+        if !self.agenda.happened.is_empty() {
+            let count = self.receive(piece)?;
+            return Ok((count, None));
+        }
+        let Some((taken, segments, back)) = self.next_frame(piece)? else {
+            return Ok((piece.len(), None));
+        };
+        *frame = segments;
+        let message = self.read(taken, frame)?;
+        let lent = self.take_in_lending(message)?;
+        Ok((piece.len() - back.len(), lent))
     }
 
     /// Ends the bytes of the peer.
@@ -116,6 +133,49 @@ impl Parts {
         self.conclude(acted)
     }
 
+    /// Reads a piece up to the end of a frame: the number of its bytes, its segments, and what follows it. `None` says that
+    /// no frame ends in the piece.
+    fn next_frame<'p>(
+        &mut self,
+        piece: &'p [u8],
+    ) -> Result<Option<(u64, Segments, &'p [u8])>, ConnectionFault>
+        requires keeps { KeepsUp self.old }
+        ensures keeps { KeepsUp self.new }
+        ensures given { IfOk result (λ next. IfSome next (λ t. GivesFrame self.old piece.now t.0 t.1 t.2.now self.new)) }
+        ensures none { IfOk result (λ next. IfNone next (ReadsOn (link_of self.old) piece.now (link_of self.new))) }
+        ensures unreceived { IfErr result (λ fault. IsUnreceived (link_of self.old) piece.now [] fault (link_of self.new)) }
+    {
+        if let Some(fault) = self.fault {
+            return Err(fault);
+        }
+        match self.frames.next(piece) {
+            Ok(Some(next)) => Ok(Some(next)),
+            Ok(None) => Ok(None),
+            Err(fault) => Err(self.fail(self.unread(fault))),
+        }
+    }
+
+    /// The message that a frame of this many bytes holds, in place, which is counted.
+    fn read<'a>(
+        &mut self,
+        taken: u64,
+        segments: &'a Segments,
+    ) -> Result<MessageView<'a>, ConnectionFault>
+        requires keeps { KeepsUp self.old }
+        ensures keeps { KeepsUp self.new }
+        ensures found { IfOk result (λ view. Holds self.old.limits segments.now (viewed view)) }
+        ensures counted { OnOk result (CountsOne self.old taken self.new) }
+        ensures refused { IfErr result (λ fault. RefusesFrame self.old segments.now fault self.new) }
+    {
+        let message = match self.message_in(segments) {
+            Ok(message) => message,
+            Err(refusal) => return Err(self.fail(self.unreadable(refusal))),
+        };
+        self.bytes = self.bytes.saturating_add(taken);
+        self.messages = self.messages.saturating_add(1);
+        Ok(message)
+    }
+
     /// Takes in a message of the peer's.
     fn take_in(&mut self, message: MessageView) -> Result<(), ConnectionFault>
         requires is_open { self.old.fault ≡ None }
@@ -127,6 +187,22 @@ impl Parts {
         self.conclude(acted)
     }
 
+    /// Takes in a message of the peer's, which may lend a call.
+    fn take_in_lending<'a>(
+        &mut self,
+        message: MessageView<'a>,
+    ) -> Result<Option<Lent<'a>>, ConnectionFault>
+        requires is_open { self.old.fault ≡ None }
+        requires keeps { KeepsUp self.old }
+        requires none_happened { self.old.agenda.happened.items ≡ [] }
+        ensures keeps { KeepsUp self.new }
+        ensures lends { IfOk result (λ lent. DoesLending (link_of self.old) (events.Receive (viewed message.entry)) lent (link_of self.new)) }
+        ensures refuses { IfErr result (λ fault. Refuses (link_of self.old) (events.Receive (viewed message.entry)) fault (link_of self.new)) }
+    {
+        let acted = self.vat.receive_lending(message);
+        self.conclude(acted)
+    }
+
     /// Notes what the vat's effects ask for, and gives its value. Where memory ran out, for the vat or for these, the
     /// connection ends, and where the vat closed.
     fn conclude<V: Drop>(&mut self, acted: Result<Acted<V>, VatFault>) -> Result<V, ConnectionFault>
@@ -135,6 +211,7 @@ impl Parts {
         requires writable { AreWritable (effects_of acted) }
         ensures keeps { KeepsUp self.new }
         ensures acts { Concludes self.old acted result self.new }
+        ensures noted { NotesAll self.old acted result self.new }
     {
         let acted = match acted {
             Ok(acted) => acted,

@@ -1,4 +1,4 @@
-use Rattle.std.proofs.Common.{inr}
+use Rattle.std.proofs.Common.{inr, refl}
 use Rattle.cp_connection.proofs.Concluding.{refuses, loses}
 use Rattle.cp_connection.proofs.parts.Parts.conclude.Goals as goal
 
@@ -14,3 +14,9 @@ returns-in-Err-note-clause-acts g c =
     λ before event value step.
     rw (c.fail.ensures.same, c.fail.ensures.fails)
     (inr (loses c.args.self.now before event c.requires.is_open kept (value c.in-Ok.acted.value) c.in-Ok.acted.effects c.note.new.self (rw c.in-Ok.is at step) c.in-Err-note.ensures.same))
+
+pub returns-in-Err-clause-noted : goal.returns-in-Err-clause-noted
+returns-in-Err-clause-noted g c = rw (c.in-Err.is, c.refuse.ensures.same, c.refuse.ensures.ends) (refl, refl)
+
+pub returns-in-Err-note-clause-noted : goal.returns-in-Err-note-clause-noted
+returns-in-Err-note-clause-noted g c = rw (c.in-Ok.is, c.fail.ensures.same, c.fail.ensures.fails) (refl, c.in-Err-note.ensures.same, refl)
