@@ -2,3 +2,4 @@ pub mod Counting
 pub mod Holding
 pub mod Living
 pub mod Working
+pub mod Lending

@@ -1,5 +1,5 @@
 -- How work goes on.
-use Rattle.std.proofs.Common.{◌≡◌, ◌↔◌, ◌<◌, ◌+◌, ℕ, drop, get_or, add-one, List, [], Option, Some, None, IsSome, Bool, true, false, IsTrue, ◌||◌, Result, Ok, Err, OnOk, refl, sym, ◌∙◌, length}
+use Rattle.std.proofs.Common.{◌≡◌, ◌↔◌, ◌<◌, ◌+◌, ℕ, drop, get_or, add-one, List, [], Option, Some, None, IsSome, Bool, true, false, IsTrue, ◌||◌, Result, Ok, Err, IfOk, OnOk, refl, sym, ◌∙◌, length}
 use Rattle.std.proofs.lemmas.Bool.{false≢true}
 use Rattle.std.proofs.Math.Seq.{drop-cons}
 use Rattle.std.specs.FinMap.{get, remove}
@@ -21,6 +21,10 @@ use Rattle.cp_objects.specs.Rounds.{Settles, is_stranger, is_awaited, PollsFrom,
 pub after_ok : {T E : Type 0} {P Q : Type 0} (r : Result T E) → OnOk r P → (P → Q) → OnOk r Q
 after_ok (Ok x) h f = f h
 after_ok (Err e) h f = h
+
+pub if_ok : {T E : Type 0} {P Q : T → Type 0} (r : Result T E) → IfOk r P → ((x : T) → P x → Q x) → IfOk r Q
+if_ok (Ok x) h f = f x h
+if_ok (Err e) h f = tt
 
 -- what isn't there by a test is none
 pub not_some : {X : Type 0} (o : Option X) (b : Bool) → (IsTrue b ↔ IsSome o) → b ≡ false → o ≡ None

@@ -3,4 +3,5 @@ pub mod Work
 pub mod Calling
 pub mod Rounds
 pub mod Idle
+pub mod Receiving
 pub mod WorkOf

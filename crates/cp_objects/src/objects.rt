@@ -1,15 +1,18 @@
 //! What is done for the objects of a connection.
 
-ghost use Rattle.std.specs.Prelude.{◌≡◌, ◌↔◌, true, false, IfOk, IsSome, IsTrue, OnOk};
+ghost use Rattle.std.specs.Prelude.{◌≡◌, ◌<◌, ◌↔◌, [], true, false, IfErr, IfOk, IsSome, IsTrue, OnOk, length};
 ghost use Rattle.std.specs.FinMap as map;
 ghost use Rattle.cp_vat_machine.specs.InUse.{caps_of};
 ghost use Rattle.cp_vat_machine.specs.declared.event.Event.TheVariants as events;
 ghost use Rattle.cp_connection.specs.Link.{Link};
-ghost use Rattle.cp_servants.specs.Outcomes.{bad_outcome};
+ghost use Rattle.cp_vat.specs.Lending.{asked_by};
+ghost use Rattle.cp_servants.specs.Outcomes.{bad_outcome, no_such_object};
+ghost use Rattle.cp_servants.specs.declared.servant.Reply.TheVariants.{Now};
 ghost use Rattle.cp_objects.specs.Work.{begun, Answers, Frees, GivesUp, Holds, IsDone, LetsGo, Lives, Notes, Releases, Replies, Stays, Tries, TriesEach, TriesUnheld};
 ghost use Rattle.cp_objects.specs.Calling.{HandsBack, Hears, MakesCall, MakesCalls, NextCall};
 ghost use Rattle.cp_objects.specs.Rounds.{Gives, Handles, HandsOver, PollsFrom, Rounds, Settles, WorksOff};
 ghost use Rattle.cp_objects.specs.Idle.{ReleasesIdle};
+ghost use Rattle.cp_objects.specs.Receiving.{HandlesLent, IsCutShort, Receives};
 ghost use Rattle.cp_objects.specs.WorkOf.{work_of};
 
 use crate::asker::Asker;
@@ -18,11 +21,13 @@ use crate::notice::Notice;
 use cp_connection::{Connection, ConnectionFault, Happening};
 use cp_refs::{Caps, Origin, Outcome, Request};
 use cp_servants::{
-    Ask, Awaited, Reply, Servant, Settled, ask_at, bad_outcome, call_at, named_imports,
-    no_such_object, poll_at, refused_call, tell_at,
+    Ask, Awaited, Reply, RequestView, Servant, Settled, ask_at, bad_outcome, call_at, call_view_at,
+    named_imports, no_such_object, poll_at, refused_call, tell_at,
 };
 use cp_tables::Entries;
+use cp_vat::Lent;
 use cp_vat_machine::{Ids, VatFault};
+use cp_words::Segments;
 use std::alloc::{AllocError, Global};
 use std::collections::VecDeque;
 use std::mem;
@@ -34,9 +39,9 @@ use std::mem;
 /// # In which order calls are made
 ///
 /// 1. `new` makes it, for one new connection.
-/// 2. After each call of the connection by which something may happen (`receive`, `end`, and the application's calls),
-///    call `work_off`: it takes what happened, in order, hands each call to its object, and answers at once where
-///    the object does.
+/// 2. Give `receive` the bytes of the peer: it gives them to the connection, hands each call that comes to its object, and
+///    answers at once where the object does. After each other call of the connection by which something may happen (its own
+///    `receive`, `end`, and the application's calls), call `work_off`: it does so of what happened, in order.
 /// 3. Take what is for you by `next`, until it gives none.
 /// 4. After each message, and where nothing comes, call `round`: it polls each object once, answers what is settled
 ///    by then, and gives back imports that objects gave up.
@@ -112,6 +117,32 @@ impl Objects {
         ensures { (link : Link) → work_of result link ≡ begun true link }
     {
         Objects::made(alloc, true)
+    }
+
+    /// Takes bytes of the peer, up to the end of the next message, and does what follows of its objects, until nothing is left. A
+    /// call that goes to an object at once is lent to it out of its frame: no tree of its params is made, unless the object wants
+    /// one. Says how many bytes it took, and whether a message ended with them: if not, nothing was done.
+    ///
+    /// # Errors
+    ///
+    /// Those of `Connection::receive`, and then no object was called. Else memory ran out for what the message leads to.
+    pub fn receive<O: Servant>(
+        &mut self,
+        connection: &mut Connection,
+        objects: &mut [O],
+        piece: &[u8],
+    ) -> Result<(usize, bool), ConnectionFault>
+        ensures received { IfOk result (λ r. Receives O.kind (work_of self.old connection.old) piece.now r.0 r.1 (work_of self.new connection.new) objects.old objects.new) }
+        ensures goes_on { IfOk result (λ r. 0 < length piece.now → 0 < r.0) }
+        ensures unreceived { IfErr result (λ fault. IsCutShort connection.old piece.now fault connection.new objects.old objects.new) }
+    {
+        let mut frame = Segments::one(Vec::new(self.alloc));
+        let (count, lent) = connection.receive_lending(piece, &mut frame)?;
+        let has_ended = connection.held().came == 0;
+        self.answer_lent(connection, objects, lent)?;
+        connection.reuse(frame);
+        self.work_off(connection, objects)?;
+        Ok((count, has_ended))
     }
 
     /// Does what happened on a connection asks of its objects, in order, until nothing is left.
@@ -235,6 +266,58 @@ impl Objects {
             }
             Happening::Closed(reason) => self.note(Notice::Closed(reason)),
         }
+    }
+
+    /// Hands a call that is lent to its object, if there is one, and answers it at once where the object does.
+    fn answer_lent<O: Servant>(
+        &mut self,
+        connection: &mut Connection,
+        objects: &mut [O],
+        lent: Option<Lent<'_>>,
+    ) -> Result<(), AllocError>
+        ensures done { OnOk result (HandlesLent O.kind lent.entry (work_of self.old connection.old) (work_of self.new connection.new) objects.old objects.new) }
+        ensures lives { Lives connection.old connection.new }
+    {
+        let Some(lent) = lent else {
+            return Ok(());
+        };
+        let (place, origin, ticket) = (lent.object as usize, lent.origin, lent.ticket);
+        let reply = self.reply_to_lent(objects, lent)?;
+        self.reply(connection, origin, ticket, reply)?;
+        self.make_calls(connection, objects, place)
+    }
+
+    /// What an object replies to a call that is lent, as `reply_of` says it.
+    fn reply_to_lent<O: Servant>(
+        &mut self,
+        objects: &mut [O],
+        lent: Lent<'_>,
+    ) -> Result<Reply, AllocError>
+        ensures { IfOk result (λ reply. (link : Link) → Gives O.kind lent.entry.object lent.entry.ticket (asked_by lent.entry) reply (work_of self.old link) (work_of self.new link) objects.old objects.new) }
+    {
+        let place = lent.object as usize;
+        if place < objects.len() {
+            self.hold(&lent.caps)?;
+            let request = RequestView {
+                interface: lent.interface,
+                method: lent.method,
+                content: lent.content,
+                caps: lent.caps,
+            };
+            let reply = call_view_at(self.alloc, objects, place, lent.ticket, request)?;
+            return Ok(reply);
+        }
+        self.reply_of_none()
+    }
+
+    /// What a call of an object that doesn't exist fails with.
+    fn reply_of_none(&self) -> Result<Reply, AllocError>
+        ensures { IfOk result (λ reply. reply ≡ Now no_such_object []) }
+    {
+        Ok(Reply::Now {
+            outcome: no_such_object(self.alloc)?,
+            gives_up: Ids::new(Vec::new(self.alloc)),
+        })
     }
 
     /// Adds a notice.
@@ -361,10 +444,7 @@ impl Objects {
             let reply = call_at(objects, place, ticket, request)?;
             return Ok(reply);
         }
-        Ok(Reply::Now {
-            outcome: no_such_object(self.alloc)?,
-            gives_up: Ids::new(Vec::new(self.alloc)),
-        })
+        self.reply_of_none()
     }
 
     /// Tells the object at a place what a call of its own came to, whose capabilities it is given. Past the objects

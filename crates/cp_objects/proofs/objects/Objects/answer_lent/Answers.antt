@@ -1,0 +1,20 @@
+use Rattle.std.proofs.Common.{refl}
+use Rattle.cp_objects.proofs.Living.{lives_none, lives_both}
+use Rattle.cp_objects.proofs.Working.{after_ok}
+use Rattle.cp_objects.proofs.objects.Objects.answer_lent.Goals as goal
+
+pub returns-in_default-clause-done : goal.returns-in_default-clause-done
+returns-in_default-clause-done g c = rw c.in_default.is (refl, refl)
+
+pub returns-in_default-clause-lives : goal.returns-in_default-clause-lives
+returns-in_default-clause-lives g c = lives_none c.args.connection.now
+
+pub returns-in_err-reply-clause-lives : goal.returns-in_err-reply-clause-lives
+returns-in_err-reply-clause-lives g c = lives_none c.args.connection.now
+
+pub returns-clause-done : goal.returns-clause-done
+returns-clause-done g c =
+    after_ok c.make_calls.result c.make_calls.ensures.done (λ calls. rw c.in-Some.is (_, _, _, _, c.in_ok-reply.ensures c.args.connection.now, c.in_ok-reply-2.ensures.done, calls))
+
+pub returns-clause-lives : goal.returns-clause-lives
+returns-clause-lives g c = lives_both c.reply.ensures.lives c.make_calls.ensures.lives
