@@ -6,6 +6,7 @@ use Rattle.cp_connection.specs.declared.fault.ConnectionFault.{ConnectionFault}
 use Rattle.cp_connection.specs.Link.{Link}
 use Rattle.cp_connection.specs.Lives.{begins, goes_on, receives, receives_none}
 use Rattle.cp_connection.specs.Receiving.{Receives, IsUnreceived}
+use Rattle.cp_objects.specs.Receiving.{IsCutShort, is_unreceived, ran_out}
 use Rattle.cp_objects.specs.Work.{Lives}
 use Rattle.cp_objects.proofs.Living.{life_both}
 use Rattle.cp_host.specs.Feeding.{IsFed, IsFedFront, Leaves}
@@ -72,6 +73,11 @@ fed_so_far {a = a} {c = c} piece done left e h =
 -- one that was taken, as far as it was said
 pub front_taken : {a c : Link} (piece : List ℕ) (count : ℕ) → IsFed a (take count piece) c → IsFedFront a piece c
 front_taken piece count h = record { taken = take count piece; left = drop count piece; whole = sym (take-append-drop count piece); fed = h }
+
+-- one that wasn't taken to the end of a message and what follows of it
+pub front_cut_short : {A : Type 0} {old new : Link} {objects others : List A} (piece : List ℕ) (fault : ConnectionFault) → IsCutShort old piece fault new objects others → IsFedFront old piece new
+front_cut_short piece fault (is_unreceived taken unreceived same) = front_unreceived piece taken fault unreceived
+front_cut_short piece fault (ran_out count mid received lives memory) = front_taken piece count (fed_lives (fed_received piece count received) lives)
 
 -- less is left of it
 pub leaves_less : {a b c : Link} (piece left : List ℕ) (count : ℕ) → Leaves a piece left b → IsFed b (take count left) c

@@ -50,13 +50,12 @@ fn feed_next<O: Servant>(
     ensures fed { IfOk result (λ count. IsFed connection.old (take count piece.now) connection.new) }
     ensures cut { OnErr result (IsFedFront connection.old piece.now connection.new) }
 {
-    let count = connection.receive(piece)?;
-    let has_ended = connection.held().came == 0;
+    let (count, has_ended) = work.receive(connection, objects, piece)?;
     follow(connection, work, objects, has_ended)?;
     Ok(count)
 }
 
-/// Where a message ended, does what it leads to, and polls each object once.
+/// Where a message ended, polls each object once.
 fn follow<O: Servant>(
     connection: &mut Connection,
     work: &mut Objects,
@@ -68,7 +67,6 @@ fn follow<O: Servant>(
     if !has_ended {
         return Ok(());
     }
-    work.work_off(connection, objects)?;
     let _ = work.round(connection, objects)?;
     Ok(())
 }

@@ -29,7 +29,7 @@ use Rattle.cp_connection.specs.declared.fault.ConnectionFault.TheVariants as con
 use Rattle.cp_connection.specs.declared.happening.Happening.{Happening}
 use Rattle.cp_connection.specs.declared.happening.Tally.{Tally}
 use Rattle.cp_connection.specs.Doing.{Does}
-use Rattle.cp_connection.specs.Effects.{sent_by, AreFramesOf}
+use Rattle.cp_connection.specs.Effects.{sent_by, happening_by, AreFramesOf}
 use Rattle.cp_connection.specs.Link.{Link, HasCome, new_link}
 use Rattle.cp_connection.specs.Moves.{Moves}
 use Rattle.cp_connection.specs.Receiving.{Reads, Receives, IsUnread, IsUnreceived, EndsBadly}
@@ -38,6 +38,8 @@ use Rattle.cp_connection.specs.Refusing.{refusal_of}
 use Rattle.cp_connection.proofs.Living.{lives_move}
 use Rattle.cp_connection.proofs.Moving.{moves_received, moves_unreceived}
 use Rattle.cp_servants.specs.Servant.{Kind}
+use Rattle.cp_objects.specs.Receiving.{IsCutShort, is_unreceived, ran_out}
+use Rattle.cp_objects.specs.Rounds as rounds
 use Rattle.cp_objects.specs.Work as objects
 use Rattle.cp_serve.specs.declared.fault.ServeFault.{ServeFault}
 use Rattle.cp_serve.specs.declared.fault.ServeFault.TheVariants as faults
@@ -47,7 +49,7 @@ use Rattle.cp_serve.specs.Service.{TakesAll, none_taken, takes_more, written, ne
 use Rattle.cp_serve.specs.Output.{Device, Writes, IsPlace, IsFaultOfRest, IsOver, HasTaken, IsCutOff, StopsFor, ReadsTo}
 use Rattle.cp_serve.specs.Faults.{fault_of}
 use Rattle.cp_serve.specs.Matching.{Matches, IsAllDone}
-use Rattle.cp_serve.specs.Reached.{owed, ahead, ready_of, AllOut, Reached, ReadsOn, Serves, GoesOn, Fills, TakesFront, FrontStops, WorksOut, Concludes, IsNew}
+use Rattle.cp_serve.specs.Reached.{owed, ahead, ready_of, AllOut, Reached, ReadsOn, Serves, GoesOn, Fills, TakesFront, FrontStops, WorksOut, FollowsIf, IsNew}
 use Rattle.cp_serve.proofs.Written.{ahead_none, queued, writes_none, writes_both, writes_all}
 use Rattle.cp_serve.proofs.Simulating.{refusal_is, open_work, closed_work, rests_after, follows_message}
 
@@ -309,6 +311,48 @@ refusal_full refusal = by (refusal_is refusal)
     by (inl full) = ap (λ (r : VatFault). fault_of (refusal_of r)) full
     by (inr h) = ap fault_of h.1
 
+-- nothing is worked off where nothing happened
+works_none : {A : Type 0} {kind : Kind A} {old new : objects.Work} {seen others : List A} → old.link.happened ≡ [] → rounds.WorksOff kind old new seen others → (new ≡ old) × (others ≡ seen)
+works_none none (rounds.none_left e) = (refl, refl)
+works_none none (rounds.handles first link hands handled rest) = let e : ◌≡◌ {A = List Happening} [] (first ∷ link.happened) = sym none ∙ hands.0 in absurd (cc (e))
+
+module _ {A : Type 0} {kind : Kind A} {mode : Mode} {start : List A} {held : Device} where
+  -- what was reached is seen of what the server owes, and of how much is ready
+  reached_by : (bytes rest : List ℕ) (s t : Server) {seen : List A} {to : Device} → owed t ≡ owed s → t.ready ≡ s.ready → Reached kind mode start held bytes rest s seen to
+      → Reached kind mode start held bytes rest t seen to
+  reached_by bytes rest s t {to = to} same ready h = record {
+    taken = h.taken;
+    sent = h.sent;
+    messages = h.messages;
+    last = h.last;
+    takes = h.takes;
+    rests = subst (λ (w : objects.Work). IsAllDone h.last w) (sym same) h.rests;
+    writes = subst (λ (l : Link). Writes mode h.sent held (ahead to l.unwritten)) (sym link) h.writes;
+    all_ready = ready ∙ h.all_ready ∙ ap (λ (l : Link). length l.unwritten) (sym link);
+    place = subst (λ (l : Link). IsPlace bytes rest l.tally.bytes) (sym link) h.place;
+    counted = ap (λ (l : Link). l.tally.messages) link ∙ h.counted;
+    counted_sent = ap (λ (l : Link). l.tally.sent) link ∙ h.counted_sent;
+    same_mode = ap (λ (l : Link). l.mode) link ∙ h.same_mode;
+    same_limits = ap (λ (l : Link). l.limits) link ∙ h.same_limits;
+  }
+    where
+      link : t.connection ≡ s.connection
+      link = ap (λ (w : objects.Work). w.link) same
+
+  goes_by : (bytes : List ℕ) (s t : Server) {seen : List A} {to : Device} → owed t ≡ owed s → t.ready ≡ s.ready → GoesOn kind mode start held bytes s seen to
+      → GoesOn kind mode start held bytes t seen to
+  goes_by bytes s t same ready (inl h) =
+      let link = ap (λ (w : objects.Work). w.link) same in
+      inl (h.0, reached_by bytes h.0 s t same ready h.1, record { came = subst (λ (l : Link). HasCome l h.0) (sym link) h.2.came; is_open = ap (λ (l : Link). l.fault) link ∙ h.2.is_open })
+  goes_by bytes s t same ready (inr h) =
+      inr (h.0, reached_by bytes h.0 s t same ready h.1, subst (λ (w : objects.Work). IsSome w.link.fault) (sym same) h.2)
+
+-- nothing happened where no frame ended
+no_news : (old : Server) (piece : List ℕ) (link : Link) (count : ℕ) → Receives old.connection piece count link → frames.taken_of link.reading ≢ 0 → old.connection.happened ≡ [] → link.happened ≡ []
+no_news old piece link count (inl h) some none = ap (λ (l : Link). l.happened) h.1.same ∙ none
+no_news old piece link count (inr h) some none =
+    absurd (some (ap (λ (s : frames.State). frames.taken_of s) h.7.same_reading ∙ came_is h.3.mode h.3.limits h.3.reading [] h.6.fresh.0 h.6.fresh.1))
+
 -- ---- the clauses of a piece that is read up to the end of a frame
 
 module _ {A : Type 0} {kind : Kind A} (old : Server) (piece : List ℕ) (link : Link) where
@@ -336,11 +380,20 @@ module _ {A : Type 0} {kind : Kind A} (old : Server) (piece : List ℕ) (link : 
   )
 
   -- either way
-  pub takes_front : (count : ℕ) (back : List ℕ) (new : Server) {seen others : List A} → Receives old.connection piece count link → 0 < length piece → back ≡ drop count piece → Concludes kind (record old { connection = link }) new seen others
+  pub takes_front : (count : ℕ) (back : List ℕ) (has_ended : Bool) (mid new : Server) {seen between others : List A} → Receives old.connection piece count link
+      → ((has_ended ≡ true) ↔ (frames.taken_of link.reading ≡ 0)) → 0 < length piece → back ≡ drop count piece
+      → rounds.WorksOff kind (owed (record old { connection = link })) (owed mid) seen between → mid.ready ≡ old.ready → FollowsIf kind has_ended mid new between others
       → TakesFront kind old piece back new seen others
-  takes_front count back new {seen = seen} received some e (inl h) =
-      subst (λ (o : List A). TakesFront kind old piece back new seen o) (sym h.2) (subst (λ (x : Server). TakesFront kind old piece back x seen seen) (sym h.1) (takes_none count back received h.0 e))
-  takes_front count back new received some e (inr h) = takes_one count back new received h.0 some e h.1 h.2
+  takes_front count back true mid new received ended some e works ready follows =
+      takes_one count back new received (ended.0 refl) some e (owed mid, _, follows.0.0, works, follows.0.1) follows.1
+  takes_front count back false mid new {seen = seen} received ended some e works ready follows = λ mode start held to bytes serves.
+      let open_ : frames.taken_of link.reading ≢ 0 = λ none. true≢false (sym (ended.1 none)) in
+      let rests = serves.1.rests in
+      let none : link.happened ≡ [] = no_news old piece link count received open_ (rests.matches.happens ∙ ap (λ (es : List Effect). happening_by es) rests.none_left) in
+      let same = works_none none works in
+      let fills = takes_none count back received open_ e mode start held to bytes serves in
+      subst (λ (os : List A). Fills kind mode start held bytes piece back new os to) (sym (follows.1 ∙ same.1))
+      (subst (λ (x : Server). Fills kind mode start held bytes piece back x seen to) (sym follows.0) (fills.0, fills.1, goes_by (bytes ++ fills.0) (record old { connection = link }) mid same.0 ready fills.2))
 
   -- memory ran out for what a message leads to
   pub stops_working : (count : ℕ) (new : Server) {seen : List A} (others : List A) → Receives old.connection piece count link → objects.Lives link new.connection → new.ready ≡ old.ready
@@ -367,6 +420,15 @@ module _ {A : Type 0} {kind : Kind A} (old : Server) (piece : List ℕ) (link : 
       by (inr (inr h)) =
           subst (λ (f : ServeFault). StopsFor kind mode start (bytes ++ piece) from left held (ahead to old.connection.unwritten) seen f) (sym (ap fault_of h.5.1 ∙ refusal_full h.5.0))
           (cut_there bytes serves.0 piece left.bytes serves.1)
+
+-- a piece wasn't taken to the end of a message and what follows of it
+pub stops_short : {A : Type 0} {kind : Kind A} (old : Server) (piece : List ℕ) (fault : ConnectionFault) (new : Server) (told : ServeFault) {seen others : List A}
+    → IsCutShort old.connection piece fault new.connection seen others → new.ready ≡ old.ready → told ≡ fault_of fault → FrontStops kind old piece new told seen others
+stops_short {A = A} {kind = kind} old piece fault new told {seen = seen} (is_unreceived taken unreceived same) ready e =
+    subst (λ (os : List A). FrontStops kind old piece new told seen os) (sym same)
+    (subst (λ (n : ℕ). FrontStops kind old piece (record new { ready = n }) told seen seen) (sym ready) (stops_receiving old piece new.connection taken fault told unreceived e))
+stops_short {kind = kind} old piece fault new told {seen = seen} {others = others} (ran_out count mid received lives memory) ready e =
+    subst (λ (f : ServeFault). FrontStops kind old piece new f seen others) (sym (e ∙ ap fault_of memory)) (stops_working old piece mid count new others received lives ready)
 
 -- ---- the clauses of a block and a piece
 

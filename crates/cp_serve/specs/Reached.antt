@@ -1,5 +1,5 @@
 -- What a server has come to. No public clause names these.
-use Rattle.std.specs.Prelude.{◌≡◌, ◌≢◌, ◌⊎◌, ℕ, ◌-◌, ◌^◌, min, Bool, false, IsSome, List, [], ◌++◌, Option, Some, None, length, take}
+use Rattle.std.specs.Prelude.{◌≡◌, ◌≢◌, ◌⊎◌, ℕ, ◌-◌, ◌^◌, min, Bool, true, false, IsSome, List, [], ◌++◌, Option, Some, None, length, take}
 use Rattle.std.specs.Io.KnownBytes.{append_known, Consumes}
 use Rattle.cp_words.specs.Limits.{standard}
 use Rattle.cp_frame.specs.declared.mode.Mode.{Mode}
@@ -205,11 +205,11 @@ module _ {A : Type 0} (kind : Kind A) where
   WorksOut old new seen others =
       (mid : work.Work) × (between : List A) × (gave : Bool) × rounds.WorksOff kind (owed old) mid seen between × rounds.Rounds kind mid gave (owed new) between others
 
-  -- So it is where a frame has just ended, and all that is to go out is ready then; and else nothing is done.
-  abbrev pub Concludes : Server → Server → List A → List A → Type 0
-  Concludes old new objects others =
-      (taken_of old.connection.reading ≢ 0) × (new ≡ old) × (others ≡ objects)
-      ⊎ ((taken_of old.connection.reading ≡ 0) × WorksOut old new objects others × (new.ready ≡ length new.connection.unwritten))
+  -- Where a message ended a round followed, and all that is to go out is ready then; and else nothing is done.
+  abbrev pub FollowsIf : Bool → Server → Server → List A → List A → Type 0
+  FollowsIf true old new objects others =
+      ((gave : Bool) × rounds.Rounds kind (owed old) gave (owed new) objects others) × (new.ready ≡ length new.connection.unwritten)
+  FollowsIf false old new objects others = (new ≡ old) × (others ≡ objects)
 
   -- a round followed
   abbrev pub Rounded : Server → Bool → Server → List A → List A → Type 0

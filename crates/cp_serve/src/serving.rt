@@ -7,7 +7,7 @@ ghost use Rattle.cp_stream.specs.declared.fault.StreamFault.TheVariants as fault
 ghost use Rattle.cp_objects.specs.Work.{Lives};
 ghost use Rattle.cp_serve.specs.Matching.{reason_in};
 ghost use Rattle.cp_serve.specs.Output.{IsServedAt, IsStoppedAt, ReadsUpTo, ends, ends_of};
-ghost use Rattle.cp_serve.specs.Reached.{AllOut, BreaksOff, Concludes, EndingStops, EndsAll, FrontStops, IsNew, PieceStops, Rounded, RunStops, Runs, RunsTo, RunsUnread, TakesFront, TakesPiece, TakesToEnd, TakesUnread, TakingStops, out, owed, ready_of, report_of};
+ghost use Rattle.cp_serve.specs.Reached.{AllOut, BreaksOff, EndingStops, EndsAll, FollowsIf, FrontStops, IsNew, PieceStops, Rounded, RunStops, Runs, RunsTo, RunsUnread, TakesFront, TakesPiece, TakesToEnd, TakesUnread, TakingStops, out, owed, ready_of, report_of};
 
 use crate::fault::ServeFault;
 use crate::report::Report;
@@ -253,22 +253,20 @@ impl Server {
         ensures taken { IfOk result (λ left. TakesFront O.kind self.old piece.now left.now self.new objects.old objects.new) }
         ensures stopped { IfErr result (λ fault. FrontStops O.kind self.old piece.now self.new fault objects.old objects.new) }
     {
-        let count = self.connection.receive(piece)?;
-        self.work_out(objects)?;
+        let (count, has_ended) = self.objects.receive(&mut self.connection, objects, piece)?;
+        self.follow(objects, has_ended)?;
         Ok(&piece[count..])
     }
 
-    /// Where a message has come, works off what it leads to, and a round follows.
-    fn work_out<O: Servant>(&mut self, objects: &mut [O]) -> Result<(), AllocError>
-        ensures done { OnOk result (Concludes O.kind self.old self.new objects.old objects.new) }
+    /// Where a message ended, a round follows.
+    fn follow<O: Servant>(&mut self, objects: &mut [O], has_ended: bool) -> Result<(), AllocError>
+        ensures done { OnOk result (FollowsIf O.kind has_ended self.old self.new objects.old objects.new) }
         ensures kept { OnErr result (self.new.ready ≡ self.old.ready) }
         ensures lives { Lives self.old.connection self.new.connection }
     {
-        // Bytes of an open frame have come, unless a frame ended with the last one.
-        if self.connection.held().came > 0 {
+        if !has_ended {
             return Ok(());
         }
-        self.objects.work_off(&mut self.connection, objects)?;
         let _ = self.round(objects)?;
         Ok(())
     }

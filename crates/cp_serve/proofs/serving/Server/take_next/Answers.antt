@@ -1,22 +1,26 @@
 use Rattle.std.proofs.Common.{ℕ, List, [], length, refl, ap, arith}
 use Rattle.std.proofs.lemmas.List.{length-drop}
 use Rattle.std.proofs.lemmas.Result.{err_from_is_err_and}
-use Rattle.cp_serve.proofs.Reaching.{rest_of_piece, takes_front, stops_receiving, stops_working}
+use Rattle.cp_objects.proofs.Living.{lives_both}
+use Rattle.cp_serve.proofs.Reaching.{rest_of_piece, takes_front, stops_short, stops_working}
 use Rattle.cp_serve.proofs.serving.Server.take_next.Goals as goal
 
 pub returns-in_err-count-clause-stopped : goal.returns-in_err-count-clause-stopped
 returns-in_err-count-clause-stopped g c =
     let p = err_from_is_err_and c.from_residual.result c.from_residual.ensures.1 in
-    rw (p.1, p.2) (stops_receiving c.args.self.now c.args.piece.now c.receive.new.self c.in_err-count.ensures.unreceived.0 c.in_err-count.field-0.0 _ c.in_err-count.ensures.unreceived.1 refl)
+    rw (p.1, p.2) (stops_short c.args.self.now c.args.piece.now c.in_err-count.field-0.0 (record c.args.self.now { connection = c.receive.new.connection; objects = c.receive.new.self }) _ c.in_err-count.ensures.unreceived refl refl)
 
-pub returns-in_err-work_out-clause-stopped : goal.returns-in_err-work_out-clause-stopped
-returns-in_err-work_out-clause-stopped g c =
-    let p = err_from_is_err_and c.from_residual-in_err-work_out.result c.from_residual-in_err-work_out.ensures.1 in
-    rw (p.1, p.2) (stops_working c.args.self.now c.args.piece.now c.receive.new.self c.in_ok-count.count c.work_out.new.self [] c.in_ok-count.ensures.received c.work_out.ensures.lives c.in_err-work_out.ensures.kept)
+pub returns-in_err-follow-clause-stopped : goal.returns-in_err-follow-clause-stopped
+returns-in_err-follow-clause-stopped g c =
+    let p = err_from_is_err_and c.from_residual-in_err-follow.result c.from_residual-in_err-follow.ensures.1 in
+    let got = c.in_ok-count.ensures.received in
+    rw (p.1, p.2) (stops_working c.args.self.now c.args.piece.now got.0 c.in_ok-count.count c.follow.new.self [] got.1 (lives_both got.4 c.follow.ensures.lives) c.in_err-follow.ensures.kept)
 
 pub returns-clause-taken : goal.returns-clause-taken
 returns-clause-taken g c =
-    takes_front c.args.self.now c.args.piece.now c.receive.new.self c.in_ok-count.count _ c.work_out.new.self c.in_ok-count.ensures.received c.requires (rest_of_piece c.args.piece.now c.in_ok-count.count _ refl) c.in_ok-work_out.ensures.done
+    let got = c.in_ok-count.ensures.received in
+    takes_front c.args.self.now c.args.piece.now got.0 c.in_ok-count.count _ c.in_ok-count.has_ended
+    (record c.args.self.now { connection = c.receive.new.connection; objects = c.receive.new.self }) c.follow.new.self got.1 got.2 c.requires (rest_of_piece c.args.piece.now c.in_ok-count.count _ refl) got.3 refl c.in_ok-follow.ensures.done
 
 pub returns-clause-shorter : goal.returns-clause-shorter
 returns-clause-shorter g c =
