@@ -57,13 +57,17 @@ desk_settles (Some due) = Some (record { ticket = due.ticket; outcome = object_r
 abbrev pub first_word : Node → ℕ
 first_word content = slice_index_or (data_of content) 0 0
 
+-- what a call of a method comes to whose params begin with this word, and the Cell's number then
+abbrev pub cell_gives : ℕ → ℕ → ℕ → ℕ → Outcome × ℕ
+cell_gives n interface method amount =
+    let sum = (n + amount) % 2 ^ 64 in
+    if interface == 0xe5a1000000000002 && method == 0 then (word_results sum, sum)
+    else (if interface == 0xe5a1000000000002 && method == 1 then (word_results n, n)
+    else (no_such_method, n))
+
 abbrev pub cell_takes : ℕ → Request → Reply × ℕ
 cell_takes n request =
-    let imports = named_imports request.caps in
-    let sum = (n + first_word request.content) % 2 ^ 64 in
-    if asks_for request 0xe5a1000000000002 0 then (replies.Now (word_results sum) imports, sum)
-    else (if asks_for request 0xe5a1000000000002 1 then (replies.Now (word_results n) imports, n)
-    else (replies.Now no_such_method imports, n))
+    let given = cell_gives n request.interface request.method (first_word request.content) in (replies.Now given.0 (named_imports request.caps), given.1)
 
 -- what a sample answers to a call under a ticket, and what it is then
 abbrev pub Takes : Seen → ℕ → Request → Reply → Seen → Type 0

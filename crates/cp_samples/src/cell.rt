@@ -1,12 +1,13 @@
 //! The Cell, an object that holds a number.
 
-ghost use Rattle.std.specs.Prelude.{◌≡◌};
-ghost use Rattle.cp_samples.specs.Samples.{first_word};
+ghost use Rattle.std.specs.Prelude.{◌≡◌, IfOk};
+ghost use Rattle.cp_samples.specs.Samples.{cell_gives, first_word};
 
 use crate::outcomes::word_results;
-use cp_refs::Request;
-use cp_servants::{Reply, Servant, Settled, named_imports, no_such_method};
-use cp_tree::Whole;
+use cp_reading::View;
+use cp_refs::{Outcome, Request};
+use cp_servants::{Reply, RequestView, Servant, Settled, named_imports, no_such_method};
+use cp_tree::{Shape, Whole};
 use std::alloc::{AllocError, Global};
 
 /// The Cell's interface.
@@ -33,6 +34,26 @@ impl Cell {
     {
         Cell { alloc, number: 0 }
     }
+
+    /// What a call of a method comes to, whose params begin with this word.
+    fn outcome_of(
+        &mut self,
+        interface: u64,
+        method: u16,
+        amount: u64,
+    ) -> Result<Outcome, AllocError>
+        ensures { IfOk result (λ outcome. (outcome, self.new.number) ≡ cell_gives self.old.number interface method amount) }
+    {
+        match (interface, method) {
+            (INTERFACE, ADD) => {
+                let sum = self.number.wrapping_add(amount);
+                self.number = sum;
+                word_results(self.alloc, sum)
+            }
+            (INTERFACE, GET) => word_results(self.alloc, self.number),
+            _ => no_such_method(self.alloc),
+        }
+    }
 }
 
 impl Servant for Cell {
@@ -43,15 +64,21 @@ impl Servant for Cell {
 
     fn call(&mut self, _ticket: u64, request: Request) -> Result<Reply, AllocError> {
         let gives_up = named_imports(self.alloc, &request.caps)?;
-        let outcome = match (request.interface, request.method) {
-            (INTERFACE, ADD) => {
-                let sum = self.number.wrapping_add(first_word(&request.content));
-                self.number = sum;
-                word_results(self.alloc, sum)?
-            }
-            (INTERFACE, GET) => word_results(self.alloc, self.number)?,
-            _ => no_such_method(self.alloc)?,
-        };
+        let amount = first_word(&request.content);
+        let outcome = self.outcome_of(request.interface, request.method, amount)?;
+        Ok(Reply::Now { outcome, gives_up })
+    }
+
+    // No tree of the params is made for their first word.
+    fn call_view(
+        &mut self,
+        _alloc: Global,
+        _ticket: u64,
+        request: RequestView<'_>,
+    ) -> Result<Reply, AllocError> {
+        let gives_up = named_imports(self.alloc, &request.caps)?;
+        let amount = first_word_viewed(&request.content);
+        let outcome = self.outcome_of(request.interface, request.method, amount)?;
         Ok(Reply::Now { outcome, gives_up })
     }
 
@@ -65,4 +92,14 @@ fn first_word(content: &Whole) -> u64
     ensures { result ≡ first_word content.now }
 {
     content.tree().data().first().copied().unwrap_or(0)
+}
+
+/// The same of one that is read in place.
+fn first_word_viewed(content: &View<'_>) -> u64
+    ensures { result ≡ first_word content.now }
+{
+    match content.shape() {
+        Shape::Struct { .. } => content.words().first().copied().unwrap_or(0),
+        _ => 0,
+    }
 }

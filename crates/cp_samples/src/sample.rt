@@ -4,8 +4,8 @@ use crate::cell::Cell;
 use crate::desk::Desk;
 use crate::script::Script;
 use cp_refs::Request;
-use cp_servants::{Reply, Servant, Settled};
-use std::alloc::AllocError;
+use cp_servants::{Reply, RequestView, Servant, Settled};
+use std::alloc::{AllocError, Global};
 
 /// A sample of any kind, so that several stand in one list.
 #[derive(Drop)]
@@ -25,6 +25,19 @@ impl Servant for Sample {
             Sample::Desk(desk) => desk.call(ticket, request),
             Sample::Cell(cell) => cell.call(ticket, request),
             Sample::Script(script) => script.call(ticket, request),
+        }
+    }
+
+    fn call_view(
+        &mut self,
+        alloc: Global,
+        ticket: u64,
+        request: RequestView<'_>,
+    ) -> Result<Reply, AllocError> {
+        match self {
+            Sample::Desk(desk) => desk.call_view(alloc, ticket, request),
+            Sample::Cell(cell) => cell.call_view(alloc, ticket, request),
+            Sample::Script(script) => script.call_view(alloc, ticket, request),
         }
     }
 
