@@ -32,6 +32,8 @@ mod idle;
 #[cfg(test)]
 mod kinds;
 #[cfg(test)]
+mod lending;
+#[cfg(test)]
 mod servants;
 #[cfg(test)]
 mod serving;
