@@ -9,4 +9,4 @@ mod sheet;
 mod write;
 
 pub use laws::{layout_exists, one_layout};
-pub use write::{write_draft, write_root, write_segments};
+pub use write::{write_draft, write_draft_over, write_root, write_segments};

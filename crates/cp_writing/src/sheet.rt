@@ -41,23 +41,29 @@ pub(crate) struct Sheet {
 }
 
 impl Sheet {
-    /// One segment with a blank word, the root's pointer.
-    pub fn new(alloc: Global, capacity: Capacity, budget: u64) -> Result<Sheet, AllocError>
+    /// One segment with a blank word, the root's pointer, written over what the buffer holds.
+    pub fn new(
+        alloc: Global,
+        mut buffer: Vec<u64>,
+        capacity: Capacity,
+        budget: u64,
+    ) -> Result<Sheet, AllocError>
         requires { IsCapacity capacity }
         ensures written { IfOk result (λ w. written w ≡ record { full = []; last = 0 ∷ []; words = 1 }) }
         ensures limits { IfOk result (λ w. (w.capacity ≡ capacity) × (w.budget ≡ budget)) }
         ensures keeps { IfOk result IsWithin }
     {
         let reserved = capacity.words.min(FIRST_WORDS);
-        let mut last = Vec::with_capacity(alloc, reserved)?;
-        last.push(0)?;
+        buffer.clear();
+        buffer.reserve(reserved)?;
+        buffer.push(0)?;
         Ok(Sheet {
             alloc,
             reserved,
             capacity,
             budget,
             full: Vec::new(alloc),
-            last,
+            last: buffer,
             words: 1,
         })
     }

@@ -34,9 +34,27 @@ pub fn write_draft(
     ensures small { IfOk result (λ s. (length s ≤ limits.segments) × (sum (map length s) ≤ limits.frame_words)) }
     ensures refused { IfErr result (IsWriteFaultOf limits (record { words = max_words; segments = limits.segments }) (draft_of draft.now)) }
 {
+    write_draft_over(alloc, Vec::new(alloc), draft, max_words, limits)
+}
+
+/// Writes a tree with lent parts as `write_draft` does, the first segment over what a buffer holds, whose memory is
+/// used again.
+pub fn write_draft_over(
+    alloc: Global,
+    buffer: Vec<u64>,
+    draft: &Draft,
+    max_words: u32,
+    limits: Limits,
+) -> Result<Segments, WriteFault>
+    requires shaped { Shaped (draft_of draft.now) }
+    ensures layout { IfOk result (λ s. Layout s (record { words = max_words; segments = limits.segments }) (draft_of draft.now)) }
+    ensures fits { OnOk result (FitsIn limits (draft_of draft.now)) }
+    ensures small { IfOk result (λ s. (length s ≤ limits.segments) × (sum (map length s) ≤ limits.frame_words)) }
+    ensures refused { IfErr result (IsWriteFaultOf limits (record { words = max_words; segments = limits.segments }) (draft_of draft.now)) }
+{
     let words = if max_words == 0 { 1 } else { max_words };
     let tree = TreeRef::Draft(draft);
-    let sheet = lay_out(alloc, tree, words, limits.segments(), limits)?;
+    let sheet = lay_out(alloc, buffer, tree, words, limits.segments(), limits)?;
     Ok(sheet.into_segments()?)
 }
 
@@ -66,13 +84,22 @@ pub fn write_root(alloc: Global, object: &Object, limits: Limits) -> Result<Vec<
     ensures refused { IfErr result (IsWriteFaultOf limits (record { words = limits.frame_words; segments = 1 }) object.now) }
 {
     let tree = TreeRef::Tree(object.tree());
-    let sheet = lay_out(alloc, tree, limits.frame_words(), 1, limits)?;
+    let sheet = lay_out(
+        alloc,
+        Vec::new(alloc),
+        tree,
+        limits.frame_words(),
+        1,
+        limits,
+    )?;
     Ok(sheet.into_last())
 }
 
-/// The tree written into segments of at most this many words each, and of them at most this many.
+/// The tree written into segments of at most this many words each, and of them at most this many, the first
+/// over what the buffer holds.
 fn lay_out(
     alloc: Global,
+    buffer: Vec<u64>,
     tree: TreeRef,
     words: u32,
     segments: u32,
@@ -91,7 +118,7 @@ fn lay_out(
         segments: segments as usize,
         whole: limits.frame_words() as usize,
     };
-    let mut sheet = Sheet::new(alloc, capacity, limits.traversal() as u64)?;
+    let mut sheet = Sheet::new(alloc, buffer, capacity, limits.traversal() as u64)?;
     let root = Place {
         segment: 0,
         word: 0,

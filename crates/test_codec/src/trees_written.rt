@@ -243,6 +243,20 @@ fn copy_of(rt: &impl Abort, alloc: Global, draft: &Draft) -> Object
     copy.into_object().ok().expect(rt, "a struct")
 }
 
+/// Whether the draft is written over three words that a buffer holds as it is written into a new one.
+fn writes_over(rt: &impl Abort, alloc: Global, draft: &Draft) -> bool
+    requires { Shaped (draft_of draft.now) }
+{
+    let limits = Limits::standard();
+    let wanted = write_draft(alloc, draft, 7, limits).expect(rt, "segments");
+    let buffer = Vec::from_slice(alloc, &[1, 2, 3]).expect(rt, "a buffer");
+    let written = write_draft_over(alloc, buffer, draft, 7, limits).expect(rt, "segments");
+    let are_same = written.lists() == wanted.lists();
+    drop(written);
+    drop(wanted);
+    are_same
+}
+
 #[test]
 fn a_tree_with_lent_parts_is_written_as_its_copy(rt: HostRuntime) {
     let alloc = rt.alloc();
@@ -250,6 +264,7 @@ fn a_tree_with_lent_parts_is_written_as_its_copy(rt: HostRuntime) {
     let draft = drafted(alloc, lent.tree()).expect(&rt, "memory");
     let copy = copy_of(&rt, alloc, &draft);
     check!(&rt; writes_as_its_copies(&rt, alloc, &draft, &copy));
+    check!(&rt; writes_over(&rt, alloc, &draft));
     drop(copy);
     drop(draft);
     drop(lent);

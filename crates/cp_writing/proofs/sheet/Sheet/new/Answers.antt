@@ -6,5 +6,5 @@ use Rattle.cp_writing.proofs.sheet.Sheet.new.Goals as goal
 pub returns-clause-keeps : goal.returns-clause-keeps
 returns-clause-keeps c =
     let none : words_of c.new.result.items ≡ [] = ap words_of c.new.ensures.items in
-    let blank : c.push.new.self.items ≡ 0 ∷ [] = c.in_ok-push.ensures.items ∙ ap (λ xs. xs ++ 0 ∷ []) c.in_ok-last.ensures.items in
+    let blank : c.push.new.self.items ≡ 0 ∷ [] = c.in_ok-push.ensures.items ∙ ap (λ xs. xs ++ 0 ∷ []) (c.in_ok-reserve.ensures.items ∙ c.clear.ensures.items) in
     (c.requires, omega (arith, c.requires.0), omega (arith, ap length none), λ s. one_blank _ _ 1 s none blank)

@@ -8,8 +8,8 @@ use Rattle.cp_writing.specs.LaidOut.{capacity_for, laid_out, MeetsLimit}
 use Rattle.cp_writing.proofs.LaidOut.{written_is_layout}
 use Rattle.cp_writing.proofs.LayoutWords.{meets_fault}
 use Rattle.cp_writing.proofs.SheetWords.{laid_words, laid_within}
-use Rattle.cp_writing.proofs.write.write_draft.Goals.{then-max_words-eq0, else-max_words-eq0}
-use Rattle.cp_writing.proofs.write.write_draft.Goals as goal
+use Rattle.cp_writing.proofs.write.write_draft_over.Goals.{then-max_words-eq0, else-max_words-eq0}
+use Rattle.cp_writing.proofs.write.write_draft_over.Goals as goal
 
 pub returns-clause-layout : goal.returns-clause-layout
 returns-clause-layout c =
