@@ -17,6 +17,9 @@ use std::marker::Model;
 /// The most bytes for which an empty block keeps its memory.
 const KEPT: usize = 2_097_152;
 
+/// The most words for which the memory that messages are laid out in is kept: as many bytes.
+const KEPT_WORDS: usize = KEPT / 8;
+
 /// Frames that are to be written, of which a front may have been.
 #[derive(Drop)]
 pub(crate) struct Outgoing {
@@ -24,6 +27,8 @@ pub(crate) struct Outgoing {
     block: Vec<u8>,
     /// The bytes of the block that were written.
     written: usize,
+    /// Memory in which the next message is laid out. It holds no words.
+    words: Vec<u64>,
 }
 
 impl Model for Outgoing {
@@ -45,6 +50,7 @@ impl Outgoing {
             alloc,
             block: Vec::new(alloc),
             written: 0,
+            words: Vec::new(alloc),
         }
     }
 
@@ -86,7 +92,7 @@ impl Outgoing {
         ensures same { OnErr result (self.new ≡ self.old) }
     {
         self.move_up();
-        put_after(self.alloc, &mut self.block, message, mode)
+        put_after(self.alloc, &mut self.block, &mut self.words, message, mode)
     }
 
     /// Takes back what was put after the first of them.
@@ -111,10 +117,12 @@ impl Outgoing {
     }
 }
 
-/// Puts the frame of a message after a block. Where it can't be made, the block stays as it was.
+/// Puts the frame of a message after a block, laid out in the memory of `words`. Where it can't be made, the block
+/// stays as it was.
 fn put_after(
     alloc: Global,
     block: &mut Vec<u8>,
+    words: &mut Vec<u64>,
     message: &Message,
     mode: Mode,
 ) -> Result<(), AllocError>
@@ -122,9 +130,18 @@ fn put_after(
     ensures put { OnOk result (Puts mode message.now block.old.items block.new.items) }
     ensures same { OnErr result (block.new.items ≡ block.old.items) }
 {
-    match put_message(alloc, block, message, mode, Limits::standard()) {
+    let put = put_message(alloc, block, words, message, mode, Limits::standard());
+    keep_little(alloc, words);
+    match put {
         Ok(()) => Ok(()),
         Err(refusal) => Err(refusal_fault(refusal, message)),
+    }
+}
+
+/// Lets the memory of words go, if it is more than is kept.
+fn keep_little(alloc: Global, words: &mut Vec<u64>) {
+    if words.capacity() > KEPT_WORDS {
+        *words = Vec::new(alloc);
     }
 }
 

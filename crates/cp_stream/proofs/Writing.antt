@@ -17,7 +17,10 @@ use Rattle.cp_stream.proofs.ReadBack.{laid_root}
 use Rattle.cp_frame.specs.declared.mode.Mode.{Mode}
 use Rattle.cp_frame.specs.declared.mode.Mode.TheVariants as modes
 use Rattle.cp_packed.specs.Words.{AreWords}
+use Rattle.cp_frame.specs.Frame.{IsRefusedFor}
 use Rattle.cp_frame.specs.Runs.{IsReadBack}
+use Rattle.cp_frame.specs.declared.fault.FrameFault.{FrameFault}
+use Rattle.cp_frame.specs.declared.fault.FrameFault.TheVariants as frames
 use Rattle.cp_frame.proofs.Whole.{read_back_plain}
 use Rattle.cp_frame.proofs.Rests.{read_back_packed}
 use Rattle.cp_rpc.specs.Written.{message_written}
@@ -99,6 +102,17 @@ module _ (limits : Bounds) (m : Message) (small : limits.frame_words ≤ 6710886
   refused_alone (refusals.Schema fault) h = h
   refused_alone (refusals.Write fault) (inl h) = inl h
   refused_alone (refusals.Write fault) (inr h) = inr (h.0, refused_write fault h.0 h.1)
+
+-- where no frame is made of the segments of a message, memory ran out
+pub refused_frame : (limits : Bounds) (words segments : ℕ) (m : Message) (S : List (List ℕ)) (fault : FrameFault) → IsLaidOutAs limits words segments m S → IsRefusedFor limits S fault → IsUnwrittenFor limits words segments m (refusals.Frame fault)
+refused_frame limits words segments m S frames.TooManySegments laid h = absurd (omega (arith, laid.few, h))
+refused_frame limits words segments m S frames.FrameTooLarge laid h =
+    let large : limits.frame_words < sum (map length S) = h.1 in
+    absurd (omega (arith, laid.small, large))
+refused_frame limits words segments m S frames.OutOfMemory laid h = (refl, S, laid)
+refused_frame limits words segments m S frames.Truncated laid h = absurd h
+refused_frame limits words segments m S frames.RunPastFrame laid h = absurd h
+refused_frame limits words segments m S frames.Failed laid h = absurd h
 
 pub sent_alone : {T : Type 0} (contents : T → Option (List ℕ)) (mode : Mode) (limits : Bounds) (m : Message) (old new : Tap T) → limits.frame_words ≤ 67108864
     → IsSent contents mode limits limits.frame_words limits.segments m old new → IsSent contents mode limits limits.frame_words 1 m old new

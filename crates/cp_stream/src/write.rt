@@ -1,6 +1,6 @@
 //! Writing messages, each as one frame.
 
-ghost use Rattle.std.specs.Prelude.{◌≡◌, ◌⊎◌, IfOk, IfErr, OnOk, OnErr};
+ghost use Rattle.std.specs.Prelude.{◌≡◌, ◌⊎◌, [], IfOk, IfErr, OnOk, OnErr};
 ghost use Rattle.cp_rpc.specs.Viewed.{viewed};
 ghost use Rattle.cp_stream.specs.Reader.{IsMemory};
 ghost use Rattle.cp_stream.specs.declared.fault.StreamFault.TheVariants.{Device};
@@ -8,13 +8,14 @@ ghost use Rattle.cp_stream.specs.Write.{IsLaidOutAs, IsNotLaidOut, IsWrittenAs, 
 
 use crate::fault::{Refusal, StreamFault, refused};
 use crate::tap::Tap;
-use cp_frame::{Mode, write_after};
+use cp_frame::{Mode, write_after, write_frame};
 use cp_rpc::{Message, MessageView, SchemaFault, draft_of};
 use cp_tree::WriteFault;
 use cp_words::{Limits, Segments};
-use cp_writing::write_draft;
+use cp_writing::write_draft_over;
 use std::alloc::Global;
 use std::io::Write;
+use std::mem;
 
 /// Writes all of the bytes. They are offered at once, and then what is left of them. An error of any
 /// kind, an interrupted call's too, and a call that takes no byte end it.
@@ -72,11 +73,13 @@ pub fn write_message<W: Write>(
     write_message_in(alloc, to, message, mode, limits.frame_words(), limits)
 }
 
-/// Puts the frame that `write_message` writes of a message after what a block holds. Faults are those, without a place, and
-/// then the block holds what it held.
+/// Puts the frame that `write_message` writes of a message after what a block holds. The message is laid out over what
+/// `words` holds, whose memory is used again; afterwards it holds nothing. Faults are those, without a place, and then
+/// the block holds what it held.
 pub fn put_message(
     alloc: Global,
     block: &mut Vec<u8>,
+    words: &mut Vec<u64>,
     message: &Message,
     mode: Mode,
     limits: Limits,
@@ -84,8 +87,14 @@ pub fn put_message(
     ensures put { OnOk result (IsPut mode limits limits.frame_words 1 message.now block.old.items block.new.items) }
     ensures refused { IfErr result (IsUnwrittenFor limits limits.frame_words 1 message.now) }
     ensures same { OnErr result (block.new.items ≡ block.old.items) }
+    ensures emptied { words.new.items ≡ [] }
 {
-    put_frame(alloc, block, message, mode, limits.frame_words(), limits)
+    let buffer = mem::replace(words, Vec::new(alloc));
+    let segments = segments_of(alloc, buffer, message, limits.frame_words(), limits)?;
+    write_after(alloc, block, &segments, mode, limits)?;
+    *words = segments.into_first();
+    words.clear();
+    Ok(())
 }
 
 /// The bytes of the frame that `write_message` writes the message of a view as. Faults are those, without a place, and S3 if
@@ -118,32 +127,14 @@ fn frame_of(
     ensures written { IfOk result (λ b. IsWrittenAs mode limits max_words limits.segments message.now b.items) }
     ensures refused { IfErr result (IsUnwrittenFor limits max_words limits.segments message.now) }
 {
-    let mut frame = Vec::new(alloc);
-    put_frame(alloc, &mut frame, message, mode, max_words, limits)?;
-    Ok(frame)
+    let segments = segments_of(alloc, Vec::new(alloc), message, max_words, limits)?;
+    Ok(write_frame(alloc, &segments, mode, limits)?)
 }
 
-/// Puts the frame that a message is written as after what a block holds.
-fn put_frame(
-    alloc: Global,
-    block: &mut Vec<u8>,
-    message: &Message,
-    mode: Mode,
-    max_words: u32,
-    limits: Limits,
-) -> Result<(), Refusal>
-    ensures put { OnOk result (IsPut mode limits max_words limits.segments message.now block.old.items block.new.items) }
-    ensures refused { IfErr result (IsUnwrittenFor limits max_words limits.segments message.now) }
-    ensures same { OnErr result (block.new.items ≡ block.old.items) }
-{
-    let segments = segments_of(alloc, message, max_words, limits)?;
-    write_after(alloc, block, &segments, mode, limits)?;
-    Ok(())
-}
-
-/// The segments that a message is laid out in.
+/// The segments that a message is laid out in, the first over what the buffer holds.
 fn segments_of(
     alloc: Global,
+    buffer: Vec<u64>,
     message: &Message,
     max_words: u32,
     limits: Limits,
@@ -152,5 +143,5 @@ fn segments_of(
     ensures refused { IfErr result (IsNotLaidOut limits max_words limits.segments message.now) }
 {
     let draft = draft_of(alloc, message)?;
-    write_draft(alloc, &draft, max_words, limits)
+    write_draft_over(alloc, buffer, &draft, max_words, limits)
 }
