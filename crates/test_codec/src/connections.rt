@@ -3,7 +3,7 @@
 use crate::checks::expect_bytes;
 use crate::samples::{FINISH, PACKED, TWO_SEGMENTS};
 use crate::streams::{
-    Source, at, expect_cut_short, expect_end, expect_failed, expect_read, is_memory, read, tap_of,
+    Source, at, expect_cut_short, expect_fed_all, expect_read, is_memory, read, tap_of,
 };
 use cp_frame::Mode;
 use cp_rpc::{Message, Op, Returned, Target};
@@ -110,7 +110,7 @@ const THREE_WORDS: [u64; 7] = [
 ];
 
 /// The plain frames of a finish, a bootstrap's Return, a bootstrap and two calls.
-const FRAMES: [&[u64]; 5] = [
+const FRAMES: &[&[u64]] = &[
     &FINISH_WORDS,
     &RETURN,
     &BOOTSTRAP,
@@ -223,19 +223,24 @@ fn expect_next(rt: &impl Abort, alloc: Global, from: &mut Tap<Source>, expected:
 fn messages_of_a_connection_are_read(rt: HostRuntime) {
     let alloc = rt.alloc();
     let mut stream = Vec::new(alloc);
-    for words in &FRAMES[1..] {
+    for words in FRAMES.iter().skip(1) {
         push_words(&rt, &mut stream, words);
     }
-    let mut from = tap_of(&stream, 0);
-    expect_next(&rt, alloc, &mut from, Expected::Results(0));
-    expect_next(&rt, alloc, &mut from, Expected::Bootstrap(0));
-    expect_next(&rt, alloc, &mut from, Expected::Call(1, 0, &[]));
-    let path = [Op::GetPointerField(0)];
-    expect_next(&rt, alloc, &mut from, Expected::Call(2, 1, &path));
-    expect_read(&rt, alloc, (&mut from, Mode::Plain), Ok(false));
-    check!(&rt; from.bytes() == stream.len() as u64);
-    drop(from);
+    expect_messages(&rt, alloc, &stream);
     drop(stream);
+}
+
+/// A stream has these messages, and no other.
+fn expect_messages(rt: &impl Abort, alloc: Global, stream: &[u8]) {
+    let mut from = tap_of(stream, 0);
+    expect_next(rt, alloc, &mut from, Expected::Results(0));
+    expect_next(rt, alloc, &mut from, Expected::Bootstrap(0));
+    expect_next(rt, alloc, &mut from, Expected::Call(1, 0, &[]));
+    let transform = &[Op::GetPointerField(0)];
+    expect_next(rt, alloc, &mut from, Expected::Call(2, 1, transform));
+    expect_read(rt, alloc, (&mut from, Mode::Plain), Ok(false));
+    check!(rt; from.bytes() == stream.len() as u64);
+    drop(from);
 }
 
 /// A plain frame's bytes in a form.
@@ -265,13 +270,8 @@ fn expect_formed(rt: &impl Abort, alloc: Global, plain: &[u8], mode: Mode, wante
 }
 
 #[test]
-fn messages_are_written_as_they_were_read(rt: HostRuntime) {
+fn messages_are_written_in_each_form(rt: HostRuntime) {
     let alloc = rt.alloc();
-    for words in FRAMES {
-        let frame = bytes_of(&rt, alloc, words);
-        expect_written(&rt, alloc, &frame);
-        drop(frame);
-    }
     expect_formed(&rt, alloc, &FINISH, Mode::Packed, &PACKED);
     let frame = bytes_of(&rt, alloc, &RETURN);
     expect_formed(&rt, alloc, &frame, Mode::Packed, &PACKED_RETURN);
@@ -413,17 +413,6 @@ fn expect_taken(rt: &impl Abort, to: Tap<Sink>, failures: u64, bytes: &[u8]) -> 
     sink
 }
 
-#[test]
-fn a_writer_may_take_a_byte_a_call(rt: HostRuntime) {
-    let alloc = rt.alloc();
-    for words in FRAMES {
-        let frame = bytes_of(&rt, alloc, words);
-        expect_calls(&rt, alloc, &frame, 1, frame.len() as u64);
-        expect_calls(&rt, alloc, &frame, 1024, 1);
-        drop(frame);
-    }
-}
-
 /// A writer that fails after this front of a plain frame took the front alone.
 fn expect_front(rt: &impl Abort, alloc: Global, frame: &[u8], front: &[u8], takes_none: bool) {
     let mut to = sink_of(alloc, 1, front.len() as u64 + 1, takes_none);
@@ -432,37 +421,34 @@ fn expect_front(rt: &impl Abort, alloc: Global, frame: &[u8], front: &[u8], take
     drop(sink);
 }
 
+/// A writer that fails at one of its calls took all bytes before that.
+fn expect_fronts(rt: &impl Abort, alloc: Global, frame: &[u8]) {
+    for length in 0..frame.len() {
+        expect_front(rt, alloc, frame, &frame[..length], false);
+        expect_front(rt, alloc, frame, &frame[..length], true);
+    }
+}
+
+/// The packed frame of a plain frame's message. Each is refused where it ends early.
+fn expect_refused_short(rt: &impl Abort, alloc: Global, frame: &[u8]) {
+    expect_cut_short(rt, alloc, Mode::Plain, frame);
+    let packed = formed(rt, alloc, frame, Mode::Packed);
+    expect_cut_short(rt, alloc, Mode::Packed, &packed);
+    drop(packed);
+}
+
+/// Messages are written as they were read, by a writer that takes a byte a call, or all, and that may fail at each call.
 #[test]
-fn a_writer_may_fail_at_each_call(rt: HostRuntime) {
+fn messages_are_written_as_they_were_read(rt: HostRuntime) {
     let alloc = rt.alloc();
     for words in FRAMES {
         let frame = bytes_of(&rt, alloc, words);
-        for length in 0..frame.len() {
-            expect_front(&rt, alloc, &frame, &frame[..length], false);
-            expect_front(&rt, alloc, &frame, &frame[..length], true);
-        }
+        expect_written(&rt, alloc, &frame);
+        expect_calls(&rt, alloc, &frame, 1, frame.len() as u64);
+        expect_calls(&rt, alloc, &frame, 1024, 1);
+        expect_fronts(&rt, alloc, &frame);
+        expect_refused_short(&rt, alloc, &frame);
         drop(frame);
-    }
-}
-
-/// The frame of these words' message in a form.
-fn frame_in(rt: &impl Abort, alloc: Global, words: &[u64], mode: Mode) -> Vec<u8> {
-    let plain = bytes_of(rt, alloc, words);
-    match mode {
-        Mode::Plain => plain,
-        Mode::Packed => formed(rt, alloc, &plain, mode),
-    }
-}
-
-#[test]
-fn frames_that_end_early_are_refused(rt: HostRuntime) {
-    let alloc = rt.alloc();
-    for words in FRAMES {
-        for mode in [Mode::Plain, Mode::Packed] {
-            let frame = frame_in(&rt, alloc, words, mode);
-            expect_cut_short(&rt, alloc, mode, &frame);
-            drop(frame);
-        }
     }
 }
 
@@ -492,7 +478,9 @@ fn expect_failure(rt: &impl Abort, alloc: Global, mode: Mode, stream: &[u8], cal
 fn stream_in(rt: &impl Abort, alloc: Global, mode: Mode) -> Vec<u8> {
     let mut stream = Vec::new(alloc);
     for words in FRAMES {
-        let frame = frame_in(rt, alloc, words, mode);
+        let plain = bytes_of(rt, alloc, words);
+        let frame = formed(rt, alloc, &plain, mode);
+        drop(plain);
         stream.extend_from_slice(&frame).expect(rt, "memory");
         drop(frame);
     }
@@ -509,32 +497,34 @@ fn calls_of(rt: &impl Abort, alloc: Global, mode: Mode, stream: &[u8]) -> u64 {
 #[test]
 fn a_reader_may_fail_at_each_call(rt: HostRuntime) {
     let alloc = rt.alloc();
-    for mode in [Mode::Plain, Mode::Packed] {
-        let stream = stream_in(&rt, alloc, mode);
-        for call in 0..calls_of(&rt, alloc, mode, &stream) {
-            expect_failure(&rt, alloc, mode, &stream, call + 1);
-        }
-        drop(stream);
+    expect_failures(&rt, alloc, Mode::Plain);
+    expect_failures(&rt, alloc, Mode::Packed)
+}
+
+/// Reads a stream of five messages by a device that fails at each of its calls.
+fn expect_failures(rt: &impl Abort, alloc: Global, mode: Mode) {
+    let stream = stream_in(rt, alloc, mode);
+    for call in 0..calls_of(rt, alloc, mode, &stream) {
+        expect_failure(rt, alloc, mode, &stream, call + 1);
     }
+    drop(stream);
 }
 
 /// Frames that lie in no memory that could be refused.
-fn lying_frames<'a>() -> [(Mode, &'a [u8]); 4] {
-    [
-        (Mode::Plain, FINISH.as_slice()),
-        (Mode::Plain, TWO_SEGMENTS.as_slice()),
-        (Mode::Packed, PACKED.as_slice()),
-        (Mode::Packed, PACKED_RETURN.as_slice()),
-    ]
-}
+const LYING: &[(Mode, &[u8])] = &[
+    (Mode::Plain, &FINISH),
+    (Mode::Plain, &TWO_SEGMENTS),
+    (Mode::Packed, &PACKED),
+    (Mode::Packed, &PACKED_RETURN),
+];
 
 // With ample memory no allocation fails. `rt try --test --fail-alloc N` fails the Nth of each
 // of the four tests below.
 #[test]
 fn allocation_failure_while_a_message_is_read(rt: HostRuntime) {
-    for (mode, frame) in lying_frames() {
+    for (mode, frame) in LYING {
         let mut from = tap_of(frame, 0);
-        expect_there(&rt, read(rt.alloc(), &mut from, mode));
+        expect_there(&rt, read(rt.alloc(), &mut from, *mode));
         check!(&rt; from.failures() == 0);
         drop(from);
     }
@@ -558,9 +548,9 @@ fn read_frame(alloc: Global, from: &mut Tap<Source>, mode: Mode) -> Result<bool,
 
 #[test]
 fn allocation_failure_while_a_frame_is_read(rt: HostRuntime) {
-    for (mode, frame) in lying_frames() {
+    for (mode, frame) in LYING {
         let mut from = tap_of(frame, 0);
-        expect_there(&rt, read_frame(rt.alloc(), &mut from, mode));
+        expect_there(&rt, read_frame(rt.alloc(), &mut from, *mode));
         check!(&rt; from.failures() == 0);
         drop(from);
     }
@@ -569,12 +559,8 @@ fn allocation_failure_while_a_frame_is_read(rt: HostRuntime) {
 #[test]
 fn allocation_failure_while_a_packed_stream_is_fed(rt: HostRuntime) {
     let mut reader = MessageReader::packed(rt.alloc(), Limits::standard());
-    for piece in [&PACKED[..], &PACKED_RETURN[..7], &PACKED_RETURN[7..]] {
-        if let Err(fault) = reader.feed(piece) {
-            return expect_failed(&rt, &mut reader, fault);
-        }
-    }
-    expect_end(&rt, &mut reader, None);
+    let (front, back) = PACKED_RETURN.split_at(7);
+    expect_fed_all(&rt, &mut reader, &[&PACKED, front, back]);
     drop(reader);
 }
 
@@ -593,11 +579,11 @@ fn expect_whole_or_none(rt: &impl Abort, alloc: Global, message: &Message, mode:
 #[test]
 fn allocation_failure_writes_nothing(rt: HostRuntime) {
     let alloc = rt.alloc();
-    for (mode, frame) in lying_frames() {
-        let found = read_message(alloc, &mut tap_of(frame, 0), mode, Limits::standard());
+    for (mode, frame) in LYING {
+        let found = read_message(alloc, &mut tap_of(frame, 0), *mode, Limits::standard());
         if let Ok(Some(message)) = found {
-            expect_whole_or_none(&rt, alloc, &message, mode, 3);
-            expect_whole_or_none(&rt, alloc, &message, mode, 8_388_608);
+            expect_whole_or_none(&rt, alloc, &message, *mode, 3);
+            expect_whole_or_none(&rt, alloc, &message, *mode, 8_388_608);
             drop(message);
         }
     }

@@ -1,7 +1,7 @@
 //! Packed words read group by group, beside those read byte by byte.
 
 use crate::frames::segments_of;
-use crate::packed::{BOOTSTRAP, RELEASE, TWO};
+use crate::packed::{BOOTSTRAP, RELEASE, ROWS};
 use crate::samples::PACKED;
 use cp_frame::*;
 use cp_packed::decode;
@@ -20,11 +20,17 @@ fn are_same(unpacked: &Result<Vec<u64>, FrameFault>, decoded: &Option<Vec<u64>>)
 
 /// The same words, or neither has any.
 fn expect_same(rt: &impl Abort, alloc: Global, bytes: &[u8]) {
-    let unpacked = unpack(alloc, bytes, 4096);
     let decoded = decode(alloc, bytes).expect(rt, "memory");
-    check!(rt; are_same(&unpacked, &decoded));
-    drop(unpacked);
+    check!(rt; is_unpacked(alloc, bytes, &decoded));
     drop(decoded);
+}
+
+/// Whether packed bytes are these words, or none.
+fn is_unpacked(alloc: Global, bytes: &[u8], words: &Option<Vec<u64>>) -> bool {
+    let unpacked = unpack(alloc, bytes, 4096);
+    let are_same = are_same(&unpacked, words);
+    drop(unpacked);
+    are_same
 }
 
 /// The same for each front.
@@ -34,33 +40,39 @@ fn expect_fronts(rt: &impl Abort, alloc: Global, bytes: &[u8]) {
     }
 }
 
+/// Bytes that are no words' own packed form: a zero byte under a set bit, and a raw run, a run of zeros and a cut.
+const OTHERS: &[&[u8]] = &[
+    &[3, 7, 0],
+    &[
+        0xff, 0x8a, 0x8a, 0x8a, 0x8a, 0x8a, 0x8a, 0x8a, 0x8a, 3, 0x8a, 0x8a, 0x8a, 0x8a, 0x8a,
+        0x8a, 0x8a, 0x8a, 0x8a, 0x8a, 0x8a, 0x8a, 0x8a, 0x8a, 0x8a, 0x8a, 0x8a, 0x8a, 0x8a, 0x8a,
+        0x8a, 0x8a, 0x8a, 0x8a, 0, 1,
+    ],
+];
+
 #[test]
 fn rows_are_read_alike(rt: HostRuntime) {
-    for bytes in [&PACKED[..], &BOOTSTRAP[..], &RELEASE[..], &TWO.0[..]] {
+    for row in ROWS {
+        expect_fronts(&rt, rt.alloc(), row.1);
+    }
+    for bytes in OTHERS {
         expect_fronts(&rt, rt.alloc(), bytes);
     }
-    for bytes in [&[0, 3][..], &[0, 255, 0, 0][..], &[3, 7, 0][..]] {
-        expect_fronts(&rt, rt.alloc(), bytes);
-    }
-    let mut raw = [0x8a; 36];
-    raw[0] = 0xff;
-    raw[9] = 3;
-    raw[34] = 0;
-    raw[35] = 1;
-    expect_fronts(&rt, rt.alloc(), &raw)
 }
+
+/// Bytes of each kind.
+const KINDS: [u8; 7] = [0, 1, 2, 3, 0x80, 0xfe, 0xff];
 
 #[test]
 fn short_bytes_are_read_alike(rt: HostRuntime) {
-    let kinds = [0, 1, 2, 3, 0x80, 0xfe, 0xff];
-    for first in kinds {
-        for second in kinds {
-            for third in kinds {
-                for fourth in kinds {
-                    expect_fronts(&rt, rt.alloc(), &[first, second, third, fourth]);
-                }
-            }
-        }
+    for number in 0..2401 {
+        let bytes = [
+            KINDS[number / 343 % 7],
+            KINDS[number / 49 % 7],
+            KINDS[number / 7 % 7],
+            KINDS[number % 7],
+        ];
+        expect_fronts(&rt, rt.alloc(), &bytes);
     }
 }
 
@@ -69,14 +81,20 @@ fn plain_of(rt: &impl Abort, alloc: Global, bytes: &[u8]) -> Vec<u8> {
     let words = decode(alloc, bytes)
         .expect(rt, "memory")
         .expect(rt, "words");
-    let mut plain = Vec::new(alloc);
-    for word in &words {
-        plain
+    let plain = bytes_of(rt, alloc, &words);
+    drop(words);
+    plain
+}
+
+/// The words' bytes.
+fn bytes_of(rt: &impl Abort, alloc: Global, words: &[u64]) -> Vec<u8> {
+    let mut bytes = Vec::new(alloc);
+    for word in words {
+        bytes
             .extend_from_slice(&word.to_le_bytes())
             .expect(rt, "memory");
     }
-    drop(words);
-    plain
+    bytes
 }
 
 /// The segments of the plain frame of those words.
@@ -91,17 +109,22 @@ fn plain_segments(rt: &impl Abort, alloc: Global, bytes: &[u8]) -> Segments {
 /// A packed frame has the segments of the plain frame of its words.
 fn expect_frame(rt: &impl Abort, alloc: Global, bytes: &[u8]) {
     let plain = plain_segments(rt, alloc, bytes);
-    let packed = segments_of(rt, FrameReader::packed(alloc, Limits::standard()), bytes);
-    check!(rt; plain.lists() == packed.lists());
+    expect_packed(rt, alloc, bytes, plain.lists());
     drop(plain);
+}
+
+/// A packed frame has these segments.
+fn expect_packed(rt: &impl Abort, alloc: Global, bytes: &[u8], lists: &[Vec<u64>]) {
+    let packed = segments_of(rt, FrameReader::packed(alloc, Limits::standard()), bytes);
+    check!(rt; packed.lists() == lists);
     drop(packed);
 }
 
 #[test]
 fn frames_have_the_decoded_words(rt: HostRuntime) {
-    for bytes in [&PACKED[..], &BOOTSTRAP[..], &RELEASE[..]] {
+    for bytes in FRAMES {
         expect_frame(&rt, rt.alloc(), bytes);
     }
-    expect_frame(&rt, rt.alloc(), &[0, 0]);
-    expect_frame(&rt, rt.alloc(), &[0x11, 1, 1, 0, 1])
 }
+
+const FRAMES: &[&[u8]] = &[&PACKED, &BOOTSTRAP, &RELEASE, &[0, 0], &[0x11, 1, 1, 0, 1]];

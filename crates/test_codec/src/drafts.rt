@@ -1,11 +1,12 @@
 //! Structs that are written by the places of their fields, and over readers and writers.
 
+use crate::trees::tree_of_constant;
 use cp_drafts::*;
-use cp_fields::{Pointee, StructView};
+use cp_fields::{Constant, Pointee, StructView};
 use cp_frame::Mode;
 use cp_stream::Tap;
 use cp_structs::{read_struct, write_struct};
-use cp_tree::{Body, Object, Tree, Whole};
+use cp_tree::{Body, ListRef, Object, Tree, Whole};
 use cp_words::Limits;
 use std::alloc::Global;
 use std::process::Abort;
@@ -140,27 +141,26 @@ fn no_draft_is_made_of_what_no_message_can_hold(rt: HostRuntime) {
     check!(&rt; uneven(&rt, rt.alloc()) == Some(DraftFault::TooLong));
 }
 
-/// A part is this tree.
-fn expect_part(rt: &impl Abort, part: Result<Whole, DraftFault>, wanted: Tree) {
+/// A part is this list.
+fn expect_part(rt: &impl Abort, alloc: Global, part: Result<Whole, DraftFault>, wanted: ListRef) {
     let part = part.expect(rt, "a part");
-    check!(rt; *part.tree() == wanted);
-    drop(part);
+    let wanted = tree_of_constant(rt, alloc, &Constant::List(wanted));
+    let is_wanted = *part.tree() == wanted;
     drop(wanted);
+    drop(part);
+    check!(rt; is_wanted);
 }
 
 #[test]
 fn parts_of_each_kind_are_made(rt: HostRuntime) {
     let alloc = rt.alloc();
-    expect_part(&rt, voids_of(3), Tree::Voids(3));
+    expect_part(&rt, alloc, voids_of(3), ListRef::Voids(3));
     let bits = vec![in alloc; true, false].expect(&rt, "memory");
-    let same = vec![in alloc; true, false].expect(&rt, "memory");
-    expect_part(&rt, bits_of(bits), Tree::Bits(same));
+    expect_part(&rt, alloc, bits_of(bits), ListRef::Bits(&[true, false]));
     let halves = vec![in alloc; 1, 0xffff].expect(&rt, "memory");
-    let same = vec![in alloc; 1, 0xffff].expect(&rt, "memory");
-    expect_part(&rt, halves_of(halves), Tree::Halves(same));
+    expect_part(&rt, alloc, halves_of(halves), ListRef::Halves(&[1, 0xffff]));
     let words = vec![in alloc; u64::MAX].expect(&rt, "memory");
-    let same = vec![in alloc; u64::MAX].expect(&rt, "memory");
-    expect_part(&rt, words_of(words), Tree::Words(same));
+    expect_part(&rt, alloc, words_of(words), ListRef::Words(&[u64::MAX]));
 }
 
 #[test]

@@ -1,423 +1,402 @@
-//! Frames from outside, whole and in pieces.
+//! Frames from outside, plain and packed: cut in two anywhere, byte by byte and one by one, and written again.
 
 use crate::checks::{expect_bytes, expect_number, expect_words};
-use crate::samples::{FINISH, KEEPING, THREE_SEGMENTS, TWO_SEGMENTS, joined};
+use crate::frame_samples::{
+    BY_THEMSELVES, FAULTS, FIRST, FIRST_PACKED, Frame, OF_FINISH, OF_KEEPING, STREAMS, Stream,
+    WRITTEN,
+};
+use crate::packed::{BOOTSTRAP, TWO};
+use crate::samples::{FINISH, KEEPING, PACKED, THREE_SEGMENTS, TWO_SEGMENTS, joined};
 use cp_frame::*;
 use cp_words::{Limits, Segments};
 use std::alloc::Global;
 use std::process::Abort;
 
-/// The words of `FINISH`.
-const FINISH_WORDS: [u64; 4] = [0x1_0001_0000_0000, 4, 0x1_0000_0000, 7];
+/// A reader within the standard limits.
+fn new_reader(alloc: Global, mode: Mode) -> FrameReader {
+    FrameReader::new(alloc, mode, Limits::standard())
+}
 
-/// The words of `KEEPING`.
-const KEEPING_WORDS: [u64; 4] = [0x1_0001_0000_0000, 4, 0x1_0000_0000, 0x1_0000_0007];
-
-/// The frame took this many bytes, and its segments are these.
-fn expect_frame(rt: &impl Abort, frame: &(u64, Segments), taken: usize, segments: &[&[u64]]) {
-    check!(rt; frame.0 == taken as u64);
-    let lists = frame.1.lists();
+/// A frame took so many bytes, and its segments are these.
+fn expect_frame(rt: &impl Abort, length: u64, lists: &[Vec<u64>], (taken, segments): Frame<'_>) {
+    check!(rt; length == taken as u64);
     expect_number(rt, lists.len(), segments.len());
     for (list, words) in lists.iter().zip(segments) {
         expect_words(rt, list, words);
     }
 }
 
-/// The segments, one after another, are these words.
-pub(crate) fn expect_joined(rt: &impl Abort, lists: &[Vec<u64>], words: &[u64]) {
-    let mut rest = words;
-    for list in lists {
-        check!(rt; list.len() <= rest.len());
-        let (front, after) = rest.split_at(list.len());
-        expect_words(rt, list, front);
-        rest = after;
+/// Just these frames came.
+fn expect_frames(rt: &impl Abort, came: &[(u64, Segments)], frames: &[Frame<'_>]) {
+    expect_number(rt, came.len(), frames.len());
+    for (frame, wanted) in came.iter().zip(frames) {
+        expect_frame(rt, frame.0, frame.1.lists(), *wanted);
     }
-    check!(rt; rest.is_empty());
 }
 
-/// A reader within the standard limits.
-fn new_reader(alloc: Global) -> FrameReader {
-    FrameReader::plain(alloc, Limits::standard())
+/// By which call a piece comes.
+#[derive(Clone, Copy, PartialEq)]
+enum Call {
+    /// `feed`, which gives all its frames.
+    Feed,
+    /// `next`, for each of its frames, which is then given back.
+    Next,
 }
 
-/// How many frames come with these bytes, or the fault.
-pub(crate) fn fed(reader: &mut FrameReader, bytes: &[u8]) -> Result<usize, FrameFault> {
-    Ok(reader.feed(bytes)?.len())
-}
-
-/// These bytes bring this many frames, or the fault.
-pub(crate) fn expect_fed(
+/// Just these frames come with a piece. Gives the fault that is reported.
+fn turn(
     rt: &impl Abort,
     reader: &mut FrameReader,
-    bytes: &[u8],
-    reported: Result<usize, FrameFault>,
-) {
-    check!(rt; fed(reader, bytes) == reported);
+    call: Call,
+    piece: &[u8],
+    frames: &[Frame<'_>],
+) -> Option<FrameFault> {
+    match call {
+        Call::Feed => fed_with(rt, reader, piece, frames),
+        Call::Next => taken_from(rt, reader, piece, frames),
+    }
+}
+
+fn fed_with(
+    rt: &impl Abort,
+    reader: &mut FrameReader,
+    piece: &[u8],
+    frames: &[Frame<'_>],
+) -> Option<FrameFault> {
+    match reader.feed(piece) {
+        Ok(came) => {
+            expect_frames(rt, &came, frames);
+            drop(came);
+            None
+        }
+        Err(fault) => {
+            check!(rt; frames.is_empty());
+            Some(fault)
+        }
+    }
+}
+
+fn taken_from(
+    rt: &impl Abort,
+    reader: &mut FrameReader,
+    piece: &[u8],
+    frames: &[Frame<'_>],
+) -> Option<FrameFault> {
+    let mut left = piece;
+    for wanted in frames {
+        let next = reader.next(left).expect(rt, "a piece");
+        let (length, segments, back) = next.expect(rt, "a frame");
+        expect_frame(rt, length, segments.lists(), *wanted);
+        reader.reuse(segments);
+        left = back;
+    }
+    last_fault(rt, reader, left)
+}
+
+/// No frame ends in the piece. Gives the fault that is reported.
+fn last_fault(rt: &impl Abort, reader: &mut FrameReader, piece: &[u8]) -> Option<FrameFault> {
+    match reader.next(piece) {
+        Ok(next) => {
+            check!(rt; next.is_none());
+            drop(next);
+            None
+        }
+        Err(fault) => Some(fault),
+    }
 }
 
 /// This many bytes and words are held.
-pub(crate) fn expect_held(rt: &impl Abort, reader: &FrameReader, held: (usize, usize)) {
+fn expect_held(rt: &impl Abort, reader: &FrameReader, held: (usize, usize)) {
     check!(rt; reader.held() == held);
 }
 
 /// This is reported at the end.
-pub(crate) fn expect_end(
+fn expect_end(rt: &impl Abort, reader: &mut FrameReader, reported: Result<(), FrameFault>) {
+    check!(rt; reader.finish() == reported);
+}
+
+/// A reader has failed, and keeps nothing.
+fn expect_failed(rt: &impl Abort, reader: &mut FrameReader) {
+    let failed = Some(FrameFault::Failed);
+    expect_held(rt, reader, (0, 0));
+    check!(rt; turn(rt, reader, Call::Feed, &FINISH, &[]) == failed);
+    check!(rt; turn(rt, reader, Call::Next, &FINISH, &[]) == failed);
+    expect_end(rt, reader, Err(FrameFault::Failed));
+}
+
+/// How many of these frames end within so many bytes, and how many bytes are left after them.
+fn ended(frames: &[Frame<'_>], length: usize) -> (usize, usize) {
+    let mut left = length;
+    for (count, frame) in frames.iter().enumerate() {
+        if left < frame.0 {
+            return (count, left);
+        }
+        left -= frame.0;
+    }
+    (frames.len(), left)
+}
+
+impl<'a> Stream<'a> {
+    /// The fault that the last byte brings.
+    fn fault_at_once(&self) -> Option<FrameFault> {
+        if self.fault == Some(FrameFault::Truncated) {
+            return None;
+        }
+        self.fault
+    }
+
+    /// What is held after so many bytes, of which so many are after the last frame. `None` where the row doesn't say it.
+    fn held_after(&self, length: usize, after: usize) -> Option<(usize, usize)> {
+        if self.mode == Mode::Plain || length == 0 {
+            return Some((after % 8, after / 8));
+        }
+        self.held.get(length - 1).copied()
+    }
+}
+
+/// The front of a stream brings the frames that end in it, and no fault. Gives the frames after them.
+fn frames_after<'a>(
     rt: &impl Abort,
     reader: &mut FrameReader,
-    reported: Result<(), FrameFault>,
+    stream: &Stream<'a>,
+    call: Call,
+    front: &[u8],
+) -> &'a [Frame<'a>] {
+    let (early, after) = ended(stream.frames, front.len());
+    check!(rt; early <= stream.frames.len());
+    let (first, last) = stream.frames.split_at(early);
+    check!(rt; turn(rt, reader, call, front, first).is_none());
+    if let Some(held) = stream.held_after(front.len(), after) {
+        expect_held(rt, reader, held);
+    }
+    last
+}
+
+/// The back of a stream brings its last frames and its fault. Of frames that are fed the fault is kept; then `asked` may come
+/// before the end. Says whether the fault was reported.
+fn is_reported(
+    rt: &impl Abort,
+    reader: &mut FrameReader,
+    fault: Option<FrameFault>,
+    (call, asked): (Call, Option<Call>),
+    (back, last): (&[u8], &[Frame<'_>]),
+) -> bool {
+    let reported = turn(rt, reader, call, back, last);
+    if call == Call::Next || last.is_empty() {
+        check!(rt; reported == fault);
+        return fault.is_some();
+    }
+    check!(rt; reported.is_none());
+    let Some(call) = asked else {
+        return false;
+    };
+    check!(rt; turn(rt, reader, call, &[], &[]) == fault);
+    fault.is_some()
+}
+
+/// A stream comes in two pieces by such calls.
+fn expect_cut(
+    rt: &impl Abort,
+    alloc: Global,
+    stream: &Stream<'_>,
+    (front, back): (&[u8], &[u8]),
+    calls: (Call, Option<Call>),
 ) {
-    check!(rt; reader.finish() == reported);
+    let mut reader = new_reader(alloc, stream.mode);
+    let last = frames_after(rt, &mut reader, stream, calls.0, front);
+    let fault = stream.fault_at_once();
+    let was_reported = is_reported(rt, &mut reader, fault, calls, (back, last));
+    expect_ended(rt, &mut reader, stream.fault, was_reported);
+    drop(reader);
+}
+
+/// A stream with this fault, or none, has come. Its end reports the fault, unless that was reported before.
+fn expect_ended(
+    rt: &impl Abort,
+    reader: &mut FrameReader,
+    fault: Option<FrameFault>,
+    was_reported: bool,
+) {
+    let end = reader.finish().err();
+    if was_reported {
+        check!(rt; end == Some(FrameFault::Failed));
+    } else {
+        check!(rt; end == fault);
+    }
+    match fault {
+        Some(_) => expect_failed(rt, reader),
+        None => expect_held(rt, reader, (0, 0)),
+    }
+}
+
+/// The front of a stream ends inside a frame, unless a frame ends with it.
+fn expect_front(rt: &impl Abort, alloc: Global, stream: &Stream<'_>, front: &[u8]) {
+    let mut reader = new_reader(alloc, stream.mode);
+    frames_after(rt, &mut reader, stream, Call::Feed, front);
+    let is_whole = ended(stream.frames, front.len()).1 == 0;
+    let fault = if is_whole {
+        None
+    } else {
+        Some(FrameFault::Truncated)
+    };
+    expect_ended(rt, &mut reader, fault, false);
+    drop(reader);
+}
+
+/// A stream comes byte by byte: each frame with its last byte, and the fault with the last byte of all.
+fn expect_bytes_of(rt: &impl Abort, alloc: Global, stream: &Stream<'_>, bytes: &[u8]) {
+    let mut reader = new_reader(alloc, stream.mode);
+    let mut fault = None;
+    for length in 0..bytes.len() {
+        check!(rt; fault.is_none());
+        fault = fault_of_byte(rt, &mut reader, stream, (bytes[length], length));
+    }
+    check!(rt; fault == stream.fault_at_once());
+    expect_ended(rt, &mut reader, stream.fault, fault.is_some());
+    drop(reader);
+}
+
+/// The next byte of a stream, after so many, brings the frame that ends with it. Gives the fault that it brings.
+fn fault_of_byte(
+    rt: &impl Abort,
+    reader: &mut FrameReader,
+    stream: &Stream<'_>,
+    (byte, length): (u8, usize),
+) -> Option<FrameFault> {
+    let early = ended(stream.frames, length).0;
+    let (count, after) = ended(stream.frames, length.saturating_add(1));
+    check!(rt; count <= stream.frames.len());
+    check!(rt; early <= count);
+    let fault = turn(
+        rt,
+        reader,
+        Call::Feed,
+        &[byte],
+        &stream.frames[early..count],
+    );
+    if fault.is_none() {
+        if let Some(held) = stream.held_after(length.saturating_add(1), after) {
+            expect_held(rt, reader, held);
+        }
+    }
+    fault
+}
+
+/// By which call a stream comes, and by which a fault that is kept is asked for before the end.
+const CALLS: &[(Call, Option<Call>)] = &[
+    (Call::Feed, None),
+    (Call::Feed, Some(Call::Feed)),
+    (Call::Feed, Some(Call::Next)),
+    (Call::Next, None),
+];
+
+/// A stream is what it is however it comes.
+fn expect_stream(rt: &impl Abort, alloc: Global, stream: &Stream<'_>) {
+    let bytes = joined(rt, alloc, stream.parts);
+    for cut in 0..bytes.len() {
+        expect_front(rt, alloc, stream, &bytes[..cut]);
+        for calls in CALLS {
+            expect_cut(rt, alloc, stream, bytes.split_at(cut), *calls);
+        }
+    }
+    expect_bytes_of(rt, alloc, stream, &bytes);
+    drop(bytes);
+}
+
+/// Bytes are at fault by the last of them, alone and after a frame.
+fn expect_fault(rt: &impl Abort, alloc: Global, mode: Mode, bytes: &[u8], fault: FrameFault) {
+    let (before, first) = match mode {
+        Mode::Plain => FIRST,
+        Mode::Packed => FIRST_PACKED,
+    };
+    let alone = Stream {
+        mode,
+        parts: &[bytes],
+        frames: &[],
+        fault: Some(fault),
+        held: &[],
+    };
+    expect_stream(rt, alloc, &alone);
+    let after = Stream {
+        mode,
+        parts: &[before, bytes],
+        frames: first,
+        fault: Some(fault),
+        held: &[],
+    };
+    expect_stream(rt, alloc, &after);
+}
+
+#[test]
+fn streams_come_however_they_are_cut(rt: HostRuntime) {
+    for stream in STREAMS {
+        expect_stream(&rt, rt.alloc(), stream);
+    }
+    for (mode, bytes, fault) in FAULTS {
+        expect_fault(&rt, rt.alloc(), *mode, bytes, *fault);
+    }
+}
+
+/// Packed words after the table of a frame of one segment.
+fn expect_segment(rt: &impl Abort, alloc: Global, words: &[u64]) {
+    let mut bytes = pack(alloc, &[(words.len() as u64) << 32]).expect(rt, "memory");
+    let after = pack(alloc, words).expect(rt, "memory");
+    bytes.extend_from_slice(&after).expect(rt, "memory");
+    drop(after);
+    let segments = [words];
+    let stream = Stream {
+        mode: Mode::Packed,
+        parts: &[&bytes[..]],
+        frames: &[(bytes.len(), &segments[..])],
+        fault: None,
+        held: &[],
+    };
+    expect_stream(rt, alloc, &stream);
+    drop(bytes);
+}
+
+/// Words that are packed in each way.
+const SEGMENTS: &[&[u64]] = &[
+    &TWO,
+    &[0; 4],
+    &[0; 256],
+    &[0; 257],
+    &[0x8a8a_8a8a_8a8a_8a8a; 4],
+    &[0x0001_0203_0405_0607; 40],
+    &[7],
+];
+
+#[test]
+fn segments_come_however_they_are_packed(rt: HostRuntime) {
+    for words in SEGMENTS {
+        expect_segment(&rt, rt.alloc(), words);
+    }
 }
 
 /// The segments of the one frame that these bytes are.
 pub(crate) fn segments_of(rt: &impl Abort, mut reader: FrameReader, bytes: &[u8]) -> Segments {
-    let mut frames = reader.feed(bytes).expect(rt, "frames");
+    let segments = only_frame(rt, &mut reader, bytes);
     drop(reader);
-    expect_number(rt, frames.len(), 1);
-    let frame = frames.pop().expect(rt, "a frame");
-    drop(frames);
-    frame.1
+    segments
 }
 
-/// The frames of these bytes, of which this many come with the front. The bytes end after a frame.
-fn frames_of(
-    rt: &impl Abort,
-    alloc: Global,
-    front: &[u8],
-    back: &[u8],
-    early: usize,
-) -> Vec<(u64, Segments)> {
-    let mut reader = new_reader(alloc);
-    let mut frames = reader.feed(front).expect(rt, "frames");
-    expect_number(rt, frames.len(), early);
-    for frame in reader.feed(back).expect(rt, "frames") {
-        frames.push(frame).expect(rt, "memory");
-    }
-    expect_end(rt, &mut reader, Ok(()));
-    drop(reader);
-    frames
+/// The segments of the next frame, which takes all these bytes.
+fn only_frame(rt: &impl Abort, reader: &mut FrameReader, bytes: &[u8]) -> Segments {
+    let next = reader.next(bytes).expect(rt, "a piece");
+    let (length, segments, _) = next.expect(rt, "a frame");
+    check!(rt; length == bytes.len() as u64);
+    segments
 }
 
-/// Two frames of one segment come with these bytes, of which `early` come with the front.
-fn expect_two(rt: &impl Abort, alloc: Global, (front, back): (&[u8], &[u8]), early: usize) {
-    let frames = frames_of(rt, alloc, front, back, early);
-    check!(rt; frames.len() == 2);
-    expect_frame(rt, &frames[0], 40, &[&FINISH_WORDS]);
-    expect_frame(rt, &frames[1], 40, &[&KEEPING_WORDS]);
-    drop(frames);
-}
-
-#[test]
-fn two_frames_come_however_they_are_cut(rt: HostRuntime) {
-    let mut stream = FINISH.to_vec(rt.alloc()).expect(&rt, "memory");
-    stream.extend_from_slice(&KEEPING).expect(&rt, "memory");
-    for cut in 0..81 {
-        expect_two(&rt, rt.alloc(), stream.split_at(cut), cut / 40);
-    }
-    drop(stream);
-}
-
-/// A reader has failed, and keeps nothing.
-pub(crate) fn expect_failed(rt: &impl Abort, reader: &mut FrameReader) {
-    expect_held(rt, reader, (0, 0));
-    expect_fed(rt, reader, &FINISH, Err(FrameFault::Failed));
-    expect_end(rt, reader, Err(FrameFault::Failed));
-}
-
-/// The back of some bytes brings the fault, and the front none.
-pub(crate) fn expect_fault_in(
-    rt: &impl Abort,
-    mut reader: FrameReader,
-    (front, back): (&[u8], &[u8]),
-    fault: FrameFault,
-) {
-    expect_fed(rt, &mut reader, front, Ok(0));
-    expect_fed(rt, &mut reader, back, Err(fault));
-    expect_failed(rt, &mut reader);
-    drop(reader);
-}
-
-/// These bytes end inside a frame.
-pub(crate) fn expect_short(rt: &impl Abort, mut reader: FrameReader, bytes: &[u8]) {
-    expect_fed(rt, &mut reader, bytes, Ok(0));
-    expect_end(rt, &mut reader, Err(FrameFault::Truncated));
-    expect_held(rt, &reader, (0, 0));
-    expect_end(rt, &mut reader, Err(FrameFault::Failed));
-    drop(reader);
-}
-
-/// These bytes bring a frame, which took this many bytes, and whose segments are these.
-fn expect_one(
-    rt: &impl Abort,
-    reader: &mut FrameReader,
-    bytes: &[u8],
-    taken: usize,
-    segments: &[&[u64]],
-) {
-    let frames = reader.feed(bytes).expect(rt, "frames");
-    check!(rt; frames.len() == 1);
-    expect_frame(rt, &frames[0], taken, segments);
-    drop(frames);
-}
-
-/// Reads a frame by single bytes, and each front of it without its last bytes.
-fn read_by_bytes(rt: &impl Abort, alloc: Global, bytes: &[u8], segments: &[&[u64]]) {
-    let mut whole = new_reader(alloc);
-    for i in 0..bytes.len() {
-        if i + 1 < bytes.len() {
-            expect_fed(rt, &mut whole, &bytes[i..i + 1], Ok(0));
-            expect_short(rt, new_reader(alloc), &bytes[..i + 1]);
-        } else {
-            expect_one(rt, &mut whole, &bytes[i..], bytes.len(), segments);
-        }
-    }
-    expect_end(rt, &mut whole, Ok(()));
-    drop(whole);
-}
-
-#[test]
-fn frames_come_byte_by_byte(rt: HostRuntime) {
-    read_by_bytes(&rt, rt.alloc(), &FINISH, &[&FINISH_WORDS]);
-    read_by_bytes(
-        &rt,
-        rt.alloc(),
-        &TWO_SEGMENTS,
-        &[&[0x1_0000_0002], &FINISH_WORDS],
-    );
-    read_by_bytes(
-        &rt,
-        rt.alloc(),
-        &THREE_SEGMENTS,
-        &[
-            &[0x1_0000_0006],
-            &[0x2_0000_0002, 0x1_0001_0000_0000],
-            &[4, 0x1_0000_0000, 7],
-        ],
-    );
-    read_by_bytes(&rt, rt.alloc(), &[0; 8], &[&[]])
-}
-
-#[test]
-fn an_empty_segment_is_a_frame(rt: HostRuntime) {
-    let frames = new_reader(rt.alloc()).feed(&[0; 24]).expect(&rt, "frames");
-    expect_number(&rt, frames.len(), 3);
-    for frame in &frames {
-        expect_frame(&rt, frame, 8, &[&[]]);
-    }
-    drop(frames);
-}
-
-/// A frame of one segment comes in two pieces, and its message is given back.
+/// A frame comes in two pieces, and its message is given back.
 fn read_and_reuse(
     rt: &impl Abort,
     reader: &mut FrameReader,
     (front, back): (&[u8], &[u8]),
-    words: &[u64],
+    frame: &[Frame<'_>],
 ) {
-    expect_fed(rt, reader, front, Ok(0));
-    let mut frames = reader.feed(back).expect(rt, "frames");
-    let frame = frames.pop().expect(rt, "a frame");
-    drop(frames);
-    expect_frame(rt, &frame, 40, &[words]);
-    reader.reuse(frame.1);
-}
-
-#[test]
-fn a_message_that_is_given_back_makes_room_for_the_next(rt: HostRuntime) {
-    let mut reader = new_reader(rt.alloc());
-    read_and_reuse(&rt, &mut reader, FINISH.split_at(9), &FINISH_WORDS);
-    read_and_reuse(&rt, &mut reader, KEEPING.split_at(9), &KEEPING_WORDS);
-    expect_end(&rt, &mut reader, Ok(()));
-    drop(reader);
-}
-
-#[test]
-fn a_message_may_be_given_back_inside_a_frame(rt: HostRuntime) {
-    let mut reader = new_reader(rt.alloc());
-    expect_fed(&rt, &mut reader, &FINISH[..25], Ok(0));
-    reader.reuse(segments_of(&rt, new_reader(rt.alloc()), &KEEPING));
-    expect_held(&rt, &reader, (1, 3));
-    expect_fed(&rt, &mut reader, &FINISH[25..], Ok(1));
-    drop(reader);
-}
-
-/// A frame, and a number of segments after it that is too large.
-fn faulty_stream() -> [u8; 44] {
-    let mut stream = [0xff; 44];
-    stream[..40].copy_from_slice(&FINISH);
-    stream
-}
-
-#[test]
-fn a_fault_after_a_frame_is_kept(rt: HostRuntime) {
-    let mut reader = new_reader(rt.alloc());
-    expect_fed(&rt, &mut reader, &faulty_stream(), Ok(1));
-    expect_fed(&rt, &mut reader, &[], Err(FrameFault::TooManySegments));
-    expect_fed(&rt, &mut reader, &FINISH, Err(FrameFault::Failed));
-    drop(reader);
-}
-
-#[test]
-fn a_fault_after_a_frame_is_told_at_the_end(rt: HostRuntime) {
-    let mut reader = new_reader(rt.alloc());
-    expect_fed(&rt, &mut reader, &faulty_stream(), Ok(1));
-    expect_end(&rt, &mut reader, Err(FrameFault::TooManySegments));
-    expect_end(&rt, &mut reader, Err(FrameFault::Failed));
-    drop(reader);
-}
-
-/// The next frame of a piece took this many bytes, and its segments hold these words, one after another. It is
-/// given back, and what follows it comes back.
-pub(crate) fn expect_next<'a>(
-    rt: &impl Abort,
-    reader: &mut FrameReader,
-    piece: &'a [u8],
-    taken: usize,
-    words: &[u64],
-) -> &'a [u8] {
-    let next = reader.next(piece).expect(rt, "a piece");
-    let (count, segments, back) = next.expect(rt, "a frame");
-    check!(rt; count == taken as u64);
-    expect_joined(rt, segments.lists(), words);
-    reader.reuse(segments);
-    back
-}
-
-/// No frame ends in the piece.
-pub(crate) fn expect_none(rt: &impl Abort, reader: &mut FrameReader, piece: &[u8]) {
-    let next = reader.next(piece).expect(rt, "a piece");
-    check!(rt; next.is_none());
-    drop(next);
-}
-
-/// The piece brings the fault.
-pub(crate) fn expect_next_fault(
-    rt: &impl Abort,
-    reader: &mut FrameReader,
-    piece: &[u8],
-    fault: FrameFault,
-) {
-    let reported = reader.next(piece).err();
-    check!(rt; reported == Some(fault));
-}
-
-#[test]
-fn frames_are_taken_one_by_one(rt: HostRuntime) {
-    let stream = joined(&rt, rt.alloc(), &[&FINISH, &KEEPING, &TWO_SEGMENTS]);
-    let (front, back) = stream.split_at(stream.len().min(90));
-    let mut reader = new_reader(rt.alloc());
-    let left = expect_next(&rt, &mut reader, front, 40, &FINISH_WORDS);
-    let left = expect_next(&rt, &mut reader, left, 40, &KEEPING_WORDS);
-    expect_number(&rt, left.len(), 10);
-    expect_none(&rt, &mut reader, left);
-    expect_held(&rt, &reader, (2, 1));
-    let words = [2 + (1 << 32), 0x1_0001_0000_0000, 4, 0x1_0000_0000, 7];
-    let left = expect_next(&rt, &mut reader, back, 56, &words);
-    expect_none(&rt, &mut reader, left);
-    expect_end(&rt, &mut reader, Ok(()));
-    drop((reader, stream));
-}
-
-#[test]
-fn a_fault_after_a_frame_is_told_where_it_comes(rt: HostRuntime) {
-    let fault = FrameFault::TooManySegments;
-    let mut reader = new_reader(rt.alloc());
-    let stream = faulty_stream();
-    let left = expect_next(&rt, &mut reader, &stream, 40, &FINISH_WORDS);
-    expect_next_fault(&rt, &mut reader, left, fault);
-    expect_next_fault(&rt, &mut reader, &FINISH, FrameFault::Failed);
-    let mut keeping = new_reader(rt.alloc());
-    expect_fed(&rt, &mut keeping, &stream, Ok(1));
-    expect_next_fault(&rt, &mut keeping, &[], fault);
-    drop((reader, keeping));
-}
-
-#[test]
-fn too_many_segments_are_reported_with_the_fourth_byte(rt: HostRuntime) {
-    let fault = FrameFault::TooManySegments;
-    expect_fault_in(&rt, new_reader(rt.alloc()), (&[], &[0xff; 4]), fault);
-    let cut = (&[0x00, 0x02, 0x00][..], &[0x00][..]);
-    expect_fault_in(&rt, new_reader(rt.alloc()), cut, fault);
-    let mut most = new_reader(rt.alloc());
-    expect_fed(&rt, &mut most, &[0xff, 0x01, 0x00, 0x00], Ok(0));
-    drop(most);
-}
-
-#[test]
-fn a_frame_too_large_is_reported_with_the_last_byte_of_a_size(rt: HostRuntime) {
-    let table = [2, 0, 0, 0, 0, 0, 0, 0, 1, 0, 0x80, 0];
-    let fault = FrameFault::FrameTooLarge;
-    for cut in 0..12 {
-        expect_fault_in(&rt, new_reader(rt.alloc()), table.split_at(cut), fault);
-    }
-    let mut largest = new_reader(rt.alloc());
-    expect_fed(&rt, &mut largest, &[0, 0, 0, 0, 0, 0, 0x80, 0], Ok(0));
-    expect_held(&rt, &largest, (0, 1));
-    drop(largest);
-}
-
-#[test]
-fn what_is_held_follows_the_bytes(rt: HostRuntime) {
-    let mut reader = new_reader(rt.alloc());
-    expect_held(&rt, &reader, (0, 0));
-    for i in 0..FINISH.len() {
-        expect_fed(&rt, &mut reader, &FINISH[i..i + 1], Ok((i + 1) / 40));
-        let kept = if i == 39 {
-            (0, 0)
-        } else {
-            ((i + 1) % 8, (i + 1) / 8)
-        };
-        expect_held(&rt, &reader, kept);
-    }
-    expect_end(&rt, &mut reader, Ok(()));
-    drop(reader);
-}
-
-#[test]
-fn frames_of_each_kind_come_in_one_piece(rt: HostRuntime) {
-    let parts = [&FINISH[..], &TWO_SEGMENTS[..], &[0; 8][..], &KEEPING[..]];
-    let stream = joined(&rt, rt.alloc(), &parts);
-    let frames = new_reader(rt.alloc()).feed(&stream).expect(&rt, "frames");
-    drop(stream);
-    check!(&rt; frames.len() == 4);
-    expect_frame(&rt, &frames[0], 40, &[&FINISH_WORDS]);
-    expect_number(&rt, frames[1].1.lists().len(), 2);
-    expect_frame(&rt, &frames[2], 8, &[&[]]);
-    expect_frame(&rt, &frames[3], 40, &[&KEEPING_WORDS]);
-    drop(frames);
-}
-
-/// The frame is one segment of 200,000 words.
-fn expect_large(rt: &impl Abort, frames: &[(u64, Segments)]) {
-    check!(rt; frames.len() == 1);
-    check!(rt; frames[0].0 == 1_600_008);
-    let lists = frames[0].1.lists();
-    check!(rt; lists.len() == 1);
-    check!(rt; lists[0].len() == 200_000);
-    check!(rt; lists[0].iter().all(|word| *word == 0x8a8a_8a8a_8a8a_8a8a));
-}
-
-/// The table of such a frame.
-const LARGE_TABLE: [u8; 8] = [0, 0, 0, 0, 0x40, 0x0d, 0x03, 0];
-
-/// The last of this many pieces more brings the frame.
-fn expect_large_after(rt: &impl Abort, mut reader: FrameReader, piece: &[u8], more: u32) {
-    for _ in 1..more {
-        expect_fed(rt, &mut reader, piece, Ok(0));
-    }
-    let frames = reader.feed(piece).expect(rt, "frames");
-    drop(reader);
-    expect_large(rt, &frames);
-    drop(frames);
-}
-
-#[test]
-fn a_large_segment_grows_with_its_bytes(rt: HostRuntime) {
-    let piece = vec![in rt.alloc(); 0x8au8; 64_000].expect(&rt, "memory");
-    let mut reader = new_reader(rt.alloc());
-    expect_fed(&rt, &mut reader, &LARGE_TABLE, Ok(0));
-    expect_large_after(&rt, reader, &piece, 25);
-    drop(piece);
+    expect_none(rt, reader, front);
+    check!(rt; turn(rt, reader, Call::Next, back, frame).is_none());
 }
 
 /// A buffer of this capacity is given back, and then the reader keeps one of another.
@@ -433,116 +412,105 @@ fn expect_spare(
     expect_number(rt, reader.spare(), kept);
 }
 
-#[test]
-fn a_large_buffer_is_not_kept_for_later_frames(rt: HostRuntime) {
-    let piece = vec![in rt.alloc(); 0x8au8; 64_000].expect(&rt, "memory");
-    let mut reader = new_reader(rt.alloc());
-    expect_spare(&rt, rt.alloc(), &mut reader, 262_145, 0);
-    expect_spare(&rt, rt.alloc(), &mut reader, 1_000, 1_000);
-    expect_spare(&rt, rt.alloc(), &mut reader, 262_144, 262_144);
-    expect_spare(&rt, rt.alloc(), &mut reader, 8_388_608, 262_144);
-    expect_fed(&rt, &mut reader, &LARGE_TABLE, Ok(0));
-    expect_large_after(&rt, reader, &piece, 25);
+/// Capacities of buffers that are given back, and those that are kept then.
+const SPARES: &[(usize, usize)] = &[
+    (262_145, 0),
+    (1_000, 1_000),
+    (262_144, 262_144),
+    (8_388_608, 262_144),
+];
+
+/// The frame is one segment of 200,000 words.
+fn expect_large(rt: &impl Abort, frames: &[(u64, Segments)]) {
+    check!(rt; frames.len() == 1);
+    check!(rt; frames[0].0 == 1_600_008);
+    let lists = frames[0].1.lists();
+    check!(rt; lists.len() == 1);
+    check!(rt; lists[0].len() == 200_000);
+    check!(rt; lists[0].iter().all(|word| *word == 0x8a8a_8a8a_8a8a_8a8a));
+}
+
+/// The table of such a frame.
+const LARGE_TABLE: &[u8] = &[0, 0, 0, 0, 0x40, 0x0d, 0x03, 0];
+
+/// A large segment grows with its bytes, of which the last bring the frame.
+fn read_large(rt: &impl Abort, alloc: Global, reader: &mut FrameReader) {
+    let piece = vec![in alloc; 0x8au8; 64_000].expect(rt, "memory");
+    feed_large(rt, reader, &piece);
     drop(piece);
 }
 
-/// The segments of a frame are written as the frame was.
-fn write_back(rt: &impl Abort, alloc: Global, bytes: &[u8]) {
-    let segments = segments_of(rt, new_reader(alloc), bytes);
-    let written = write_frame(alloc, &segments, Mode::Plain, Limits::standard());
-    drop(segments);
-    let written = written.expect(rt, "a frame");
-    expect_bytes(rt, &written, bytes);
-    drop(written);
+/// No frame ends in the piece.
+fn expect_none(rt: &impl Abort, reader: &mut FrameReader, piece: &[u8]) {
+    check!(rt; turn(rt, reader, Call::Feed, piece, &[]).is_none());
 }
 
-#[test]
-fn frames_are_written_as_they_were(rt: HostRuntime) {
-    write_back(&rt, rt.alloc(), &FINISH);
-    write_back(&rt, rt.alloc(), &TWO_SEGMENTS);
-    write_back(&rt, rt.alloc(), &THREE_SEGMENTS);
-    write_back(&rt, rt.alloc(), &[0; 8])
-}
-
-/// The fault of writing a frame of two segments and five words within these limits, if any.
-fn limited(
-    rt: &impl Abort,
-    frame: &Segments,
-    alloc: Global,
-    segments: u32,
-    words: u32,
-) -> Option<FrameFault> {
-    let limits = Limits::new(64, 1, segments, words).expect(rt, "limits");
-    write_frame(alloc, frame, Mode::Plain, limits).err()
-}
-
-#[test]
-fn limits_are_kept_in_writing(rt: HostRuntime) {
-    let frame = segments_of(&rt, new_reader(rt.alloc()), &TWO_SEGMENTS);
-    for (segments, words, fault) in [
-        (1, 5, Some(FrameFault::TooManySegments)),
-        (1, 4, Some(FrameFault::TooManySegments)),
-        (2, 4, Some(FrameFault::FrameTooLarge)),
-        (2, 5, None),
-    ] {
-        check!(&rt; limited(&rt, &frame, rt.alloc(), segments, words) == fault);
+/// The last of 25 pieces brings the frame.
+fn feed_large(rt: &impl Abort, reader: &mut FrameReader, piece: &[u8]) {
+    expect_none(rt, reader, LARGE_TABLE);
+    for _ in 1..25 {
+        expect_none(rt, reader, piece);
     }
+    let frames = reader.feed(piece).expect(rt, "frames");
+    expect_large(rt, &frames);
+    drop(frames);
+}
+
+#[test]
+fn a_message_that_is_given_back_makes_room_for_the_next(rt: HostRuntime) {
+    let alloc = rt.alloc();
+    let mut reader = new_reader(alloc, Mode::Plain);
+    read_and_reuse(&rt, &mut reader, FINISH.split_at(9), &[OF_FINISH]);
+    read_and_reuse(&rt, &mut reader, KEEPING.split_at(9), &[OF_KEEPING]);
+    expect_end(&rt, &mut reader, Ok(()));
+    reuse_inside(&rt, alloc, &mut reader);
+    read_large(&rt, alloc, &mut reader);
+    drop(reader);
+}
+
+/// A message may be given back inside a frame.
+fn reuse_inside(rt: &impl Abort, alloc: Global, reader: &mut FrameReader) {
+    let (front, back) = FINISH.split_at(25);
+    expect_none(rt, reader, front);
+    reader.reuse(segments_of(rt, new_reader(alloc, Mode::Plain), &KEEPING));
+    expect_held(rt, reader, (1, 3));
+    check!(rt; turn(rt, reader, Call::Feed, back, &[OF_FINISH]).is_none());
+}
+
+#[test]
+fn a_large_buffer_is_not_kept_for_later_frames(rt: HostRuntime) {
+    let mut reader = new_reader(rt.alloc(), Mode::Plain);
+    for (given, kept) in SPARES {
+        expect_spare(&rt, rt.alloc(), &mut reader, *given, *kept);
+    }
+    read_large(&rt, rt.alloc(), &mut reader);
+    drop(reader);
+}
+
+/// What is written by each call of a frame's segments.
+#[derive(Drop)]
+struct Written {
+    over: Vec<u8>,
+    after: Vec<u8>,
+    wanted: Vec<u8>,
+    buffer: Vec<u8>,
+}
+
+/// A frame is written as it was: over another, after others, and to a writer.
+fn expect_written(rt: &impl Abort, alloc: Global, written: &mut Written, mode: Mode, bytes: &[u8]) {
+    let limits = Limits::standard();
+    let segments = segments_of(rt, new_reader(alloc, mode), bytes);
+    write_over(alloc, &mut written.over, &segments, mode, limits).expect(rt, "a frame");
+    expect_bytes(rt, &written.over, bytes);
+    write_after(alloc, &mut written.after, &segments, mode, limits).expect(rt, "a frame");
+    written.wanted.extend_from_slice(bytes).expect(rt, "memory");
+    expect_bytes(rt, &written.after, &written.wanted);
+    send(rt, alloc, &mut written.buffer, &segments, Mode::Plain);
+    send(rt, alloc, &mut written.buffer, &segments, Mode::Packed);
+    let frame = write_frame(alloc, &segments, mode, limits).expect(rt, "a frame");
+    drop(segments);
+    expect_bytes(rt, &frame, bytes);
     drop(frame);
-}
-
-/// What comes of writing is this.
-fn expect_reported(
-    rt: &impl Abort,
-    written: Result<(), FrameFault>,
-    reported: Result<(), FrameFault>,
-) {
-    check!(rt; written == reported);
-}
-
-/// A frame is written over what is in `out`.
-fn expect_over(rt: &impl Abort, alloc: Global, out: &mut Vec<u8>, bytes: &[u8]) {
-    let segments = segments_of(rt, new_reader(alloc), bytes);
-    let written = write_over(alloc, out, &segments, Mode::Plain, Limits::standard());
-    drop(segments);
-    expect_reported(rt, written, Ok(()));
-    expect_bytes(rt, out, bytes);
-}
-
-#[test]
-fn a_frame_is_written_over_another(rt: HostRuntime) {
-    let alloc = rt.alloc();
-    let mut out = Vec::new(alloc);
-    for bytes in [&THREE_SEGMENTS[..], &FINISH[..], &TWO_SEGMENTS[..]] {
-        expect_over(&rt, alloc, &mut out, bytes);
-    }
-    let limits = Limits::new(64, 1, 2, 8).expect(&rt, "limits");
-    let segments = segments_of(&rt, new_reader(alloc), &THREE_SEGMENTS);
-    let written = write_over(alloc, &mut out, &segments, Mode::Packed, limits);
-    drop(segments);
-    expect_reported(&rt, written, Err(FrameFault::TooManySegments));
-    check!(&rt; out.is_empty());
-    drop(out);
-}
-
-/// A frame is written after what is in `out`.
-fn expect_after(rt: &impl Abort, alloc: Global, out: &mut Vec<u8>, bytes: &[u8]) {
-    let segments = segments_of(rt, new_reader(alloc), bytes);
-    let written = write_after(alloc, out, &segments, Mode::Plain, Limits::standard());
-    drop(segments);
-    expect_reported(rt, written, Ok(()));
-}
-
-#[test]
-fn frames_are_written_after_one_another(rt: HostRuntime) {
-    let alloc = rt.alloc();
-    let mut out = Vec::new(alloc);
-    expect_after(&rt, alloc, &mut out, &THREE_SEGMENTS);
-    expect_bytes(&rt, &out, &THREE_SEGMENTS);
-    expect_after(&rt, alloc, &mut out, &FINISH);
-    let both = joined(&rt, alloc, &[&THREE_SEGMENTS, &FINISH]);
-    expect_bytes(&rt, &out, &both);
-    drop(both);
-    drop(out);
 }
 
 /// A frame that goes out to a writer is the frame as it is written.
@@ -558,37 +526,72 @@ fn send(rt: &impl Abort, alloc: Global, buffer: &mut Vec<u8>, segments: &Segment
 }
 
 #[test]
-fn a_frame_goes_out_to_a_writer(rt: HostRuntime) {
-    let mut buffer = Vec::new(rt.alloc());
-    let segments = segments_of(&rt, new_reader(rt.alloc()), &THREE_SEGMENTS);
-    for mode in [Mode::Plain, Mode::Packed] {
-        send(&rt, rt.alloc(), &mut buffer, &segments, mode);
+fn frames_are_written_as_they_were(rt: HostRuntime) {
+    let alloc = rt.alloc();
+    let mut written = Written {
+        over: Vec::new(alloc),
+        after: Vec::new(alloc),
+        wanted: Vec::new(alloc),
+        buffer: Vec::new(alloc),
+    };
+    for (mode, bytes) in WRITTEN {
+        expect_written(&rt, alloc, &mut written, *mode, bytes);
     }
-    drop(segments);
-    drop(buffer);
+    drop(written);
 }
 
-// With ample memory no allocation fails. `rt try --test --fail-alloc N` fails the Nth.
+/// The fault of writing a frame within limits on its segments and words, if any.
+fn limited(
+    rt: &impl Abort,
+    frame: &Segments,
+    alloc: Global,
+    (segments, words): (u32, u32),
+) -> Option<FrameFault> {
+    let limits = Limits::new(64, 1, segments, words).expect(rt, "limits");
+    let fault = write_frame(alloc, frame, Mode::Plain, limits).err();
+    expect_over(rt, alloc, frame, limits, fault);
+    fault
+}
+
+/// Over another frame nothing is left where there is a fault.
+fn expect_over(
+    rt: &impl Abort,
+    alloc: Global,
+    frame: &Segments,
+    limits: Limits,
+    fault: Option<FrameFault>,
+) {
+    let mut out = FINISH.to_vec(alloc).expect(rt, "memory");
+    let reported = write_over(alloc, &mut out, frame, Mode::Packed, limits).err();
+    check!(rt; reported == fault);
+    check!(rt; out.is_empty() == fault.is_some());
+    drop(out);
+}
+
+/// Limits within which a frame of two segments and five words has a fault, or none.
+const LIMITS: &[((u32, u32), Option<FrameFault>)] = &[
+    ((1, 5), Some(FrameFault::TooManySegments)),
+    ((1, 4), Some(FrameFault::TooManySegments)),
+    ((2, 4), Some(FrameFault::FrameTooLarge)),
+    ((2, 5), None),
+];
+
 #[test]
-fn allocation_failure_is_reported_and_then_failed(rt: HostRuntime) {
-    let mut reader = new_reader(rt.alloc());
-    for piece in [
-        &FINISH[..],
-        &TWO_SEGMENTS[..13],
-        &TWO_SEGMENTS[13..],
-        &THREE_SEGMENTS[..],
-    ] {
-        if let Err(fault) = fed(&mut reader, piece) {
-            check!(&rt; fault == FrameFault::OutOfMemory);
-            return expect_failed(&rt, &mut reader);
-        }
+fn limits_are_kept_in_writing(rt: HostRuntime) {
+    let frame = segments_of(&rt, new_reader(rt.alloc(), Mode::Plain), &TWO_SEGMENTS);
+    for (limits, fault) in LIMITS {
+        check!(&rt; limited(&rt, &frame, rt.alloc(), *limits) == *fault);
     }
-    expect_end(&rt, &mut reader, Ok(()));
-    drop(reader);
+    drop(frame);
 }
 
-/// Takes the frames that end in a piece one by one, and gives each back.
-fn take_and_reuse(reader: &mut FrameReader, piece: &[u8]) -> Result<(), FrameFault> {
+/// Takes the frames that end in a piece, and gives each back where they are taken one by one.
+fn take(reader: &mut FrameReader, call: Call, piece: &[u8]) -> Result<(), FrameFault> {
+    if call == Call::Feed {
+        let frames = reader.feed(piece)?;
+        drop(frames);
+        return Ok(());
+    }
     let mut left = piece;
     for _ in 0..piece.len() {
         let Some((_, segments, back)) = reader.next(left)? else {
@@ -600,20 +603,45 @@ fn take_and_reuse(reader: &mut FrameReader, piece: &[u8]) -> Result<(), FrameFau
     Ok(())
 }
 
-#[test]
-fn allocation_failure_is_reported_where_frames_are_taken_one_by_one(rt: HostRuntime) {
-    let mut reader = new_reader(rt.alloc());
-    for piece in [
-        &FINISH[..],
-        &TWO_SEGMENTS[..13],
-        &TWO_SEGMENTS[13..],
-        &KEEPING[..],
-    ] {
-        if let Err(fault) = take_and_reuse(&mut reader, piece) {
-            check!(&rt; fault == FrameFault::OutOfMemory);
-            return expect_failed(&rt, &mut reader);
+/// The same of all pieces of a stream.
+fn take_all(reader: &mut FrameReader, call: Call, pieces: &[&[u8]]) -> Result<(), FrameFault> {
+    for piece in pieces {
+        take(reader, call, piece)?;
+    }
+    Ok(())
+}
+
+/// A stream's pieces come, or memory runs out, and then the reader has failed.
+fn expect_taken(rt: &impl Abort, alloc: Global, (mode, call): (Mode, Call), pieces: &[&[u8]]) {
+    let mut reader = new_reader(alloc, mode);
+    match take_all(&mut reader, call, pieces) {
+        Ok(()) => expect_end(rt, &mut reader, Ok(())),
+        Err(fault) => {
+            check!(rt; fault == FrameFault::OutOfMemory);
+            expect_failed(rt, &mut reader);
         }
     }
-    expect_end(&rt, &mut reader, Ok(()));
     drop(reader);
+}
+
+// With ample memory no allocation fails. `rt try --test --fail-alloc N` fails the Nth of each of the three tests below.
+#[test]
+fn allocation_failure_is_reported_and_then_failed(rt: HostRuntime) {
+    let (front, back) = TWO_SEGMENTS.split_at(13);
+    let pieces = [&FINISH[..], front, back, &THREE_SEGMENTS[..]];
+    expect_taken(&rt, rt.alloc(), (Mode::Plain, Call::Feed), &pieces)
+}
+
+#[test]
+fn allocation_failure_is_reported_where_frames_are_taken_one_by_one(rt: HostRuntime) {
+    let (front, back) = TWO_SEGMENTS.split_at(13);
+    let pieces = [&FINISH[..], front, back, &KEEPING[..]];
+    expect_taken(&rt, rt.alloc(), (Mode::Plain, Call::Next), &pieces)
+}
+
+#[test]
+fn allocation_failure_is_reported_in_a_packed_stream(rt: HostRuntime) {
+    let (front, back) = BY_THEMSELVES.split_at(5);
+    let pieces = [&PACKED[..], front, back, &BOOTSTRAP[..]];
+    expect_taken(&rt, rt.alloc(), (Mode::Packed, Call::Feed), &pieces)
 }

@@ -1,7 +1,7 @@
 //! The packed form's groups and words of bytes, as cp_packed takes and writes them.
 
 use crate::checks::{expect_bytes, expect_words};
-use crate::packed::TWO;
+use crate::packed::{TWO, TWO_PACKED};
 use cp_packed::*;
 
 #[test]
@@ -37,8 +37,8 @@ fn groups_are_written(rt: HostRuntime) {
     push_packed(&mut out, left).expect(&rt, "memory");
     expect_bytes(&rt, &out, &[0, 1, 1, 7, 0, 0]);
     out.clear();
-    push_packed(&mut out, &TWO.1).expect(&rt, "memory");
-    expect_bytes(&rt, &out, &TWO.0);
+    push_packed(&mut out, &TWO).expect(&rt, "memory");
+    expect_bytes(&rt, &out, &TWO_PACKED);
     drop(out)
 }
 

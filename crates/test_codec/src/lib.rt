@@ -28,6 +28,8 @@ mod field_samples;
 #[cfg(test)]
 mod fields;
 #[cfg(test)]
+mod frame_samples;
+#[cfg(test)]
 mod frames;
 #[cfg(test)]
 mod full;
@@ -38,13 +40,13 @@ mod lists;
 #[cfg(test)]
 mod look;
 #[cfg(test)]
+mod message_samples;
+#[cfg(test)]
 mod messages;
 #[cfg(test)]
 mod messages_written;
 #[cfg(test)]
 mod packed;
-#[cfg(test)]
-mod packed_streams;
 #[cfg(test)]
 mod parts;
 #[cfg(test)]

@@ -1,6 +1,7 @@
 //! Messages from outside, viewed and owned. `cp_cli` has a row for each field, member and number.
 //! Messages are let go by `drop`, which is proved once, where the end of a scope is proved each time.
 
+use crate::message_samples::{ABORT, ONE_AND_TWO, ONE_EACH, ROOT, SMALL_ABORT};
 use crate::samples::one_segment;
 use cp_fields::Past;
 use cp_reading::View;
@@ -64,82 +65,104 @@ fn fault_in_place(rt: &impl Abort, segments: &Segments) -> Option<SchemaFault> {
     checked
 }
 
-/// The same of a message of one segment.
-fn fault_of(rt: &impl Abort, alloc: Global, words: &[u64]) -> Option<SchemaFault> {
-    let segments = one_segment(rt, alloc, words);
-    let fault = fault_in_place(rt, &segments);
-    drop(segments);
-    fault
-}
-
 /// Why an owned root struct says nothing.
-pub(crate) fn owned_fault_of(rt: &impl Abort, alloc: Global, words: &[u64]) -> Option<SchemaFault> {
+fn owned_fault_of(rt: &impl Abort, alloc: Global, words: &[u64]) -> Option<SchemaFault> {
     let root = root(rt, alloc, words);
     let fault = message_of(alloc, &root).err();
     drop(root);
     fault
 }
 
-/// A root struct of one data word and one pointer.
-pub(crate) const ROOT: u64 = 0x0001_0001_0000_0000;
-/// A struct pointer to what follows it: one data word and one pointer.
-pub(crate) const ONE_EACH: u64 = 0x0001_0001_0000_0000;
-/// A struct pointer to what follows it: one data word and two pointers.
-pub(crate) const ONE_AND_TWO: u64 = 0x0002_0001_0000_0000;
+#[test]
+fn exceptions_have_a_reason_and_a_trace(rt: HostRuntime) {
+    expect_abort(&rt, rt.alloc(), &ABORT, "no", "x");
+    expect_abort(&rt, rt.alloc(), &SMALL_ABORT, "no", "");
+}
 
-/// An abort with the reason "no" and the trace "x".
-pub(crate) const ABORT: [u64; 8] = [
-    ROOT,
-    1,
-    ONE_AND_TWO,
-    0,
-    0x0000_001a_0000_0005,
-    0x0000_0012_0000_0005,
-    0x0000_0000_0000_6f6e,
-    0x0000_0000_0000_0078,
+/// A message of one segment says nothing for this reason, in place and owned.
+fn expect_fault(rt: &impl Abort, alloc: Global, words: &[u64], fault: SchemaFault) {
+    let segments = one_segment(rt, alloc, words);
+    check!(rt; fault_in_place(rt, &segments) == Some(fault));
+    drop(segments);
+    check!(rt; owned_fault_of(rt, alloc, words) == Some(fault));
+}
+
+/// Messages, and why they say nothing.
+const FAULTS: &[(&[u64], SchemaFault)] = &[
+    // A reason without a zero byte; an empty list; bytes that aren't UTF-8; a list of two-byte numbers.
+    (
+        &[ROOT, 1, ONE_EACH, 0, 0x0000_0012_0000_0001, 0x6f6e],
+        SchemaFault::Text(Field::ExceptionReason),
+    ),
+    (
+        &[ROOT, 1, ONE_EACH, 0, 0x0000_0002_0000_0001, 0x6f6e],
+        SchemaFault::Text(Field::ExceptionReason),
+    ),
+    (
+        &[ROOT, 1, ONE_EACH, 0, 0x0000_001a_0000_0001, 0xff],
+        SchemaFault::Text(Field::ExceptionReason),
+    ),
+    (
+        &[ROOT, 1, ONE_EACH, 0, 0x0000_001b_0000_0001, 0x6f6e],
+        SchemaFault::Kind(Field::ExceptionReason),
+    ),
+    // The trace's fault, and before it the reason's.
+    (
+        &[
+            ROOT,
+            1,
+            ONE_AND_TWO,
+            0,
+            0x0000_001a_0000_0005,
+            0x0000_0012_0000_0005,
+            0x6f6e,
+            0x0100,
+        ],
+        SchemaFault::Text(Field::ExceptionTrace),
+    ),
+    (
+        &[
+            ROOT,
+            1,
+            ONE_AND_TWO,
+            0,
+            0x0000_001a_0000_0005,
+            0x0000_0012_0000_0005,
+            0x0001_0000,
+            0x0100,
+        ],
+        SchemaFault::Text(Field::ExceptionReason),
+    ),
+    // A finish that is a list.
+    (
+        &[ROOT, 4, 0x0000_0002_0000_0001],
+        SchemaFault::Kind(Field::MessageFinish),
+    ),
+];
+
+/// The members that are structs, and their fields.
+const MEMBERS: &[(u64, Field, &str)] = &[
+    (1, Field::MessageAbort, "Message.abort"),
+    (2, Field::MessageCall, "Message.call"),
+    (3, Field::MessageReturn, "Message.return"),
+    (4, Field::MessageFinish, "Message.finish"),
+    (5, Field::MessageResolve, "Message.resolve"),
+    (6, Field::MessageRelease, "Message.release"),
+    (8, Field::MessageBootstrap, "Message.bootstrap"),
+    (13, Field::MessageDisembargo, "Message.disembargo"),
 ];
 
 #[test]
-fn an_exception_has_a_reason_and_a_trace(rt: HostRuntime) {
-    expect_abort(&rt, rt.alloc(), &ABORT, "no", "x");
-}
-
-#[test]
-fn a_smaller_exception_has_no_trace(rt: HostRuntime) {
-    let words = [ROOT, 1, ONE_EACH, 0, 0x0000_001a_0000_0001, 0x6f6e];
-    expect_abort(&rt, rt.alloc(), &words, "no", "");
-}
-
-#[test]
-fn faulty_texts_have_their_fields(rt: HostRuntime) {
-    let reason = SchemaFault::Text(Field::ExceptionReason);
-    // No zero byte; an empty list; bytes that aren't UTF-8; a list of two-byte numbers.
-    let rows = [
-        (0x0000_0012_0000_0001, 0x6f6e, reason),
-        (0x0000_0002_0000_0001, 0x6f6e, reason),
-        (0x0000_001a_0000_0001, 0xff, reason),
-        (
-            0x0000_001b_0000_0001,
-            0x6f6e,
-            SchemaFault::Kind(Field::ExceptionReason),
-        ),
-    ];
-    for (pointer, text, fault) in rows {
-        let words = [ROOT, 1, ONE_EACH, 0, pointer, text];
-        check!(&rt; fault_of(&rt, rt.alloc(), &words) == Some(fault));
-        check!(&rt; owned_fault_of(&rt, rt.alloc(), &words) == Some(fault));
+fn the_first_fault_is_reported_with_its_field(rt: HostRuntime) {
+    for (words, fault) in FAULTS {
+        expect_fault(&rt, rt.alloc(), words, *fault);
     }
-}
-
-#[test]
-fn the_first_fault_is_reported(rt: HostRuntime) {
-    let mut words = ABORT;
-    words[7] = 0x0100;
-    let trace = SchemaFault::Text(Field::ExceptionTrace);
-    check!(&rt; fault_of(&rt, rt.alloc(), &words) == Some(trace));
-    words[6] = 0x0001_0000;
-    let reason = SchemaFault::Text(Field::ExceptionReason);
-    check!(&rt; fault_of(&rt, rt.alloc(), &words) == Some(reason));
+    for (which, field, name) in MEMBERS {
+        // A capability.
+        let words = [ROOT, *which, 0x0000_0000_0000_0003];
+        expect_fault(&rt, rt.alloc(), &words, SchemaFault::Kind(*field));
+        check!(&rt; field.name() == *name);
+    }
 }
 
 /// An abort whose reason takes 17 words: 135 bytes, with a character of three bytes over the end of
@@ -164,39 +187,22 @@ fn long_texts_are_tested_whole(rt: HostRuntime) {
     expect_abort(&rt, rt.alloc(), &words, LONG_REASON, "");
     let words = long_abort(0x6161_6161_6161_6161);
     let fault = SchemaFault::Text(Field::ExceptionReason);
-    check!(&rt; fault_of(&rt, rt.alloc(), &words) == Some(fault));
+    expect_fault(&rt, rt.alloc(), &words, fault);
 }
 
 #[test]
 fn numbers_past_a_table(rt: HostRuntime) {
     check!(&rt; Past::<3>::new(3).is_none());
     check!(&rt; matches!(Past::<3>::new(4), Some(number) if number.number() == 4));
-    for known in [0, 1, 2, 3, 4, 5, 6, 8, 13] {
-        check!(&rt; OtherWhich::new(known).is_none());
+    for known in KNOWN {
+        check!(&rt; OtherWhich::new(*known).is_none());
     }
-    for other in [7, 9, 12, 14, 0xffff] {
-        check!(&rt; matches!(OtherWhich::new(other), Some(which) if which.number() == other));
+    for other in UNKNOWN {
+        check!(&rt; matches!(OtherWhich::new(*other), Some(which) if which.number() == *other));
     }
 }
 
-#[test]
-fn wrong_kinds_have_their_fields(rt: HostRuntime) {
-    let rows = [
-        (1, Field::MessageAbort, "Message.abort"),
-        (2, Field::MessageCall, "Message.call"),
-        (3, Field::MessageReturn, "Message.return"),
-        (4, Field::MessageFinish, "Message.finish"),
-        (5, Field::MessageResolve, "Message.resolve"),
-        (6, Field::MessageRelease, "Message.release"),
-        (8, Field::MessageBootstrap, "Message.bootstrap"),
-        (13, Field::MessageDisembargo, "Message.disembargo"),
-    ];
-    for (which, field, name) in rows {
-        // A capability.
-        let words = [ROOT, which, 0x0000_0000_0000_0003];
-        let fault = Some(SchemaFault::Kind(field));
-        check!(&rt; fault_of(&rt, rt.alloc(), &words) == fault);
-        check!(&rt; owned_fault_of(&rt, rt.alloc(), &words) == fault);
-        check!(&rt; field.name() == name);
-    }
-}
+/// The numbers of members that are known, and others.
+const KNOWN: &[u16] = &[0, 1, 2, 3, 4, 5, 6, 8, 13];
+
+const UNKNOWN: &[u16] = &[7, 9, 12, 14, 0xffff];

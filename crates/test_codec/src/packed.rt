@@ -8,17 +8,62 @@ use std::alloc::Global;
 use std::io::Cursor;
 use std::process::Abort;
 
-/// Two words packed, and the words.
-pub(crate) const TWO: ([u8; 8], [u64; 2]) = (
-    [0x51, 0x08, 0x03, 0x02, 0x31, 0x19, 0xaa, 0x01],
-    [0x0002_0003_0000_0008, 0x0000_01aa_0000_0019],
-);
+/// Two words, and the same packed.
+pub(crate) const TWO: [u64; 2] = [0x0002_0003_0000_0008, 0x0000_01aa_0000_0019];
+
+pub(crate) const TWO_PACKED: [u8; 8] = [0x51, 0x08, 0x03, 0x02, 0x31, 0x19, 0xaa, 0x01];
 
 /// `bootstrap` of question 0.
 pub(crate) const BOOTSTRAP: [u8; 12] = [0x10, 5, 0x50, 1, 1, 1, 8, 0x50, 1, 1, 0, 1];
 
 /// `release` of export 5, three times.
 pub(crate) const RELEASE: [u8; 12] = [0x10, 4, 0x50, 1, 1, 1, 6, 0x10, 1, 0x11, 5, 3];
+
+/// Four words without a zero byte.
+const RAW: [u64; 4] = [0x8a8a_8a8a_8a8a_8a8a; 4];
+
+/// The same packed.
+const RAW_PACKED: [u8; 34] = [
+    0xff, 0x8a, 0x8a, 0x8a, 0x8a, 0x8a, 0x8a, 0x8a, 0x8a, 3, 0x8a, 0x8a, 0x8a, 0x8a, 0x8a, 0x8a,
+    0x8a, 0x8a, 0x8a, 0x8a, 0x8a, 0x8a, 0x8a, 0x8a, 0x8a, 0x8a, 0x8a, 0x8a, 0x8a, 0x8a, 0x8a, 0x8a,
+    0x8a, 0x8a,
+];
+
+/// Words, and the same packed.
+pub(crate) const ROWS: &[(&[u64], &[u8])] = &[
+    (&TWO, &TWO_PACKED),
+    (&[0; 4], &[0, 3]),
+    (&RAW, &RAW_PACKED),
+    (&[0; 256], &[0, 255]),
+    (&[0; 257], &[0, 255, 0, 0]),
+    (&[7], &[1, 7]),
+    (&[], &[]),
+    (
+        &[0x4_0000_0000, 0x1_0001_0000_0000, 4, 0x1_0000_0000, 7],
+        &PACKED,
+    ),
+    (
+        &[
+            0x5_0000_0000,
+            0x1_0001_0000_0000,
+            8,
+            0x1_0001_0000_0000,
+            0,
+            0,
+        ],
+        &BOOTSTRAP,
+    ),
+    (
+        &[
+            0x4_0000_0000,
+            0x1_0001_0000_0000,
+            6,
+            0x1_0000_0000,
+            0x3_0000_0005,
+        ],
+        &RELEASE,
+    ),
+];
 
 /// Packed bytes are these words.
 fn expect_unpacked(rt: &impl Abort, alloc: Global, bytes: &[u8], words: &[u64]) {
@@ -32,7 +77,8 @@ fn expect_fault(rt: &impl Abort, alloc: Global, bytes: &[u8], limit: usize, faul
     check!(rt; unpack(alloc, bytes, limit).err() == Some(fault));
 }
 
-/// Words pack to bytes, and these unpack to them and to no fewer.
+/// Words pack to bytes, and these unpack to them and to no fewer. Cut anywhere, the bytes end inside a group or give the
+/// words so far.
 fn expect_packed(rt: &impl Abort, alloc: Global, words: &[u64], bytes: &[u8]) {
     let packed = pack(alloc, words).expect(rt, "memory");
     expect_bytes(rt, &packed, bytes);
@@ -41,45 +87,9 @@ fn expect_packed(rt: &impl Abort, alloc: Global, words: &[u64], bytes: &[u8]) {
     if !words.is_empty() {
         expect_fault(rt, alloc, bytes, words.len() - 1, FrameFault::FrameTooLarge);
     }
-}
-
-/// Four words without a zero byte, packed.
-fn raw_words() -> [u8; 34] {
-    let mut raw = [0x8a; 34];
-    raw[0] = 0xff;
-    raw[9] = 3;
-    raw
-}
-
-#[test]
-fn words_are_packed_and_unpacked(rt: HostRuntime) {
-    expect_packed(&rt, rt.alloc(), &TWO.1, &TWO.0);
-    expect_packed(&rt, rt.alloc(), &[0; 4], &[0, 3]);
-    expect_packed(&rt, rt.alloc(), &[0x8a8a_8a8a_8a8a_8a8a; 4], &raw_words());
-    expect_packed(&rt, rt.alloc(), &[0; 256], &[0, 255]);
-    expect_packed(&rt, rt.alloc(), &[0; 257], &[0, 255, 0, 0]);
-    expect_packed(&rt, rt.alloc(), &[7], &[1, 7]);
-    expect_packed(&rt, rt.alloc(), &[], &[])
-}
-
-#[test]
-fn a_byte_under_a_set_bit_may_be_zero(rt: HostRuntime) {
-    expect_unpacked(&rt, rt.alloc(), &[3, 7, 0], &[7])
-}
-
-#[test]
-fn too_many_words_are_reported_before_an_open_group(rt: HostRuntime) {
-    let (large, short) = (FrameFault::FrameTooLarge, FrameFault::Truncated);
-    let raw = [0xff, 1, 2, 3, 4, 5, 6, 7, 8, 1];
-    expect_fault(&rt, rt.alloc(), &[0, 0], 0, large);
-    expect_fault(&rt, rt.alloc(), &[0], 0, large);
-    expect_fault(&rt, rt.alloc(), &[0], 1, short);
-    expect_fault(&rt, rt.alloc(), &[1], 0, short);
-    expect_fault(&rt, rt.alloc(), &[1], 1, short);
-    expect_fault(&rt, rt.alloc(), &raw[..9], 0, large);
-    expect_fault(&rt, rt.alloc(), &raw, 1, short);
-    expect_fault(&rt, rt.alloc(), &raw[..8], 0, short);
-    expect_unpacked(&rt, rt.alloc(), &[], &[])
+    for cut in 0..bytes.len() {
+        expect_front(rt, alloc, words, &bytes[..cut]);
+    }
 }
 
 /// The front of some bytes ends inside a group or gives the first of these words.
@@ -94,27 +104,36 @@ fn expect_front(rt: &impl Abort, alloc: Global, words: &[u64], bytes: &[u8]) {
     }
 }
 
-/// Cut anywhere, the bytes end inside a group or give the words so far.
-fn expect_cuts(rt: &impl Abort, alloc: Global, words: &[u64], bytes: &[u8]) {
-    for cut in 0..bytes.len() {
-        expect_front(rt, alloc, words, &bytes[..cut]);
+#[test]
+fn words_are_packed_and_unpacked(rt: HostRuntime) {
+    for (words, bytes) in ROWS {
+        expect_packed(&rt, rt.alloc(), words, bytes);
     }
+    // A byte under a set bit may be zero.
+    expect_unpacked(&rt, rt.alloc(), &[3, 7, 0], &[7])
 }
 
+/// Packed bytes, a limit on their words, and their fault: too many words are reported before an open group.
+const FAULTS: &[(&[u8], usize, FrameFault)] = &[
+    (&[0, 0], 0, FrameFault::FrameTooLarge),
+    (&[0], 0, FrameFault::FrameTooLarge),
+    (&[0], 1, FrameFault::Truncated),
+    (&[1], 0, FrameFault::Truncated),
+    (&[1], 1, FrameFault::Truncated),
+    (
+        &[0xff, 1, 2, 3, 4, 5, 6, 7, 8],
+        0,
+        FrameFault::FrameTooLarge,
+    ),
+    (&[0xff, 1, 2, 3, 4, 5, 6, 7, 8, 1], 1, FrameFault::Truncated),
+    (&[0xff, 1, 2, 3, 4, 5, 6, 7], 0, FrameFault::Truncated),
+];
+
 #[test]
-fn bytes_that_are_cut_end_inside_a_group_or_after_one(rt: HostRuntime) {
-    expect_cuts(&rt, rt.alloc(), &TWO.1, &TWO.0);
-    expect_cuts(&rt, rt.alloc(), &[0; 4], &[0, 3]);
-    for bytes in [&PACKED[..], &BOOTSTRAP[..], &RELEASE[..]] {
-        let words = unpack(rt.alloc(), bytes, 32).expect(&rt, "words");
-        expect_cuts(&rt, rt.alloc(), &words, bytes);
-        drop(words);
+fn too_many_words_are_reported_before_an_open_group(rt: HostRuntime) {
+    for (bytes, limit, fault) in FAULTS {
+        expect_fault(&rt, rt.alloc(), bytes, *limit, *fault);
     }
-    let same = [0x8a8a_8a8a_8a8a_8a8au64; 4];
-    let raw = pack(rt.alloc(), &same).expect(&rt, "memory");
-    check!(&rt; raw.len() == 34);
-    expect_cuts(&rt, rt.alloc(), &same, &raw);
-    drop(raw);
 }
 
 /// Packs words, unpacks them, and writes them as a frame.
@@ -132,7 +151,7 @@ fn go_round(alloc: Global, words: &[u64]) -> Result<usize, FrameFault> {
 // of the three tests below.
 #[test]
 fn allocation_failure_is_reported_in_packing(rt: HostRuntime) {
-    match go_round(rt.alloc(), &TWO.1) {
+    match go_round(rt.alloc(), &TWO) {
         Ok(length) => check!(&rt; length == 10),
         Err(fault) => check!(&rt; fault == FrameFault::OutOfMemory),
     }
@@ -146,28 +165,32 @@ fn words_again(rt: &impl Abort, alloc: Global, words: &[u64]) -> Vec<u64> {
     }
 }
 
+/// The words of two segments.
+const LISTS: &[&[u64]] = &[&TWO, &[0; 3]];
+
 /// Two segments. An allocation that fails once is tried again.
 fn two_segments(rt: &impl Abort, alloc: Global) -> Segments {
     let mut lists = match Vec::with_capacity(alloc, 2) {
         Ok(lists) => lists,
         Err(_) => Vec::with_capacity(alloc, 2).expect(rt, "memory"),
     };
-    lists
-        .push(words_again(rt, alloc, &TWO.1))
-        .expect(rt, "memory");
-    lists
-        .push(words_again(rt, alloc, &[0; 3]))
-        .expect(rt, "memory");
+    for words in LISTS {
+        let list = words_again(rt, alloc, words);
+        lists.push(list).expect(rt, "memory");
+    }
     Segments::new(lists).ok().expect(rt, "segments")
 }
+
+/// Forms in which the two segments are written, and how many bytes that takes.
+const FORMS: &[(Mode, usize)] = &[(Mode::Packed, 15), (Mode::Plain, 56), (Mode::Packed, 15)];
 
 #[test]
 fn allocation_failure_leaves_nothing_written(rt: HostRuntime) {
     let segments = two_segments(&rt, rt.alloc());
     let mut out = Vec::new(rt.alloc());
-    for (mode, length) in [(Mode::Packed, 15), (Mode::Plain, 56), (Mode::Packed, 15)] {
-        match write_over(rt.alloc(), &mut out, &segments, mode, Limits::standard()) {
-            Ok(()) => check!(&rt; out.len() == length),
+    for (mode, length) in FORMS {
+        match write_over(rt.alloc(), &mut out, &segments, *mode, Limits::standard()) {
+            Ok(()) => check!(&rt; out.len() == *length),
             Err(fault) => check!(&rt; fault == FrameFault::OutOfMemory && out.is_empty()),
         }
     }
@@ -181,13 +204,13 @@ fn send(
     alloc: Global,
     buffer: &mut Vec<u8>,
     segments: &Segments,
-    (mode, length): (Mode, u64),
+    (mode, length): (Mode, usize),
 ) {
     let mut to = Cursor::new([0u8; 64]);
     match send_frame(alloc, &mut to, buffer, segments, mode, Limits::standard()) {
         Ok(sent) => {
             sent.expect(rt, "a writer");
-            check!(rt; to.position() == length);
+            check!(rt; to.position() == length as u64);
         }
         Err(fault) => check!(rt; fault == FrameFault::OutOfMemory && to.position() == 0),
     }
@@ -197,46 +220,9 @@ fn send(
 fn allocation_failure_leaves_nothing_sent(rt: HostRuntime) {
     let segments = two_segments(&rt, rt.alloc());
     let mut buffer = Vec::new(rt.alloc());
-    for sent in [(Mode::Packed, 15), (Mode::Plain, 56), (Mode::Packed, 15)] {
-        send(&rt, rt.alloc(), &mut buffer, &segments, sent);
+    for form in FORMS {
+        send(&rt, rt.alloc(), &mut buffer, &segments, *form);
     }
     drop(buffer);
     drop(segments);
-}
-
-/// The one segment of a frame that these packed bytes are, and the same frame written.
-fn write_packed_back(rt: &impl Abort, alloc: Global, bytes: &[u8]) {
-    let words = unpack(alloc, bytes, 32).expect(rt, "words");
-    check!(rt; !words.is_empty());
-    let segments = Segments::one(words[1..].to_vec(alloc).expect(rt, "memory"));
-    drop(words);
-    expect_written(rt, alloc, segments, bytes)
-}
-
-/// The packed frame of these segments is these bytes.
-fn expect_written(rt: &impl Abort, alloc: Global, segments: Segments, bytes: &[u8]) {
-    let written = write_frame(alloc, &segments, Mode::Packed, Limits::standard());
-    drop(segments);
-    let written = written.expect(rt, "a frame");
-    expect_bytes(rt, &written, bytes);
-    drop(written);
-}
-
-#[test]
-fn a_frame_is_written_packed(rt: HostRuntime) {
-    write_packed_back(&rt, rt.alloc(), &PACKED);
-    write_packed_back(&rt, rt.alloc(), &BOOTSTRAP);
-    write_packed_back(&rt, rt.alloc(), &RELEASE)
-}
-
-#[test]
-fn the_table_and_each_segment_are_packed_by_themselves(rt: HostRuntime) {
-    let mut lists = Vec::new(rt.alloc());
-    for words in [&[0][..], &[0, 0][..]] {
-        let words = words.to_vec(rt.alloc()).expect(&rt, "memory");
-        lists.push(words).expect(&rt, "memory");
-    }
-    let segments = Segments::new(lists).ok().expect(&rt, "segments");
-    let bytes = [0x11, 1, 1, 0x01, 2, 0, 0, 0, 1];
-    expect_written(&rt, rt.alloc(), segments, &bytes)
 }

@@ -1,5 +1,6 @@
 //! Streams that go through a relay, whole and in pieces.
 
+use crate::checks::expect_bytes;
 use crate::samples::{FINISH, FINISH_LIST, KEEPING, PACKED, SHORT_ROOT, joined};
 use cp_frame::{FrameFault, Mode};
 use cp_reading::TreeFault;
@@ -62,132 +63,198 @@ fn through(
     end
 }
 
-/// However the stream is cut in two, this goes out, and this is at fault.
-fn expect(
-    rt: &impl Abort,
-    alloc: Global,
+/// A stream through a relay, part after part, and what goes out of it, and what is at fault.
+struct Row {
     mode: Mode,
     output: Output,
-    stream: &[u8],
-    wanted: (&[u8], Option<RelayFault>),
-) {
-    for cut in 0..stream.len() {
-        let mut relay = relay_of(alloc, mode, output);
-        let mut out = Vec::new(alloc);
-        let fault = through(rt, &mut relay, stream.split_at(cut), &mut out);
-        check!(rt; out.as_slice() == wanted.0);
-        check!(rt; fault == wanted.1);
-        drop(out);
-        drop(relay);
-    }
+    parts: &'static [&'static [u8]],
+    wanted: &'static [&'static [u8]],
+    fault: Option<RelayFault>,
 }
 
-/// A refusal after this many bytes.
-fn refused(at: u64, refusal: Refusal) -> Option<RelayFault> {
-    Some(RelayFault {
-        at,
-        why: Why::Refused(refusal),
-    })
-}
+/// A message that doesn't release is forbidden after `FINISH`.
+const FORBIDDEN: Option<RelayFault> = Some(RelayFault {
+    at: 40,
+    why: Why::Forbidden,
+});
 
-#[test]
-fn frames_go_as_they_were_read(rt: HostRuntime) {
-    let alloc = rt.alloc();
-    expect(
-        &rt,
-        alloc,
-        Mode::Plain,
-        Output::AsRead,
-        &TWO_FRAMES,
-        (&TWO_FRAMES, None),
-    );
-    expect(
-        &rt,
-        alloc,
-        Mode::Packed,
-        Output::AsRead,
-        &PACKED_TWICE,
-        (&PACKED_TWICE, None),
-    );
-}
+/// What is at fault after `FINISH`: a number of segments, a root's bounds, a list, and an end inside a frame.
+const MANY: Option<RelayFault> = Some(RelayFault {
+    at: 40,
+    why: Why::Refused(Refusal::Frame(FrameFault::TooManySegments)),
+});
 
-#[test]
-fn messages_are_written_anew(rt: HostRuntime) {
-    let alloc = rt.alloc();
-    let plain = joined(&rt, alloc, &[&FINISH, &FINISH]);
-    let packed = joined(&rt, alloc, &[&PACKED, &PACKED]);
-    for mode in [Mode::Plain, Mode::Packed] {
-        let wanted = if mode == Mode::Plain { &plain } else { &packed };
-        expect(
-            &rt,
-            alloc,
-            Mode::Plain,
-            Output::Anew(mode),
-            &TWO_FRAMES,
-            (wanted, None),
-        );
-        expect(
-            &rt,
-            alloc,
-            Mode::Packed,
-            Output::Anew(mode),
-            &PACKED_TWICE,
-            (wanted, None),
-        );
-    }
-    drop(packed);
-    drop(plain);
-}
-
-#[test]
-fn nothing_of_what_is_at_fault_goes(rt: HostRuntime) {
-    let alloc = rt.alloc();
-    let out_of_bounds = Refusal::Tree(TreeFault::OutOfBounds(Place {
+const OUT_OF_BOUNDS: Option<RelayFault> = Some(RelayFault {
+    at: 40,
+    why: Why::Refused(Refusal::Tree(TreeFault::OutOfBounds(Place {
         segment: 0,
         word: 0,
-    }));
-    let no_struct = Refusal::Schema(SchemaFault::Kind(Field::MessageFinish));
-    let faults: [(&[u8], Refusal); 4] = [
-        (&[0xff; 4], Refusal::Frame(FrameFault::TooManySegments)),
-        (&SHORT_ROOT, out_of_bounds),
-        (&FINISH_LIST, no_struct),
-        (&FINISH[..39], Refusal::Frame(FrameFault::Truncated)),
-    ];
-    for (bytes, refusal) in faults {
-        let stream = joined(&rt, alloc, &[&FINISH, bytes]);
-        for output in [Output::AsRead, Output::Anew(Mode::Plain)] {
-            expect(
-                &rt,
-                alloc,
-                Mode::Plain,
-                output,
-                &stream,
-                (&FINISH, refused(40, refusal)),
-            );
-        }
-        drop(stream);
+    }))),
+});
+
+const NO_STRUCT: Option<RelayFault> = Some(RelayFault {
+    at: 40,
+    why: Why::Refused(Refusal::Schema(SchemaFault::Kind(Field::MessageFinish))),
+});
+
+const TRUNCATED: Option<RelayFault> = Some(RelayFault {
+    at: 40,
+    why: Why::Refused(Refusal::Frame(FrameFault::Truncated)),
+});
+
+/// `FINISH` without its last byte.
+const CUT_SHORT: [u8; 39] = [
+    0x00, 0x00, 0x00, 0x00, 0x04, 0x00, 0x00, 0x00, 0x00, 0x00, 0x00, 0x00, 0x01, 0x00, 0x01, 0x00,
+    0x04, 0x00, 0x00, 0x00, 0x00, 0x00, 0x00, 0x00, 0x00, 0x00, 0x00, 0x00, 0x01, 0x00, 0x00, 0x00,
+    0x07, 0x00, 0x00, 0x00, 0x00, 0x00, 0x00,
+];
+
+/// Streams that go as they were read, that are written anew, that are at fault, and of which a message is forbidden.
+const ROWS: &[Row] = &[
+    Row {
+        mode: Mode::Plain,
+        output: Output::AsRead,
+        parts: &[&TWO_FRAMES],
+        wanted: &[&TWO_FRAMES],
+        fault: None,
+    },
+    Row {
+        mode: Mode::Packed,
+        output: Output::AsRead,
+        parts: &[&PACKED_TWICE],
+        wanted: &[&PACKED_TWICE],
+        fault: None,
+    },
+    Row {
+        mode: Mode::Plain,
+        output: Output::Anew(Mode::Plain),
+        parts: &[&TWO_FRAMES],
+        wanted: &[&FINISH, &FINISH],
+        fault: None,
+    },
+    Row {
+        mode: Mode::Plain,
+        output: Output::Anew(Mode::Packed),
+        parts: &[&TWO_FRAMES],
+        wanted: &[&PACKED, &PACKED],
+        fault: None,
+    },
+    Row {
+        mode: Mode::Packed,
+        output: Output::Anew(Mode::Plain),
+        parts: &[&PACKED_TWICE],
+        wanted: &[&FINISH, &FINISH],
+        fault: None,
+    },
+    Row {
+        mode: Mode::Packed,
+        output: Output::Anew(Mode::Packed),
+        parts: &[&PACKED_TWICE],
+        wanted: &[&PACKED, &PACKED],
+        fault: None,
+    },
+    Row {
+        mode: Mode::Plain,
+        output: Output::AsRead,
+        parts: &[&FINISH, &[0xff; 4]],
+        wanted: &[&FINISH],
+        fault: MANY,
+    },
+    Row {
+        mode: Mode::Plain,
+        output: Output::Anew(Mode::Plain),
+        parts: &[&FINISH, &[0xff; 4]],
+        wanted: &[&FINISH],
+        fault: MANY,
+    },
+    Row {
+        mode: Mode::Plain,
+        output: Output::AsRead,
+        parts: &[&FINISH, &SHORT_ROOT],
+        wanted: &[&FINISH],
+        fault: OUT_OF_BOUNDS,
+    },
+    Row {
+        mode: Mode::Plain,
+        output: Output::Anew(Mode::Plain),
+        parts: &[&FINISH, &SHORT_ROOT],
+        wanted: &[&FINISH],
+        fault: OUT_OF_BOUNDS,
+    },
+    Row {
+        mode: Mode::Plain,
+        output: Output::AsRead,
+        parts: &[&FINISH, &FINISH_LIST],
+        wanted: &[&FINISH],
+        fault: NO_STRUCT,
+    },
+    Row {
+        mode: Mode::Plain,
+        output: Output::Anew(Mode::Plain),
+        parts: &[&FINISH, &FINISH_LIST],
+        wanted: &[&FINISH],
+        fault: NO_STRUCT,
+    },
+    Row {
+        mode: Mode::Plain,
+        output: Output::AsRead,
+        parts: &[&FINISH, &CUT_SHORT],
+        wanted: &[&FINISH],
+        fault: TRUNCATED,
+    },
+    Row {
+        mode: Mode::Plain,
+        output: Output::Anew(Mode::Plain),
+        parts: &[&FINISH, &CUT_SHORT],
+        wanted: &[&FINISH],
+        fault: TRUNCATED,
+    },
+    Row {
+        mode: Mode::Plain,
+        output: Output::AsRead,
+        parts: &[&FINISH, &KEEPING],
+        wanted: &[&FINISH],
+        fault: FORBIDDEN,
+    },
+    Row {
+        mode: Mode::Plain,
+        output: Output::Anew(Mode::Plain),
+        parts: &[&FINISH, &KEEPING],
+        wanted: &[&FINISH],
+        fault: FORBIDDEN,
+    },
+];
+
+/// However the stream is cut in two, this goes out, and this is at fault.
+fn expect(rt: &impl Abort, alloc: Global, row: &Row) {
+    let stream = joined(rt, alloc, row.parts);
+    let wanted = joined(rt, alloc, row.wanted);
+    for cut in 0..stream.len() {
+        let mut relay = relay_of(alloc, row.mode, row.output);
+        let mut out = Vec::new(alloc);
+        let fault = through(rt, &mut relay, stream.split_at(cut), &mut out);
+        drop(relay);
+        expect_bytes(rt, &out, &wanted);
+        drop(out);
+        check!(rt; fault == row.fault);
     }
+    drop(wanted);
+    drop(stream);
 }
 
 #[test]
-fn a_visitor_forbids_a_message(rt: HostRuntime) {
-    let alloc = rt.alloc();
-    let stream = joined(&rt, alloc, &[&FINISH, &KEEPING]);
-    let forbidden = Some(RelayFault {
-        at: 40,
-        why: Why::Forbidden,
-    });
-    for output in [Output::AsRead, Output::Anew(Mode::Plain)] {
-        expect(
-            &rt,
-            alloc,
-            Mode::Plain,
-            output,
-            &stream,
-            (&FINISH, forbidden),
-        );
+fn streams_go_through(rt: HostRuntime) {
+    for row in ROWS {
+        expect(&rt, rt.alloc(), row);
     }
-    drop(stream);
+}
+
+/// A refusal at the first byte.
+fn refused(refusal: Refusal) -> Option<RelayFault> {
+    Some(RelayFault {
+        at: 0,
+        why: Why::Refused(refusal),
+    })
 }
 
 #[test]
@@ -198,7 +265,7 @@ fn limits_are_values(rt: HostRuntime) {
     let mut out = Vec::new(alloc);
     let fault = through(&rt, &mut relay, FINISH.split_at(17), &mut out);
     drop(relay);
-    check!(&rt; fault == refused(0, Refusal::Frame(FrameFault::FrameTooLarge)));
+    check!(&rt; fault == refused(Refusal::Frame(FrameFault::FrameTooLarge)));
     check!(&rt; out.is_empty());
     drop(out);
 }
@@ -241,13 +308,16 @@ fn are_whole(output: Output, fault: Option<RelayFault>, length: usize) -> bool {
 
 #[test]
 fn allocation_failure_lets_only_whole_frames_through(rt: HostRuntime) {
-    let alloc = rt.alloc();
-    for output in [Output::AsRead, Output::Anew(Mode::Packed)] {
-        let mut relay = relay_of(alloc, Mode::Plain, output);
-        let mut out = Vec::new(alloc);
-        let fault = through(&rt, &mut relay, TWO_FRAMES.split_at(71), &mut out);
-        drop(relay);
-        check!(&rt; are_whole(output, fault, out.len()));
-        drop(out);
-    }
+    expect_whole(&rt, rt.alloc(), Output::AsRead);
+    expect_whole(&rt, rt.alloc(), Output::Anew(Mode::Packed))
+}
+
+/// Only whole frames go out, if memory runs out.
+fn expect_whole(rt: &impl Abort, alloc: Global, output: Output) {
+    let mut relay = relay_of(alloc, Mode::Plain, output);
+    let mut out = Vec::new(alloc);
+    let fault = through(rt, &mut relay, TWO_FRAMES.split_at(71), &mut out);
+    drop(relay);
+    check!(rt; are_whole(output, fault, out.len()));
+    drop(out);
 }

@@ -1,6 +1,6 @@
 //! Messages of streams from outside, whole and in pieces.
 
-use crate::checks::expect_bytes;
+use crate::checks::{expect_bytes, expect_number};
 use crate::samples::{FINISH, FINISH_LIST, KEEPING, PACKED, SHORT_ROOT, TWO_SEGMENTS, joined};
 use cp_frame::{FrameFault, FrameReader, Mode};
 use cp_reading::TreeFault;
@@ -25,7 +25,7 @@ const NO_STRUCT: Refusal = Refusal::Schema(SchemaFault::Kind(Field::MessageFinis
 const FAILED: Refusal = Refusal::Frame(FrameFault::Failed);
 
 /// Bytes that hold no message, and why.
-const FAULTS: [(&[u8], Refusal); 3] = [
+const FAULTS: &[(&[u8], Refusal)] = &[
     (&[0xff; 4], Refusal::Frame(FrameFault::TooManySegments)),
     (&SHORT_ROOT, OUT_OF_BOUNDS),
     (&FINISH_LIST, NO_STRUCT),
@@ -44,40 +44,50 @@ fn finish_of(message: &Message) -> (bool, bool) {
     }
 }
 
-/// Feeds a piece, and appends of each message that comes whether it is a `finish` of question 7, and
-/// releases.
-fn feed(rt: &impl Abort, reader: &mut MessageReader, piece: &[u8], found: &mut Vec<(bool, bool)>) {
-    let messages = reader.feed(piece).expect(rt, "messages");
-    for message in &messages {
-        found.push(finish_of(message)).expect(rt, "memory");
+/// Just these messages come with a piece: of each, whether it is a `finish` of question 7, and whether it releases. Gives the
+/// fault that is reported.
+fn turn(
+    rt: &impl Abort,
+    reader: &mut MessageReader,
+    piece: &[u8],
+    wanted: &[(bool, bool)],
+) -> Option<StreamFault> {
+    match reader.feed(piece) {
+        Ok(messages) => {
+            expect_number(rt, messages.len(), wanted.len());
+            for (message, wanted) in messages.iter().zip(wanted) {
+                check!(rt; finish_of(message) == *wanted);
+            }
+            drop(messages);
+            None
+        }
+        Err(fault) => {
+            check!(rt; wanted.is_empty());
+            Some(fault)
+        }
     }
-    drop(messages);
 }
 
-/// A piece brings this many messages.
-fn expect_count(rt: &impl Abort, reader: &mut MessageReader, piece: &[u8], count: usize) {
-    let messages = reader.feed(piece).expect(rt, "messages");
-    check!(rt; messages.len() == count);
-    drop(messages);
-}
+/// A `finish` that releases, and one that doesn't.
+const BOTH: &[(bool, bool)] = &[(true, true), (true, false)];
 
-/// The fault that is reported for a piece.
-fn reported(reader: &mut MessageReader, piece: &[u8]) -> Option<StreamFault> {
-    reader.feed(piece).err()
-}
+/// The first of them, and none.
+const ONE: &[(bool, bool)] = &[(true, true)];
 
-/// This fault, or none, is reported for a piece.
+const NONE: &[(bool, bool)] = &[];
+
+/// This fault, or none, is reported for a piece, and no message comes.
 fn expect_fed(
     rt: &impl Abort,
     reader: &mut MessageReader,
     piece: &[u8],
     fault: Option<StreamFault>,
 ) {
-    check!(rt; reported(reader, piece) == fault);
+    check!(rt; turn(rt, reader, piece, &[]) == fault);
 }
 
 /// This fault, or none, is reported at the end.
-pub(crate) fn expect_end(rt: &impl Abort, reader: &mut MessageReader, fault: Option<StreamFault>) {
+fn expect_end(rt: &impl Abort, reader: &mut MessageReader, fault: Option<StreamFault>) {
     check!(rt; reader.finish().err() == fault);
 }
 
@@ -89,19 +99,12 @@ pub(crate) fn at(at: u64, refusal: Refusal) -> StreamFault {
 /// The two messages come, of which this many come with the front.
 fn expect_both(rt: &impl Abort, alloc: Global, (front, back): (&[u8], &[u8]), early: usize) {
     let mut reader = new_reader(alloc);
-    let mut found = Vec::new(alloc);
-    feed(rt, &mut reader, front, &mut found);
-    check!(rt; found.len() == early);
-    feed(rt, &mut reader, back, &mut found);
+    check!(rt; early <= BOTH.len());
+    let (first, last) = BOTH.split_at(early);
+    check!(rt; turn(rt, &mut reader, front, first).is_none());
+    check!(rt; turn(rt, &mut reader, back, last).is_none());
     expect_end(rt, &mut reader, None);
     drop(reader);
-    expect_found(rt, &found, &[(true, true), (true, false)]);
-    drop(found);
-}
-
-/// These were found.
-fn expect_found(rt: &impl Abort, found: &[(bool, bool)], wanted: &[(bool, bool)]) {
-    check!(rt; found == wanted);
 }
 
 #[test]
@@ -111,34 +114,20 @@ fn messages_come_however_they_are_cut(rt: HostRuntime) {
         expect_both(&rt, rt.alloc(), stream.split_at(cut), cut / 40);
     }
     drop(stream);
+    expect_both(&rt, rt.alloc(), (&TWO_SEGMENTS[..], &KEEPING[..]), 1);
 }
 
-#[test]
-fn a_message_may_lie_in_two_segments(rt: HostRuntime) {
-    let mut reader = new_reader(rt.alloc());
-    let mut found = Vec::new(rt.alloc());
-    feed(&rt, &mut reader, &TWO_SEGMENTS, &mut found);
-    expect_end(&rt, &mut reader, None);
-    drop(reader);
-    expect_found(&rt, &found, &[(true, true)]);
-    drop(found);
-}
-
-/// A message comes with the stream, and the fault after it with the next piece.
-fn expect_kept(rt: &impl Abort, alloc: Global, stream: &[u8], refusal: Refusal) {
+/// A message comes with the stream, and the fault after it with the next piece, or at the end.
+fn expect_kept(rt: &impl Abort, alloc: Global, stream: &[u8], refusal: Refusal, is_ended: bool) {
     let mut reader = new_reader(alloc);
-    expect_count(rt, &mut reader, stream, 1);
-    expect_fed(rt, &mut reader, &[], Some(at(40, refusal)));
-    expect_fed(rt, &mut reader, &FINISH, Some(at(40, FAILED)));
-    drop(reader);
-}
-
-/// A message comes with the stream, and the fault after it at the end.
-fn expect_kept_to_the_end(rt: &impl Abort, alloc: Global, stream: &[u8], refusal: Refusal) {
-    let mut reader = new_reader(alloc);
-    expect_count(rt, &mut reader, stream, 1);
-    expect_end(rt, &mut reader, Some(at(40, refusal)));
-    expect_end(rt, &mut reader, Some(at(40, FAILED)));
+    check!(rt; turn(rt, &mut reader, stream, ONE).is_none());
+    if is_ended {
+        expect_end(rt, &mut reader, Some(at(40, refusal)));
+        expect_end(rt, &mut reader, Some(at(40, FAILED)));
+    } else {
+        expect_fed(rt, &mut reader, &[], Some(at(40, refusal)));
+        expect_fed(rt, &mut reader, &FINISH, Some(at(40, FAILED)));
+    }
     drop(reader);
 }
 
@@ -155,17 +144,18 @@ fn a_fault_after_a_message_is_kept(rt: HostRuntime) {
     let alloc = rt.alloc();
     for (bytes, refusal) in FAULTS {
         let stream = joined(&rt, alloc, &[&FINISH, bytes]);
-        expect_kept(&rt, alloc, &stream, refusal);
-        expect_kept_to_the_end(&rt, alloc, &stream, refusal);
+        expect_kept(&rt, alloc, &stream, *refusal, false);
+        expect_kept(&rt, alloc, &stream, *refusal, true);
         drop(stream);
-        expect_reported(&rt, alloc, bytes, refusal);
+        expect_reported(&rt, alloc, bytes, *refusal);
     }
 }
 
 /// A stream that ends inside a message, after other bytes, is truncated there.
 fn expect_truncated(rt: &impl Abort, alloc: Global, before: &[u8], front: &[u8]) {
     let mut reader = new_reader(alloc);
-    expect_fed(rt, &mut reader, before, None);
+    let wanted = if before.is_empty() { NONE } else { ONE };
+    check!(rt; turn(rt, &mut reader, before, wanted).is_none());
     expect_fed(rt, &mut reader, front, None);
     let after = before.len() as u64;
     let truncated = at(after, Refusal::Frame(FrameFault::Truncated));
@@ -196,7 +186,7 @@ pub(crate) fn is_memory(fault: StreamFault) -> bool {
 }
 
 /// A reader that met an allocation failure has failed after the same bytes.
-pub(crate) fn expect_failed(rt: &impl Abort, reader: &mut MessageReader, fault: StreamFault) {
+fn expect_failed(rt: &impl Abort, reader: &mut MessageReader, fault: StreamFault) {
     check!(rt; is_memory(fault));
     let StreamFault::Refused { at: after, .. } = fault else {
         return;
@@ -205,16 +195,22 @@ pub(crate) fn expect_failed(rt: &impl Abort, reader: &mut MessageReader, fault: 
     expect_end(rt, reader, Some(at(after, FAILED)));
 }
 
+/// A stream's pieces come, or memory runs out, and then the reader has failed.
+pub(crate) fn expect_fed_all(rt: &impl Abort, reader: &mut MessageReader, pieces: &[&[u8]]) {
+    for piece in pieces {
+        if let Some(fault) = reader.feed(piece).err() {
+            return expect_failed(rt, reader, fault);
+        }
+    }
+    expect_end(rt, reader, None);
+}
+
 // With ample memory no allocation fails. `rt try --test --fail-alloc N` fails the Nth.
 #[test]
 fn allocation_failure_is_reported_and_then_failed(rt: HostRuntime) {
+    let (front, back) = TWO_SEGMENTS.split_at(13);
     let mut reader = new_reader(rt.alloc());
-    for piece in [&FINISH[..], &TWO_SEGMENTS[..13], &TWO_SEGMENTS[13..]] {
-        if let Some(fault) = reported(&mut reader, piece) {
-            return expect_failed(&rt, &mut reader, fault);
-        }
-    }
-    expect_end(&rt, &mut reader, None);
+    expect_fed_all(&rt, &mut reader, &[&FINISH, front, back]);
     drop(reader);
 }
 
@@ -311,7 +307,8 @@ fn a_tap_counts(rt: HostRuntime) {
 fn packed_messages_come_byte_by_byte(rt: HostRuntime) {
     let mut reader = MessageReader::packed(rt.alloc(), Limits::standard());
     for i in 0..22 {
-        expect_count(&rt, &mut reader, &[PACKED[i % 11]], (i % 11) / 10);
+        let wanted = if i % 11 == 10 { ONE } else { NONE };
+        check!(&rt; turn(&rt, &mut reader, &[PACKED[i % 11]], wanted).is_none());
     }
     expect_end(&rt, &mut reader, None);
     let past = at(22, Refusal::Frame(FrameFault::RunPastFrame));
@@ -397,15 +394,17 @@ pub(crate) fn expect_cut_short(rt: &impl Abort, alloc: Global, mode: Mode, frame
 #[test]
 fn exactly_one_frame_is_read(rt: HostRuntime) {
     let alloc = rt.alloc();
-    for (mode, frame) in [
-        (Mode::Plain, FINISH.as_slice()),
-        (Mode::Packed, PACKED.as_slice()),
-        (Mode::Plain, TWO_SEGMENTS.as_slice()),
-    ] {
-        expect_two(&rt, alloc, mode, frame);
-        expect_cut_short(&rt, alloc, mode, frame);
+    for (mode, frame) in FRAMES {
+        expect_two(&rt, alloc, *mode, frame);
+        expect_cut_short(&rt, alloc, *mode, frame);
     }
 }
+
+const FRAMES: &[(Mode, &[u8])] = &[
+    (Mode::Plain, &FINISH),
+    (Mode::Packed, &PACKED),
+    (Mode::Plain, &TWO_SEGMENTS),
+];
 
 /// A frame's message is read from a device that fails at that call, or the failure is reported.
 fn expect_read_or_device(rt: &impl Abort, alloc: Global, mode: Mode, frame: &[u8], call: u64) {
@@ -441,6 +440,6 @@ fn expect_refused(rt: &impl Abort, alloc: Global, bytes: &[u8], refusal: Refusal
 #[test]
 fn what_is_read_is_refused_at_0(rt: HostRuntime) {
     for (bytes, refusal) in FAULTS {
-        expect_refused(&rt, rt.alloc(), bytes, refusal);
+        expect_refused(&rt, rt.alloc(), bytes, *refusal);
     }
 }

@@ -2,7 +2,8 @@
 
 ghost use Rattle.std.specs.Prelude.{◌≡◌, ◌<◌};
 
-use crate::checks::expect_right;
+use crate::checks::{expect_right, expect_words};
+use cp_fields::{Constant, ConstantBody, Pointee};
 use cp_reading::*;
 use cp_tree::*;
 use cp_words::{Limits, Place, Segments};
@@ -140,14 +141,20 @@ pub(crate) fn body<const N: usize>(
     }
 }
 
-/// A struct of one data word and no pointer.
-pub(crate) fn leaf(rt: &impl Abort, alloc: Global, word: u64) -> Tree {
-    Tree::Struct(body(rt, alloc, &[word], []))
-}
-
 /// The tree of the message `finish`.
-pub(crate) fn finish(rt: &impl Abort, alloc: Global) -> Tree {
-    Tree::Struct(body(rt, alloc, &[4], [leaf(rt, alloc, 7)]))
+pub(crate) const FINISH_TREE: Constant = Constant::Struct(ConstantBody {
+    words: &[4],
+    ptrs: &[Constant::Struct(ConstantBody {
+        words: &[7],
+        ptrs: &[],
+    })],
+});
+
+/// A tree that is a constant, owned.
+pub(crate) fn tree_of_constant(rt: &impl Abort, alloc: Global, constant: &Constant) -> Tree {
+    Pointee::of_constant(constant)
+        .tree(alloc)
+        .expect(rt, "memory")
 }
 
 /// A message's root, in place.
@@ -155,106 +162,134 @@ fn root_of<'a>(rt: &impl Abort, segments: &'a Segments) -> View<'a> {
     View::root(segments, Limits::standard()).expect(rt, "a root")
 }
 
-/// The root of the message `finish`.
+/// A view has this shape, and this depth and cost.
+fn expect_shape(rt: &impl Abort, view: &View, shape: Shape, (nesting, cost): (u32, u64)) {
+    check!(rt; view.shape() == shape);
+    check!(rt; measures(view, nesting, cost));
+}
+
+/// The message `finish` lends its root, its member, and null past its last pointer.
 fn expect_finish(rt: &impl Abort, root: &View) {
-    check!(rt; root.shape() == Shape::Struct { words: 1, ptrs: 1 });
-    check!(rt; root.words() == [4].as_slice());
-    check!(rt; measures(root, 2, 5));
-}
-
-/// Its member.
-fn expect_member(rt: &impl Abort, member: &View) {
-    check!(rt; member.shape() == Shape::Struct { words: 1, ptrs: 0 });
-    check!(rt; member.again().words() == [7].as_slice());
-}
-
-/// What is past its last pointer.
-fn expect_past(rt: &impl Abort, past: &View) {
-    check!(rt; past.shape() == Shape::Null);
-    check!(rt; measures(past, 0, 0));
+    expect_shape(rt, root, Shape::Struct { words: 1, ptrs: 1 }, (2, 5));
+    expect_words(rt, root.words(), &[4]);
+    expect_shape(
+        rt,
+        &root.child(0),
+        Shape::Struct { words: 1, ptrs: 0 },
+        (1, 2),
+    );
+    expect_words(rt, root.child(0).again().words(), &[7]);
+    expect_shape(rt, &root.child(1), Shape::Null, (0, 0));
 }
 
 #[test]
 fn views_lend_parts(rt: HostRuntime) {
     let segments = segments(&rt, rt.alloc(), &[FINISH]);
     expect_finish(&rt, &root_of(&rt, &segments));
-    expect_member(&rt, &root_of(&rt, &segments).child(0));
-    expect_past(&rt, &root_of(&rt, &segments).child(1));
     drop(segments);
 }
 
-/// Whether these segments hold the message `finish`, in place and owned.
-fn is_finish(rt: &impl Abort, alloc: Global, lists: &[&str]) -> bool {
-    let finish = finish(rt, alloc);
+/// Whether these segments hold the tree, in place and owned.
+fn holds(rt: &impl Abort, alloc: Global, lists: &[&str], wanted: &Tree) -> bool {
     let found = read(rt, alloc, lists, WIDE).expect(rt, "a tree");
-    let is_lent = *found.tree() == finish;
+    let is_lent = found.tree() == wanted;
     let tree = found.into_tree();
-    let is_held = tree == finish;
+    let is_held = tree == *wanted;
     drop(tree);
-    drop(finish);
     is_lent && is_held
 }
 
-#[test]
-fn one_message_in_any_segments(rt: HostRuntime) {
-    check!(&rt; is_finish(&rt, rt.alloc(), &[FINISH]));
-    check!(&rt; is_finish(&rt, rt.alloc(), &["0200000001000000", FINISH]));
-    let by_two = [
-        "0600000001000000",
-        "0200000002000000 0000000001000100",
-        "0400000000000000 0000000001000000 0700000000000000",
-    ];
-    check!(&rt; is_finish(&rt, rt.alloc(), &by_two));
+/// Segments hold a tree that is a constant.
+fn expect_held(rt: &impl Abort, alloc: Global, lists: &[&str], constant: &Constant) {
+    let tree = tree_of_constant(rt, alloc, constant);
+    let is_held = holds(rt, alloc, lists, &tree);
+    drop(tree);
+    check!(rt; is_held);
 }
 
+/// A pad of two words.
+const BY_TWO: &[&str] = &[
+    "0600000001000000",
+    "0200000002000000 0000000001000100",
+    "0400000000000000 0000000001000000 0700000000000000",
+];
+
+/// A pad of zero bits, which is an empty struct.
+const ZERO_PAD: &[&str] = &["0600000001000000", "0200000002000000 0000000000000000", ""];
+
+/// Segments, and the trees that they hold: one message in any segments, and lists of every size.
+const ROWS: &[(&[&str], Constant)] = &[
+    (&[FINISH], FINISH_TREE),
+    (&["0200000001000000", FINISH], FINISH_TREE),
+    (BY_TWO, FINISH_TREE),
+    (
+        ZERO_PAD,
+        Constant::Struct(ConstantBody {
+            words: &[],
+            ptrs: &[],
+        }),
+    ),
+    (
+        &["0000000000000100 0100000048000000 0000000000000000"],
+        Constant::Struct(ConstantBody {
+            words: &[],
+            ptrs: &[Constant::List(ListRef::Voids(9))],
+        }),
+    ),
+    (
+        &["0000000000000100 0100000021000000 0a00000000000000"],
+        Constant::Struct(ConstantBody {
+            words: &[],
+            ptrs: &[Constant::List(ListRef::Bits(&[false, true, false, true]))],
+        }),
+    ),
+    (
+        &["0000000000000100 010000000a000000 ab00000000000000"],
+        Constant::Struct(ConstantBody {
+            words: &[],
+            ptrs: &[Constant::List(ListRef::Bytes(&[0xab]))],
+        }),
+    ),
+    (
+        &["0000000000000100 0100000013000000 0102030400000000"],
+        Constant::Struct(ConstantBody {
+            words: &[],
+            ptrs: &[Constant::List(ListRef::Halves(&[0x0201, 0x0403]))],
+        }),
+    ),
+    (
+        &["0000000000000100 010000000c000000 0102030400000000"],
+        Constant::Struct(ConstantBody {
+            words: &[],
+            ptrs: &[Constant::List(ListRef::Quads(&[0x0403_0201]))],
+        }),
+    ),
+    (
+        &["0000000000000100 010000000d000000 0500000000000000"],
+        Constant::Struct(ConstantBody {
+            words: &[],
+            ptrs: &[Constant::List(ListRef::Words(&[5]))],
+        }),
+    ),
+];
+
 #[test]
-fn a_pad_of_zero_bits_is_an_empty_struct(rt: HostRuntime) {
-    let lists = ["0600000001000000", "0200000002000000 0000000000000000", ""];
-    let found = read(&rt, rt.alloc(), &lists, WIDE).expect(&rt, "a tree");
-    let empty = Tree::Struct(body(&rt, rt.alloc(), &[], []));
-    expect_tree(&rt, found.tree(), empty);
-    drop(found);
+fn what_is_read_is_what_segments_hold(rt: HostRuntime) {
+    for (lists, constant) in ROWS {
+        expect_held(&rt, rt.alloc(), lists, constant);
+    }
     let one_word = ["0200000001000000", "0000000000000000"];
     check!(&rt; read(&rt, rt.alloc(), &one_word, WIDE).err().is_some());
-}
-
-/// Whether a struct of this pointer and no data, with these words after it, holds the tree.
-fn holds(rt: &impl Abort, alloc: Global, pointer: &str, words: &str, tree: Tree) -> bool {
-    let whole = Tree::Struct(body(rt, alloc, &[], [tree]));
-    let text = format!(in alloc; "0000000000000100 {pointer} {words}").expect(rt, "memory");
-    let found = read(rt, alloc, &[text.as_str()], WIDE).expect(rt, "a tree");
-    drop(text);
-    let is_whole = *found.tree() == whole;
-    drop(found);
-    drop(whole);
-    is_whole
-}
-
-#[test]
-fn lists_of_every_size(rt: HostRuntime) {
-    let alloc = rt.alloc();
-    let voids = Tree::Voids(9);
-    check!(&rt; holds(&rt, alloc, "0100000048000000", "0000000000000000", voids));
-    let bits = Vec::from_slice(alloc, &[false, true, false, true]).expect(&rt, "memory");
-    let bits = Tree::Bits(bits);
-    check!(&rt; holds(&rt, alloc, "0100000021000000", "0a00000000000000", bits));
-    let bytes = Tree::Bytes(Vec::from_slice(alloc, &[0xab]).expect(&rt, "memory"));
-    check!(&rt; holds(&rt, alloc, "010000000a000000", "ab00000000000000", bytes));
-    let halves = Vec::from_slice(alloc, &[0x0201, 0x0403]).expect(&rt, "memory");
-    let halves = Tree::Halves(halves);
-    check!(&rt; holds(&rt, alloc, "0100000013000000", "0102030400000000", halves));
-    let quads = Tree::Quads(Vec::from_slice(alloc, &[0x0403_0201]).expect(&rt, "memory"));
-    check!(&rt; holds(&rt, alloc, "010000000c000000", "0102030400000000", quads));
-    let words = Tree::Words(Vec::from_slice(alloc, &[5]).expect(&rt, "memory"));
-    check!(&rt; holds(&rt, alloc, "010000000d000000", "0500000000000000", words));
 }
 
 #[test]
 fn lists_of_pointers(rt: HostRuntime) {
     let list = [Tree::Null, Tree::Cap(9)];
     let list = Tree::Ptrs(Vec::from_array(rt.alloc(), list).expect(&rt, "memory"));
-    let words = "0000000000000000 0300000009000000";
-    check!(&rt; holds(&rt, rt.alloc(), "0100000016000000", words, list));
+    let tree = Tree::Struct(body(&rt, rt.alloc(), &[], [list]));
+    let words = "0000000000000100 0100000016000000 0000000000000000 0300000009000000";
+    check!(&rt; holds(&rt, rt.alloc(), &[words], &tree));
+    drop(tree);
 }
 
 /// A composite list of two structs of one data word and one pointer.
@@ -272,18 +307,13 @@ fn two_structs(rt: &impl Abort, alloc: Global) -> Tree {
 const TWO_STRUCTS: &str = "0000000000000100 0100000027000000 0800000001000100 \
     0700000000000000 0000000000000000 0800000000000000 0300000002000000";
 
-/// That list.
+/// That list, and its second element.
 fn expect_structs(rt: &impl Abort, list: &View) {
     let (words, ptrs, count) = (1, 1, 2);
-    check!(rt; list.shape() == Shape::Structs { words, ptrs, count });
-    check!(rt; measures(list, 1, 8));
+    expect_shape(rt, list, Shape::Structs { words, ptrs, count }, (1, 8));
     check!(rt; list.child(2).shape() == Shape::Null);
-}
-
-/// Its second element.
-fn expect_second(rt: &impl Abort, second: &View) {
-    check!(rt; second.words() == [8].as_slice());
-    check!(rt; second.child(0).shape() == Shape::Cap(2));
+    expect_words(rt, list.child(1).words(), &[8]);
+    check!(rt; list.child(1).child(0).shape() == Shape::Cap(2));
 }
 
 /// The tree of that list.
@@ -295,7 +325,6 @@ fn list_tree(rt: &impl Abort, alloc: Global, list: &View) -> Tree {
 fn lists_of_structs(rt: HostRuntime) {
     let segments = segments(&rt, rt.alloc(), &[TWO_STRUCTS]);
     expect_structs(&rt, &root_of(&rt, &segments).child(0));
-    expect_second(&rt, &root_of(&rt, &segments).child(0).child(1));
     let tree = list_tree(&rt, rt.alloc(), &root_of(&rt, &segments).child(0));
     drop(segments);
     expect_tree(&rt, &tree, two_structs(&rt, rt.alloc()));
@@ -307,8 +336,8 @@ const SHARED: &str = "0000000000000200 0400000001000000 0000000001000000 0500000
 
 /// That struct.
 fn expect_shared(rt: &impl Abort, root: &View) {
-    check!(rt; root.child(0).words() == [5].as_slice());
-    check!(rt; root.child(1).words() == [5].as_slice());
+    expect_words(rt, root.child(0).words(), &[5]);
+    expect_words(rt, root.child(1).words(), &[5]);
     check!(rt; root.child(2).shape() == Shape::Null);
     check!(rt; measures(root, 2, 7));
 }
@@ -619,42 +648,50 @@ fn reads_again(rt: &impl Abort, alloc: Global, lists: &[&str]) -> bool {
 // of the five tests below.
 #[test]
 fn allocation_failure_for_a_message(rt: HostRuntime) {
-    check!(&rt; reads_again(&rt, rt.alloc(), &[FINISH]));
-    check!(&rt; reads_again(&rt, rt.alloc(), &["0200000001000000", FINISH]));
-}
-
-#[test]
-fn allocation_failure_after_two_words(rt: HostRuntime) {
-    let by_two = [
-        "0600000001000000",
-        "0200000002000000 0000000001000100",
-        "0400000000000000 0000000001000000 0700000000000000",
-    ];
-    check!(&rt; reads_again(&rt, rt.alloc(), &by_two));
-    let zero_bits = ["0600000001000000", "0200000002000000 0000000000000000", ""];
-    check!(&rt; reads_again(&rt, rt.alloc(), &zero_bits));
-}
-
-#[test]
-fn allocation_failure_for_lists(rt: HostRuntime) {
-    for list in [
-        "0000000000000100 0100000048000000 0500000000000000",
-        "0000000000000100 0100000021000000 0500000000000000",
-        "0000000000000100 010000000a000000 0500000000000000",
-        "0000000000000100 0100000013000000 0500000000000000",
-        "0000000000000100 010000000c000000 0500000000000000",
-        "0000000000000100 010000000d000000 0500000000000000",
-    ] {
-        expect_right(&rt, reads_again(&rt, rt.alloc(), &[list]), list);
+    for lists in IN_SEGMENTS {
+        check!(&rt; reads_again(&rt, rt.alloc(), lists));
     }
 }
 
+/// A message in one segment and in two.
+const IN_SEGMENTS: &[&[&str]] = &[&[FINISH], &["0200000001000000", FINISH]];
+
+#[test]
+fn allocation_failure_after_two_words(rt: HostRuntime) {
+    for lists in &[BY_TWO, ZERO_PAD] {
+        check!(&rt; reads_again(&rt, rt.alloc(), lists));
+    }
+}
+
+/// Lists of every size.
+const LISTS: &[&str] = &[
+    "0000000000000100 0100000048000000 0500000000000000",
+    "0000000000000100 0100000021000000 0500000000000000",
+    "0000000000000100 010000000a000000 0500000000000000",
+    "0000000000000100 0100000013000000 0500000000000000",
+    "0000000000000100 010000000c000000 0500000000000000",
+    "0000000000000100 010000000d000000 0500000000000000",
+];
+
+#[test]
+fn allocation_failure_for_lists(rt: HostRuntime) {
+    for list in LISTS {
+        expect_right(&rt, reads_again(&rt, rt.alloc(), &[*list]), list);
+    }
+}
+
+/// A list of pointers, one of structs, and a body that is shared.
+const POINTERS: &[&str] = &[
+    "0000000000000100 0100000016000000 0000000000000000 0300000009000000",
+    TWO_STRUCTS,
+    SHARED,
+];
+
 #[test]
 fn allocation_failure_for_lists_of_pointers_and_structs(rt: HostRuntime) {
-    let pointers = "0000000000000100 0100000016000000 0000000000000000 0300000009000000";
-    check!(&rt; reads_again(&rt, rt.alloc(), &[pointers]));
-    check!(&rt; reads_again(&rt, rt.alloc(), &[TWO_STRUCTS]));
-    check!(&rt; reads_again(&rt, rt.alloc(), &[SHARED]));
+    for text in POINTERS {
+        check!(&rt; reads_again(&rt, rt.alloc(), &[*text]));
+    }
 }
 
 #[test]

@@ -8,7 +8,8 @@ ghost use Rattle.cp_tree.specs.Shaped.{Shaped};
 ghost use Rattle.test_codec.specs.Drafted.{list_with, structs_with, struct_with};
 
 use crate::checks::expect_right_of;
-use crate::trees::{are_words, body, finish, leaf, object_of, segments};
+use crate::trees::{FINISH_TREE, are_words, body, object_of, segments, tree_of_constant};
+use cp_fields::{Constant, ConstantBody};
 use cp_reading::*;
 use cp_tree::*;
 use cp_words::{Limits, Segments};
@@ -64,43 +65,95 @@ fn writes(rt: &impl Abort, alloc: Global, tree: Tree, max_words: u32, wanted: &[
     are_wanted && are_read
 }
 
-#[test]
-fn bytes_are_written_as_their_words(rt: HostRuntime) {
-    let alloc = rt.alloc();
-    let bytes = Tree::Bytes(Vec::from_slice(alloc, &[0xab]).expect(&rt, "memory"));
-    let tree = Tree::Struct(body(&rt, alloc, &[], [bytes]));
-    let words = ["0000000000000100 010000000a000000 ab00000000000000"];
-    check!(&rt; writes(&rt, alloc, tree, 8_388_608, &words));
-}
+/// Trees that are constants, numbers of words in a segment, and as what segments they are written: bytes, `finish` in segments
+/// of three words, of four and of as few as can be, and two bodies after their pads in the last segment.
+const ROWS: &[(Constant, u32, &[&str])] = &[
+    (
+        Constant::Struct(ConstantBody {
+            words: &[],
+            ptrs: &[Constant::List(ListRef::Bytes(&[0xab]))],
+        }),
+        8_388_608,
+        &["0000000000000100 010000000a000000 ab00000000000000"],
+    ),
+    (
+        FINISH_TREE,
+        3,
+        &[
+            "0000000001000100 0400000000000000 0200000001000000",
+            "0000000001000000 0700000000000000",
+        ],
+    ),
+    (
+        FINISH_TREE,
+        4,
+        &["0000000001000100 0400000000000000 0000000001000000 0700000000000000"],
+    ),
+    (
+        FINISH_TREE,
+        0,
+        &[
+            "0200000001000000",
+            "0000000001000100 0400000000000000 0200000002000000",
+            "0000000001000000 0700000000000000",
+        ],
+    ),
+    (
+        Constant::Struct(ConstantBody {
+            words: &[9],
+            ptrs: &[
+                Constant::Struct(ConstantBody {
+                    words: &[1],
+                    ptrs: &[],
+                }),
+                Constant::Struct(ConstantBody {
+                    words: &[2],
+                    ptrs: &[],
+                }),
+            ],
+        }),
+        4,
+        &[
+            "0000000001000200 0900000000000000 0200000001000000 1200000001000000",
+            "0000000001000000 0100000000000000 0000000001000000 0200000000000000",
+        ],
+    ),
+];
 
 #[test]
-fn segments_of_three_words_and_of_four(rt: HostRuntime) {
-    let alloc = rt.alloc();
-    let by_three = [
-        "0000000001000100 0400000000000000 0200000001000000",
-        "0000000001000000 0700000000000000",
-    ];
-    check!(&rt; writes(&rt, alloc, finish(&rt, alloc), 3, &by_three));
-    let by_four = ["0000000001000100 0400000000000000 0000000001000000 0700000000000000"];
-    check!(&rt; writes(&rt, alloc, finish(&rt, alloc), 4, &by_four));
-    let by_none = [
-        "0200000001000000",
-        "0000000001000100 0400000000000000 0200000002000000",
-        "0000000001000000 0700000000000000",
-    ];
-    check!(&rt; writes(&rt, alloc, finish(&rt, alloc), 0, &by_none));
+fn trees_are_written_in_segments(rt: HostRuntime) {
+    for (constant, max_words, wanted) in ROWS {
+        let tree = tree_of_constant(&rt, rt.alloc(), constant);
+        check!(&rt; writes(&rt, rt.alloc(), tree, *max_words, wanted));
+    }
+    let tree = all_kinds(&rt, rt.alloc());
+    check!(&rt; writes(&rt, rt.alloc(), tree, 8_388_608, &[ALL_KINDS]));
 }
 
-#[test]
-fn bodies_follow_pads_in_the_last_segment(rt: HostRuntime) {
-    let alloc = rt.alloc();
-    let ptrs = [leaf(&rt, alloc, 1), leaf(&rt, alloc, 2)];
-    let tree = Tree::Struct(body(&rt, alloc, &[9], ptrs));
-    let words = [
-        "0000000001000200 0900000000000000 0200000001000000 1200000001000000",
-        "0000000001000000 0100000000000000 0000000001000000 0200000000000000",
-    ];
-    check!(&rt; writes(&rt, alloc, tree, 4, &words));
+/// Trees of each kind that are constants.
+const KINDS: &[Constant] = &[
+    Constant::Struct(ConstantBody {
+        words: &[],
+        ptrs: &[],
+    }),
+    Constant::List(ListRef::Voids(5)),
+    Constant::List(ListRef::Bits(&[true, false, true])),
+    Constant::List(ListRef::Bytes(b"nine byte")),
+    Constant::List(ListRef::Halves(&[1, 2, 3, 4, 5])),
+    Constant::List(ListRef::Quads(&[6, 7, 8])),
+    Constant::List(ListRef::Words(&[10])),
+    Constant::Ptrs(&[
+        Constant::Struct(ConstantBody {
+            words: &[13],
+            ptrs: &[],
+        }),
+        Constant::Null,
+    ]),
+];
+
+/// A struct of one data word.
+fn leaf(rt: &impl Abort, alloc: Global, word: u64) -> Tree {
+    Tree::Struct(body(rt, alloc, &[word], []))
 }
 
 /// A composite list of two structs of one data word and two pointers.
@@ -116,21 +169,18 @@ fn structs(rt: &impl Abort, alloc: Global) -> Tree {
 
 /// A struct with each kind of tree.
 fn all_kinds(rt: &impl Abort, alloc: Global) -> Tree {
-    let list = [leaf(rt, alloc, 13), Tree::Null];
-    let ptrs = [
-        Tree::Null,
-        Tree::Cap(3),
-        Tree::Struct(body(rt, alloc, &[], [])),
-        Tree::Voids(5),
-        Tree::Bits(Vec::from_slice(alloc, &[true, false, true]).expect(rt, "memory")),
-        Tree::Bytes(Vec::from_slice(alloc, b"nine byte").expect(rt, "memory")),
-        Tree::Halves(Vec::from_slice(alloc, &[1, 2, 3, 4, 5]).expect(rt, "memory")),
-        Tree::Quads(Vec::from_slice(alloc, &[6, 7, 8]).expect(rt, "memory")),
-        Tree::Words(Vec::from_slice(alloc, &[10]).expect(rt, "memory")),
-        Tree::Ptrs(Vec::from_array(alloc, list).expect(rt, "memory")),
-        structs(rt, alloc),
-    ];
-    Tree::Struct(body(rt, alloc, &[4], ptrs))
+    let mut ptrs = Vec::new(alloc);
+    ptrs.push(Tree::Null).expect(rt, "memory");
+    ptrs.push(Tree::Cap(3)).expect(rt, "memory");
+    for constant in KINDS {
+        let tree = tree_of_constant(rt, alloc, constant);
+        ptrs.push(tree).expect(rt, "memory");
+    }
+    ptrs.push(structs(rt, alloc)).expect(rt, "memory");
+    Tree::Struct(Body {
+        words: Vec::from_slice(alloc, &[4]).expect(rt, "memory"),
+        ptrs,
+    })
 }
 
 /// The words of that struct.
@@ -142,12 +192,6 @@ const ALL_KINDS: &str =
     0a00000000000000 0400000001000000 0000000000000000 0d00000000000000 0800000001000200 \
     0100000000000000 0300000009000000 0c00000001000000 0200000000000000 0800000001000000 \
     0000000000000000 0b00000000000000 0c00000000000000";
-
-#[test]
-fn each_kind_is_written(rt: HostRuntime) {
-    let tree = all_kinds(&rt, rt.alloc());
-    check!(&rt; writes(&rt, rt.alloc(), tree, 8_388_608, &[ALL_KINDS]));
-}
 
 /// An object with each kind of tree. An allocation that fails once is tried again.
 fn object_of_all_kinds(rt: &impl Abort, alloc: Global) -> Object {
@@ -281,21 +325,6 @@ fn limited(
     write_segments(alloc, object, 1, limits).err()
 }
 
-#[test]
-fn depth_is_reported_before_cost_and_cost_before_words(rt: HostRuntime) {
-    let object = object(&rt, finish(&rt, rt.alloc()));
-    // Two levels, a cost of 5, and 6 words in segments of one word.
-    for (limits, wanted) in [
-        ((1, 4, 5), Some(WriteFault::TooDeep)),
-        ((2, 4, 5), Some(WriteFault::TooCostly)),
-        ((2, 5, 5), Some(WriteFault::TooManyWords)),
-        ((2, 5, 6), None),
-    ] {
-        check!(&rt; limited(&rt, rt.alloc(), &object, limits) == wanted);
-    }
-    drop(object);
-}
-
 /// Why the tree isn't written in one segment within this cost, if it isn't.
 fn fault_within(
     rt: &impl Abort,
@@ -307,9 +336,23 @@ fn fault_within(
     write_root(alloc, object, limits).err()
 }
 
+/// Limits on nesting, traversal and words, and the fault of the message `finish` in segments of one word, which takes two
+/// levels, a cost of 5 and 6 words.
+const FAULTS: &[((u32, u32, u32), Option<WriteFault>)] = &[
+    ((1, 4, 5), Some(WriteFault::TooDeep)),
+    ((2, 4, 5), Some(WriteFault::TooCostly)),
+    ((2, 5, 5), Some(WriteFault::TooManyWords)),
+    ((2, 5, 6), None),
+];
+
 #[test]
-fn cost_has_a_limit(rt: HostRuntime) {
-    let object = object(&rt, finish(&rt, rt.alloc()));
+fn depth_is_reported_before_cost_and_cost_before_words(rt: HostRuntime) {
+    let tree = tree_of_constant(&rt, rt.alloc(), &FINISH_TREE);
+    let object = object(&rt, tree);
+    for (limits, wanted) in FAULTS {
+        check!(&rt; limited(&rt, rt.alloc(), &object, *limits) == *wanted);
+    }
+    // In one segment.
     check!(&rt; fault_within(&rt, rt.alloc(), &object, 5).is_none());
     check!(&rt; fault_within(&rt, rt.alloc(), &object, 4) == Some(WriteFault::TooCostly));
     drop(object);
@@ -339,15 +382,15 @@ fn writes_segments_again(alloc: Global, object: &Object, max_words: u32) -> bool
 #[test]
 fn allocation_failure_while_segments_are_written(rt: HostRuntime) {
     let object = object_of_all_kinds(&rt, rt.alloc());
-    for max_words in [0, 4, 8_388_608] {
-        expect_right_of(
-            &rt,
-            writes_segments_again(rt.alloc(), &object, max_words),
-            max_words as u64,
-        );
+    for max_words in SIZES {
+        let is_same = writes_segments_again(rt.alloc(), &object, *max_words);
+        expect_right_of(&rt, is_same, *max_words as u64);
     }
     drop(object);
 }
+
+/// Numbers of words in a segment.
+const SIZES: &[u32] = &[0, 4, 8_388_608];
 
 /// Whether both are the same words, or memory ran out for one.
 fn are_same_words(

@@ -118,20 +118,22 @@ fn expect_tag(rt: &impl Abort, word: u64, count: u32, words: u16, ptrs: u16) {
     check!(rt; decode_tag(word) == Some(Tag { count, words, ptrs }));
 }
 
+/// Sizes of elements, how many there are, and how many words their body has.
+const BODIES: &[(ElementSize, u32, u64)] = &[
+    (ElementSize::Void, 9, 0),
+    (ElementSize::Bit, 65, 2),
+    (ElementSize::Byte, 3, 1),
+    (ElementSize::TwoBytes, 5, 2),
+    (ElementSize::FourBytes, 3, 2),
+    (ElementSize::EightBytes, 3, 3),
+    (ElementSize::Pointer, 3, 3),
+    (ElementSize::Composite, 3, 4),
+];
+
 #[test]
 fn bodies_are_counted(rt: HostRuntime) {
-    let rows = [
-        (ElementSize::Void, 9, 0),
-        (ElementSize::Bit, 65, 2),
-        (ElementSize::Byte, 3, 1),
-        (ElementSize::TwoBytes, 5, 2),
-        (ElementSize::FourBytes, 3, 2),
-        (ElementSize::EightBytes, 3, 3),
-        (ElementSize::Pointer, 3, 3),
-        (ElementSize::Composite, 3, 4),
-    ];
-    for (size, count, words) in rows {
-        expect_counted(&rt, size, count, words);
+    for (size, count, words) in BODIES {
+        expect_counted(&rt, *size, *count, *words);
     }
     expect_tag(&rt, 0, 0, 0, 0);
     expect_tag(&rt, 0x0000_0000_ffff_fffc, 0x3fff_ffff, 0, 0);
@@ -172,27 +174,24 @@ fn the_first_list_is_given(rt: HostRuntime) {
     expect_first(&rt, Segments::new(lists).ok().expect(&rt, "segments"), 1);
 }
 
-/// No limits are these.
-fn expect_refused(rt: &impl Abort, nesting: u32, traversal: u32, segments: u32, words: u32) {
-    check!(rt; Limits::new(nesting, traversal, segments, words).is_none());
-}
+/// Numbers of levels, of words that are paid for, of segments and of words that are no limits.
+const REFUSED: &[(u32, u32, u32, u32)] = &[
+    (0, 1, 1, 1),
+    (257, 1, 1, 1),
+    (1, 0, 1, 1),
+    (1, 2, 1, 1),
+    (1, 1, 0, 1),
+    (1, 1, 513, 1),
+    (1, 67_108_865, 1, 67_108_865),
+    (1, 1, 1, 67_108_865),
+];
 
 #[test]
 fn limits_have_ranges(rt: HostRuntime) {
     check!(&rt; Limits::new(256, 67_108_864, 512, 67_108_864).is_some());
     check!(&rt; Limits::new(1, 1, 1, 1).is_some());
-    let refused = [
-        (0, 1, 1, 1),
-        (257, 1, 1, 1),
-        (1, 0, 1, 1),
-        (1, 2, 1, 1),
-        (1, 1, 0, 1),
-        (1, 1, 513, 1),
-        (1, 67_108_865, 1, 67_108_865),
-        (1, 1, 1, 67_108_865),
-    ];
-    for (nesting, traversal, segments, words) in refused {
-        expect_refused(&rt, nesting, traversal, segments, words);
+    for (nesting, traversal, segments, words) in REFUSED {
+        check!(&rt; Limits::new(*nesting, *traversal, *segments, *words).is_none());
     }
     check!(&rt; Limits::standard().nesting() == 64);
     check!(&rt; Limits::standard().frame_words() == 8_388_608);
