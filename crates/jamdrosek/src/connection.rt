@@ -4,9 +4,11 @@
 //! pieces, `outgoing` has the bytes that are to be written, and `next` hands out what happened. So it stands
 //! over a socket, a pipe or a loop of events alike. The program example_connection joins two in memory.
 //!
-//! Where calls go to objects (`server::Servant`), `Objects` stands between: `work_off` hands what happened to them and
-//! answers, `round` polls them, and `Notice`s are what is left for you.
+//! Where calls go to objects (`server::Servant`), `Objects` stands between: `receive` has the connection take bytes, lends it the
+//! calls that come and answers, `work_off` does so of what else happened, `round` polls the objects, and `Notice`s are what is left
+//! for you. `receive_lending` and `reuse` are for those who lend calls themselves; what is lent is a `Lent`.
 
 pub use cp_connection::{Connection, ConnectionFault, Happening, Held, Tally};
 pub use cp_objects::{Notice, Objects};
 pub use cp_servants::any_again;
+pub use cp_vat::Lent;

@@ -5,6 +5,9 @@
 //! one of those, by its ticket. Each object is polled once after each message, and where the messages end
 //! until a round of polls settles nothing.
 //!
+//! A call that goes to an object at once is lent to it: `call_view` gets its params in place, as a `RequestView`, whose content
+//! is a `View` of the message. Unless an object has a `call_view` of its own, a tree is made of them, and `call` gets that.
+//!
 //! Object 0 of the list is what a bootstrap gives. A result that has `Cap::Object(k)` in its table gives object
 //! k. `Cap::Import(i)` in a call's table is an object of the peer's: an answer may pass it on, and names
 //! it in `gives_up` once your object doesn't need it any more. It is released, with all its counts, when the vat
@@ -28,6 +31,6 @@
 
 pub use cp_contents::{Content, data_in, text_in, word_in};
 pub use cp_refs::{Cap, Caps, Outcome, Request};
-pub use cp_servants::{Ask, Reply, Servant, Settled};
+pub use cp_servants::{Ask, Reply, RequestView, Servant, Settled};
 pub use cp_serve::{Report, ServeFault, serve, serve_each};
 pub use cp_vat_machine::{Ids, PeerFault, Reason};

@@ -11,6 +11,9 @@
 //!   outcome named stay until you release them.
 //! - `Closed`: the connection is over. Every later call of the vat is refused (V9).
 //!
+//! `receive_lending` lends a call that goes to an object at once: it gives it as a `Lent`, with its content in place, in the stead
+//! of its `Deliver`. It comes before the other effects.
+//!
 //! A call that is refused (`VatFault`) changes nothing, and has no effects. At V10 memory ran out: the vat is closed
 //! then, and sends no Abort.
 //!
@@ -20,7 +23,7 @@
 //! `idle` says which of these nothing uses any more.
 
 pub use cp_refs::{Cap, Caps, Origin, Outcome, Path, PromiseId, Request};
-pub use cp_vat::Vat;
+pub use cp_vat::{Lent, Vat};
 pub use cp_vat_machine::{
     Acted, Effect, Effects, Event, Idle, Ids, PeerFault, Reason, Value, VatFault,
 };
