@@ -11,9 +11,9 @@ ghost use Rattle.cp_vat_state.specs.Sought.{is_sought};
 ghost use Rattle.cp_vat_state.specs.Overs.{over_of, gate_of, bare_gate, over_with, NoneOverIn, IsNextIn};
 
 use crate::counted_calls::CountedCalls;
+use crate::ended::Ended;
 use crate::sought::Sought;
 use cp_refs::{Cap, Gate, KeptOutcome, Path, PromiseId, WaitingCall};
-use cp_tables::Entries;
 use std::alloc::{AllocError, Global};
 use std::collections::btree_map::Iter;
 use std::marker::Model;
@@ -231,10 +231,10 @@ impl Gates {
 /// What the gates gave that ended.
 #[derive(Drop)]
 struct Overs {
-    answers: Entries<KeptOutcome>,
-    promises: Entries<Cap>,
-    questions: Entries<KeptOutcome>,
-    embargoes: Entries<Cap>,
+    answers: Ended<KeptOutcome>,
+    promises: Ended<Cap>,
+    questions: Ended<KeptOutcome>,
+    embargoes: Ended<Cap>,
 }
 
 impl Overs {
@@ -242,10 +242,10 @@ impl Overs {
         ensures { over_of result ≡ none_over }
     {
         Overs {
-            answers: Entries::new(alloc),
-            promises: Entries::new(alloc),
-            questions: Entries::new(alloc),
-            embargoes: Entries::new(alloc),
+            answers: Ended::new(alloc),
+            promises: Ended::new(alloc),
+            questions: Ended::new(alloc),
+            embargoes: Ended::new(alloc),
         }
     }
 

@@ -6,6 +6,7 @@
 mod counted_calls;
 mod counted_embargoes;
 mod counts;
+mod ended;
 mod exports;
 mod gates;
 mod halt;
