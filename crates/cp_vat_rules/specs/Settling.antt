@@ -75,6 +75,10 @@ SettlesTiedTo old id outcome result before after new settled =
     (entry : Exchange AnswerEntry) → get old.answers id ≡ Some entry
     → SettlesBy (λ s. SettleTied s outcome entry.kept.tied) old.values old.exports result before after new.values new.exports settled
 
+-- no promise is tied to an answer
+abbrev pub IsUntied : Core → ℕ → Type 0
+IsUntied core id = (entry : Exchange AnswerEntry) → get core.answers id ≡ Some entry → entry.kept.tied ≡ []
+
 -- nothing but promises and exports changed
 abbrev pub OnlySettles : Core → Core → Type 0
 OnlySettles old new = new ≡ record old { values = record old.values { promises = new.values.promises }; exports = new.exports }

@@ -1,6 +1,6 @@
 //! How outcomes are given to answers.
 
-ghost use Rattle.std.specs.Prelude.{◌≡◌, Some, IfOk, OnOk};
+ghost use Rattle.std.specs.Prelude.{◌≡◌, [], Some, IfOk, OnOk, false};
 ghost use Rattle.cp_tables.specs.declared.exchange.Stage.TheVariants as stages;
 ghost use Rattle.cp_vat_machine.specs.State.{State};
 ghost use Rattle.cp_vat_machine.specs.Give.{Give, GiveAnswer, Returns, return_of, returned_mentions};
@@ -10,7 +10,7 @@ ghost use Rattle.cp_vat_state.specs.StateOf.{state_of};
 ghost use Rattle.cp_vat_rules.specs.Giving.{GivesAnswer};
 ghost use Rattle.cp_vat_rules.specs.Leading.{with_parts};
 ghost use Rattle.cp_vat_rules.specs.Ungiven.{AllEnd, IsUngiven};
-ghost use Rattle.cp_vat_rules.specs.Settling.{OnlySettles, SettlesTiedTo, lowered_back};
+ghost use Rattle.cp_vat_rules.specs.Settling.{IsUntied, OnlySettles, SettlesTiedTo, lowered_back};
 
 use crate::descriptors::{mentioned, write_descriptors};
 use crate::entry::{note_given, remove_answer};
@@ -20,7 +20,7 @@ use crate::settle::{SettledPromise, end_gates, settle_tied};
 use cp_refs::{KeptOutcome, Origin, Outcome, Values};
 use cp_rpc::{Message, Payload, Return, Returned};
 use cp_tables::Stage;
-use cp_vat_machine::{Effect, Mentions};
+use cp_vat_machine::{AnswerEntry, Effect, Mentions};
 use cp_vat_state::{Core, Exported, Gift, Halt};
 use std::alloc::{AllocError, Global};
 
@@ -58,20 +58,30 @@ pub fn give_answer(
     let Some(answer) = core.answers.get(id) else {
         unreachable!()
     };
+    let is_tied = has_tied(&answer.kept);
     match answer.stage {
-        Stage::Open => give_open(core, id, outcome, effects),
-        Stage::Finished => give_finished(core, id, outcome, effects),
+        Stage::Open => give_open(core, id, is_tied, outcome, effects),
+        Stage::Finished => give_finished(core, id, is_tied, outcome, effects),
         Stage::Returned => unreachable!(),
     }
+}
+
+/// Whether promises are tied to an answer.
+fn has_tied(entry: &AnswerEntry) -> bool
+    ensures { result ≡ false → entry.now.tied ≡ [] }
+{
+    !entry.tied.promises().is_empty()
 }
 
 /// Gives an answer that wasn't finished.
 fn give_open(
     core: &mut Core,
     id: u32,
+    is_tied: bool,
     outcome: Outcome,
     effects: &mut Vec<Effect>,
 ) -> Result<(), Halt>
+    requires untied { is_tied ≡ false → IsUntied core.old id }
     requires ungiven { IsUngiven (state_of core.old) (Origin.Answer id) }
     requires ends { AllEnd core.old.values (caps_of outcome) }
     ensures acts { GivesAnswer stages.Open core.old id outcome result effects.old.items effects.new.items core.new }
@@ -82,7 +92,7 @@ fn give_open(
     let said = returned(core.alloc, core.values.values(), &mut core.exports, outcome)?;
     let ids = mentions(core.alloc, &said)?;
     effects.push(return_effect(id, said))?;
-    let settled = match settle_promises(core, id, &kept, effects) {
+    let settled = match settle_promises(core, id, is_tied, &kept, effects) {
         Ok(settled) => settled,
         Err(halt) => {
             withdraw_exports(&mut core.exports, ids.ids());
@@ -100,9 +110,11 @@ fn give_open(
 fn give_finished(
     core: &mut Core,
     id: u32,
+    is_tied: bool,
     outcome: Outcome,
     effects: &mut Vec<Effect>,
 ) -> Result<(), Halt>
+    requires untied { is_tied ≡ false → IsUntied core.old id }
     requires ungiven { IsUngiven (state_of core.old) (Origin.Answer id) }
     requires ends { AllEnd core.old.values (caps_of outcome) }
     ensures acts { GivesAnswer stages.Finished core.old id outcome result effects.old.items effects.new.items core.new }
@@ -110,7 +122,7 @@ fn give_finished(
 {
     let kept = KeptOutcome::of(core.alloc, &outcome)?;
     effects.push(return_effect(id, Returned::Canceled))?;
-    let settled = settle_promises(core, id, &kept, effects)?;
+    let settled = settle_promises(core, id, is_tied, &kept, effects)?;
     core.gates.end(Gift::Answer(id, kept))?;
     remove_answer(core, id);
     end_gates(core.alloc, &mut core.gates, &settled)?;
@@ -118,19 +130,24 @@ fn give_finished(
 }
 
 /// Settles the promises tied to an answer. Their gates are still to be ended. Where a table is full
-/// nothing changes.
+/// nothing changes. Mostly none are tied, and then the answer isn't looked up.
 fn settle_promises(
     core: &mut Core,
     id: u32,
+    is_tied: bool,
     outcome: &KeptOutcome,
     effects: &mut Vec<Effect>,
 ) -> Result<Vec<SettledPromise>, Halt>
+    requires untied { is_tied ≡ false → IsUntied core.old id }
     requires ungiven { IsUngiven (state_of core.old) (Origin.Answer id) }
     requires ends { AllEnd core.old.values (caps_of outcome.now) }
     ensures settled { SettlesTiedTo core.old id outcome.now result effects.old.items effects.new.items core.new (λ v. v.items) }
     ensures promises { OnOk result (OnlySettles core.old core.new) }
     ensures unchanged { IfFault result (core.new ≡ core.old) }
 {
+    if !is_tied {
+        return Ok(Vec::new(core.alloc));
+    }
     let Some(answer) = core.answers.get(id) else {
         unreachable!()
     };
