@@ -2,15 +2,13 @@
 use Rattle.std.proofs.Common.{◌≡◌, ℕ, List, Result, Ok, Err, IfOk, inl, inr, refl, sym, subst}
 use Rattle.cp_rpc.specs.declared.message.Message.{Message}
 use Rattle.cp_refs.specs.declared.cap.Cap.{Cap}
-use Rattle.cp_refs.specs.declared.call.Origin.{Origin}
 use Rattle.cp_refs.specs.declared.call.Request.{Request}
-use Rattle.cp_refs.specs.declared.outcome.Outcome.{Outcome}
 use Rattle.cp_vat_machine.specs.State.{State}
 use Rattle.cp_vat_machine.specs.Then.{Done, OrFull}
 use Rattle.cp_vat_machine.specs.Capacity.{Fresh}
-use Rattle.cp_vat_machine.specs.Give.{Give, Settle}
+use Rattle.cp_vat_machine.specs.Give.{Settle}
 use Rattle.cp_vat_machine.specs.Calling.{OwnDone, reference_of, GoFrom, Opens, call_refusals, DoCall}
-use Rattle.cp_vat_machine.specs.Doing.{Quietly, answer_refusals, resolve_refusals, value_refusals, Resolves}
+use Rattle.cp_vat_machine.specs.Doing.{Quietly, resolve_refusals, value_refusals, Resolves}
 use Rattle.cp_vat_machine.specs.Step.{Does, Step, did, received, faulted}
 use Rattle.cp_vat_machine.specs.declared.effect.Effect.{Effect}
 use Rattle.cp_vat_machine.specs.declared.event.Event.{Event}
@@ -58,11 +56,6 @@ not_call e = absurd (cc)
 pub call_gives : (old new : Link) (cap : Cap) (request : Request) (result : Result Value ConnectionFault) → Acts old (events.Call cap request) result new → IfOk result IsQuestion
 call_gives old new cap request (Ok value) h = done_out IsQuestion (λ done does. call_value old.vat cap request done does) (λ m e. not_call e) h.step
 call_gives old new cap request (Err fault) h = tt
-
-pub answer_gives : (old new : Link) (origin : Origin) (outcome : Outcome) (result : Result Value ConnectionFault) → Acts old (events.Answer origin outcome) result new → IfOk result IsNothing
-answer_gives old new origin outcome (Ok value) h =
-    done_out IsNothing (λ done does. quietly_nothing (Give old.vat origin outcome) done (unless_out (answer_refusals old.vat origin outcome) _ done does)) (λ m e. tt) h.step
-answer_gives old new origin outcome (Err fault) h = tt
 
 pub resolve_gives : (old new : Link) (p : ℕ) (cap : Cap) (result : Result Value ConnectionFault) → Acts old (events.Resolve p cap) result new → IfOk result IsNothing
 resolve_gives old new p cap (Ok value) h =

@@ -189,7 +189,7 @@ impl Connection {
     pub fn answer(&mut self, origin: Origin, outcome: Outcome) -> Result<(), ConnectionFault>
         ensures { Acts self.old (events.Answer origin outcome) (answered (λ _. values.Nothing) result) self.new }
     {
-        nothing(self.parts.act(Event::Answer(origin, outcome)))
+        self.parts.answer(origin, outcome)
     }
 
     /// Makes an open promise. Refused as `Vat::promise`.

@@ -18,6 +18,7 @@ ghost use Rattle.cp_connection.specs.declared.fault.ConnectionFault.TheVariants.
 use crate::agenda::Agenda;
 use crate::fault::ConnectionFault;
 use cp_frame::{FrameFault, FrameReader, Mode};
+use cp_refs::{Origin, Outcome};
 use cp_rpc::MessageView;
 use cp_stream::{Refusal, StreamFault, view_of};
 use cp_vat::{Lent, Vat};
@@ -133,6 +134,18 @@ impl Parts {
         self.conclude(acted)
     }
 
+    /// Answers a call that was delivered, as `act` does, without an event and a value of any kind.
+    pub fn answer(&mut self, origin: Origin, outcome: Outcome) -> Result<(), ConnectionFault>
+        requires keeps { KeepsUp self.old }
+        ensures keeps { KeepsUp self.new }
+        ensures acts { Acts (link_of self.old) (events.Answer origin outcome) (answered (λ _. values.Nothing) result) (link_of self.new) }
+    {
+        match self.fault {
+            Some(fault) => Err(fault),
+            None => self.give(origin, outcome),
+        }
+    }
+
     /// Reads a piece up to the end of a frame: the number of its bytes, its segments, and what follows it. `None` says that
     /// no frame ends in the piece.
     fn next_frame<'p>(
@@ -200,6 +213,17 @@ impl Parts {
         ensures refuses { IfErr result (λ fault. Refuses (link_of self.old) (events.Receive (viewed message.entry)) fault (link_of self.new)) }
     {
         let acted = self.vat.receive_lending(message);
+        self.conclude(acted)
+    }
+
+    /// Gives a call its outcome.
+    fn give(&mut self, origin: Origin, outcome: Outcome) -> Result<(), ConnectionFault>
+        requires is_open { self.old.fault ≡ None }
+        requires keeps { KeepsUp self.old }
+        ensures keeps { KeepsUp self.new }
+        ensures acts { Acts (link_of self.old) (events.Answer origin outcome) (answered (λ _. values.Nothing) result) (link_of self.new) }
+    {
+        let acted = self.vat.answer(origin, outcome);
         self.conclude(acted)
     }
 
