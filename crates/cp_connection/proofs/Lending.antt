@@ -20,13 +20,12 @@ use Rattle.cp_connection.specs.declared.fault.ConnectionFault.{ConnectionFault}
 use Rattle.cp_connection.specs.declared.fault.ConnectionFault.TheVariants as faults
 use Rattle.cp_connection.specs.declared.happening.Happening.{Happening}
 use Rattle.cp_connection.specs.declared.parts.Parts.{Parts}
-use Rattle.cp_connection.specs.Doing.{Does, Refuses}
+use Rattle.cp_connection.specs.Doing.{Refuses}
 use Rattle.cp_connection.specs.Effects.{closes, happening_by}
 use Rattle.cp_connection.specs.Lending.{DoesLending, delivered}
-use Rattle.cp_connection.specs.Link.{Link}
 use Rattle.cp_connection.specs.LinkOf.{link_of, CountsOne, GivesFrame, KeepsUp, NotesAll, RefusesFrame, closed_if, refused_by}
 use Rattle.cp_connection.specs.Noting.{Notes}
-use Rattle.cp_connection.specs.Receiving.{IsUnreceived, IsUnread, Reads, Fails}
+use Rattle.cp_connection.specs.Receiving.{IsUnreceived, IsUnread, Reads}
 use Rattle.cp_connection.proofs.Concluding.{does_noted, loses, refuses}
 use Rattle.cp_connection.proofs.Reading.{reads_one, unread_message}
 

@@ -1,7 +1,6 @@
 -- Calls that are lent are handled first, and what else happened is worked off then.
-use Rattle.std.proofs.Common.{◌≡◌, ◌↔◌, ◌==◌, ℕ, Bool, true, List, Option, Some, None, refl, sym, ap, ◌∙◌, subst, arith}
+use Rattle.std.proofs.Common.{◌≡◌, ◌↔◌, ◌==◌, ℕ, true, List, Option, Some, None, refl, sym, ap, ◌∙◌, subst, arith}
 use Rattle.std.proofs.lemmas.Bool.Decides.{nat_tests}
-use Rattle.cp_frame.specs.Reader.{taken_of}
 use Rattle.cp_vat.specs.declared.lent.Lent.{Lent}
 use Rattle.cp_connection.specs.Lending.{HandsLent, delivered}
 use Rattle.cp_connection.specs.Link.{Link}

@@ -7,7 +7,7 @@ ghost use Rattle.cp_stream.specs.declared.fault.StreamFault.TheVariants as fault
 ghost use Rattle.cp_objects.specs.Work.{Lives};
 ghost use Rattle.cp_serve.specs.Matching.{reason_in};
 ghost use Rattle.cp_serve.specs.Output.{IsServedAt, IsStoppedAt, ReadsUpTo, ends, ends_of};
-ghost use Rattle.cp_serve.specs.Reached.{AllOut, BreaksOff, EndingStops, EndsAll, FollowsIf, FrontStops, IsNew, PieceStops, Rounded, RunStops, Runs, RunsTo, RunsUnread, TakesFront, TakesPiece, TakesToEnd, TakesUnread, TakingStops, out, owed, ready_of, report_of};
+ghost use Rattle.cp_serve.specs.Reached.{BreaksOff, EndingStops, EndsAll, FollowsIf, FrontStops, IsNew, PieceStops, Rounded, RunStops, Runs, RunsTo, RunsUnread, TakesFront, TakesPiece, TakesToEnd, TakesUnread, TakingStops, out, owed, ready_of, report_of};
 
 use crate::fault::ServeFault;
 use crate::report::Report;

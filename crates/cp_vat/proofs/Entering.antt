@@ -3,7 +3,6 @@ use Rattle.std.proofs.Common.{◌≡◌, ◌^◌, ◌-◌, ◌<◌, ℕ, ltb, no
 use Rattle.std.proofs.lemmas.Bool.Decides.{nat_tests}
 use Rattle.std.specs.FinMap.{get, len}
 use Rattle.cp_rpc.specs.declared.call.Call.{Call}
-use Rattle.cp_rpc.specs.declared.target.Target.{Target}
 use Rattle.cp_tree.specs.Node.{Node}
 use Rattle.cp_refs.specs.declared.route.Route.{Route}
 use Rattle.cp_refs.specs.declared.route.Route.TheVariants as routes
@@ -26,7 +25,6 @@ use Rattle.cp_vat.specs.Arriving.{TakesIn}
 use Rattle.cp_vat.specs.Lending.{ActsLending}
 use Rattle.cp_vat.specs.Receiving.{Carries, with_content}
 use Rattle.cp_vat.proofs.Judged.{none_judged, unless_passed}
-use Rattle.cp_vat.proofs.Acting.{acts_by}
 use Rattle.cp_vat.proofs.Taking.{takes_keep}
 
 not_held : {F : Type 0} (b : Bool) (f : F) → fault_if b f ≡ [] → b ≡ false

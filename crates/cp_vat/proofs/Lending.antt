@@ -11,7 +11,7 @@ use Rattle.cp_vat_machine.specs.declared.event.Value.TheVariants as values
 use Rattle.cp_vat_machine.specs.declared.fault.PeerFault.{PeerFault}
 use Rattle.cp_vat_machine.specs.declared.fault.VatFault.{VatFault}
 use Rattle.cp_vat_laws.specs.Within.{Within}
-use Rattle.cp_vat_laws.specs.Sizes.{AreWritable, FitsOpen}
+use Rattle.cp_vat_laws.specs.Sizes.{AreWritable}
 use Rattle.cp_vat_laws.proofs.writable.Stepping.{steps_write}
 use Rattle.cp_vat_laws.proofs.within.Step.{receives_within, step_keeps}
 use Rattle.cp_vat_state.specs.Halts.{Acts}

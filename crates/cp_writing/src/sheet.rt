@@ -1,7 +1,6 @@
 //! Segments while they are written.
 
 ghost use Rattle.std.specs.Prelude.{ℕ, ◌≡◌, ◌<◌, ◌≤◌, ◌++◌, IfErr, ◌+◌, ◌∷◌, ◌^◌, [], length, replicate, OnOk, IfOk};
-ghost use Rattle.cp_words.specs.Segments.{words_of};
 ghost use Rattle.cp_tree.specs.Node.{bits, bytes, halves, quads};
 ghost use Rattle.cp_writing.specs.Allowed.{Charges};
 ghost use Rattle.cp_writing.specs.Packed.{packed};

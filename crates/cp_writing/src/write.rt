@@ -2,11 +2,11 @@
 
 ghost use Rattle.std.specs.Prelude.{◌≡◌, ◌≤◌, ◌<◌, ◌∷◌, [], sum, length, map, IfOk, OnOk, IfErr};
 ghost use Rattle.cp_writing.specs.Layout.{Layout, Built};
-ghost use Rattle.cp_tree.specs.Node.{depth, cost};
+ghost use Rattle.cp_tree.specs.Node.{cost};
 ghost use Rattle.cp_tree.specs.DraftOf.{draft_of};
 ghost use Rattle.cp_tree.specs.Lent.{node_in};
 ghost use Rattle.cp_tree.specs.Shaped.{Shaped};
-ghost use Rattle.cp_writing.specs.Sheets.{segments_of, written};
+ghost use Rattle.cp_writing.specs.Sheets.{written};
 ghost use Rattle.cp_writing.specs.Writes.{IsCostFaultOf, IsWriteFaultOf, FitsIn};
 ghost use Rattle.cp_writing.specs.LaidOut.{capacity_for, laid_out, MeetsLimit};
 
