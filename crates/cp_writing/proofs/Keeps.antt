@@ -13,7 +13,9 @@ use Rattle.cp_writing.specs.declared.sheet.Capacity.{Capacity}
 use Rattle.cp_tree.specs.Node.{Node, null, cap, struct, list, ptrs, structs, Nodes, no_nodes, node, Bodies, no_bodies, body, count, number_of, element_size, element_count}
 use Rattle.cp_writing.specs.Packed.{packed}
 use Rattle.cp_tree.specs.Shaped.{Shaped, EachShaped, EachEven}
-use Rattle.cp_writing.specs.Sheets.{Written, Placed, put, append, begin, end_of, here, after_landing_pad, with_segment_for, place_by, body_word}
+use Rattle.cp_words.specs.declared.place.Place.{Place}
+use Rattle.cp_writing.specs.declared.sheet.Sheet.{Sheet}
+use Rattle.cp_writing.specs.Sheets.{Written, Placed, IsWithin, written, put, append, begin, end_of, here, after_landing_pad, with_segment_for, place_by, place_on, body_word}
 use Rattle.cp_writing.specs.Writing.{body_blank, bodies_blank, struct_placed, ptrs_placed, structs_placed, tag_word, tree_by, row_by, bodies_by}
 use Rattle.cp_writing.proofs.Sheets.{seg, seg-last, seg-put_same, seg-put_other, seg-append_last, seg-append_other, seg-begin, end-put, end-last, end-begin, full-put, full-begin, words-put, last-put, with_room_keeps, capacity-goes, place-cases}
 
@@ -124,6 +126,16 @@ spot capacity s p k size F le =
     let h = keeps_room capacity s p 1 size F in
     let there : s ≤ length G.full = omega (arith, le, capacity-goes capacity s size F) in
     place-cases (Spot F s p size) s p k size G (spot_here F G s p k size h there) (λ some other. spot_after F G s p k size h there)
+
+-- where a body was placed is within what may be written
+pub place_small : (old new : Sheet) (name : Place) (k : Kind) (size : ℕ) (start : Place) → name.segment ≤ length (written old).full → written new ≡ (place_on old name k size).sheet → IsWithin new → start ≡ (place_on old name k size).at
+    → start.word ≤ 67108864
+place_small old new name k size start le is keeps e =
+    let there = spot old.capacity name.segment name.word k size (written old) le in
+    let x = place_on old name k size in
+    let word : start.word ≡ x.at.word = ap (λ (a : Place). a.word) e in
+    let end : end_of (written new) start.segment ≡ end_of x.sheet x.at.segment = ap (λ (F : Written). end_of F start.segment) is ∙ ap (λ (a : Place). end_of x.sheet a.segment) e in
+    omega (arith, word, there.end, end, keeps.3 start.segment, keeps.1, keeps.0)
 
 -- a body of this many words lies where it was placed
 pub record Lies (F : Written) (s p : ℕ) (xs : List ℕ) (x : Placed) : Type 0 where

@@ -67,9 +67,13 @@ written_is_layout max_words limits t F few shaped is within =
     subst (λ G. Layout (segments_of G) (record { words = max_words; segments = limits.segments }) t) (sym is)
     (laid_out_is_layout max_words limits.segments limits.frame_words t few shaped (omega (arith, within, ap (λ (G : Written). G.words) is)))
 
-pub written_is_built : (limits : Bounds) (t : Node) (F : Written) (ws : List ℕ) → Shaped t → F ≡ laid_out (capacity_for limits.frame_words 1 limits) t → ws ∷ [] ≡ segments_of F → F.words ≤ 67108864 → Built t ws
-written_is_built limits t F ws shaped is one within =
-    let capacity : Capacity = record { words = max 1 (length ws); segments = 1; whole = limits.frame_words } in
+pub written_is_sole : (words : ℕ) (limits : Bounds) (t : Node) (F : Written) (ws : List ℕ) → Shaped t → F ≡ laid_out (capacity_for limits.frame_words 1 limits) t → ws ∷ [] ≡ segments_of F → F.words ≤ 67108864
+    → Layout (ws ∷ []) (record { words = words; segments = 1 }) t
+written_is_sole words limits t F ws shaped is one within =
+    let capacity : Capacity = record { words = max 1 words; segments = 1; whole = limits.frame_words } in
     let same : F ≡ laid_out capacity t = is ∙ same_tree (capacity_for limits.frame_words 1 limits) capacity (omega arith) (omega arith) t 0 0 first in
-    subst (λ S. Layout S (record { words = length ws; segments = 1 }) t) (sym (one ∙ ap segments_of same))
-    (laid_out_is_layout (length ws) 1 limits.frame_words t (omega arith) shaped (omega (arith, within, ap (λ (G : Written). G.words) same)))
+    subst (λ S. Layout S (record { words = words; segments = 1 }) t) (sym (one ∙ ap segments_of same))
+    (laid_out_is_layout words 1 limits.frame_words t (omega arith) shaped (omega (arith, within, ap (λ (G : Written). G.words) same)))
+
+pub written_is_built : (limits : Bounds) (t : Node) (F : Written) (ws : List ℕ) → Shaped t → F ≡ laid_out (capacity_for limits.frame_words 1 limits) t → ws ∷ [] ≡ segments_of F → F.words ≤ 67108864 → Built t ws
+written_is_built limits t F ws shaped is one within = written_is_sole (length ws) limits t F ws shaped is one within

@@ -1,3 +1,4 @@
+pub mod Blocks
 pub mod Sheets
 pub mod Packing
 pub mod Keeps

@@ -11,6 +11,8 @@ use Rattle.cp_words.specs.Targets.{segment}
 use Rattle.cp_tree.specs.declared.fault.WriteFault.{WriteFault}
 use Rattle.cp_writing.specs.declared.sheet.Capacity.{Capacity}
 use Rattle.cp_writing.specs.declared.sheet.Sheet.{Sheet}
+use Rattle.cp_writing.specs.declared.strip.Strip.{Strip}
+use Rattle.cp_writing.specs.Strips.{words_on}
 use Rattle.cp_words.specs.declared.kind.Kind.{Kind}
 use Rattle.cp_writing.specs.Sheets.{Placed, here, after_landing_pad, place_in, with_segment_for, KeepsTo, IsWithin, SameLimits, Refuses, Writes, Written, written, segments_of, end_of, put, append, begin}
 
@@ -174,12 +176,12 @@ writes_on old mid new (Ok x) wanted same h = (h.0, h.1, limits_on old mid new sa
 writes_on old mid new (Err e) wanted same h = refuses_on old mid e wanted same h
 
 -- words that were counted were appended
-abbrev Appended : Sheet → List ℕ → Vec ℕ Global → Sheet → Type 0
+abbrev Appended : Sheet → List ℕ → Strip → Sheet → Type 0
 Appended old ws v mid = (written (record mid { last = v }) ≡ append ws (written old)) × IsWithin (record mid { last = v }) × SameLimits old (record mid { last = v })
 
-pub counted : (old mid : Sheet) (v : Vec ℕ Global) (ws : List ℕ) (n : ℕ) → IsWithin old → length ws ≡ n → old.words + n ≤ old.capacity.whole → mid ≡ record old { words = old.words + n } → v.items ≡ mid.last.items ++ ws → Appended old ws v mid
+pub counted : (old mid : Sheet) (v : Strip) (ws : List ℕ) (n : ℕ) → IsWithin old → length ws ≡ n → old.words + n ≤ old.capacity.whole → mid ≡ record old { words = old.words + n } → words_on v ≡ words_on mid.last ++ ws → Appended old ws v mid
 counted old mid v ws n h long most count is =
-    let last : v.items ≡ old.last.items ++ ws = is ∙ ap (λ (w : Sheet). w.last.items ++ ws) count in
+    let last : words_on v ≡ words_on old.last ++ ws = is ∙ ap (λ (w : Sheet). words_on w.last ++ ws) count in
     let new : Sheet = record old { words = old.words + n; last = v } in
     let e : written new ≡ append ws (written old) = rw (last, long) refl in
     subst (Appended old ws v) (sym count) (e, within old new _ e (refl, refl) (append-keeps old.capacity (written old) ws h (omega (arith, long, most))), (refl, refl))

@@ -1,5 +1,7 @@
 pub mod Layout
 pub mod Packed
+pub mod Blocks
+pub mod Strips
 pub mod Sheets
 pub mod Allowed
 pub mod Writing

@@ -9,6 +9,7 @@ use Rattle.cp_tree.specs.declared.fault.WriteFault.{WriteFault}
 use Rattle.cp_tree.specs.declared.fault.WriteFault.TheVariants as faults
 use Rattle.cp_writing.specs.declared.sheet.Sheet.{Sheet}
 use Rattle.cp_writing.specs.declared.sheet.Capacity.{Capacity}
+use Rattle.cp_writing.specs.Strips.{words_on}
 use Rattle.cp_words.specs.Segments.{words_of}
 use Rattle.cp_words.specs.Targets.{segment}
 
@@ -19,7 +20,7 @@ pub record Written : Type 0 where
   pub words : ℕ
 
 abbrev pub written : Sheet → Written
-written w = record { full = words_of w.full.items; last = w.last.items; words = w.words }
+written w = record { full = words_of w.full.items; last = words_on w.last; words = w.words }
 
 abbrev pub segments_of : Written → List (List ℕ)
 segments_of F = F.full ++ F.last ∷ []

@@ -54,7 +54,7 @@ pub(crate) fn push_quads(words: &mut Vec<u64>, items: &[u32]) -> Result<(), Allo
 }
 
 /// The word that at most 64 bits are, the first one lowest.
-fn bits_word(items: &[bool]) -> u64
+pub(crate) fn bits_word(items: &[bool]) -> u64
     requires { length items.now ≤ 64 }
     ensures { result ≡ value 2 (map bit_of items.now) }
 {
@@ -83,7 +83,7 @@ fn eight_bytes(items: &[u8; 8]) -> u64
 }
 
 /// The word that at most 8 bytes are, the first one lowest.
-fn bytes_word(items: &[u8]) -> u64
+pub(crate) fn bytes_word(items: &[u8]) -> u64
     requires { length items.now ≤ 8 }
     ensures { result ≡ value 256 items.now }
 {
@@ -106,7 +106,7 @@ fn four_halves(items: &[u16; 4]) -> u64
 }
 
 /// The word that at most 4 numbers of two bytes are, the first one lowest.
-fn halves_word(items: &[u16]) -> u64
+pub(crate) fn halves_word(items: &[u16]) -> u64
     requires { length items.now ≤ 4 }
     ensures { result ≡ value 65536 items.now }
 {
@@ -127,7 +127,7 @@ fn two_quads(items: &[u32; 2]) -> u64
 }
 
 /// The word that at most 2 numbers of four bytes are, the first one lowest.
-fn quads_word(items: &[u32]) -> u64
+pub(crate) fn quads_word(items: &[u32]) -> u64
     requires { length items.now ≤ 2 }
     ensures { result ≡ value 4294967296 items.now }
 {

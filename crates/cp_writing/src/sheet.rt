@@ -3,11 +3,13 @@
 ghost use Rattle.std.specs.Prelude.{ℕ, ◌≡◌, ◌<◌, ◌≤◌, ◌++◌, IfErr, ◌+◌, ◌∷◌, ◌^◌, [], length, replicate, OnOk, IfOk};
 ghost use Rattle.cp_tree.specs.Node.{bits, bytes, halves, quads};
 ghost use Rattle.cp_writing.specs.Allowed.{Charges};
+ghost use Rattle.cp_writing.specs.Blocks.{block_of};
 ghost use Rattle.cp_writing.specs.Packed.{packed};
 ghost use Rattle.cp_writing.specs.Sheets.{written, segments_of, end_of, put, begin, place_on, body_word, IsNamed, with_segment_for, here, after_landing_pad, IsCapacity, IsWithin, SameLimits, IsPlace, Appends, Places};
+ghost use Rattle.cp_writing.specs.Strips.{words_on};
 ghost use Rattle.cp_tree.specs.declared.fault.WriteFault.TheVariants.{TooManyWords};
 
-use crate::pack::{push_bits, push_bytes, push_halves, push_quads};
+use crate::strip::Strip;
 use cp_tree::WriteFault;
 use cp_words::{Kind, Place, Pointer, Segments, encode};
 use std::alloc::{AllocError, Global};
@@ -35,34 +37,34 @@ pub(crate) struct Sheet {
     capacity: Capacity,
     budget: u64,
     full: Vec<Vec<u64>>,
-    last: Vec<u64>,
+    last: Strip,
     words: usize,
 }
 
 impl Sheet {
-    /// One segment with a blank word, the root's pointer, written over what the buffer holds.
+    /// One segment with a blank word, the root's pointer, written on a strip that holds no words.
     pub fn new(
         alloc: Global,
-        mut buffer: Vec<u64>,
+        mut strip: Strip,
         capacity: Capacity,
         budget: u64,
     ) -> Result<Sheet, AllocError>
-        requires { IsCapacity capacity }
+        requires capacity { IsCapacity capacity }
+        requires blank { words_on strip ≡ [] }
         ensures written { IfOk result (λ w. written w ≡ record { full = []; last = 0 ∷ []; words = 1 }) }
         ensures limits { IfOk result (λ w. (w.capacity ≡ capacity) × (w.budget ≡ budget)) }
         ensures keeps { IfOk result IsWithin }
     {
         let reserved = capacity.words.min(FIRST_WORDS);
-        buffer.clear();
-        buffer.reserve(reserved)?;
-        buffer.push(0)?;
+        strip.reserve(reserved)?;
+        strip.append_blank(1)?;
         Ok(Sheet {
             alloc,
             reserved,
             capacity,
             budget,
             full: Vec::new(alloc),
-            last: buffer,
+            last: strip,
             words: 1,
         })
     }
@@ -71,22 +73,30 @@ impl Sheet {
     pub fn into_segments(self) -> Result<Segments, AllocError>
         ensures { IfOk result (λ s. s ≡ segments_of (written self)) }
     {
+        let last = self.last.into_words(self.alloc)?;
         let mut segments = self.full;
         if segments.is_empty() {
-            return Ok(Segments::one(self.last));
+            return Ok(Segments::one(last));
         }
-        segments.push(self.last)?;
+        segments.push(last)?;
         let Ok(segments) = Segments::new(segments) else {
             unreachable!()
         };
         Ok(segments)
     }
 
-    /// The last segment.
-    pub fn into_last(self) -> Vec<u64>
-        ensures { result.items ≡ (written self).last }
+    /// The words of the last segment.
+    pub fn into_last(self) -> Result<Vec<u64>, AllocError>
+        ensures { IfOk result (λ v. v.items ≡ (written self).last) }
     {
-        self.last
+        self.last.into_words(self.alloc)
+    }
+
+    /// The bytes of the last segment, after zero bytes in the place of a segment table.
+    pub fn into_bytes(self) -> Result<Vec<u8>, AllocError>
+        ensures { IfOk result (λ v. v.items ≡ block_of (written self).last) }
+    {
+        self.last.into_bytes(self.alloc)
     }
 
     /// Goes one level down, to a body or a list that costs this much without what hangs on it. Gives how
@@ -125,7 +135,7 @@ impl Sheet {
         ensures limits { SameLimits self.old self.new }
     {
         if at.segment == self.full.len() {
-            self.last[at.word] = word;
+            self.last.put(at.word, word);
         } else {
             self.full[at.segment][at.word] = word;
         }
@@ -153,7 +163,7 @@ impl Sheet {
         ensures { Appends self.old self.new result words.now }
     {
         self.count(words.len())?;
-        self.last.extend_from_slice(words)?;
+        self.last.append(words)?;
         Ok(())
     }
 
@@ -164,7 +174,7 @@ impl Sheet {
         ensures { Appends self.old self.new result (replicate words 0) }
     {
         self.count(words)?;
-        self.last.resize(self.last.len() + words, 0)?;
+        self.last.append_blank(words)?;
         Ok(())
     }
 
@@ -173,7 +183,7 @@ impl Sheet {
         ensures { Appends self.old self.new result (packed (bits items.now)) }
     {
         self.count((items.len() + 63) / 64)?;
-        push_bits(&mut self.last, items)?;
+        self.last.append_bits(items)?;
         Ok(())
     }
 
@@ -182,7 +192,7 @@ impl Sheet {
         ensures { Appends self.old self.new result (packed (bytes items.now)) }
     {
         self.count((items.len() + 7) / 8)?;
-        push_bytes(&mut self.last, items)?;
+        self.last.append_bytes(items)?;
         Ok(())
     }
 
@@ -191,7 +201,7 @@ impl Sheet {
         ensures { Appends self.old self.new result (packed (halves items.now)) }
     {
         self.count((items.len() + 3) / 4)?;
-        push_halves(&mut self.last, items)?;
+        self.last.append_halves(items)?;
         Ok(())
     }
 
@@ -200,7 +210,7 @@ impl Sheet {
         ensures { Appends self.old self.new result (packed (quads items.now)) }
     {
         self.count((items.len() + 1) / 2)?;
-        push_quads(&mut self.last, items)?;
+        self.last.append_quads(items)?;
         Ok(())
     }
 
@@ -212,7 +222,8 @@ impl Sheet {
         ensures limits { OnOk result (SameLimits self.old self.new) }
     {
         let next = Vec::with_capacity(self.alloc, self.reserved.max(size + 1))?;
-        self.full.push(mem::replace(&mut self.last, next))?;
+        let last = mem::replace(&mut self.last, Strip::Words(next));
+        self.full.push(last.into_words(self.alloc)?)?;
         Ok(())
     }
 

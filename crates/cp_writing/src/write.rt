@@ -7,11 +7,14 @@ ghost use Rattle.cp_tree.specs.DraftOf.{draft_of};
 ghost use Rattle.cp_tree.specs.Lent.{node_in};
 ghost use Rattle.cp_tree.specs.Shaped.{Shaped};
 ghost use Rattle.cp_writing.specs.Sheets.{written};
-ghost use Rattle.cp_writing.specs.Writes.{IsCostFaultOf, IsWriteFaultOf, FitsIn};
+ghost use Rattle.cp_writing.specs.Strips.{words_on};
+ghost use Rattle.cp_writing.specs.Writes.{AreBytesOf, IsCostFaultOf, IsWriteFaultOf, FitsIn};
 ghost use Rattle.cp_writing.specs.LaidOut.{capacity_for, laid_out, MeetsLimit};
 
+use crate::block::Block;
 use crate::lay::lay;
 use crate::sheet::{Capacity, Sheet};
+use crate::strip::Strip;
 use cp_tree::{Draft, Object, TreeRef, WriteFault, nests};
 use cp_words::{Limits, Place, Segments};
 use std::alloc::Global;
@@ -54,7 +57,8 @@ pub fn write_draft_over(
 {
     let words = if max_words == 0 { 1 } else { max_words };
     let tree = TreeRef::Draft(draft);
-    let sheet = lay_out(alloc, buffer, tree, words, limits.segments(), limits)?;
+    let strip = Strip::over(buffer);
+    let sheet = lay_out(alloc, strip, tree, words, limits.segments(), limits)?;
     Ok(sheet.into_segments()?)
 }
 
@@ -86,25 +90,46 @@ pub fn write_root(alloc: Global, object: &Object, limits: Limits) -> Result<Vec<
     let tree = TreeRef::Tree(object.tree());
     let sheet = lay_out(
         alloc,
-        Vec::new(alloc),
+        Strip::Words(Vec::new(alloc)),
         tree,
         limits.frame_words(),
         1,
         limits,
     )?;
-    Ok(sheet.into_last())
+    Ok(sheet.into_last()?)
+}
+
+/// Writes a tree with lent parts into one segment, as `write_root` writes a tree, and gives its bytes, over what a buffer
+/// holds, whose memory is used again: eight zero bytes, in the place of a segment table, and then eight bytes for
+/// each word, the lowest first.
+pub fn write_draft_bytes(
+    alloc: Global,
+    buffer: Vec<u8>,
+    draft: &Draft,
+    limits: Limits,
+) -> Result<Vec<u8>, WriteFault>
+    requires shaped { Shaped (draft_of draft.now) }
+    ensures built { IfOk result (λ b. AreBytesOf limits (draft_of draft.now) b.items) }
+    ensures fits { OnOk result (FitsIn limits (draft_of draft.now)) }
+    ensures refused { IfErr result (IsWriteFaultOf limits (record { words = limits.frame_words; segments = 1 }) (draft_of draft.now)) }
+{
+    let strip = Strip::Bytes(Block::new(buffer)?);
+    let tree = TreeRef::Draft(draft);
+    let sheet = lay_out(alloc, strip, tree, limits.frame_words(), 1, limits)?;
+    Ok(sheet.into_bytes()?)
 }
 
 /// The tree written into segments of at most this many words each, and of them at most this many, the first
-/// over what the buffer holds.
+/// on a strip that holds no words.
 fn lay_out(
     alloc: Global,
-    buffer: Vec<u64>,
+    strip: Strip,
     tree: TreeRef,
     words: u32,
     segments: u32,
     limits: Limits,
 ) -> Result<Sheet, WriteFault>
+    requires blank { words_on strip ≡ [] }
     requires shaped { Shaped (node_in tree) }
     requires few { segments ≤ 512 }
     ensures written { IfOk result (λ w. written w ≡ laid_out (capacity_for words segments limits) (node_in tree.entry)) }
@@ -118,7 +143,7 @@ fn lay_out(
         segments: segments as usize,
         whole: limits.frame_words() as usize,
     };
-    let mut sheet = Sheet::new(alloc, buffer, capacity, limits.traversal() as u64)?;
+    let mut sheet = Sheet::new(alloc, strip, capacity, limits.traversal() as u64)?;
     let root = Place {
         segment: 0,
         word: 0,

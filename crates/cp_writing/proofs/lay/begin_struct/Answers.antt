@@ -5,7 +5,7 @@ use Rattle.cp_words.specs.declared.place.Place.{Place}
 use Rattle.cp_writing.specs.Sheets.{written, put, append}
 use Rattle.cp_writing.specs.Writing.{body_blank, struct_placed}
 use Rattle.cp_writing.proofs.Begins.{run_of, empty_begins, struct_hangs, struct_refuses}
-use Rattle.cp_writing.proofs.Keeps.{spot, length-blank}
+use Rattle.cp_writing.proofs.Keeps.{spot, place_small, length-blank}
 use Rattle.cp_writing.proofs.Sheets.{refuses_on, limits_on}
 use Rattle.cp_writing.proofs.lay.begin_struct.Goals as goal
 
@@ -53,3 +53,9 @@ returns c =
       limits,
       struct_hangs A.capacity at.segment at.word ws n F some _ c.append_body.new.sheet limits.0 first new,
     )
+
+pub overflow_add-result : goal.overflow_add-result
+overflow_add-result c =
+    let ws = c.args.words.now in
+    let start = c.in_ok-start.ensures in
+    omega (arith, place_small c.args.sheet.now c.place.new.self c.args.at (kinds.Struct (length ws) c.args.ptrs) (length ws + c.args.ptrs) c.in_ok-start.start c.requires.there.0 start.0.0 start.0.1 start.1, c.requires.sizes)

@@ -20,10 +20,10 @@ returns-clause-built c =
     ∙ ap (λ n. laid_out (capacity_for n 1 limits) (node_of c.tree.result.now)) c.frame_words.ensures.value
     ∙ ap (laid_out (capacity_for limits.frame_words 1 limits)) c.tree.ensures.tree in
     let last =
-    c.into_last.ensures
+    c.in_ok-into_last.ensures
     ∙ ap (λ (W : Written). W.last) is in
     let one = ap (λ v. v ∷ []) last ∙ alone_lists (capacity_for limits.frame_words 1 limits) (omega arith) t 0 0 (record { full = []; last = 0 ∷ []; words = 1 }) refl in
-    written_is_built limits t (written c.in_ok-sheet.sheet) c.into_last.result.items c.tree.ensures.shaped is (one ∙ ap segments_of (sym is)) c.in_ok-sheet.ensures.small
+    written_is_built limits t (written c.in_ok-sheet.sheet) c.in_ok-into_last.field-0.items c.tree.ensures.shaped is (one ∙ ap segments_of (sym is)) c.in_ok-sheet.ensures.small
 
 pub returns-clause-small : goal.returns-clause-small
 returns-clause-small c =
@@ -31,7 +31,7 @@ returns-clause-small c =
     let t = c.args.object.now in
     let capacity = capacity_for c.frame_words.result 1 limits in
     let u = node_of c.tree.result.now in
-    let last = c.into_last.ensures ∙ ap (λ (W : Written). W.last) c.in_ok-sheet.ensures.written in
+    let last = c.in_ok-into_last.ensures ∙ ap (λ (W : Written). W.last) c.in_ok-sheet.ensures.written in
     let one = ap (λ v. v ∷ []) last ∙ alone_lists capacity (omega arith) u 0 0 (record { full = []; last = 0 ∷ []; words = 1 }) refl in
     omega (arith, ap (λ S. sum (map length S)) one, laid_words capacity u, ap (λ (F : Written). F.words) c.in_ok-sheet.ensures.written, c.in_ok-sheet.ensures.within)
 

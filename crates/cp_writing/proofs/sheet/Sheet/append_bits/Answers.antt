@@ -17,4 +17,4 @@ returns c =
     let ws = packed (bits c.args.items.now) in
     let n = (length c.args.items.now + 63) / 64 in
     let long : length ws ≡ n = omega (arith, length_groups 2 64 (map bit_of c.args.items.now), length_bits c.args.items.now) in
-    counted c.args.self.now c.count.new.self c.push_bits.new.words ws n c.requires long c.in_ok-count.ensures.within c.in_ok-count.ensures.counted c.in_ok-push_bits.ensures
+    counted c.args.self.now c.count.new.self c.append_bits.new.self ws n c.requires long c.in_ok-count.ensures.within c.in_ok-count.ensures.counted c.in_ok-append_bits.ensures

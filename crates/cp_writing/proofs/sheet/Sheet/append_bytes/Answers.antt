@@ -17,4 +17,4 @@ returns c =
     let ws = packed (bytes c.args.items.now) in
     let n = (length c.args.items.now + 7) / 8 in
     let long : length ws ≡ n = omega (arith, length_groups 256 8 c.args.items.now) in
-    counted c.args.self.now c.count.new.self c.push_bytes.new.words ws n c.requires long c.in_ok-count.ensures.within c.in_ok-count.ensures.counted c.in_ok-push_bytes.ensures
+    counted c.args.self.now c.count.new.self c.append_bytes.new.self ws n c.requires long c.in_ok-count.ensures.within c.in_ok-count.ensures.counted c.in_ok-append_bytes.ensures

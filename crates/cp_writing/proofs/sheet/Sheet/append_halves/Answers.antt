@@ -17,4 +17,4 @@ returns c =
     let ws = packed (halves c.args.items.now) in
     let n = (length c.args.items.now + 3) / 4 in
     let long : length ws ≡ n = omega (arith, length_groups 65536 4 c.args.items.now) in
-    counted c.args.self.now c.count.new.self c.push_halves.new.words ws n c.requires long c.in_ok-count.ensures.within c.in_ok-count.ensures.counted c.in_ok-push_halves.ensures
+    counted c.args.self.now c.count.new.self c.append_halves.new.self ws n c.requires long c.in_ok-count.ensures.within c.in_ok-count.ensures.counted c.in_ok-append_halves.ensures

@@ -17,4 +17,4 @@ returns c =
     let ws = packed (quads c.args.items.now) in
     let n = (length c.args.items.now + 1) / 2 in
     let long : length ws ≡ n = omega (arith, length_groups 4294967296 2 c.args.items.now) in
-    counted c.args.self.now c.count.new.self c.push_quads.new.words ws n c.requires long c.in_ok-count.ensures.within c.in_ok-count.ensures.counted c.in_ok-push_quads.ensures
+    counted c.args.self.now c.count.new.self c.append_quads.new.self ws n c.requires long c.in_ok-count.ensures.within c.in_ok-count.ensures.counted c.in_ok-append_quads.ensures

@@ -2,6 +2,7 @@ use Rattle.std.proofs.Common.{◌<◌, length, arith}
 use Rattle.std.proofs.lemmas.List.{length-map}
 use Rattle.std.specs.Prelude.{Vec, ℕ}
 use Rattle.std.specs.declared.alloc.Global.{Global}
+use Rattle.cp_writing.specs.Strips.{words_on}
 use Rattle.cp_writing.proofs.Sheets.{put_there_of}
 use Rattle.cp_writing.proofs.sheet.Sheet.put.Goals as goal
 
@@ -10,4 +11,4 @@ returns-else-at-len-clause-written c =
     let full = c.args.self.now.full in
     let same = length-map full.items (λ (x : Vec ℕ Global). x.items) in
     let lt : c.args.at.segment < length full.items = omega (arith, same, c.requires.0, c.if-at-len.false, c.len.ensures, full.ok.0) in
-    put_there_of full.items c.args.self.now.last.items c.args.self.now.words c.args.at.segment c.args.at.word c.args.word _ c.index_mut-else-at-len.ensures.value lt
+    put_there_of full.items (words_on c.args.self.now.last) c.args.self.now.words c.args.at.segment c.args.at.word c.args.word _ c.index_mut.ensures.value lt
