@@ -2,6 +2,7 @@ pub mod Reading
 pub mod Readers
 pub mod Taking
 pub mod Writing
+pub mod Straight
 pub mod Only
 pub mod LayoutDenotes
 pub mod ReadBack

@@ -1,6 +1,8 @@
 //! Writing messages, each as one frame.
 
-ghost use Rattle.std.specs.Prelude.{◌≡◌, ◌⊎◌, [], IfOk, IfErr, OnOk, OnErr};
+ghost use Rattle.std.specs.Prelude.{◌≡◌, ◌⊎◌, ◌≤◌, ◌++◌, [], IfOk, IfErr, OnOk, OnErr, length, take, drop};
+ghost use Rattle.std.specs.Int.{to_le_bytes, w32};
+ghost use Rattle.cp_frame.specs.declared.mode.Mode.TheVariants.{Plain};
 ghost use Rattle.cp_rpc.specs.Viewed.{viewed};
 ghost use Rattle.cp_stream.specs.Reader.{IsMemory};
 ghost use Rattle.cp_stream.specs.declared.fault.StreamFault.TheVariants.{Device};
@@ -12,7 +14,7 @@ use cp_frame::{Mode, write_after, write_frame};
 use cp_rpc::{Message, MessageView, SchemaFault, draft_of};
 use cp_tree::WriteFault;
 use cp_words::{Limits, Segments};
-use cp_writing::write_draft_over;
+use cp_writing::{write_draft_bytes, write_draft_over};
 use std::alloc::Global;
 use std::io::Write;
 use std::mem;
@@ -73,9 +75,9 @@ pub fn write_message<W: Write>(
     write_message_in(alloc, to, message, mode, limits.frame_words(), limits)
 }
 
-/// Puts the frame that `write_message` writes of a message after what a block holds. The message is laid out over what
-/// `words` holds, whose memory is used again; afterwards it holds nothing. Faults are those, without a place, and then
-/// the block holds what it held.
+/// Puts the frame that `write_message` writes of a message after what a block holds. In the plain form a message is laid
+/// out straight into a block that holds nothing, and else over what `words` holds, whose memory is used again;
+/// afterwards it holds nothing. Faults are those, without a place, and then the block holds what it held.
 pub fn put_message(
     alloc: Global,
     block: &mut Vec<u8>,
@@ -89,12 +91,12 @@ pub fn put_message(
     ensures same { OnErr result (block.new.items ≡ block.old.items) }
     ensures emptied { words.new.items ≡ [] }
 {
-    let buffer = mem::replace(words, Vec::new(alloc));
-    let segments = segments_of(alloc, buffer, message, limits.frame_words(), limits)?;
-    write_after(alloc, block, &segments, mode, limits)?;
-    *words = segments.into_first();
+    let put = match mode {
+        Mode::Plain if block.is_empty() => put_straight(alloc, block, message, limits),
+        _ => put_over(alloc, block, words, message, mode, limits),
+    };
     words.clear();
-    Ok(())
+    put
 }
 
 /// The bytes of the frame that `write_message` writes the message of a view as. Faults are those, without a place, and S3 if
@@ -114,6 +116,68 @@ pub fn frame_of_view(
     let frame = frame_of(alloc, &message, mode, limits.frame_words(), limits);
     drop(message);
     frame
+}
+
+/// Puts a message's frame in the plain form into a block that holds nothing, in which the message is laid out.
+fn put_straight(
+    alloc: Global,
+    block: &mut Vec<u8>,
+    message: &Message,
+    limits: Limits,
+) -> Result<(), Refusal>
+    requires empty { block.old.items ≡ [] }
+    ensures put { OnOk result (IsWrittenAs Plain limits limits.frame_words 1 message.now block.new.items) }
+    ensures refused { IfErr result (IsUnwrittenFor limits limits.frame_words 1 message.now) }
+    ensures same { OnErr result (block.new.items ≡ []) }
+{
+    let buffer = mem::replace(block, Vec::new(alloc));
+    *block = frame_over(alloc, buffer, message, limits)?;
+    Ok(())
+}
+
+/// The frame that a message is written as in the plain form, over what the buffer holds.
+fn frame_over(
+    alloc: Global,
+    buffer: Vec<u8>,
+    message: &Message,
+    limits: Limits,
+) -> Result<Vec<u8>, WriteFault>
+    ensures written { IfOk result (λ b. IsWrittenAs Plain limits limits.frame_words 1 message.now b.items) }
+    ensures refused { IfErr result (IsNotLaidOut limits limits.frame_words 1 message.now) }
+{
+    let draft = draft_of(alloc, message)?;
+    let mut frame = write_draft_bytes(alloc, buffer, &draft, limits)?;
+    let words = frame.len() / 8 - 1;
+    put_size(&mut frame, words as u32);
+    Ok(frame)
+}
+
+/// Writes the size of the one segment of a frame over zero bytes in its segment table.
+fn put_size(frame: &mut [u8], words: u32)
+    requires { 8 ≤ length frame.old }
+    ensures { frame.new ≡ (take 4 frame.old ++ to_le_bytes w32 words) ++ drop 8 frame.old }
+{
+    frame[4..8].copy_from_slice(&words.to_le_bytes());
+}
+
+/// Puts a message's frame after what a block holds. The message is laid out over what `words` holds.
+fn put_over(
+    alloc: Global,
+    block: &mut Vec<u8>,
+    words: &mut Vec<u64>,
+    message: &Message,
+    mode: Mode,
+    limits: Limits,
+) -> Result<(), Refusal>
+    ensures put { OnOk result (IsPut mode limits limits.frame_words 1 message.now block.old.items block.new.items) }
+    ensures refused { IfErr result (IsUnwrittenFor limits limits.frame_words 1 message.now) }
+    ensures same { OnErr result (block.new.items ≡ block.old.items) }
+{
+    let buffer = mem::replace(words, Vec::new(alloc));
+    let segments = segments_of(alloc, buffer, message, limits.frame_words(), limits)?;
+    write_after(alloc, block, &segments, mode, limits)?;
+    *words = segments.into_first();
+    Ok(())
 }
 
 /// The frame that a message is written as.

@@ -3,7 +3,7 @@ use Rattle.std.proofs.lemmas.Result.{err_from_is_err_and}
 use Rattle.cp_stream.specs.declared.fault.Refusal.TheVariants as refusals
 use Rattle.cp_stream.specs.Write.{IsLaidOutAs, IsNotLaidOut}
 use Rattle.cp_stream.proofs.Writing.{written_alone, refused_alone, refused_frame}
-use Rattle.cp_stream.proofs.write.put_message.Goals as goal
+use Rattle.cp_stream.proofs.write.put_over.Goals as goal
 
 pub returns-clause-put : goal.returns-clause-put
 returns-clause-put c =
