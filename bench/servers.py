@@ -1,8 +1,16 @@
-"""What the programs that time servers share: a free port of 127.0.0.1, and waiting until a server listens."""
+"""What the programs that time servers share: programs that must be there, a free port of 127.0.0.1, and waiting until a server listens."""
+import os
 import pathlib
 import socket
 import sys
 import time
+
+
+def expect_built(*programs):
+    """Ends this program where one of these can't be run."""
+    for it in programs:
+        if not os.access(it, os.X_OK):
+            sys.exit(f"{it} isn't built")
 
 
 def free_port():

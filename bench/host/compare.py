@@ -15,7 +15,7 @@ import sys
 
 HERE = pathlib.Path(__file__).resolve().parent
 sys.path.insert(0, str(HERE.parent))
-from servers import free_port, wait_for
+from servers import expect_built, free_port, wait_for
 
 COMMAND = HERE.parent.parent / "crates/cp_cli/out/cp_cli"
 
@@ -29,11 +29,13 @@ def run(words, row, args):
     here, there = args.cpus.split(",")
     words = [str(port) if it == "PORT" else it for it in words]
     server = subprocess.Popen(["taskset", "-c", there, *words], stderr=subprocess.DEVNULL)
-    wait_for(server, port)
-    client = ["taskset", "-c", here, str(args.build / "load"), str(port), str(row[0]), str(args.calls), str(row[1]), str(server.pid)]
-    said = subprocess.run(client, stdout=subprocess.PIPE, check=True, timeout=300).stdout
-    server.kill()
-    server.wait()
+    try:
+        wait_for(server, port)
+        client = ["taskset", "-c", here, str(args.build / "load"), str(port), str(row[0]), str(args.calls), str(row[1]), str(server.pid)]
+        said = subprocess.run(client, stdout=subprocess.PIPE, check=True, timeout=300).stdout
+    finally:
+        server.kill()
+        server.wait()
     rate, median, late, before, after = map(float, said.split())
     return rate, median, late, (after - before) / sum(row)
 
@@ -47,6 +49,7 @@ def main():
     words.add_argument("--cpus", default="1,2")
     words.add_argument("--only", default="")
     args = words.parse_args()
+    expect_built(args.command, args.build / "many", args.build / "load")
     servers = {"ours": [str(args.command), "serve", "--at-once", "2000", "PORT", "-"], "reference": [str(args.build / "many"), "PORT"]}
     print(f"{args.runs} runs of each, in turn; load {os.getloadavg()[0]:.1f}")
     print(f"{'':<12}{'calling':>8}{'silent':>8}{'calls/s':>10}{'median us':>11}{'99 in 100':>11}{'kB each':>9}")

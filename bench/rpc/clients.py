@@ -16,7 +16,7 @@ import subprocess
 import sys
 
 sys.path.insert(0, str(pathlib.Path(__file__).resolve().parent.parent))
-from servers import free_port, wait_for
+from servers import expect_built, free_port, wait_for
 
 # The greatest ratio that is asked for.
 GOALS = {"seq": 0.9, "window": 0.9, "pipeline": 0.9}
@@ -59,6 +59,7 @@ def main():
     servers = {"reference": [str(args.build / "server")]}
     if args.command:
         servers["ours"] = [str(args.command), "serve"]
+    expect_built(args.build / "calling", args.build / "client", *(it[0] for it in servers.values()))
     print(f"{args.runs} runs of each, in turn; load {os.getloadavg()[0]:.1f}")
     print(f"{'server':<11}{'mode':<10}{'our client':>11}{'reference':>12}{'ratio':>8}{'goal':>7}   spread")
     met = [compare(name, server, mode, args) for name, server in servers.items() for mode in GOALS if args.only in mode]

@@ -17,7 +17,7 @@ import sys
 
 HERE = pathlib.Path(__file__).resolve().parent
 sys.path.insert(0, str(HERE.parent))
-from servers import free_port, wait_for
+from servers import expect_built, free_port, wait_for
 
 COMMAND = HERE.parent.parent / "crates/cp_cli/out/cp_cli"
 
@@ -67,6 +67,7 @@ def main():
     words.add_argument("--cpus", default="1,2")
     words.add_argument("--enforce", action="store_true")
     args = words.parse_args()
+    expect_built(args.build / "client", *(it[0] for mode in GOALS if args.only in mode for it in servers(mode, args)))
     print(f"{args.runs} runs of each, in turn; load {os.getloadavg()[0]:.1f}")
     print(f"{'mode':<15}{'ours':>12}{'reference':>12}{'ratio':>8}{'goal':>7}   spread")
     met = [compare(mode, args) for mode in GOALS if args.only in mode]
