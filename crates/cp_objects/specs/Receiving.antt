@@ -2,13 +2,15 @@
 use Rattle.std.specs.Prelude.{◌≡◌, ◌↔◌, ℕ, Bool, true, List, Option, Some, None}
 use Rattle.cp_frame.specs.Reader.{taken_of}
 use Rattle.cp_vat.specs.declared.lent.Lent.{Lent}
+use Rattle.cp_vat.specs.Lending.{asked_by}
 use Rattle.cp_connection.specs.declared.fault.ConnectionFault.{ConnectionFault}
 use Rattle.cp_connection.specs.declared.fault.ConnectionFault.TheVariants as faults
 use Rattle.cp_connection.specs.Lending.{delivered}
 use Rattle.cp_connection.specs.Link.{Link}
 use Rattle.cp_connection.specs.Receiving as connection
+use Rattle.cp_servants.specs.declared.servant.Reply.{Reply}
 use Rattle.cp_servants.specs.Servant.{Kind}
-use Rattle.cp_objects.specs.Rounds.{Handles, WorksOff}
+use Rattle.cp_objects.specs.Rounds.{Gives, Handles, WorksOff}
 use Rattle.cp_objects.specs.Work.{Work, Lives}
 
 module _ {A : Type 0} (kind : Kind A) where
@@ -18,6 +20,10 @@ module _ {A : Type 0} (kind : Kind A) where
   Receives old piece count has_ended new objects others =
       (link : Link) × connection.Receives old.link piece count link × ((has_ended ≡ true) ↔ (taken_of link.reading ≡ 0))
       × WorksOff kind (record old { link = link }) new objects others × Lives link new.link
+
+  -- a call that is lent is given to its object, which replies this
+  abbrev pub GivesLent : Lent → Reply → Work → Work → List A → List A → Type 0
+  GivesLent lent reply old new objects others = Gives kind lent.object lent.ticket (asked_by lent) reply old new objects others
 
   -- a call that is lent is done as one that was delivered, if there is one
   abbrev pub HandlesLent : Option Lent → Work → Work → List A → List A → Type 0

@@ -5,14 +5,13 @@ ghost use Rattle.std.specs.FinMap as map;
 ghost use Rattle.cp_vat_machine.specs.InUse.{caps_of};
 ghost use Rattle.cp_vat_machine.specs.declared.event.Event.TheVariants as events;
 ghost use Rattle.cp_connection.specs.Link.{Link};
-ghost use Rattle.cp_vat.specs.Lending.{asked_by};
 ghost use Rattle.cp_servants.specs.Outcomes.{bad_outcome, no_such_object};
 ghost use Rattle.cp_servants.specs.declared.servant.Reply.TheVariants.{Now};
 ghost use Rattle.cp_objects.specs.Work.{begun, Answers, Frees, GivesUp, Holds, IsDone, LetsGo, Lives, Notes, Releases, Replies, Stays, Tries, TriesEach, TriesUnheld};
 ghost use Rattle.cp_objects.specs.Calling.{HandsBack, Hears, MakesCall, MakesCalls, NextCall};
 ghost use Rattle.cp_objects.specs.Rounds.{Gives, Handles, HandsOver, PollsFrom, Rounds, Settles, WorksOff};
 ghost use Rattle.cp_objects.specs.Idle.{ReleasesIdle};
-ghost use Rattle.cp_objects.specs.Receiving.{HandlesLent, IsCutShort, Receives};
+ghost use Rattle.cp_objects.specs.Receiving.{GivesLent, HandlesLent, IsCutShort, Receives};
 ghost use Rattle.cp_objects.specs.WorkOf.{work_of};
 
 use crate::asker::Asker;
@@ -293,7 +292,7 @@ impl Objects {
         objects: &mut [O],
         lent: Lent<'_>,
     ) -> Result<Reply, AllocError>
-        ensures { IfOk result (λ reply. (link : Link) → Gives O.kind lent.entry.object lent.entry.ticket (asked_by lent.entry) reply (work_of self.old link) (work_of self.new link) objects.old objects.new) }
+        ensures { IfOk result (λ reply. (link : Link) → GivesLent O.kind lent.entry reply (work_of self.old link) (work_of self.new link) objects.old objects.new) }
     {
         let place = lent.object as usize;
         if place < objects.len() {
