@@ -2,6 +2,7 @@
 #![tactic(auto)]
 
 mod asked;
+mod batch;
 mod fault;
 mod names;
 mod plan;

@@ -1,11 +1,12 @@
 //! What the commands do, over a reader and two writers.
 
 use crate::asked::Occurrences;
+use crate::batch::Batch;
 use crate::fault::Stop;
 use crate::names::Names;
 use crate::status::{ACCEPTED, BROKEN, REFUSED};
 use cp_decode::{Decoder, message_line};
-use cp_frame::{FrameReader, Mode, send_frame};
+use cp_frame::{FrameReader, Mode};
 use cp_lines::push_line;
 use cp_reading::{View, read_root};
 use cp_stream::{check_of, view_of};
@@ -65,12 +66,12 @@ struct Progress {
 }
 
 /// What is kept from message to message: where memory comes from, the last line, which the next is written
-/// over, and the buffer in which frames are made.
+/// over, and the frames that aren't written yet.
 #[derive(Drop)]
 struct Last {
     alloc: Global,
     line: String,
-    buffer: Vec<u8>,
+    batch: Batch,
     /// The Returns that came.
     returns: Occurrences,
 }
@@ -107,10 +108,10 @@ impl Plan<'_> {
             } => decode(alloc, segments, *limits, decoder, out),
             Plan::Name { limits, names, .. } => name(segments, *limits, names, last, out),
             Plan::Check { limits, .. } => Ok(check_of(segments, *limits)?),
-            Plan::Pack => write(alloc, segments, Mode::Packed, &mut last.buffer, out),
-            Plan::Unpack => write(alloc, segments, Mode::Plain, &mut last.buffer, out),
+            Plan::Pack => last.batch.put(segments, Mode::Packed, out),
+            Plan::Unpack => last.batch.put(segments, Mode::Plain, out),
             Plan::Recut { mode, words } => {
-                recut(alloc, segments, *mode, *words, &mut last.buffer, out)
+                recut(alloc, segments, *mode, *words, &mut last.batch, out)
             }
         }
     }
@@ -146,15 +147,29 @@ impl Plan<'_> {
         out: &mut W,
         progress: &mut Progress,
     ) -> Result<(), Stop> {
-        let mut reader = self.reader(alloc);
-        let mut piece = vec![in alloc; 0u8; LARGEST_PIECE]?;
-        let mut most = PIECE;
         let mut last = Last {
             alloc,
             line: String::new(alloc),
-            buffer: Vec::new(alloc),
+            batch: Batch::new(alloc),
             returns: Occurrences::new(alloc),
         };
+        let done = self.do_pieces(from, &mut last, out, progress);
+        last.batch.flush(out)?;
+        done
+    }
+
+    /// Does the command on each frame, of which some may not be written yet.
+    fn do_pieces<R: Read, W: Write>(
+        &self,
+        from: &mut R,
+        last: &mut Last,
+        out: &mut W,
+        progress: &mut Progress,
+    ) -> Result<(), Stop> {
+        let alloc = last.alloc;
+        let mut reader = self.reader(alloc);
+        let mut piece = vec![in alloc; 0u8; LARGEST_PIECE]?;
+        let mut most = PIECE;
         // A reader could go on for ever; no device gives this many pieces.
         for _ in 0..u64::MAX {
             let asked = most.min(piece.len());
@@ -164,7 +179,7 @@ impl Plan<'_> {
                 Err(error) if error.kind() == ErrorKind::Interrupted => continue,
                 Err(error) => return Err(Stop::Reading(error)),
             };
-            let ended = self.do_piece(&mut reader, &piece[..length], &mut last, out, progress)?;
+            let ended = self.do_piece(&mut reader, &piece[..length], last, out, progress)?;
             most = if ended { PIECE } else { asked + PIECE / 2 };
         }
         Err(Stop::Reading(io::Error::from(ErrorKind::Other)))
@@ -266,28 +281,17 @@ fn decode<W: Write>(
     Ok(out.write_all(text.as_bytes())?)
 }
 
-/// Writes the frame of the segments, by way of `buffer`.
-fn write<W: Write>(
-    alloc: Global,
-    segments: &Segments,
-    mode: Mode,
-    buffer: &mut Vec<u8>,
-    out: &mut W,
-) -> Result<(), Stop> {
-    Ok(send_frame(alloc, out, buffer, segments, mode, Limits::standard())??)
-}
-
-/// Writes the frame's tree again, in segments of at most this many words, by way of `buffer`.
+/// Writes the frame's tree again, in segments of at most this many words.
 fn recut<W: Write>(
     alloc: Global,
     segments: &Segments,
     mode: Mode,
     words: u32,
-    buffer: &mut Vec<u8>,
+    batch: &mut Batch,
     out: &mut W,
 ) -> Result<(), Stop> {
     let limits = Limits::standard();
     let root = read_root(alloc, segments, limits)?;
     let cut = write_segments(alloc, &root, words, limits)?;
-    write(alloc, &cut, mode, buffer, out)
+    batch.put(&cut, mode, out)
 }

@@ -36,16 +36,18 @@ fn taken(rt: &impl Abort, alloc: Global, name: &str, bytes: &[u8]) -> Vec<u8> {
     out
 }
 
-// Two frames of one segment of 20,000 words, which take several pieces each.
+// Two frames of one segment of 20,000 words, which take several pieces each, and short ones around them, which wait for others.
 #[test]
 fn frames_may_be_larger_than_a_piece(rt: HostRuntime) {
     let alloc = rt.alloc();
     let mut frames = Vec::new(alloc);
-    for end in [160_008, 320_016] {
+    for end in [160_048, 320_096] {
+        frames.extend_from_slice(&PLAIN).expect(&rt, "memory");
         let header = [0u8, 0, 0, 0, 0x20, 0x4e, 0, 0];
         frames.extend_from_slice(&header).expect(&rt, "memory");
         frames.resize(end, 7).expect(&rt, "memory");
     }
+    frames.extend_from_slice(&PLAIN).expect(&rt, "memory");
     let packed = taken(&rt, alloc, "pack", &frames);
     let plain = taken(&rt, alloc, "unpack", &packed);
     check!(&rt; plain.as_slice() == frames.as_slice());
