@@ -1,6 +1,9 @@
 -- Frames of one segment.
-use Rattle.std.proofs.Common.{◌≡◌, ℕ, ◌+◌, ◌-◌, ◌*◌, ◌/◌, ◌%◌, ◌^◌, ◌<◌, List, [], ◌∷◌, ◌++◌, length, sum, take, drop, get_or, refl, sym, ◌∙◌, ap, subst, append_assoc, length-append, length-drop, arith, inl, inr}
+use Rattle.std.proofs.Common.{◌≡◌, ℕ, suc, slice_index, ◌+◌, ◌-◌, ◌*◌, ◌/◌, ◌%◌, ◌^◌, ◌<◌, List, [], ◌∷◌, ◌++◌, length, sum, take, drop, get_or, refl, sym, ◌∙◌, ap, subst, append_assoc, length-append, length-drop, arith, inl, inr}
 use Rattle.std.proofs.lemmas.List.{get_or-drop}
+use Rattle.std.proofs.Math.Seq.{drop-append-add}
+use Rattle.byteorder.specs.Endian.{IsRead, little_number}
+use Rattle.byteorder.specs.Numbers.{little_number-reads_back}
 use Rattle.std.specs.List.{flat_map}
 use Rattle.std.specs.Int.{to_le_bytes, w64}
 use Rattle.std.proofs.lemmas.List.{append-nil, take_all, take-append-drop, length-take-le, nil_from_length, get_or_past}
@@ -22,6 +25,25 @@ use Rattle.cp_frame.proofs.Tables.{length_named}
 use Rattle.cp_frame.proofs.Filling.{length_lists}
 use Rattle.cp_packed.proofs.Bytes.{words_in_is, take_small}
 use Rattle.cp_frame.proofs.Ends.{inside, framed_by, empty_open, empty_rest}
+
+-- words that were read from bytes, each from its place
+read_each : (ws xs : List ℕ) → AreWords ws → length xs ≡ length ws → ((k : ℕ) → k < length xs → slice_index xs k ≡ little_number 8 (drop (8 * k) (bytes_of ws))) → xs ≡ ws
+read_each [] [] a e h = refl
+read_each [] (x ∷ xs) a e h = absurd (omega (arith, e))
+read_each (w ∷ ws) [] a e h = absurd (omega (arith, e))
+read_each (w ∷ ws) (x ∷ xs) a e h =
+    let first : x ≡ w = h 0 (omega arith) ∙ little_number-reads_back 8 w (bytes_of ws) a.0 in
+    let later : (k : ℕ) → drop (8 * suc k) (bytes_of (w ∷ ws)) ≡ drop (8 * k) (bytes_of ws) = λ k.
+    let step : 8 * suc k ≡ 8 + 8 * k = omega arith in
+    ap (λ (n : ℕ). drop n (bytes_of (w ∷ ws))) step ∙ drop-append-add (to_le_bytes w64 w) (bytes_of ws) (8 * k) in
+    let more = read_each ws xs a.1 (omega (arith, e)) (λ k l. h (suc k) (omega (arith, l)) ∙ ap (λ (b : List ℕ). little_number 8 b) (later k)) in
+    ap (λ (y : ℕ). y ∷ xs) first ∙ ap (λ (ys : List ℕ). w ∷ ys) more
+
+-- the words that were read from bytes are the words that these are
+pub words_read : (n : ℕ) (b xs : List ℕ) → length b ≡ 8 * n → ((i : ℕ) → get_or b i 0 < 256) → length xs ≡ n → IsRead little_number 8 b xs → xs ≡ words_in b
+words_read n b xs h k e r =
+    let words = words_in_is n b h k in
+    read_each (words_in b) xs words.1 (omega (arith, e, words.0)) (λ i l. r i l ∙ ap (λ (c : List ℕ). little_number 8 (drop (8 * i) c)) (sym words.2))
 
 -- a segment after the word that is its table
 single_framed : (w : ℕ) (ws : List ℕ) → w < 2 ^ 64 → w % 2 ^ 32 ≡ 0 → w / 2 ^ 32 ≡ length ws → AreWords ws → Framed (ws ∷ []) (to_le_bytes w64 w ++ bytes_of ws)

@@ -1,15 +1,20 @@
 //! Frames of one segment that come whole.
 
-ghost use Rattle.std.specs.Prelude.{IfOk, IfSome};
+ghost use Rattle.std.specs.Prelude.{◌≡◌, ◌*◌, [], IfOk, IfSome, OnOk, length};
+ghost use Rattle.cp_packed.specs.Words.{words_in};
 ghost use Rattle.cp_frame.specs.Single.{BeginsWithOne, TakesWhole};
 
 use crate::spare::Spare;
+use byteorder::{ByteOrder, LittleEndian};
 use cp_packed::{take_in, word_of};
 use cp_words::{Limits, Segments};
 use std::alloc::{AllocError, Global};
 
 /// How many bytes a word has.
 const WORD: usize = 8;
+
+/// How many words a short segment has at the most.
+const SHORT: usize = 64;
 
 /// Takes the frame that the bytes begin with, if it has one segment and has come whole: the number of
 /// its bytes, the segment, and what follows it. The segment takes the spare buffer, where that suits it.
@@ -27,7 +32,7 @@ pub fn take_whole<'a>(
     let (_, body) = bytes.split_at(WORD);
     let (front, back) = body.split_at(WORD * size);
     let mut words = spare.buffer_for(alloc, size, size)?;
-    take_in(&mut words, front)?;
+    take_segment(&mut words, size, front)?;
     let taken = (WORD + WORD * size) as u64;
     Ok(Some((taken, Segments::one(words), back)))
 }
@@ -49,4 +54,18 @@ fn size_of_one(limits: Limits, bytes: &[u8]) -> Option<usize>
     } else {
         None
     }
+}
+
+/// Takes the words of a segment. Those of a short one are read over zeros, which takes less time to begin.
+fn take_segment(words: &mut Vec<u64>, size: usize, bytes: &[u8]) -> Result<(), AllocError>
+    requires none { words.old.items ≡ [] }
+    requires whole { length bytes.now ≡ 8 * size }
+    ensures { OnOk result (words.new.items ≡ words_in bytes.now) }
+{
+    if SHORT < size {
+        return take_in(words, bytes);
+    }
+    words.resize(size, 0)?;
+    LittleEndian::read_u64_into(bytes, words);
+    Ok(())
 }
