@@ -10,6 +10,7 @@ ghost use Rattle.test_codec.specs.Drafted.{list_with, structs_with, struct_with}
 use crate::checks::expect_right_of;
 use crate::trees::{FINISH_TREE, are_words, body, object_of, segments, tree_of_constant};
 use cp_fields::{Constant, ConstantBody};
+use cp_packed::push_plain;
 use cp_reading::*;
 use cp_tree::*;
 use cp_words::{Limits, Segments};
@@ -301,6 +302,22 @@ fn writes_over(rt: &impl Abort, alloc: Global, draft: &Draft) -> bool
     are_same
 }
 
+/// Whether the draft's bytes, over three that a buffer holds, are those of the words of its one segment after eight zeros.
+fn writes_bytes(rt: &impl Abort, alloc: Global, draft: &Draft) -> bool
+    requires { Shaped (draft_of draft.now) }
+{
+    let limits = Limits::standard();
+    let segments = write_draft(alloc, draft, 8_388_608, limits).expect(rt, "a segment");
+    let mut wanted = Vec::from_slice(alloc, &[0; 8]).expect(rt, "a buffer");
+    push_plain(&mut wanted, &segments.into_first()).expect(rt, "bytes");
+    let buffer = Vec::from_slice(alloc, &[1, 2, 3]).expect(rt, "a buffer");
+    let written = write_draft_bytes(alloc, buffer, draft, limits).expect(rt, "bytes");
+    let are_same = written == wanted;
+    drop(written);
+    drop(wanted);
+    are_same
+}
+
 #[test]
 fn a_tree_with_lent_parts_is_written_as_its_copy(rt: HostRuntime) {
     let alloc = rt.alloc();
@@ -309,6 +326,7 @@ fn a_tree_with_lent_parts_is_written_as_its_copy(rt: HostRuntime) {
     let copy = copy_of(&rt, alloc, &draft);
     check!(&rt; writes_as_its_copies(&rt, alloc, &draft, &copy));
     check!(&rt; writes_over(&rt, alloc, &draft));
+    check!(&rt; writes_bytes(&rt, alloc, &draft));
     drop(copy);
     drop(draft);
     drop(lent);
