@@ -131,11 +131,11 @@ inline Peer times(uint32_t count, const Peer& one) {
   return all;
 }
 
-// A call whose params are so large that a program recognises it by their allocation.
+// A call whose params are so large that a program recognises it by their allocation. (The Desk has them as a tree; a Cell reads them in place.)
 constexpr uint32_t MARK_WORDS = 1237;
 
 inline Peer mark() {
-  return Peer().call(1, CELL, [](rpc::Call::Builder call) { call.getParams().getContent().initAsAnyStruct(MARK_WORDS, 0); }).finish(1);
+  return Peer().call(1, DESK, [](rpc::Call::Builder call) { call.getParams().getContent().initAsAnyStruct(MARK_WORDS, 0); }).finish(1);
 }
 
 // The three objects are exported, and no answer is kept.
