@@ -248,4 +248,29 @@ inline void look_at(const Bytes& back, const Frames& frames, uint64_t& answers, 
   }
 }
 
+// Whether a message depends on when a server gives imports up: a Release, and the Abort for a Resolve of what isn't a promise, which is a fault
+// only while that import is held.
+inline bool depends_on_releases(rpc::Message::Reader message) {
+  return message.isRelease() || (message.isAbort() && message.getAbort().getReason() == "P6 not an open promise");
+}
+
+// The bytes that came back, up to the last whole frame, without such messages.
+inline Bytes without_releases(const Bytes& back) {
+  Bytes kept;
+  kj::ArrayInputStream input(kj::arrayPtr(back.data(), back.size()));
+  for (size_t from = 0; from < back.size();) {
+    bool depends;
+    try {
+      capnp::InputStreamMessageReader reader(input);
+      depends = depends_on_releases(reader.getRoot<rpc::Message>());
+    } catch (const kj::Exception&) {
+      break;
+    }
+    size_t to = back.size() - input.tryGetReadBuffer().size();
+    if (!depends) kept.insert(kept.end(), back.begin() + from, back.begin() + to);
+    from = to;
+  }
+  return kept;
+}
+
 inline bool begins(const Bytes& part, const Bytes& whole) { return part.size() <= whole.size() && std::equal(part.begin(), part.end(), whole.begin()); }
