@@ -4,14 +4,12 @@ use Rattle.std.specs.Int.{to_le_bytes, from_le_bytes, w64}
 use Rattle.std.specs.Simd.{first_chunks}
 use Rattle.std.proofs.lemmas.Grind.{flat_map-append}
 use Rattle.std.proofs.Math.Seq.{take-add}
-use Rattle.std.proofs.lemmas.List.{append-nil, drop-drop, length-take-le, nil_from_length, take_all, take-append-drop}
-use Rattle.std.proofs.lemmas.Slice.{take-put_mid, drop-put_mid}
+use Rattle.std.proofs.lemmas.List.{append-nil, drop-drop, length-take-le, nil_from_length, take_all}
 use Rattle.std.proofs.lemmas.Nat.{from_le_bytes-to_le_bytes_8}
 use Rattle.cp_packed.specs.Words.{AreWords, bytes_of, words_in}
 use Rattle.cp_packed.proofs.Bytes.{all-append, words_first, words_repeat}
 use Rattle.cp_writing.specs.Blocks.{block_of, words_of_block, IsBlock}
 use Rattle.cp_writing.specs.Packed.{value}
-use borrow.Rule.Slice.PartMut.{put_mid}
 
 pub length_bytes_of : (ws : List ℕ) → length (bytes_of ws) ≡ 8 * length ws
 length_bytes_of [] = refl
@@ -124,13 +122,7 @@ put_over b new at w h lt k e =
     ∙ ap (λ (x : List ℕ). replicate 8 0 ++ x) (bytes_set ws at w lt))
     (words_set ws at w h.words k)
 
--- what a write to a part leaves
-pub overwritten : (a : ℕ) (xs ys : List ℕ) → a + 8 ≤ length xs → length ys ≡ 8 → put_mid a 8 xs ys ≡ (take a xs ++ ys) ++ drop (a + 8) xs
-overwritten a xs ys fits long =
-    let n = a + 8 in
-    sym (take-append-drop n (put_mid a 8 xs ys)) ∙ ap (λ (x : List ℕ). x ++ drop n (put_mid a 8 xs ys)) (take-put_mid a 8 xs ys n (omega (arith, long)) (omega (arith, fits)))
-    ∙ ap (λ (x : List ℕ). (take a xs ++ ys) ++ x) (drop-put_mid a 8 xs ys n (omega arith) (omega (arith, fits)) long)
-
+-- what a vector holds after its items were lent
 pub refilled : (n : ℕ) (xs ws : List ℕ) → n ≡ length xs → length ws ≡ length xs → take n (ws ++ drop (length ws) xs) ≡ ws
 refilled n xs ws e long =
     let none : drop (length ws) xs ≡ [] = nil_from_length (drop (length ws) xs) (omega (arith, length-drop (length ws) xs, long)) in
