@@ -99,9 +99,11 @@ pub fn write_root(alloc: Global, object: &Object, limits: Limits) -> Result<Vec<
     Ok(sheet.into_last()?)
 }
 
-/// Writes a tree with lent parts into one segment, as `write_root` writes a tree, and gives its bytes, over what a buffer
-/// holds, whose memory is used again: eight zero bytes, in the place of a segment table, and then eight bytes for
-/// each word, the lowest first.
+/// Writes a tree with lent parts, of one that a message can hold, into one segment, as `write_root` writes a tree, and gives
+/// its bytes, over what a buffer holds, whose memory is used again: eight zero bytes, in the place of a segment
+/// table, and then eight bytes for each word, the lowest first (encoding specification, "Messages"). B1 if the tree
+/// nests deeper than the limit, else B2 if it costs more, else B4 if its words are more than a frame may have; B3 if
+/// memory runs out. At an error the buffer is let go.
 pub fn write_draft_bytes(
     alloc: Global,
     buffer: Vec<u8>,
