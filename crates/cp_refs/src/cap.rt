@@ -9,9 +9,15 @@ pub type PromiseId = u32;
 
 /// A path of pointer fields from a content to a capability in it (rpc.capnp,
 /// `PromisedAnswer.transform`). Contracts see it as the list of its fields.
-#[derive(Drop)]
 pub struct Path {
     fields: Vec<u16>,
+}
+
+// Not derived: a crate that lets one go calls this function, and need not prove the drop of all that it holds.
+impl Drop for Path {
+    fn drop(self) {
+        let Path { fields: _ } = self;
+    }
 }
 
 impl Model for Path {
@@ -43,7 +49,8 @@ impl Path {
     pub fn into_fields(self) -> Vec<u16>
         ensures { result.items ≡ self }
     {
-        self.fields
+        let Path { fields } = self;
+        fields
     }
 
     /// An equal path.
@@ -91,9 +98,15 @@ impl Cap {
 
 /// A capability table, as an application hands it over. Contracts see it as the list of its
 /// capabilities.
-#[derive(Drop)]
 pub struct Caps {
     caps: Vec<Cap>,
+}
+
+// Not derived: a crate that lets one go calls this function, and need not prove the drop of all that it holds.
+impl Drop for Caps {
+    fn drop(self) {
+        let Caps { caps: _ } = self;
+    }
 }
 
 impl Model for Caps {
@@ -131,7 +144,8 @@ impl Caps {
     pub fn into_caps(self) -> Vec<Cap>
         ensures { result.items ≡ self }
     {
-        self.caps
+        let Caps { caps } = self;
+        caps
     }
 
     /// An equal table.

@@ -24,9 +24,15 @@ use std::marker::Model;
 
 /// `capTable @1 :List(CapDescriptor)` of `struct Payload`. Contracts see it as the list of its
 /// descriptors.
-#[derive(Drop)]
 pub struct CapTable {
     descriptors: Vec<Descriptor>,
+}
+
+// Not derived: a crate that lets one go calls this function, and need not prove the drop of all that it holds.
+impl Drop for CapTable {
+    fn drop(self) {
+        let CapTable { descriptors: _ } = self;
+    }
 }
 
 impl Model for CapTable {
@@ -62,7 +68,8 @@ impl CapTable {
     pub fn into_descriptors(self) -> Vec<Descriptor>
         ensures { result.items ≡ self }
     {
-        self.descriptors
+        let CapTable { descriptors } = self;
+        descriptors
     }
 
     /// An equal table.

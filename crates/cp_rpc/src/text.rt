@@ -15,9 +15,15 @@ use std::marker::Model;
 
 /// A text (encoding specification, "Lists"). Contracts see it as its bytes, without the zero byte
 /// that ends it in a message.
-#[derive(Drop)]
 pub struct Text {
     string: String,
+}
+
+// Not derived: a crate that lets one go calls this function, and need not prove the drop of all that it holds.
+impl Drop for Text {
+    fn drop(self) {
+        let Text { string: _ } = self;
+    }
 }
 
 impl Model for Text {
@@ -47,7 +53,8 @@ impl Text {
     pub fn into_string(self) -> String
         ensures { string_bytes result ≡ self }
     {
-        self.string
+        let Text { string } = self;
+        string
     }
 
     /// An equal text.

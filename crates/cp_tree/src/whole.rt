@@ -9,9 +9,15 @@ use std::marker::Model;
 
 /// A tree that a message can hold, owned. Contracts see it as its tree without where it lies in
 /// memory.
-#[derive(Drop)]
 pub struct Whole {
     pub(crate) tree: Tree,
+}
+
+// Not derived: a crate that lets one go calls this function, and need not prove the drop of all that it holds.
+impl Drop for Whole {
+    fn drop(self) {
+        let Whole { tree: _ } = self;
+    }
 }
 
 impl Model for Whole {
@@ -32,9 +38,15 @@ impl Model for Whole {
 
 /// A struct that a message can hold, owned. Contracts see it as its tree without where it lies in
 /// memory.
-#[derive(Drop)]
 pub struct Object {
     pub(crate) tree: Tree,
+}
+
+// Not derived: a crate that lets one go calls this function, and need not prove the drop of all that it holds.
+impl Drop for Object {
+    fn drop(self) {
+        let Object { tree: _ } = self;
+    }
 }
 
 impl Model for Object {
@@ -102,7 +114,8 @@ impl Whole {
         ensures tree { node_of result ≡ self }
         ensures shaped { Shaped self }
     {
-        self.tree
+        let Whole { tree } = self;
+        tree
     }
 
     /// An equal tree.
@@ -119,7 +132,8 @@ impl Whole {
         ensures object { IfOk result (λ o. (o ≡ self) × IsStruct self) }
         ensures other { IfErr result (λ w. (w ≡ self) × ¬ (IsStruct self)) }
     {
-        match self.tree {
+        let Whole { tree } = self;
+        match tree {
             Tree::Struct(body) => Ok(Object {
                 tree: Tree::Struct(body),
             }),
@@ -183,6 +197,7 @@ impl Object {
         ensures is_struct { IsStruct self }
         ensures shaped { Shaped self }
     {
-        self.tree
+        let Object { tree } = self;
+        tree
     }
 }

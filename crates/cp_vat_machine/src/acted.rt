@@ -13,9 +13,15 @@ pub struct Acted<V> {
 }
 
 /// Numbers, in order. Contracts see them as their list.
-#[derive(Drop)]
 pub struct Ids {
     ids: Vec<u32>,
+}
+
+// Not derived: a crate that lets one go calls this function, and need not prove the drop of all that it holds.
+impl Drop for Ids {
+    fn drop(self) {
+        let Ids { ids: _ } = self;
+    }
 }
 
 impl Model for Ids {
@@ -47,7 +53,8 @@ impl Ids {
     pub fn into_ids(self) -> Vec<u32>
         ensures { result.items ≡ self }
     {
-        self.ids
+        let Ids { ids } = self;
+        ids
     }
 }
 

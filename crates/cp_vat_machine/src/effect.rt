@@ -47,9 +47,15 @@ pub enum Effect {
 }
 
 /// Effects, in order. Contracts see them as their list.
-#[derive(Drop)]
 pub struct Effects {
     effects: Vec<Effect>,
+}
+
+// Not derived: a crate that lets one go calls this function, and need not prove the drop of all that it holds.
+impl Drop for Effects {
+    fn drop(self) {
+        let Effects { effects: _ } = self;
+    }
 }
 
 impl Model for Effects {
@@ -87,6 +93,7 @@ impl Effects {
     pub fn into_effects(self) -> Vec<Effect>
         ensures { result.items ≡ self }
     {
-        self.effects
+        let Effects { effects } = self;
+        effects
     }
 }

@@ -6,9 +6,15 @@ use std::marker::Model;
 
 /// The exports that a message's capability table names, as often as it names each. Contracts see
 /// them as their list.
-#[derive(Drop)]
 pub struct Mentions {
     ids: Vec<u32>,
+}
+
+// Not derived: a crate that lets one go calls this function, and need not prove the drop of all that it holds.
+impl Drop for Mentions {
+    fn drop(self) {
+        let Mentions { ids: _ } = self;
+    }
 }
 
 impl Model for Mentions {
@@ -61,9 +67,15 @@ pub struct Tied {
 
 /// Promises tied to one answer, in the order in which they were opened. Contracts see them as their
 /// list.
-#[derive(Drop)]
 pub struct TiedPromises {
     promises: Vec<Tied>,
+}
+
+// Not derived: a crate that lets one go calls this function, and need not prove the drop of all that it holds.
+impl Drop for TiedPromises {
+    fn drop(self) {
+        let TiedPromises { promises: _ } = self;
+    }
 }
 
 impl Model for TiedPromises {

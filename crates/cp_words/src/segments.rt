@@ -7,9 +7,15 @@ use std::marker::Model;
 use std::slice;
 
 /// One or more segments, each a list of words, numbered from 0. Contracts see them as the list of these lists.
-#[derive(Drop)]
 pub struct Segments {
     held: Held,
+}
+
+// Not derived: a crate that lets one go calls this function, and need not prove the drop of all that it holds.
+impl Drop for Segments {
+    fn drop(self) {
+        let Segments { held: _ } = self;
+    }
 }
 
 /// The segments. Most messages have one, which needs no vector around it.
@@ -66,7 +72,8 @@ impl Segments {
     pub fn into_first(self) -> Vec<u64>
         ensures { (others : List (List ℕ)) × (self ≡ result.items ∷ others) }
     {
-        match self.held {
+        let Segments { held } = self;
+        match held {
             Held::One(words) => words,
             Held::Many(mut segments) => segments.swap_remove(0),
         }
