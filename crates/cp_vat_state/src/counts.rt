@@ -7,9 +7,15 @@ use cp_tables::Entries;
 use std::alloc::{AllocError, Global};
 
 /// How often numbers were counted. One that is counted 0 times takes no memory.
-#[derive(Drop)]
 pub(crate) struct Counts {
     counts: Entries<u64>,
+}
+
+// Not derived: a function that lets one go calls this one, and need not prove the drop of all that it holds.
+impl Drop for Counts {
+    fn drop(self) {
+        let Counts { counts: _ } = self;
+    }
 }
 
 impl Counts {

@@ -8,11 +8,17 @@ use std::alloc::{AllocError, Global};
 use std::marker::Model;
 
 /// What the gates of one kind gave that ended in an event, by their numbers. Contracts see it as a finite map.
-#[derive(Drop)]
 pub(crate) struct Ended<V> {
     /// Mostly one gate ends, which takes no memory here.
     one: Option<(u32, V)>,
     others: Entries<V>,
+}
+
+// Not derived: a function that lets one go calls this one, and need not prove the drop of all that it holds.
+impl<V: Drop> Drop for Ended<V> {
+    fn drop(self) {
+        let Ended { one: _, others: _ } = self;
+    }
 }
 
 impl<V> Model for Ended<V> {

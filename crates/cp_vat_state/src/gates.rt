@@ -19,7 +19,6 @@ use std::collections::btree_map::Iter;
 use std::marker::Model;
 
 /// What ends a gate, with what the gate gives.
-#[derive(Drop)]
 pub enum Gift {
     Answer(u32, KeptOutcome),
     Promise(PromiseId, Cap),
@@ -27,9 +26,21 @@ pub enum Gift {
     Embargo(u32, Cap),
 }
 
+// Not derived: a crate that lets one go calls this function, and need not prove the drop of all that it holds.
+impl Drop for Gift {
+    fn drop(self) {
+        match self {
+            Gift::Answer(_, _) => {}
+            Gift::Promise(_, _) => {}
+            Gift::Question(_, _) => {}
+            Gift::Embargo(_, _) => {}
+        }
+    }
+}
+
 impl Gift {
-    ghost use Rattle.std.specs.Prelude.{◌≡◌};
-    ghost use Rattle.cp_vat_state.specs.Overs.{gate_of};
+    ghost use Rattle.std.specs.Prelude.{◌≡◌, OnOk};
+    ghost use Rattle.cp_vat_state.specs.Overs.{gate_of, over_of, over_with};
 
     /// The gate that ends, at no path.
     fn gate(&self, alloc: Global) -> Gate
@@ -40,6 +51,18 @@ impl Gift {
             Gift::Promise(id, _) => Gate::Promise(*id),
             Gift::Question(id, _) => Gate::Question(*id, Path::new(Vec::new(alloc))),
             Gift::Embargo(id, _) => Gate::Embargo(*id),
+        }
+    }
+
+    /// Puts what the gate gave with what the others gave.
+    fn put_into(self, over: &mut Overs) -> Result<(), AllocError>
+        ensures { OnOk result (over_of over.new ≡ over_with (over_of over.old) self) }
+    {
+        match self {
+            Gift::Answer(id, outcome) => over.answers.put(id, outcome),
+            Gift::Promise(id, value) => over.promises.put(id, value),
+            Gift::Question(id, outcome) => over.questions.put(id, outcome),
+            Gift::Embargo(id, cap) => over.embargoes.put(id, cap),
         }
     }
 }
@@ -53,13 +76,25 @@ pub struct Next {
 
 /// The calls that wait, the gates that ended, and the ticket of the next call. Once an allocation
 /// failed in the middle of a change, each further change is refused.
-#[derive(Drop)]
 pub struct Gates {
     alloc: Global,
     calls: CountedCalls,
     over: Overs,
     next_ticket: u64,
     is_torn: bool,
+}
+
+// Not derived: a crate that lets one go calls this function, and need not prove the drop of all that it holds.
+impl Drop for Gates {
+    fn drop(self) {
+        let Gates {
+            alloc: _,
+            calls: _,
+            over: _,
+            next_ticket: _,
+            is_torn: _,
+        } = self;
+    }
 }
 
 impl Model for Gates {
@@ -193,7 +228,7 @@ impl Gates {
         }
         let gate = gift.gate(self.alloc);
         self.calls.end(&gate)?;
-        if let Err(error) = self.over.put(gift) {
+        if let Err(error) = gift.put_into(&mut self.over) {
             self.is_torn = true;
             return Err(error);
         }
@@ -229,12 +264,23 @@ impl Gates {
 }
 
 /// What the gates gave that ended.
-#[derive(Drop)]
 struct Overs {
     answers: Ended<KeptOutcome>,
     promises: Ended<Cap>,
     questions: Ended<KeptOutcome>,
     embargoes: Ended<Cap>,
+}
+
+// Not derived: a function that lets one go calls this one, and need not prove the drop of all that it holds.
+impl Drop for Overs {
+    fn drop(self) {
+        let Overs {
+            answers: _,
+            promises: _,
+            questions: _,
+            embargoes: _,
+        } = self;
+    }
 }
 
 impl Overs {
@@ -270,18 +316,6 @@ impl Overs {
             Gate::Promise(id) => given(alloc, self.promises.get(*id)),
             Gate::Question(id, path) => given_at(alloc, self.questions.get(*id), path),
             Gate::Embargo(id) => given(alloc, self.embargoes.get(*id)),
-        }
-    }
-
-    /// Puts what a gate gave.
-    fn put(&mut self, gift: Gift) -> Result<(), AllocError>
-        ensures { OnOk result (over_of self.new ≡ over_with (over_of self.old) gift) }
-    {
-        match gift {
-            Gift::Answer(id, outcome) => self.answers.put(id, outcome),
-            Gift::Promise(id, value) => self.promises.put(id, value),
-            Gift::Question(id, outcome) => self.questions.put(id, outcome),
-            Gift::Embargo(id, cap) => self.embargoes.put(id, cap),
         }
     }
 }

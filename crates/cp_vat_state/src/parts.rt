@@ -14,7 +14,6 @@ use cp_vat_machine::{AnswerEntry, ImportKind, QuestionEntry};
 use std::alloc::Global;
 
 /// The parts of a vat. Contracts see them as the machine's state.
-#[derive(Drop)]
 pub struct Core {
     pub alloc: Global,
     pub values: Resolutions,
@@ -28,6 +27,25 @@ pub struct Core {
     /// The object that a Bootstrap gives.
     pub bootstrap: Option<u32>,
     pub is_closed: bool,
+}
+
+// Not derived: a crate that lets one go calls this function, and need not prove the drop of all that it holds.
+impl Drop for Core {
+    fn drop(self) {
+        let Core {
+            alloc: _,
+            values: _,
+            questions: _,
+            answers: _,
+            own_promises: _,
+            exports: _,
+            imports: _,
+            gates: _,
+            marks: _,
+            bootstrap: _,
+            is_closed: _,
+        } = self;
+    }
 }
 
 impl Core {

@@ -9,9 +9,15 @@ use std::marker::Model;
 
 /// Marks under paths of fields, each with its embargo once one was asked for. Contracts see them as
 /// a finite map from the list of the fields.
-#[derive(Drop)]
 pub(crate) struct Paths {
     marks: BTreeMap<Vec<u16>, Option<u32>>,
+}
+
+// Not derived: a function that lets one go calls this one, and need not prove the drop of all that it holds.
+impl Drop for Paths {
+    fn drop(self) {
+        let Paths { marks: _ } = self;
+    }
 }
 
 impl Model for Paths {

@@ -18,7 +18,6 @@ use std::marker::Model;
 
 /// What promises, imports, answers and questions came to. It is counted how often each capability is held by
 /// that, and promises get their numbers here. Contracts see the four maps alone.
-#[derive(Drop)]
 pub struct Resolutions {
     values: Values,
     /// What the values of promises and the outcomes of answers and questions hold.
@@ -26,6 +25,18 @@ pub struct Resolutions {
     /// What the values of imports hold.
     imported: Holders,
     numbers: PromiseNumbers,
+}
+
+// Not derived: a crate that lets one go calls this function, and need not prove the drop of all that it holds.
+impl Drop for Resolutions {
+    fn drop(self) {
+        let Resolutions {
+            values: _,
+            kept: _,
+            imported: _,
+            numbers: _,
+        } = self;
+    }
 }
 
 /// The numbers that promises have. They are picked, and are free again, as those of embargoes are.
