@@ -12,8 +12,8 @@ use Rattle.cp_serve.specs.declared.fault.ServeFault.TheVariants as faults
 use Rattle.cp_serve.specs.declared.report.Report.{Report}
 use Rattle.cp_servants.specs.declared.servant.Reply.{Reply}
 use Rattle.cp_servants.specs.declared.servant.Reply.TheVariants as replies
-use Rattle.cp_samples.specs.declared.sample.Sample.{Sample}
-use Rattle.cp_samples.specs.Sample.{each_sample}
+use Rattle.cp_servants.specs.declared.sample.Sample.{Sample}
+use Rattle.cp_servants.specs.Sample.{each_sample}
 use Rattle.cp_serve.specs.Output.{Device, IsServed, IsStopped}
 use Rattle.bench_c.specs.declared.serve.Served.{Served}
 use Rattle.bench_c.specs.Given.{Gives, GivesNone}

@@ -3,3 +3,4 @@ pub mod Going
 pub mod Waiting
 pub mod Trees
 pub mod Streaming
+pub mod Attending

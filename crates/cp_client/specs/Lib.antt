@@ -5,3 +5,7 @@ pub mod Waits
 pub mod SeatOf
 pub mod Contents
 pub mod Streams
+pub mod Party
+pub mod Turns
+pub mod Attends
+pub mod PartyOf

@@ -1,9 +1,11 @@
-//! A client: asks questions over a connection's reader and writer, and waits for their outcomes.
+//! A client: asks questions over a connection's reader and writer, and waits for their outcomes; the objects that it exports
+//! answer its peer's calls meanwhile.
 #![tactic(auto)]
 
 mod caller;
 mod client;
 mod contents;
+mod exports;
 mod fault;
 mod piece;
 mod question;
@@ -12,6 +14,7 @@ mod stream;
 
 pub use client::Client;
 pub use contents::{request_of, word_at};
+pub use exports::Exports;
 pub use fault::{ClientFault, StreamFault};
 pub use question::Question;
 pub use session::Session;

@@ -1,6 +1,15 @@
-//! Serving the Desk and the Cell to many connections at once.
+//! What `capnp_cli` does with connections: serves the Desk and the Cell to one after another, to a pair of streams, or to
+//! many at once.
 #![tactic(auto)]
 
+mod capped;
+mod connections;
+mod objects;
+mod parting;
+mod pipe;
 mod places;
+mod unserved;
 
+pub use connections::{LONGEST_LOOP, loop_bytes, serve_connections, serve_port};
+pub use pipe::serve_pipe;
 pub use places::{Place, Service, serve_place};

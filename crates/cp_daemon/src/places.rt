@@ -3,9 +3,8 @@
 use cp_commands::{ACCEPTED, BROKEN, REFUSED};
 use cp_frame::Mode;
 use cp_host::{End, Host, News, Plan};
-use cp_samples::{Cell, Desk, Sample};
-use cp_seats::{Crowd, HostLimits};
-use cp_sockets::{Listener, Peer};
+use cp_servants::{Cell, Desk, Sample};
+use cp_sockets::{Crowd, HostLimits, Listener, Peer};
 use cp_words::Limits;
 use std::alloc::{AllocGlobal, Global};
 use std::fmt;

@@ -1,6 +1,6 @@
 -- What a host knows of the number of its connections.
 use Rattle.std.specs.Prelude.{◌≡◌, ℕ, ◌+◌, ◌≤◌, Option, Some, None}
-use Rattle.cp_seats.specs.Limits.{HasRoom}
+use Rattle.cp_sockets.specs.Limits.{HasRoom}
 use Rattle.cp_host.specs.Entry.{most}
 use Rattle.cp_host.specs.declared.host.News.{News}
 use Rattle.cp_host.specs.declared.host.News.TheVariants as all_news

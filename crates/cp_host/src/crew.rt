@@ -8,8 +8,8 @@ use crate::plan::Plan;
 use crate::search::Search;
 use cp_connection::{Connection, ConnectionFault};
 use cp_objects::{Notice, Objects};
-use cp_seats::HostLimits;
 use cp_servants::{Servant, any_again};
+use cp_sockets::HostLimits;
 use cp_vat_machine::Reason;
 use std::alloc::Global;
 

@@ -1,8 +1,7 @@
 //! How a connection ended.
 
 use cp_connection::ConnectionFault;
-use cp_seats::Limit;
-use cp_sockets::Peer;
+use cp_sockets::{Limit, Peer};
 use cp_vat_machine::Reason;
 use std::{fmt, io};
 

@@ -6,8 +6,8 @@ ghost use Rattle.cp_host.specs.Feeding.{IsFed, IsFedFront};
 
 use cp_connection::{Connection, ConnectionFault};
 use cp_objects::Objects;
-use cp_seats::HostLimits;
 use cp_servants::Servant;
+use cp_sockets::HostLimits;
 use std::alloc::AllocError;
 
 /// Takes bytes of a peer, and says how many: within the limits of messages at once, and of what waits to be written. What each

@@ -4,9 +4,8 @@ use crate::crew::Crew;
 use crate::end::{End, Ended};
 use crate::entry::Newcomer;
 use cp_connection::ConnectionFault;
-use cp_seats::{HostLimits, Limit, Phase, Ready, Seat};
 use cp_servants::Servant;
-use cp_sockets::{Got, Peer, Wire};
+use cp_sockets::{Got, HostLimits, Limit, Peer, Phase, Ready, Seat, Wire};
 use mio::event::Event;
 use std::io;
 

@@ -1,7 +1,7 @@
 //! A host.
 
 ghost use Rattle.std.specs.Prelude.{◌≡◌, ◌<◌, ◌↔◌, None, IsTrue, IfOk, OnOk, OnErr};
-ghost use Rattle.cp_seats.specs.Limits.{HasRoom};
+ghost use Rattle.cp_sockets.specs.Limits.{HasRoom};
 ghost use Rattle.cp_host.specs.Roster.{begun, Accepts, Admits, GoesOn, Hears, IsOver, Rounds};
 ghost use Rattle.cp_host.specs.RosterOf.{roster};
 ghost use Rattle.cp_host.specs.declared.host.News.TheVariants as all_news;
@@ -10,9 +10,8 @@ use crate::end::{End, Ended};
 use crate::entry::{Entry, Newcomer};
 use crate::event_loop::EventLoop;
 use crate::plan::Plan;
-use cp_seats::Crowd;
 use cp_servants::Servant;
-use cp_sockets::{Listener, Peer};
+use cp_sockets::{Crowd, Listener, Peer};
 use std::alloc::AllocGlobal;
 use std::io::{self, ErrorKind};
 use std::net::Net;

@@ -1,7 +1,7 @@
 //! How connections are served.
 
 use cp_frame::Mode;
-use cp_seats::HostLimits;
+use cp_sockets::HostLimits;
 use cp_words::Limits;
 
 /// How a host serves its connections.

@@ -1,2 +1,4 @@
 pub mod Changing
 pub mod Boxed
+pub mod SampleTrees
+pub mod ContentTrees

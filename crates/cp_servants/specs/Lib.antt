@@ -1,3 +1,7 @@
 pub mod Outcomes
 pub mod Requests
 pub mod Servant
+pub mod Samples
+pub mod Sample
+pub mod Made
+pub mod ContentFields

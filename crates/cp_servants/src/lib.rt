@@ -1,14 +1,28 @@
-//! Objects that answer calls, and what stands in for one that can't.
+//! Objects that answer calls, what stands in for one that can't, and objects whose answers are known; the contents of calls
+//! and outcomes, made field by field and read.
 #![tactic(auto)]
 
 mod awaited;
+mod cell;
+mod content;
+mod content_fields;
+mod desk;
 mod outcomes;
 mod placed;
 mod request;
+mod sample;
+mod sample_outcomes;
+mod script;
 mod servant;
 
 pub use awaited::Awaited;
+pub use cell::Cell;
+pub use content::Content;
+pub use content_fields::{data_in, results_of, text_in, word_in};
+pub use desk::Desk;
 pub use outcomes::{bad_outcome, named_imports, no_such_method, no_such_object, refused_call};
 pub use placed::{any_again, ask_at, call_at, call_view_at, poll_at, tell_at};
 pub use request::RequestView;
+pub use sample::Sample;
+pub use script::Script;
 pub use servant::{Ask, Reply, Servant, Settled};

@@ -1,11 +1,16 @@
-//! Sockets that never wait: a listener whose connections are taken as they come, and streams with what is known of them.
+//! Sockets that never wait: a listener whose connections are taken as they come, and streams with what is known of them. What a
+//! host allows its connections, and what it decides of one by the clock and by how much is kept for it.
 #![tactic(auto)]
 
 mod door;
+mod limits;
 mod listener;
+mod seat;
 mod stream;
 mod wire;
 
 pub use door::Door;
+pub use limits::{Crowd, HostLimits};
 pub use listener::{Listener, Peer};
+pub use seat::{Limit, Phase, Ready, Seat};
 pub use wire::{Got, Wire};

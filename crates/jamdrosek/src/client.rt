@@ -24,9 +24,10 @@
 //!
 //! The reader and the writer may be the two ends of a `TcpStream`, `&stream` twice, or bytes in memory.
 
-pub use cp_client::{Client, ClientFault, Question, Stream, StreamFault, request_of, word_at};
+pub use cp_client::{
+    Client, ClientFault, Exports, Question, Stream, StreamFault, request_of, word_at,
+};
 pub use cp_connection::ConnectionFault;
-pub use cp_contents::{Content, data_in, results_of, text_in, word_in};
-pub use cp_exports::Exports;
 pub use cp_refs::{Cap, Caps, Outcome, Path, Request};
+pub use cp_servants::{Content, data_in, results_of, text_in, word_in};
 pub use cp_vat_machine::Reason;

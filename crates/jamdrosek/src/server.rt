@@ -29,8 +29,9 @@
 //!
 //! The reader and the writer may be the two ends of a `TcpStream`, `&stream` twice, or bytes in memory.
 
-pub use cp_contents::{Content, data_in, text_in, word_in};
 pub use cp_refs::{Cap, Caps, Outcome, Request};
-pub use cp_servants::{Ask, Reply, RequestView, Servant, Settled};
+pub use cp_servants::{
+    Ask, Content, Reply, RequestView, Servant, Settled, data_in, text_in, word_in,
+};
 pub use cp_serve::{Report, ServeFault, serve, serve_each};
 pub use cp_vat_machine::{Ids, PeerFault, Reason};

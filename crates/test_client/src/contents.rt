@@ -1,7 +1,7 @@
 //! Contents that are made field by field, and read.
 
-use cp_contents::{Content, data_in, results_of, text_in, word_in};
 use cp_refs::{Cap, Outcome, Request};
+use cp_servants::{Content, data_in, results_of, text_in, word_in};
 use std::alloc::{AllocError, Global};
 
 /// A call with two words, a text, data and a capability.

@@ -1,13 +1,10 @@
 //! Objects that answer while a client waits.
 
 use crate::frames::{DESK, NEXT_SUM, SUM, bytes_of, client_of};
-use cp_client::{Client, ClientFault, word_at};
-use cp_contents::Content;
-use cp_exports::Exports;
+use cp_client::{Client, ClientFault, Exports, word_at};
 use cp_frame::Mode;
 use cp_refs::{Cap, Outcome, Request};
-use cp_samples::Cell;
-use cp_servants::{Ask, Reply, Servant, Settled};
+use cp_servants::{Ask, Cell, Content, Reply, Servant, Settled};
 use cp_vat_machine::Ids;
 use cp_words::Limits;
 use std::alloc::{AllocError, Global};

@@ -2,8 +2,8 @@
 
 use crate::checks::{expect_status, expect_text};
 use cp_commands::{Plan, act};
+use cp_daemon::{LONGEST_LOOP, loop_bytes, serve_connections, serve_port};
 use cp_frame::Mode;
-use cp_ports::{LONGEST_LOOP, loop_bytes, serve_connections, serve_port};
 use cp_words::Limits;
 use std::alloc::Global;
 use std::io::{Read, Write};

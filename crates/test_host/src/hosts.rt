@@ -2,9 +2,8 @@
 
 use cp_frame::Mode;
 use cp_host::{End, Host, News, Plan};
-use cp_samples::Desk;
-use cp_seats::HostLimits;
-use cp_sockets::Listener;
+use cp_servants::Desk;
+use cp_sockets::{HostLimits, Listener};
 use cp_words::Limits;
 use std::alloc::Global;
 use std::io::{Read, Write};

@@ -1,6 +1,6 @@
 //! Each limit, met and not met.
 
-use cp_seats::{Crowd, HostLimits, Limit, Phase, Seat};
+use cp_sockets::{Crowd, HostLimits, Limit, Phase, Seat};
 use std::process::Abort;
 
 /// Limits of round numbers.

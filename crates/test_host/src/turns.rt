@@ -1,6 +1,6 @@
 //! When a connection has another turn before its next event.
 
-use cp_seats::{HostLimits, Ready, Seat};
+use cp_sockets::{HostLimits, Ready, Seat};
 use std::process::Abort;
 
 /// Nothing can be done.

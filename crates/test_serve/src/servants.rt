@@ -2,8 +2,7 @@
 
 use crate::calling::Adder;
 use cp_refs::{Cap, Caps, Outcome, Request};
-use cp_samples::{Cell, Desk, Script};
-use cp_servants::{Ask, Reply, Servant, Settled};
+use cp_servants::{Ask, Cell, Desk, Reply, Script, Servant, Settled};
 use cp_tree::Whole;
 use cp_vat_machine::Ids;
 use std::alloc::{AllocError, Global};

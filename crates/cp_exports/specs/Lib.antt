@@ -1,4 +1,0 @@
-pub mod Party
-pub mod Turns
-pub mod Attends
-pub mod PartyOf

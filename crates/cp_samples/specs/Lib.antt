@@ -1,2 +1,0 @@
-pub mod Samples
-pub mod Sample
