@@ -3,8 +3,8 @@
 //! and then the script without its messages that are sent.
 
 use crate::playing::{is_reported, said};
-use crate::script::UNREAD;
-use cp_connection::{Connection, ConnectionFault, Happening};
+use crate::script::{UNREAD, push_text};
+use cp_connection::{Connection, ConnectionFault, Happening, Tally};
 use cp_frame::Mode;
 use cp_rpc::Message;
 use cp_scripts::{Lines, event_of};
@@ -31,6 +31,24 @@ pub fn wanted(alloc: Global, script: &str) -> Lines {
             lines.push_line(line);
         }
     }
+    lines
+}
+
+/// The bytes of the longest pieces of `cut`.
+const LONGEST: usize = 48;
+
+/// As `connected`, with pieces of each length up to the longest one: the lines of the first that goes otherwise, or of the last.
+pub fn cut(alloc: Global, bootstrap: Option<u32>, script: &str) -> Lines {
+    let wanted = wanted(alloc, script);
+    let mut lines = Lines::new(alloc);
+    for piece in 1..=LONGEST {
+        drop(lines);
+        lines = connected(alloc, bootstrap, piece, script);
+        if lines.text() != wanted.text() {
+            break;
+        }
+    }
+    drop(wanted);
     lines
 }
 
@@ -71,15 +89,32 @@ impl Wire {
         begin(&mut self.sent, line);
         self.happened.push_line(line);
         let (line, is_said) = said(line);
-        match event_of(self.alloc, line) {
-            Some(event) => self.play(event, is_said),
+        if line == "tally" {
+            return self.push_tally();
+        }
+        match self.given(line) {
+            Some(given) => self.tell(given, is_said),
             None => self.happened.push(UNREAD),
         }
     }
 
-    /// Plays an event, and adds what follows it, if that is said.
-    fn play(&mut self, event: Event, is_said: bool) {
-        let given = act(self.alloc, &mut self.connection, event, self.piece);
+    /// What the connection gives at an event: bytes that come, whatever they are, their end, or one of a vat.
+    fn given(&mut self, line: &str) -> Option<Result<Value, ConnectionFault>> {
+        if line == "end" {
+            return Some(nothing(self.connection.end()));
+        }
+        if let Some(digits) = line.strip_prefix("bytes ") {
+            let bytes = hex::decode(self.alloc, digits).ok()?;
+            let given = receive(&mut self.connection, &bytes, self.piece);
+            drop(bytes);
+            return Some(given);
+        }
+        let event = event_of(self.alloc, line)?;
+        Some(act(self.alloc, &mut self.connection, event, self.piece))
+    }
+
+    /// Adds what was given and what follows it, if that is said.
+    fn tell(&mut self, given: Result<Value, ConnectionFault>, is_said: bool) {
         let effects = happened(self.alloc, &mut self.connection);
         if is_said {
             push_digits(self.alloc, &mut self.sent, self.connection.outgoing());
@@ -93,7 +128,24 @@ impl Wire {
                 }
                 drop(acted);
             }
-            Err(fault) => push_fault(&mut self.happened, fault),
+            Err(fault) => push_fault(self.alloc, &mut self.happened, fault),
+        }
+    }
+
+    /// Adds what was taken and sent, and why the connection ended, if it did.
+    fn push_tally(&mut self) {
+        let Tally {
+            bytes,
+            messages,
+            sent,
+        } = self.connection.tally();
+        let came = self.connection.held().came;
+        let text = format!(in self.alloc;
+            "= bytes {bytes} messages {messages} sent {sent} came {came}\n"
+        );
+        push_text(&mut self.happened, text.ok());
+        if let Some(fault) = self.connection.fault() {
+            push_fault(self.alloc, &mut self.happened, fault);
         }
     }
 
@@ -156,7 +208,14 @@ fn receive(
     piece: usize,
 ) -> Result<Value, ConnectionFault> {
     for bytes in frame.chunks(piece.max(1)) {
-        let _ = connection.receive(bytes)?;
+        let mut left = bytes;
+        for _ in 0..bytes.len() {
+            if left.is_empty() {
+                break;
+            }
+            let count = connection.receive(left)?;
+            left = left.get(count..).unwrap_or(&[]);
+        }
     }
     Ok(Value::Nothing)
 }
@@ -168,7 +227,7 @@ fn happened(alloc: Global, connection: &mut Connection) -> Effects {
         let Some(happening) = connection.next() else {
             break;
         };
-        let _ = effects.push(effect_of(happening));
+        drop(effects.push(effect_of(happening)));
     }
     Effects::new(effects)
 }
@@ -191,16 +250,19 @@ fn effect_of(happening: Happening) -> Effect {
     }
 }
 
-fn push_fault(lines: &mut Lines, fault: ConnectionFault) {
+fn push_fault(alloc: Global, lines: &mut Lines, fault: ConnectionFault) {
     match fault {
         ConnectionFault::Refused(fault) => lines.push_fault(fault),
         ConnectionFault::Closed => lines.push_fault(VatFault::Closed),
-        _ => lines.push(UNREAD),
+        _ => push_text(lines, format!(in alloc; "= {fault}\n").ok()),
     }
 }
 
-/// Adds the frame of a message that a script writes.
+/// Adds the frame of a message that a script writes, or its bytes where it writes them.
 fn push_sent(alloc: Global, lines: &mut Lines, message: &str) {
+    if hex::decode(alloc, message).is_ok() {
+        return lines.push(message);
+    }
     let mut line = Lines::new(alloc);
     line.push("< ");
     line.push(message);
@@ -211,10 +273,13 @@ fn push_sent(alloc: Global, lines: &mut Lines, message: &str) {
     }
 }
 
-fn message_of(event: Event) -> Option<Message> {
+pub fn message_of(event: Event) -> Option<Message> {
     match event {
         Event::Receive(message) => Some(message),
-        _other => None,
+        other => {
+            drop(other);
+            None
+        }
     }
 }
 
@@ -226,7 +291,7 @@ fn push_frame(alloc: Global, lines: &mut Lines, message: Message) {
 }
 
 /// The bytes of a message's frame. `None` where it can't be written.
-fn frame_of(alloc: Global, message: Message) -> Option<Vec<u8>> {
+pub fn frame_of(alloc: Global, message: Message) -> Option<Vec<u8>> {
     let mut to = Tap::new(Vec::new(alloc));
     let written = write_message(alloc, &mut to, &message, Mode::Plain, Limits::standard());
     drop(message);

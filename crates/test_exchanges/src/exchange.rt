@@ -1,11 +1,14 @@
 //! Exchanges, in each way in which they are played.
 
 use crate::bytes::sent;
-use crate::connecting::{connected, wanted};
+use crate::connecting::{connected, cut, wanted};
 use crate::pairs::{End, both_played};
 use crate::playing::{Player, played};
 use crate::running::ran;
 use crate::script::UNREAD;
+use crate::sessions::{Session, read, reported, served};
+use cp_frame::Mode;
+use cp_objects::Objects;
 use cp_scripts::{Lines, Taken};
 use std::alloc::Global;
 
@@ -39,11 +42,22 @@ enum Players {
     Sender(Option<u32>),
     /// Two vats.
     Two(Option<u32>, Option<u32>),
+    /// A connection without its vat's peer, whose bytes come whole and byte by byte.
+    Connection(Option<u32>),
+    /// The same, whose bytes come in pieces of each length.
+    Cut(Option<u32>),
+    /// A server of objects and its peer, with bytes in this form.
+    Server(Mode),
+    /// Objects on a connection, which may call or may not.
+    Objects(bool),
+    /// Nobody: frames are read.
+    Reader,
     Nobody,
 }
 
 impl Players {
-    /// The players of a line: `vat OBJECT`, `sender OBJECT` or `vats OBJECT OBJECT`, where an object is `none` or `object:N`.
+    /// The players of a line: `vat OBJECT`, `sender OBJECT`, `connection OBJECT`, `cut OBJECT` or `vats OBJECT OBJECT`, where an object
+    /// is `none` or `object:N`; or `server MODE`, `objects`, `objects that call` or `reader`.
     fn of(line: &str) -> Players {
         let mut words = line.split(' ');
         let name = words.next().unwrap_or("");
@@ -52,6 +66,12 @@ impl Players {
             "vat" => Players::One(first),
             "sender" => Players::Sender(first),
             "vats" => Players::Two(first, bootstrap(words.next())),
+            "connection" => Players::Connection(first),
+            "cut" => Players::Cut(first),
+            "server" if line == "server packed" => Players::Server(Mode::Packed),
+            "server" => Players::Server(Mode::Plain),
+            "objects" => Players::Objects(line == "objects that call"),
+            "reader" => Players::Reader,
             _ => Players::Nobody,
         }
     }
@@ -59,31 +79,68 @@ impl Players {
     /// The ways in which they play.
     fn ways(self) -> &'static [Way] {
         match self {
-            Players::One(_) => &WAYS,
+            Players::One(_) => &WAYS[..5],
             Players::Two(..) => &WAYS[1..3],
-            Players::Sender(_) | Players::Nobody => &WAYS[..1],
+            Players::Connection(_) => &WAYS[3..5],
+            Players::Cut(_) => &WAYS[5..6],
+            Players::Server(_) => &WAYS[6..],
+            Players::Objects(_) => &WAYS[7..],
+            Players::Sender(_) | Players::Reader | Players::Nobody => &WAYS[..1],
         }
     }
 
     /// What they do.
     fn lines(self, alloc: Global, way: Way, script: &str) -> Lines {
-        match (self, way) {
-            (Players::One(vat), Way::Listed) => ran(alloc, vat, script),
-            (Players::One(vat), Way::Connected(piece)) => connected(alloc, vat, piece, script),
-            (Players::One(vat), _) => played(alloc, Player::new(alloc, vat, way.taken()), script),
-            (Players::Sender(vat), _) => sent(alloc, vat, script),
-            (Players::Two(first, second), _) => {
+        match self {
+            Players::One(vat) => one_played(alloc, vat, way, script),
+            Players::Sender(vat) => sent(alloc, vat, script),
+            Players::Two(first, second) => {
                 let first = End::new(alloc, Player::new(alloc, first, way.taken()));
                 let second = End::new(alloc, Player::new(alloc, second, way.taken()));
                 both_played(alloc, first, second, script)
             }
-            (Players::Nobody, _) => Lines::new(alloc),
+            Players::Connection(vat) => match way {
+                Way::Connected(piece) => connected(alloc, vat, piece, script),
+                _ => cut(alloc, vat, script),
+            },
+            Players::Cut(vat) => cut(alloc, vat, script),
+            Players::Server(mode) => match way {
+                Way::Served => served(alloc, mode, script),
+                _ => {
+                    let owed = Objects::new(alloc);
+                    Session::new(alloc, mode, owed, way.lends(), script).play(script)
+                }
+            },
+            Players::Objects(may_call) => {
+                let owed = objects(alloc, may_call);
+                Session::new(alloc, Mode::Plain, owed, way.lends(), script).play(script)
+            }
+            Players::Reader => read(alloc, script),
+            Players::Nobody => Lines::new(alloc),
         }
+    }
+}
+
+/// What one vat does.
+fn one_played(alloc: Global, vat: Option<u32>, way: Way, script: &str) -> Lines {
+    match way {
+        Way::Listed => ran(alloc, vat, script),
+        Way::Connected(piece) => connected(alloc, vat, piece, script),
+        _ => played(alloc, Player::new(alloc, vat, way.taken()), script),
     }
 }
 
 fn bootstrap(object: Option<&str>) -> Option<u32> {
     object?.strip_prefix("object:")?.parse::<u32>().ok()
+}
+
+/// What objects owe that may call or may not.
+fn objects(alloc: Global, may_call: bool) -> Objects {
+    if may_call {
+        Objects::that_call(alloc)
+    } else {
+        Objects::new(alloc)
+    }
 }
 
 /// How the events of an exchange are played.
@@ -95,14 +152,24 @@ enum Way {
     Each(Taken),
     /// One by one, through a connection, whose bytes come in pieces of this length.
     Connected(usize),
+    /// The same, in pieces of each length.
+    Cut,
+    /// By a server, to which all bytes come at once.
+    Served,
+    /// One by one, through a connection with objects, to which calls are lent or aren't.
+    Objects { lends: bool },
 }
 
-static WAYS: [Way; 5] = [
+static WAYS: [Way; 9] = [
     Way::Listed,
     Way::Each(Taken::Owned),
     Way::Each(Taken::InPlace),
     Way::Connected(usize::MAX),
     Way::Connected(1),
+    Way::Cut,
+    Way::Served,
+    Way::Objects { lends: true },
+    Way::Objects { lends: false },
 ];
 
 impl Way {
@@ -113,13 +180,21 @@ impl Way {
             Way::Each(Taken::InPlace) => "with messages in place",
             Way::Connected(1) => "through a connection, byte by byte",
             Way::Connected(_) => "through a connection",
+            Way::Cut => "through a connection, in pieces of each length",
+            Way::Served => "by a server",
+            Way::Objects { lends: true } => "with calls that are lent",
+            Way::Objects { lends: false } => "in pieces",
         }
+    }
+
+    fn lends(self) -> bool {
+        matches!(self, Way::Objects { lends: true })
     }
 
     fn taken(self) -> Taken {
         match self {
             Way::Each(taken) => taken,
-            Way::Listed | Way::Connected(_) => Taken::Owned,
+            _ => Taken::Owned,
         }
     }
 
@@ -129,8 +204,9 @@ impl Way {
             Way::Listed => script
                 .strip_prefix(lines)
                 .is_some_and(|rest| rest.is_empty() || ends_refused(lines)),
-            Way::Each(_) => lines == script,
-            Way::Connected(_) => wanted(alloc, script).text() == Some(lines),
+            Way::Each(_) | Way::Objects { .. } => lines == script,
+            Way::Connected(_) | Way::Cut => wanted(alloc, script).text() == Some(lines),
+            Way::Served => reported(alloc, script).text() == Some(lines),
         }
     }
 }

@@ -1,14 +1,16 @@
-//! Exchanges of a vat with its peer, and of two vats. Each is a section of a file that lies beside this program: what comes,
-//! and after it all that follows.
+//! Exchanges of a vat with its peer, and of two vats, and sessions of objects with their peer. Each is a section of a file that
+//! lies beside this program: what comes, and after it all that follows.
 #![tactic(auto)]
 
 mod bytes;
 mod connecting;
 mod exchange;
+mod objects;
 mod pairs;
 mod playing;
 mod running;
 mod script;
+mod sessions;
 
 use crate::exchange::{Fault, failure};
 use crate::script::{Section, script_of};
@@ -17,8 +19,9 @@ use std::process::ExitCode;
 use std::{fs, io};
 
 /// The files of exchanges. The lines that several of these begin with are in `parts.txt`.
-const FILES: [&str; 9] = [
+const FILES: [&str; 12] = [
     "calls.txt",
+    "connections.txt",
     "counts.txt",
     "embargoes.txt",
     "faults.txt",
@@ -26,6 +29,8 @@ const FILES: [&str; 9] = [
     "promises.txt",
     "references.txt",
     "refusals.txt",
+    "sessions.txt",
+    "state.txt",
     "worlds.txt",
 ];
 

@@ -21,7 +21,7 @@ pub fn ran(alloc: Global, bootstrap: Option<u32>, script: &str) -> Lines {
 /// Adds the event of a line. Where it can't be read it is missing, which the lines show.
 fn push_event(alloc: Global, events: &mut Vec<Event>, line: &str) {
     if let Some(event) = event_of(alloc, line) {
-        let _ = events.push(event);
+        drop(events.push(event));
     }
 }
 

@@ -42,6 +42,14 @@ pub fn script_of(alloc: Global, parts: &str, lines: &str) -> Lines {
 /// Stands for what can't be read.
 pub const UNREAD: &str = "= unread\n";
 
+/// Adds a text, if there was memory for it.
+pub fn push_text(lines: &mut Lines, text: Option<String>) {
+    match text {
+        Some(text) => lines.push(text.as_str()),
+        None => lines.push(UNREAD),
+    }
+}
+
 /// The lines of the part of this name.
 fn part_of<'a>(parts: &'a str, name: &str) -> &'a str {
     for part in parts.split("\n== ") {
@@ -106,8 +114,5 @@ fn push_numbered(script: &mut Lines, alloc: Global, body: &str, number: u32) {
 }
 
 fn push_number(script: &mut Lines, alloc: Global, number: u32) {
-    match format!(in alloc; "{number}") {
-        Ok(text) => script.push(text.as_str()),
-        Err(_) => script.push(UNREAD),
-    }
+    push_text(script, format!(in alloc; "{number}").ok());
 }

@@ -12,7 +12,15 @@ fn expect_texts<F: Display>(rt: &impl Abort, alloc: Global, rows: &[(F, &str)]) 
         let fault = &row.0;
         let text = format!(in alloc; "{fault}").expect(rt, "memory");
         check!(rt; text.as_str() == row.1);
+        drop(text);
     }
+}
+
+/// The longer form of a fault's text.
+fn expect_long(rt: &impl Abort, alloc: Global, fault: VatFault, wanted: &str) {
+    let text = format!(in alloc; "{fault:#}").expect(rt, "memory");
+    check!(rt; text.as_str() == wanted);
+    drop(text);
 }
 
 #[test]
@@ -20,9 +28,8 @@ fn texts(rt: HostRuntime) {
     expect_texts(&rt, rt.alloc(), OF_TABLES);
     expect_texts(&rt, rt.alloc(), OF_VATS);
     expect_texts(&rt, rt.alloc(), OF_PEERS);
-    let fault = VatFault::InUse;
-    let long = format!(in rt.alloc(); "{fault:#}").expect(&rt, "memory");
-    check!(&rt; long.as_str() == "V6 InUse: the question, import or promise is in use");
+    let wanted = "V6 InUse: the question, import or promise is in use";
+    expect_long(&rt, rt.alloc(), VatFault::InUse, wanted);
 }
 
 const OF_TABLES: &[(TableFault, &str)] = &[

@@ -1,5 +1,5 @@
-//! Tests of cp_tables, cp_refs and cp_vat_state, over their libraries. They are one crate, since what std and these libraries say is read anew for
-//! each.
+//! Tests of cp_tables, cp_refs and cp_vat_machine, over their libraries: rows of steps and of texts. They are one crate, since what std and these
+//! libraries say is read anew for each. What a vat keeps in them is in the rows of test_exchanges.
 #![tactic(auto)]
 
 /// Ends the test unless the condition holds, with the condition's text.
@@ -15,16 +15,6 @@ mod checks;
 #[cfg(test)]
 mod faults;
 #[cfg(test)]
-mod in_use;
-#[cfg(test)]
-mod marks;
-#[cfg(test)]
-mod parts;
-#[cfg(test)]
-mod routes;
+mod outcomes;
 #[cfg(test)]
 mod tables;
-#[cfg(test)]
-mod values;
-#[cfg(test)]
-mod waiting;

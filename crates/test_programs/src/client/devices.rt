@@ -1,0 +1,46 @@
+//! Readers and writers of a client that fail.
+
+use crate::client::peer::call_twice;
+use crate::devices::{Device, Fails};
+use crate::frames::{DESK, NEXT_SUM, SUM, bytes_of};
+use cp_client::{Client, ClientFault, Question, word_at};
+use cp_frame::Mode;
+use cp_words::Limits;
+use std::io::{Read, Write};
+
+/// Waits until a question's outcome comes, whatever the devices do, and gives its word and how often one failed.
+fn insist<R: Read + Drop, W: Write + Drop>(
+    client: &mut Client<R, W>,
+    question: Question,
+) -> (Option<u64>, u64) {
+    let mut failed = 0;
+    for _ in 0..1_000 {
+        match client.wait(question) {
+            Ok(outcome) => {
+                let word = word_at(&outcome, 0);
+                drop(outcome);
+                return (word, failed);
+            }
+            Err(ClientFault::Device) => failed = failed.saturating_add(1),
+            Err(_) => break,
+        }
+    }
+    (None, failed)
+}
+
+#[test]
+fn nothing_is_lost_where_devices_fail(rt: HostRuntime) {
+    let alloc = rt.alloc();
+    let bytes = bytes_of(&rt, alloc, &[DESK, SUM, NEXT_SUM]);
+    let from = Device::new(bytes.as_slice(), Fails::ButEachThird, 7);
+    let to = Device::new(Vec::new(alloc), Fails::ButEachThird, 40);
+    let mut client = Client::new(alloc, from, to, Mode::Plain, Limits::standard());
+    let (_, second) = call_twice(&rt, alloc, &mut client);
+    let (word, failed) = insist(&mut client, second);
+    let (from, to) = client.into_devices();
+    check!(&rt; word == Some(42));
+    check!(&rt; failed > 10);
+    check!(&rt; from.inner.is_empty());
+    // A Bootstrap has 48 bytes, the calls 152 and 128.
+    check!(&rt; to.inner.len() == 328);
+}

@@ -1,0 +1,4 @@
+//! The commands, and the connections that they serve.
+
+mod acting;
+mod connections;

@@ -1,0 +1,93 @@
+//! A host of 127.0.0.1, and a client in the same thread.
+
+use cp_frame::Mode;
+use cp_host::{End, Host, News, Plan};
+use cp_servants::Desk;
+use cp_sockets::{HostLimits, Listener};
+use cp_words::Limits;
+use std::alloc::Global;
+use std::io::{Read, Write};
+use std::net::{Ipv4Addr, Net, Shutdown, SocketAddr, TcpListener, TcpStream};
+use std::process::Abort;
+use std::time::Clock;
+
+/// The frames of two Bootstraps, questions 7 and 8.
+const TWO: [u8; 96] = [
+    0x00, 0x00, 0x00, 0x00, 0x05, 0x00, 0x00, 0x00, 0x00, 0x00, 0x00, 0x00, 0x01, 0x00, 0x01, 0x00,
+    0x08, 0x00, 0x00, 0x00, 0x00, 0x00, 0x00, 0x00, 0x00, 0x00, 0x00, 0x00, 0x01, 0x00, 0x01, 0x00,
+    0x07, 0x00, 0x00, 0x00, 0x00, 0x00, 0x00, 0x00, 0x00, 0x00, 0x00, 0x00, 0x00, 0x00, 0x00, 0x00,
+    0x00, 0x00, 0x00, 0x00, 0x05, 0x00, 0x00, 0x00, 0x00, 0x00, 0x00, 0x00, 0x01, 0x00, 0x01, 0x00,
+    0x08, 0x00, 0x00, 0x00, 0x00, 0x00, 0x00, 0x00, 0x00, 0x00, 0x00, 0x00, 0x01, 0x00, 0x01, 0x00,
+    0x08, 0x00, 0x00, 0x00, 0x00, 0x00, 0x00, 0x00, 0x00, 0x00, 0x00, 0x00, 0x00, 0x00, 0x00, 0x00,
+];
+
+/// One connection, plain, of which each turn takes one message.
+fn plan() -> Plan {
+    Plan {
+        mode: Mode::Plain,
+        messages: Limits::standard(),
+        limits: HostLimits {
+            messages: 1,
+            ..HostLimits::standard()
+        },
+        count: Some(1),
+    }
+}
+
+/// Gives the connection that came a Desk.
+fn admit(rt: &impl Abort, alloc: Global, host: &mut Host<Desk>) {
+    let mut objects = Vec::new(alloc);
+    objects.push(Desk::new(alloc)).expect(rt, "memory");
+    host.admit(objects).expect(rt, "a connection");
+}
+
+/// A client that has sent both frames, and sends no more.
+fn client<R>(rt: &R, address: SocketAddr) -> TcpStream
+where
+    R: Net<Listener = TcpListener, Stream = TcpStream> + Abort,
+{
+    let mut client = TcpStream::connect(rt, address).expect(rt, "a connection");
+    client.write_all(&TWO).expect(rt, "a stream");
+    client.shutdown(Shutdown::Write).expect(rt, "a stream");
+    client
+}
+
+/// Connection 1 comes, and gets a Desk.
+fn expect_came<R: Net + Clock + AllocGlobal + Abort>(rt: &R, host: &mut Host<Desk>) {
+    let came = host.next(rt).expect(rt, "a host");
+    check!(rt; matches!(came, Some(News::Came { number: 1, .. })));
+    admit(rt, rt.alloc(), host);
+}
+
+/// It ends by itself, and none comes after it.
+fn expect_ended<R: Net + Clock + Abort>(rt: &R, host: &mut Host<Desk>) {
+    let ended = host.next(rt).expect(rt, "a host");
+    check!(rt; matches!(ended, Some(News::Ended { number: 1, end: End::Ended, .. })));
+    check!(rt; host.next(rt).expect(rt, "a host").is_none());
+}
+
+/// A client gets two Returns, of one length.
+fn expect_returns(rt: &impl Abort, alloc: Global, mut client: TcpStream) {
+    let mut answer = Vec::new(alloc);
+    client.read_to_end(&mut answer).expect(rt, "a stream");
+    drop(client);
+    let half = answer.len() / 2;
+    check!(rt; half > 40 && answer[16] == 3 && answer[half + 16] == 3);
+    drop(answer);
+}
+
+#[test]
+fn two_turns_of_one_connection(rt: HostRuntime) {
+    let here = SocketAddr::from((Ipv4Addr::LOCALHOST, 0));
+    let listener = Listener::bind(&rt, here).expect(&rt, "a port");
+    let address = listener
+        .address()
+        .expect(&rt, "a socket")
+        .expect(&rt, "a port");
+    let client = client(&rt, address);
+    let mut host = Host::new(&rt, plan(), listener).expect(&rt, "a host");
+    expect_came(&rt, &mut host);
+    expect_ended(&rt, &mut host);
+    drop(host);
+    expect_returns(&rt, rt.alloc(), client);
+}

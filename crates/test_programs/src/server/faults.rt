@@ -1,0 +1,36 @@
+//! What the faults of a server and of a connection print that no row of test_exchanges comes to.
+
+use cp_connection::ConnectionFault;
+use cp_serve::ServeFault;
+use cp_stream::StreamFault;
+use cp_vat_machine::VatFault;
+use std::alloc::Global;
+use std::fmt::Display;
+use std::process::Abort;
+
+/// Each fault prints its text.
+fn expect_texts<F: Display>(rt: &impl Abort, alloc: Global, rows: &[(F, &str)]) {
+    for row in rows {
+        let fault = &row.0;
+        let text = format!(in alloc; "{fault}").expect(rt, "memory");
+        check!(rt; text.as_str() == row.1);
+        drop(text);
+    }
+}
+
+const OF_SERVERS: &[(ServeFault, &str)] = &[(
+    ServeFault::Stream(StreamFault::Device),
+    "device failed",
+)];
+
+const OF_CONNECTIONS: &[(ConnectionFault, &str)] = &[
+    (ConnectionFault::Closed, "the connection is closed"),
+    (ConnectionFault::OutOfMemory, "V10 OutOfMemory"),
+    (ConnectionFault::Refused(VatFault::InUse), "V6 InUse"),
+];
+
+#[test]
+fn texts(rt: HostRuntime) {
+    expect_texts(&rt, rt.alloc(), OF_SERVERS);
+    expect_texts(&rt, rt.alloc(), OF_CONNECTIONS);
+}
