@@ -2,7 +2,7 @@
 //!
 //! A `Connection` is a `Vat` with what comes and goes around it: `receive` takes the bytes of the peer in any
 //! pieces, `outgoing` has the bytes that are to be written, and `next` hands out what happened. So it stands
-//! over a socket, a pipe or a loop of events alike. The program example_connection joins two in memory.
+//! over a socket, a pipe or a loop of events alike. The example `connection` joins two in memory.
 //!
 //! Where calls go to objects (`server::Servant`), `Objects` stands between: `receive` has the connection take bytes, lends it the
 //! calls that come and answers, `work_off` does so of what else happened, `round` polls the objects, and `Notice`s are what is left

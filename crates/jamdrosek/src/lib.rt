@@ -3,7 +3,7 @@
 //!
 //! # Read a stream of messages
 //!
-//! `read_message` reads exactly the bytes of the next frame. The program example_count:
+//! `read_message` reads exactly the bytes of the next frame. The example `count`, as a program of its own:
 //!
 //! ```
 //! #![tactic(auto)]
@@ -41,7 +41,7 @@
 //!
 //! # Look at a message in place
 //!
-//! `view_of` checks the message of a frame, and copies nothing. The program example_view:
+//! `view_of` checks the message of a frame, and copies nothing. The example `view`:
 //!
 //! ```
 //! #![tactic(auto)]
@@ -77,7 +77,7 @@
 //!
 //! # Write a message
 //!
-//! `write_message` writes one frame, plain or packed. The program example_write:
+//! `write_message` writes one frame, plain or packed. The example `write`:
 //!
 //! ```
 //! #![tactic(auto)]
@@ -120,8 +120,8 @@
 //! # Serve an object
 //!
 //! `serve` takes a connection's reader and writer, and the objects that its peer may call. Of an interface of a schema
-//! `capnpc_rattle --interfaces` writes a trait, which an object of yours implements; module `interfaces` says how. The program
-//! example_serve, over the crate that the plugin wrote of store.capnp:
+//! `capnpc_rattle --interfaces` writes a trait, which an object of yours implements; module `interfaces` says how. The example
+//! `serve`, over the crate that the plugin wrote of store.capnp:
 //!
 //! ```
 //! #![tactic(auto)]
@@ -156,8 +156,7 @@
 //!         let key = params.key()?.text(self.alloc)?;
 //!         let value = params.value()?.text(self.alloc)?;
 //!         self.texts.insert(key, value)?;
-//!         let results = StorePutResultsDraft::new(self.alloc)?;
-//!         Ok(Answer::of(self.alloc, results))
+//!         Ok(Answer::of(self.alloc, StorePutResultsDraft::new(self.alloc)?))
 //!     }
 //!
 //!     fn get(
@@ -190,7 +189,7 @@
 //! # Call an object
 //!
 //! A `Client` asks the peer behind a reader and a writer, such as `&stream` twice of a `TcpStream`. The plugin writes a typed
-//! client of each interface, which calls by it. The program example_call puts a text into the store of example_serve and gets
+//! client of each interface, which calls by it. The example `call` puts a text into the store of `serve` and gets
 //! it back, in one round trip:
 //!
 //! ```
@@ -329,21 +328,16 @@
 //!
 //! # One end by hand
 //!
-//! A `Vat` is one end of a connection. Messages and calls go in, and effects come out, in order. The program
-//! example_vat has two of them, and answers what this calls:
+//! A `Vat` is one end of a connection. Messages and calls go in, and effects come out, in order. The example
+//! `vat` has two of them, and answers what this calls:
 //!
 //! ```
 //! let asked = client.bootstrap()?;
 //! let object = Cap::Pipelined(asked.value, Path::new(Vec::new(alloc)));
-//! send(asked.effects.into_effects(), &mut to_server)?;
-//! let request = Request {
-//!     interface: 0xe5a1_0000_0000_0002,
-//!     method: 0,
-//!     content: number(alloc, 41)?,
-//!     caps: Caps::new(Vec::new(alloc)),
-//! };
-//! let called = client.call(object, request)?;
-//! send(called.effects.into_effects(), &mut to_server)?;
+//! let params = Content::new(alloc).word(41)?;
+//! let called = client.call(object, params.request(0xe5a1_0000_0000_0002, 0))?;
+//! let mut effects = asked.effects.into_effects();
+//! effects.extend(called.effects.into_effects())?;
 //! ```
 //!
 //! # The layers

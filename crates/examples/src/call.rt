@@ -1,6 +1,5 @@
-//! Puts a text into the store of example_serve and gets it back, in one round trip, and prints it. What the server answers is
-//! in a file; a socket may take its place.
-#![tactic(auto)]
+//! Puts a text into the store of the example `serve` and gets it back, in one round trip. What the server answers is in a file;
+//! a socket may take its place.
 
 use jamdrosek::client::{Client, Question};
 use jamdrosek::interfaces::payload_of;
@@ -9,6 +8,18 @@ use std::alloc::Global;
 use std::fs::File;
 use std::io::{self, Read, Write};
 use store::{StoreClient, StoreGetParamsDraft, StorePutParamsDraft};
+
+pub fn run(rt: &HostRuntime) -> anyhow::Result<()> {
+    let alloc = rt.alloc();
+    let answers = File::open(rt, "call.bin")?;
+    let (mode, limits) = (Mode::Plain, Limits::standard());
+    let mut client = Client::new(alloc, answers, io::sink(), mode, limits);
+    let text = kept(alloc, &mut client);
+    // A client that ends so, and isn't dropped, leaves this crate no vat's drop to prove.
+    let _ = client.into_devices();
+    println!(rt; "{}", text?.as_str())?;
+    Ok(())
+}
 
 /// Puts a text and gets it back. Both calls are made before the store is known.
 fn kept<R: Read + Drop, W: Write + Drop>(
@@ -26,16 +37,4 @@ fn kept<R: Read + Drop, W: Write + Drop>(
     let number = got.question();
     let came = payload_of(client.wait(Question { number })?)?;
     Ok(got.results(&came)?.value()?.text(alloc)?)
-}
-
-fn main(rt: HostRuntime) -> anyhow::Result<()> {
-    let alloc = rt.alloc();
-    let answers = File::open(&rt, "server.bin")?;
-    let (mode, limits) = (Mode::Plain, Limits::standard());
-    let mut client = Client::new(alloc, answers, io::sink(), mode, limits);
-    let text = kept(alloc, &mut client);
-    // A client that ends so, and isn't dropped, leaves this crate no vat's drop to prove.
-    let _ = client.into_devices();
-    println!(rt; "{}", text?.as_str())?;
-    Ok(())
 }

@@ -1,10 +1,17 @@
 //! Counts the calls of a stream of messages.
-#![tactic(auto)]
 
 use jamdrosek::{Limits, Message, Mode, StreamFault, Tap, read_message};
 use std::alloc::Global;
 use std::fs::File;
 use std::io::{BufReader, Read};
+
+pub fn run(rt: &HostRuntime) -> anyhow::Result<()> {
+    let alloc = rt.alloc();
+    let stream = BufReader::new(alloc, File::open(rt, "count.bin")?)?;
+    let calls = count_calls(alloc, stream)?;
+    println!(rt; "{calls} calls")?;
+    Ok(())
+}
 
 /// Reads the stream to its end, one message at a time.
 fn count_calls<R: Read + Drop>(alloc: Global, stream: R) -> Result<u64, StreamFault> {
@@ -18,12 +25,4 @@ fn count_calls<R: Read + Drop>(alloc: Global, stream: R) -> Result<u64, StreamFa
         }
     }
     Ok(calls)
-}
-
-fn main(rt: HostRuntime) -> anyhow::Result<()> {
-    let alloc = rt.alloc();
-    let stream = BufReader::new(alloc, File::open(&rt, "client.bin")?)?;
-    let calls = count_calls(alloc, stream)?;
-    println!(rt; "{calls} calls")?;
-    Ok(())
 }

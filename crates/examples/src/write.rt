@@ -1,5 +1,4 @@
 //! Writes a Call to standard output, as one packed frame.
-#![tactic(auto)]
 
 use anyhow::anyhow;
 use jamdrosek::message::{Call, CapTable, Payload, SendResultsTo, Target};
@@ -7,6 +6,14 @@ use jamdrosek::tree::{Body, Tree, Whole};
 use jamdrosek::{Limits, Message, Mode, Tap, write_message};
 use std::alloc::Global;
 use std::io;
+
+pub fn run(rt: &HostRuntime) -> anyhow::Result<()> {
+    let alloc = rt.alloc();
+    let message = call(alloc, 5, 1)?;
+    let mut out = Tap::new(io::writer(rt));
+    let limits = Limits::standard();
+    Ok(write_message(alloc, &mut out, &message, Mode::Packed, limits)?)
+}
 
 /// A call on import 1, whose params are a struct of one word.
 fn call(alloc: Global, question_id: u32, number: u64) -> anyhow::Result<Message> {
@@ -25,12 +32,4 @@ fn call(alloc: Global, question_id: u32, number: u64) -> anyhow::Result<Message>
         },
         send_results_to: SendResultsTo::Caller,
     }))
-}
-
-fn main(rt: HostRuntime) -> anyhow::Result<()> {
-    let alloc = rt.alloc();
-    let message = call(alloc, 5, 1)?;
-    let mut out = Tap::new(io::writer(&rt));
-    let limits = Limits::standard();
-    Ok(write_message(alloc, &mut out, &message, Mode::Packed, limits)?)
 }

@@ -1,6 +1,4 @@
-//! Serves a store of texts to a client whose messages are in a file, and writes its answers. Of crates/store/store.capnp
-//! capnpc_rattle made the crate store.
-#![tactic(auto)]
+//! Serves a store of texts, the interface of crates/store/store.capnp, to a client whose messages are in a file.
 
 use jamdrosek::interfaces::{Answer, Call, MethodFault, Object};
 use jamdrosek::server::{Servant, serve};
@@ -13,6 +11,18 @@ use store::{
     StoreGetParamsView, StoreGetResultsDraft, StorePutParamsView, StorePutResultsDraft,
     StoreServant, StoreServer,
 };
+
+pub fn run(rt: &HostRuntime) -> anyhow::Result<()> {
+    let alloc = rt.alloc();
+    let texts = BTreeMap::new(alloc);
+    let object = Shelf { alloc, texts };
+    let mut objects: Vec<Box<dyn Servant>> = Vec::new(alloc);
+    objects.push(Box::new(alloc, StoreServant { alloc, object })?)?;
+    let mut from = Tap::new(File::open(rt, "serve.bin")?);
+    let mut to = Tap::new(io::writer(rt));
+    serve(alloc, &mut from, &mut to, &mut objects, Mode::Plain)?;
+    Ok(())
+}
 
 /// Texts by their keys.
 #[derive(Drop)]
@@ -47,16 +57,4 @@ impl StoreServer for Shelf {
         }
         Ok(Answer::of(self.alloc, results))
     }
-}
-
-fn main(rt: HostRuntime) -> anyhow::Result<()> {
-    let alloc = rt.alloc();
-    let texts = BTreeMap::new(alloc);
-    let object = Shelf { alloc, texts };
-    let mut objects: Vec<Box<dyn Servant>> = Vec::new(alloc);
-    objects.push(Box::new(alloc, StoreServant { alloc, object })?)?;
-    let mut from = Tap::new(File::open(&rt, "client.bin")?);
-    let mut to = Tap::new(io::writer(&rt));
-    serve(alloc, &mut from, &mut to, &mut objects, Mode::Plain)?;
-    Ok(())
 }

@@ -1,0 +1,63 @@
+//! Two ends of a connection, joined in memory by their bytes, one at a time. The client adds to the server's total before it is known.
+
+use jamdrosek::client::{Cap, Content, Path, Request, word_at, word_in};
+use jamdrosek::connection::{Connection, Happening, Objects};
+use jamdrosek::server::{Ids, Reply, Servant, Settled};
+use jamdrosek::{Limits, Mode};
+use std::alloc::{AllocError, Global};
+
+pub fn run(rt: &HostRuntime) -> anyhow::Result<()> {
+    let mut client = Connection::new(rt.alloc(), Mode::Packed, Limits::standard(), None);
+    let mut server = Connection::new(rt.alloc(), Mode::Packed, Limits::standard(), Some(0));
+    add(rt, &mut client, &mut server)
+}
+
+/// Adds 41 to the total, and prints what the client is told.
+fn add(rt: &HostRuntime, client: &mut Connection, server: &mut Connection) -> anyhow::Result<()> {
+    let alloc = rt.alloc();
+    let total = Cap::Pipelined(client.bootstrap()?, Path::new(Vec::new(alloc)));
+    let params = Content::new(alloc).word(41)?;
+    let asked = client.call(total, params.request(0xe5a1_0000_0000_0003, 0))?;
+    carry(client, server)?;
+    Objects::new(alloc).work_off(server, &mut [Total { alloc, number: 0 }])?;
+    carry(server, client)?;
+    for _ in 0..client.held().happenings {
+        match client.next() {
+            Some(Happening::Settled { question, outcome }) if question == asked => {
+                println!(rt; "the sum is {}", word_at(&outcome, 0).unwrap_or(0))?;
+            }
+            _ => {}
+        }
+    }
+    Ok(())
+}
+
+/// Carries what one end sends to the other.
+fn carry(from: &mut Connection, to: &mut Connection) -> anyhow::Result<()> {
+    for byte in from.outgoing() {
+        to.receive(&[*byte])?;
+    }
+    from.wrote(from.outgoing().len());
+    Ok(())
+}
+
+/// A total, to which each call adds a number. It answers with the new one.
+#[derive(Drop)]
+struct Total {
+    alloc: Global,
+    number: u64,
+}
+
+impl Servant for Total {
+    fn call(&mut self, _ticket: u64, request: Request) -> Result<Reply, AllocError> {
+        self.number = self.number.saturating_add(word_in(&request.content, 0));
+        Ok(Reply::Now {
+            outcome: Content::new(self.alloc).word(self.number)?.results(),
+            gives_up: Ids::new(Vec::new(self.alloc)),
+        })
+    }
+
+    fn poll(&mut self) -> Result<Option<Settled>, AllocError> {
+        Ok(None)
+    }
+}

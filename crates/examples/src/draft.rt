@@ -1,0 +1,46 @@
+//! Writes an address book by the names of its schema, and prints it as the example `book` reads it.
+
+use crate::book::print_books;
+use addressbook::{
+    AddressBookDraft, PersonDraft, PersonListDraft, PersonPhoneNumberDraft,
+    PersonPhoneNumberListDraft, PersonPhoneNumberType,
+};
+use jamdrosek::{Limits, Mode, Tap, write_struct};
+use std::alloc::Global;
+
+pub fn run(rt: &HostRuntime) -> anyhow::Result<()> {
+    print_books(rt, &written(rt.alloc())?)
+}
+
+/// The bytes of a book of one person.
+fn written(alloc: Global) -> anyhow::Result<Vec<u8>> {
+    let mut people = PersonListDraft::new(alloc);
+    people.push(carol(alloc)?)?;
+    let mut book = AddressBookDraft::new(alloc)?;
+    book.set_people(people);
+    let mut to = Tap::new(Vec::new(alloc));
+    let limits = Limits::standard();
+    write_struct(
+        alloc,
+        &mut to,
+        &book.body.into_object(),
+        Mode::Plain,
+        limits,
+    )?;
+    Ok(to.into_inner())
+}
+
+/// A person with a phone, and with what they do.
+fn carol(alloc: Global) -> anyhow::Result<PersonDraft> {
+    let mut phone = PersonPhoneNumberDraft::new(alloc)?;
+    phone.set_number(alloc, "555-1414")?;
+    phone.set_type(PersonPhoneNumberType::Work);
+    let mut phones = PersonPhoneNumberListDraft::new(alloc);
+    phones.push(phone)?;
+    let mut carol = PersonDraft::new(alloc)?;
+    carol.set_id(789);
+    carol.set_name(alloc, "Carol")?;
+    carol.set_phones(phones);
+    carol.set_employment_employer(alloc, "ETH")?;
+    Ok(carol)
+}
