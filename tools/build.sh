@@ -1,46 +1,24 @@
 #!/usr/bin/env bash
 # tools/build.sh CRATE..    proves these crates and those that they use, where they aren't up to date, and builds
-#                           the programs and static libraries among them. It says on standard error what it does,
-#                           and in how many minutes it may end. If it is stopped, the next run goes on from there.
+#                           the programs and static libraries among them, the first one first. It says on standard error
+#                           what it does, and in how many minutes it may end. If it is stopped, the next run goes on from there.
 #
-# `rt lib` holds the locks of all libraries below a crate until it ends, and nearly all crates share one. So that crates are
-# proved side by side, each is in a folder of its own: a copy of the sources, and links to the libraries that it uses, built.
-# The crate's out/, where rt keeps what it proved, is moved there and back.
+# As `rt ci` does, it proves a crate over the statements of those below, and not over their whole proofs, which takes half of the
+# time. `rt check` wants whole libraries, and makes its own.
 set -eu
 . "$(dirname "${BASH_SOURCE[0]}")/crates.sh"
-room=$root/.git/build-room # rt ci wants no second crates.txt elsewhere
-[ -d "$root/.git" ] || room=$root/out/build-room
 declare -A behind state jobs pid since seconds work
 
-put_back() { # CRATE
-    local out=$room/$1/crates/$1/out
-    [ ! -d "$out" ] || { rm -rf "$root/crates/$1/out"; mv "$out" "$root/crates/$1/out"; }
-}
-
 leave() {
-    local name
     trap '' INT TERM HUP
     end_all $(jobs -p)
-    for name in "${!state[@]}"; do [ "${state[$name]}" != runs ] || put_back "$name"; done
-    [ -z "${is_mine-}" ] || rm -rf "$room"
-    state=() is_mine=''
+    [ -z "${room-}" ] || rm -rf "$room"
+    state=() room=''
     unlock
     trap - INT TERM HUP EXIT
 }
 
 interrupted() { say "stopped: what is proved is kept, and the next run goes on from there"; exit "$1"; }
-
-take_room() { # and puts back what a run that was killed left
-    local out name
-    for out in "$room"/*/crates/*/out; do
-        name=$(basename "${out%/out}")
-        [ ! -d "$room/$name/crates/$name/out" ] || [ -e "$root/crates/$name/out" ] || put_back "$name"
-    done
-    rm -rf "$room"
-    mkdir -p "$room"
-    is_mine=yes
-    : >"$room/began"
-}
 
 measure() { # processors, and free memory in MB, within the limits of the control group too
     local most held
@@ -55,26 +33,28 @@ measure() { # processors, and free memory in MB, within the limits of the contro
     fi
 }
 
-read_costs() { # of each crate the seconds, and the processor's, that its proof takes; a tenth where most of it is kept
+read_costs() { # of each crate the seconds, and the processor's, that its proof takes
     local name wall busy
     for name in "${order[@]}"; do seconds[$name]=60 work[$name]=60; done
     while read -r name wall busy; do
-        [ -n "${seconds[$name]-}" ] || continue
-        [ ! -d "$root/crates/$name/out/incremental" ] || wall=$((wall / 10 + 5)) busy=$((busy / 10 + 5))
-        seconds[$name]=$wall work[$name]=$busy
+        [ -z "${seconds[$name]-}" ] || seconds[$name]=$wall work[$name]=$busy
     done <"$root/tools/costs.txt"
 }
 
-look() { # which crates wait to be proved
-    local name kit_of
+look() { # CRATE..: which crates wait to be proved, those that the first one stands on before the others, each by the longest chain above
+    local name by version
     for name in "${order[@]}"; do
-        kit_of=''
-        read -r kit_of 2>/dev/null <"$root/crates/$name/out/kit" || :
-        [ "$kit_of" = "$kit" ] && is_fresh "$name" || state[$name]=waits count=$((count + 1))
+        version=''
+        read -r version 2>/dev/null <"$statements/$name.kit" || :
+        [ "$version" = "$kit_version" ] && is_fresh "$name" || state[$name]=waits count=$((count + 1))
     done
     read_costs
     weigh_chains
-    mapfile -t by_chain < <(for name in "${!state[@]}"; do printf '%s %s\n' "${behind[$name]}" "$name"; done | sort -rn | cut -d' ' -f2)
+    mapfile -t by_chain < <(for name in "${!state[@]}"; do
+        by=${behind[$name]}
+        [[ " ${stands[$1]} " != *" $name "* ]] || by=$((by + 1000000))
+        printf '%s %s\n' "$by" "$name"
+    done | sort -rn | cut -d' ' -f2)
 }
 
 weigh_chains() { # sets behind to the seconds that each crate and the longest chain above it still take, and all_work
@@ -102,45 +82,39 @@ minutes_left() { # by the longest chain, by what the processors have to do, and 
     minutes=$(((most * spent / planned + 59) / 60))
 }
 
-minutes_to_build() { # CRATE: sets minutes to what a build of it may take now
-    local kit processors memory by_chain=() count=0 all_work=0 spent=1 planned=1
-    closure "$1"
-    kit=$(rt version)
-    look
+minutes_to_build() { # CRATE..: sets minutes to what a build of them may take now
+    local kit_version processors memory by_chain=() count=0 all_work=0 spent=1 planned=1
+    closure "$@"
+    kit_version=$(<"$kit/KIT-ID")
+    look "$1"
     measure
     minutes_left
     state=()
 }
 
 begin() { # CRATE JOBS
-    local name=$1 words=(rt lib --jobs "$2") verb=proving
-    [ ! -d "$root/crates/$name/out/incremental" ] || verb=checking
-    [ ! -f "$root/crates/$name/src/main.rt" ] || words=(rt run --jobs "$2" -- --help)
-    lay_out "$name" "$room/sources" "$room/$name"
+    local name=$1
     state[$name]=runs jobs[$name]=$2 since[$name]=$SECONDS number=$((number + 1))
-    [ ! -d "$root/crates/$name/out" ] || mv "$root/crates/$name/out" "$room/$name/crates/$name/out"
-    # (rt inherits the locks, and so holds them if this script alone is killed)
-    (cd "$room/$name/crates/$name" && exec setsid "${words[@]}" </dev/null >"$room/$name.log" 2>&1) &
+    # (it inherits the locks, and so holds them if this script alone is killed)
+    setsid "$root/tools/prove.sh" "$name" "$2" </dev/null >"$room/$name.log" 2>&1 &
     pid[$name]=$!
-    say "$verb $name ($number of $count)"
+    say "proving $name ($number of $count)"
 }
 
 finish() { # CRATE
     local name=$1 status=0
     wait "${pid[$name]}" || status=$?
     end_all "${pid[$name]}"
-    put_back "$name"
     unset "pid[$name]"
     if [ "$status" -ne 0 ] || [ ! -e "${made[$name]}" ]; then
         tail -n 40 "$room/$name.log" >&2
         mkdir -p "$root/crates/$name/out"
         cp "$room/$name.log" "$root/crates/$name/out/build.log"
-        fail "$name is not proved and built (status $status): all that rt said is in crates/$name/out/build.log"
+        fail "$name is not proved and built (status $status): all that rattle said is in crates/$name/out/build.log"
     fi
     # (an edit that came meanwhile is newer)
     touch -r "$room/began" "${made[$name]}"
-    printf '%s\n' "$kit" >"$root/crates/$name/out/kit"
-    rm -rf "${room:?}/$name"
+    printf '%s\n' "$kit_version" >"$statements/$name.kit"
     ended=$((ended + 1))
     state[$name]=built
     spent=$((spent + SECONDS - since[$name])) planned=$((planned + ${seconds[$name]}))
@@ -176,18 +150,19 @@ is_built() { # CRATE..: whether they are, and no source is newer
 }
 
 build() { # CRATE..
-    local name kit processors memory minutes by_chain=() all_work=0 count=0 number=0 ended=0 started=$SECONDS is_mine=''
+    local name kit kit_version processors memory minutes room='' by_chain=() all_work=0 count=0 number=0 ended=0 started=$SECONDS
     local spent=60 planned=60 # seconds that the crates took which were proved so far, and that the table has for them
     is_built "$@" && return
-    command -v rt >/dev/null || fail "rt isn't in PATH: proving needs the Rattle toolchain"
+    find_kit
+    kit_version=$(<"$kit/KIT-ID")
     trap leave EXIT
     on_signals interrupted
+    mkdir -p "$statements"
     lock "${order[@]}"
     are_fresh "$@" && { leave; return; }
-    take_room
-    copy_sources "$room/sources" "${order[@]}"
-    kit=$(rt version)
-    look
+    room=$(mktemp -d "$statements/room.XXXXXX")
+    : >"$room/began"
+    look "$1"
     measure
     minutes_left
     say "$count crates are to be proved, once, in some $minutes min; it can be stopped, and goes on from there"

@@ -1,22 +1,29 @@
 # What the scripts of this folder share: which crates there are, whether they are built, locks, copies, ends.
 root=$(cd "$(dirname "${BASH_SOURCE[0]}")/.." && pwd)
-declare -A uses made stands seen
+statements=$root/.git/statements # of the libraries that are built. (rt ci wants no .rt file where no check reads it)
+[ -d "$root/.git" ] || statements=$root/out/statements
+declare -A uses of_kit made stands seen
 declare -a order locks
 
 say() { printf '%s\n' "$*" >&2; }
 fail() { say "$*"; exit 2; }
 
-read_crates() { # the libraries of each crate in this repository, and the file that shows that it is built
-    local line head it own out libraries
+find_kit() { # sets kit to the toolchain's folder
+    command -v rt >/dev/null || fail "rt isn't in PATH: the Rattle toolchain is needed"
+    kit=$(dirname "$(dirname "$(realpath "$(command -v rt)")")")
+}
+
+read_crates() { # the libraries of each crate, in this repository and in the kit, and the file that shows that it is built
+    local line head it own others out libraries
     while IFS= read -r line; do
-        line=${line%%#*} own=''
+        line=${line%%#*} own='' others=''
         read -ra head <<<"${line%%:*}"
         [ ${#head[@]} -gt 0 ] || continue
         [[ $line == *:* ]] && libraries=${line#*:} || libraries=''
-        for it in ${libraries//,/ }; do [ ! -d "$root/crates/$it" ] || own+=" $it"; done
-        uses[${head[0]}]=$own
+        for it in ${libraries//,/ }; do [ -d "$root/crates/$it" ] && own+=" $it" || others+=" $it"; done
+        uses[${head[0]}]=$own of_kit[${head[0]}]=$others
         out=$root/crates/${head[0]}/out
-        made[${head[0]}]=$out/rlib/stamp
+        made[${head[0]}]=$statements/${head[0]}.rlib/format
         [[ " ${head[*]} " != *" staticlib "* ]] || made[${head[0]}]=$out/lib${head[0]}.a
         [ ! -f "${out%/out}/src/main.rt" ] || made[${head[0]}]=$out/${head[0]}
     done <"$root/crates.txt"
@@ -79,7 +86,10 @@ copy_sources() { # FOLDER CRATE..
     done
 }
 
-lay_library() { mkdir "$2/crates/$1/out" && link "$root/crates/$1/out/rlib" "$2/crates/$1/out/rlib"; } # CRATE FOLDER: as it is built
+lay_library() { # CRATE FOLDER: as it is built
+    mkdir -p "$2/crates/$1/out/rlib"
+    link "$statements/$1.rlib" "$2/crates/$1/out/rlib/$1.rlib"
+}
 
 lines_of() { awk -v of=" $* " '{ name = $1; sub(/[:#].*/, "", name) } name && index(of, " " name " ")' "$root/crates.txt"; } # CRATE..
 
@@ -91,6 +101,7 @@ lay_out() { # CRATE SOURCES FOLDER: a repository of this crate and of those belo
         [ "$it" = "$1" ] || lay_library "$it" "$3"
     done
     lines_of "${stands[$1]}" >"$3/crates.txt"
+    "$root/tools/stamp.py" "$3"
 }
 
 # FOLDER CRATE..: builds these crates, and makes a repository of them and of those that they use, for a program that the repository
@@ -105,6 +116,30 @@ lay_beside() {
     copy_sources "$to/crates" "${order[@]}"
     for it in "${order[@]}"; do lay_library "$it" "$to"; done
     lines_of "${order[@]}" >"$to/crates.txt"
+    "$root/tools/stamp.py" "$to"
+}
+
+# FOLDER SOURCES NAME LIBRARIES: puts a crate into FOLDER/crates that the gate has no room for. SOURCES has its src/ and specs/, with .in
+# after each file's name: rt refuses a source that is in no crate of crates.txt
+lay_crate() {
+    local to=$1/crates/$3 it
+    mkdir -p "$to"
+    for it in src specs; do [ ! -d "$2/$it" ] || cp -a "$2/$it" "$to/"; done
+    find "$to" -name '*.in' | while IFS= read -r it; do mv "$it" "${it%.in}"; done
+    echo "$3: $4" >>"$1/crates.txt"
+}
+
+# FOLDER SOURCES NAME LIBRARIES WORD..: proves and builds such a program as FOLDER/NAME. It is run with these words, which builds it
+build_beside() {
+    local folder room it own=()
+    mkdir -p "$1"
+    folder=$(cd "$1" && pwd) room=$folder/room.$3
+    for it in $4; do [ ! -d "$root/crates/$it" ] || own+=("$it"); done
+    lay_beside "$room" "${own[@]}"
+    cp "$root/HANDLES" "$room/"
+    lay_crate "$room" "$2" "$3" "$4"
+    (cd "$room/crates/$3" && rt run -- "${@:5}") || true # (there may be no server for it)
+    cp "$room/crates/$3/out/$3" "$folder/"
 }
 
 members() { # SESSION..: their processes that haven't ended

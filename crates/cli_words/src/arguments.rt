@@ -1,0 +1,202 @@
+//! A command's arguments, and what was given for those that several commands have.
+
+use clap::{Arg, ArgAction, ArgMatches, Command, value_parser};
+use cp_frame::Mode;
+use cp_words::Limits;
+use std::alloc::{AllocError, Global};
+
+/// The greatest number of words in a segment.
+pub(crate) const MOST_WORDS: i64 = 8_388_608;
+
+/// Packed frames instead of plain ones.
+pub(crate) const PACKED: Argument = Argument {
+    name: "packed",
+    form: Form::Flag,
+    help: "The frames are packed",
+};
+
+/// The limit on nesting.
+pub(crate) const NESTING: Argument = Argument {
+    name: "nesting",
+    form: Form::Number("N", 256),
+    help: "Structs and lists may nest N levels deep, 64 by default",
+};
+
+/// The limit on traversal.
+pub(crate) const TRAVERSAL: Argument = Argument {
+    name: "traversal",
+    form: Form::Number("N", 67_108_864),
+    help: "A message may cost N words to go over, 8388608 by default",
+};
+
+/// The file that a command reads.
+pub(crate) const FILE: Argument = Argument {
+    name: "FILE",
+    form: Form::Place,
+    help: "A file of frames, one after another; - is standard input",
+};
+
+/// The port that is served.
+pub(crate) const PORT: Argument = Argument {
+    name: "PORT",
+    form: Form::Port,
+    help: "A port of 127.0.0.1",
+};
+
+/// The number of connections.
+pub(crate) const COUNT: Argument = Argument {
+    name: "COUNT",
+    form: Form::Count,
+    help: "The number of connections",
+};
+
+/// A command's name, and what its help says.
+#[derive(Clone, Copy)]
+pub(crate) struct Words {
+    pub(crate) name: &'static str,
+    pub(crate) about: &'static str,
+    pub(crate) after_help: &'static str,
+}
+
+/// An argument.
+#[derive(Clone, Copy)]
+pub(crate) struct Argument {
+    pub(crate) name: &'static str,
+    pub(crate) form: Form,
+    pub(crate) help: &'static str,
+}
+
+/// What is given for an argument.
+#[derive(Clone, Copy)]
+pub(crate) enum Form {
+    /// Nothing: an option that is there, or isn't.
+    Flag,
+    /// An option with a text, which help calls so.
+    Text(&'static str),
+    /// The same, which isn't taken without one option, or with another.
+    Beside {
+        value: &'static str,
+        needs: Option<&'static str>,
+        excludes: Option<&'static str>,
+    },
+    /// An option with a number from 1 to this one.
+    Number(&'static str, i64),
+    /// The same, which has to be there.
+    Size(&'static str, i64),
+    /// A text by its place.
+    Place,
+    /// A text by its place, which may be missing.
+    Last,
+    /// One text or several.
+    Places,
+    /// A port.
+    Port,
+    /// A number by its place.
+    Count,
+}
+
+impl Argument {
+    /// The argument as clap has it.
+    fn arg<'a>(&self, alloc: Global) -> Result<Arg<'a>, AllocError> {
+        let arg = self.formed(alloc);
+        match self.form {
+            Form::Beside {
+                needs,
+                excludes,
+                ..
+            } => beside(arg, needs, excludes),
+            _ => Ok(arg),
+        }
+    }
+
+    /// The argument in its form.
+    fn formed<'a>(&self, alloc: Global) -> Arg<'a> {
+        let arg = Arg::new(alloc, self.name).help(self.help);
+        match self.form {
+            Form::Flag => arg.long(self.name).action(ArgAction::SetTrue),
+            Form::Text(value) | Form::Beside { value, .. } => arg.long(self.name).value_name(value),
+            Form::Number(value, most) => self.number(arg, value, most),
+            Form::Size(value, most) => self.number(arg, value, most).required(true),
+            Form::Place => arg.required(true),
+            Form::Last => arg,
+            Form::Places => arg.required(true).num_args(1..),
+            Form::Port => arg
+                .required(true)
+                .value_parser(value_parser!(u16).range(1..=65_535)),
+            Form::Count => arg.required(true).value_parser(value_parser!(u32)),
+        }
+    }
+
+    /// An option with a number.
+    fn number<'a>(&self, arg: Arg<'a>, value: &'static str, most: i64) -> Arg<'a> {
+        arg.long(self.name)
+            .value_name(value)
+            .value_parser(value_parser!(u32).range(1..=most))
+    }
+}
+
+/// The argument, where it isn't taken without one option, or with another.
+fn beside<'a>(
+    arg: Arg<'a>,
+    needs: Option<&'static str>,
+    excludes: Option<&'static str>,
+) -> Result<Arg<'a>, AllocError> {
+    match (needs, excludes) {
+        (None, None) => Ok(arg),
+        (Some(needs), None) => arg.requires_arg(needs),
+        (None, Some(excludes)) => arg.conflicts_with(excludes),
+        (Some(needs), Some(excludes)) => arg.requires_arg(needs)?.conflicts_with(excludes),
+    }
+}
+
+/// The command of these words, with these arguments.
+pub(crate) fn command_of<'a>(
+    alloc: Global,
+    words: Words,
+    arguments: &[Argument],
+) -> Result<Command<'a>, AllocError> {
+    let mut command = Command::new(alloc, words.name)
+        .about(words.about)
+        .after_help(words.after_help);
+    for argument in arguments {
+        command = with(alloc, command, argument)?;
+    }
+    Ok(command)
+}
+
+/// The command with one more argument.
+fn with<'a>(
+    alloc: Global,
+    command: Command<'a>,
+    argument: &Argument,
+) -> Result<Command<'a>, AllocError> {
+    match argument.arg(alloc) {
+        Ok(arg) => command.arg(arg),
+        Err(error) => {
+            drop(command);
+            Err(error)
+        }
+    }
+}
+
+/// The form that was given.
+pub(crate) fn mode_of(matches: &ArgMatches) -> Mode {
+    if matches.get_flag("packed") {
+        Mode::Packed
+    } else {
+        Mode::Plain
+    }
+}
+
+/// The limits that were given. A frame may have 8,388,608 words, or as many as may be gone over.
+pub(crate) fn limits_of(matches: &ArgMatches) -> Option<Limits> {
+    let standard = Limits::standard();
+    let nesting = matches
+        .get_one::<u32>("nesting")
+        .unwrap_or(standard.nesting());
+    let traversal = matches
+        .get_one::<u32>("traversal")
+        .unwrap_or(standard.traversal());
+    let frame_words = standard.frame_words().max(traversal);
+    Limits::new(nesting, traversal, standard.segments(), frame_words)
+}

@@ -1,0 +1,145 @@
+//! The words of the commands on a file.
+
+use crate::arguments::{
+    Argument, FILE, Form, MOST_WORDS, NESTING, PACKED, TRAVERSAL, Words, limits_of, mode_of,
+};
+use crate::task::{FileCommand, SchemaNames, Task};
+use clap::ArgMatches;
+
+/// The schema by which messages are shown.
+const SCHEMA: Argument = Argument {
+    name: "schema",
+    form: Form::Text("REQUEST"),
+    help: "Show calls, or with --type messages, by a schema: what `capnp compile -o- X.capnp` prints",
+};
+
+/// The struct that each message is.
+const TYPE: Argument = Argument {
+    name: "type",
+    form: Form::Beside {
+        value: "NAME",
+        needs: Some("schema"),
+        excludes: None,
+    },
+    help: "The struct that each message is, as Person or Person.PhoneNumber",
+};
+
+/// The messages whose calls are returned from.
+const CALLS: Argument = Argument {
+    name: "calls",
+    form: Form::Beside {
+        value: "FILE",
+        needs: Some("schema"),
+        excludes: Some("type"),
+    },
+    help: "The messages of the other direction: results are shown by the methods that these call",
+};
+
+/// The greatest number of words in a segment.
+const WORDS: Argument = Argument {
+    name: "words",
+    form: Form::Size("N", MOST_WORDS),
+    help: "A segment has at most N words, or one body",
+};
+
+/// The words of `show`.
+pub(crate) const SHOW: Words = Words {
+    name: "show",
+    about: "Print each message of FILE as a line",
+    after_help: "Example: capnp_cli show --packed calls.packed",
+};
+
+/// The arguments of `show`.
+pub(crate) static SHOW_ARGUMENTS: [Argument; 7] = [
+    SCHEMA, TYPE, CALLS, PACKED, NESTING, TRAVERSAL, FILE,
+];
+
+/// The words of `check`.
+pub(crate) const CHECK: Words = Words {
+    name: "check",
+    about: "Print how many messages FILE has, if all are accepted",
+    after_help: "Example: capnp_cli check --nesting 32 calls.bin",
+};
+
+/// The arguments of `check`.
+pub(crate) static CHECK_ARGUMENTS: [Argument; 4] = [PACKED, NESTING, TRAVERSAL, FILE];
+
+/// The words of `pack`.
+pub(crate) const PACK: Words = Words {
+    name: "pack",
+    about: "Write the plain frames of FILE in the packed form",
+    after_help: "Example: capnp_cli pack calls.bin > calls.packed",
+};
+
+/// The arguments of `pack`.
+pub(crate) static PACK_ARGUMENTS: [Argument; 1] = [FILE];
+
+/// The words of `unpack`.
+pub(crate) const UNPACK: Words = Words {
+    name: "unpack",
+    about: "Write the packed frames of FILE in the plain form",
+    after_help: "Example: capnp_cli unpack calls.packed > calls.bin",
+};
+
+/// The arguments of `unpack`.
+pub(crate) static UNPACK_ARGUMENTS: [Argument; 1] = [FILE];
+
+/// The words of `recut`.
+pub(crate) const RECUT: Words = Words {
+    name: "recut",
+    about: "Write each tree of FILE again, in segments of limited size",
+    after_help: "Example: capnp_cli recut --words 64 calls.bin > short.bin",
+};
+
+/// The arguments of `recut`.
+pub(crate) static RECUT_ARGUMENTS: [Argument; 3] = [PACKED, WORDS, FILE];
+
+/// What the words of `show` ask for.
+pub(crate) fn show_of<'a, 'b>(matches: &'b ArgMatches<'a>) -> Option<Task<'a, 'b>> {
+    let (path, limits) = (matches.get_str("FILE")?, limits_of(matches)?);
+    let command = FileCommand::Show {
+        mode: mode_of(matches),
+        limits,
+        names: names_of(matches),
+    };
+    Some(Task::OnFile { command, path })
+}
+
+/// What the words of `check` ask for.
+pub(crate) fn check_of<'a, 'b>(matches: &'b ArgMatches<'a>) -> Option<Task<'a, 'b>> {
+    let (path, limits) = (matches.get_str("FILE")?, limits_of(matches)?);
+    let mode = mode_of(matches);
+    let command = FileCommand::Check { mode, limits };
+    Some(Task::OnFile { command, path })
+}
+
+/// What the words of `pack` ask for.
+pub(crate) fn pack_of<'a, 'b>(matches: &'b ArgMatches<'a>) -> Option<Task<'a, 'b>> {
+    let path = matches.get_str("FILE")?;
+    let command = FileCommand::Pack;
+    Some(Task::OnFile { command, path })
+}
+
+/// What the words of `unpack` ask for.
+pub(crate) fn unpack_of<'a, 'b>(matches: &'b ArgMatches<'a>) -> Option<Task<'a, 'b>> {
+    let path = matches.get_str("FILE")?;
+    let command = FileCommand::Unpack;
+    Some(Task::OnFile { command, path })
+}
+
+/// What the words of `recut` ask for.
+pub(crate) fn recut_of<'a, 'b>(matches: &'b ArgMatches<'a>) -> Option<Task<'a, 'b>> {
+    let (path, words) = (matches.get_str("FILE")?, matches.get_one::<u32>("words")?);
+    let mode = mode_of(matches);
+    let command = FileCommand::Recut { mode, words };
+    Some(Task::OnFile { command, path })
+}
+
+/// The names that were given.
+fn names_of<'a>(matches: &ArgMatches<'a>) -> Option<SchemaNames<'a>> {
+    Some(SchemaNames {
+        request: matches.get_str("schema")?,
+        name: matches.get_str("type"),
+        calls: matches.get_str("calls"),
+    })
+}

@@ -1,0 +1,12 @@
+//! The words of `capnp_cli`, their help, and what they ask for.
+#![tactic(auto)]
+
+mod arguments;
+mod connections;
+mod files;
+mod serving;
+mod task;
+mod words;
+
+pub use task::{Calling, FileCommand, Place, Relaying, SchemaNames, Service, Serving, Task};
+pub use words::{Acts, WRONG, run};

@@ -1,0 +1,187 @@
+//! The words of `serve`.
+
+use crate::arguments::{Argument, COUNT, Form, PACKED, PORT, Words, mode_of};
+use crate::task::{Place, Service, Serving, Task};
+use clap::ArgMatches;
+use std::net::{IpAddr, Ipv4Addr, SocketAddr};
+
+/// The most connections at once.
+const AT_ONCE: Argument = Argument {
+    name: "at-once",
+    form: Form::Number("N", 65_535),
+    help: "Serve N connections at once, 1 by default; further ones wait",
+};
+
+/// The time without a byte.
+const IDLE: Argument = Argument {
+    name: "idle",
+    form: Form::Number("SECONDS", 4_294_967_295),
+    help: "Close a connection on which no byte moves for SECONDS",
+};
+
+/// The address that is listened on.
+const LISTEN: Argument = Argument {
+    name: "listen",
+    form: Form::Text("ADDRESS"),
+    help: "Listen on ADDRESS, 127.0.0.1 by default",
+};
+
+/// The path of a socket.
+const SOCKET: Argument = Argument {
+    name: "socket",
+    form: Form::Beside {
+        value: "PATH",
+        needs: None,
+        excludes: Some("listen"),
+    },
+    help: "Listen on a socket that is made at PATH, in place of a port",
+};
+
+/// A port, or a dash, or the number of connections, where there is a path.
+const ANY_PLACE: Argument = Argument {
+    name: "PORT",
+    form: Form::Place,
+    help: "A port of 127.0.0.1, or - for standard input and output; no port with --socket",
+};
+
+/// The number of connections, or a dash.
+const ANY_COUNT: Argument = Argument {
+    name: "COUNT",
+    form: Form::Last,
+    help: "The number of connections, or - for no end",
+};
+
+/// The word for no end, or for standard input and output.
+const DASH: &str = "-";
+
+/// Whether the words are those of `serve`, other ones than a port and a count: a dash, or the path of a socket.
+pub(crate) fn is_open(words: &[String]) -> bool {
+    let mut serves = false;
+    for word in words {
+        let word = word.as_str();
+        if serves && (word == DASH || word.starts_with("--socket")) {
+            return true;
+        }
+        serves = serves || word == "serve";
+    }
+    false
+}
+
+/// The words of `serve`.
+pub(crate) const SERVE: Words = Words {
+    name: "serve",
+    about: "Serve a Desk and a Cell to each of COUNT connections on PORT",
+    after_help: "With COUNT - there is no end. With this or with --at-once, --idle, --listen or --socket, the first line of standard error says \
+         where it listens. With --socket there is no PORT. With - in place of PORT and COUNT, serve one peer over standard input and \
+         output.\n\nExample: capnp_cli serve 7000 1",
+};
+
+/// The arguments of `serve`.
+pub(crate) static SERVE_ARGUMENTS: [Argument; 7] = [
+    PACKED, AT_ONCE, IDLE, LISTEN, SOCKET, PORT, COUNT,
+];
+
+/// The same, where they are open to other ones than a port and a count.
+pub(crate) static OPEN_ARGUMENTS: [Argument; 7] = [
+    PACKED, AT_ONCE, IDLE, LISTEN, SOCKET, ANY_PLACE, ANY_COUNT,
+];
+
+/// What the words of `serve` ask for.
+pub(crate) fn serve_of<'a, 'b>(matches: &'b ArgMatches<'a>) -> Option<Task<'a, 'b>> {
+    match serving_of(matches) {
+        Some(serving) => Some(Task::Serve(serving)),
+        None => None,
+    }
+}
+
+/// How connections are served.
+fn serving_of<'a>(matches: &ArgMatches<'a>) -> Option<Serving<'a>> {
+    let (first, second) = (matches.get_str("PORT")?, matches.get_str("COUNT"));
+    if let Some(path) = matches.get_str("socket") {
+        return at_path(matches, path, first, second);
+    }
+    let Some(count) = second else {
+        return on_pipe(matches, first);
+    };
+    let port = matches.get_one::<u16>("PORT")?;
+    if port == 0 {
+        return None;
+    }
+    at_port(matches, port, count_of(count)?)
+}
+
+/// What is served at a port.
+fn at_port<'a>(matches: &ArgMatches<'a>, port: u16, count: Option<u32>) -> Option<Serving<'a>> {
+    match count {
+        Some(count) if !has_options(matches) => Some(Serving::InTurn {
+            mode: mode_of(matches),
+            port,
+            count,
+        }),
+        count => Some(Serving::Hosted {
+            place: Place::Address(SocketAddr::from((address(matches)?, port))),
+            service: service(matches, count),
+        }),
+    }
+}
+
+/// What is served at a path.
+fn at_path<'a>(
+    matches: &ArgMatches<'a>,
+    path: &'a str,
+    count: &str,
+    further: Option<&str>,
+) -> Option<Serving<'a>> {
+    if further.is_some() {
+        return None;
+    }
+    Some(Serving::Hosted {
+        place: Place::Path(path),
+        service: service(matches, count_of(count)?),
+    })
+}
+
+/// What is served over standard input and output.
+fn on_pipe<'a>(matches: &ArgMatches<'a>, place: &str) -> Option<Serving<'a>> {
+    if place != DASH || has_options(matches) {
+        return None;
+    }
+    Some(Serving::Pipe {
+        mode: mode_of(matches),
+    })
+}
+
+/// Whether the words have options of serving many connections.
+fn has_options(matches: &ArgMatches) -> bool {
+    matches.contains_id("at-once") || matches.contains_id("idle") || matches.contains_id("listen")
+}
+
+/// A number of connections, or no end.
+fn count_of(word: &str) -> Option<Option<u32>> {
+    if word == DASH {
+        return Some(None);
+    }
+    match word.parse::<u32>() {
+        Ok(count) => Some(Some(count)),
+        Err(_) => None,
+    }
+}
+
+/// How connections are served.
+fn service(matches: &ArgMatches, count: Option<u32>) -> Service {
+    Service {
+        mode: mode_of(matches),
+        at_once: matches.get_one::<u32>("at-once").unwrap_or(1),
+        idle: matches.get_one::<u32>("idle"),
+        count,
+    }
+}
+
+/// The address that is listened on.
+fn address(matches: &ArgMatches) -> Option<IpAddr> {
+    if matches.contains_id("listen") {
+        matches.get_one::<IpAddr>("listen")
+    } else {
+        Some(IpAddr::V4(Ipv4Addr::LOCALHOST))
+    }
+}

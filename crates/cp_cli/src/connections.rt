@@ -1,0 +1,120 @@
+//! The commands over connections.
+
+use cli_files::{BUFFER, STDIN};
+use cli_words::{Calling, Place as GivenPlace, Relaying, Service as GivenService, Serving};
+use cp_calls::{CallPlan, call_address};
+use cp_daemon::{LONGEST_LOOP, Place, Service, loop_bytes, serve_pipe, serve_place, serve_port};
+use cp_frame::Mode;
+use cp_guard::{Plan, Route, relay_port};
+use std::fs::File;
+use std::io::{self, BufWriter, Read};
+
+/// Serves the bytes of a file.
+pub(crate) fn on_loop(rt: &HostRuntime, mode: Mode, path: &str) -> io::Result<u8> {
+    let bytes = bytes_to_loop(rt, path)?;
+    let status = loop_over(rt, &bytes, mode);
+    drop(bytes);
+    status
+}
+
+/// Serves connections, or standard input and output.
+pub(crate) fn serve(rt: &HostRuntime, serving: &Serving) -> u8 {
+    let mut err = rt.stderr();
+    match *serving {
+        Serving::InTurn { mode, port, count } => serve_port(rt, port, count, mode, &mut err),
+        Serving::Hosted { place, service } => {
+            serve_place(rt, &place_of(place), &service_of(service), &mut err)
+        }
+        Serving::Pipe { mode } => serve_pipe(rt.alloc(), rt.stdin(), rt.stdout(), mode, &mut err),
+    }
+}
+
+/// Relays connections.
+pub(crate) fn relay(rt: &HostRuntime, relaying: &Relaying) -> io::Result<u8> {
+    let plan = Plan {
+        near: relaying.near,
+        far: relaying.far,
+        anew: relaying.anew,
+        limits: relaying.limits,
+        shows: relaying.shows,
+    };
+    let route = Route {
+        port: relaying.port,
+        target: relaying.target,
+        count: relaying.count,
+    };
+    let mut out = BufWriter::with_capacity(rt.alloc(), BUFFER, io::writer(rt))?;
+    let mut err = rt.stderr();
+    let status = relay_port(rt, &route, &plan, &mut out, &mut err);
+    drop(out);
+    Ok(status)
+}
+
+/// Calls the objects at an address.
+pub(crate) fn call(rt: &HostRuntime, calling: &Calling) -> u8 {
+    let plan = CallPlan {
+        mode: calling.mode,
+        limits: calling.limits,
+        shows_messages: calling.shows_messages,
+        timeout: calling.timeout,
+    };
+    let (mut out, mut err) = (io::writer(rt), rt.stderr());
+    call_address(
+        rt,
+        calling.address,
+        &plan,
+        calling.calls,
+        &mut out,
+        &mut err,
+    )
+}
+
+/// The bytes of a file, of which no more are read than show that they are too long.
+fn bytes_to_loop(rt: &HostRuntime, path: &str) -> io::Result<Vec<u8>> {
+    if path == STDIN {
+        return first_bytes(rt, rt.stdin());
+    }
+    first_bytes(rt, File::open(rt, path)?)
+}
+
+/// The first bytes that a device gives, one more than may be looped.
+fn first_bytes<R: Read + Drop>(rt: &HostRuntime, from: R) -> io::Result<Vec<u8>> {
+    let mut bytes = Vec::new(rt.alloc());
+    let mut from = from.take(LONGEST_LOOP as u64 + 1);
+    let read = from.read_to_end(&mut bytes);
+    drop(from);
+    match read {
+        Ok(_) => Ok(bytes),
+        Err(error) => {
+            drop(bytes);
+            Err(error)
+        }
+    }
+}
+
+/// Serves these bytes.
+fn loop_over(rt: &HostRuntime, bytes: &[u8], mode: Mode) -> io::Result<u8> {
+    let mut out = BufWriter::with_capacity(rt.alloc(), BUFFER, io::writer(rt))?;
+    let mut err = rt.stderr();
+    let status = loop_bytes(rt, bytes, mode, &mut out, &mut err);
+    drop(out);
+    Ok(status)
+}
+
+/// Where connections come to.
+fn place_of(place: GivenPlace<'_>) -> Place<'_> {
+    match place {
+        GivenPlace::Address(address) => Place::Address(address),
+        GivenPlace::Path(path) => Place::Path(path),
+    }
+}
+
+/// How connections are served.
+fn service_of(service: GivenService) -> Service {
+    Service {
+        mode: service.mode,
+        at_once: service.at_once,
+        idle: service.idle,
+        count: service.count,
+    }
+}
