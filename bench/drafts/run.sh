@@ -2,16 +2,11 @@
 # run.sh FOLDER    what it takes to build an address book of 1,000 people by generated drafts, and to write its frame, beside the
 #                  reference library: nanoseconds a person. FOLDER, outside the repository, gets the programs.
 #
-# The program of ours is main.code, proved and built over the libraries as they are built: two minutes at first.
+# The program of ours is in src/, proved and built over the libraries as they are built: two minutes at first.
 set -eu
 . "$(dirname "${BASH_SOURCE[0]}")/../../tools/crates.sh"
 here=$(cd "$(dirname "${BASH_SOURCE[0]}")" && pwd)
 mkdir -p "$1" && folder=$(cd "$1" && pwd)
-
-ours() { # links the program, if it isn't built, and runs it
-    (cd "$folder/crates/time_drafts" && rt run >"$folder/said" 2>&1) || { tail -n 20 "$folder/said" >&2; exit 1; }
-    "$folder/crates/time_drafts/out/time_drafts"
-}
 
 theirs() {
     capnp compile -oc++:"$folder" --src-prefix="$root/crates/addressbook" "$root/crates/addressbook/addressbook.capnp"
@@ -19,9 +14,7 @@ theirs() {
     "$folder/reference"
 }
 
-lay_beside "$folder" addressbook cp_writing cp_frame
-mkdir -p "$folder/crates/time_drafts/src"
-cp "$here/main.code" "$folder/crates/time_drafts/src/main.rt"
-echo "time_drafts: cp_words cp_tree cp_writing cp_packed cp_frame cp_fields cp_drafts addressbook anyhow" >>"$folder/crates.txt"
-ours
+build_beside "$folder" "$here" time_drafts "cp_words cp_tree cp_writing cp_packed cp_frame cp_fields cp_drafts addressbook anyhow" >"$folder/said" 2>&1 ||
+    { tail -n 20 "$folder/said" >&2; exit 1; }
+"$folder/time_drafts"
 theirs

@@ -7,7 +7,7 @@
 #                                   newer edition are written again by the older one's drafts, which keep what they don't know. With - for
 #                                   PLUGIN no code is made, and COMMAND alone is tried, in a minute.
 #
-# The programs that print are made by print.py, those that build by copy.py, of the request alone; keep.code is one by hand. `rt try` runs them,
+# The programs that print are made by print.py, those that build by copy.py, of the request alone; keep.rt.in is one by hand. `rt try` runs them,
 # over unproved code.
 set -eu
 plugin=$1
@@ -44,7 +44,7 @@ make_program() { # PROGRAM NAME STRUCT [FIELD..]: the program that prints messag
     shift 2
     mkdir -p "$room/crates/$program/src"
     "$here/print.py" "$room/$name.request" "$@" >"$room/crates/$program/src/main.rt"
-    cp "$here/line.code" "$room/crates/$program/src/line.rt"
+    cp "$here/line.rt.in" "$room/crates/$program/src/line.rt"
     printf '%s: cp_words cp_reading cp_frame cp_fields %s anyhow\n' "$program" "$name" >>"$room/crates.txt"
 }
 
@@ -115,7 +115,7 @@ compare() { # TEXTS WRITER READER STRUCT: texts that WRITER's schema encodes, re
 make_keeper() { # the program that writes messages of a newer schema again, by the drafts of an older one
     [ "$plugin" != - ] || return 0
     mkdir -p "$room/crates/keep_older/src"
-    cp "$here/keep.code" "$room/crates/keep_older/src/main.rt"
+    cp "$here/keep.rt.in" "$room/crates/keep_older/src/main.rt"
     printf 'keep_older: cp_words cp_tree cp_reading cp_frame cp_fields cp_drafts cp_stream cp_structs older anyhow\n' >>"$room/crates.txt"
 }
 

@@ -1,25 +1,28 @@
 #!/usr/bin/env bash
-# build.sh FOLDER    makes a crate of calculator.capnp by capnpc_rattle, and proves and builds the program of this folder as FOLDER/interfaces,
-#                    over the libraries of the repository and the crate directory. Then it proves and runs the tests of cp_stubs by that
-#                    crate (test_stubs), and the program example_directory. The gate has no room for these three.
+# build.sh FOLDER    makes crates of calculator.capnp and directory.capnp by capnpc_rattle, and proves and builds the program of this folder as
+#                    FOLDER/interfaces, over these and the libraries of the repository. It proves and runs the tests of cp_stubs by the crate
+#                    directory (test_stubs), and tries the edits of what the plugin wrote (must-fail).
 set -eu
 here=$(cd "$(dirname "${BASH_SOURCE[0]}")" && pwd)
 . "$here/../../tools/crates.sh"
 "$root/tools/build.sh" capnpc_rattle
 mkdir -p "$1"
-room=$(cd "$1" && pwd)/room
+folder=$(cd "$1" && pwd) room=$folder/room
+
+generate() { # NAME    the crate of a schema, laid out as the edits have it
+    (cd "$here" && capnp compile -o- "$1.capnp") | (cd "$room/crates" && "$root/crates/capnpc_rattle/out/capnpc_rattle" --interfaces) >>"$room/crates.txt"
+    (cd "$room/crates/$1" && rt fmt >/dev/null)
+}
+
 lay_beside "$room" jamdrosek
-for it in "$here"/crates/*; do "$here/lay.sh" "$it" "$room/crates/$(basename "$it")"; done
-mkdir -p "$room/crates/interfaces/src"
-for it in "$here"/*.code; do cp "$it" "$room/crates/interfaces/src/$(basename "$it" .code).rt"; done
-cp "$room"/crates/example_directory/src/{shelf,counter}.rt "$room/crates/interfaces/src/"
-{
-    cat "$here/crates.list"
-    (cd "$here" && capnp compile -o- calculator.capnp) | (cd "$room/crates" && "$root/crates/capnpc_rattle/out/capnpc_rattle" --interfaces)
-    echo "interfaces: jamdrosek calculator directory anyhow"
-} >>"$room/crates.txt"
 cp "$root/HANDLES" "$room/"
-(cd "$room/crates/interfaces" && rt run -- - 0) || true # (which builds it, and finds no server there)
-cp "$room/crates/interfaces/out/interfaces" "$room/../interfaces"
+generate calculator
+generate directory
+cp -a "$here/must-fail" "$room/crates/directory/"
+lay_crate "$room" "$here" interfaces "jamdrosek calculator directory anyhow"
+lay_crate "$room" "$here/test_stubs" test_stubs "cp_words cp_tree cp_rpc cp_tables cp_refs cp_vat_machine cp_fields cp_drafts cp_servants cp_stubs directory"
+said=$(cd "$room/crates/interfaces" && rt run -- memory)
+[ "$said" = "Ada is 36, and the watcher was told of 1" ] || fail "in memory: $said"
+cp "$room/crates/interfaces/out/interfaces" "$folder/"
 (cd "$room/crates/test_stubs" && rt test)
-(cd "$room/crates/example_directory" && rt run >"$room/said" && diff stdout "$room/said")
+(cd "$room" && rt must-fail directory)

@@ -4,13 +4,12 @@ use crate::names::{is_ambiguous, is_taken};
 use crate::out::{Arg, Out};
 use crate::reach::{Line, lines, naming};
 use cp_types::{Node, NodeKind, Schema};
-use std::alloc::Global;
+use std::alloc::{AllocError, Global};
 
 /// The deepest that types may lie within one another.
 const DEEPEST: u32 = 64;
 
 /// A type or a constant, by the names that it gets.
-#[derive(Drop)]
 pub struct Named {
     pub id: u64,
     /// Its name as a type.
@@ -25,8 +24,21 @@ pub struct Named {
     pub is_written: bool,
 }
 
+// Not derived: who lets one go calls this function, and need not prove the drop of its names.
+impl Drop for Named {
+    fn drop(self) {
+        let Named {
+            id: _,
+            name: _,
+            word: _,
+            module: _,
+            krate: _,
+            is_written: _,
+        } = self;
+    }
+}
+
 /// All types and constants of a request.
-#[derive(Drop)]
 pub struct Book<'s> {
     pub alloc: Global,
     pub schema: &'s Schema,
@@ -41,25 +53,40 @@ pub struct Book<'s> {
     pub naming: Vec<u64>,
 }
 
+// Not derived: who lets one go calls this function, and need not prove the drop of all that it holds.
+impl Drop for Book<'_> {
+    fn drop(self) {
+        let Book {
+            alloc: _,
+            schema: _,
+            names: _,
+            drafts: _,
+            interfaces: _,
+            lines: _,
+            naming: _,
+        } = self;
+    }
+}
+
 impl<'s> Book<'s> {
-    /// The types and constants of a request. Those of the file of this number are in this crate, if one is named.
+    /// The types and constants of a request. Those of the file of this path are in this crate, if one is named.
     pub fn of(
         alloc: Global,
         schema: &'s Schema,
-        path: &str,
-        krate: &str,
-    ) -> anyhow::Result<Book<'s>> {
+        (path, krate): (&str, &str),
+        (drafts, interfaces): (bool, bool),
+    ) -> Result<Book<'s>, AllocError> {
         let mut names = Vec::new(alloc);
         for node in &schema.nodes {
             let krate = if node.path() == path { krate } else { "" };
-            names.push(names_of(alloc, schema, node, krate))?;
+            names.push(names_of(alloc, schema, node, krate, interfaces))?;
         }
         Ok(Book {
             alloc,
             schema,
             names,
-            drafts: false,
-            interfaces: false,
+            drafts,
+            interfaces,
             lines: lines(alloc, schema)?,
             naming: naming(alloc, schema)?,
         })
@@ -73,17 +100,6 @@ impl<'s> Book<'s> {
             }
         }
         None
-    }
-
-    /// Has interfaces written too.
-    pub fn write_interfaces(&mut self) {
-        self.drafts = true;
-        self.interfaces = true;
-        for named in self.names.iter_mut() {
-            if has_line(self.lines.as_slice(), named.id) {
-                named.is_written = true;
-            }
-        }
     }
 
     /// All interfaces that the one of this number extends.
@@ -120,31 +136,32 @@ impl<'s> Book<'s> {
     }
 }
 
-/// Whether one of the interfaces has this number.
-fn has_line(lines: &[Line], id: u64) -> bool {
-    for line in lines {
-        if line.id == id {
-            return true;
-        }
+/// Whether a node is written.
+fn is_written(node: &Node, interfaces: bool) -> bool {
+    match node.kind {
+        NodeKind::Struct(_) | NodeKind::Enum(_) | NodeKind::Const(_) => true,
+        NodeKind::Interface(_) => interfaces,
+        _ => false,
     }
-    false
 }
 
 /// A node's names.
-fn names_of<'s>(alloc: Global, schema: &'s Schema, node: &'s Node, krate: &str) -> Named {
+fn names_of<'s>(
+    alloc: Global,
+    schema: &'s Schema,
+    node: &'s Node,
+    krate: &str,
+    interfaces: bool,
+) -> Named {
     let name = type_name(alloc, node);
     let word = Out::of(alloc, "$0", &[Arg::Snake(name.as_str())]);
-    let is_written = matches!(
-        node.kind,
-        NodeKind::Struct(_) | NodeKind::Enum(_) | NodeKind::Const(_)
-    );
     Named {
         id: node.id,
         name,
         word,
         module: module_of(alloc, schema, node),
         krate: crate_name(alloc, node.path(), krate),
-        is_written,
+        is_written: is_written(node, interfaces),
     }
 }
 

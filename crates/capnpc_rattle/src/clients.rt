@@ -5,7 +5,6 @@ use crate::comments::about;
 use crate::methods::Way;
 use crate::out::Arg;
 use crate::sheet::Sheet;
-use crate::structs::signature;
 use cp_types::{Interface, Node};
 
 const TYPE: &str = "\
@@ -23,36 +22,22 @@ impl $0Client {
     pub fn new(alloc: Global, cap: Cap) -> $0Client
         ensures { result.target ≡ cap }
     {
-        $0Client {
-            target: Target::new(alloc, cap),
-        }
+        $0Client { target: Target::new(alloc, cap) }
     }
 ";
 
 const AS: &str = "
     /// As `interface $1`.
-";
-
-const AS_HEAD: &str = "    pub fn as_$2(&self) -> Result<$0Client, AllocError>";
-
-const AS_HEAD_WIDE: &str =
-    "    pub fn as_$2(\n        &self,\n    ) -> Result<$0Client, AllocError>";
-
-const AS_BODY: &str = "
+    pub fn as_$2(&self) -> Result<$0Client, AllocError>
         ensures { IfOk result (λ c. c.target ≡ self.now.target) }
     {
-        Ok($0Client {
-            target: self.target.copy()?,
-        })
+        Ok($0Client { target: self.target.copy()? })
     }
 ";
 
-const REQUEST: &str = "    pub fn $8_request(&self, params: $6Draft) -> Request";
-
-const REQUEST_WIDE: &str =
-    "    pub fn $8_request(\n        &self,\n        params: $6Draft,\n    ) -> Request";
-
-const REQUEST_BODY: &str = "
+const REQUEST: &str = "
+    /// A call of `$5 @$3`.
+    pub fn $8_request(&self, params: $6Draft) -> Request
         ensures { result ≡ request_of $2 $3 params.body [] }
     {
         let content = params.body.into_whole();
@@ -60,34 +45,22 @@ const REQUEST_BODY: &str = "
     }
 ";
 
-const NAMING: &str = "    pub fn $8_request(&self, params: $6Draft, table: Table) -> Request";
-
-const NAMING_WIDE: &str = "    pub fn $8_request(
-        &self,
-        params: $6Draft,
-        table: Table,
-    ) -> Request";
-
-const NAMING_BODY: &str = "
+const NAMING: &str = "
+    /// A call of `$5 @$3`, with the table of the capabilities that its params name.
+    pub fn $8_request(&self, params: $6Draft, table: Table) -> Request
         ensures { result ≡ request_of $2 $3 params.body table }
     {
         let content = params.body.into_whole();
-        self.target
-            .request_naming($2, $3, content, table)
+        self.target.request_naming($2, $3, content, table)
     }
 ";
 
-const CALL: &str = "    pub fn $4<C: Caller>(
-        &self,
-        caller: &mut C,
-        params: $6Draft,
-    ) -> Result<$7Promise, C::Fault>
+const CALL: &str =
+    "    pub fn $4<C: Caller>(&self, caller: &mut C, params: $6Draft) -> Result<$7Promise, C::Fault>
         ensures { Makes (λ p. p.at) C.asks caller.old self.now.target $2 $3 params.body [] result caller.new }
     {
         let request = self.$8_request(params);
-        Ok($7Promise {
-            at: self.target.call(caller, request)?,
-        })
+        Ok($7Promise { at: self.target.call(caller, request)? })
     }
 ";
 
@@ -100,9 +73,7 @@ const CALL_NAMING: &str = "    pub fn $4<C: Caller>(
         ensures { Makes (λ p. p.at) C.asks caller.old self.now.target $2 $3 params.body table result caller.new }
     {
         let request = self.$8_request(params, table);
-        Ok($7Promise {
-            at: self.target.call(caller, request)?,
-        })
+        Ok($7Promise { at: self.target.call(caller, request)? })
     }
 ";
 
@@ -128,11 +99,14 @@ pub fn client<'b>(
         Arg::Text(node.name()),
         Arg::Hex(node.id),
     ];
-    sheet.between();
-    let text = book.about(node.id);
-    about(&mut sheet.code, "", text, "`interface $1`.", &args);
+    about(
+        &mut sheet.code,
+        book.about(node.id),
+        "`interface $1`.",
+        &args,
+    );
     sheet.code.fill(TYPE, &args);
-    sheet.export("$0Client", named.name.as_str());
+    sheet.export("$0Client", &args);
     sheet.libraries.put(CITED);
     for id in &of.supers {
         one_super(book, sheet, *id);
@@ -146,11 +120,8 @@ pub fn client<'b>(
 /// Writes the method that gives a client of an interface which this one extends.
 fn one_super<'b>(book: &'b Book<'_>, sheet: &mut Sheet<'b>, id: u64) {
     let (Some(named), Some(node)) = (book.find(id), book.schema.find(id)) else {
-        sheet.refuse(
-            "",
-            "",
-            "the request has no node of an interface that is extended",
-        );
+        let why = "the request has no node of an interface that is extended";
+        sheet.refuse("", "", why);
         return;
     };
     let args = [
@@ -161,29 +132,19 @@ fn one_super<'b>(book: &'b Book<'_>, sheet: &mut Sheet<'b>, id: u64) {
     sheet.cite(named, "Client");
     sheet.libraries.put("std::alloc::AllocError\n");
     sheet.code.fill(AS, &args);
-    signature(sheet, AS_HEAD, AS_HEAD_WIDE, &args);
-    sheet.code.fill(AS_BODY, &args);
 }
 
 /// Writes the methods that make a call of a method.
 fn way_methods<'b>(book: &Book<'_>, sheet: &mut Sheet<'b>, node: &Node, way: &Way<'b>) {
     let args = way.args();
-    sheet.begin_method();
+    let text = book.about_member(node.id, way.number);
     if way.names_caps {
         sheet.libraries.put("cp_stubs::Table\n");
-        let comment =
-            "    /// A call of `$5 @$3`, with the table of the capabilities that its params name.\n";
-        sheet.code.fill(comment, &args);
-        signature(sheet, NAMING, NAMING_WIDE, &args);
-        sheet.code.fill(NAMING_BODY, &args);
-    } else {
-        sheet.code.fill("    /// A call of `$5 @$3`.\n", &args);
-        signature(sheet, REQUEST, REQUEST_WIDE, &args);
-        sheet.code.fill(REQUEST_BODY, &args);
     }
-    sheet.begin_method();
-    let text = book.about_member(node.id, way.number);
-    about(&mut sheet.code, "    ", text, "Calls `$5 @$3`.", &args);
+    sheet
+        .code
+        .fill(if way.names_caps { NAMING } else { REQUEST }, &args);
+    about(&mut sheet.code, text, "Calls `$5 @$3`.", &args);
     sheet
         .code
         .fill(if way.names_caps { CALL_NAMING } else { CALL }, &args);

@@ -2,36 +2,26 @@
 
 use crate::out::{Arg, Out};
 
-/// Adds a comment of a schema, or where it is empty a line of this template.
-pub fn about(out: &mut Out, indent: &str, text: &str, template: &str, args: &[Arg<'_>]) {
+/// Begins an item: adds an empty line, and a comment of a schema, or where that is empty a line of this template.
+pub fn about(out: &mut Out, text: &str, template: &str, args: &[Arg<'_>]) {
+    out.put("\n");
+    comment(out, text);
     if text.is_empty() {
-        out.put(indent);
         out.put("/// ");
         out.fill(template, args);
-        out.push('\n');
-        return;
-    }
-    for line in text.trim_end().lines() {
-        let line = plain(out, line);
-        let line = line.as_str().trim_end();
-        out.put(indent);
-        out.put("///");
-        if !line.is_empty() {
-            out.push(' ');
-            out.put(line);
-        }
-        out.push('\n');
+        out.put("\n");
     }
 }
 
-/// A line with a blank for each character that code can't have.
-fn plain(out: &mut Out, line: &str) -> Out {
-    let mut plain = Out::new(out.alloc);
-    for c in line.chars() {
-        plain.push(if is_forbidden(c) { ' ' } else { c });
+/// Adds a comment of a schema.
+pub fn comment(out: &mut Out, text: &str) {
+    for line in text.trim_end().lines() {
+        out.put("/// ");
+        for c in line.chars() {
+            out.push(if is_forbidden(c) { ' ' } else { c });
+        }
+        out.put("\n");
     }
-    out.is_full |= plain.is_full;
-    plain
 }
 
 /// Whether code can't have a character: a tab, and others that control lines or the direction of writing.

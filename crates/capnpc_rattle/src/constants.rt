@@ -2,84 +2,55 @@
 
 use crate::book::{Book, Named};
 use crate::comments::about;
-use crate::out::{Arg, Out};
+use crate::out::Arg;
 use crate::sheet::Sheet;
-use crate::trees::{Place, put_tree};
-use cp_tree::Tree;
+use crate::trees::put_tree;
 use cp_types::{Base, Constant, Node, NodeKind, Value};
 
-/// Writes a constant.
+/// Writes a constant. One that is a struct or a list is a `static`, so that views of it may be lent for any time.
 pub fn constant(book: &Book<'_>, sheet: &mut Sheet<'_>, node: &Node, of: &Constant) {
-    let name = Out::of(sheet.alloc, "$0", &[Arg::Upper(node.name())]);
-    let args = [Arg::Text(node.name())];
-    sheet.between();
-    let text = book.about(node.id);
-    about(&mut sheet.code, "", text, "`const $0`.", &args);
+    let args = [Arg::Text(node.name()), Arg::Upper(node.name())];
+    about(&mut sheet.code, book.about(node.id), "`const $0`.", &args);
     match &of.value {
-        Value::Tree(tree) => tree_constant(&mut sheet.code, name.as_str(), tree),
-        _ => plain_constant(book, sheet, node, name.as_str(), of),
+        Value::Tree(tree) => {
+            sheet
+                .code
+                .fill("pub static $1: Constant<'static> = ", &args);
+            put_tree(&mut sheet.code, tree);
+        }
+        _ => {
+            sheet.code.fill("pub const $1: ", &args);
+            if !plain_value(book, sheet, of) {
+                sheet.refuse(node.name(), "", "a constant of this type can't be written");
+            }
+        }
     }
-    sheet.export("$0", name.as_str());
+    sheet.code.put(";\n");
+    sheet.export("$1", &args);
 }
 
-/// Writes a constant of this name that is a struct or a list. It is a `static`, so that views of it may be lent for any
-/// time.
-fn tree_constant(code: &mut Out, name: &str, tree: &Tree) {
-    let args = [Arg::Text(name)];
-    let held = Out::of(code.alloc, "pub static $0: Constant<'static> = ", &args);
-    let at = Place {
-        indent: 0,
-        column: held.as_str().len(),
-        ending: 1,
-    };
-    code.put(held.as_str());
-    put_tree(code, tree, at);
-    code.put(";\n");
-}
-
-/// Writes a constant of this name of another type.
-fn plain_constant<'n>(
-    book: &Book<'_>,
-    sheet: &mut Sheet<'_>,
-    node: &'n Node,
-    name: &'n str,
-    of: &Constant,
-) {
-    let mut value = Out::new(sheet.alloc);
-    value_of(book, sheet, &mut value, of);
-    if value.is_empty() {
-        sheet.refuse(node.name(), "", "a constant of this type can't be written");
-    }
-    let args = [Arg::Text(name), Arg::Text(value.as_str())];
-    sheet.code.fill("pub const $0: $1;\n", &args);
-}
-
-/// Writes the type and the value of a constant, or nothing where it can't be written.
-fn value_of(book: &Book<'_>, sheet: &mut Sheet<'_>, out: &mut Out, of: &Constant) {
+/// Writes the type and the value of a constant, if they can be written.
+fn plain_value(book: &Book<'_>, sheet: &mut Sheet<'_>, of: &Constant) -> bool {
     match &of.value {
-        Value::Text(text) => {
-            out.put("&str = ");
-            out.quoted(text.as_str());
-        }
-        Value::Data(bytes) => {
-            out.put("&[u8] = ");
-            out.byte_text(bytes);
-        }
-        Value::Bits(bits) if of.of.lists == 0 => number(book, sheet, out, of.of.of, *bits),
-        Value::Bits(_) | Value::Tree(_) | Value::Other => {}
+        Value::Text(text) => sheet.code.fill("&str = $0", &[Arg::Quoted(text.as_str())]),
+        Value::Data(bytes) => sheet.code.fill("&[u8] = $0", &[Arg::ByteText(bytes)]),
+        Value::Bits(bits) if of.of.lists == 0 => return number(book, sheet, of.of.of, *bits),
+        Value::Bits(_) | Value::Tree(_) | Value::Other => return false,
     }
+    true
 }
 
-/// Writes the type and the value of a number, a bool or a value of an enum.
-fn number(book: &Book<'_>, sheet: &mut Sheet<'_>, out: &mut Out, of: Base, bits: u64) {
+/// Writes the type and the value of a number, a bool or a value of an enum, if they can be written.
+fn number(book: &Book<'_>, sheet: &mut Sheet<'_>, of: Base, bits: u64) -> bool {
     match of {
-        Base::Bool => out.put(if bits == 0 {
+        Base::Bool => sheet.code.put(if bits == 0 {
             "bool = false"
         } else {
             "bool = true"
         }),
         Base::Unsigned(width) => {
-            out.fill("u$0 = $1", &[Arg::Number(width as u64), Arg::Number(bits)]);
+            let args = [Arg::Number(width as u64), Arg::Number(bits)];
+            sheet.code.fill("u$0 = $1", &args);
         }
         Base::Signed(width) => {
             let (sign, size) = signed(width, bits);
@@ -88,15 +59,15 @@ fn number(book: &Book<'_>, sheet: &mut Sheet<'_>, out: &mut Out, of: Base, bits:
                 Arg::Text(sign),
                 Arg::Number(size),
             ];
-            out.fill("i$0 = $1$2", &args);
+            sheet.code.fill("i$0 = $1$2", &args);
         }
-        Base::Enum(id) => {
-            if let Some(named) = book.find(id) {
-                enum_value(book, sheet, out, named, bits);
-            }
-        }
-        _ => {}
+        Base::Enum(id) => match book.find(id) {
+            Some(named) => return enum_value(book, sheet, named, bits),
+            None => return false,
+        },
+        _ => return false,
     }
+    true
 }
 
 /// The sign and the size of a number of this width.
@@ -114,17 +85,19 @@ fn signed(width: u32, bits: u64) -> (&'static str, u64) {
     }
 }
 
-/// Writes the type and the name of a value of an enum.
-fn enum_value(book: &Book<'_>, sheet: &mut Sheet<'_>, out: &mut Out, named: &Named, number: u64) {
+/// Writes the type and the name of a value of an enum, if it has one.
+fn enum_value(book: &Book<'_>, sheet: &mut Sheet<'_>, named: &Named, number: u64) -> bool {
     let Some(node) = book.schema.find(named.id) else {
-        return;
+        return false;
     };
     let NodeKind::Enum(items) = &node.kind else {
-        return;
+        return false;
     };
-    if let Some(item) = items.get(number as usize) {
-        let args = [Arg::Text(named.name.as_str()), Arg::Variant(item.as_str())];
-        out.fill("$0 = $0::$1", &args);
-        sheet.cite(named, "");
-    }
+    let Some(item) = items.get(number as usize) else {
+        return false;
+    };
+    let args = [Arg::Text(named.name.as_str()), Arg::Variant(item.as_str())];
+    sheet.code.fill("$0 = $0::$1", &args);
+    sheet.cite(named, "");
+    true
 }

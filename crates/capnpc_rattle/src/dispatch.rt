@@ -1,10 +1,10 @@
 //! What passes calls on to the methods of objects.
 
 use crate::book::Named;
+use crate::kinds::takes;
 use crate::methods::Way;
-use crate::out::{Arg, Out};
+use crate::out::Arg;
 use crate::sheet::Sheet;
-use crate::structs::signature;
 use cp_types::Node;
 
 const CALL: &str = "
@@ -14,7 +14,9 @@ pub fn dispatch_$1<T: $0Server>(
     object: &mut T,
     call: &Call,
 ) -> Result<Reply, AllocError>
-    ensures { IfOk result (λ reply. $2 object.old call.now reply object.new) }
+    ensures { IfOk result (λ reply. ";
+
+const BY_INTERFACE: &str = " object.old call.now reply object.new) }
 {
     match call.request.interface {
 ";
@@ -44,31 +46,17 @@ const METHOD_ARM: &str = "        $3 => pass_$8(alloc, object, call),
 
 const PASS: &str = "
 /// Passes a call of `$5` on.
-";
-
-const PASS_HEAD: &str =
-    "fn pass_$8<T: $0Server>(alloc: Global, object: &mut T, call: &Call) -> Result<Reply, AllocError>";
-
-const PASS_HEAD_WIDE: &str = "fn pass_$8<T: $0Server>(
+fn pass_$8<T: $0Server>(
     alloc: Global,
     object: &mut T,
     call: &Call,
-) -> Result<Reply, AllocError>";
-
-const PASS_BODY: &str = "
+) -> Result<Reply, AllocError>
     ensures { IfOk result (λ reply. Passes T.$1_kind.on_$8 object.old call.now reply object.new) }
 {
     match call.params() {
         Ok(body) => {
             let params = $6View { body };
-";
-
-const ANSWERED: &str = "            let answered = $0Server::$4(object, call, &params);";
-
-const ANSWERED_WIDE: &str =
-    "            let answered =\n                $0Server::$4(object, call, &params);";
-
-const PASS_END: &str = "
+            let answered = $0Server::$4(object, call, &params);
             reply(alloc, call, answered)
         }
         Err(fault) => refuse(alloc, call, MethodFault::WrongKind(fault)),
@@ -79,15 +67,15 @@ const PASS_END: &str = "
 /// What this code cites of other crates.
 const CITED: &str = "cp_stubs::MethodFault\ncp_stubs::refuse\n";
 
-/// Writes what passes calls on to the methods of an interface's objects, whose calls this takes.
+/// Writes what passes calls on to the methods of an interface's objects. The interface is the first of a family.
 pub fn dispatch<'b>(
     sheet: &mut Sheet<'b>,
     named: &'b Named,
     family: &[(&'b Node, &'b Named)],
-    (ways, takes): (&[Way<'b>], &str),
+    ways: &[Way<'b>],
 ) {
     sheet.libraries.put(CITED);
-    by_interface(sheet, named, family, takes);
+    by_interface(sheet, named, family);
     by_number(sheet, named, ways);
     for way in ways {
         pass(sheet, way);
@@ -95,19 +83,15 @@ pub fn dispatch<'b>(
 }
 
 /// Writes the function that passes a call on by its interface.
-fn by_interface<'b>(
-    sheet: &mut Sheet<'b>,
-    named: &'b Named,
-    family: &[(&'b Node, &'b Named)],
-    takes: &str,
-) {
+fn by_interface<'b>(sheet: &mut Sheet<'b>, named: &'b Named, family: &[(&'b Node, &'b Named)]) {
     let args = [
         Arg::Text(named.name.as_str()),
         Arg::Text(named.word.as_str()),
-        Arg::Text(takes),
     ];
     sheet.code.fill(CALL, &args);
-    sheet.export("dispatch_$0", named.word.as_str());
+    takes(&mut sheet.code, named, family);
+    sheet.code.put(BY_INTERFACE);
+    sheet.export("dispatch_$1", &args);
     for (node, each) in family {
         let args = [Arg::Hex(node.id), Arg::Text(each.word.as_str())];
         sheet.code.fill(CALL_ARM, &args);
@@ -125,12 +109,8 @@ fn cite_methods(sheet: &mut Sheet<'_>, each: &Named) {
         Arg::Text(each.module.as_str()),
         Arg::Text(each.word.as_str()),
     ];
-    if each.krate.as_str() == sheet.krate {
-        sheet.uses.fill("crate::$1::dispatch_$2_method\n", &args);
-    } else {
-        sheet.libraries.fill("$0::dispatch_$2_method\n", &args);
-        sheet.crates.fill("$0\n", &args);
-    }
+    let own = "crate::$1::dispatch_$2_method\n";
+    sheet.cite_code(each, (own, "$0::dispatch_$2_method\n"), &args);
 }
 
 /// Writes the function that passes a call on by its number.
@@ -140,9 +120,7 @@ fn by_number<'b>(sheet: &mut Sheet<'b>, named: &'b Named, ways: &[Way<'b>]) {
         Arg::Text(named.word.as_str()),
     ];
     sheet.code.fill(METHODS, &head);
-    let mut name = Out::new(sheet.alloc);
-    name.fill("dispatch_$1_method", &head);
-    sheet.export("$0", name.as_str());
+    sheet.export("dispatch_$1_method", &head);
     for way in ways {
         sheet.code.fill(METHOD_ARM, &way.args());
     }
@@ -153,9 +131,5 @@ fn by_number<'b>(sheet: &mut Sheet<'b>, named: &'b Named, ways: &[Way<'b>]) {
 fn pass<'b>(sheet: &mut Sheet<'b>, way: &Way<'b>) {
     let args = way.args();
     sheet.code.fill(PASS, &args);
-    signature(sheet, PASS_HEAD, PASS_HEAD_WIDE, &args);
-    sheet.code.fill(PASS_BODY, &args);
-    signature(sheet, ANSWERED, ANSWERED_WIDE, &args);
-    sheet.code.put(PASS_END);
     sheet.libraries.put("cp_stubs::reply\n");
 }

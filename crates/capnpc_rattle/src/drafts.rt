@@ -4,12 +4,12 @@ use crate::book::{Book, Named};
 use crate::comments::about;
 use crate::getters::node_in;
 use crate::out::{Arg, Out};
-use crate::promises::{cap_setter, client_of};
-use crate::setters::{Setter, SetterKind, set_of};
+use crate::parts::{Part, Wanted, fields};
+use crate::promises::client_of;
+use crate::setters::{Setter, set_of};
 use crate::sheet::Sheet;
-use crate::structs::{has_name, is_void, signature};
-use cp_types::{Base, Field, FieldKind, Node, NodeKind, Slot, Structure};
-use std::alloc::Global;
+use crate::structs::{has_name, is_void};
+use cp_types::{Base, Field, FieldKind, Node, Slot, Structure};
 
 const TYPE: &str = "
 /// `struct $1`, to be written.
@@ -21,19 +21,10 @@ pub struct $0Draft {
 
 impl $0Draft {
     /// A struct whose fields are all as by default.
-";
-
-const NEW: &str = "    pub fn new(alloc: Global) -> Result<$0Draft, AllocError>";
-
-const NEW_WIDE: &str =
-    "    pub fn new(\n        alloc: Global,\n    ) -> Result<$0Draft, AllocError>";
-
-const NEW_BODY: &str = "
+    pub fn new(alloc: Global) -> Result<$0Draft, AllocError>
         ensures { IfOk result (λ d. d.body ≡ blank $2 $3) }
     {
-        Ok($0Draft {
-            body: StructDraft::new(alloc)?,
-        })
+        Ok($0Draft { body: StructDraft::new(alloc)? })
     }
 ";
 
@@ -50,20 +41,11 @@ impl $0ListDraft {
     pub fn new(alloc: Global) -> $0ListDraft
         ensures { result.items ≡ blank_list $2 $3 }
     {
-        $0ListDraft {
-            items: StructsDraft::new(alloc),
-        }
+        $0ListDraft { items: StructsDraft::new(alloc) }
     }
 
     /// Adds a struct at the end.
-";
-
-const PUSH: &str = "    pub fn push(&mut self, item: $0Draft) -> Result<(), DraftFault>";
-
-const PUSH_WIDE: &str =
-    "    pub fn push(\n        &mut self,\n        item: $0Draft,\n    ) -> Result<(), DraftFault>";
-
-const PUSH_BODY: &str = "
+    pub fn push(&mut self, item: $0Draft) -> Result<(), DraftFault>
         ensures pushed { OnOk result (self.new.items ≡ with_last self.old.items item.body) }
         ensures left { OnErr result (self.new ≡ self.old) }
         ensures long { result ≡ Err TooLong → ¬ (HoldsOneMore self.old.items ($2 + $3)) }
@@ -80,20 +62,25 @@ const CHOOSE: &str = "    pub fn set_$0(&mut self)
     }
 ";
 
-/// The most characters of a call on the body, its semicolon included, that are on one line with it.
-const LONGEST_CALL: usize = 52;
+const CLIENT: &str = "    pub fn set_$0_client(
+        &mut self,
+        table: &mut Table,
+        value: $1Client,
+    ) -> Result<(), AllocError>
+        ensures set { OnOk result (self.new.body ≡ with_pointer ";
 
-/// The deepest that groups may lie within one another.
-const DEEPEST: u32 = 64;
+const CLIENT_SET: &str = " $2 (cap_tree (length table.old))) }
+        ensures added { OnOk result (table.new ≡ table.old ++ value.target ∷ []) }
+        ensures left { OnErr result ((self.new ≡ self.old) × (table.new ≡ table.old)) }
+    {
+        let place = table.add(value.target.into_cap())?;
+        self.set_$0(place);
+        Ok(())
+    }
+";
 
-/// A struct or a group whose fields are set: the words before their names, and the node.
-#[derive(Clone, Copy)]
-struct Part<'p> {
-    prefix: &'p str,
-    node: &'p Node,
-    of: &'p Structure,
-    depth: u32,
-}
+/// What a setter of a capability by name cites.
+const CLIENT_CITED: &str = "cp_stubs::Table\nstd::alloc::AllocError\n";
 
 /// Writes the draft of a struct, and that of a list of them.
 pub fn draft<'b>(
@@ -109,94 +96,38 @@ pub fn draft<'b>(
         Arg::Number(of.words as u64),
         Arg::Number(of.pointers as u64),
     ];
-    sheet.export("$0Draft", named.name.as_str());
+    sheet.export("$0Draft", &args);
     sheet.code.fill(TYPE, &args);
-    signature(sheet, NEW, NEW_WIDE, &args);
-    sheet.code.fill(NEW_BODY, &args);
-    setters(
-        book,
-        sheet,
-        &Part {
-            prefix: "",
-            node,
-            of,
-            depth: DEEPEST,
-        },
-    );
+    fields(book, sheet, &Part::new(node, of), Wanted::Setters);
     sheet.code.put("}\n");
     if has_name(node) {
-        sheet.export("$0ListDraft", named.name.as_str());
+        sheet.export("$0ListDraft", &args);
         sheet.code.fill(LIST, &args);
-        signature(sheet, PUSH, PUSH_WIDE, &args);
-        sheet.code.fill(PUSH_BODY, &args);
     }
 }
 
-/// Writes the methods that set the fields of a struct or a group.
-#[cycle(setters)]
-fn setters<'b>(book: &'b Book<'_>, sheet: &mut Sheet<'b>, part: &Part<'_>) {
-    for (i, field) in part.of.fields.iter().enumerate() {
-        match &field.kind {
-            FieldKind::Slot(slot) => {
-                if is_void(&field.kind) {
-                    choice(book, sheet, part, (i, field));
-                } else {
-                    slot_setter(book, sheet, part, (i, field), slot);
-                }
-            }
-            FieldKind::Group(id) => {
-                choice(book, sheet, part, (i, field));
-                group(book, sheet, part, field, *id);
-            }
-            FieldKind::Unknown => {}
+/// Writes the methods that set a field. A group has one if it is a member of a union, and so has a field without bits.
+pub fn setter<'b>(
+    book: &'b Book<'_>,
+    sheet: &mut Sheet<'b>,
+    part: &Part<'_>,
+    (i, field): (usize, &Field),
+) {
+    match &field.kind {
+        FieldKind::Slot(slot) if !is_void(&field.kind) => {
+            slot_setter(book, sheet, part, (i, field), slot);
         }
+        FieldKind::Slot(_) | FieldKind::Group(_) if field.is_member() => {
+            comment(book, sheet, part, (i, field));
+            let args = [
+                part.name(field),
+                Arg::Number(part.of.tag_place as u64),
+                Arg::Number(field.tag as u64),
+            ];
+            sheet.code.fill(CHOOSE, &args);
+        }
+        _ => {}
     }
-}
-
-/// Writes the methods that set the fields of a group.
-#[cycle(setters)]
-fn group<'b>(book: &'b Book<'_>, sheet: &mut Sheet<'b>, part: &Part<'_>, field: &Field, id: u64) {
-    let Some(node) = book.schema.find(id) else {
-        return;
-    };
-    let NodeKind::Struct(of) = &node.kind else {
-        return;
-    };
-    if part.depth == 0 {
-        sheet.refuse(node.name(), "", "its groups are too deep");
-        return;
-    }
-    let mut prefix = joined(sheet.alloc, part.prefix, field.name.as_str());
-    prefix.push('_');
-    let inner = Part {
-        prefix: prefix.as_str(),
-        node,
-        of,
-        depth: part.depth - 1,
-    };
-    setters(book, sheet, &inner);
-}
-
-/// A field's name after the words before it.
-fn joined(alloc: Global, prefix: &str, name: &str) -> Out {
-    let mut out = Out::new(alloc);
-    out.put(prefix);
-    out.fill("$0", &[Arg::Snake(name)]);
-    out
-}
-
-/// The struct as it is before a field is set: with the field's member of the union chosen, if it is one.
-fn chosen<'p>(sheet: &Sheet<'_>, part: &Part<'p>, field: &Field) -> Out {
-    let args = [
-        Arg::Number(part.of.tag_place as u64),
-        Arg::Number(field.tag as u64),
-    ];
-    let template = if field.is_member() {
-        "(with_uint self.old.body 16 $0 $1)"
-    } else {
-        "self.old.body"
-    };
-    Out::of(sheet.alloc, template, &args)
 }
 
 /// Writes the comment of a method that sets a field.
@@ -208,32 +139,26 @@ fn comment(book: &Book<'_>, sheet: &mut Sheet<'_>, part: &Part<'_>, (i, field): 
     } else {
         "Sets `$0`."
     };
-    sheet.begin_method();
-    about(&mut sheet.code, "    ", text, template, &args);
+    about(&mut sheet.code, text, template, &args);
 }
 
-/// Writes the method that chooses a member of a union that has no bits of its own, or is a group. What is no member
-/// has none.
-fn choice(book: &Book<'_>, sheet: &mut Sheet<'_>, part: &Part<'_>, (i, field): (usize, &Field)) {
-    if !field.is_member() {
-        return;
-    }
-    comment(book, sheet, part, (i, field));
-    let name = joined(sheet.alloc, part.prefix, field.name.as_str());
-    choosing(sheet, name.as_str(), part.of.tag_place, field.tag);
-}
-
-/// Writes a method that sets a union's number, but its comment.
-fn choosing(sheet: &mut Sheet<'_>, name: &str, place: u32, tag: u16) {
+/// Writes the struct as it is before a field is set: with the field's member of the union chosen, if it is one.
+fn chosen(out: &mut Out, part: &Part<'_>, field: &Field) {
     let args = [
-        Arg::Text(name),
-        Arg::Number(place as u64),
-        Arg::Number(tag as u64),
+        Arg::Number(part.of.tag_place as u64),
+        Arg::Number(field.tag as u64),
     ];
-    sheet.code.fill(CHOOSE, &args);
+    out.fill(
+        if field.is_member() {
+            "(with_uint self.old.body 16 $0 $1)"
+        } else {
+            "self.old.body"
+        },
+        &args,
+    );
 }
 
-/// Writes the method that sets a field.
+/// Writes the method that sets a field, and that which sets it to a capability by name.
 fn slot_setter<'b>(
     book: &'b Book<'_>,
     sheet: &mut Sheet<'b>,
@@ -241,130 +166,75 @@ fn slot_setter<'b>(
     (i, field): (usize, &Field),
     slot: &Slot,
 ) {
-    match set_of(book, slot) {
-        Ok(setter) => {
-            comment(book, sheet, part, (i, field));
-            head(sheet, part, field, &setter);
-            clauses(sheet, part, field, &setter);
-            code(sheet, part, field, &setter);
-            cite(book, sheet, slot);
-            by_client(book, sheet, part, (i, field), slot);
+    let setter = match set_of(book, slot) {
+        Ok(setter) => setter,
+        Err(why) => {
+            sheet.refuse(part.node.name(), field.name.as_str(), why);
+            return;
         }
-        Err(why) => sheet.refuse(part.node.name(), field.name.as_str(), why),
-    }
-}
-
-/// Writes the method that sets a field to a capability by name, if it is one.
-fn by_client<'b>(
-    book: &'b Book<'_>,
-    sheet: &mut Sheet<'b>,
-    part: &Part<'_>,
-    (i, field): (usize, &Field),
-    slot: &Slot,
-) {
-    if client_of(book, slot).is_none() {
-        return;
-    }
-    let name = joined(sheet.alloc, part.prefix, field.name.as_str());
-    let body = chosen(sheet, part, field);
-    comment(book, sheet, part, (i, field));
-    cap_setter(book, sheet, (name.as_str(), body.as_str()), slot);
-}
-
-/// Writes the signature of a method that sets a field.
-fn head<'b>(sheet: &mut Sheet<'b>, part: &Part<'_>, field: &Field, setter: &Setter<'b>) {
-    let of = Out::of(sheet.alloc, setter.of, &setter.args());
-    let name = joined(sheet.alloc, part.prefix, field.name.as_str());
-    let args = [Arg::Text(name.as_str()), Arg::Text(of.as_str())];
-    let (short, wide) = match setter.kind {
-        SetterKind::Copied => (
-            "    pub fn set_$0(&mut self, alloc: Global, value: $1) -> Result<(), DraftFault>",
-            "    pub fn set_$0(\n        &mut self,\n        alloc: Global,\n        value: $1,\n    ) -> Result<(), DraftFault>",
-        ),
-        SetterKind::Long => (
-            "    pub fn set_$0(&mut self, value: $1) -> Result<(), DraftFault>",
-            "    pub fn set_$0(\n        &mut self,\n        value: $1,\n    ) -> Result<(), DraftFault>",
-        ),
-        _ => (
-            "    pub fn set_$0(&mut self, value: $1)",
-            "    pub fn set_$0(\n        &mut self,\n        value: $1,\n    )",
-        ),
     };
-    signature(sheet, short, wide, &args);
+    comment(book, sheet, part, (i, field));
+    head(&mut sheet.code, part, field, &setter);
+    code(&mut sheet.code, part, field, &setter);
+    cite(book, sheet, slot);
+    if let Some(named) = client_of(book, slot) {
+        comment(book, sheet, part, (i, field));
+        by_client(sheet, part, (field, named), slot);
+    }
 }
 
-/// Writes the clauses of a method that sets a field.
-fn clauses<'b>(sheet: &mut Sheet<'b>, part: &Part<'_>, field: &Field, setter: &Setter<'b>) {
-    let body = chosen(sheet, part, field);
-    let value = Out::of(sheet.alloc, setter.value, &setter.args());
-    let args = [
-        Arg::Text(body.as_str()),
-        Arg::Number(setter.place as u64),
-        Arg::Number(setter.width as u64),
-        Arg::Text(value.as_str()),
-    ];
-    sheet.code.fill(
-        match setter.kind {
-            SetterKind::Number => {
-                "\n        ensures { self.new.body ≡ with_uint $0 $2 $1 $3 }\n    {\n"
-            }
-            SetterKind::Pointer => {
-                "\n        ensures { self.new.body ≡ with_pointer $0 $1 $3 }\n    {\n"
-            }
-            SetterKind::Long => {
-                "\n        ensures set { OnOk result (self.new.body ≡ with_pointer $0 $1 $3) }
-        ensures left { OnErr result (self.new ≡ self.old) }
-        ensures long { IfErr result (λ fault. (fault ≡ TooLong) × (2 ^ 29 ≤ length value.items)) }\n    {\n"
-            }
-            SetterKind::Copied => {
-                "\n        ensures set { OnOk result (self.new.body ≡ with_pointer $0 $1 $3) }
-        ensures left { OnErr result (self.new ≡ self.old) }
-        ensures long { result ≡ Err TooLong → 2 ^ 29 ≤ length value.now + 1 }\n    {\n"
-            }
-        },
-        &args,
-    );
+/// Writes the signature and the clauses of a method that sets a field.
+fn head<'b>(out: &mut Out, part: &Part<'_>, field: &Field, setter: &Setter<'b>) {
+    let args = setter.args();
+    out.fill("    pub fn set_$0(&mut self, ", &[part.name(field)]);
+    out.put(setter.shape.takes);
+    out.fill(setter.of, &args);
+    out.put(setter.shape.opens);
+    chosen(out, part, field);
+    out.fill(setter.shape.place, &args);
+    out.fill(setter.value, &args);
+    out.put(setter.shape.closes);
+    out.put("\n    {\n");
 }
 
 /// Writes the code of a method that sets a field. What may fail comes first.
-fn code<'b>(sheet: &mut Sheet<'b>, part: &Part<'_>, field: &Field, setter: &Setter<'b>) {
-    let value = Out::of(sheet.alloc, setter.code, &setter.args());
-    let args = [
-        Arg::Number(setter.place as u64),
-        Arg::Text(value.as_str()),
-        Arg::Number(part.of.tag_place as u64),
-        Arg::Number(field.tag as u64),
-    ];
-    let fails = matches!(setter.kind, SetterKind::Long | SetterKind::Copied);
-    if fails && field.is_member() {
-        sheet.code.fill("        let whole = $1;\n", &args);
+fn code<'b>(out: &mut Out, part: &Part<'_>, field: &Field, setter: &Setter<'b>) {
+    let args = setter.args();
+    let is_first = setter.shape.fails && field.is_member();
+    if is_first {
+        out.put("        let whole = ");
+        out.fill(setter.code, &args);
+        out.put(";\n");
     }
     if field.is_member() {
-        sheet
-            .code
-            .fill("        self.body.set_u16($2, $3);\n", &args);
+        let args = [
+            Arg::Number(part.of.tag_place as u64),
+            Arg::Number(field.tag as u64),
+        ];
+        out.fill("        self.body.set_u16($0, $1);\n", &args);
     }
-    let call = match setter.kind {
-        SetterKind::Number => "$1",
-        _ if fails && field.is_member() => ".set_pointer($0, whole);",
-        _ => ".set_pointer($0, $1);",
-    };
-    let call = Out::of(sheet.alloc, call, &args);
-    on_body(sheet, call.as_str());
-    sheet.code.put(if fails {
-        "        Ok(())\n    }\n"
-    } else {
-        "    }\n"
-    });
+    out.fill(setter.shape.call, &args);
+    out.fill(if is_first { "whole" } else { setter.code }, &args);
+    out.put(setter.shape.end);
 }
 
-/// Writes a call on the body, in the layout of `rt fmt`.
-fn on_body(sheet: &mut Sheet<'_>, call: &str) {
-    let is_long = call.chars().count() > LONGEST_CALL;
-    sheet.code.put("        self.body");
-    sheet.code.put(if is_long { "\n            " } else { "" });
-    sheet.code.put(call);
-    sheet.code.push('\n');
+/// Writes the method that sets a field to a capability of this interface, but its comment.
+fn by_client<'n>(
+    sheet: &mut Sheet<'_>,
+    part: &Part<'n>,
+    (field, named): (&'n Field, &'n Named),
+    slot: &Slot,
+) {
+    let args = [
+        part.name(field),
+        Arg::Text(named.name.as_str()),
+        Arg::Number(slot.place as u64),
+    ];
+    sheet.code.fill(CLIENT, &args);
+    chosen(&mut sheet.code, part, field);
+    sheet.code.fill(CLIENT_SET, &args);
+    sheet.cite(named, "Client");
+    sheet.libraries.put(CLIENT_CITED);
 }
 
 /// Imports what a method that sets a field names.
@@ -380,7 +250,7 @@ fn cite(book: &Book<'_>, sheet: &mut Sheet<'_>, slot: &Slot) {
         Base::Struct(_) if slot.of.lists == 1 => sheet.cite(named, "ListDraft"),
         Base::Enum(_) if slot.of.lists == 0 => {
             sheet.cite(named, "");
-            sheet.cite_numbers(named);
+            sheet.cite_values(named, "_number");
         }
         _ => {}
     }

@@ -1,7 +1,7 @@
 //! The code and the definitions of enums, and of the numbers of unions.
 
 use crate::book::{Book, Named};
-use crate::comments::about;
+use crate::comments::{about, comment};
 use crate::out::{Arg, Out};
 use crate::sheet::Sheet;
 use cp_types::Node;
@@ -9,10 +9,10 @@ use cp_types::Node;
 /// An enum, or the members of a union.
 #[derive(Clone, Copy)]
 pub struct Values<'v> {
-    /// Its name as a type.
-    pub name: &'v str,
-    /// Its name in definitions.
-    pub word: &'v str,
+    /// Its name as a type, in two parts.
+    pub name: (&'v str, &'v str),
+    /// Its name in definitions, in two parts.
+    pub word: (&'v str, &'v str),
     /// The names of its values in the schema, in the order of their numbers.
     pub items: &'v [&'v str],
     /// The node that has comments on them.
@@ -99,45 +99,38 @@ pub fn enum_code<'n>(
     let mut names = Vec::new(sheet.alloc);
     for item in items {
         if names.push(item.as_str()).is_err() {
-            sheet.code.is_full = true;
+            sheet.fail();
         }
     }
+    let (name, word) = (named.name.as_str(), named.word.as_str());
+    let args = [Arg::Text(name), Arg::Text(word), Arg::Text(node.name())];
+    about(&mut sheet.code, book.about(node.id), "`enum $2`.", &args);
     let values = Values {
-        name: named.name.as_str(),
-        word: named.word.as_str(),
+        name: (name, ""),
+        word: (word, ""),
         items: names.as_slice(),
         about: node.id,
     };
-    sheet.between();
-    let text = book.about(node.id);
-    about(
-        &mut sheet.code,
-        "",
-        text,
-        "`enum $0`.",
-        &[Arg::Text(node.name())],
-    );
     enumeration(book, sheet, &values);
-    let args = [Arg::Text(values.name), Arg::Text(values.word)];
     sheet.code.fill(ITEM, &args);
 }
 
 /// Writes an enum's code and its definitions.
 pub fn enumeration(book: &Book<'_>, sheet: &mut Sheet<'_>, values: &Values<'_>) {
     let args = [
-        Arg::Text(values.name),
-        Arg::Text(values.word),
+        Arg::Pair(values.name.0, values.name.1),
+        Arg::Pair(values.word.0, values.word.1),
         Arg::Number(values.items.len().saturating_sub(1) as u64),
         Arg::Text(if values.about == 0 { "" } else { ", Debug" }),
     ];
     type_of(book, sheet, values, &args);
     functions(sheet, values, &args);
     sheet.declare(values.name, values.word);
-    sheet.export("$0", values.name);
-    sheet.cite_own("$0_of", values.word);
+    sheet.export("$0", &args);
+    sheet.cite_own("$1_of", &args);
     definitions(&mut sheet.specs, values, &args);
     if values.about != 0 {
-        sheet.cite_own("$0_number", values.word);
+        sheet.cite_own("$1_number", &args);
         numbers(sheet, values, &args);
     }
     sheet.code.put("}\n");
@@ -148,10 +141,7 @@ fn type_of(book: &Book<'_>, sheet: &mut Sheet<'_>, values: &Values<'_>, args: &[
     let code = &mut sheet.code;
     code.fill(TYPE, args);
     for (i, item) in values.items.iter().enumerate() {
-        let text = book.about_member(values.about, i);
-        if !text.is_empty() {
-            about(code, "    ", text, "", &[]);
-        }
+        comment(code, book.about_member(values.about, i));
         code.fill("    $0,\n", &[Arg::Variant(item)]);
     }
     code.fill(LAST, args);
@@ -164,7 +154,7 @@ fn functions(sheet: &mut Sheet<'_>, values: &Values<'_>, args: &[Arg<'_>]) {
     for (i, item) in values.items.iter().enumerate() {
         let args = [
             Arg::Number(i as u64),
-            Arg::Text(values.name),
+            Arg::Pair(values.name.0, values.name.1),
             Arg::Variant(item),
         ];
         code.fill("            $0 => $1::$2,\n", &args);
@@ -179,9 +169,9 @@ fn numbers(sheet: &mut Sheet<'_>, values: &Values<'_>, args: &[Arg<'_>]) {
     for (i, item) in values.items.iter().enumerate() {
         let args = [
             Arg::Number(i as u64),
-            Arg::Text(values.name),
+            Arg::Pair(values.name.0, values.name.1),
             Arg::Variant(item),
-            Arg::Text(values.word),
+            Arg::Pair(values.word.0, values.word.1),
         ];
         sheet.code.fill("            $1::$2 => $0,\n", &args);
         sheet.specs.fill("$3_number $3s.$2 = $0\n", &args);
@@ -197,14 +187,12 @@ fn definitions(specs: &mut Out, values: &Values<'_>, args: &[Arg<'_>]) {
         let args = [
             Arg::Text(if i == 0 { "" } else { "(" }),
             Arg::Number(i as u64),
-            Arg::Text(values.word),
+            Arg::Pair(values.word.0, values.word.1),
             Arg::Variant(item),
         ];
         specs.fill("    $0if n == $1 then $2s.$3 else\n", &args);
     }
     specs.fill("    $1s.Unknown n", args);
-    for _ in 1..values.items.len() {
-        specs.push(')');
-    }
-    specs.push('\n');
+    specs.close(values.items.len().saturating_sub(1));
+    specs.put("\n");
 }

@@ -3,7 +3,7 @@
 use crate::book::{Book, Named};
 use crate::clients::client;
 use crate::dispatch::dispatch;
-use crate::kinds::{family, kind, takes_of};
+use crate::kinds::{family, kind};
 use crate::methods::Way;
 use crate::servers::server;
 use crate::sheet::Sheet;
@@ -19,7 +19,7 @@ pub fn interface<'b>(
 ) {
     match Way::all(book, sheet, (node, named), of.methods.as_slice()) {
         Ok(ways) => whole(book, sheet, (node, named), of, ways.as_slice()),
-        Err(_) => sheet.code.is_full = true,
+        Err(_) => sheet.fail(),
     }
 }
 
@@ -34,7 +34,7 @@ fn whole<'b>(
     client(book, sheet, (node, named), of, ways);
     match family(book, (node, named)) {
         Ok(family) => objects(book, sheet, of, family.as_slice(), ways),
-        Err(_) => sheet.code.is_full = true,
+        Err(_) => sheet.fail(),
     }
 }
 
@@ -46,11 +46,9 @@ fn objects<'b>(
     family: &[(&'b Node, &'b Named)],
     ways: &[Way<'b>],
 ) {
-    if let Some((node, named)) = family.first() {
-        let takes = takes_of(sheet.alloc, named, family);
+    if let Some((_, named)) = family.first() {
         kind(sheet, named, family, ways);
-        server(book, sheet, (*node, *named), of, (ways, takes.as_str()));
-        dispatch(sheet, named, family, (ways, takes.as_str()));
-        sheet.code.is_full |= takes.is_full;
+        server(book, sheet, of, family, ways);
+        dispatch(sheet, named, family, ways);
     }
 }

@@ -5,7 +5,7 @@ use crate::methods::Way;
 use crate::out::{Arg, Out};
 use crate::sheet::Sheet;
 use cp_types::Node;
-use std::alloc::{AllocError, Global};
+use std::alloc::AllocError;
 
 const HEADING: &str = "-- What calls of `$0` of $1 lead to.\n";
 
@@ -38,9 +38,7 @@ pub record $0Takes {S : Type 0}
 const OF_INTERFACE: &str =
     "  pub of_$1 : call.request.interface ≡ $2 → $0MethodTakes $1_kind old call reply new\n";
 
-const BY_INTERFACE: &str = "    (old : S) (call : Call) (reply : Reply) (new : S) : Type 0 where
-$0  pub elsewhere : IsElsewhere ($1[]) call → Refuses old call reply new
-";
+const BY_INTERFACE: &str = "    (old : S) (call : Call) (reply : Reply) (new : S) : Type 0 where\n";
 
 /// What these definitions cite of other crates.
 const CITED: &str = "\
@@ -63,13 +61,10 @@ pub fn family<'b>(
     Ok(all)
 }
 
-/// What takes the calls of an object, as clauses cite it.
-pub fn takes_of(alloc: Global, named: &Named, family: &[(&Node, &Named)]) -> Out {
-    let mut takes = Out::of(alloc, "$0Takes", &[Arg::Text(named.name.as_str())]);
-    for (_, each) in family {
-        takes.fill(" T.$0_kind", &[Arg::Text(each.word.as_str())]);
-    }
-    takes
+/// Writes what takes the calls of an object, as clauses cite it.
+pub fn takes(out: &mut Out, named: &Named, family: &[(&Node, &Named)]) {
+    out.fill("$0Takes", &[Arg::Text(named.name.as_str())]);
+    each_interface(out, " T.$1_kind", family);
 }
 
 /// Writes the definitions of what objects of an interface do.
@@ -86,9 +81,7 @@ pub fn kind<'b>(
     ];
     sheet.heading = HEADING;
     sheet.imports.put(CITED);
-    sheet
-        .words
-        .fill("$0Kind, $0MethodTakes, $0Takes, any_$1", &args);
+    sheet.cite_own("$0Kind, $0MethodTakes, $0Takes, any_$1", &args);
     sheet.specs.fill(KIND, &args);
     on_each(&mut sheet.specs, "  pub on_$8 : Method S\n", ways);
     sheet.specs.fill(ANY, &args);
@@ -108,24 +101,30 @@ fn on_each(specs: &mut Out, line: &str, ways: &[Way<'_>]) {
 
 /// Writes what a call does to an object by its interface, after the head of that definition.
 fn by_interface<'b>(sheet: &mut Sheet<'b>, named: &'b Named, family: &[(&'b Node, &'b Named)]) {
-    let mut lines = Out::new(sheet.alloc);
-    let mut ids = Out::new(sheet.alloc);
+    let specs = &mut sheet.specs;
+    each_interface(specs, "    ($1_kind : $0Kind S)\n", family);
+    specs.put(BY_INTERFACE);
+    each_interface(specs, OF_INTERFACE, family);
+    specs.put("  pub elsewhere : IsElsewhere (");
+    each_interface(specs, "$2 ∷ ", family);
+    specs.put("[]) call → Refuses old call reply new\n");
+    for (_, each) in family {
+        if each.id != named.id {
+            import_kind(sheet, each);
+        }
+    }
+}
+
+/// Writes a template for each of these interfaces.
+fn each_interface(out: &mut Out, template: &str, family: &[(&Node, &Named)]) {
     for (node, each) in family {
         let args = [
             Arg::Text(each.name.as_str()),
             Arg::Text(each.word.as_str()),
             Arg::Hex(node.id),
         ];
-        sheet.specs.fill("    ($1_kind : $0Kind S)\n", &args);
-        lines.fill(OF_INTERFACE, &args);
-        ids.fill("$2 ∷ ", &args);
-        if each.id != named.id {
-            import_kind(sheet, each);
-        }
+        out.fill(template, &args);
     }
-    let args = [Arg::Text(lines.as_str()), Arg::Text(ids.as_str())];
-    sheet.specs.fill(BY_INTERFACE, &args);
-    sheet.specs.is_full |= lines.is_full || ids.is_full;
 }
 
 /// Imports what is defined of an interface that is extended.

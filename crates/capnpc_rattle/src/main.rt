@@ -23,6 +23,7 @@ mod methods;
 mod names;
 mod out;
 mod pages;
+mod parts;
 mod promises;
 mod reach;
 mod servers;
@@ -91,6 +92,7 @@ impl Task {
             } else if word == "--drafts" {
                 task.drafts = true;
             } else if word == "--interfaces" {
+                task.drafts = true;
                 task.interfaces = true;
             } else if word == "--print" {
                 task.prints = true;
@@ -188,11 +190,8 @@ struct File<'f> {
 /// Makes the crate of a file.
 fn make_crate(rt: &HostRuntime, task: &Task, schema: &Schema, file: &Node) -> anyhow::Result<()> {
     let name = crate_name(rt.alloc(), file.path(), task.krate.as_str());
-    let mut book = Book::of(rt.alloc(), schema, file.path(), name.as_str())?;
-    book.drafts = task.drafts;
-    if task.interfaces {
-        book.write_interfaces();
-    }
+    let of = (file.path(), name.as_str());
+    let book = Book::of(rt.alloc(), schema, of, (task.drafts, task.interfaces))?;
     put_crate(rt, task, &book, file.path(), name.as_str())
 }
 

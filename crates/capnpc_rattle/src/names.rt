@@ -26,8 +26,11 @@ const OF_CRATES: &str = "\
     body clone into member of of_item size try_into which \
     constants contracts core declared lib main specs std";
 
+/// Methods that each promise has.
+pub const PROMISED: &str = "question results";
+
 /// Whether one of the words, with spaces between, is this.
-fn has_word(words: &str, name: &str) -> bool {
+pub fn has_word(words: &str, name: &str) -> bool {
     for word in words.split(' ') {
         if word == name {
             return true;

@@ -1,22 +1,26 @@
-//! Text that is written by templates, and a line's width.
+//! Text that is written by templates.
 
-use crate::names::is_reserved;
+use crate::names::{PROMISED, has_word, is_reserved};
 use std::alloc::{AllocError, Global};
-
-/// The columns of a line, as `rt fmt` has them.
-pub const WIDTH: usize = 100;
+use std::fmt::Display;
 
 /// What stands for a place of a template.
 #[derive(Clone, Copy)]
 pub enum Arg<'t> {
     Text(&'t str),
+    /// A text after another.
+    Pair(&'t str, &'t str),
     Number(u64),
     /// A number as code has it in hexadecimal, with 16 digits.
     Hex(u64),
     /// A name in snake case.
     Snake(&'t str),
+    /// A name in snake case after a text.
+    Joined(&'t str, &'t str),
     /// A field's name, as its method is called: in snake case, and none of the words that have another meaning.
     Method(&'t str),
+    /// A field's name after a text, as a promise's method is called.
+    Promised(&'t str, &'t str),
     /// A name in upper camel case; names within others are put together.
     Camel(&'t str),
     /// A value's name as a variant: in upper camel case, and not that of numbers past the last.
@@ -37,12 +41,47 @@ pub enum Arg<'t> {
     Bytes(&'t [u8]),
 }
 
+/// How a list of items is written.
+#[derive(Clone, Copy)]
+pub struct Listing {
+    none: &'static str,
+    open: &'static str,
+    after: &'static str,
+    close: &'static str,
+}
+
+/// Items as an array of code.
+pub const ARRAY: Listing = Listing {
+    none: "&[]",
+    open: "&[",
+    after: ", ",
+    close: "]",
+};
+
+/// Items as a list of definitions.
+pub const LIST: Listing = Listing {
+    none: "[]",
+    open: "(",
+    after: " ∷ ",
+    close: "[])",
+};
+
 /// A text that grows. It remembers whether memory ran out, and is then without what was put last.
-#[derive(Drop)]
 pub struct Out {
     pub alloc: Global,
     text: String,
     pub is_full: bool,
+}
+
+// Not derived: who lets one go calls this function, and need not prove the drop of its text.
+impl Drop for Out {
+    fn drop(self) {
+        let Out {
+            alloc: _,
+            text: _,
+            is_full: _,
+        } = self;
+    }
 }
 
 impl Out {
@@ -68,17 +107,6 @@ impl Out {
 
     pub fn is_empty(&self) -> bool {
         self.text.is_empty()
-    }
-
-    /// Whether a template with what stands for its places is no wider than a line.
-    pub fn fits(&self, template: &str, args: &[Arg<'_>]) -> bool {
-        let line = Out::of(self.alloc, template, args);
-        line.text.as_str().chars().count() <= WIDTH
-    }
-
-    /// Lets all text go.
-    fn clear(&mut self) {
-        self.text.clear();
     }
 
     /// Adds a text.
@@ -109,10 +137,19 @@ impl Out {
     fn arg(&mut self, arg: Arg<'_>) {
         match arg {
             Arg::Text(text) => self.put(text),
+            Arg::Pair(first, second) => {
+                self.put(first);
+                self.put(second);
+            }
             Arg::Number(number) => self.number(number),
             Arg::Hex(number) => self.hex(number),
             Arg::Snake(name) => self.snake(name),
-            Arg::Method(name) => self.method(name),
+            Arg::Joined(text, name) => {
+                self.put(text);
+                self.snake(name);
+            }
+            Arg::Method(name) => self.method(("", name), ""),
+            Arg::Promised(text, name) => self.method((text, name), PROMISED),
             Arg::Camel(name) => self.camel(name),
             Arg::Variant(name) => self.variant(name),
             Arg::Upper(name) => self.upper(name),
@@ -121,7 +158,7 @@ impl Out {
             Arg::Default(word, name) => self.default(word, name),
             Arg::Quoted(text) => self.quoted(text),
             Arg::ByteText(bytes) => self.byte_text(bytes),
-            Arg::Bytes(bytes) => self.bytes(bytes),
+            Arg::Bytes(bytes) => self.each(bytes, " ∷ "),
         }
     }
 
@@ -132,26 +169,24 @@ impl Out {
         }
     }
 
-    /// Goes on in a new line, after so many columns.
-    pub fn line(&mut self, indent: usize) {
-        self.push('\n');
-        for _ in 0..indent {
-            self.push(' ');
+    /// Adds items as a list of this form.
+    pub fn items<T: Display>(&mut self, items: &[T], form: Listing) {
+        if items.is_empty() {
+            self.put(form.none);
+            return;
         }
+        self.put(form.open);
+        self.each(items, form.after);
+        self.put(form.close);
     }
 
-    /// Adds an item of a list with commas between.
-    pub fn item(&mut self, item: &str) {
-        if !self.is_empty() {
-            self.put(", ");
+    /// Adds items, each with this text after it.
+    fn each<T: Display>(&mut self, items: &[T], after: &str) {
+        for item in items {
+            if write!(self.text, "{item}{after}").is_err() {
+                self.is_full = true;
+            }
         }
-        self.put(item);
-    }
-
-    /// Adds a number to a list with commas between.
-    pub fn number_item(&mut self, number: u64) {
-        self.item("");
-        self.number(number);
     }
 
     /// Adds so many closing brackets.
@@ -195,12 +230,13 @@ impl Out {
         }
     }
 
-    /// Adds the name of a method.
-    fn method(&mut self, name: &str) {
+    /// Adds a name as a method is called, after a text. With it the name is neither reserved nor one of these words.
+    fn method(&mut self, (text, name): (&str, &str), words: &str) {
         let mut word = Out::new(self.alloc);
+        word.put(text);
         word.snake(name);
         self.put(word.as_str());
-        if is_reserved(word.as_str()) {
+        if is_reserved(word.as_str()) || has_word(words, word.as_str()) {
             self.push('_');
         }
     }
@@ -252,14 +288,14 @@ impl Out {
     }
 
     /// Adds a text as code has it.
-    pub fn quoted(&mut self, text: &str) {
+    fn quoted(&mut self, text: &str) {
         if write!(self.text, "{text:?}").is_err() {
             self.is_full = true;
         }
     }
 
     /// Adds bytes as a text of bytes, as code has it.
-    pub fn byte_text(&mut self, bytes: &[u8]) {
+    fn byte_text(&mut self, bytes: &[u8]) {
         self.put("b\"");
         for byte in bytes {
             if write!(self.text, "\\x{byte:02x}").is_err() {
@@ -269,113 +305,21 @@ impl Out {
         self.push('"');
     }
 
-    /// Adds bytes as definitions have a list of numbers, but its end.
-    fn bytes(&mut self, bytes: &[u8]) {
-        for byte in bytes {
-            if write!(self.text, "{byte} ∷ ").is_err() {
-                self.is_full = true;
-            }
-        }
-    }
-
-    /// Adds lines in order, each once.
-    pub fn put_sorted(&mut self, lines: &str) {
+    /// Adds lines in order, each once, between these texts.
+    pub fn put_sorted(&mut self, lines: &str, (before, after): (&str, &str)) {
         match sorted(self.alloc, lines) {
-            Ok(lines) => self.put_once(lines.as_slice()),
+            Ok(lines) => self.put_between(lines.as_slice(), (before, after)),
             Err(_) => self.is_full = true,
         }
     }
 
-    /// Adds the lines of a text as words, in order, each once, and ends the line.
-    pub fn put_words(&mut self, lines: &str) {
-        let mut words = Out::new(self.alloc);
-        words.put_sorted(lines);
-        for word in words.as_str().lines() {
-            self.push(' ');
-            self.put(word);
-        }
-        self.push('\n');
-    }
-
-    /// Adds lines, each once where the same are beside one another.
-    fn put_once(&mut self, lines: &[&str]) {
-        let mut last = "";
+    /// Adds lines between these texts.
+    fn put_between(&mut self, lines: &[&str], (before, after): (&str, &str)) {
         for line in lines {
-            if *line != last {
-                self.put(line);
-                self.push('\n');
-            }
-            last = line;
+            self.put(before);
+            self.put(line);
+            self.put(after);
         }
-    }
-
-    /// Adds the imports of paths, a line each, in the layout of `rt fmt`.
-    pub fn put_imports(&mut self, keyword: &str, paths: &str) {
-        match sorted(self.alloc, paths) {
-            Ok(paths) => self.imports(keyword, paths.as_slice()),
-            Err(_) => self.is_full = true,
-        }
-    }
-
-    /// Adds the imports of paths, where those of a module are beside one another.
-    fn imports(&mut self, keyword: &str, paths: &[&str]) {
-        let mut names = Out::new(self.alloc);
-        let mut last = "";
-        for path in paths {
-            if module_of(path) != module_of(last) {
-                self.import(keyword, module_of(last), names.as_str());
-                names.clear();
-            }
-            if *path != last {
-                names.put(if names.is_empty() { "" } else { ", " });
-                names.put(name_of(path));
-            }
-            last = path;
-        }
-        self.import(keyword, module_of(last), names.as_str());
-        if names.is_full {
-            self.is_full = true;
-        }
-    }
-
-    /// Adds the import of these names, with commas between, if there are some.
-    fn import<'n>(&mut self, keyword: &'n str, module: &'n str, names: &'n str) {
-        let args = [Arg::Text(keyword), Arg::Text(module), Arg::Text(names)];
-        if names.contains(", ") {
-            self.import_all(names, &args);
-        } else if !names.is_empty() {
-            self.fill("$0 $1::$2;\n", &args);
-        }
-    }
-
-    /// Adds the import of several names, on one line if that leaves two columns.
-    fn import_all(&mut self, names: &str, args: &[Arg<'_>]) {
-        if self.fits("$0 $1::{$2};..", args) {
-            self.fill("$0 $1::{$2};\n", args);
-        } else {
-            self.fill("$0 $1::{\n", args);
-            self.filled(names);
-            self.put("};\n");
-        }
-    }
-
-    /// Adds lines with as many of the names each as it holds.
-    fn filled(&mut self, names: &str) {
-        let mut column = 0_usize;
-        for name in names.split(", ") {
-            let length = name.chars().count().saturating_add(2);
-            let is_first = column == 0;
-            column = column.saturating_add(length);
-            if is_first || column > WIDTH {
-                self.put(if is_first { "    " } else { "\n    " });
-                column = length.saturating_add(3);
-            } else {
-                self.push(' ');
-            }
-            self.put(name);
-            self.push(',');
-        }
-        self.push('\n');
     }
 
     /// Adds a text so many times.
@@ -383,14 +327,6 @@ impl Out {
         for _ in 0..times {
             self.put(text);
         }
-    }
-}
-
-/// The module of a path.
-fn module_of(path: &str) -> &str {
-    match path.rsplit_once("::") {
-        Some((module, _)) => module,
-        None => "",
     }
 }
 
@@ -402,13 +338,14 @@ pub fn name_of(path: &str) -> &str {
     }
 }
 
-/// The lines of a text, in order.
+/// The lines of a text in order, each once.
 fn sorted(alloc: Global, text: &str) -> Result<Vec<&str>, AllocError> {
     let mut lines = Vec::new(alloc);
     for line in text.lines() {
         lines.push(line)?;
     }
     lines.sort()?;
+    lines.dedup();
     Ok(lines)
 }
 

@@ -111,7 +111,7 @@ pub fn root_text(book: &Book<'_>, sheets: &[Sheet<'_>], schema: &str) -> Out {
         exports.put(sheet.exports.as_str());
     }
     text.push('\n');
-    text.put_imports("pub use", exports.as_str());
+    text.put_sorted(exports.as_str(), ("pub use ", ";\n"));
     text
 }
 
@@ -143,7 +143,8 @@ pub fn line_of(book: &Book<'_>, sheets: &[Sheet<'_>], krate: &str) -> Out {
     for sheet in sheets {
         crates.put(sheet.crates.as_str());
     }
-    line.put_words(crates.as_str());
+    line.put_sorted(crates.as_str(), (" ", ""));
+    line.put("\n");
     line
 }
 

@@ -2,29 +2,26 @@
 
 use crate::book::{Book, Named};
 use crate::comments::about;
+use crate::kinds::takes;
 use crate::methods::Way;
-use crate::out::{Arg, Out};
+use crate::out::Arg;
 use crate::sheet::Sheet;
-use crate::structs::signature;
 use cp_types::{Interface, Node};
 
 const TRAIT: &str = "
 /// An object of `interface $1`.
-pub trait $0Server: $2 {
+pub trait $0Server: ";
+
+const TRAIT_KIND: &str = " {
     /// What calls of its methods lead to. Of an object that doesn't say it nothing is known.
-    ghost $3_kind: { $0Kind Self } = { any_$3 };
+    ghost $2_kind: { $0Kind Self } = { any_$2 };
 ";
 
-const METHOD: &str =
-    "    fn $4(&mut self, call: &Call, params: &$6View<'_>) -> Result<Answer<$7Draft>, MethodFault>";
-
-const METHOD_WIDE: &str = "    fn $4(
+const METHOD: &str = "    fn $4(
         &mut self,
         call: &Call,
         params: &$6View<'_>,
-    ) -> Result<Answer<$7Draft>, MethodFault>";
-
-const METHOD_CLAUSE: &str = "
+    ) -> Result<Answer<$7Draft>, MethodFault>
         ensures { Gives (λ d. d.body) $1_kind.on_$8 self.old call.now params.now.body result self.new };
 ";
 
@@ -38,7 +35,9 @@ pub struct $0Servant<T: $0Server> {
 }
 
 impl<T: $0Server> Servant for $0Servant<T> {
-    ghost kind = { seen_as (λ s. s.object) (taking ($3) T.kind) };
+    ghost kind = { seen_as (λ s. s.object) (taking (";
+
+const GLUE: &str = ") T.kind) };
 
     fn call(&mut self, ticket: u64, request: Request) -> Result<Reply, AllocError> {
         let call = Call { ticket, request };
@@ -86,62 +85,59 @@ ghost use Rattle.cp_stubs.specs.Objects.{taking};
 /// What the methods of a trait cite of other crates.
 const METHODS_CITED: &str = "cp_stubs::Answer\ncp_stubs::MethodFault\n";
 
-/// Writes the trait of an interface's objects, and the glue by which they are served, whose calls this takes.
+/// Writes the trait of an interface's objects, and the glue by which they are served. The interface is the first of a family.
 pub fn server<'b>(
     book: &'b Book<'_>,
     sheet: &mut Sheet<'b>,
-    (node, named): (&'b Node, &'b Named),
     of: &'b Interface,
-    (ways, takes): (&[Way<'b>], &str),
+    family: &[(&'b Node, &'b Named)],
+    ways: &[Way<'b>],
 ) {
-    let supers = supers(book, sheet, of);
-    let head = [
-        Arg::Text(named.name.as_str()),
-        Arg::Text(node.name()),
-        Arg::Text(supers.as_str()),
-        Arg::Text(named.word.as_str()),
-    ];
-    sheet.code.fill(TRAIT, &head);
-    for way in ways {
-        method(book, sheet, node, way);
-    }
+    let Some((node, named)) = family.first() else {
+        return;
+    };
     let args = [
         Arg::Text(named.name.as_str()),
         Arg::Text(node.name()),
         Arg::Text(named.word.as_str()),
-        Arg::Text(takes),
     ];
+    sheet.code.fill(TRAIT, &args);
+    supers(book, sheet, of);
+    sheet.code.fill(TRAIT_KIND, &args);
+    for way in ways {
+        method(book, sheet, node, way);
+    }
     sheet.code.fill(SERVANT, &args);
+    takes(&mut sheet.code, named, family);
+    sheet.code.fill(GLUE, &args);
     sheet.libraries.put(CITED);
     sheet.cited.put(WORDS);
-    sheet.export("$0Server", named.name.as_str());
-    sheet.export("$0Servant", named.name.as_str());
+    sheet.export("$0Server", &args);
+    sheet.export("$0Servant", &args);
 }
 
-/// The traits that an object of an interface has too.
-fn supers(book: &Book<'_>, sheet: &mut Sheet<'_>, of: &Interface) -> Out {
-    let mut names = Out::new(sheet.alloc);
+/// Writes the traits that an object of an interface has too.
+fn supers(book: &Book<'_>, sheet: &mut Sheet<'_>, of: &Interface) {
+    let mut between = "";
     for id in &of.supers {
         if let Some(named) = book.find(*id) {
-            names.put(if names.is_empty() { "" } else { " + " });
-            names.fill("$0Server", &[Arg::Text(named.name.as_str())]);
+            let args = [Arg::Text(between), Arg::Text(named.name.as_str())];
+            sheet.code.fill("$0$1Server", &args);
             sheet.cite(named, "Server");
+            between = " + ";
         }
     }
-    if names.is_empty() {
-        names.put("Object");
+    if between.is_empty() {
+        sheet.code.put("Object");
     }
-    names
 }
 
 /// Writes a method of a trait.
 fn method<'b>(book: &Book<'_>, sheet: &mut Sheet<'b>, node: &Node, way: &Way<'b>) {
     let args = way.args();
-    sheet.begin_method();
     let text = book.about_member(node.id, way.number);
-    about(&mut sheet.code, "    ", text, "`$5 @$3`.", &args);
-    signature(sheet, METHOD, METHOD_WIDE, &args);
-    sheet.code.fill(METHOD_CLAUSE, &args);
+    about(&mut sheet.code, text, "`$5 @$3`.", &args);
+    sheet.code.fill(METHOD, &args);
     sheet.libraries.put(METHODS_CITED);
     way.cite(sheet, "View", "Draft");
 }

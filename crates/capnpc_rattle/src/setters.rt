@@ -12,26 +12,77 @@ pub struct Setter<'b> {
     pub of: &'static str,
     pub value: &'static str,
     pub code: &'static str,
-    pub kind: SetterKind,
+    pub shape: &'static Shape,
     name: &'b str,
     word: &'b str,
-    pub place: u32,
+    place: u32,
     default: u64,
-    pub width: u32,
+    width: u32,
 }
 
-/// What a setter sets.
-#[derive(Clone, Copy, PartialEq, Eq)]
-pub enum SetterKind {
-    /// A bit or a number.
-    Number,
-    /// A pointer.
-    Pointer,
-    /// A pointer to what may be too long.
-    Long,
-    /// A pointer to what is copied, and may be too long.
-    Copied,
+/// What the setters of a kind of field have around the parts of their own: the value's type, the struct, the value as a
+/// definition says, and the code of the value.
+#[derive(Clone, Copy)]
+pub struct Shape {
+    pub takes: &'static str,
+    pub opens: &'static str,
+    pub place: &'static str,
+    pub closes: &'static str,
+    pub call: &'static str,
+    pub end: &'static str,
+    /// Whether it may fail.
+    pub fails: bool,
 }
+
+/// A bit or a number.
+static NUMBER: Shape = Shape {
+    takes: "value: ",
+    opens: ")\n        ensures { self.new.body ≡ with_uint ",
+    place: " $4 $0 ",
+    closes: " }",
+    call: "        self.body.",
+    end: ";\n    }\n",
+    fails: false,
+};
+
+/// A pointer.
+static POINTER: Shape = Shape {
+    takes: "value: ",
+    opens: ")\n        ensures { self.new.body ≡ with_pointer ",
+    place: " $0 ",
+    closes: " }",
+    call: "        self.body.set_pointer($0, ",
+    end: ");\n    }\n",
+    fails: false,
+};
+
+/// A pointer to what may be too long.
+static LONG: Shape = Shape {
+    takes: "value: ",
+    opens: ") -> Result<(), DraftFault>
+        ensures set { OnOk result (self.new.body ≡ with_pointer ",
+    place: " $0 ",
+    closes: ") }
+        ensures left { OnErr result (self.new ≡ self.old) }
+        ensures long { IfErr result (λ fault. (fault ≡ TooLong) × (2 ^ 29 ≤ length value.items)) }",
+    call: "        self.body.set_pointer($0, ",
+    end: ");\n        Ok(())\n    }\n",
+    fails: true,
+};
+
+/// A pointer to a text, which is copied, and may be too long.
+static COPIED: Shape = Shape {
+    takes: "alloc: Global, value: ",
+    opens: ") -> Result<(), DraftFault>
+        ensures set { OnOk result (self.new.body ≡ with_pointer ",
+    place: " $0 ",
+    closes: ") }
+        ensures left { OnErr result (self.new ≡ self.old) }
+        ensures long { result ≡ Err TooLong → 2 ^ 29 ≤ length value.now + 1 }",
+    call: "        self.body.set_pointer($0, ",
+    end: ");\n        Ok(())\n    }\n",
+    fails: true,
+};
 
 impl<'b> Setter<'b> {
     /// What stands for the places of its templates.
@@ -46,10 +97,10 @@ impl<'b> Setter<'b> {
     }
 }
 
-/// The templates of a type.
+/// The templates of a type: its shape, and the parts of its own.
 #[derive(Clone, Copy)]
 struct Form {
-    kind: SetterKind,
+    shape: &'static Shape,
     of: &'static str,
     value: &'static str,
     code: &'static str,
@@ -58,7 +109,7 @@ struct Form {
 /// The templates of a number.
 fn number(of: &'static str, value: &'static str, code: &'static str) -> Form {
     Form {
-        kind: SetterKind::Number,
+        shape: &NUMBER,
         of,
         value,
         code,
@@ -68,7 +119,7 @@ fn number(of: &'static str, value: &'static str, code: &'static str) -> Form {
 /// The templates of a pointer.
 fn pointer(of: &'static str, value: &'static str, code: &'static str) -> Form {
     Form {
-        kind: SetterKind::Pointer,
+        shape: &POINTER,
         of,
         value,
         code,
@@ -78,7 +129,7 @@ fn pointer(of: &'static str, value: &'static str, code: &'static str) -> Form {
 /// The templates of a list that may be too long.
 fn long(of: &'static str, value: &'static str, code: &'static str) -> Form {
     Form {
-        kind: SetterKind::Long,
+        shape: &LONG,
         of,
         value,
         code,
@@ -93,7 +144,7 @@ pub fn set_of<'b>(book: &'b Book<'_>, slot: &Slot) -> Result<Setter<'b>, &'stati
         of: form.of,
         value: form.value,
         code: form.code,
-        kind: form.kind,
+        shape: form.shape,
         name,
         word,
         place: slot.place,
@@ -124,19 +175,19 @@ fn form_of(slot: &Slot) -> Form {
 /// The templates of a field without a default.
 fn plain(of: Base) -> Form {
     match of {
-        Base::Unsigned(_) => number("u$4", "value", ".set_u$4($0, value);"),
+        Base::Unsigned(_) => number("u$4", "value", "set_u$4($0, value)"),
         Base::Signed(_) => number(
             "i$4",
             "(cast_unsigned w$4 value)",
-            ".set_u$4($0, value.cast_unsigned());",
+            "set_u$4($0, value.cast_unsigned())",
         ),
         Base::Float(_) => number(
             "f$4",
             "(to_bits binary$4 value)",
-            ".set_u$4($0, f$4_to_bits_with_nan(value));",
+            "set_u$4($0, f$4_to_bits_with_nan(value))",
         ),
-        Base::Bool => number("bool", "(flag_bit value)", ".set_bit($0, value);"),
-        Base::Enum(_) => number("$2", "($3_number value)", ".set_u16($0, value.number());"),
+        Base::Bool => number("bool", "(flag_bit value)", "set_bit($0, value)"),
+        Base::Enum(_) => number("$2", "($3_number value)", "set_u16($0, value.number())"),
         _ => one_pointer(of),
     }
 }
@@ -144,22 +195,22 @@ fn plain(of: Base) -> Form {
 /// The templates of a number with a default.
 fn with_default(of: Base) -> Form {
     match of {
-        Base::Unsigned(_) => number("u$4", "(bit_xor value $1)", ".set_u$4($0, value ^ $1);"),
+        Base::Unsigned(_) => number("u$4", "(bit_xor value $1)", "set_u$4($0, value ^ $1)"),
         Base::Signed(_) => number(
             "i$4",
             "(bit_xor (cast_unsigned w$4 value) $1)",
-            ".set_u$4($0, value.cast_unsigned() ^ $1);",
+            "set_u$4($0, value.cast_unsigned() ^ $1)",
         ),
         Base::Float(_) => number(
             "f$4",
             "(bit_xor (to_bits binary$4 value) $1)",
-            ".set_u$4($0, f$4_to_bits_with_nan(value) ^ $1);",
+            "set_u$4($0, f$4_to_bits_with_nan(value) ^ $1)",
         ),
-        Base::Bool => number("bool", "(flag_bit (not value))", ".set_bit($0, !value);"),
+        Base::Bool => number("bool", "(flag_bit (not value))", "set_bit($0, !value)"),
         Base::Enum(_) => number(
             "$2",
             "(bit_xor ($3_number value) $1)",
-            ".set_u16($0, value.number() ^ $1);",
+            "set_u16($0, value.number() ^ $1)",
         ),
         _ => plain(of),
     }
@@ -169,7 +220,7 @@ fn with_default(of: Base) -> Form {
 fn one_pointer(of: Base) -> Form {
     match of {
         Base::Text => Form {
-            kind: SetterKind::Copied,
+            shape: &COPIED,
             of: "&str",
             value: "(text_tree value.now)",
             code: "cp_drafts::text_of(alloc, value)?",

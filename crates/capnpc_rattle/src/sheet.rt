@@ -8,8 +8,13 @@ use std::mem;
 /// The first line of definitions of enums and unions.
 const HEADING: &str = "-- The enums and unions of `$0` of $1.\n";
 
+/// The imports of an enum and its variants.
+const DECLARED: &str = "\
+use Rattle.$0.specs.declared.$1.$2.{$2}
+use Rattle.$0.specs.declared.$1.$2.TheVariants as $3s
+";
+
 /// A module of a generated crate.
-#[derive(Drop)]
 pub struct Sheet<'b> {
     pub alloc: Global,
     pub module: &'b str,
@@ -37,6 +42,29 @@ pub struct Sheet<'b> {
     pub crates: Out,
     /// The first thing that can't be written, and why.
     pub fault: Out,
+}
+
+// Not derived: who lets one go calls this function, and need not prove the drop of all its texts.
+impl Drop for Sheet<'_> {
+    fn drop(self) {
+        let Sheet {
+            alloc: _,
+            module: _,
+            krate: _,
+            code: _,
+            helpers: _,
+            specs: _,
+            heading: _,
+            exports: _,
+            words: _,
+            imports: _,
+            cited: _,
+            uses: _,
+            libraries: _,
+            crates: _,
+            fault: _,
+        } = self;
+    }
 }
 
 impl<'b> Sheet<'b> {
@@ -72,6 +100,11 @@ impl<'b> Sheet<'b> {
         }
     }
 
+    /// Says that memory ran out.
+    pub fn fail(&mut self) {
+        self.code.is_full = true;
+    }
+
     /// Puts the private functions after all else.
     pub fn end(&mut self) {
         let helpers = mem::replace(&mut self.helpers, Out::new(self.alloc));
@@ -79,37 +112,19 @@ impl<'b> Sheet<'b> {
         self.helpers.is_full = helpers.is_full;
     }
 
-    /// Goes on after a blank line, but at the beginning.
-    pub fn between(&mut self) {
-        if !self.code.is_empty() {
-            self.code.push('\n');
-        }
-    }
-
-    /// Goes on to the next method.
-    pub fn begin_method(&mut self) {
-        self.code.push('\n');
-    }
-
-    /// Writes a method.
-    pub fn method(&mut self, template: &str, args: &[Arg<'_>]) {
-        self.begin_method();
-        self.code.fill(template, args);
-    }
-
-    /// Exports a type or a constant.
-    pub fn export(&mut self, template: &str, name: &str) {
+    /// Exports a type, a function or a constant, of this template.
+    pub fn export(&mut self, template: &str, args: &[Arg<'_>]) {
         self.exports.fill("$0::", &[Arg::Text(self.module)]);
-        self.exports.fill(template, &[Arg::Text(name)]);
+        self.exports.fill(template, args);
         self.exports.put("\n");
     }
 
-    /// Adds a definition to those that clauses cite.
-    pub fn cite_own(&mut self, template: &str, word: &str) {
+    /// Adds a definition, of this template, to those that clauses cite.
+    pub fn cite_own(&mut self, template: &str, args: &[Arg<'_>]) {
         if !self.words.is_empty() {
             self.words.put(", ");
         }
-        self.words.fill(template, &[Arg::Text(word)]);
+        self.words.fill(template, args);
     }
 
     /// Imports a type of another module.
@@ -120,11 +135,18 @@ impl<'b> Sheet<'b> {
             Arg::Text(named.name.as_str()),
             Arg::Text(ending),
         ];
+        self.cite_code(named, ("crate::$1::$2$3\n", "$0::$2$3\n"), &args);
+    }
+
+    /// Imports what is in the module of a type: by the first of these templates where that is another module of the crate, and by
+    /// the second where it is of another crate.
+    pub fn cite_code(&mut self, named: &Named, (own, other): (&str, &str), args: &[Arg<'_>]) {
         if named.krate.as_str() != self.krate {
-            self.libraries.fill("$0::$2$3\n", &args);
-            self.crates.fill("$0\n", &args);
+            self.libraries.fill(other, args);
+            self.crates.put(named.krate.as_str());
+            self.crates.put("\n");
         } else if named.module.as_str() != self.module {
-            self.uses.fill("crate::$1::$2$3\n", &args);
+            self.uses.fill(own, args);
         }
     }
 
@@ -133,63 +155,41 @@ impl<'b> Sheet<'b> {
         named.krate.as_str() != self.krate || named.module.as_str() != self.module
     }
 
-    /// Imports the definition of an enum's values, of another module, for clauses.
-    pub fn cite_values(&mut self, named: &Named) {
+    /// Imports a definition of an enum, whose word has this ending, for clauses, if it is of another module.
+    pub fn cite_values(&mut self, named: &Named, ending: &str) {
         if self.is_elsewhere(named) {
-            self.cited.fill(
-                "ghost $0;\n",
-                &[Arg::Text(values_of(self.alloc, named).as_str())],
-            );
-        }
-    }
-
-    /// Imports the definition of the numbers of an enum's values, of another module, for clauses.
-    pub fn cite_numbers(&mut self, named: &Named) {
-        if self.is_elsewhere(named) {
-            let args = [
-                Arg::Text(named.krate.as_str()),
-                Arg::Module(named.module.as_str()),
-                Arg::Text(named.word.as_str()),
-            ];
+            let args = values_of(named, ending);
             self.cited
-                .fill("ghost use Rattle.$0.specs.$1.{$2_number};\n", &args);
+                .fill("ghost use Rattle.$0.specs.$1.{$2$3};\n", &args);
         }
     }
 
-    /// Imports the definition of an enum's values, of another module, for definitions.
+    /// Imports the definition of an enum's values for definitions, if it is of another module.
     pub fn import_values(&mut self, named: &Named) {
         if self.is_elsewhere(named) {
-            self.imports.fill("$0\n", &[Arg::Text(values_of(self.alloc, named).as_str())]);
+            let args = values_of(named, "_of");
+            self.imports.fill("use Rattle.$0.specs.$1.{$2$3}\n", &args);
         }
     }
 
-    /// Imports an enum of the module and its variants into the definitions.
-    pub fn declare(&mut self, name: &str, word: &str) {
+    /// Imports an enum of the module and its variants into the definitions. This follows its name, and that in definitions.
+    pub fn declare<'n>(&mut self, name: (&'n str, &'n str), word: (&'n str, &'n str)) {
         let args = [
             Arg::Text(self.krate),
             Arg::Text(self.module),
-            Arg::Text(name),
-            Arg::Text(word),
+            Arg::Pair(name.0, name.1),
+            Arg::Pair(word.0, word.1),
         ];
         self.imports.fill(DECLARED, &args);
     }
 }
 
-/// The imports of an enum and its variants.
-const DECLARED: &str = "\
-use Rattle.$0.specs.declared.$1.$2.{$2}
-use Rattle.$0.specs.declared.$1.$2.TheVariants as $3s
-";
-
-/// The import of the definition of an enum's values.
-fn values_of(alloc: Global, named: &Named) -> Out {
-    Out::of(
-        alloc,
-        "use Rattle.$0.specs.$1.{$2_of}",
-        &[
-            Arg::Text(named.krate.as_str()),
-            Arg::Module(named.module.as_str()),
-            Arg::Text(named.word.as_str()),
-        ],
-    )
+/// The places of a template that names a definition of an enum.
+fn values_of<'n>(named: &'n Named, ending: &'n str) -> [Arg<'n>; 4] {
+    [
+        Arg::Text(named.krate.as_str()),
+        Arg::Module(named.module.as_str()),
+        Arg::Text(named.word.as_str()),
+        Arg::Text(ending),
+    ]
 }

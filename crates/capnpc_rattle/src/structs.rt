@@ -2,7 +2,7 @@
 
 use crate::book::{Book, Named};
 use crate::comments::about;
-use crate::defaults::{constant, definition};
+use crate::defaults::default;
 use crate::drafts::draft;
 use crate::getters::{Getter, node_in, read_of};
 use crate::out::{Arg, Out};
@@ -37,18 +37,17 @@ impl<'a> Item<'a> for $0View<'a> {
 }
 ";
 
-const CONSTRUCTOR: &str =
-    "    /// The struct that a pointer stands for; null is the struct whose fields are all as by default.
+const CONSTRUCTOR: &str = "
+    /// The struct that a pointer stands for; null is the struct whose fields are all as by default.
     pub fn of(at: Pointee<'a>) -> Result<$0View<'a>, WrongKind>
         ensures { Reads result (λ x. x.body) (struct_field at.entry) }
     {
-        Ok($0View {
-            body: StructView::of(at)?,
-        })
+        Ok($0View { body: StructView::of(at)? })
     }
 ";
 
-const WHICH: &str = "    /// Which member of the union is set.
+const WHICH: &str = "
+    /// Which member of the union is set.
     pub fn which(&self) -> $0Which
         ensures { result ≡ $1_which_of (plain self.now.body 16 $2) }
     {
@@ -56,12 +55,10 @@ const WHICH: &str = "    /// Which member of the union is set.
     }
 ";
 
-const GROUP: &str = "
+const GROUP: &str = "    pub fn $1(&self) -> $0View<'a>
         ensures { result.body ≡ self.now.body }
     {
-        $0View {
-            body: self.body.again(),
-        }
+        $0View { body: self.body.again() }
     }
 ";
 
@@ -75,10 +72,8 @@ pub fn structure<'b>(
 ) {
     declaration(book, sheet, node, named, of.is_group);
     if has_methods(of) {
-        let name = named.name.as_str();
-        sheet
-            .code
-            .fill("\nimpl<'a> $0View<'a> {", &[Arg::Text(name)]);
+        let args = [Arg::Text(named.name.as_str())];
+        sheet.code.fill("\nimpl<'a> $0View<'a> {", &args);
         methods(book, sheet, node, named, of);
         sheet.code.put("}\n");
     }
@@ -117,11 +112,9 @@ fn declaration<'n>(
         Arg::Text(if is_group { "group" } else { "struct" }),
         Arg::Text(node.name()),
     ];
-    sheet.between();
-    let text = book.about(node.id);
-    about(&mut sheet.code, "", text, "`$1 $2`.", &args);
+    about(&mut sheet.code, book.about(node.id), "`$1 $2`.", &args);
     sheet.code.fill(VIEW, &args);
-    sheet.export("$0View", named.name.as_str());
+    sheet.export("$0View", &args);
     if !is_group && has_name(node) {
         sheet.code.fill(ITEM, &args);
     }
@@ -162,10 +155,10 @@ fn methods<'b>(
         Arg::Number(of.tag_place as u64),
     ];
     if !of.is_group {
-        sheet.method(CONSTRUCTOR, &args);
+        sheet.code.fill(CONSTRUCTOR, &args);
     }
     if of.tags > 0 {
-        sheet.method(WHICH, &args);
+        sheet.code.fill(WHICH, &args);
     }
     for (i, field) in of.fields.iter().enumerate() {
         match &field.kind {
@@ -185,26 +178,6 @@ fn methods<'b>(
     }
 }
 
-/// Writes the signature of a method that takes the view alone.
-fn head<'n>(sheet: &mut Sheet<'_>, name: &'n str, of: &'n str) {
-    let args = [Arg::Method(name), Arg::Text(of)];
-    signature(
-        sheet,
-        "    pub fn $0(&self) -> $1",
-        "    pub fn $0(\n        &self,\n    ) -> $1",
-        &args,
-    );
-}
-
-/// Writes a signature, in its long form where the short one is too wide.
-pub fn signature(sheet: &mut Sheet<'_>, short: &str, long: &str, args: &[Arg<'_>]) {
-    if sheet.code.fits(short, args) {
-        sheet.code.fill(short, args);
-    } else {
-        sheet.code.fill(long, args);
-    }
-}
-
 /// Writes the method that reads a group.
 fn group_method(
     book: &Book<'_>,
@@ -218,18 +191,17 @@ fn group_method(
         sheet.refuse(node.name(), name, "the request has no node of its type");
         return;
     };
-    sheet.begin_method();
-    let text = book.about_member(node.id, i);
+    let args = [
+        Arg::Text(group.name.as_str()),
+        Arg::Method(name),
+        Arg::Text(name),
+    ];
     about(
         &mut sheet.code,
-        "    ",
-        text,
-        "Group `$0`.",
-        &[Arg::Text(name)],
+        book.about_member(node.id, i),
+        "Group `$2`.",
+        &args,
     );
-    let args = [Arg::Text(group.name.as_str())];
-    let view = Out::of(sheet.alloc, "$0View<'a>", &args);
-    head(sheet, name, view.as_str());
     sheet.code.fill(GROUP, &args);
 }
 
@@ -247,16 +219,18 @@ fn slot_method<'b>(
     let name = field.name.as_str();
     match read_of(book, named, field, slot) {
         Ok(getter) => {
-            sheet.begin_method();
             let args = [Arg::Text(name), Arg::Number(field.ordinal as u64)];
-            let text = book.about_member(node.id, i);
-            about(&mut sheet.code, "    ", text, "`$0 @$1`.", &args);
-            getter_method(sheet, name, &getter);
+            about(
+                &mut sheet.code,
+                book.about_member(node.id, i),
+                "`$0 @$1`.",
+                &args,
+            );
+            getter_method(&mut sheet.code, name, &getter);
             cite_type(book, sheet, slot);
             cap_getter(book, sheet, field, slot);
             if let Some(tree) = getter.tree {
-                definition(sheet, named, field, tree);
-                constant(sheet, named, field, tree);
+                default(sheet, named, field, tree);
             }
         }
         Err(why) => sheet.refuse(node.name(), name, why),
@@ -264,14 +238,12 @@ fn slot_method<'b>(
 }
 
 /// Writes a method that reads a field, but its comment.
-fn getter_method<'b>(sheet: &mut Sheet<'b>, name: &str, getter: &Getter<'b>) {
+fn getter_method(code: &mut Out, name: &str, getter: &Getter<'_>) {
     let args = getter.args("self.now.body");
-    let mut of = Out::new(sheet.alloc);
-    of.put(if getter.fails { "Result<" } else { "" });
-    of.fill(getter.of, &args);
-    of.put(if getter.fails { ", WrongKind>" } else { "" });
-    head(sheet, name, of.as_str());
-    let code = &mut sheet.code;
+    code.fill("    pub fn $0(&self) -> ", &[Arg::Method(name)]);
+    code.put(if getter.fails { "Result<" } else { "" });
+    code.fill(getter.of, &args);
+    code.put(if getter.fails { ", WrongKind>" } else { "" });
     code.put("\n        ensures { ");
     code.put(if getter.is_struct {
         "Reads result (λ x. x.body) ("
@@ -279,8 +251,11 @@ fn getter_method<'b>(sheet: &mut Sheet<'b>, name: &str, getter: &Getter<'b>) {
         "result ≡ "
     });
     code.fill(getter.value, &args);
-    code.put(if getter.is_struct { ") }" } else { " }" });
-    code.put("\n    {\n");
+    code.put(if getter.is_struct {
+        ") }\n    {\n"
+    } else {
+        " }\n    {\n"
+    });
     if getter.tree.is_some() {
         code.fill("        let default = $2();\n", &args);
     }
@@ -303,6 +278,6 @@ fn cite_type(book: &Book<'_>, sheet: &mut Sheet<'_>, slot: &Slot) {
     }
     sheet.cite(named, "");
     if slot.of.lists == 0 {
-        sheet.cite_values(named);
+        sheet.cite_values(named, "_of");
     }
 }

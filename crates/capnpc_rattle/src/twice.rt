@@ -9,8 +9,8 @@ const END: &str = "\n}\n";
 /// A name that a module would have twice: a method's, a function's, or that of a type which it imports.
 pub fn found_twice(sheet: &Sheet<'_>) -> Option<Out> {
     let mut paths = Out::new(sheet.alloc);
-    paths.put_sorted(sheet.uses.as_str());
-    paths.put_sorted(sheet.libraries.as_str());
+    paths.put_sorted(sheet.uses.as_str(), ("", "\n"));
+    paths.put_sorted(sheet.libraries.as_str(), ("", "\n"));
     let code = sheet.code.as_str();
     let name = match (twice(code, ""), method_twice(code)) {
         (Some(name), _) | (None, Some(name)) => name,

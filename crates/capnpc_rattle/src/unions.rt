@@ -3,36 +3,24 @@
 use crate::book::{Book, Named};
 use crate::enums::{Values, enumeration};
 use crate::getters::{Getter, node_in, read_of};
-use crate::out::{Arg, Out};
+use crate::out::Arg;
 use crate::sheet::Sheet;
-use crate::structs::{is_void, signature};
+use crate::structs::is_void;
 use cp_types::{Base, Field, FieldKind, Node, Structure};
 use std::alloc::AllocError;
 
-const ABOUT: &str = "    /// The member of the union that is set, with what it holds.\n";
-
-const SHORT: &str = "    pub fn member(&self) -> Result<$0Member$2, WrongKind>";
-
-const LONG: &str = "    pub fn member(\n        &self,\n    ) -> Result<$0Member$2, WrongKind>";
-
 const METHOD: &str = "
+    /// The member of the union that is set, with what it holds.
+    pub fn member(&self) -> Result<$0Member$2, WrongKind>
         ensures { result ≡ $1_member self.now.body }
     {
         Ok(match self.which() {
 ";
 
-const EMPTY: &str = "            $0Which::$1$2 => $0Member::$1,";
-
-const EMPTY_WIDE: &str = "            $0Which::$1$2 =>\n                $0Member::$1,\n";
-
-const HOLDS: &str = "            $0Which::$1$2 => $0Member::$1($3),";
-
-const HEAD: &str = "            $0Which::$1$2 => $0Member::$1(";
-
-const WIDE: &str =
-    "            $0Which::$1$2 => $0Member::$1(\n                $3,\n            ),\n";
-
-const WIDEST: &str = "            $0Which::$1$2 =>\n                $0Member::$1($3),\n";
+const METHOD_END: &str = "            $0Which::Unknown(number) => $0Member::Unknown(number),
+        })
+    }
+";
 
 const MEMBER: &str = "
 /// The member of the union of `$2` that is set, with what it holds.
@@ -115,7 +103,7 @@ pub fn union_method<'b>(
 ) {
     match members(sheet, of) {
         Ok(members) => member_method(book, sheet, named, members.as_slice()),
-        Err(_) => sheet.code.is_full = true,
+        Err(_) => sheet.fail(),
     }
 }
 
@@ -126,65 +114,30 @@ fn member_method<'b>(
     named: &'b Named,
     members: &[&'b Field],
 ) {
-    let name = named.name.as_str();
     let args = [
-        Arg::Text(name),
+        Arg::Text(named.name.as_str()),
         Arg::Text(named.word.as_str()),
         Arg::Text(lifetime(book, named, members)),
     ];
-    sheet.method(ABOUT, &args);
-    signature(sheet, SHORT, LONG, &args);
     sheet.code.fill(METHOD, &args);
     for member in members {
-        let question = match held_by(book, named, member) {
-            Held::Nothing => None,
-            Held::Slot(getter) if getter.fails => Some("?"),
-            _ => Some(""),
+        let end = match held_by(book, named, member) {
+            Held::Nothing => ",\n",
+            Held::Slot(getter) if getter.fails => "(self.$2()?),\n",
+            _ => "(self.$2()),\n",
         };
-        member_arm(sheet, name, member.name.as_str(), question);
+        let name = member.name.as_str();
+        let args = [
+            Arg::Text(named.name.as_str()),
+            Arg::Variant(name),
+            Arg::Method(name),
+        ];
+        sheet
+            .code
+            .fill("            $0Which::$1 => $0Member::$1", &args);
+        sheet.code.fill(end, &args);
     }
-    let args = [
-        Arg::Text(name),
-        Arg::Text("Unknown"),
-        Arg::Text("(number)"),
-        Arg::Text("number"),
-    ];
-    arm(sheet, &args, true);
-    sheet.code.put("        })\n    }\n");
-}
-
-/// Writes the arm of a member, which holds what its method reads, or nothing.
-fn member_arm<'n>(sheet: &mut Sheet<'_>, name: &'n str, field: &'n str, question: Option<&'n str>) {
-    let mut inner = Out::new(sheet.alloc);
-    if let Some(question) = question {
-        inner.fill("self.$0()$1", &[Arg::Method(field), Arg::Text(question)]);
-    }
-    let args = [
-        Arg::Text(name),
-        Arg::Variant(field),
-        Arg::Text(""),
-        Arg::Text(inner.as_str()),
-    ];
-    arm(sheet, &args, question.is_some());
-}
-
-/// Writes an arm whose value is a variant, which holds what is in place 3 where that isn't empty, in the layout of
-/// `rt fmt`.
-fn arm(sheet: &mut Sheet<'_>, args: &[Arg<'_>], holds: bool) {
-    let code = &mut sheet.code;
-    let (line, wide) = if holds {
-        (HOLDS, WIDE)
-    } else {
-        (EMPTY, EMPTY_WIDE)
-    };
-    if code.fits(line, args) {
-        code.fill(line, args);
-        code.push('\n');
-    } else if !holds || code.fits(HEAD, args) {
-        code.fill(wide, args);
-    } else {
-        code.fill(WIDEST, args);
-    }
+    sheet.code.fill(METHOD_END, &args);
 }
 
 /// Writes the types of a union: its numbers, and its members with what they hold.
@@ -201,7 +154,7 @@ pub fn union_code<'b>(
             member_type(book, sheet, node, named, members.as_slice());
             member_specs(book, sheet, named, of.tag_place, members.as_slice());
         }
-        Err(_) => sheet.code.is_full = true,
+        Err(_) => sheet.fail(),
     }
 }
 
@@ -213,25 +166,19 @@ fn which_type<'n>(
     named: &'n Named,
     members: &[&Field],
 ) {
-    let args = [
-        Arg::Text(named.name.as_str()),
-        Arg::Text(named.word.as_str()),
-    ];
-    let name = Out::of(sheet.alloc, "$0Which", &args);
-    let word = Out::of(sheet.alloc, "$1_which", &args);
     let mut items = Vec::new(sheet.alloc);
     for member in members {
         if items.push(member.name.as_str()).is_err() {
-            sheet.code.is_full = true;
+            sheet.fail();
         }
     }
-    sheet.code.fill(
-        "\n/// The members of the union of `$0`.\n",
-        &[Arg::Text(node.name())],
-    );
+    let about = [Arg::Text(node.name())];
+    sheet
+        .code
+        .fill("\n/// The members of the union of `$0`.\n", &about);
     let values = Values {
-        name: name.as_str(),
-        word: word.as_str(),
+        name: (named.name.as_str(), "Which"),
+        word: (named.word.as_str(), "_which"),
         items: items.as_slice(),
         about: 0,
     };
@@ -253,7 +200,7 @@ fn member_type<'b>(
         Arg::Text(lifetime(book, named, members)),
         Arg::Number(members.len().saturating_sub(1) as u64),
     ];
-    sheet.export("$0Member", named.name.as_str());
+    sheet.export("$0Member", &args);
     sheet.code.fill(MEMBER, &args);
     for member in members {
         let code = &mut sheet.code;
@@ -280,16 +227,10 @@ fn member_specs<'b>(
     place: u32,
     members: &[&'b Field],
 ) {
-    let word = named.word.as_str();
-    let args = [
-        Arg::Text(named.name.as_str()),
-        Arg::Text(word),
-        Arg::Number(place as u64),
-    ];
-    let name = Out::of(sheet.alloc, "$0Member", &args);
-    let inner = Out::of(sheet.alloc, "$1_member", &args);
-    sheet.declare(name.as_str(), inner.as_str());
-    sheet.cite_own("$0_member", word);
+    let (name, word) = (named.name.as_str(), named.word.as_str());
+    let args = [Arg::Text(name), Arg::Text(word), Arg::Number(place as u64)];
+    sheet.declare((name, "Member"), (word, "_member"));
+    sheet.cite_own("$1_member", &args);
     sheet.specs.fill(MEMBER_OF, &args);
     for member in members {
         member_spec(book, sheet, named, member);

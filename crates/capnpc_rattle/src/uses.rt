@@ -105,34 +105,32 @@ const CONSTANTS: [&str; 3] = [
     "cp_tree::ListRef",
 ];
 
-/// Parts of a text, and the words of the prelude that it has where it has them.
-const PRELUDE: [(&str, &str); 26] = [
-    ("ℕ", "ℕ"),
-    (" ≡ ", "◌≡◌"),
-    (" == ", "◌==◌"),
-    ("if n", "if◌then◌else◌"),
-    ("Result ", "Result"),
-    ("= Ok", "Ok"),
-    ("not (", "not"),
-    ("from_bits", "from_bits"),
-    ("to_bits binary", "to_bits"),
-    ("bit_xor", "bit_xor"),
-    ("IfOk", "IfOk"),
-    ("OnOk", "OnOk"),
-    ("OnErr", "OnErr"),
-    ("IfErr", "IfErr"),
-    ("≡ Err", "Err"),
-    (" ≤ ", "◌≤◌"),
-    ("2 ^ ", "◌^◌"),
-    ("length value", "length"),
-    ("length table", "length"),
-    ("now + 1", "◌+◌"),
-    ("HoldsOneMore self", "◌+◌"),
-    (" ++ ", "◌++◌"),
-    (" ∷ ", "◌∷◌"),
-    ("[]", "[]"),
-    ("true ∷ ", "true"),
-    ("false ∷ ", "false"),
+/// The words of the prelude, each with parts of a text that has it.
+const PRELUDE: [(&str, &[&str]); 24] = [
+    ("ℕ", &["ℕ"]),
+    ("◌≡◌", &[" ≡ "]),
+    ("◌==◌", &[" == "]),
+    ("if◌then◌else◌", &["if n"]),
+    ("Result", &["Result "]),
+    ("Ok", &["= Ok"]),
+    ("not", &["not ("]),
+    ("from_bits", &["from_bits"]),
+    ("to_bits", &["to_bits binary"]),
+    ("bit_xor", &["bit_xor"]),
+    ("IfOk", &["IfOk"]),
+    ("OnOk", &["OnOk"]),
+    ("OnErr", &["OnErr"]),
+    ("IfErr", &["IfErr"]),
+    ("Err", &["≡ Err"]),
+    ("◌≤◌", &[" ≤ "]),
+    ("◌^◌", &["2 ^ "]),
+    ("length", &["length value", "length table"]),
+    ("◌+◌", &["now + 1", "HoldsOneMore self"]),
+    ("◌++◌", &[" ++ "]),
+    ("◌∷◌", &[" ∷ "]),
+    ("[]", &["[]"]),
+    ("true", &["true ∷ "]),
+    ("false", &["false ∷ "]),
 ];
 
 /// The path of the sizes of elements.
@@ -148,10 +146,20 @@ fn has_word(text: &str, word: &str) -> bool {
     false
 }
 
-/// Whether a text has a part, comments aside.
-fn has_part(text: &str, part: &str) -> bool {
+/// Whether a text has one of these parts, comments aside.
+fn has_part(text: &str, parts: &[&str]) -> bool {
     for line in text.lines() {
-        if !is_comment(line) && line.contains(part) {
+        if !is_comment(line) && line_has_part(line, parts) {
+            return true;
+        }
+    }
+    false
+}
+
+/// Whether a line has one of these parts.
+fn line_has_part(line: &str, parts: &[&str]) -> bool {
+    for part in parts {
+        if line.contains(part) {
             return true;
         }
     }
@@ -182,165 +190,141 @@ fn is_between(c: char) -> bool {
     !c.is_ascii_alphanumeric() && c != '_'
 }
 
-/// Adds a word to a list with commas between.
-fn add(list: &mut Out, word: &str) {
-    if !list.is_empty() {
-        list.put(", ");
-    }
-    list.put(word);
+/// Adds a word of a module to a line that imports words of it, which the first one begins.
+fn add<'n>(out: &mut Out, (before, module): (&'n str, &'n str), word: &'n str, is_begun: bool) {
+    let args = [Arg::Text(before), Arg::Text(module), Arg::Text(word)];
+    out.fill(if is_begun { ", $2" } else { "$0Rattle.$1.{$2" }, &args);
 }
 
-/// Adds the words of a list that a text has, with commas between.
-fn found(list: &mut Out, text: &str, words: &[&str]) {
+/// Ends such a line, if it was begun.
+fn end(out: &mut Out, after: &str, is_begun: bool) {
+    if is_begun {
+        out.put("}");
+        out.put(after);
+    }
+}
+
+/// Adds what a text imports of the prelude, with this beginning and this end.
+fn prelude<'n>(out: &mut Out, text: &str, (before, after): (&'n str, &'n str)) {
+    let mut is_begun = false;
+    for (word, parts) in &PRELUDE {
+        if has_part(text, parts) {
+            add(out, (before, "std.specs.Prelude"), word, is_begun);
+            is_begun = true;
+        }
+    }
+    end(out, after, is_begun);
+}
+
+/// Adds what a text imports of a module.
+fn of_module<'n>(
+    out: &mut Out,
+    text: &str,
+    (module, words): (&'n str, &[&'n str]),
+    (before, after): (&'n str, &'n str),
+) {
+    let mut is_begun = false;
     for word in words {
         if has_word(text, word) {
-            add(list, word);
+            add(out, (before, module), word, is_begun);
+            is_begun = true;
         }
     }
+    end(out, after, is_begun);
 }
 
-/// Adds the words of the prelude that a text has.
-fn prelude(list: &mut Out, text: &str) {
-    for (part, word) in &PRELUDE {
-        if has_part(text, part) && !has_item(list.as_str(), word) {
-            add(list, word);
-        }
-    }
-}
-
-/// Whether a list with commas between has a word.
-fn has_item(list: &str, word: &str) -> bool {
-    for item in list.split(", ") {
-        if item == word {
-            return true;
-        }
-    }
-    false
-}
-
-/// Adds what a text imports of the libraries, a line each, with this beginning and this end, but for one module.
+/// Adds what a text imports of the libraries, but for one module.
 fn libraries<'n>(
     sheet: &Sheet<'_>,
     out: &mut Out,
     text: &str,
-    ends: (&'n str, &'n str),
+    (before, after): (&'n str, &'n str),
     skipped: &str,
 ) {
-    let mut words = Out::new(sheet.alloc);
-    prelude(&mut words, text);
-    line_of(out, "std.specs.Prelude", words.as_str(), ends);
+    prelude(out, text, (before, after));
     if has_word(text, "sizes") {
-        out.fill(
-            "$0$1$2\n",
-            &[Arg::Text(ends.0), Arg::Text(SIZES), Arg::Text(ends.1)],
-        );
+        let args = [Arg::Text(before), Arg::Text(SIZES), Arg::Text(after)];
+        out.fill("$0$1$2", &args);
     }
-    for (module, names) in &LIBRARY {
-        if *module != skipped && (!is_of_stubs(module) || cites_stubs(sheet)) {
-            let mut words = Out::new(sheet.alloc);
-            found(&mut words, text, names);
-            line_of(out, module, words.as_str(), ends);
+    let has_stubs = sheet.libraries.as_str().contains("cp_stubs::");
+    for (module, words) in &LIBRARY {
+        if *module != skipped && (has_stubs || !module.starts_with("cp_stubs.")) {
+            of_module(out, text, (module, words), (before, after));
         }
-    }
-}
-
-/// Whether a module has words for interfaces alone.
-fn is_of_stubs(module: &str) -> bool {
-    module.starts_with("cp_stubs.")
-}
-
-/// Whether a module's code stands on what code of interfaces stands on.
-fn cites_stubs(sheet: &Sheet<'_>) -> bool {
-    sheet.libraries.as_str().contains("cp_stubs::")
-}
-
-/// Adds the import of these words, if there are some.
-fn line_of<'n>(out: &mut Out, module: &'n str, words: &'n str, ends: (&'n str, &'n str)) {
-    let args = [
-        Arg::Text(ends.0),
-        Arg::Text(module),
-        Arg::Text(words),
-        Arg::Text(ends.1),
-    ];
-    if !words.is_empty() {
-        out.fill("$0Rattle.$1.{$2}$3\n", &args);
     }
 }
 
 /// Adds the imports of a module's definitions.
 pub fn of_specs(sheet: &Sheet<'_>, out: &mut Out) {
     let text = sheet.specs.as_str();
-    libraries(sheet, out, text, ("use ", ""), "");
+    libraries(sheet, out, text, ("use ", "\n"), "");
     if has_word(text, "Tree") {
         out.put("use Rattle.cp_tree.specs.Node.{Node as Tree}\n");
     }
-    out.put_sorted(sheet.imports.as_str());
+    out.put_sorted(sheet.imports.as_str(), ("", "\n"));
 }
 
 /// Adds the imports of a module's clauses.
 pub fn of_clauses(sheet: &Sheet<'_>, out: &mut Out) {
-    let mut uses = Out::new(sheet.alloc);
-    libraries(
-        sheet,
-        &mut uses,
-        sheet.code.as_str(),
-        ("ghost use ", ";"),
-        WRONG_KIND,
-    );
-    uses.put_sorted(sheet.cited.as_str());
+    let text = sheet.code.as_str();
+    libraries(sheet, out, text, ("ghost use ", ";\n"), WRONG_KIND);
+    out.put_sorted(sheet.cited.as_str(), ("", "\n"));
     if !sheet.words.is_empty() {
         let args = [
             Arg::Text(sheet.krate),
             Arg::Module(sheet.module),
             Arg::Text(sheet.words.as_str()),
         ];
-        uses.fill("ghost use Rattle.$0.specs.$1.{$2};\n", &args);
+        out.fill("ghost use Rattle.$0.specs.$1.{$2};\n", &args);
     }
-    block(out, &uses);
+    out.put("\n");
 }
 
-/// Whether a module's code has a type of this name; a variant may be called so too.
-fn has_type(sheet: &Sheet<'_>, name: &str) -> bool {
-    let args = [Arg::Text(name)];
-    let code = sheet.code.as_str();
-    let of = Out::of(sheet.alloc, "$0<", &args);
-    let path = Out::of(sheet.alloc, "$0::", &args);
-    has_part(code, of.as_str())
-        || has_part(code, path.as_str())
-        || name == "WrongKind" && has_part(code, "WrongKind>")
+/// Whether a text has a type of this name, comments aside; a variant may be called so too.
+fn has_type(text: &str, name: &str) -> bool {
+    for line in text.lines() {
+        if !is_comment(line) && line_has_type(line, name) {
+            return true;
+        }
+    }
+    false
+}
+
+/// Whether a line has a type of this name.
+fn line_has_type(line: &str, name: &str) -> bool {
+    for rest in line.split(name).skip(1) {
+        let is_fault = name == "WrongKind" && rest.starts_with('>');
+        if is_fault || rest.starts_with('<') || rest.starts_with("::") {
+            return true;
+        }
+    }
+    false
 }
 
 /// Adds the imports of a module's code.
 pub fn of_code(sheet: &Sheet<'_>, out: &mut Out) {
+    let text = sheet.code.as_str();
     let mut paths = Out::new(sheet.alloc);
+    paths.put(sheet.uses.as_str());
     paths.put(sheet.libraries.as_str());
     for name in &FIELDS {
-        if has_type(sheet, name) {
+        if has_type(text, name) {
             paths.fill("cp_fields::$0\n", &[Arg::Text(name)]);
         }
     }
-    if has_part(sheet.code.as_str(), "Constant<'static>") {
-        for path in &CONSTANTS {
-            if has_word(sheet.code.as_str(), name_of(path)) {
-                paths.fill("$0\n", &[Arg::Text(path)]);
-            }
-        }
+    if text.contains("Constant<'static>") {
+        put_used(&mut paths, text, &CONSTANTS);
     }
-    for path in &DRAFTS {
-        if has_word(sheet.code.as_str(), name_of(path)) {
-            paths.fill("$0\n", &[Arg::Text(path)]);
-        }
-    }
-    let mut uses = Out::new(sheet.alloc);
-    uses.put_imports("use", sheet.uses.as_str());
-    uses.put_imports("use", paths.as_str());
-    block(out, &uses);
+    put_used(&mut paths, text, &DRAFTS);
+    out.put_sorted(paths.as_str(), ("use ", ";\n"));
 }
 
-/// Adds lines and an empty one, if there are some.
-fn block(out: &mut Out, lines: &Out) {
-    if !lines.is_empty() {
-        out.put(lines.as_str());
-        out.push('\n');
+/// Adds those of the paths whose names a text has, a line each.
+fn put_used(out: &mut Out, text: &str, paths: &[&str]) {
+    for path in paths {
+        if has_word(text, name_of(path)) {
+            out.put(path);
+            out.put("\n");
+        }
     }
 }

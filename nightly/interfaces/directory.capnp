@@ -1,5 +1,5 @@
 @0xd1c7a0e5b2f04368;
-# A directory of people, as an interface: capnpc_rattle made this crate of it.
+# A directory of people, as an interface.
 
 struct Person {
   name @0 :Text;

@@ -1,5 +1,5 @@
 use Rattle.std.proofs.Common.{◌+◌, ◌*◌}
-use Rattle.capnpc_rattle.proofs.promises.+promised.Given as goal
+use Rattle.capnpc_rattle.proofs.parts.+fields.Given as goal
 
 abbrev pub decreases-fields : goal.decreases-fields
 decreases-fields l = 2 * l.part.now.depth + 1
