@@ -43,7 +43,8 @@ def main():
     top = os.path.dirname(os.path.dirname(os.path.abspath(__file__)))
     is_over = False
     for crate in given.crates:
-        libraries = glob.glob(f"{top}/crates/{crate}/out/*/{crate}.rlib")
+        places = f"{top}/crates/{crate}/out/*", f"{top}/.git/statements", f"{top}/out/statements"
+        libraries = [it for place in places for it in glob.glob(f"{place}/{crate}.rlib")]
         if not libraries:
             sys.exit(f"{crate} isn't built, or is no library: tools/build.sh {crate}")
         found = implicit_drops(max(libraries, key=os.path.getmtime))
