@@ -1,14 +1,29 @@
 -- Trees that a message can hold.
-use Rattle.std.proofs.Common.{◌≡◌, Vec, Global, length, map, sym, ◌∙◌, Bool, true, false, Decides, rules}
+use Rattle.std.proofs.Common.{◌≡◌, ℕ, Vec, Global, length, map, sym, ◌∙◌, Bool, true, false, Decides, rules}
 use Rattle.std.proofs.lemmas.List.{length-map}
-use Rattle.cp_tree.specs.Node.{struct, count, number_of}
+use Rattle.cp_tree.specs.Node.{voids, bytes, halves, quads, words, struct, list, count, number_of}
 use Rattle.cp_tree.specs.NodeOf.{node_of, body_of, nodes_of, bodies_of}
 use Rattle.cp_tree.specs.declared.tree.Body.{Body, the_lemmas}
-use Rattle.cp_tree.specs.declared.tree.Tree.{Tree, Struct}
+use Rattle.cp_tree.specs.declared.tree.Tree.{Tree, Struct, Voids, Bytes, Halves, Quads, Words}
 use Rattle.cp_tree.proofs.Trees.{count-nodes, number-bodies}
 
 pub node-Struct : (b : Body) → node_of (Struct b) ≡ struct b.words.items (nodes_of (map node_of b.ptrs.items))
 node-Struct b = search (rules, the_lemmas)
+
+pub node-Voids : (n : ℕ) → node_of (Voids n) ≡ list (voids n)
+node-Voids n = search (rules, the_lemmas)
+
+pub node-Bytes : (v : Vec ℕ Global) → node_of (Bytes v) ≡ list (bytes v.items)
+node-Bytes v = search (rules, the_lemmas)
+
+pub node-Halves : (v : Vec ℕ Global) → node_of (Halves v) ≡ list (halves v.items)
+node-Halves v = search (rules, the_lemmas)
+
+pub node-Quads : (v : Vec ℕ Global) → node_of (Quads v) ≡ list (quads v.items)
+node-Quads v = search (rules, the_lemmas)
+
+pub node-Words : (v : Vec ℕ Global) → node_of (Words v) ≡ list (words v.items)
+node-Words v = search (rules, the_lemmas)
 
 -- how many trees a row has, and how many structs a composite list
 pub count-row : (v : Vec Tree Global) → count (nodes_of (map node_of v.items)) ≡ length v.items

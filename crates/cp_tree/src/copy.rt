@@ -50,18 +50,18 @@ impl<'a> Draft<'a> {
 pub fn tree_copy(alloc: Global, tree: TreeRef) -> Result<Tree, AllocError>
     ensures { IfOk result (λ t. node_of t ≡ node_in tree.entry) }
 {
-    Ok(match tree.top() {
-        Top::Null => Tree::Null,
-        Top::Cap(index) => Tree::Cap(index),
-        Top::List(list) => list_copy(alloc, list)?,
-        Top::Struct(body) => Tree::Struct(body_copy(alloc, body)?),
-        Top::Ptrs(trees) => Tree::Ptrs(row_copy(alloc, trees)?),
-        Top::Structs(list) => Tree::Structs {
+    match tree.top() {
+        Top::Null => Ok(Tree::Null),
+        Top::Cap(index) => Ok(Tree::Cap(index)),
+        Top::List(list) => list_copy(alloc, list),
+        Top::Struct(body) => Ok(Tree::Struct(body_copy(alloc, body)?)),
+        Top::Ptrs(trees) => Ok(Tree::Ptrs(row_copy(alloc, trees)?)),
+        Top::Structs(list) => Ok(Tree::Structs {
             words: list.words,
             ptrs: list.ptrs,
             items: bodies_copy(alloc, list.items)?,
-        },
-    })
+        }),
+    }
 }
 
 /// An equal struct.

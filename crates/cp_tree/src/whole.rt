@@ -133,11 +133,10 @@ impl Whole {
         ensures other { IfErr result (λ w. (w ≡ self) × ¬ (IsStruct self)) }
     {
         let Whole { tree } = self;
-        match tree {
-            Tree::Struct(body) => Ok(Object {
-                tree: Tree::Struct(body),
-            }),
-            tree => Err(Whole { tree }),
+        if matches!(tree, Tree::Struct(_)) {
+            Ok(Object { tree })
+        } else {
+            Err(Whole { tree })
         }
     }
 }

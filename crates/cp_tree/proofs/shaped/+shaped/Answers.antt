@@ -1,8 +1,8 @@
-use Rattle.std.proofs.Common.{◌≡◌, map, ap, sym, ◌∙◌, arith}
+use Rattle.std.proofs.Common.{◌≡◌, length, map, ap, sym, ◌∙◌, arith}
 use Rattle.cp_tree.specs.Node.{count, number_of}
 use Rattle.cp_tree.specs.NodeOf.{node_of, body_of, nodes_of, bodies_of}
-use Rattle.cp_tree.proofs.Trees.{body_of-is, node-Structs, node-Ptrs}
-use Rattle.cp_tree.proofs.Shapes.{node-Struct, count-row, number-row, and_then, and_not}
+use Rattle.cp_tree.proofs.Trees.{body_of-is, node-Structs, node-Ptrs, node-Bits}
+use Rattle.cp_tree.proofs.Shapes.{node-Struct, node-Voids, node-Bytes, node-Halves, node-Quads, node-Words, count-row, number-row, and_then, and_not}
 use Rattle.cp_tree.proofs.shaped.+shaped.Goals as goal
 
 pub body_even-returns-then-element_fits : goal.body_even-returns-then-element_fits
@@ -56,3 +56,24 @@ is_shaped-returns-else-elements_fit t c =
     let v = c.in-Structs.items in
     let number : number_of (bodies_of (map body_of v.items)) ≡ c.len-in-Structs.result = number-row v ∙ omega (arith, c.len-in-Structs.ensures) in
     rw (ap node_of c.in-Structs.is ∙ node-Structs _ _ v) (and_not _ c.if-elements_fit.false (rw (← number) at c.elements_fit.ensures) (λ r. (r.0, r.1, r.2)))
+
+pub is_shaped-returns-in-Voids : goal.is_shaped-returns-in-Voids
+is_shaped-returns-in-Voids t c = rw (ap node_of c.in-Voids.is ∙ node-Voids c.in-Voids.count) c.count_fits.ensures
+
+pub is_shaped-returns-in-Bits : goal.is_shaped-returns-in-Bits
+is_shaped-returns-in-Bits t c =
+    let v = c.in-Bits.items in
+    let number : length v.items ≡ c.len-in-Bits.result = omega (arith, c.len-in-Bits.ensures) in
+    rw (ap node_of c.in-Bits.is ∙ node-Bits v, number) c.count_fits-in-Bits.ensures
+
+pub is_shaped-returns-in-Bytes : goal.is_shaped-returns-in-Bytes
+is_shaped-returns-in-Bytes t c = rw (ap node_of c.in-Bytes.is ∙ node-Bytes c.in-Bytes.items) (rw (c.deref-in-Bytes.ensures.value) at c.bytes_fit.ensures)
+
+pub is_shaped-returns-in-Halves : goal.is_shaped-returns-in-Halves
+is_shaped-returns-in-Halves t c = rw (ap node_of c.in-Halves.is ∙ node-Halves c.in-Halves.items) (rw (c.deref-in-Halves.ensures.value) at c.halves_fit.ensures)
+
+pub is_shaped-returns-in-Quads : goal.is_shaped-returns-in-Quads
+is_shaped-returns-in-Quads t c = rw (ap node_of c.in-Quads.is ∙ node-Quads c.in-Quads.items) (rw (c.deref-in-Quads.ensures.value) at c.quads_fit.ensures)
+
+pub is_shaped-returns-in-Words : goal.is_shaped-returns-in-Words
+is_shaped-returns-in-Words t c = rw (ap node_of c.in-Words.is ∙ node-Words c.in-Words.items) (rw (c.deref-in-Words.ensures.value) at c.words_fit.ensures)
