@@ -14,7 +14,8 @@ use Rattle.cp_writing.specs.declared.sheet.Sheet.{Sheet}
 use Rattle.cp_writing.specs.declared.strip.Strip.{Strip}
 use Rattle.cp_writing.specs.Strips.{words_on}
 use Rattle.cp_words.specs.declared.kind.Kind.{Kind}
-use Rattle.cp_writing.specs.Sheets.{Placed, here, after_landing_pad, place_in, with_segment_for, KeepsTo, IsWithin, SameLimits, Refuses, Writes, Written, written, segments_of, end_of, put, append, begin}
+use Rattle.cp_words.specs.declared.place.Place.{Place}
+use Rattle.cp_writing.specs.Sheets.{Placed, here, after_landing_pad, place_in, with_segment_for, KeepsTo, IsPlace, IsWithin, SameLimits, Refuses, Writes, Written, written, segments_of, end_of, put, append, begin}
 
 -- a segment of those that are written
 abbrev pub seg : Written → ℕ → List ℕ
@@ -35,6 +36,10 @@ put-here F p w = rw (eq-eqb (length F.full) (length F.full) refl) refl
 
 pub put-there : (F : Written) (s p w : ℕ) → s ≢ length F.full → put s p w F ≡ record { full = set F.full s (set (slice_index_or F.full s []) p w); last = F.last; words = F.words }
 put-there F s p w other = rw (ne_eqb s (length F.full) other) refl
+
+-- a word that is set in the last segment
+pub put_last : (F : Written) (s p w : ℕ) (last : List ℕ) → s ≡ length F.full → last ≡ set F.last p w → record { full = F.full; last = last; words = F.words } ≡ put s p w F
+put_last F s p w last e is = rw (e, is) (sym (put-here F p w))
 
 pub seg-put_same : (F : Written) (s p w : ℕ) → s ≤ length F.full → seg (put s p w F) s ≡ set (seg F s) p w
 seg-put_same F s p w le = ⊎_elim
@@ -202,6 +207,10 @@ place-cases P s p k (suc size) F direct padded = ⊎_elim
     (λ e. subst P (sym (place-here s p k (suc size) F (inr e))) (direct (inr e)))
     (λ n. subst P (sym (place-there s p k (suc size) F (omega arith) n)) (padded (omega arith) n))
     (cases_eq s (length F.full))
+
+-- a place that was written stays one, where there is capacity for more
+pub place-stays : (capacity : Capacity) (s size : ℕ) (F : Written) (at : Place) → IsPlace F at → IsPlace (with_segment_for capacity s size F) at
+place-stays capacity s size F at h = with_room_keeps (λ G. IsPlace G at) capacity s size F h (λ more. (omega (arith, full-begin F, h.0), omega (arith, end-begin F at.segment, h.1)))
 
 pub capacity-goes : (capacity : Capacity) (s size : ℕ) (F : Written) → length F.full ≤ length (with_segment_for capacity s size F).full
 capacity-goes capacity s size F = with_room_keeps (λ G. length F.full ≤ length G.full) capacity s size F (omega arith) (λ more. omega (arith, full-begin F))

@@ -55,11 +55,7 @@ pub fn write_draft_over(
     ensures small { IfOk result (λ s. (length s ≤ limits.segments) × (sum (map length s) ≤ limits.frame_words)) }
     ensures refused { IfErr result (IsWriteFaultOf limits (record { words = max_words; segments = limits.segments }) (draft_of draft.now)) }
 {
-    let words = if max_words == 0 { 1 } else { max_words };
-    let tree = TreeRef::Draft(draft);
-    let strip = Strip::over(buffer);
-    let sheet = lay_out(alloc, strip, tree, words, limits.segments(), limits)?;
-    Ok(sheet.into_segments()?)
+    write_tree(alloc, buffer, TreeRef::Draft(draft), max_words, limits)
 }
 
 /// Writes the tree into segments of at most this many words, as `write_draft` writes it lent.
@@ -74,8 +70,8 @@ pub fn write_segments(
     ensures small { IfOk result (λ s. (length s ≤ limits.segments) × (sum (map length s) ≤ limits.frame_words)) }
     ensures refused { IfErr result (IsWriteFaultOf limits (record { words = max_words; segments = limits.segments }) object.now) }
 {
-    let draft = Draft::Lent(object.tree());
-    write_draft(alloc, &draft, max_words, limits)
+    let tree = TreeRef::Tree(object.tree());
+    write_tree(alloc, Vec::new(alloc), tree, max_words, limits)
 }
 
 /// Writes the tree into one segment, in the order of its pointers (encoding specification,
@@ -121,6 +117,26 @@ pub fn write_draft_bytes(
     Ok(sheet.into_bytes()?)
 }
 
+/// Writes a tree, of one that a message can hold, into segments as `write_draft_over` writes one with lent parts.
+fn write_tree(
+    alloc: Global,
+    buffer: Vec<u64>,
+    tree: TreeRef,
+    max_words: u32,
+    limits: Limits,
+) -> Result<Segments, WriteFault>
+    requires shaped { Shaped (node_in tree) }
+    ensures layout { IfOk result (λ s. Layout s (record { words = max_words; segments = limits.segments }) (node_in tree.entry)) }
+    ensures fits { OnOk result (FitsIn limits (node_in tree.entry)) }
+    ensures small { IfOk result (λ s. (length s ≤ limits.segments) × (sum (map length s) ≤ limits.frame_words)) }
+    ensures refused { IfErr result (IsWriteFaultOf limits (record { words = max_words; segments = limits.segments }) (node_in tree.entry)) }
+{
+    let words = if max_words == 0 { 1 } else { max_words };
+    let strip = Strip::over(buffer);
+    let sheet = lay_out(alloc, strip, tree, words, limits.segments(), limits)?;
+    Ok(sheet.into_segments()?)
+}
+
 /// The tree written into segments of at most this many words each, and of them at most this many, the first
 /// on a strip that holds no words.
 fn lay_out(
@@ -152,8 +168,12 @@ fn lay_out(
     };
     match lay(&mut sheet, root, tree, limits.nesting()) {
         Ok(()) => Ok(sheet),
-        Err(WriteFault::OutOfMemory) => Err(WriteFault::OutOfMemory),
+        Err(WriteFault::OutOfMemory) => {
+            drop(sheet);
+            Err(WriteFault::OutOfMemory)
+        }
         Err(fault) => {
+            drop(sheet);
             keeps_to(tree, limits)?;
             Err(fault)
         }

@@ -1,20 +1,20 @@
 use Rattle.std.proofs.Common.{◌≡◌, ◌≤◌, ℕ, List, length, map, max, sym, ap, subst, ◌∙◌, arith}
 use Rattle.std.specs.Prelude.{sum}
 use Rattle.std.proofs.lemmas.Result.{err_from_is_err_and}
-use Rattle.cp_tree.specs.DraftOf.{draft_of}
+use Rattle.cp_tree.specs.Lent.{node_in}
 use Rattle.cp_writing.specs.Layout.{Layout}
 use Rattle.cp_writing.specs.Sheets.{Written, written, segments_of}
 use Rattle.cp_writing.specs.LaidOut.{capacity_for, laid_out, MeetsLimit}
 use Rattle.cp_writing.proofs.LaidOut.{written_is_layout}
 use Rattle.cp_writing.proofs.LayoutWords.{meets_fault}
 use Rattle.cp_writing.proofs.SheetWords.{laid_words, laid_within}
-use Rattle.cp_writing.proofs.write.write_draft_over.Goals.{then-max_words-eq0, else-max_words-eq0}
-use Rattle.cp_writing.proofs.write.write_draft_over.Goals as goal
+use Rattle.cp_writing.proofs.write.write_tree.Goals.{then-max_words-eq0, else-max_words-eq0}
+use Rattle.cp_writing.proofs.write.write_tree.Goals as goal
 
 pub returns-clause-layout : goal.returns-clause-layout
 returns-clause-layout c =
     let limits = c.args.limits in
-    let t = draft_of c.args.draft.now in
+    let t = node_in c.args.tree in
     let F = written c.in_ok-sheet.sheet in
     let words : c.if-max_words-eq0.words ≡ max 1 c.args.max_words = elim c.if-max_words-eq0.branch [
       | then-max_words-eq0 w ↦ omega (arith, w.words-is, w.if-max_words-eq0.true)
@@ -30,7 +30,7 @@ returns-clause-layout c =
 pub returns-clause-small : goal.returns-clause-small
 returns-clause-small c =
     let limits = c.args.limits in
-    let t = draft_of c.args.draft.now in
+    let t = node_in c.args.tree in
     let capacity = capacity_for c.if-max_words-eq0.words c.segments.result limits in
     let is = c.in_ok-into_segments.ensures ∙ ap segments_of c.in_ok-sheet.ensures.written in
     subst (λ (s : List (List ℕ)). (length s ≤ limits.segments) × (sum (map length s) ≤ limits.frame_words)) (sym is)
@@ -39,7 +39,7 @@ returns-clause-small c =
 pub returns-in_err-sheet-clause-refused : goal.returns-in_err-sheet-clause-refused
 returns-in_err-sheet-clause-refused c =
     let limits = c.args.limits in
-    let t = draft_of c.args.draft.now in
+    let t = node_in c.args.tree in
     let fault = c.in_err-sheet.field-0.0 in
     let words : c.if-max_words-eq0.words ≡ max 1 c.args.max_words = elim c.if-max_words-eq0.branch [
       | then-max_words-eq0 w ↦ omega (arith, w.words-is, w.if-max_words-eq0.true)
