@@ -168,12 +168,8 @@ fn lay_out(
     };
     match lay(&mut sheet, root, tree, limits.nesting()) {
         Ok(()) => Ok(sheet),
-        Err(WriteFault::OutOfMemory) => {
-            drop(sheet);
-            Err(WriteFault::OutOfMemory)
-        }
+        Err(WriteFault::OutOfMemory) => Err(WriteFault::OutOfMemory),
         Err(fault) => {
-            drop(sheet);
             keeps_to(tree, limits)?;
             Err(fault)
         }
