@@ -1,6 +1,3 @@
-pub mod BrandBinding
-pub mod BrandScope
-pub mod ElementSize
 pub mod Field
 pub mod Node
 pub mod Type_

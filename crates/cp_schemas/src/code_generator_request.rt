@@ -5,7 +5,6 @@ ghost use Rattle.cp_words.specs.declared.pointer.ElementSize.TheVariants as size
 ghost use Rattle.cp_tree.specs.Seen.{pointee_of};
 ghost use Rattle.cp_fields.specs.Pointers.{Reads, list_field, struct_field};
 
-use crate::capnp_version::CapnpVersionView;
 use crate::code_generator_request_requested_file::CodeGeneratorRequestRequestedFileView;
 use crate::node::NodeView;
 use crate::node_source_info::NodeSourceInfoView;
@@ -59,20 +58,6 @@ impl<'a> CodeGeneratorRequestView<'a> {
         ensures { result ≡ list_field sizes.Composite (pointee_of self.now.body 1) }
     {
         self.body.list(1)
-    }
-
-    /// Version of the `capnp` executable. Generally, code generators should ignore this, but the code
-    /// generators that ship with `capnp` itself will print a warning if this mismatches since that
-    /// probably indicates something is misconfigured.
-    ///
-    /// The first version of 'capnp' to set this was 0.6.0. So, if it's missing, the compiler version
-    /// is older than that.
-    pub fn capnp_version(&self) -> Result<CapnpVersionView<'a>, WrongKind>
-        ensures { Reads result (λ x. x.body) (struct_field (pointee_of self.now.body 2)) }
-    {
-        Ok(CapnpVersionView {
-            body: self.body.structure(2)?,
-        })
     }
 
     /// Information about the original source code for each node, where available. This array may be

@@ -1,13 +1,13 @@
 //! `code_generator_request_requested_file` of schema.capnp.
 
-ghost use Rattle.std.specs.Prelude.{◌≡◌, []};
+ghost use Rattle.std.specs.Prelude.{◌≡◌};
 ghost use Rattle.cp_words.specs.declared.pointer.ElementSize.TheVariants as sizes;
 ghost use Rattle.cp_tree.specs.Seen.{pointee_of};
 ghost use Rattle.cp_fields.specs.Numbers.{plain};
-ghost use Rattle.cp_fields.specs.Pointers.{Reads, list_field, struct_field, text_field};
+ghost use Rattle.cp_fields.specs.Pointers.{list_field};
 
 use crate::code_generator_request_requested_file_import::CodeGeneratorRequestRequestedFileImportView;
-use cp_fields::{Item, List, Pointee, StructView, TextView, WrongKind};
+use cp_fields::{Item, List, StructView, WrongKind};
 
 /// `struct CodeGeneratorRequest.RequestedFile`.
 #[derive(Drop)]
@@ -33,28 +33,11 @@ impl<'a> Item<'a> for CodeGeneratorRequestRequestedFileView<'a> {
 }
 
 impl<'a> CodeGeneratorRequestRequestedFileView<'a> {
-    /// The struct that a pointer stands for; null is the struct whose fields are all as by default.
-    pub fn of(at: Pointee<'a>) -> Result<CodeGeneratorRequestRequestedFileView<'a>, WrongKind>
-        ensures { Reads result (λ x. x.body) (struct_field at.entry) }
-    {
-        Ok(CodeGeneratorRequestRequestedFileView {
-            body: StructView::of(at)?,
-        })
-    }
-
     /// ID of the file.
     pub fn id(&self) -> u64
         ensures { result ≡ plain self.now.body 64 0 }
     {
         self.body.u64(0)
-    }
-
-    /// Name of the file as it appeared on the command-line (minus the src-prefix).  You may use
-    /// this to decide where to write the output.
-    pub fn filename(&self) -> Result<TextView<'a>, WrongKind>
-        ensures { result ≡ text_field [] (pointee_of self.now.body 0) }
-    {
-        self.body.text(0)
     }
 
     /// List of all imported paths seen in this file.

@@ -4,13 +4,12 @@ ghost use Rattle.std.specs.Prelude.{◌≡◌, []};
 ghost use Rattle.cp_words.specs.declared.pointer.ElementSize.TheVariants as sizes;
 ghost use Rattle.cp_tree.specs.Seen.{pointee_of};
 ghost use Rattle.cp_fields.specs.Numbers.{flag, plain, uint};
-ghost use Rattle.cp_fields.specs.Pointers.{Reads, list_field, struct_field, text_field};
-ghost use Rattle.cp_schemas.specs.Field.{field_which_of, field_member, field_ordinal_which_of, field_ordinal_member};
+ghost use Rattle.cp_fields.specs.Pointers.{Reads, struct_field, text_field};
+ghost use Rattle.cp_schemas.specs.Field.{field_which_of, field_ordinal_which_of};
 
-use crate::annotation::AnnotationView;
 use crate::type_::TypeView;
 use crate::value::ValueView;
-use cp_fields::{Item, List, Past, Pointee, StructView, TextView, WrongKind};
+use cp_fields::{Item, Past, StructView, TextView, WrongKind};
 
 /// Schema for a field of a struct.
 #[derive(Drop)]
@@ -36,15 +35,6 @@ impl<'a> Item<'a> for FieldView<'a> {
 }
 
 impl<'a> FieldView<'a> {
-    /// The struct that a pointer stands for; null is the struct whose fields are all as by default.
-    pub fn of(at: Pointee<'a>) -> Result<FieldView<'a>, WrongKind>
-        ensures { Reads result (λ x. x.body) (struct_field at.entry) }
-    {
-        Ok(FieldView {
-            body: StructView::of(at)?,
-        })
-    }
-
     /// Which member of the union is set.
     pub fn which(&self) -> FieldWhich
         ensures { result ≡ field_which_of (plain self.now.body 16 4) }
@@ -57,25 +47,6 @@ impl<'a> FieldView<'a> {
         ensures { result ≡ text_field [] (pointee_of self.now.body 0) }
     {
         self.body.text(0)
-    }
-
-    /// Indicates where this member appeared in the code, relative to other members.
-    /// Code ordering may have semantic relevance -- programmers tend to place related fields
-    /// together.  So, using code ordering makes sense in human-readable formats where ordering is
-    /// otherwise irrelevant, like JSON.  The values of codeOrder are tightly-packed, so the maximum
-    /// value is count(members) - 1.  Fields that are members of a union are only ordered relative to
-    /// the other members of that union, so the maximum value there is count(union.members).
-    pub fn code_order(&self) -> u16
-        ensures { result ≡ plain self.now.body 16 0 }
-    {
-        self.body.u16(0)
-    }
-
-    /// `annotations @2`.
-    pub fn annotations(&self) -> Result<List<'a, AnnotationView<'a>>, WrongKind>
-        ensures { result ≡ list_field sizes.Composite (pointee_of self.now.body 1) }
-    {
-        self.body.list(1)
     }
 
     /// If the field is in a union, this is the value which the union's discriminant should take when
@@ -112,17 +83,6 @@ impl<'a> FieldView<'a> {
             body: self.body.again(),
         }
     }
-
-    /// The member of the union that is set, with what it holds.
-    pub fn member(&self) -> Result<FieldMember<'a>, WrongKind>
-        ensures { result ≡ field_member self.now.body }
-    {
-        Ok(match self.which() {
-            FieldWhich::Slot => FieldMember::Slot(self.slot()),
-            FieldWhich::Group => FieldMember::Group(self.group()),
-            FieldWhich::Unknown(number) => FieldMember::Unknown(number),
-        })
-    }
 }
 
 /// The members of the union of `Field`.
@@ -148,15 +108,6 @@ impl FieldWhich {
             },
         }
     }
-}
-
-/// The member of the union of `Field` that is set, with what it holds.
-#[derive(Drop)]
-pub enum FieldMember<'a> {
-    Slot(FieldSlotView<'a>),
-    Group(FieldGroupView<'a>),
-    /// A member that a newer schema has.
-    Unknown(Past<1>),
 }
 
 /// A regular, non-group, non-fixed-list field.
@@ -245,17 +196,6 @@ impl<'a> FieldOrdinalView<'a> {
     {
         self.body.u16(6)
     }
-
-    /// The member of the union that is set, with what it holds.
-    pub fn member(&self) -> Result<FieldOrdinalMember, WrongKind>
-        ensures { result ≡ field_ordinal_member self.now.body }
-    {
-        Ok(match self.which() {
-            FieldOrdinalWhich::Implicit => FieldOrdinalMember::Implicit,
-            FieldOrdinalWhich::Explicit => FieldOrdinalMember::Explicit(self.explicit()),
-            FieldOrdinalWhich::Unknown(number) => FieldOrdinalMember::Unknown(number),
-        })
-    }
 }
 
 /// The members of the union of `Field.ordinal`.
@@ -281,13 +221,4 @@ impl FieldOrdinalWhich {
             },
         }
     }
-}
-
-/// The member of the union of `Field.ordinal` that is set, with what it holds.
-#[derive(Drop)]
-pub enum FieldOrdinalMember {
-    Implicit,
-    Explicit(u16),
-    /// A member that a newer schema has.
-    Unknown(Past<1>),
 }

@@ -5,20 +5,15 @@ ghost use Rattle.cp_words.specs.declared.pointer.ElementSize.TheVariants as size
 ghost use Rattle.cp_tree.specs.Seen.{pointee_of};
 ghost use Rattle.cp_fields.specs.Numbers.{flag, plain};
 ghost use Rattle.cp_fields.specs.Pointers.{Reads, list_field, struct_field, text_field};
-ghost use Rattle.cp_schemas.specs.ElementSize.{element_size_of};
-ghost use Rattle.cp_schemas.specs.Node.{node_which_of, node_member};
+ghost use Rattle.cp_schemas.specs.Node.{node_which_of};
 
-use crate::annotation::AnnotationView;
-use crate::element_size::ElementSize;
 use crate::enumerant::EnumerantView;
 use crate::field::FieldView;
 use crate::method::MethodView;
-use crate::node_nested_node::NodeNestedNodeView;
-use crate::node_parameter::NodeParameterView;
 use crate::superclass::SuperclassView;
 use crate::type_::TypeView;
 use crate::value::ValueView;
-use cp_fields::{Item, List, Past, Pointee, StructView, TextView, WrongKind};
+use cp_fields::{Item, List, Past, StructView, TextView, WrongKind};
 
 /// `struct Node`.
 #[derive(Drop)]
@@ -44,15 +39,6 @@ impl<'a> Item<'a> for NodeView<'a> {
 }
 
 impl<'a> NodeView<'a> {
-    /// The struct that a pointer stands for; null is the struct whose fields are all as by default.
-    pub fn of(at: Pointee<'a>) -> Result<NodeView<'a>, WrongKind>
-        ensures { Reads result (λ x. x.body) (struct_field at.entry) }
-    {
-        Ok(NodeView {
-            body: StructView::of(at)?,
-        })
-    }
-
     /// Which member of the union is set.
     pub fn which(&self) -> NodeWhich
         ensures { result ≡ node_which_of (plain self.now.body 16 6) }
@@ -77,14 +63,6 @@ impl<'a> NodeView<'a> {
         self.body.text(0)
     }
 
-    /// If you want a shorter version of `displayName` (just naming this node, without its surrounding
-    /// scope), chop off this many characters from the beginning of `displayName`.
-    pub fn display_name_prefix_length(&self) -> u32
-        ensures { result ≡ plain self.now.body 32 2 }
-    {
-        self.body.u32(2)
-    }
-
     /// ID of the lexical parent node.  Typically, the scope node will have a NestedNode pointing back
     /// at this node, but robust code should avoid relying on this (and, in fact, group nodes are not
     /// listed in the outer struct's nestedNodes, since they are listed in the fields).  `scopeId` is
@@ -94,20 +72,6 @@ impl<'a> NodeView<'a> {
         ensures { result ≡ plain self.now.body 64 2 }
     {
         self.body.u64(2)
-    }
-
-    /// List of nodes nested within this node, along with the names under which they were declared.
-    pub fn nested_nodes(&self) -> Result<List<'a, NodeNestedNodeView<'a>>, WrongKind>
-        ensures { result ≡ list_field sizes.Composite (pointee_of self.now.body 1) }
-    {
-        self.body.list(1)
-    }
-
-    /// Annotations applied to this node.
-    pub fn annotations(&self) -> Result<List<'a, AnnotationView<'a>>, WrongKind>
-        ensures { result ≡ list_field sizes.Composite (pointee_of self.now.body 2) }
-    {
-        self.body.list(2)
     }
 
     /// Group `struct`.
@@ -145,45 +109,6 @@ impl<'a> NodeView<'a> {
             body: self.body.again(),
         }
     }
-
-    /// Group `annotation`.
-    pub fn annotation(&self) -> NodeAnnotationView<'a>
-        ensures { result.body ≡ self.now.body }
-    {
-        NodeAnnotationView {
-            body: self.body.again(),
-        }
-    }
-
-    /// If this node is parameterized (generic), the list of parameters. Empty for non-generic types.
-    pub fn parameters(&self) -> Result<List<'a, NodeParameterView<'a>>, WrongKind>
-        ensures { result ≡ list_field sizes.Composite (pointee_of self.now.body 5) }
-    {
-        self.body.list(5)
-    }
-
-    /// True if this node is generic, meaning that it or one of its parent scopes has a non-empty
-    /// `parameters`.
-    pub fn is_generic(&self) -> bool
-        ensures { result ≡ flag self.now.body 288 }
-    {
-        self.body.bit(288)
-    }
-
-    /// The member of the union that is set, with what it holds.
-    pub fn member(&self) -> Result<NodeMember<'a>, WrongKind>
-        ensures { result ≡ node_member self.now.body }
-    {
-        Ok(match self.which() {
-            NodeWhich::File => NodeMember::File,
-            NodeWhich::Struct => NodeMember::Struct(self.struct_()),
-            NodeWhich::Enum => NodeMember::Enum(self.enum_()),
-            NodeWhich::Interface => NodeMember::Interface(self.interface()),
-            NodeWhich::Const => NodeMember::Const(self.const_()),
-            NodeWhich::Annotation => NodeMember::Annotation(self.annotation()),
-            NodeWhich::Unknown(number) => NodeMember::Unknown(number),
-        })
-    }
 }
 
 /// The members of the union of `Node`.
@@ -219,19 +144,6 @@ impl NodeWhich {
     }
 }
 
-/// The member of the union of `Node` that is set, with what it holds.
-#[derive(Drop)]
-pub enum NodeMember<'a> {
-    File,
-    Struct(NodeStructView<'a>),
-    Enum(NodeEnumView<'a>),
-    Interface(NodeInterfaceView<'a>),
-    Const(NodeConstView<'a>),
-    Annotation(NodeAnnotationView<'a>),
-    /// A member that a newer schema has.
-    Unknown(Past<5>),
-}
-
 /// `group Node.struct`.
 #[derive(Drop)]
 pub struct NodeStructView<'a> {
@@ -252,15 +164,6 @@ impl<'a> NodeStructView<'a> {
         ensures { result ≡ plain self.now.body 16 12 }
     {
         self.body.u16(12)
-    }
-
-    /// The preferred element size to use when encoding a list of this struct.  If this is anything
-    /// other than `inlineComposite` then the struct is one word or less in size and is a candidate
-    /// for list packing optimization.
-    pub fn preferred_list_encoding(&self) -> ElementSize
-        ensures { result ≡ element_size_of (plain self.now.body 16 13) }
-    {
-        ElementSize::of(self.body.u16(13))
     }
 
     /// If true, then this "struct" node is actually not an independent node, but merely represents
@@ -382,107 +285,5 @@ impl<'a> NodeConstView<'a> {
         Ok(ValueView {
             body: self.body.structure(4)?,
         })
-    }
-}
-
-/// `group Node.annotation`.
-#[derive(Drop)]
-pub struct NodeAnnotationView<'a> {
-    /// The struct, by the places of its fields.
-    pub body: StructView<'a>,
-}
-
-impl<'a> NodeAnnotationView<'a> {
-    /// `type @18`.
-    pub fn type_(&self) -> Result<TypeView<'a>, WrongKind>
-        ensures { Reads result (λ x. x.body) (struct_field (pointee_of self.now.body 3)) }
-    {
-        Ok(TypeView {
-            body: self.body.structure(3)?,
-        })
-    }
-
-    /// `targetsFile @19`.
-    pub fn targets_file(&self) -> bool
-        ensures { result ≡ flag self.now.body 112 }
-    {
-        self.body.bit(112)
-    }
-
-    /// `targetsConst @20`.
-    pub fn targets_const(&self) -> bool
-        ensures { result ≡ flag self.now.body 113 }
-    {
-        self.body.bit(113)
-    }
-
-    /// `targetsEnum @21`.
-    pub fn targets_enum(&self) -> bool
-        ensures { result ≡ flag self.now.body 114 }
-    {
-        self.body.bit(114)
-    }
-
-    /// `targetsEnumerant @22`.
-    pub fn targets_enumerant(&self) -> bool
-        ensures { result ≡ flag self.now.body 115 }
-    {
-        self.body.bit(115)
-    }
-
-    /// `targetsStruct @23`.
-    pub fn targets_struct(&self) -> bool
-        ensures { result ≡ flag self.now.body 116 }
-    {
-        self.body.bit(116)
-    }
-
-    /// `targetsField @24`.
-    pub fn targets_field(&self) -> bool
-        ensures { result ≡ flag self.now.body 117 }
-    {
-        self.body.bit(117)
-    }
-
-    /// `targetsUnion @25`.
-    pub fn targets_union(&self) -> bool
-        ensures { result ≡ flag self.now.body 118 }
-    {
-        self.body.bit(118)
-    }
-
-    /// `targetsGroup @26`.
-    pub fn targets_group(&self) -> bool
-        ensures { result ≡ flag self.now.body 119 }
-    {
-        self.body.bit(119)
-    }
-
-    /// `targetsInterface @27`.
-    pub fn targets_interface(&self) -> bool
-        ensures { result ≡ flag self.now.body 120 }
-    {
-        self.body.bit(120)
-    }
-
-    /// `targetsMethod @28`.
-    pub fn targets_method(&self) -> bool
-        ensures { result ≡ flag self.now.body 121 }
-    {
-        self.body.bit(121)
-    }
-
-    /// `targetsParam @29`.
-    pub fn targets_param(&self) -> bool
-        ensures { result ≡ flag self.now.body 122 }
-    {
-        self.body.bit(122)
-    }
-
-    /// `targetsAnnotation @30`.
-    pub fn targets_annotation(&self) -> bool
-        ensures { result ≡ flag self.now.body 123 }
-    {
-        self.body.bit(123)
     }
 }

@@ -4,10 +4,10 @@ ghost use Rattle.std.specs.Prelude.{◌≡◌, []};
 ghost use Rattle.cp_words.specs.declared.pointer.ElementSize.TheVariants as sizes;
 ghost use Rattle.cp_tree.specs.Seen.{pointee_of};
 ghost use Rattle.cp_fields.specs.Numbers.{plain};
-ghost use Rattle.cp_fields.specs.Pointers.{Reads, list_field, struct_field, text_field};
+ghost use Rattle.cp_fields.specs.Pointers.{list_field, text_field};
 
 use crate::node_source_info_member::NodeSourceInfoMemberView;
-use cp_fields::{Item, List, Pointee, StructView, TextView, WrongKind};
+use cp_fields::{Item, List, StructView, TextView, WrongKind};
 
 /// Additional information about a node which is not needed at runtime, but may be useful for
 /// documentation or debugging purposes. This is kept in a separate struct to make sure it
@@ -36,15 +36,6 @@ impl<'a> Item<'a> for NodeSourceInfoView<'a> {
 }
 
 impl<'a> NodeSourceInfoView<'a> {
-    /// The struct that a pointer stands for; null is the struct whose fields are all as by default.
-    pub fn of(at: Pointee<'a>) -> Result<NodeSourceInfoView<'a>, WrongKind>
-        ensures { Reads result (λ x. x.body) (struct_field at.entry) }
-    {
-        Ok(NodeSourceInfoView {
-            body: StructView::of(at)?,
-        })
-    }
-
     /// ID of the Node which this info describes.
     pub fn id(&self) -> u64
         ensures { result ≡ plain self.now.body 64 0 }

@@ -3,9 +3,9 @@
 ghost use Rattle.std.specs.Prelude.{◌≡◌, []};
 ghost use Rattle.cp_words.specs.declared.pointer.ElementSize.TheVariants as sizes;
 ghost use Rattle.cp_tree.specs.Seen.{pointee_of};
-ghost use Rattle.cp_fields.specs.Pointers.{Reads, struct_field, text_field};
+ghost use Rattle.cp_fields.specs.Pointers.{text_field};
 
-use cp_fields::{Item, Pointee, StructView, TextView, WrongKind};
+use cp_fields::{Item, StructView, TextView, WrongKind};
 
 /// `struct Node.SourceInfo.Member`.
 #[derive(Drop)]
@@ -31,15 +31,6 @@ impl<'a> Item<'a> for NodeSourceInfoMemberView<'a> {
 }
 
 impl<'a> NodeSourceInfoMemberView<'a> {
-    /// The struct that a pointer stands for; null is the struct whose fields are all as by default.
-    pub fn of(at: Pointee<'a>) -> Result<NodeSourceInfoMemberView<'a>, WrongKind>
-        ensures { Reads result (λ x. x.body) (struct_field at.entry) }
-    {
-        Ok(NodeSourceInfoMemberView {
-            body: StructView::of(at)?,
-        })
-    }
-
     /// Doc comment on the member.
     pub fn doc_comment(&self) -> Result<TextView<'a>, WrongKind>
         ensures { result ≡ text_field [] (pointee_of self.now.body 0) }
