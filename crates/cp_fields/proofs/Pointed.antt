@@ -1,14 +1,16 @@
 -- What the look at a pointer says of what it stands for.
-use Rattle.std.proofs.Common.{◌≡◌, ℕ, zero, suc, ◌-◌, ◌<◌, ◌==◌, true, false, List, [], ◌∷◌, length, slice_index, get_or, refl, sym, ap, ◌∙◌, arith}
+use Rattle.std.proofs.Common.{◌≡◌, ℕ, zero, suc, ◌-◌, ◌<◌, ◌==◌, Bool, true, false, cond, Ok, List, [], ◌∷◌, length, slice_index, get_or, refl, sym, ap, ◌∙◌, arith}
 use Rattle.std.proofs.lemmas.Bool.Decides.{nat_tests}
+use Rattle.cp_words.specs.declared.pointer.ElementSize.{ElementSize}
 use Rattle.cp_words.specs.declared.pointer.ElementSize.TheVariants as sizes
 use Rattle.cp_tree.specs.Elements.{numbers}
 use Rattle.cp_tree.specs.Node.{voids, bits, bytes, halves, quads, words, Node, null, cap, struct, list, ptrs, structs}
 use Rattle.cp_tree.specs.Seen.{shape_of, AreWordsOf}
 use Rattle.cp_tree.specs.declared.shape.Shape.{Shape}
 use Rattle.cp_tree.specs.declared.shape.Shape.TheVariants as shapes
-use Rattle.cp_fields.specs.Kinds.{wrong}
-use Rattle.cp_fields.specs.Pointers.{ends_in_zero, text_field, data_field}
+use Rattle.cp_fields.specs.Items.{items_of}
+use Rattle.cp_fields.specs.Kinds.{wrong, reads_from, reads_from_structs}
+use Rattle.cp_fields.specs.Pointers.{ends_in_zero, text_field, data_field, list_field}
 use Rattle.cp_fields.specs.declared.kind.Kind.TheVariants as kinds
 
 abbrev counted : Shape → ℕ
@@ -85,3 +87,26 @@ ends-other bs x some e other =
 
 pub ends-zero : (bs : List ℕ) (x : ℕ) → (length bs ≡ 0 → ⊥) → x ≡ slice_index bs (length bs - 1) → x ≡ 0 → ends_in_zero bs ≡ true
 ends-zero bs x some e z = ends-last bs x some e ∙ ap (λ (y : ℕ). y == 0) z
+
+-- whether a list is read from a tree of this kind and sizes
+abbrev pub reads_of : ElementSize → Shape → Bool
+reads_of wanted shapes.Null = true
+reads_of wanted (shapes.List size n) = reads_from wanted size
+reads_of wanted (shapes.Structs d n k) = reads_from_structs wanted d n
+reads_of wanted other = false
+
+field_by_shape : (wanted : ElementSize) (t : Node) → list_field wanted t ≡ cond (reads_of wanted (shape_of t)) (Ok (items_of t)) (wrong (kinds.List wanted) t)
+field_by_shape wanted null = refl
+field_by_shape wanted (cap i) = refl
+field_by_shape wanted (struct ws ts) = refl
+field_by_shape wanted (list es) = refl
+field_by_shape wanted (ptrs ts) = refl
+field_by_shape wanted (structs d n bs) = refl
+
+pub field_read : (wanted : ElementSize) (shape : Shape) (r : Bool) → r ≡ reads_of wanted shape → r ≡ true → (t : Node) → shape_of t ≡ shape → list_field wanted t ≡ Ok (items_of t)
+field_read wanted shape r e reads t s =
+    field_by_shape wanted t ∙ ap (λ (b : Bool). cond b (Ok (items_of t)) (wrong (kinds.List wanted) t)) (ap (reads_of wanted) s ∙ sym e ∙ reads)
+
+pub field_other : (wanted : ElementSize) (shape : Shape) (r : Bool) → r ≡ reads_of wanted shape → r ≡ false → (t : Node) → shape_of t ≡ shape → list_field wanted t ≡ wrong (kinds.List wanted) t
+field_other wanted shape r e refuses t s =
+    field_by_shape wanted t ∙ ap (λ (b : Bool). cond b (Ok (items_of t)) (wrong (kinds.List wanted) t)) (ap (reads_of wanted) s ∙ sym e ∙ refuses)

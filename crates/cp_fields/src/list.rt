@@ -1,12 +1,16 @@
 //! Lists that are read where they lie (encoding specification, "Lists").
 
-ghost use Rattle.std.specs.Prelude.{◌≡◌, ◌==◌, ◌<◌, length, drop, map, slice_index_or};
+ghost use Rattle.std.specs.Prelude.{◌≡◌, ◌==◌, ◌<◌, Ok, IsTrue, IsFalse, length, drop, map, slice_index_or};
 ghost use Rattle.std.specs.Iterator.{YieldsFirst, item_count};
-ghost use Rattle.cp_tree.specs.Node.{null};
+ghost use Rattle.cp_tree.specs.Node.{Node, null};
 ghost use Rattle.cp_tree.specs.NodeOf.{node_of};
+ghost use Rattle.cp_tree.specs.Seen.{shape_of};
 ghost use Rattle.cp_words.specs.declared.pointer.ElementSize.{ElementSize};
 ghost use Rattle.cp_fields.specs.Constants.{constant_of};
+ghost use Rattle.cp_fields.specs.Items.{items_of};
+ghost use Rattle.cp_fields.specs.Kinds.{wrong};
 ghost use Rattle.cp_fields.specs.Pointers.{list_field};
+ghost use Rattle.cp_fields.specs.declared.kind.Kind.TheVariants as kinds;
 
 use crate::constant::Constant;
 use crate::item::Item;
@@ -21,10 +25,17 @@ use std::marker::{Model, PhantomData};
 /// A list, where it lies, whose elements are read as `T`. A list that an older or newer schema wrote is
 /// read as such a list is: elements that are numbers or pointers as structs with that one field, and
 /// structs as their first number or pointer. Contracts see it as its elements, each a struct.
-#[derive(Drop)]
 pub struct List<'a, T> {
     elements: Elements<'a>,
     of: PhantomData<T>,
+}
+
+// Not derived: a crate that lets one go calls this function, and need not prove the drop of all that it holds.
+impl<'a, T> Drop for List<'a, T> {
+    #[inline(always)]
+    fn drop(self) {
+        let List { elements: _, of: _ } = self;
+    }
 }
 
 impl<'a, T> Model for List<'a, T> {
@@ -100,10 +111,17 @@ impl<'a, T: Item<'a>> IntoIterator for List<'a, T> {
 }
 
 /// The elements of a list that are left, one after another.
-#[derive(Drop)]
 pub struct Items<'a, T> {
     list: List<'a, T>,
     next: usize,
+}
+
+// Not derived: a crate that lets one go calls this function, and need not prove the drop of all that it holds.
+impl<'a, T> Drop for Items<'a, T> {
+    #[inline(always)]
+    fn drop(self) {
+        let Items { list: _, next: _ } = self;
+    }
 }
 
 impl<'a, T: Item<'a>> Iterator for Items<'a, T> {
@@ -129,7 +147,7 @@ impl<'a, T: Item<'a>> Iterator for Items<'a, T> {
 fn elements_of(at: Pointee<'_>, wanted: ElementSize) -> Result<Elements<'_>, WrongKind>
     ensures { result ≡ list_field wanted at.entry }
 {
-    match at.part {
+    match at.into_part() {
         Part::Null => Ok(Elements::empty()),
         Part::View(view) => elements_in_place(view, wanted),
         Part::Tree(tree) => elements_owned(tree, wanted),
@@ -142,16 +160,24 @@ fn elements_of(at: Pointee<'_>, wanted: ElementSize) -> Result<Elements<'_>, Wro
 fn elements_in_place<'a>(view: View<'a>, wanted: ElementSize) -> Result<Elements<'a>, WrongKind>
     ensures { result ≡ list_field wanted view.entry }
 {
-    let reads = match view.shape() {
+    if reads_shape(wanted, view.shape()) {
+        Ok(Elements::of_view(view))
+    } else {
+        Err(Pointee::of_view(view).wrong(Kind::List(wanted)))
+    }
+}
+
+/// Whether a list, where elements of a size are wanted, is read from a tree of this kind and sizes.
+#[inline(always)]
+fn reads_shape(wanted: ElementSize, shape: Shape) -> bool
+    ensures read { IsTrue result → (t : Node) → shape_of t ≡ shape → list_field wanted t ≡ Ok (items_of t) }
+    ensures other { IsFalse result → (t : Node) → shape_of t ≡ shape → list_field wanted t ≡ wrong (kinds.List wanted) t }
+{
+    match shape {
         Shape::Null => true,
         Shape::List { size, .. } => reads_from(wanted, size),
         Shape::Structs { words, ptrs, .. } => reads_from_structs(wanted, words, ptrs),
         Shape::Cap(_) | Shape::Struct { .. } => false,
-    };
-    if reads {
-        Ok(Elements::of_view(view))
-    } else {
-        Err(Pointee::of_view(view).wrong(Kind::List(wanted)))
     }
 }
 

@@ -24,9 +24,16 @@ pub(crate) enum Part<'a> {
 
 /// What a pointer stands for, where it lies: the value of a field of the type AnyPointer. Contracts see
 /// it as its tree.
-#[derive(Drop)]
 pub struct Pointee<'a> {
     pub(crate) part: Part<'a>,
+}
+
+// Not derived: a crate that lets one go calls this function, and need not prove the drop of all that it holds.
+impl<'a> Drop for Pointee<'a> {
+    #[inline(always)]
+    fn drop(self) {
+        let Pointee { part: _ } = self;
+    }
 }
 
 impl<'a> Model for Pointee<'a> {
@@ -48,6 +55,7 @@ impl<'a> Pointee<'a> {
     ghost use Rattle.cp_tree.specs.NodeOf.{node_of};
     ghost use Rattle.cp_fields.specs.Constants.{constant_of};
     ghost use Rattle.cp_fields.specs.Kinds.{kind_of};
+    ghost use Rattle.cp_fields.specs.Parts.{part_node};
     ghost use Rattle.cp_fields.specs.Pointers.{cap_field, or_default};
 
     /// A null pointer.
@@ -110,6 +118,15 @@ impl<'a> Pointee<'a> {
             Part::Tree(tree) => Pointee::of_tree(tree),
             Part::Constant(tree) => Pointee::of_constant(tree),
         }
+    }
+
+    /// Where it lies.
+    #[inline(always)]
+    pub(crate) fn into_part(self) -> Part<'a>
+        ensures { part_node result ≡ self.entry }
+    {
+        let Pointee { part } = self;
+        part
     }
 
     /// Its kind.

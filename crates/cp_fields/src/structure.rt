@@ -42,10 +42,20 @@ pub(crate) enum Pointers<'a> {
 /// A struct, where it lies. Its fields are read by their places: number `i` of a width counts numbers of
 /// that width from the start of the data section, and what lies past the end is zero or null. Contracts
 /// see it as its tree.
-#[derive(Drop)]
 pub struct StructView<'a> {
     data: Data<'a>,
     pointers: Pointers<'a>,
+}
+
+// Not derived: a crate that lets one go calls this function, and need not prove the drop of all that it holds.
+impl<'a> Drop for StructView<'a> {
+    #[inline(always)]
+    fn drop(self) {
+        let StructView {
+            data: _,
+            pointers: _,
+        } = self;
+    }
 }
 
 impl<'a> Model for StructView<'a> {
@@ -79,7 +89,7 @@ impl<'a> StructView<'a> {
     pub fn of(at: Pointee<'a>) -> Result<StructView<'a>, WrongKind>
         ensures { result ≡ struct_field at.entry }
     {
-        match at.part {
+        match at.into_part() {
             Part::Null => Ok(StructView::empty()),
             Part::View(view) => of_view(view),
             Part::Tree(tree) => of_tree(tree),
