@@ -5,9 +5,12 @@ use Rattle.cp_words.specs.Limits.{Bounds}
 use Rattle.cp_frame.specs.declared.mode.Mode.{Mode}
 use Rattle.cp_frame.specs.Stream.{Frames}
 use Rattle.cp_rpc.specs.declared.message.Message.{Message}
-use Rattle.cp_stream.specs.Stream.{Messages, IsFrameOf, Holds}
+use Rattle.cp_frame.specs.Frame.{Frame}
+use Rattle.cp_stream.specs.declared.fault.Refusal.{Refusal}
+use Rattle.cp_stream.specs.declared.fault.Refusal.TheVariants as refusals
+use Rattle.cp_stream.specs.Stream.{Messages, IsFrameOf, Holds, HoldsNone, HasFault}
 use Rattle.cp_stream.specs.Reader.{CountsOn}
-use Rattle.cp_stream.specs.Kept.{ReadsFirst}
+use Rattle.cp_stream.specs.Kept.{ReadsFirst, RefusesOf}
 
 -- a message after others
 pub messages_push : (mode : Mode) (limits : Bounds) (b : List ℕ) (ms : List Message) (front back : List ℕ) (m : Message)
@@ -47,3 +50,19 @@ reads_more limits given n ms old mid new frame m h lt d e holds counts = record 
         next.5,
       );
 }
+
+-- a frame that holds no message is a fault of the bytes that begin with it
+fault_there : (mode : Mode) (limits : Bounds) (b front back : List ℕ) (S : List (List ℕ)) (refusal : Refusal) → b ≡ front ++ back → Frame mode limits S front → HoldsNone limits S refusal → HasFault mode limits b refusal
+fault_there mode limits b front back S (refusals.Frame fault) e frame h = absurd h
+fault_there mode limits b front back S (refusals.Tree fault) e frame h = (S, front, back, e, frame, h)
+fault_there mode limits b front back S (refusals.Schema fault) e frame h = (S, front, back, e, frame, h)
+fault_there mode limits b front back S (refusals.Write fault) e frame h = absurd h
+
+-- where the next frame holds none, that is the fault after those that were read
+pub refuses_next : (limits : Bounds) (given : List (ℕ × List (List ℕ))) (n : ℕ) (ms : List Message) (old mid : ℕ) (frame : ℕ × List (List ℕ)) (refusal : Refusal)
+    → ReadsFirst limits given n ms old mid → n < length given → (d : ℕ × List (List ℕ)) → frame ≡ get_or given n d → HoldsNone limits frame.1 refusal → RefusesOf limits given ms old mid refusal
+refuses_next limits given n ms old mid frame refusal h lt d e none = λ mode b rest f.
+    let before = h.reads mode b rest f in
+    let next : Frames mode limits before.0 (frame ∷ drop (n + 1) given) rest =
+    subst (λ (gs : List (ℕ × List (List ℕ))). Frames mode limits before.0 gs rest) (drop_more given n d lt ∙ ap (λ (x : ℕ × List (List ℕ)). x ∷ drop (n + 1) given) (sym e)) before.2 in
+    (before.0, before.1, fault_there mode limits before.0 next.0 next.1 frame.1 refusal next.2 next.4 none)

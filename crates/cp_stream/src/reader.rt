@@ -17,13 +17,25 @@ use std::marker::Model;
 
 /// Reads the messages of a stream, in whatever pieces it comes. Each frame is one message of
 /// rpc.capnp.
-#[derive(Drop)]
 pub struct MessageReader {
     alloc: Global,
     limits: Limits,
     frames: FrameReader,
     status: Status,
     at: u64,
+}
+
+// Not derived: a crate that lets one go calls this function, and need not prove the drop of all that it holds.
+impl Drop for MessageReader {
+    fn drop(self) {
+        let MessageReader {
+            alloc: _,
+            limits: _,
+            frames: _,
+            status: _,
+            at: _,
+        } = self;
+    }
 }
 
 impl Model for MessageReader {

@@ -22,7 +22,7 @@ pub(crate) fn view_in<'a>(
     ensures only { (m : Message) → Holds limits segments.now m → AnswersView result m }
     ensures refused { IfErr result (HoldsNone limits segments.now) }
 {
-    Ok(message_view(View::root(segments, limits)?)?)
+    message_view(View::root(segments, limits)?).map_err(Refusal::Schema)
 }
 
 /// The message that the segments hold.
@@ -35,10 +35,9 @@ pub(crate) fn message_in(
     ensures refused { IfErr result (λ r. IsMemory r ⊎ HoldsNone limits segments.now r) }
 {
     let view = view_in(segments, limits)?;
-    match view.message(alloc) {
-        Ok(message) => Ok(message),
-        Err(_) => Err(Refusal::Schema(SchemaFault::OutOfMemory)),
-    }
+    let message = view.message(alloc);
+    drop(view);
+    message.map_err(|_| Refusal::Schema(SchemaFault::OutOfMemory))
 }
 
 /// The message of rpc.capnp that a frame's segments hold, read in place: the first pointer's tree, as
@@ -56,10 +55,7 @@ pub fn view_of<'a>(segments: &'a Segments, limits: Limits) -> Result<MessageView
         Ok(view) => view,
         Err(fault) => return Err(refused(0, Refusal::Tree(fault))),
     };
-    match message_view(view) {
-        Ok(message) => Ok(message),
-        Err(fault) => Err(refused(0, Refusal::Schema(fault))),
-    }
+    message_view(view).map_err(|fault| refused(0, Refusal::Schema(fault)))
 }
 
 /// Checks that a frame's segments hold a message of rpc.capnp, as `view_of` does, and hands out none.

@@ -146,7 +146,9 @@ fn frame_over(
     ensures refused { IfErr result (IsNotLaidOut limits limits.frame_words 1 message.now) }
 {
     let draft = draft_of(alloc, message)?;
-    let mut frame = write_draft_bytes(alloc, buffer, &draft, limits)?;
+    let written = write_draft_bytes(alloc, buffer, &draft, limits);
+    drop(draft);
+    let mut frame = written?;
     let words = frame.len() / 8 - 1;
     put_size(&mut frame, words as u32);
     Ok(frame)
@@ -207,5 +209,7 @@ fn segments_of(
     ensures refused { IfErr result (IsNotLaidOut limits max_words limits.segments message.now) }
 {
     let draft = draft_of(alloc, message)?;
-    write_draft_over(alloc, buffer, &draft, max_words, limits)
+    let segments = write_draft_over(alloc, buffer, &draft, max_words, limits);
+    drop(draft);
+    segments
 }

@@ -9,7 +9,7 @@ use Rattle.cp_stream.proofs.write.frame_over.Goals as goal
 
 pub overflow_cast-words : goal.overflow_cast-words
 overflow_cast-words c =
-    let h = c.in_ok-frame.ensures.built in
+    let h = rw c.in_ok-frame.was at c.write_draft_bytes-written.ensures.built in
     omega (arith, block_long c.in_ok-frame.frame.items h.words h.bytes, h.small, c.len.ensures)
 
 pub returns-clause-written : goal.returns-clause-written
@@ -18,8 +18,8 @@ returns-clause-written c =
     let m = c.args.message.now in
     let b = c.in_ok-frame.frame.items in
     let made = c.in_ok-draft.ensures.made in
-    let h : AreBytesOf limits (message_written m) b = subst (λ (t : Node). AreBytesOf limits t b) made c.in_ok-frame.ensures.built in
-    let fits : FitsIn limits (message_written m) = subst (λ (t : Node). FitsIn limits t) made c.in_ok-frame.ensures.fits in
+    let h : AreBytesOf limits (message_written m) b = subst (λ (t : Node). AreBytesOf limits t b) made (rw c.in_ok-frame.was at c.write_draft_bytes-written.ensures.built) in
+    let fits : FitsIn limits (message_written m) = subst (λ (t : Node). FitsIn limits t) made (rw c.in_ok-frame.was at c.write_draft_bytes-written.ensures.fits) in
     let new = c.put_size.new.frame in
     let same : length new ≡ length b = omega (arith, c.put_size.auto.frame, ap (λ (x : List ℕ). length x) c.deref_mut.ensures.value) in
     let size : c.len.result / 8 - 1 ≡ length h.words = omega (arith, block_long b h.words h.bytes, c.len.ensures) in
