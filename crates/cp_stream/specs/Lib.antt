@@ -6,3 +6,4 @@ pub mod Answers
 pub mod Read
 pub mod Write
 pub mod Runs
+pub mod Structs

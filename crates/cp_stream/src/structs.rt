@@ -10,11 +10,14 @@ ghost use Rattle.cp_reading.specs.declared.fault.TreeFault.{TreeFault};
 ghost use Rattle.cp_stream.specs.Read.{StopsReading};
 ghost use Rattle.cp_stream.specs.Tap.{inner_of, failures_of};
 ghost use Rattle.cp_stream.specs.declared.fault.Refusal.TheVariants as refusals;
-ghost use Rattle.cp_structs.specs.Structs.{IsWrittenAs, IsUnwrittenFor, IsSent, IsCutShort, IsNoRoot, IsRefusedFor, IsThe, ReadsOnly, ReadsTree, RefusesTree};
+ghost use Rattle.cp_stream.specs.Structs.{IsWrittenAs, IsUnwrittenFor, IsSent, IsCutShort, IsNoRoot, IsRefusedFor, IsThe, ReadsOnly, ReadsTree, RefusesTree};
 
+use crate::fault::{Refusal, StreamFault, refused};
+use crate::read::read_segments;
+use crate::tap::Tap;
+use crate::write::write_whole;
 use cp_frame::{FrameFault, Mode, write_frame};
 use cp_reading::View;
-use cp_stream::{Refusal, StreamFault, Tap, read_segments, write_whole};
 use cp_tree::{Object, Whole};
 use cp_words::{Limits, Segments};
 use cp_writing::write_root;
@@ -39,12 +42,12 @@ pub fn write_struct<W: Write>(
 {
     match frame_of(alloc, object, mode, limits) {
         Ok(frame) => write_whole(to, &frame),
-        Err(refusal) => Err(StreamFault::Refused { at: 0, refusal }),
+        Err(refusal) => Err(refused(0, refusal)),
     }
 }
 
 /// Reads the next frame of a device, exactly its bytes, and gives its root. `None` says that the device ended before any
-/// byte. Faults are those of `cp_stream::read_segments`, and those of the root (G1 to G9), all at 0. `Device` says that a
+/// byte. Faults are those of `read_segments`, and those of the root (G1 to G9), all at 0. `Device` says that a
 /// call of the device failed. What was read is the front of its bytes.
 pub fn read_struct<R: Read>(
     alloc: Global,
@@ -63,7 +66,7 @@ pub fn read_struct<R: Read>(
     };
     match root_of(alloc, &segments, limits) {
         Ok(root) => Ok(Some(root)),
-        Err(refusal) => Err(StreamFault::Refused { at: 0, refusal }),
+        Err(refusal) => Err(refused(0, refusal)),
     }
 }
 
