@@ -7,6 +7,7 @@ use crate::playing::{Player, played};
 use crate::running::ran;
 use crate::script::UNREAD;
 use crate::sessions::{Session, read, reported, served};
+use crate::written::calls_read;
 use cp_frame::Mode;
 use cp_objects::Objects;
 use cp_scripts::{Lines, Taken};
@@ -52,12 +53,14 @@ enum Players {
     Objects(bool),
     /// Nobody: frames are read.
     Reader,
+    /// Nobody: lines are read as calls.
+    Calls,
     Nobody,
 }
 
 impl Players {
     /// The players of a line: `vat OBJECT`, `sender OBJECT`, `connection OBJECT`, `cut OBJECT` or `vats OBJECT OBJECT`, where an object
-    /// is `none` or `object:N`; or `server MODE`, `objects`, `objects that call` or `reader`.
+    /// is `none` or `object:N`; or `server MODE`, `objects`, `objects that call`, `reader` or `calls`.
     fn of(line: &str) -> Players {
         let mut words = line.split(' ');
         let name = words.next().unwrap_or("");
@@ -72,6 +75,7 @@ impl Players {
             "server" => Players::Server(Mode::Plain),
             "objects" => Players::Objects(line == "objects that call"),
             "reader" => Players::Reader,
+            "calls" => Players::Calls,
             _ => Players::Nobody,
         }
     }
@@ -85,7 +89,7 @@ impl Players {
             Players::Cut(_) => &WAYS[5..6],
             Players::Server(_) => &WAYS[6..],
             Players::Objects(_) => &WAYS[7..],
-            Players::Sender(_) | Players::Reader | Players::Nobody => &WAYS[..1],
+            Players::Sender(_) | Players::Reader | Players::Calls | Players::Nobody => &WAYS[..1],
         }
     }
 
@@ -116,6 +120,7 @@ impl Players {
                 Session::new(alloc, Mode::Plain, owed, way.lends(), script).play(script)
             }
             Players::Reader => read(alloc, script),
+            Players::Calls => calls_read(alloc, script),
             Players::Nobody => Lines::new(alloc),
         }
     }

@@ -11,6 +11,7 @@ mod playing;
 mod running;
 mod script;
 mod sessions;
+mod written;
 
 use crate::exchange::{Fault, failure};
 use crate::script::{Section, script_of};
@@ -19,13 +20,14 @@ use std::process::ExitCode;
 use std::{fs, io};
 
 /// The files of exchanges. The lines that several of these begin with are in `parts.txt`.
-const FILES: [&str; 12] = [
+const FILES: [&str; 13] = [
     "calls.txt",
     "connections.txt",
     "counts.txt",
     "embargoes.txt",
     "faults.txt",
     "limits.txt",
+    "lines.txt",
     "promises.txt",
     "references.txt",
     "refusals.txt",
