@@ -80,7 +80,7 @@ copy_sources() { # FOLDER CRATE..
     local to=$1 it part parts
     for it in "${@:2}"; do
         parts=()
-        for part in "$root/crates/$it"/*; do [[ $part == */out || $part == */must-fail* ]] || parts+=("$part"); done
+        for part in "$root/crates/$it"/*; do [[ $part == */out || $part == */must-fail* || $part == */wrong-bodies ]] || parts+=("$part"); done
         mkdir -p "$to/$it"
         cp -a "${parts[@]}" "$to/$it/"
     done

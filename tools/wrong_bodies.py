@@ -1,0 +1,156 @@
+#!/usr/bin/env python3
+"""tools/wrong_bodies.py [--list] [CRATE..]    tries the wrong bodies of all crates, or of these, or lists them.
+
+By an edit of crates/CRATE/wrong-bodies/ a function does something else than its contract says, and the prover must refuse it.
+The file is written as those of must-fail/ are. Its name is the function's path, with dots, and what is wrong then.
+
+A proof rests on the contracts of the functions that are called, and on no body. So one check tries several edits, each of
+another function. It checks these functions and those that they call, over the libraries that rt ci built, or else
+tools/build.sh. Each function without an edit has to be proved in the same check, so refusals are due to the edits.
+
+The last line is 'N passed, M failed'. The status is 1 where an edit wasn't refused, can't be applied or wasn't tried.
+"""
+import concurrent.futures
+import os
+import pathlib
+import re
+import shutil
+import subprocess
+import sys
+import tempfile
+
+TOP = pathlib.Path(__file__).resolve().parent.parent
+sys.dont_write_bytecode = True
+sys.path.insert(0, os.path.dirname(os.path.realpath(shutil.which("rt") or sys.exit("rt isn't in PATH"))))
+import rtlib
+
+FUNCTION = re.compile(r"^( *)(?:pub(?:\(\w+\))? )?(?:const )?fn (\w+)", re.M)
+# what is said where a proof names what the edit took away: that says little of the contract
+NAMES = re.compile(r"has no field|is not in scope|has no `|was not admitted")
+
+
+class Edit:
+    """A change of a function's body, what was said of it, and whether that is the prover's refusal."""
+
+    def __init__(self, file):
+        self.file, self.label = file, f"{file.parts[-3]}/{file.stem}"
+        self.function = file.stem.rpartition(".")[0].replace(".", "::")
+        self.said, self.is_refused = "", False
+
+    def apply(self, room):
+        """Changes a copy of the crate."""
+        (file, *_), *pairs = re.findall(r"^(?:file: (.+)|old: (.+)\nnew: ?(.*))$", self.file.read_text(), re.M) or [("", "", "")]
+        for _, old, new in pairs or [("", "", "")]:
+            text = (room / file).read_text()
+            if text.count(old) != 1 or old == new:
+                raise ValueError(f"its old text stands {text.count(old)} times in {file}, or is the new one")
+            if not is_in_body(text, text.index(old), self.function.rpartition("::")[2]):
+                raise ValueError(f"its old text isn't in the body of {self.function}")
+            (room / file).write_text(text.replace(old, new))
+
+    def judge(self, verdict, errors):
+        """By the line that a check has for the function, and by its errors."""
+        own = [it for it in errors if it.startswith(f"proofs/{self.function.replace('::', '/')}/")]
+        told = [it for it in own if not NAMES.search(it)] if verdict == "not proved" else []
+        # (of a function that has no proof file, whose proof is a search)
+        told += [it for it in [verdict] if it.startswith("no proof") and "`search` did not prove" in it]
+        self.is_refused = bool(told)
+        self.said = f"refused: {told[0]}" if told else f"NOT REFUSED: {verdict} {' '.join(own[:1])}"
+
+
+def is_in_body(text, at, name):
+    """Whether a place is in the body of a function of this name: a change there leaves all contracts as they are."""
+    heads = [it for it in FUNCTION.finditer(text) if it.start() < at]
+    if not heads or heads[-1][2] != name:
+        return False
+    above = text[heads[-1].start() : at].split("\n")[:-1]
+    return any(line.endswith("{") for line in above) and f"{heads[-1][1]}}}" not in above
+
+
+def rounds(edits):
+    """The edits in lists, none of which has two of one function."""
+    while edits:
+        first = list({it.function: it for it in reversed(edits)}.values())
+        yield first
+        edits = [it for it in edits if it not in first]
+
+
+def check(crate, room, only):
+    """The status of a check of these functions, the lines that it said, and its processor seconds."""
+    words = [rtlib.RATTLE, "check", *crate.words(["--jobs", "1"], keeps=False), *[f"--only={it}" for it in only]]
+    with tempfile.TemporaryFile("w+", errors="replace") as out:
+        ran = subprocess.Popen([*rtlib.guarded(), *words], cwd=room, stdin=subprocess.DEVNULL, stdout=out, stderr=out)
+        _, status, used = os.wait4(ran.pid, 0)
+        ran.returncode = os.waitstatus_to_exitcode(status)
+        out.seek(0)
+        return ran.returncode, out.read().splitlines(), used.ru_utime + used.ru_stime
+
+
+def try_together(crate, edits):
+    """Tries edits of different functions, and gives the processor seconds that it took."""
+    with tempfile.TemporaryDirectory(prefix=f"rt-edit-{os.getpid()}-") as room:
+        for part in rtlib.PARTS:
+            if os.path.isdir(f"{crate.folder}/{part}"):
+                shutil.copytree(f"{crate.folder}/{part}", f"{room}/{part}")
+        for it in edits:
+            try:
+                it.apply(pathlib.Path(room))
+            except (OSError, ValueError) as why:
+                it.said = f"BAD EDIT: {why}"
+        tried = {it.function: it for it in edits if not it.said}
+        status, lines, seconds = check(crate, room, tried) if tried else (0, [], 0)
+    verdicts = dict(re.findall(rf"^fn {crate.name}::(\S+): (.+)$", "\n".join(lines), re.M))
+    errors = [it.removeprefix("./") for it in lines if re.match(r"\S+:\d+:\d+: error", it)]
+    lost = lost_by(status, lines, verdicts, tried)
+    for name, it in tried.items():
+        it.judge(f"the check counts for nothing: {lost[0]}" if lost else verdicts.get(name, "no line"), errors)
+    return seconds
+
+
+def lost_by(status, lines, verdicts, tried):
+    """Why a check says nothing of its edits: it didn't come to the prover or to its end, or not all else is proved."""
+    lost = [it for it in lines if re.search(r"\berror(\[|:.*has no function)", it)]
+    proved = [it for it in verdicts if verdicts[it] == "proved"]
+    if status not in (0, 1) or not re.fullmatch(r"only=\d+ proved=\d+", "".join(lines[-1:])):
+        lost.append(f"status {status}: {' '.join(lines[-1:])}")
+    lost += [f"{it} isn't proved" for it in verdicts if it not in tried and it not in proved]
+    return lost if proved else lost + ["no function without an edit was checked"]
+
+
+def find_libraries(crates):
+    """Takes the libraries in out/ where all are of one build, and newer than their sources; else those of tools/build.sh."""
+    below = {it.name: it for crate in crates for it in crate.below()}
+    sources = {name: [at for part in rtlib.PARTS for at in pathlib.Path(it.folder, part).rglob("*")] for name, it in below.items()}
+    written = {name: max(it.stat().st_mtime for it in [TOP / "crates.txt", *found]) for name, found in sources.items()}
+    made = {name: pathlib.Path(it.rlib).parent for name, it in below.items()}
+    is_new = lambda it: os.path.isdir(it.rlib) and made[it.name].stat().st_mtime >= max(written[other.name] for other in [it, *it.below()])
+    if all(map(is_new, below.values())) and len({(it / "stamp").exists() for it in made.values()}) < 2:
+        return
+    subprocess.run([TOP / "tools/build.sh", *below], check=True)
+    for name, it in below.items():
+        it.rlib = f"{TOP}/{'.git' if (TOP / '.git').is_dir() else 'out'}/statements/{name}.rlib"
+
+
+def main(words):
+    names, known, edits = [it for it in words if it != "--list"], {}, {}
+    for file in sorted(TOP.glob("crates/*/wrong-bodies/*.edit")):
+        if not names or file.parts[-3] in names:
+            edits.setdefault(file.parts[-3], []).append(Edit(file))
+    every = [it for found in edits.values() for it in found]
+    if "--list" in words:
+        print(*[it.label for it in every], sep="\n")
+        return 0
+    crates = [rtlib.Crate(f"{TOP}/crates/{it}", str(TOP), known) for it in edits]
+    find_libraries(crates)
+    rtlib.guarded()
+    with concurrent.futures.ThreadPoolExecutor(int(os.environ.get("RT_JOBS", len(os.sched_getaffinity(0))))) as pool:
+        for crate, found, end in [(it, some, pool.submit(try_together, it, some)) for it in crates for some in rounds(edits[it.name])]:
+            print(f"{crate.name}: {len(found)} edits in {end.result():.0f} s of a processor")
+            print(*[f"{it.label}: {it.said[:200]}" for it in found], sep="\n", flush=True)
+    passed = sum(it.is_refused for it in every)
+    print(f"{passed} passed, {len(every) - passed} failed")
+    return int(passed < len(every) or not every)
+
+
+if __name__ == "__main__":
+    sys.exit(main(sys.argv[1:]))
