@@ -26,7 +26,7 @@ pub enum Happening {
 }
 
 /// What a connection took and sent, each number at most `u64::MAX`, where it stays.
-#[derive(Clone, Copy, PartialEq, Eq, Debug)]
+#[derive(Clone, Copy, Debug)]
 pub struct Tally {
     /// The bytes of the frames whose messages were taken.
     pub bytes: u64,
@@ -37,7 +37,7 @@ pub struct Tally {
 }
 
 /// What a connection holds.
-#[derive(Clone, Copy, PartialEq, Eq, Debug)]
+#[derive(Clone, Copy, Debug)]
 pub struct Held {
     /// The bytes of the open frame that came.
     pub came: u64,

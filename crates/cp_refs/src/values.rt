@@ -14,7 +14,7 @@ use std::collections::btree_map::Iter;
 use std::marker::Model;
 
 /// How a question was asked.
-#[derive(Clone, Copy, PartialEq, Eq, Debug)]
+#[derive(Clone, Copy)]
 pub enum QuestionKind {
     /// Its call didn't go out at once.
     Local,

@@ -4,7 +4,7 @@ ghost use Rattle.std.specs.Prelude.{◌≡◌, ◌<◌, ◌≤◌, ◌*◌, ◌�
 ghost use Rattle.cp_sockets.specs.Limits.{standard, HasRoom};
 
 /// What becomes of a connection that comes when there are as many as a host allows.
-#[derive(Clone, Copy, PartialEq, Eq, Debug)]
+#[derive(Clone, Copy)]
 pub enum Crowd {
     /// It is closed.
     Refuse,
@@ -13,7 +13,7 @@ pub enum Crowd {
 }
 
 /// What a host allows. Times are in milliseconds.
-#[derive(Clone, Copy, PartialEq, Eq, Debug)]
+#[derive(Clone, Copy)]
 pub struct HostLimits {
     /// The most connections at once.
     pub connections: usize,

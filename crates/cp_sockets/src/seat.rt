@@ -7,7 +7,7 @@ ghost use Rattle.cp_sockets.specs.declared.seat.Limit.{Limit};
 use crate::limits::HostLimits;
 
 /// How far a connection is.
-#[derive(Clone, Copy, PartialEq, Eq, Debug)]
+#[derive(Clone, Copy, PartialEq, Eq)]
 pub enum Phase {
     /// What comes is taken.
     Serving,
@@ -18,7 +18,7 @@ pub enum Phase {
 }
 
 /// A limit that a connection met.
-#[derive(Clone, Copy, PartialEq, Eq, Debug)]
+#[derive(Clone, Copy, PartialEq, Eq)]
 pub enum Limit {
     /// A message didn't come whole in time.
     Message,
@@ -31,7 +31,7 @@ pub enum Limit {
 }
 
 /// What can be done for a connection at once.
-#[derive(Clone, Copy, PartialEq, Eq, Debug)]
+#[derive(Clone, Copy)]
 pub struct Ready {
     /// Its stream may have bytes, or its end.
     pub readable: bool,
@@ -46,7 +46,7 @@ pub struct Ready {
 }
 
 /// What a host knows of one of its connections. Times are milliseconds of one clock.
-#[derive(Clone, Copy, PartialEq, Eq, Debug)]
+#[derive(Clone, Copy)]
 pub struct Seat {
     phase: Phase,
     /// When a byte moved last, either way.

@@ -4,7 +4,7 @@ use crate::fault::TableFault;
 
 /// An entry of the exports or the imports (rpc.capnp, `ExportId` and `ImportId`): how often the
 /// capability was sent and not released.
-#[derive(Clone, PartialEq, Eq, Debug, Drop)]
+#[derive(Clone, Drop)]
 pub struct Counted<T> {
     /// From 1 on: at 0 the entry is gone.
     pub count: u32,

@@ -3,7 +3,7 @@
 use crate::fault::TableFault;
 
 /// How far an exchange has come. With both notes its entry is gone.
-#[derive(Clone, Copy, PartialEq, Eq, Debug)]
+#[derive(Clone, Copy)]
 pub enum Stage {
     /// Neither a Return nor a Finish was noted.
     Open,
@@ -15,7 +15,7 @@ pub enum Stage {
 
 /// An entry of the questions or the answers (rpc.capnp, `QuestionId` and `AnswerId`): from a call's
 /// opening until both its Return and its Finish were noted.
-#[derive(Clone, PartialEq, Eq, Debug, Drop)]
+#[derive(Clone, Drop)]
 pub struct Exchange<T> {
     /// Which of the two was noted.
     pub stage: Stage,

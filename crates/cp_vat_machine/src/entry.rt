@@ -133,7 +133,7 @@ pub struct AnswerEntry {
 }
 
 /// As what an import was first sent.
-#[derive(Clone, Copy, PartialEq, Eq, Debug)]
+#[derive(Clone, Copy)]
 pub enum ImportKind {
     /// By a senderHosted: it is never resolved.
     Hosted,

@@ -7,7 +7,7 @@ use std::error::Error;
 use std::fmt;
 
 /// Why a part of an event wasn't done to its end.
-#[derive(Clone, Copy, PartialEq, Eq, Debug)]
+#[derive(Clone, Copy, Debug)]
 pub enum Halt {
     /// A rule of the machine answers this fault.
     Fault(PeerFault),
