@@ -34,7 +34,7 @@ here=$(cd "$(dirname "${BASH_SOURCE[0]}")" && pwd)
 root=$(dirname "$here")
 all=(look memory moves peers matrix relay fields schemas host load callees faults interfaces sessions crowd served pieces starved fuzz edits plants)
 alone=night # runs only where it is named: it takes as long as all others
-planted=(cp_words cp_tables cp_writing cp_packed cp_frame cp_rpc cp_stream cp_refs cp_vat cp_serve)
+planted=(cp_words cp_tables cp_writing cp_packed cp_frame cp_messages cp_rpc cp_stream cp_refs cp_vat cp_serve)
 
 [ $# -ge 1 ] || { sed -n '2,/^# Debian/s/^# \{0,1\}//p' "$0" >&2; exit 2; }
 mkdir -p "$1" && folder=$(cd "$1" && pwd)

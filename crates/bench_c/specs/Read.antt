@@ -6,7 +6,7 @@ use Rattle.cp_tree.specs.Node.{Node}
 use Rattle.cp_reading.specs.Denotes.{Root}
 use Rattle.cp_frame.specs.declared.mode.Mode.{Mode}
 use Rattle.cp_frame.specs.Stream.{Frames}
-use Rattle.cp_rpc.specs.declared.message.Message.{Message}
+use Rattle.cp_messages.specs.declared.message.Message.{Message}
 use Rattle.cp_stream.specs.Stream.{Holds}
 
 -- the standard limits, but for these two

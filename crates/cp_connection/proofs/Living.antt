@@ -3,7 +3,7 @@ use Rattle.std.proofs.Common.{ℕ, List, [], Option, refl, sym, subst}
 use Rattle.cp_words.specs.Limits.{Bounds}
 use Rattle.cp_frame.specs.declared.mode.Mode.{Mode}
 use Rattle.cp_frame.specs.Stream.{Open}
-use Rattle.cp_rpc.specs.declared.message.Message.{Message}
+use Rattle.cp_messages.specs.declared.message.Message.{Message}
 use Rattle.cp_stream.specs.Stream.{Messages, Stream}
 use Rattle.cp_stream.proofs.Runs.{is_one_stream}
 use Rattle.cp_vat_laws.proofs.writable.Stepping.{runs_write}

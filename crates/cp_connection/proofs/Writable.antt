@@ -6,8 +6,8 @@ use Rattle.cp_tree.specs.Node.{no_nodes, node, depth, cost}
 use Rattle.cp_tree.specs.declared.fault.WriteFault.{WriteFault}
 use Rattle.cp_tree.specs.declared.fault.WriteFault.TheVariants as writes
 use Rattle.cp_writing.proofs.CostWords.{not_too_many}
-use Rattle.cp_rpc.specs.Written.{member_written, message_written, message_number, u16_part}
-use Rattle.cp_rpc.specs.declared.message.Message.{Message}
+use Rattle.cp_messages.specs.Written.{member_written, message_written, message_number, u16_part}
+use Rattle.cp_messages.specs.declared.message.Message.{Message}
 use Rattle.cp_stream.specs.Write.{IsNotLaidOut}
 use Rattle.cp_vat_laws.specs.Sizes.{IsWritable}
 use Rattle.cp_vat.proofs.Costing.{message_cost}

@@ -1,7 +1,7 @@
 -- What bytes of the peer do to a connection.
 use Rattle.std.specs.Prelude.{◌≡◌, ◌≢◌, ◌⊎◌, ℕ, ◌+◌, ◌-◌, ◌^◌, min, List, [], ◌∷◌, ◌++◌, Option, Some, None, Ok, length, drop}
 use Rattle.cp_frame.specs.declared.fault.FrameFault.TheVariants as frames
-use Rattle.cp_rpc.specs.declared.message.Message.{Message}
+use Rattle.cp_messages.specs.declared.message.Message.{Message}
 use Rattle.cp_stream.specs.declared.fault.Refusal.TheVariants as refusals
 use Rattle.cp_stream.specs.Stream.{IsFrameOf, HasFault}
 use Rattle.cp_vat_machine.specs.declared.event.Event.TheVariants as events

@@ -1,8 +1,8 @@
 //! Trees, as `show` writes them.
 
 ghost use Rattle.std.specs.Prelude.{◌≡◌};
-ghost use Rattle.cp_tree.specs.Node.{IsStruct, count, number_of};
-ghost use Rattle.cp_reading.specs.Rows.{row_of, bodies_in};
+ghost use Rattle.cp_tree.specs.Node.{IsStruct, count, number_of, row_of};
+ghost use Rattle.cp_reading.specs.Rows.{bodies_in};
 
 use cp_reading::View;
 use cp_tree::Shape;

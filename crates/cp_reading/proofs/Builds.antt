@@ -1,9 +1,9 @@
 -- Trees that are built part by part.
 use Rattle.std.proofs.Common.{◌≡◌, ℕ, zero, suc, ◌+◌, ◌<◌, ◌≤◌, List, [], ◌∷◌, ◌++◌, length, take, get_or, refl, ap, ◌∙◌, arith}
 use Rattle.std.proofs.lemmas.List.{take_more, take_all}
-use Rattle.cp_tree.specs.Node.{Node, null, cap, struct, list, ptrs, structs, Nodes, no_nodes, node, Bodies, no_bodies, body, count, number_of, depth, greatest_depth, deepest_body, IsStruct}
+use Rattle.cp_tree.specs.Node.{Node, null, cap, struct, list, ptrs, structs, Nodes, no_nodes, node, Bodies, no_bodies, body, count, number_of, depth, greatest_depth, deepest_body, IsStruct, row_of}
 use Rattle.cp_tree.specs.NodeOf.{nodes_of, bodies_of}
-use Rattle.cp_reading.specs.Rows.{row_of, bodies_in}
+use Rattle.cp_reading.specs.Rows.{bodies_in}
 use Rattle.cp_tree.specs.Seen.{shape_of, node_at, body_at, part_of}
 use Rattle.cp_reading.specs.Visited.{pointers, pointers_of_row, pointers_of_bodies}
 use Rattle.cp_tree.specs.declared.shape.Shape.TheVariants as shapes

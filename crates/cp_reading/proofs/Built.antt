@@ -1,10 +1,10 @@
 -- Bodies that trees are built from.
 use Rattle.std.proofs.Common.{◌≡◌, ℕ, ◌+◌, ◌*◌, ◌<◌, ◌≤◌, List, Ok, Err, true, is_ok, refl, sym, ap, ◌∙◌, arith}
-use Rattle.cp_tree.specs.Node.{Node, struct, structs, Nodes, no_nodes, node, Bodies, count, number_of, depth}
+use Rattle.cp_tree.specs.Node.{Node, struct, structs, Nodes, no_nodes, node, Bodies, count, number_of, depth, row_of}
 use Rattle.cp_words.specs.Targets.{words_at}
 use Rattle.cp_reading.specs.Viewed.{viewed_node, IsViewed}
 use Rattle.cp_reading.specs.Reading.{◌>>=◌, Read, tree_read, rows_at, most_nesting, most_traversal, bodies_by, node_in}
-use Rattle.cp_reading.specs.Rows.{row_of, bodies_in, struct_at, structs_at, trees_from}
+use Rattle.cp_reading.specs.Rows.{bodies_in, struct_at, structs_at, trees_from}
 use Rattle.cp_tree.specs.Seen.{shape_of, node_at, body_at, part_of}
 use Rattle.cp_words.specs.declared.place.Place.{Place}
 use Rattle.cp_tree.specs.declared.shape.Shape.TheVariants as shapes

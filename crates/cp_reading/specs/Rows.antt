@@ -1,19 +1,13 @@
--- The parts of a tree that hang on pointers, and the elements of a composite list.
+-- The elements of a composite list, and the trees of pointer words.
 use Rattle.std.specs.Prelude.{ℕ, List}
 use Rattle.cp_words.specs.declared.pointer.ElementSize.{ElementSize}
 use Rattle.cp_words.specs.declared.pointer.ElementSize.TheVariants as sizes
-use Rattle.cp_tree.specs.Node.{Node, struct, ptrs, structs, Nodes, no_nodes, Bodies, no_bodies}
+use Rattle.cp_tree.specs.Node.{Node, structs, Nodes, Bodies, no_bodies, row_of}
 use Rattle.cp_reading.specs.Viewed.{viewed_node}
 use Rattle.cp_reading.specs.declared.area.Area.{Area}
 use Rattle.cp_reading.specs.declared.area.Form.TheVariants as forms
 use Rattle.cp_words.specs.declared.place.Place.{Place}
 use Rattle.cp_reading.specs.declared.view.Viewed.TheVariants as viewed
-
--- the pointers of a struct or of a list of pointers
-abbrev pub row_of : Node → Nodes
-row_of (struct ws ts) = ts
-row_of (ptrs ts) = ts
-row_of other = no_nodes
 
 -- the elements of a composite list
 abbrev pub bodies_in : Node → Bodies

@@ -2,8 +2,8 @@
 use Rattle.std.specs.Prelude.{ℕ, List, [], ◌∷◌, slice_index_or, codes}
 use Rattle.cp_tree.specs.Node.{Node, cap}
 use Rattle.cp_tree.specs.Seen.{pointee_of}
-use Rattle.cp_rpc.specs.declared.exception.Exception.{Exception}
-use Rattle.cp_rpc.specs.declared.exception.ExceptionKind.TheVariants as kinds
+use Rattle.cp_messages.specs.declared.exception.Exception.{Exception}
+use Rattle.cp_messages.specs.declared.exception.ExceptionKind.TheVariants as kinds
 use Rattle.cp_refs.specs.declared.cap.Cap.{Cap}
 use Rattle.cp_refs.specs.declared.cap.Cap.TheVariants as caps
 use Rattle.cp_refs.specs.declared.outcome.Outcome.{Outcome}

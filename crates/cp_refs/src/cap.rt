@@ -1,6 +1,6 @@
 //! Capabilities, as an application names them.
 
-use cp_rpc::Exception;
+use cp_messages::Exception;
 use std::alloc::{AllocError, Global};
 use std::marker::Model;
 

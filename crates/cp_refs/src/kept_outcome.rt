@@ -10,7 +10,7 @@ use crate::outcome::{Outcome, cap_along, failed, null_capability};
 use crate::pointers::pointers_of;
 use crate::route::Route;
 use crate::values::Step;
-use cp_rpc::Exception;
+use cp_messages::Exception;
 use cp_tree::{Tree, Whole};
 use std::alloc::{AllocError, Global};
 use std::marker::Model;

@@ -7,7 +7,7 @@ ghost use Rattle.cp_refs.specs.At.{failed, null_capability, node_along, cap_alon
 ghost use Rattle.cp_refs.specs.declared.cap.Cap.TheVariants.{None};
 
 use crate::cap::{Cap, Caps};
-use cp_rpc::{Exception, ExceptionKind, Text};
+use cp_messages::{Exception, ExceptionKind, Text};
 use cp_tree::{Tree, Whole};
 use std::alloc::{AllocError, Global};
 

@@ -1,7 +1,7 @@
 //! Where a call goes.
 
 use crate::cap::{Path, PromiseId};
-use cp_rpc::Exception;
+use cp_messages::Exception;
 use std::alloc::{AllocError, Global};
 
 /// What a call waits for.

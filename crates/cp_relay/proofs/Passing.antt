@@ -12,7 +12,7 @@ use Rattle.cp_frame.specs.Reader as frames
 use Rattle.cp_frame.specs.Stream as streams
 use Rattle.cp_frame.specs.Stream.{Laid, NamesFault, RunsPast, numbers}
 use Rattle.cp_packed.proofs.Unpacks.{packed_none}
-use Rattle.cp_rpc.specs.declared.message.Message.{Message}
+use Rattle.cp_messages.specs.declared.message.Message.{Message}
 use Rattle.cp_stream.specs.Stream.{Holds, HoldsNone, Front, HasFault}
 use Rattle.cp_stream.specs.Reader.{CountsOn}
 use Rattle.cp_stream.specs.declared.fault.Refusal.{Refusal}

@@ -2,7 +2,7 @@
 use Rattle.std.specs.Prelude.{◌≡◌, ◌⊎◌, ℕ, Bool, true, false, List, [], ◌++◌, Option, Some, None}
 use Rattle.cp_words.specs.Limits.{Bounds}
 use Rattle.cp_frame.specs.Reader as frames
-use Rattle.cp_rpc.specs.declared.message.Message.{Message}
+use Rattle.cp_messages.specs.declared.message.Message.{Message}
 use Rattle.cp_stream.specs.Stream.{Holds, HoldsNone}
 use Rattle.cp_stream.specs.Reader.{IsMemory}
 use Rattle.cp_stream.specs.Write.{IsUnwrittenFor}

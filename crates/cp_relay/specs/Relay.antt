@@ -4,7 +4,7 @@ use Rattle.cp_words.specs.Limits.{Bounds}
 use Rattle.cp_frame.specs.declared.mode.Mode.{Mode}
 use Rattle.cp_frame.specs.declared.fault.FrameFault.TheVariants as faults
 use Rattle.cp_frame.specs.Reader as frames
-use Rattle.cp_rpc.specs.declared.message.Message.{Message}
+use Rattle.cp_messages.specs.declared.message.Message.{Message}
 use Rattle.cp_stream.specs.Stream.{IsFrameOf, Front, HasFault}
 use Rattle.cp_stream.specs.Reader.{CountsOn, IsMemory}
 use Rattle.cp_stream.specs.Write.{IsWrittenAs, IsUnwrittenFor}

@@ -1,7 +1,7 @@
 -- A stream that is fed to a relay in pieces.
 use Rattle.std.specs.Prelude.{◌≡◌, ℕ, Bool, List, [], ◌∷◌}
 use Rattle.cp_frame.specs.Runs.{joined}
-use Rattle.cp_rpc.specs.declared.message.Message.{Message}
+use Rattle.cp_messages.specs.declared.message.Message.{Message}
 use Rattle.cp_relay.specs.declared.output.Output.TheVariants as outputs
 use Rattle.cp_relay.specs.Relay.{Relay, StandsFor, LetsThrough, Gives}
 

@@ -1,7 +1,7 @@
 //! Who looks at the messages on their way.
 
 ghost use Rattle.std.specs.Prelude.{Bool, IfOk};
-ghost use Rattle.cp_rpc.specs.declared.message.Message.{Message};
+ghost use Rattle.cp_messages.specs.declared.message.Message.{Message};
 ghost use Rattle.cp_rpc.specs.Viewed.{viewed};
 ghost use Rattle.cp_relay.specs.Relay.{says_nothing};
 

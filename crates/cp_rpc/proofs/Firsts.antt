@@ -1,16 +1,9 @@
 -- The first fault of a list's parts.
-use Rattle.std.proofs.Common.{◌≡◌, ℕ, zero, suc, ◌<◌, List, [], ◌∷◌, ◌++◌, length, take, get_or, Some, refl, arith}
+use Rattle.std.proofs.Common.{◌≡◌, ℕ, zero, suc, ◌<◌, List, [], ◌∷◌, ◌++◌, length, take, get_or, Some, arith}
 use Rattle.std.specs.Prelude.{flat_map}
 use Rattle.cp_rpc.specs.Answers.{first_of}
-use Rattle.cp_rpc.specs.declared.fault.SchemaFault.{SchemaFault}
-
-pub none-left : {X : Type 0} (xs ys : List X) → xs ++ ys ≡ [] → xs ≡ []
-none-left [] ys h = refl
-none-left (x ∷ xs) ys h = cc
-
-pub none-right : {X : Type 0} (xs ys : List X) → xs ++ ys ≡ [] → ys ≡ []
-none-right [] ys h = h
-none-right (x ∷ xs) ys h = cc
+use Rattle.cp_messages.proofs.Nones.{none-left, none-right}
+use Rattle.cp_messages.specs.declared.fault.SchemaFault.{SchemaFault}
 
 pub first-left : (xs ys : List SchemaFault) (e : SchemaFault) → first_of xs ≡ Some e → first_of (xs ++ ys) ≡ Some e
 first-left [] ys e h = cc

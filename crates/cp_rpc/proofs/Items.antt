@@ -1,11 +1,12 @@
 -- The structs of a composite list, one by one.
 use Rattle.std.proofs.lemmas.List.{length-take-le}
-use Rattle.std.proofs.Common.{◌≡◌, Bool, true, false, ◌&&◌, [], ◌∷◌, ℕ, zero, suc, ◌-◌, ◌<◌, List, length, get_or, refl, ap, ◌∙◌, sym, arith}
+use Rattle.std.proofs.Common.{◌≡◌, true, [], ◌∷◌, ℕ, zero, suc, ◌-◌, ◌<◌, List, length, get_or, refl, ap, ◌∙◌, sym, arith}
 use Rattle.cp_tree.specs.Node.{voids, bits, bytes, halves, quads, words, Node, null, cap, struct, list, ptrs, structs, Bodies, no_bodies, body, number_of}
 use Rattle.cp_tree.specs.Seen.{shape_of, part_of, body_at}
 use Rattle.cp_tree.specs.declared.shape.Shape.{Shape}
 use Rattle.cp_tree.specs.declared.shape.Shape.TheVariants as shapes
-use Rattle.cp_rpc.specs.Fields.{items_of, structs_in, text_of, is_text, look_of, IsTextField, IsStructField}
+use Rattle.cp_messages.specs.Fields.{items_of, structs_in, text_of, is_text, IsTextField, IsStructField}
+use Rattle.cp_rpc.specs.Looked.{look_of}
 use Rattle.cp_rpc.specs.declared.source.Look.{Look}
 use Rattle.cp_rpc.specs.declared.source.Look.TheVariants as looks
 
@@ -44,10 +45,6 @@ count_in other = 0
 text-some : (bs : List ℕ) → is_text bs ≡ true → 0 < length bs
 text-some [] h = cc
 text-some (b ∷ bs) h = omega arith
-
-pub and-right : (a b : Bool) → (a && b) ≡ true → b ≡ true
-and-right true b h = h
-and-right false b h = cc
 
 pub item-struct : (t : Node) (i : ℕ) → i < length (items_of t) → IsStructField (get_or (items_of t) i null)
 item-struct (structs d n bs) i h = go bs i h

@@ -1,9 +1,4 @@
-pub mod Adding
 pub mod Firsts
 pub mod Items
 pub mod Parts
-pub mod Readback
-pub mod Saying
-pub mod Shaping
 pub mod Texts
-pub mod Words

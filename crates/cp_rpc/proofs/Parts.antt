@@ -6,7 +6,8 @@ use Rattle.cp_tree.specs.Shaped.{Shaped, EachShaped, EachEven, HasSizes}
 use Rattle.cp_tree.specs.NodeOf.{node_of, body_of, bodies_of}
 use Rattle.cp_tree.specs.declared.tree.Tree.{Structs}
 use Rattle.cp_tree.specs.declared.tree.Body.{Body, the_lemmas}
-use Rattle.cp_rpc.specs.Fields.{items_of, structs_in, look_of}
+use Rattle.cp_messages.specs.Fields.{items_of, structs_in}
+use Rattle.cp_rpc.specs.Looked.{look_of}
 use Rattle.cp_rpc.specs.OwnedNode.{body_node}
 use Rattle.cp_rpc.specs.declared.source.Look.TheVariants as looks
 

@@ -7,7 +7,7 @@ use Rattle.cp_fields.specs.Kinds.{wrong}
 use Rattle.cp_fields.specs.Pointers.{ends_in_zero, text_field}
 use Rattle.cp_fields.specs.declared.kind.Kind.TheVariants as kinds
 use Rattle.cp_fields.specs.declared.kind.WrongKind.{WrongKind}
-use Rattle.cp_rpc.specs.Fields.{IsTextField, bytes_of, is_text, text_of}
+use Rattle.cp_messages.specs.Fields.{IsTextField, bytes_of, is_text, text_of}
 
 abbrev found_in : Result (List ℕ) WrongKind → List ℕ
 found_in (Ok bs) = bs

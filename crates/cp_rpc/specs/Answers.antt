@@ -2,9 +2,9 @@
 use Rattle.std.specs.Prelude.{◌≡◌, ◌⊎◌, List, [], ◌∷◌, Option, None, Some, Result, Ok, Err}
 use Rattle.cp_tree.specs.Node.{Node}
 use Rattle.cp_rpc.specs.Viewed.{viewed}
-use Rattle.cp_rpc.specs.declared.fault.SchemaFault.{SchemaFault}
-use Rattle.cp_rpc.specs.declared.fault.SchemaFault.TheVariants as faults
-use Rattle.cp_rpc.specs.declared.message.Message.{Message}
+use Rattle.cp_messages.specs.declared.fault.SchemaFault.{SchemaFault}
+use Rattle.cp_messages.specs.declared.fault.SchemaFault.TheVariants as faults
+use Rattle.cp_messages.specs.declared.message.Message.{Message}
 use Rattle.cp_rpc.specs.declared.message.MessageIn.{MessageIn}
 
 -- the first of a list

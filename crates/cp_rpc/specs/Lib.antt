@@ -1,13 +1,4 @@
 pub mod Answers
 pub mod Viewed
-pub mod Names
-pub mod Fields
-pub mod Denoted
-pub mod Faults
-pub mod Others
-pub mod Written
-pub mod Representable
-pub mod Fitting
-pub mod Refused
-pub mod Says
+pub mod Looked
 pub mod OwnedNode

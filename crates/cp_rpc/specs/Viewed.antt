@@ -1,41 +1,41 @@
 -- What is shown by a view of each struct.
 use Rattle.cp_tree.specs.Node.{Node}
-use Rattle.cp_rpc.specs.declared.exception.Exception.{Exception}
+use Rattle.cp_messages.specs.declared.exception.Exception.{Exception}
 use Rattle.cp_rpc.specs.declared.exception.ExceptionView.{ExceptionView}
-use Rattle.cp_rpc.specs.declared.promised_answer.PromisedAnswer.{PromisedAnswer}
+use Rattle.cp_messages.specs.declared.promised_answer.PromisedAnswer.{PromisedAnswer}
 use Rattle.cp_rpc.specs.declared.promised_answer.PromisedAnswerView.{PromisedAnswerView}
-use Rattle.cp_rpc.specs.declared.target.Target.{Target}
-use Rattle.cp_rpc.specs.declared.target.Target.TheVariants as targets
+use Rattle.cp_messages.specs.declared.target.Target.{Target}
+use Rattle.cp_messages.specs.declared.target.Target.TheVariants as targets
 use Rattle.cp_rpc.specs.declared.target.TargetView.{TargetView}
 use Rattle.cp_rpc.specs.declared.target.TargetView.TheVariants as target_views
-use Rattle.cp_rpc.specs.declared.descriptor.Descriptor.{Descriptor}
-use Rattle.cp_rpc.specs.declared.descriptor.Descriptor.TheVariants as descriptors
+use Rattle.cp_messages.specs.declared.descriptor.Descriptor.{Descriptor}
+use Rattle.cp_messages.specs.declared.descriptor.Descriptor.TheVariants as descriptors
 use Rattle.cp_rpc.specs.declared.descriptor.DescriptorView.{DescriptorView}
 use Rattle.cp_rpc.specs.declared.descriptor.DescriptorView.TheVariants as descriptor_views
-use Rattle.cp_rpc.specs.declared.payload.Payload.{Payload}
+use Rattle.cp_messages.specs.declared.payload.Payload.{Payload}
 use Rattle.cp_rpc.specs.declared.payload.PayloadView.{PayloadView}
-use Rattle.cp_rpc.specs.declared.call.SendResultsTo.{SendResultsTo}
+use Rattle.cp_messages.specs.declared.call.SendResultsTo.{SendResultsTo}
 use Rattle.cp_rpc.specs.declared.call.SendResultsToView.{SendResultsToView}
-use Rattle.cp_rpc.specs.declared.call.SendResultsTo.TheVariants as results_to
+use Rattle.cp_messages.specs.declared.call.SendResultsTo.TheVariants as results_to
 use Rattle.cp_rpc.specs.declared.call.SendResultsToView.TheVariants as results_to_views
-use Rattle.cp_rpc.specs.declared.call.Call.{Call}
+use Rattle.cp_messages.specs.declared.call.Call.{Call}
 use Rattle.cp_rpc.specs.declared.call.CallView.{CallView}
-use Rattle.cp_rpc.specs.declared.returned.Returned.{Returned}
+use Rattle.cp_messages.specs.declared.returned.Returned.{Returned}
 use Rattle.cp_rpc.specs.declared.returned.ReturnedView.{ReturnedView}
-use Rattle.cp_rpc.specs.declared.returned.Returned.TheVariants as returns
+use Rattle.cp_messages.specs.declared.returned.Returned.TheVariants as returns
 use Rattle.cp_rpc.specs.declared.returned.ReturnedView.TheVariants as return_views
-use Rattle.cp_rpc.specs.declared.returned.Return.{Return}
+use Rattle.cp_messages.specs.declared.returned.Return.{Return}
 use Rattle.cp_rpc.specs.declared.returned.ReturnView.{ReturnView}
-use Rattle.cp_rpc.specs.declared.resolve.Resolution.{Resolution}
+use Rattle.cp_messages.specs.declared.resolve.Resolution.{Resolution}
 use Rattle.cp_rpc.specs.declared.resolve.ResolutionView.{ResolutionView}
-use Rattle.cp_rpc.specs.declared.resolve.Resolution.TheVariants as resolutions
+use Rattle.cp_messages.specs.declared.resolve.Resolution.TheVariants as resolutions
 use Rattle.cp_rpc.specs.declared.resolve.ResolutionView.TheVariants as resolution_views
-use Rattle.cp_rpc.specs.declared.resolve.Resolve.{Resolve}
+use Rattle.cp_messages.specs.declared.resolve.Resolve.{Resolve}
 use Rattle.cp_rpc.specs.declared.resolve.ResolveView.{ResolveView}
-use Rattle.cp_rpc.specs.declared.disembargo.Disembargo.{Disembargo}
+use Rattle.cp_messages.specs.declared.disembargo.Disembargo.{Disembargo}
 use Rattle.cp_rpc.specs.declared.disembargo.DisembargoView.{DisembargoView}
-use Rattle.cp_rpc.specs.declared.message.Message.{Message}
-use Rattle.cp_rpc.specs.declared.message.Message.TheVariants as messages
+use Rattle.cp_messages.specs.declared.message.Message.{Message}
+use Rattle.cp_messages.specs.declared.message.Message.TheVariants as messages
 use Rattle.cp_rpc.specs.declared.message.MessageIn.{MessageIn}
 use Rattle.cp_rpc.specs.declared.message.MessageIn.TheVariants as views
 

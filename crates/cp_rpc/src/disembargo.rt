@@ -1,116 +1,25 @@
-//! Disembargoes.
+//! Reading disembargoes.
 
 ghost use Rattle.std.specs.Prelude.{◌≡◌, IfOk};
-ghost use Rattle.cp_rpc.specs.Fields.{IsStructField};
+ghost use Rattle.cp_messages.specs.Fields.{IsStructField};
 ghost use Rattle.cp_rpc.specs.Answers.{Checks, Gives};
-ghost use Rattle.cp_rpc.specs.Denoted.{context_denoted, disembargo_denoted};
-ghost use Rattle.cp_rpc.specs.Faults.{disembargo_faults};
+ghost use Rattle.cp_messages.specs.Denoted.{context_denoted, disembargo_denoted};
+ghost use Rattle.cp_messages.specs.Faults.{disembargo_faults};
 ghost use Rattle.cp_rpc.specs.Viewed.{viewed_disembargo};
-ghost use Rattle.cp_rpc.specs.Representable.{IsContext, IsDisembargo};
-ghost use Rattle.cp_rpc.specs.Written.{context_number, context_id, disembargo_written};
-ghost use Rattle.cp_tree.specs.DraftOf.{draft_of};
 
-use crate::data::{u16_part, u32_part};
-use crate::draft::struct_of;
-use crate::fault::{Field, SchemaFault};
 use crate::field::struct_field;
 use crate::source::Source;
-use crate::target::{Target, TargetView};
-use cp_fields::{Past, u16_at, u32_at};
-use cp_tree::Draft;
+use crate::target::TargetView;
+use cp_fields::{u16_at, u32_at};
+use cp_messages::{Context, Disembargo, Field, SchemaFault};
+use cp_tree::Past;
 use std::alloc::{AllocError, Global};
-
-/// `context` of `struct Disembargo` of rpc.capnp.
-#[derive(Clone, Copy, PartialEq, Eq, Debug)]
-pub enum Context {
-    /// `senderLoopback @1 :EmbargoId`.
-    SenderLoopback(u32),
-    /// `receiverLoopback @2 :EmbargoId`.
-    ReceiverLoopback(u32),
-    /// `accept @3 :Void`.
-    Accept,
-    /// `provide @4 :QuestionId`.
-    Provide(u32),
-    /// Any other number.
-    Unknown(Past<3>),
-}
-
-/// `struct Disembargo` of rpc.capnp.
-#[derive(Drop)]
-pub struct Disembargo {
-    /// `context :union`.
-    pub context: Context,
-    /// `target @0 :MessageTarget`.
-    pub target: Target,
-}
 
 /// A disembargo that is read in place.
 #[derive(Drop)]
 pub struct DisembargoView<S: Source> {
     pub context: Context,
     pub target: TargetView<S>,
-}
-
-impl Context {
-    /// The context that a struct's data words say.
-    fn of(words: &[u64]) -> Context
-        ensures { result ≡ context_denoted words.now }
-    {
-        let number = u32_at(words, Disembargo::NUMBER);
-        match u16_at(words, Disembargo::CONTEXT) {
-            0 => Context::SenderLoopback(number),
-            1 => Context::ReceiverLoopback(number),
-            2 => Context::Accept,
-            3 => Context::Provide(number),
-            which => Context::Unknown(Past::of(which)),
-        }
-    }
-
-    /// Its member's number, and the number that the member carries.
-    fn parts(&self) -> (u16, u32)
-        ensures number { result.0 ≡ context_number self.now }
-        ensures id { result.1 ≡ context_id self.now }
-        ensures held { IsContext self.now }
-    {
-        match self {
-            Context::SenderLoopback(number) => (0, *number),
-            Context::ReceiverLoopback(number) => (1, *number),
-            Context::Accept => (2, 0),
-            Context::Provide(number) => (3, *number),
-            Context::Unknown(which) => (which.number(), 0),
-        }
-    }
-}
-
-impl Disembargo {
-    /// `senderLoopback @1 :EmbargoId`, `receiverLoopback @2 :EmbargoId` and
-    /// `provide @4 :QuestionId`, u32.
-    const NUMBER: u32 = 0;
-    /// The number of `context :union`, u16.
-    const CONTEXT: u32 = 2;
-    /// `target @0 :MessageTarget`, a pointer.
-    const TARGET: u32 = 0;
-
-    /// An equal disembargo.
-    pub fn copy(&self, alloc: Global) -> Result<Disembargo, AllocError>
-        ensures { IfOk result (λ d. d ≡ self.now) }
-    {
-        Ok(Disembargo {
-            context: self.context,
-            target: self.target.copy(alloc)?,
-        })
-    }
-
-    /// The struct that the disembargo is written as.
-    pub(crate) fn draft<'a>(&self, alloc: Global) -> Result<Draft<'a>, AllocError>
-        ensures made { IfOk result (λ d. draft_of d ≡ disembargo_written self.now) }
-        ensures held { IfOk result (λ d. IsDisembargo self.now) }
-    {
-        let (which, number) = self.context.parts();
-        let word = u32_part(Disembargo::NUMBER, number) + u16_part(Disembargo::CONTEXT, which);
-        let target = self.target.draft(alloc)?;
-        struct_of(alloc, &[word], target)
-    }
 }
 
 impl<S: Source> DisembargoView<S> {
@@ -131,7 +40,7 @@ impl<S: Source> DisembargoView<S> {
     {
         let target = struct_field(t, Disembargo::TARGET, Field::DisembargoTarget)?;
         Ok(DisembargoView {
-            context: Context::of(t.data()),
+            context: context_of(t.data()),
             target: TargetView::of(&target)?,
         })
     }
@@ -144,5 +53,19 @@ impl<S: Source> DisembargoView<S> {
             context: self.context,
             target: self.target.target(alloc)?,
         })
+    }
+}
+
+/// The context that a struct's data words say.
+fn context_of(words: &[u64]) -> Context
+    ensures { result ≡ context_denoted words.now }
+{
+    let number = u32_at(words, Disembargo::NUMBER);
+    match u16_at(words, Disembargo::CONTEXT) {
+        0 => Context::SenderLoopback(number),
+        1 => Context::ReceiverLoopback(number),
+        2 => Context::Accept,
+        3 => Context::Provide(number),
+        which => Context::Unknown(Past::of(which)),
     }
 }

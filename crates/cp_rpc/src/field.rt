@@ -3,10 +3,10 @@
 ghost use Rattle.std.specs.Prelude.{◌≡◌, length, List, [], ◌∷◌, IfOk, IfErr};
 ghost use Rattle.cp_tree.specs.Node.{Node};
 ghost use Rattle.cp_tree.specs.Seen.{pointee_of};
-ghost use Rattle.cp_rpc.specs.Fields.{IsStructField, IsTextField, items_of, struct_faults, list_faults, text_faults};
+ghost use Rattle.cp_messages.specs.Fields.{IsStructField, IsTextField, items_of, struct_faults, list_faults, text_faults};
 
-use crate::fault::{Field, SchemaFault};
 use crate::source::{Look, Source};
+use cp_messages::{Field, SchemaFault};
 
 /// A field of a struct's type: null, or a struct.
 pub(crate) fn struct_field<S: Source>(t: &S, i: u32, field: Field) -> Result<S, SchemaFault>

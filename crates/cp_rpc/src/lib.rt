@@ -1,16 +1,12 @@
-//! The messages of rpc.capnp, typed: reading them from the tree that the root of a Cap'n Proto
-//! message is, and making that tree of them.
+//! The messages of rpc.capnp, read from the tree that the root of a Cap'n Proto message is. What they are,
+//! and making that tree of them, is cp_messages, whose names are passed on.
 #![tactic(auto)]
 
 mod call;
-mod data;
 mod descriptor;
 mod disembargo;
-mod draft;
 mod exception;
-mod fault;
 mod field;
-mod laws;
 mod message;
 mod owned;
 mod payload;
@@ -22,22 +18,23 @@ mod small;
 mod source;
 mod target;
 mod text;
-mod write;
 
-pub use call::{Call, CallView, SendResultsTo, SendResultsToView};
-pub use descriptor::{Descriptor, DescriptorView};
-pub use disembargo::{Context, Disembargo, DisembargoView};
-pub use exception::{Exception, ExceptionKind, ExceptionView};
-pub use fault::{Field, SchemaFault};
-pub use laws::{read_back, writable};
-pub use message::{Message, MessageIn, MessageView, OtherWhich};
-pub use payload::{CapTable, CapTableView, Payload, PayloadView};
-pub use promised_answer::{Op, PromisedAnswer, PromisedAnswerView, Transform, TransformView};
+pub use call::{CallView, SendResultsToView};
+pub use cp_messages::{
+    Bootstrap, Call, CapTable, Context, Descriptor, Disembargo, Exception, ExceptionKind, Field,
+    Finish, Message, Op, OtherWhich, Payload, PromisedAnswer, Release, Resolution, Resolve, Return,
+    Returned, SchemaFault, SendResultsTo, Target, Text, Transform, draft_of, read_back, tree_of,
+    writable,
+};
+pub use descriptor::DescriptorView;
+pub use disembargo::DisembargoView;
+pub use exception::ExceptionView;
+pub use message::{MessageIn, MessageView};
+pub use payload::{CapTableView, PayloadView};
+pub use promised_answer::{PromisedAnswerView, TransformView};
 pub use read::{check_message, message_of, message_view};
-pub use resolve::{Resolution, ResolutionView, Resolve, ResolveView};
-pub use returned::{Return, ReturnView, Returned, ReturnedView};
-pub use small::{Bootstrap, Finish, Release};
+pub use resolve::{ResolutionView, ResolveView};
+pub use returned::{ReturnView, ReturnedView};
 pub use source::{Look, Source};
-pub use target::{Target, TargetView};
-pub use text::{Text, TextView};
-pub use write::{draft_of, tree_of};
+pub use target::TargetView;
+pub use text::TextView;

@@ -2,12 +2,14 @@
 
 ghost use Rattle.std.specs.Prelude.{◌≡◌, map};
 ghost use Rattle.cp_tree.specs.NodeOf.{node_of};
-ghost use Rattle.cp_rpc.specs.Fields.{items_of, look_of};
+ghost use Rattle.cp_messages.specs.Fields.{items_of};
+ghost use Rattle.cp_rpc.specs.Looked.{look_of};
 ghost use Rattle.cp_rpc.specs.OwnedNode.{body_node};
 
 use crate::source::{Look, Source};
-use crate::text::{Text, is_text, text_at};
+use crate::text::{is_text, text_at};
 use cp_fields::Pointee;
+use cp_messages::Text;
 use cp_tree::{Body, Tree, Whole};
 use std::alloc::{AllocError, Global};
 use std::marker::Model;

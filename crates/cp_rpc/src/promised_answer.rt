@@ -1,147 +1,20 @@
-//! What an answer will give.
+//! Reading what an answer will give.
 
-ghost use Rattle.std.specs.Prelude.{◌≡◌, ◌<◌, ◌^◌, true, length, map, slice_index_or, All, IfOk};
-ghost use Rattle.cp_tree.specs.DraftOf.{draft_of, draft_body_of};
-ghost use Rattle.cp_tree.specs.Node.{data_of};
-ghost use Rattle.cp_rpc.specs.Fields.{IsStructField, items_of};
+ghost use Rattle.std.specs.Prelude.{◌≡◌, ◌<◌, length, map, slice_index_or, IfOk};
+ghost use Rattle.cp_messages.specs.Fields.{IsStructField, items_of};
 ghost use Rattle.cp_rpc.specs.Answers.{Checks, Gives};
-ghost use Rattle.cp_rpc.specs.Denoted.{op_denoted, promised_answer_denoted};
-ghost use Rattle.cp_rpc.specs.Faults.{promised_answer_faults};
-ghost use Rattle.cp_rpc.specs.Fitting.{promised_answer_fits};
-ghost use Rattle.cp_rpc.specs.Representable.{IsOp, IsPromisedAnswer};
-ghost use Rattle.cp_rpc.specs.Written.{body_written, op_number, op_field, op_written, transform_written, promised_answer_written};
+ghost use Rattle.cp_messages.specs.Denoted.{op_denoted, promised_answer_denoted};
+ghost use Rattle.cp_messages.specs.Faults.{promised_answer_faults};
 ghost use Rattle.cp_rpc.specs.Viewed.{viewed_promised_answer};
-ghost use Rattle.cp_rpc.specs.declared.promised_answer.Op.{Op};
+ghost use Rattle.cp_messages.specs.declared.promised_answer.Op.{Op};
 
-use crate::data::{u16_part, u32_part};
-use crate::draft::{list_of, null, struct_of, words_of};
-use crate::fault::{Field, SchemaFault};
 use crate::field::{item_count, list_field};
 use crate::source::Source;
-use cp_fields::{Past, u16_at, u32_at};
-use cp_tree::{Draft, DraftBody};
+use cp_fields::{u16_at, u32_at};
+use cp_messages::{Field, Op, PromisedAnswer, SchemaFault, Transform};
+use cp_tree::Past;
 use std::alloc::{AllocError, Global};
 use std::marker::Model;
-
-/// `struct PromisedAnswer.Op` of rpc.capnp: a step from an answer's content to a capability in it.
-#[derive(Clone, Copy, PartialEq, Eq, Debug)]
-pub enum Op {
-    /// `noop @0 :Void`.
-    Noop,
-    /// `getPointerField @1 :UInt16`.
-    GetPointerField(u16),
-    /// Any other number.
-    Unknown(Past<1>),
-}
-
-impl Op {
-    /// The union's number, u16.
-    const WHICH: u32 = 0;
-    /// `getPointerField @1 :UInt16`.
-    const FIELD: u32 = 1;
-
-    /// The step that a struct's data words say.
-    fn of(words: &[u64]) -> Op
-        ensures { result ≡ op_denoted words.now }
-    {
-        match u16_at(words, Op::WHICH) {
-            0 => Op::Noop,
-            1 => Op::GetPointerField(u16_at(words, Op::FIELD)),
-            number => Op::Unknown(Past::of(number)),
-        }
-    }
-
-    /// Its member's number, and the number that the member carries.
-    fn parts(&self) -> (u16, u16)
-        ensures number { result.0 ≡ op_number self.now }
-        ensures field { result.1 ≡ op_field self.now }
-        ensures held { IsOp self.now }
-    {
-        match self {
-            Op::Noop => (0, 0),
-            Op::GetPointerField(field) => (1, *field),
-            Op::Unknown(number) => (number.number(), 0),
-        }
-    }
-
-    /// The struct that the step is written as.
-    fn draft<'a>(&self, alloc: Global) -> Result<DraftBody<'a>, AllocError>
-        ensures made { IfOk result (λ b. draft_body_of b ≡ body_written (op_written self.now)) }
-        ensures held { IfOk result (λ b. IsOp self.now) }
-    {
-        let (number, field) = self.parts();
-        let word = u16_part(Op::WHICH, number) + u16_part(Op::FIELD, field);
-        words_of(alloc, &[word])
-    }
-}
-
-/// `transform @1 :List(Op)` of `struct PromisedAnswer`. Contracts see it as the list of its steps.
-pub struct Transform {
-    ops: Vec<Op>,
-}
-
-// Not derived: a crate that lets one go calls this function, and need not prove the drop of all that it holds.
-impl Drop for Transform {
-    fn drop(self) {
-        let Transform { ops: _ } = self;
-    }
-}
-
-impl Model for Transform {
-    ghost use Rattle.std.specs.Prelude.{List};
-    ghost use Rattle.cp_rpc.specs.declared.promised_answer.Op.{Op};
-
-    ghost Value = { List Op };
-
-    ghost view = { λ t. t.ops.items };
-}
-
-impl Transform {
-    /// These steps, in order.
-    pub fn new(ops: Vec<Op>) -> Transform
-        ensures { result ≡ ops.items }
-    {
-        Transform { ops }
-    }
-
-    /// The steps, lent.
-    pub fn ops(&self) -> &[Op]
-        ensures { result.now ≡ self.now }
-    {
-        &self.ops
-    }
-
-    /// The steps themselves.
-    pub fn into_ops(self) -> Vec<Op>
-        ensures { result.items ≡ self }
-    {
-        let Transform { ops } = self;
-        ops
-    }
-
-    /// An equal transform.
-    pub fn copy(&self, alloc: Global) -> Result<Transform, AllocError>
-        ensures { IfOk result (λ t. t ≡ self.now) }
-    {
-        Ok(Transform::new(Vec::from_slice(alloc, self.ops())?))
-    }
-
-    /// The list that the transform is written as.
-    fn draft<'a>(&self, alloc: Global) -> Result<Draft<'a>, AllocError>
-        ensures made { IfOk result (λ d. draft_of d ≡ transform_written self.now) }
-        ensures held { IfOk result (λ d. All IsOp self.now) }
-    {
-        let ops = self.ops();
-        if ops.is_empty() {
-            return Ok(null());
-        }
-        let mut items = Vec::with_capacity(alloc, ops.len())?;
-        for op in ops {
-            items.push(op.draft(alloc)?)?;
-        }
-        Ok(list_of(1, 0, items))
-    }
-}
 
 /// A transform that is read in place. Contracts see it as the list of its steps.
 #[derive(Drop)]
@@ -151,12 +24,12 @@ pub struct TransformView<S: Source> {
 
 impl<S: Source> Model for TransformView<S> {
     ghost use Rattle.std.specs.Prelude.{List, map};
-    ghost use Rattle.cp_rpc.specs.declared.promised_answer.Op.{Op};
+    ghost use Rattle.cp_messages.specs.declared.promised_answer.Op.{Op};
 
     ghost Value = { List Op };
 
-    ghost use Rattle.cp_rpc.specs.Fields.{items_of};
-    ghost use Rattle.cp_rpc.specs.Denoted.{ops_denoted};
+    ghost use Rattle.cp_messages.specs.Fields.{items_of};
+    ghost use Rattle.cp_messages.specs.Denoted.{ops_denoted};
 
     ghost view = { λ t. ops_denoted (S.seen t.source) };
 }
@@ -174,7 +47,7 @@ impl<S: Source> TransformView<S> {
         requires { i < length self.now }
         ensures { (d : Op) → result ≡ slice_index_or self.now i d }
     {
-        Op::of(self.source.item(i).data())
+        op_of(self.source.item(i).data())
     }
 
     /// The transform, owned.
@@ -187,49 +60,6 @@ impl<S: Source> TransformView<S> {
             ops.push(self.op(i))?;
         }
         Ok(Transform::new(ops))
-    }
-}
-
-/// `struct PromisedAnswer` of rpc.capnp.
-#[derive(Drop)]
-pub struct PromisedAnswer {
-    /// `questionId @0 :QuestionId`.
-    pub question_id: u32,
-    /// `transform @1 :List(Op)`.
-    pub transform: Transform,
-}
-
-impl PromisedAnswer {
-    /// `questionId @0 :QuestionId`, u32.
-    const QUESTION_ID: u32 = 0;
-    /// `transform @1 :List(Op)`, a pointer.
-    const TRANSFORM: u32 = 0;
-
-    /// An equal promised answer.
-    pub fn copy(&self, alloc: Global) -> Result<PromisedAnswer, AllocError>
-        ensures { IfOk result (λ p. p ≡ self.now) }
-    {
-        Ok(PromisedAnswer {
-            question_id: self.question_id,
-            transform: self.transform.copy(alloc)?,
-        })
-    }
-
-    /// Whether each list of the struct that the promised answer is written as is short enough.
-    pub(crate) fn fits(&self) -> bool
-        ensures { result ≡ promised_answer_fits self.now }
-    {
-        self.transform.ops().len() < 1 << 29
-    }
-
-    /// The struct that the promised answer is written as.
-    pub(crate) fn draft<'a>(&self, alloc: Global) -> Result<Draft<'a>, AllocError>
-        ensures made { IfOk result (λ d. draft_of d ≡ promised_answer_written self.now) }
-        ensures held { IfOk result (λ d. IsPromisedAnswer self.now) }
-    {
-        let word = u32_part(PromisedAnswer::QUESTION_ID, self.question_id);
-        let transform = self.transform.draft(alloc)?;
-        struct_of(alloc, &[word], transform)
     }
 }
 
@@ -270,5 +100,16 @@ impl<S: Source> PromisedAnswerView<S> {
             question_id: self.question_id,
             transform: self.transform.transform(alloc)?,
         })
+    }
+}
+
+/// The step that a struct's data words say.
+fn op_of(words: &[u64]) -> Op
+    ensures { result ≡ op_denoted words.now }
+{
+    match u16_at(words, Op::WHICH) {
+        0 => Op::Noop,
+        1 => Op::GetPointerField(u16_at(words, Op::FIELD)),
+        number => Op::Unknown(Past::of(number)),
     }
 }

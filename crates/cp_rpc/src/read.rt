@@ -3,14 +3,14 @@
 ghost use Rattle.std.specs.Prelude.{◌≡◌, Some, IsOk, IfOk, IfErr, OnOk};
 ghost use Rattle.cp_tree.specs.Node.{IsStruct};
 ghost use Rattle.cp_rpc.specs.Answers.{Answers, AnswersView, IsFirstFault, first_of};
-ghost use Rattle.cp_rpc.specs.Says.{Says};
-ghost use Rattle.cp_rpc.specs.Faults.{message_faults};
+ghost use Rattle.cp_messages.specs.Says.{Says};
+ghost use Rattle.cp_messages.specs.Faults.{message_faults};
 ghost use Rattle.cp_rpc.specs.Viewed.{viewed};
-ghost use Rattle.cp_rpc.specs.declared.message.Message.{Message};
+ghost use Rattle.cp_messages.specs.declared.message.Message.{Message};
 
-use crate::fault::SchemaFault;
-use crate::message::{Message, MessageIn, MessageView};
+use crate::message::{MessageIn, MessageView};
 use crate::owned::Owned;
+use cp_messages::{Message, SchemaFault};
 use cp_reading::View;
 use cp_tree::Object;
 use std::alloc::Global;

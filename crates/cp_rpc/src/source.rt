@@ -3,17 +3,19 @@
 ghost use Rattle.std.specs.Prelude.{◌≡◌, ◌<◌, length, slice_index_or, IfOk};
 ghost use Rattle.cp_tree.specs.Node.{Node, null, data_of};
 ghost use Rattle.cp_tree.specs.Seen.{pointee_of};
-ghost use Rattle.cp_rpc.specs.Fields.{IsStructField, IsTextField, items_of, look_of, bytes_of, text_of, is_text};
+ghost use Rattle.cp_messages.specs.Fields.{IsStructField, IsTextField, items_of, bytes_of, text_of, is_text};
+ghost use Rattle.cp_rpc.specs.Looked.{look_of};
 
-use crate::text::{Text, is_text, text_at};
+use crate::text::{is_text, text_at};
 use cp_fields::Pointee;
+use cp_messages::Text;
 use cp_reading::View;
 use cp_tree::{Shape, Whole};
 use cp_words::ElementSize;
 use std::alloc::{AllocError, Global};
 
 /// What a field may ask of a tree.
-#[derive(Clone, Copy, PartialEq, Eq, Debug)]
+#[derive(Clone, Copy)]
 pub enum Look {
     Null,
     Struct,

@@ -1,36 +1,19 @@
-//! What a call or a disembargo is sent to.
+//! Reading what a call or a disembargo is sent to.
 
 ghost use Rattle.std.specs.Prelude.{◌≡◌, IfOk};
-ghost use Rattle.cp_rpc.specs.Fields.{IsStructField};
+ghost use Rattle.cp_messages.specs.Fields.{IsStructField};
 ghost use Rattle.cp_rpc.specs.Answers.{Checks, Gives};
-ghost use Rattle.cp_rpc.specs.Denoted.{target_denoted};
-ghost use Rattle.cp_rpc.specs.Faults.{target_faults};
+ghost use Rattle.cp_messages.specs.Denoted.{target_denoted};
+ghost use Rattle.cp_messages.specs.Faults.{target_faults};
 ghost use Rattle.cp_rpc.specs.Viewed.{viewed_target};
-ghost use Rattle.cp_rpc.specs.Fitting.{target_fits};
-ghost use Rattle.cp_rpc.specs.Representable.{IsTarget};
-ghost use Rattle.cp_rpc.specs.Written.{target_number, target_id, target_pointer, target_written};
-ghost use Rattle.cp_tree.specs.DraftOf.{draft_of};
 
-use crate::data::{u16_part, u32_part};
-use crate::draft::{null, struct_of};
-use crate::fault::{Field, SchemaFault};
 use crate::field::struct_field;
-use crate::promised_answer::{PromisedAnswer, PromisedAnswerView};
+use crate::promised_answer::PromisedAnswerView;
 use crate::source::Source;
-use cp_fields::{Past, u16_at, u32_at};
-use cp_tree::Draft;
+use cp_fields::{u16_at, u32_at};
+use cp_messages::{Field, SchemaFault, Target};
+use cp_tree::Past;
 use std::alloc::{AllocError, Global};
-
-/// `struct MessageTarget` of rpc.capnp.
-#[derive(Drop)]
-pub enum Target {
-    /// `importedCap @0 :ImportId`.
-    ImportedCap(u32),
-    /// `promisedAnswer @1 :PromisedAnswer`.
-    PromisedAnswer(PromisedAnswer),
-    /// Any other number.
-    Unknown(Past<1>),
-}
 
 /// A target that is read in place.
 #[derive(Drop)]
@@ -38,60 +21,6 @@ pub enum TargetView<S: Source> {
     ImportedCap(u32),
     PromisedAnswer(PromisedAnswerView<S>),
     Unknown(Past<1>),
-}
-
-impl Target {
-    /// The union's number, u16.
-    const WHICH: u32 = 2;
-    /// `importedCap @0 :ImportId`, u32.
-    const IMPORTED_CAP: u32 = 0;
-    /// `promisedAnswer @1 :PromisedAnswer`, a pointer.
-    const PROMISED_ANSWER: u32 = 0;
-
-    /// An equal target.
-    pub fn copy(&self, alloc: Global) -> Result<Target, AllocError>
-        ensures { IfOk result (λ t. t ≡ self.now) }
-    {
-        Ok(match self {
-            Target::ImportedCap(id) => Target::ImportedCap(*id),
-            Target::PromisedAnswer(answer) => Target::PromisedAnswer(answer.copy(alloc)?),
-            Target::Unknown(number) => Target::Unknown(*number),
-        })
-    }
-
-    /// Whether each list of the struct that the target is written as is short enough.
-    pub(crate) fn fits(&self) -> bool
-        ensures { result ≡ target_fits self.now }
-    {
-        match self {
-            Target::PromisedAnswer(answer) => answer.fits(),
-            _ => true,
-        }
-    }
-
-    /// Its member's number, the number that the member carries, and what its pointer stands for.
-    fn parts<'a>(&self, alloc: Global) -> (u16, u32, Result<Draft<'a>, AllocError>)
-        ensures number { result.0 ≡ target_number self.now }
-        ensures id { result.1 ≡ target_id self.now }
-        ensures pointer { IfOk result.2 (λ d. draft_of d ≡ target_pointer self.now) }
-        ensures held { IfOk result.2 (λ d. IsTarget self.now) }
-    {
-        match self {
-            Target::ImportedCap(id) => (0, *id, Ok(null())),
-            Target::PromisedAnswer(answer) => (1, 0, answer.draft(alloc)),
-            Target::Unknown(number) => (number.number(), 0, Ok(null())),
-        }
-    }
-
-    /// The struct that the target is written as.
-    pub(crate) fn draft<'a>(&self, alloc: Global) -> Result<Draft<'a>, AllocError>
-        ensures made { IfOk result (λ d. draft_of d ≡ target_written self.now) }
-        ensures held { IfOk result (λ d. IsTarget self.now) }
-    {
-        let (number, id, pointer) = self.parts(alloc);
-        let word = u32_part(Target::IMPORTED_CAP, id) + u16_part(Target::WHICH, number);
-        struct_of(alloc, &[word], pointer?)
-    }
 }
 
 impl<S: Source> TargetView<S> {

@@ -1,9 +1,9 @@
 -- What calls come to, as servers and objects make it.
 use Rattle.std.specs.Prelude.{ℕ, List, [], ◌∷◌, ◌++◌, ◌==◌, codes, if◌then◌else◌}
 use Rattle.std.specs.List.{list_any}
-use Rattle.cp_rpc.specs.declared.exception.Exception.{Exception}
-use Rattle.cp_rpc.specs.declared.exception.ExceptionKind.{ExceptionKind}
-use Rattle.cp_rpc.specs.declared.exception.ExceptionKind.TheVariants as kinds
+use Rattle.cp_messages.specs.declared.exception.Exception.{Exception}
+use Rattle.cp_messages.specs.declared.exception.ExceptionKind.{ExceptionKind}
+use Rattle.cp_messages.specs.declared.exception.ExceptionKind.TheVariants as kinds
 use Rattle.cp_refs.specs.declared.cap.Cap.{Cap}
 use Rattle.cp_refs.specs.declared.cap.Cap.TheVariants as caps
 use Rattle.cp_refs.specs.declared.outcome.Outcome.{Outcome}

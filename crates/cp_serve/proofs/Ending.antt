@@ -2,7 +2,7 @@
 use Rattle.std.proofs.Common.{◌≡◌, inr, ℕ, ◌+◌, ◌-◌, ◌^◌, min, IsSome, Bool, true, List, [], ◌++◌, Option, None, refl, sym, ap, ◌∙◌, subst, length, append-nil, length-append, add_assoc, drop, arith}
 use Rattle.std.specs.Io.KnownBytes.{Appends, Consumes}
 use Rattle.cp_frame.specs.declared.mode.Mode.{Mode}
-use Rattle.cp_rpc.specs.declared.message.Message.{Message}
+use Rattle.cp_messages.specs.declared.message.Message.{Message}
 use Rattle.cp_stream.specs.declared.fault.StreamFault.TheVariants as streams
 use Rattle.cp_stream.specs.Read.{FailedOnce}
 use Rattle.cp_vat_machine.specs.declared.effect.Effect.{Effect}

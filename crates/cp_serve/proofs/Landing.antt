@@ -5,7 +5,7 @@ use Rattle.std.proofs.Math.ListN.{drop_of_length-le}
 use Rattle.std.specs.Io.KnownBytes.{Appends, append_known}
 use Rattle.cp_words.specs.Limits.{standard}
 use Rattle.cp_frame.specs.declared.mode.Mode.{Mode}
-use Rattle.cp_rpc.specs.declared.message.Message.{Message}
+use Rattle.cp_messages.specs.declared.message.Message.{Message}
 use Rattle.cp_stream.specs.declared.fault.StreamFault.TheVariants as streams
 use Rattle.cp_stream.specs.Read.{FailedOnce}
 use Rattle.cp_stream.specs.Write.{IsWrittenAs}

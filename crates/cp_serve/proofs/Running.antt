@@ -1,7 +1,7 @@
 -- What is served is a run of a vat.
 use Rattle.std.proofs.Common.{◌≡◌, ℕ, IsSome, List, [], ◌∷◌, ◌++◌, Option, Some, None, Bool, refl, sym, ap, ◌∙◌, subst, append-nil, append_assoc, Ok, Err, true}
 use Rattle.std.proofs.lemmas.Bool.{false≢true}
-use Rattle.cp_rpc.specs.declared.message.Message.{Message}
+use Rattle.cp_messages.specs.declared.message.Message.{Message}
 use Rattle.cp_refs.specs.declared.call.Origin.{Origin}
 use Rattle.cp_refs.specs.declared.call.Request.{Request}
 use Rattle.cp_refs.specs.declared.outcome.Outcome.{Outcome}

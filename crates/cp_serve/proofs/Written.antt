@@ -3,7 +3,7 @@ use Rattle.std.proofs.Common.{◌≡◌, None, Some, inl, ℕ, List, [], ◌∷�
 use Rattle.std.specs.Io.KnownBytes.{Appends, append_known}
 use Rattle.std.proofs.KnownBytes.{Appends-nil, Appends-trans}
 use Rattle.cp_frame.specs.declared.mode.Mode.{Mode}
-use Rattle.cp_rpc.specs.declared.message.Message.{Message}
+use Rattle.cp_messages.specs.declared.message.Message.{Message}
 use Rattle.cp_connection.specs.Effects.{AreFramesOf}
 use Rattle.cp_serve.specs.Reached.{ahead}
 use Rattle.cp_serve.specs.Output.{Device, AreWrittenAs, Writes, Begin, WritesPart}

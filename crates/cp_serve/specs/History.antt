@@ -1,6 +1,6 @@
 -- What a server's vat did, event by event.
 use Rattle.std.specs.Prelude.{◌≡◌, List, [], ◌∷◌, ◌++◌, Option, Some, None}
-use Rattle.cp_rpc.specs.declared.message.Message.{Message}
+use Rattle.cp_messages.specs.declared.message.Message.{Message}
 use Rattle.cp_vat_machine.specs.Run.{Moment, Steps}
 use Rattle.cp_vat_machine.specs.State.{new_state}
 use Rattle.cp_vat_machine.specs.declared.effect.Effect.{Effect}

@@ -1,7 +1,7 @@
 -- The order of work in a server: what a message does, what polls do, and how the run ends.
 use Rattle.std.specs.Prelude.{◌≡◌, ℕ, ◌+◌, ◌≤◌, Bool, true, false, ◌||◌, IsSome, List, [], ◌∷◌, ◌++◌, Option, Some, None, length}
 use Rattle.std.specs.FinMap.{get, remove, empty}
-use Rattle.cp_rpc.specs.declared.message.Message.{Message}
+use Rattle.cp_messages.specs.declared.message.Message.{Message}
 use Rattle.cp_refs.specs.declared.call.Origin.{Origin}
 use Rattle.cp_refs.specs.declared.call.Request.{Request}
 use Rattle.cp_vat_machine.specs.State.{new_state}

@@ -2,7 +2,7 @@
 use Rattle.std.specs.Prelude.{◌≡◌, ◌≢◌, ℕ, List, [], ◌∷◌, ◌++◌, Option, Result, Ok, Err}
 use Rattle.std.specs.FinMap.{insert}
 use Rattle.cp_tables.specs.Table.{Table}
-use Rattle.cp_rpc.specs.declared.message.Message.{Message}
+use Rattle.cp_messages.specs.declared.message.Message.{Message}
 use Rattle.cp_refs.specs.declared.call.Origin.{Origin}
 use Rattle.cp_refs.specs.declared.outcome.Outcome.{Outcome}
 use Rattle.cp_vat_machine.specs.State.{State}

@@ -24,10 +24,10 @@ use Rattle.cp_frame.proofs.Whole.{one_fault_plain}
 use Rattle.cp_frame.proofs.Certain.{are_back, packed_are}
 use Rattle.cp_frame.proofs.Cuts.{no_front_of}
 use Rattle.cp_frame.proofs.Texts.{open_packed}
-use Rattle.cp_rpc.specs.Denoted.{message_denoted}
-use Rattle.cp_rpc.specs.Faults.{message_faults}
+use Rattle.cp_messages.specs.Denoted.{message_denoted}
+use Rattle.cp_messages.specs.Faults.{message_faults}
 use Rattle.cp_rpc.specs.Answers.{first_of}
-use Rattle.cp_rpc.specs.declared.message.Message.{Message}
+use Rattle.cp_messages.specs.declared.message.Message.{Message}
 use Rattle.cp_stream.specs.declared.fault.Refusal.{Refusal}
 use Rattle.cp_stream.specs.declared.fault.Refusal.TheVariants as refusals
 use Rattle.cp_stream.specs.declared.fault.StreamFault.{StreamFault}

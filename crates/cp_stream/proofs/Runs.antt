@@ -3,7 +3,7 @@ use Rattle.std.proofs.Common.{◌≡◌, inl, inr, ℕ, ◌+◌, ◌^◌, ◌<�
 use Rattle.cp_words.specs.Limits.{Bounds}
 use Rattle.cp_frame.specs.declared.mode.Mode.{Mode}
 use Rattle.cp_frame.specs.Runs.{joined}
-use Rattle.cp_rpc.specs.declared.message.Message.{Message}
+use Rattle.cp_messages.specs.declared.message.Message.{Message}
 use Rattle.cp_stream.specs.Stream.{Holds, Front, Messages, Stream, HasFault}
 use Rattle.cp_stream.specs.Reader.{State, failed, refusing, reading, Reader, Stands, StandsFor, IsReading, IsMemory, IsReportedFor, Reads}
 use Rattle.cp_stream.specs.Runs.{HasOneFront, IsOneStream, Fed, GivesStream, ReportsRest, GivesSame}

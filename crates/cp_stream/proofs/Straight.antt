@@ -11,9 +11,9 @@ use Rattle.cp_writing.specs.Writes.{AreBytesOf, FitsIn}
 use Rattle.cp_writing.proofs.Blocks.{length_bytes_of}
 use Rattle.cp_frame.specs.declared.mode.Mode.{Mode}
 use Rattle.cp_frame.specs.declared.mode.Mode.TheVariants as modes
-use Rattle.cp_rpc.specs.Written.{message_written}
-use Rattle.cp_rpc.specs.Says.{Says}
-use Rattle.cp_rpc.specs.declared.message.Message.{Message}
+use Rattle.cp_messages.specs.Written.{message_written}
+use Rattle.cp_messages.specs.Says.{Says}
+use Rattle.cp_messages.specs.declared.message.Message.{Message}
 use Rattle.cp_stream.specs.Write.{IsWrittenAs, IsPut}
 
 -- after the place of its segment table a block has the bytes of its words

@@ -6,7 +6,7 @@ use Rattle.cp_frame.specs.declared.mode.Mode.{Mode}
 use Rattle.cp_frame.specs.declared.fault.FrameFault.{FrameFault}
 use Rattle.cp_frame.specs.Reader as frames
 use Rattle.cp_frame.specs.Stream.{Frames}
-use Rattle.cp_rpc.specs.declared.message.Message.{Message}
+use Rattle.cp_messages.specs.declared.message.Message.{Message}
 use Rattle.cp_stream.specs.Stream.{HasFault}
 use Rattle.cp_stream.specs.Reader.{Reads, IsMemory, Reader, State, failed, refusing, reading}
 use Rattle.cp_stream.specs.declared.fault.Refusal.{Refusal}

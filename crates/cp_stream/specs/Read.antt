@@ -8,7 +8,7 @@ use Rattle.cp_frame.specs.declared.fault.FrameFault.TheVariants as frames
 use Rattle.cp_frame.specs.Frame.{Frame}
 use Rattle.cp_packed.specs.Words.{AreBytes}
 use Rattle.cp_frame.specs.Stream as streams
-use Rattle.cp_rpc.specs.declared.message.Message.{Message}
+use Rattle.cp_messages.specs.declared.message.Message.{Message}
 use Rattle.cp_stream.specs.declared.fault.Refusal.{Refusal}
 use Rattle.cp_stream.specs.declared.fault.Refusal.TheVariants as refusals
 use Rattle.cp_stream.specs.declared.fault.StreamFault.{StreamFault}

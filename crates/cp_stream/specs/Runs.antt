@@ -7,7 +7,7 @@ use Rattle.cp_reading.specs.Denotes.{Root}
 use Rattle.cp_writing.specs.Layout.{Layout, Capacity}
 use Rattle.cp_frame.specs.declared.mode.Mode.{Mode}
 use Rattle.cp_frame.specs.Runs.{joined}
-use Rattle.cp_rpc.specs.declared.message.Message.{Message}
+use Rattle.cp_messages.specs.declared.message.Message.{Message}
 use Rattle.cp_stream.specs.Stream.{Front, Stream, HasFault}
 use Rattle.cp_stream.specs.Write.{IsWrittenAs}
 use Rattle.cp_stream.specs.Reader.{Reader, StandsFor, IsReading, IsMemory, Reads, Gives, Reports}

@@ -8,10 +8,10 @@ use Rattle.cp_reading.specs.FirstFault.{IsFirstFault}
 use Rattle.cp_frame.specs.declared.mode.Mode.{Mode}
 use Rattle.cp_frame.specs.Frame.{Frame}
 use Rattle.cp_frame.specs.Stream as frames
-use Rattle.cp_rpc.specs.Says.{Says}
-use Rattle.cp_rpc.specs.Faults.{message_faults}
+use Rattle.cp_messages.specs.Says.{Says}
+use Rattle.cp_messages.specs.Faults.{message_faults}
 use Rattle.cp_rpc.specs.Answers.{first_of}
-use Rattle.cp_rpc.specs.declared.message.Message.{Message}
+use Rattle.cp_messages.specs.declared.message.Message.{Message}
 use Rattle.cp_stream.specs.declared.fault.Refusal.{Refusal}
 use Rattle.cp_stream.specs.declared.fault.Refusal.TheVariants as refusals
 

@@ -9,10 +9,10 @@ use Rattle.cp_writing.specs.Writes.{FitsIn, IsWriteFaultOf}
 use Rattle.cp_frame.specs.declared.mode.Mode.{Mode}
 use Rattle.cp_frame.specs.declared.fault.FrameFault.TheVariants as frames
 use Rattle.cp_frame.specs.Frame.{Written}
-use Rattle.cp_rpc.specs.Written.{message_written}
-use Rattle.cp_rpc.specs.Refused.{IsRefusalOf}
-use Rattle.cp_rpc.specs.Says.{Says}
-use Rattle.cp_rpc.specs.declared.message.Message.{Message}
+use Rattle.cp_messages.specs.Written.{message_written}
+use Rattle.cp_messages.specs.Refused.{IsRefusalOf}
+use Rattle.cp_messages.specs.Says.{Says}
+use Rattle.cp_messages.specs.declared.message.Message.{Message}
 use Rattle.cp_stream.specs.declared.fault.Refusal.{Refusal}
 use Rattle.cp_stream.specs.declared.fault.Refusal.TheVariants as refusals
 use Rattle.cp_stream.specs.declared.fault.StreamFault.{StreamFault}

@@ -2,7 +2,7 @@
 
 ghost use Rattle.std.specs.Prelude.{◌≡◌, ◌⊎◌, IsOk, IfOk, IfErr, OnOk};
 ghost use Rattle.cp_rpc.specs.Viewed.{viewed};
-ghost use Rattle.cp_rpc.specs.declared.message.Message.{Message};
+ghost use Rattle.cp_messages.specs.declared.message.Message.{Message};
 ghost use Rattle.cp_stream.specs.Stream.{Holds, HoldsNone};
 ghost use Rattle.cp_stream.specs.Reader.{IsAt, IsMemory};
 ghost use Rattle.cp_stream.specs.Answers.{AnswersView};

@@ -100,6 +100,12 @@ abbrev pub data_of : Node → List ℕ
 data_of (struct ws ts) = ws
 data_of other = []
 
+-- the pointers of a struct or of a list of pointers
+abbrev pub row_of : Node → Nodes
+row_of (struct ws ts) = ts
+row_of (ptrs ts) = ts
+row_of other = no_nodes
+
 abbrev pub IsStruct : Node → Type 0
 IsStruct (struct ws ts) = Unit {0}
 IsStruct other = ⊥

@@ -6,21 +6,21 @@ use Rattle.std.proofs.lemmas.Bool.Decides.{nat_tests}
 use Rattle.cp_tree.specs.Node.{Node, cost, body_cost}
 use Rattle.cp_tree.specs.NodeOf.{bodies_of}
 use Rattle.cp_tree.proofs.Trees.{number_in}
-use Rattle.cp_rpc.specs.Written.{body_written, cap_table_written, descriptor_written, descriptor_pointer, exception_written, list_written, member_written, message_written, op_written, payload_written, promised_answer_written, resolution_pointer, returned_pointer, target_written, text_written}
-use Rattle.cp_rpc.specs.Fitting.{descriptor_fits, exception_fits, message_fits, payload_fits, promised_answer_fits, resolution_fits, returned_fits, target_fits, text_fits}
-use Rattle.cp_rpc.specs.declared.exception.Exception.{Exception}
-use Rattle.cp_rpc.specs.declared.promised_answer.PromisedAnswer.{PromisedAnswer}
-use Rattle.cp_rpc.specs.declared.target.Target.{Target}
-use Rattle.cp_rpc.specs.declared.target.Target.TheVariants as targets
-use Rattle.cp_rpc.specs.declared.descriptor.Descriptor.{Descriptor}
-use Rattle.cp_rpc.specs.declared.descriptor.Descriptor.TheVariants as descriptors
-use Rattle.cp_rpc.specs.declared.payload.Payload.{Payload}
-use Rattle.cp_rpc.specs.declared.returned.Returned.{Returned}
-use Rattle.cp_rpc.specs.declared.returned.Returned.TheVariants as returns
-use Rattle.cp_rpc.specs.declared.resolve.Resolution.{Resolution}
-use Rattle.cp_rpc.specs.declared.resolve.Resolution.TheVariants as resolutions
-use Rattle.cp_rpc.specs.declared.message.Message.{Message}
-use Rattle.cp_rpc.specs.declared.message.Message.TheVariants as messages
+use Rattle.cp_messages.specs.Written.{body_written, cap_table_written, descriptor_written, descriptor_pointer, exception_written, list_written, member_written, message_written, op_written, payload_written, promised_answer_written, resolution_pointer, returned_pointer, target_written, text_written}
+use Rattle.cp_messages.specs.Fitting.{descriptor_fits, exception_fits, message_fits, payload_fits, promised_answer_fits, resolution_fits, returned_fits, target_fits, text_fits}
+use Rattle.cp_messages.specs.declared.exception.Exception.{Exception}
+use Rattle.cp_messages.specs.declared.promised_answer.PromisedAnswer.{PromisedAnswer}
+use Rattle.cp_messages.specs.declared.target.Target.{Target}
+use Rattle.cp_messages.specs.declared.target.Target.TheVariants as targets
+use Rattle.cp_messages.specs.declared.descriptor.Descriptor.{Descriptor}
+use Rattle.cp_messages.specs.declared.descriptor.Descriptor.TheVariants as descriptors
+use Rattle.cp_messages.specs.declared.payload.Payload.{Payload}
+use Rattle.cp_messages.specs.declared.returned.Returned.{Returned}
+use Rattle.cp_messages.specs.declared.returned.Returned.TheVariants as returns
+use Rattle.cp_messages.specs.declared.resolve.Resolution.{Resolution}
+use Rattle.cp_messages.specs.declared.resolve.Resolution.TheVariants as resolutions
+use Rattle.cp_messages.specs.declared.message.Message.{Message}
+use Rattle.cp_messages.specs.declared.message.Message.TheVariants as messages
 
 is_less : (a b : ℕ) → a < b → ltb a b ≡ true
 is_less a b less = grind (arith, nat_tests)

@@ -2,10 +2,10 @@
 use Rattle.std.proofs.Common.{◌≡◌, ℕ, ◌≤◌, leb, ◌&&◌, Bool, true, false, Decides, is_some, [], ◌∷◌, Option, Some, None, Ok, Err, refl, sym, ◌∙◌, subst, arith}
 use Rattle.std.proofs.lemmas.Bool.Decides.{nat_tests}
 use Rattle.cp_tree.specs.Node.{Node, depth, cost}
-use Rattle.cp_rpc.specs.Written.{message_written}
-use Rattle.cp_rpc.specs.Fitting.{message_fits}
-use Rattle.cp_rpc.specs.declared.message.Message.{Message}
-use Rattle.cp_rpc.specs.declared.message.Message.TheVariants as messages
+use Rattle.cp_messages.specs.Written.{message_written}
+use Rattle.cp_messages.specs.Fitting.{message_fits}
+use Rattle.cp_messages.specs.declared.message.Message.{Message}
+use Rattle.cp_messages.specs.declared.message.Message.TheVariants as messages
 use Rattle.cp_vat_machine.specs.State.{State}
 use Rattle.cp_vat_machine.specs.Step.{echo_fits, echoed}
 use Rattle.cp_vat_machine.specs.declared.effect.Effect.TheVariants as effects

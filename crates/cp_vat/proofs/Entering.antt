@@ -2,12 +2,12 @@
 use Rattle.std.proofs.Common.{◌≡◌, ◌^◌, ◌-◌, ◌<◌, ℕ, ltb, not, ◌&&◌, Bool, true, false, is_some, List, [], ◌++◌, Option, Some, None, Result, Ok, Err, refl, ◌∙◌, subst, arith}
 use Rattle.std.proofs.lemmas.Bool.Decides.{nat_tests}
 use Rattle.std.specs.FinMap.{get, len}
-use Rattle.cp_rpc.specs.declared.call.Call.{Call}
+use Rattle.cp_messages.specs.declared.call.Call.{Call}
 use Rattle.cp_tree.specs.Node.{Node}
 use Rattle.cp_refs.specs.declared.route.Route.{Route}
 use Rattle.cp_refs.specs.declared.route.Route.TheVariants as routes
 use Rattle.cp_vat_machine.specs.Go.{Go, Underway}
-use Rattle.cp_rpc.proofs.Firsts.{none-left, none-right}
+use Rattle.cp_messages.proofs.Nones.{none-left, none-right}
 use Rattle.cp_refs.specs.declared.cap.Cap.{Cap}
 use Rattle.cp_vat_machine.specs.State.{State}
 use Rattle.cp_vat_machine.specs.Then.{Done, Then, fault_if}

@@ -4,18 +4,18 @@ use Rattle.std.proofs.lemmas.List.{length-map}
 use Rattle.cp_tree.specs.Node.{cost, body_cost}
 use Rattle.cp_tree.specs.NodeOf.{bodies_of}
 use Rattle.cp_tree.proofs.Trees.{number_in}
-use Rattle.cp_rpc.specs.Written.{body_written, cap_table_written, descriptor_written, descriptor_pointer, list_written, member_written, message_written, op_written, promised_answer_written, resolution_pointer, returned_pointer, target_pointer}
-use Rattle.cp_rpc.specs.declared.promised_answer.PromisedAnswer.{PromisedAnswer}
-use Rattle.cp_rpc.specs.declared.target.Target.{Target}
-use Rattle.cp_rpc.specs.declared.target.Target.TheVariants as targets
-use Rattle.cp_rpc.specs.declared.descriptor.Descriptor.{Descriptor}
-use Rattle.cp_rpc.specs.declared.descriptor.Descriptor.TheVariants as descriptors
-use Rattle.cp_rpc.specs.declared.returned.Returned.{Returned}
-use Rattle.cp_rpc.specs.declared.returned.Returned.TheVariants as returns
-use Rattle.cp_rpc.specs.declared.resolve.Resolution.{Resolution}
-use Rattle.cp_rpc.specs.declared.resolve.Resolution.TheVariants as resolutions
-use Rattle.cp_rpc.specs.declared.message.Message.{Message}
-use Rattle.cp_rpc.specs.declared.message.Message.TheVariants as messages
+use Rattle.cp_messages.specs.Written.{body_written, cap_table_written, descriptor_written, descriptor_pointer, list_written, member_written, message_written, op_written, promised_answer_written, resolution_pointer, returned_pointer, target_pointer}
+use Rattle.cp_messages.specs.declared.promised_answer.PromisedAnswer.{PromisedAnswer}
+use Rattle.cp_messages.specs.declared.target.Target.{Target}
+use Rattle.cp_messages.specs.declared.target.Target.TheVariants as targets
+use Rattle.cp_messages.specs.declared.descriptor.Descriptor.{Descriptor}
+use Rattle.cp_messages.specs.declared.descriptor.Descriptor.TheVariants as descriptors
+use Rattle.cp_messages.specs.declared.returned.Returned.{Returned}
+use Rattle.cp_messages.specs.declared.returned.Returned.TheVariants as returns
+use Rattle.cp_messages.specs.declared.resolve.Resolution.{Resolution}
+use Rattle.cp_messages.specs.declared.resolve.Resolution.TheVariants as resolutions
+use Rattle.cp_messages.specs.declared.message.Message.{Message}
+use Rattle.cp_messages.specs.declared.message.Message.TheVariants as messages
 use Rattle.cp_vat.specs.Echoing.{lists_in_each, lists_of_answer, lists_of_descriptor, lists_of_message, lists_of_resolution, lists_of_returned, lists_of_table, lists_of_target}
 
 ops_cost : (p : PromisedAnswer) → lists_of_answer p ≤ cost (promised_answer_written p)

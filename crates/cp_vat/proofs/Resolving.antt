@@ -2,7 +2,7 @@
 use Rattle.std.proofs.Common.{◌≡◌, true, [], Some, Result, Ok, refl, subst}
 use Rattle.std.specs.FinMap.{get}
 use Rattle.cp_tables.specs.declared.counted.Counted.{Counted}
-use Rattle.cp_rpc.specs.declared.resolve.Resolve.{Resolve}
+use Rattle.cp_messages.specs.declared.resolve.Resolve.{Resolve}
 use Rattle.cp_refs.specs.declared.cap.Cap.{Cap}
 use Rattle.cp_vat_machine.specs.State.{State}
 use Rattle.cp_vat_machine.specs.Resolving.{ResolveOf, OnResolve, TakeResolution, is_open_promise, resolved}

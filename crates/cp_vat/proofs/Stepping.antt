@@ -1,6 +1,6 @@
 -- Calls of the application, and messages, are steps of the machine.
 use Rattle.std.proofs.Common.{◌≡◌, ◌≢◌, ◌⊎◌, inl, inr, false, List, [], ◌++◌, None, Result, Ok, Err, IfOk, refl, ap, ◌∙◌}
-use Rattle.cp_rpc.specs.declared.message.Message.{Message}
+use Rattle.cp_messages.specs.declared.message.Message.{Message}
 use Rattle.cp_vat_machine.specs.State.{State}
 use Rattle.cp_vat_machine.specs.Step.{Does, Receives, Step, ran_out, refused, did, received, faulted}
 use Rattle.cp_vat_machine.specs.declared.acted.Acted.{Acted}

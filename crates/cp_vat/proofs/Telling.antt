@@ -2,14 +2,14 @@
 use Rattle.std.proofs.Common.{◌≡◌, inl, inr, List, [], ◌∷◌, Some, None, Result, Ok, Err, IfErr, refl, sym, ap, ◌∙◌, subst}
 use Rattle.cp_tree.specs.Node.{Node, null, cap, struct, list, ptrs, structs, IsStruct}
 use Rattle.cp_rpc.specs.Answers.{IsFirstFault, first_of}
-use Rattle.cp_rpc.specs.Says.{Says}
-use Rattle.cp_rpc.specs.Denoted.{message_denoted}
-use Rattle.cp_rpc.specs.Faults.{message_faults}
-use Rattle.cp_rpc.specs.declared.fault.SchemaFault.{SchemaFault}
-use Rattle.cp_rpc.specs.declared.fault.SchemaFault.TheVariants as schema_faults
-use Rattle.cp_rpc.specs.declared.message.Message.{Message}
-use Rattle.cp_rpc.specs.declared.message.Message.TheVariants as messages
-use Rattle.cp_rpc.specs.declared.resolve.Resolve.{Resolve}
+use Rattle.cp_messages.specs.Says.{Says}
+use Rattle.cp_messages.specs.Denoted.{message_denoted}
+use Rattle.cp_messages.specs.Faults.{message_faults}
+use Rattle.cp_messages.specs.declared.fault.SchemaFault.{SchemaFault}
+use Rattle.cp_messages.specs.declared.fault.SchemaFault.TheVariants as schema_faults
+use Rattle.cp_messages.specs.declared.message.Message.{Message}
+use Rattle.cp_messages.specs.declared.message.Message.TheVariants as messages
+use Rattle.cp_messages.specs.declared.resolve.Resolve.{Resolve}
 use Rattle.cp_vat_machine.specs.State.{State}
 use Rattle.cp_vat_machine.specs.Resolving.{OnUnimplemented, UnknownToPeer, told, told_by}
 use Rattle.cp_vat_machine.specs.declared.fault.PeerFault.TheVariants as faults

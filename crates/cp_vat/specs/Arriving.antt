@@ -1,7 +1,7 @@
 -- Calls of the peer that were taken in, up to where they go.
 use Rattle.std.specs.Prelude.{◌≡◌, Result, Ok, Err}
 use Rattle.cp_tree.specs.Node.{Node}
-use Rattle.cp_rpc.specs.declared.call.Call.{Call}
+use Rattle.cp_messages.specs.declared.call.Call.{Call}
 use Rattle.cp_refs.specs.declared.call.Origin.TheVariants as origins
 use Rattle.cp_vat_machine.specs.State.{State}
 use Rattle.cp_vat_machine.specs.Then.{Done}

@@ -1,10 +1,10 @@
 -- What is left to do of a Call or a Return, once it was checked.
 use Rattle.std.specs.Prelude.{◌≡◌, ℕ, Bool, [], Option, Result, Ok, Err}
 use Rattle.cp_tree.specs.Node.{Node}
-use Rattle.cp_rpc.specs.declared.call.Call.{Call}
-use Rattle.cp_rpc.specs.declared.returned.Return.{Return}
-use Rattle.cp_rpc.specs.declared.returned.Returned.{Returned}
-use Rattle.cp_rpc.specs.declared.target.Target.{Target}
+use Rattle.cp_messages.specs.declared.call.Call.{Call}
+use Rattle.cp_messages.specs.declared.returned.Return.{Return}
+use Rattle.cp_messages.specs.declared.returned.Returned.{Returned}
+use Rattle.cp_messages.specs.declared.target.Target.{Target}
 use Rattle.cp_refs.specs.declared.call.Origin.{Origin}
 use Rattle.cp_refs.specs.declared.route.Route.{Route}
 use Rattle.cp_refs.specs.declared.route.Route.TheVariants as routes

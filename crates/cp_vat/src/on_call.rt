@@ -9,7 +9,7 @@ ghost use Rattle.cp_vat_machine.specs.Local.{Local};
 ghost use Rattle.cp_vat_machine.specs.Receiving.{answer_of};
 ghost use Rattle.cp_vat_machine.specs.Supported.{is_supported, is_supported_target};
 ghost use Rattle.cp_rpc.specs.Viewed.{viewed_call};
-ghost use Rattle.cp_rpc.specs.declared.message.Message.TheVariants as messages;
+ghost use Rattle.cp_messages.specs.declared.message.Message.TheVariants as messages;
 ghost use Rattle.cp_vat_state.specs.Halts.{Acts, OnlyAllocationFails};
 ghost use Rattle.cp_vat_state.specs.StateOf.{state_of};
 ghost use Rattle.cp_vat_rules.specs.Going.{MayGo};

@@ -2,7 +2,7 @@
 
 ghost use Rattle.std.specs.Prelude.{◌≡◌, Ok, true, if◌then◌else◌};
 ghost use Rattle.cp_rpc.specs.Viewed.{viewed_returned};
-ghost use Rattle.cp_rpc.specs.declared.returned.Returned.{Returned};
+ghost use Rattle.cp_messages.specs.declared.returned.Returned.{Returned};
 ghost use Rattle.cp_vat_machine.specs.Local.{Local};
 ghost use Rattle.cp_vat_machine.specs.Asking.{OnReturn, Settles, ReceivesReturned, is_asked};
 ghost use Rattle.cp_vat_machine.specs.Supported.{is_supported_returned};

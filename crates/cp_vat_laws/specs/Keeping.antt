@@ -1,6 +1,6 @@
 -- What each event keeps.
 use Rattle.std.specs.Prelude.{◌≡◌, ℕ, false, List, [], Option, None, Result, Ok}
-use Rattle.cp_rpc.specs.declared.message.Message.{Message}
+use Rattle.cp_messages.specs.declared.message.Message.{Message}
 use Rattle.cp_refs.specs.declared.cap.Cap.{Cap}
 use Rattle.cp_refs.specs.declared.call.WaitingCall.{WaitingCall}
 use Rattle.cp_vat_machine.specs.State.{State, none_over, with_over, new_state}

@@ -4,19 +4,19 @@ use Rattle.std.specs.List.{list_all}
 use Rattle.std.specs.FinMap.{get, len}
 use Rattle.cp_tree.specs.Node.{Node, depth, cost}
 use Rattle.cp_tables.specs.Table.{Table}
-use Rattle.cp_rpc.specs.declared.exception.Exception.{Exception}
-use Rattle.cp_rpc.specs.declared.promised_answer.Op.{Op}
-use Rattle.cp_rpc.specs.declared.target.Target.{Target}
-use Rattle.cp_rpc.specs.declared.target.Target.TheVariants as targets
-use Rattle.cp_rpc.specs.declared.descriptor.Descriptor.{Descriptor}
-use Rattle.cp_rpc.specs.declared.descriptor.Descriptor.TheVariants as descriptors
-use Rattle.cp_rpc.specs.declared.payload.Payload.{Payload}
-use Rattle.cp_rpc.specs.declared.returned.Returned.{Returned}
-use Rattle.cp_rpc.specs.declared.returned.Returned.TheVariants as returns
-use Rattle.cp_rpc.specs.declared.resolve.Resolution.{Resolution}
-use Rattle.cp_rpc.specs.declared.resolve.Resolution.TheVariants as resolutions
-use Rattle.cp_rpc.specs.declared.message.Message.{Message}
-use Rattle.cp_rpc.specs.declared.message.Message.TheVariants as messages
+use Rattle.cp_messages.specs.declared.exception.Exception.{Exception}
+use Rattle.cp_messages.specs.declared.promised_answer.Op.{Op}
+use Rattle.cp_messages.specs.declared.target.Target.{Target}
+use Rattle.cp_messages.specs.declared.target.Target.TheVariants as targets
+use Rattle.cp_messages.specs.declared.descriptor.Descriptor.{Descriptor}
+use Rattle.cp_messages.specs.declared.descriptor.Descriptor.TheVariants as descriptors
+use Rattle.cp_messages.specs.declared.payload.Payload.{Payload}
+use Rattle.cp_messages.specs.declared.returned.Returned.{Returned}
+use Rattle.cp_messages.specs.declared.returned.Returned.TheVariants as returns
+use Rattle.cp_messages.specs.declared.resolve.Resolution.{Resolution}
+use Rattle.cp_messages.specs.declared.resolve.Resolution.TheVariants as resolutions
+use Rattle.cp_messages.specs.declared.message.Message.{Message}
+use Rattle.cp_messages.specs.declared.message.Message.TheVariants as messages
 use Rattle.cp_refs.specs.declared.cap.Cap.{Cap}
 use Rattle.cp_refs.specs.declared.cap.Cap.TheVariants as caps
 use Rattle.cp_refs.specs.declared.call.Request.{Request}

@@ -8,7 +8,7 @@ use Rattle.cp_tables.specs.Exchange.{with_stage}
 use Rattle.cp_tables.specs.declared.exchange.Exchange.{Exchange}
 use Rattle.cp_tables.specs.declared.exchange.Stage.{Stage}
 use Rattle.cp_tables.specs.declared.exchange.Stage.TheVariants as stages
-use Rattle.cp_rpc.specs.declared.message.Message.TheVariants as messages
+use Rattle.cp_messages.specs.declared.message.Message.TheVariants as messages
 use Rattle.cp_refs.specs.declared.cap.Cap.{Cap}
 use Rattle.cp_refs.specs.declared.cap.Cap.TheVariants as caps
 use Rattle.cp_refs.specs.declared.call.Origin.{Origin}

@@ -2,9 +2,9 @@
 use Rattle.std.specs.Prelude.{ℕ, List, [], ◌∷◌, ◌++◌, flat_map, Option, Some, None}
 use Rattle.std.specs.FinMap.{get}
 use Rattle.cp_tables.specs.declared.exchange.Exchange.{Exchange}
-use Rattle.cp_rpc.specs.declared.target.Target.{Target}
-use Rattle.cp_rpc.specs.declared.target.Target.TheVariants as targets
-use Rattle.cp_rpc.specs.declared.message.Message.TheVariants as messages
+use Rattle.cp_messages.specs.declared.target.Target.{Target}
+use Rattle.cp_messages.specs.declared.target.Target.TheVariants as targets
+use Rattle.cp_messages.specs.declared.message.Message.TheVariants as messages
 use Rattle.cp_refs.specs.declared.call.Origin.{Origin}
 use Rattle.cp_refs.specs.declared.call.Origin.TheVariants as origins
 use Rattle.cp_refs.specs.declared.outcome.Outcome.{Outcome}

@@ -9,10 +9,10 @@ use Rattle.cp_tables.specs.declared.counted.Counted.{Counted}
 use Rattle.cp_tables.specs.declared.exchange.Exchange.{Exchange}
 use Rattle.cp_tables.specs.declared.exchange.Stage.TheVariants as stages
 use Rattle.cp_tables.specs.declared.exchange.Stage.{Stage}
-use Rattle.cp_rpc.specs.declared.promised_answer.Op.{Op}
-use Rattle.cp_rpc.specs.declared.promised_answer.Op.TheVariants as ops
-use Rattle.cp_rpc.specs.declared.descriptor.Descriptor.{Descriptor}
-use Rattle.cp_rpc.specs.declared.descriptor.Descriptor.TheVariants as descriptors
+use Rattle.cp_messages.specs.declared.promised_answer.Op.{Op}
+use Rattle.cp_messages.specs.declared.promised_answer.Op.TheVariants as ops
+use Rattle.cp_messages.specs.declared.descriptor.Descriptor.{Descriptor}
+use Rattle.cp_messages.specs.declared.descriptor.Descriptor.TheVariants as descriptors
 use Rattle.cp_refs.specs.At.{cap_at}
 use Rattle.cp_refs.specs.declared.cap.Cap.{Cap}
 use Rattle.cp_refs.specs.declared.cap.Cap.TheVariants as caps

@@ -1,6 +1,6 @@
 -- The texts of exceptions that a vat makes. (rpc.capnp: "Abort", "Exception".)
 use Rattle.std.specs.Prelude.{ℕ, List, codes}
-use Rattle.cp_rpc.specs.declared.exception.Exception.{Exception}
+use Rattle.cp_messages.specs.declared.exception.Exception.{Exception}
 use Rattle.cp_refs.specs.At.{failed}
 use Rattle.cp_vat_machine.specs.declared.fault.PeerFault.{PeerFault}
 use Rattle.cp_vat_machine.specs.declared.fault.PeerFault.TheVariants as faults

@@ -1,8 +1,8 @@
 //! What a vat does.
 
 use crate::fault::PeerFault;
+use cp_messages::{Exception, Message};
 use cp_refs::{Origin, Outcome, Request};
-use cp_rpc::{Exception, Message};
 use std::fmt;
 use std::marker::Model;
 

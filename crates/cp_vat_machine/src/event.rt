@@ -1,8 +1,8 @@
 //! What comes to a vat, as values.
 
 use crate::acted::Ids;
+use cp_messages::Message;
 use cp_refs::{Cap, Origin, Outcome, PromiseId, Request};
-use cp_rpc::Message;
 
 /// A call of the vat, with its arguments.
 #[derive(Drop)]

@@ -4,8 +4,8 @@ ghost use Rattle.std.specs.Prelude.{◌≡◌, IfOk};
 ghost use Rattle.cp_vat_machine.specs.Writing.{promised};
 ghost use Rattle.cp_vat_machine.specs.Receiving.{path_of};
 
+use cp_messages::{Op, PromisedAnswer, Transform};
 use cp_refs::Path;
-use cp_rpc::{Op, PromisedAnswer, Transform};
 use std::alloc::{AllocError, Global};
 
 /// What a question will give at a path, as the peer names it (rpc.capnp, `PromisedAnswer`).

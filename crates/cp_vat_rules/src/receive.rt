@@ -10,8 +10,8 @@ ghost use Rattle.cp_vat_state.specs.Halts.{Becomes, Leaves};
 ghost use Rattle.cp_vat_state.specs.StateOf.{state_of};
 
 use crate::promised::path_of;
+use cp_messages::Descriptor;
 use cp_refs::{Cap, Caps, KeptOutcome, Path};
-use cp_rpc::Descriptor;
 use cp_tables::{LIMIT, Stage};
 use cp_vat_machine::{ImportKind, PeerFault, Tied};
 use cp_vat_state::{Core, Halt};

@@ -16,8 +16,8 @@ ghost use Rattle.cp_vat_rules.specs.Settling.{Settles, SettlesBy, SettlesTied, T
 
 use crate::descriptors::{mention, write_end};
 use crate::resolve::resolve_cap;
+use cp_messages::{Message, Resolution, Resolve};
 use cp_refs::{Cap, KeptOutcome, PromiseId, failed};
-use cp_rpc::{Message, Resolution, Resolve};
 use cp_vat_machine::{Effect, Tied};
 use cp_vat_state::{Core, Exported, Gates, Gift, Halt, Hosted, Resolutions};
 use std::alloc::{AllocError, Global};

@@ -3,8 +3,8 @@ use Rattle.std.specs.Prelude.{◌≡◌, ℕ, ◌≤◌, List, ◌∷◌, Option
 use Rattle.cp_tables.specs.Counted.{count_of}
 use Rattle.cp_tables.specs.declared.exchange.Stage.{Stage}
 use Rattle.cp_tables.specs.declared.exchange.Stage.TheVariants as stages
-use Rattle.cp_rpc.specs.declared.message.Message.{Message}
-use Rattle.cp_rpc.specs.declared.message.Message.TheVariants as messages
+use Rattle.cp_messages.specs.declared.message.Message.{Message}
+use Rattle.cp_messages.specs.declared.message.Message.TheVariants as messages
 use Rattle.cp_vat_worlds.specs.Accounts.{Account, Accounts, accounts_of, lowerable, lowered_by}
 use Rattle.cp_vat_worlds.specs.Owed.{lowered_on_way}
 use Rattle.cp_vat_worlds.specs.World.{World, Side, across, end_of, new_world, Move, Moves, last_of, AreOpen, AreQuiet}

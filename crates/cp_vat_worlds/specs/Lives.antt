@@ -3,14 +3,14 @@ use Rattle.std.specs.Prelude.{◌≡◌, ℕ, if◌then◌else◌, Bool, true, f
 use Rattle.std.specs.List.{list_all, AllByRecursion}
 use Rattle.cp_tables.specs.declared.exchange.Stage.{Stage}
 use Rattle.cp_tables.specs.declared.exchange.Stage.TheVariants as stages
-use Rattle.cp_rpc.specs.declared.descriptor.Descriptor.{Descriptor}
-use Rattle.cp_rpc.specs.declared.descriptor.Descriptor.TheVariants as descriptors
-use Rattle.cp_rpc.specs.declared.returned.Returned.{Returned}
-use Rattle.cp_rpc.specs.declared.returned.Returned.TheVariants as returns
-use Rattle.cp_rpc.specs.declared.resolve.Resolution.{Resolution}
-use Rattle.cp_rpc.specs.declared.resolve.Resolution.TheVariants as resolutions
-use Rattle.cp_rpc.specs.declared.message.Message.{Message}
-use Rattle.cp_rpc.specs.declared.message.Message.TheVariants as messages
+use Rattle.cp_messages.specs.declared.descriptor.Descriptor.{Descriptor}
+use Rattle.cp_messages.specs.declared.descriptor.Descriptor.TheVariants as descriptors
+use Rattle.cp_messages.specs.declared.returned.Returned.{Returned}
+use Rattle.cp_messages.specs.declared.returned.Returned.TheVariants as returns
+use Rattle.cp_messages.specs.declared.resolve.Resolution.{Resolution}
+use Rattle.cp_messages.specs.declared.resolve.Resolution.TheVariants as resolutions
+use Rattle.cp_messages.specs.declared.message.Message.{Message}
+use Rattle.cp_messages.specs.declared.message.Message.TheVariants as messages
 use Rattle.cp_vat_machine.specs.Supported.{is_supported}
 use Rattle.cp_vat_worlds.specs.Ledger.{named_by, opens, returns_to, finishes}
 use Rattle.cp_vat_worlds.specs.Accounts.{Account, Accounts, accounts_of, is_releasing, Sent, Came}

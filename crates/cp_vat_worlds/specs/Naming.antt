@@ -4,16 +4,16 @@ use Rattle.std.specs.List.{count_by, list_any}
 use Rattle.std.specs.FinMap.{get}
 use Rattle.cp_tree.specs.Node.{Node, cap}
 use Rattle.cp_tables.specs.declared.counted.Counted.{Counted}
-use Rattle.cp_rpc.specs.declared.returned.Returned.{Returned}
-use Rattle.cp_rpc.specs.declared.returned.Returned.TheVariants as returns
-use Rattle.cp_rpc.specs.declared.resolve.Resolution.{Resolution}
-use Rattle.cp_rpc.specs.declared.resolve.Resolution.TheVariants as resolutions
-use Rattle.cp_rpc.specs.declared.descriptor.Descriptor.{Descriptor}
-use Rattle.cp_rpc.specs.declared.descriptor.Descriptor.TheVariants as descriptors
-use Rattle.cp_rpc.specs.declared.disembargo.Context.{Context}
-use Rattle.cp_rpc.specs.declared.disembargo.Context.TheVariants as contexts
-use Rattle.cp_rpc.specs.declared.message.Message.{Message}
-use Rattle.cp_rpc.specs.declared.message.Message.TheVariants as messages
+use Rattle.cp_messages.specs.declared.returned.Returned.{Returned}
+use Rattle.cp_messages.specs.declared.returned.Returned.TheVariants as returns
+use Rattle.cp_messages.specs.declared.resolve.Resolution.{Resolution}
+use Rattle.cp_messages.specs.declared.resolve.Resolution.TheVariants as resolutions
+use Rattle.cp_messages.specs.declared.descriptor.Descriptor.{Descriptor}
+use Rattle.cp_messages.specs.declared.descriptor.Descriptor.TheVariants as descriptors
+use Rattle.cp_messages.specs.declared.disembargo.Context.{Context}
+use Rattle.cp_messages.specs.declared.disembargo.Context.TheVariants as contexts
+use Rattle.cp_messages.specs.declared.message.Message.{Message}
+use Rattle.cp_messages.specs.declared.message.Message.TheVariants as messages
 use Rattle.cp_refs.specs.At.{cap_at, node_along}
 use Rattle.cp_refs.specs.declared.cap.Cap.{Cap}
 use Rattle.cp_refs.specs.declared.cap.Cap.TheVariants as caps

@@ -5,8 +5,8 @@ use Rattle.std.specs.FinMap.{get, insert, remove, values}
 use Rattle.cp_tables.specs.Table.{Table}
 use Rattle.cp_tables.specs.Counted.{new_counted, AreCounts}
 use Rattle.cp_tables.specs.declared.counted.Counted.{Counted}
-use Rattle.cp_rpc.specs.declared.message.Message.{Message}
-use Rattle.cp_rpc.specs.declared.message.Message.TheVariants as messages
+use Rattle.cp_messages.specs.declared.message.Message.{Message}
+use Rattle.cp_messages.specs.declared.message.Message.TheVariants as messages
 use Rattle.cp_refs.specs.declared.cap.Cap.{Cap}
 use Rattle.cp_vat_machine.specs.State.{State, Counts}
 use Rattle.cp_vat_machine.specs.Then.{Done}

@@ -1,6 +1,6 @@
 -- What each export is owed: what the other end holds of it, and what of it is on the way. (rpc.capnp: "CapDescriptor", "Release", "Finish.releaseResultCaps".)
 use Rattle.std.specs.Prelude.{ℕ, ◌+◌, List, [], ◌∷◌, Option}
-use Rattle.cp_rpc.specs.declared.message.Message.{Message}
+use Rattle.cp_messages.specs.declared.message.Message.{Message}
 use Rattle.cp_vat_machine.specs.Receiving.{times}
 use Rattle.cp_vat_worlds.specs.Accounts.{Account, Accounts, accounts_of, taken_in, Lowerable, lowerable, lowered_by, lowerable_after}
 use Rattle.cp_vat_worlds.specs.World.{End, World, Side, across, end_of}

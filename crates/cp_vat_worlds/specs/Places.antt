@@ -2,8 +2,8 @@
 use Rattle.std.specs.Prelude.{◌≡◌, ℕ, false, List, [], ◌∷◌, Some, IfSome}
 use Rattle.std.specs.List.{AllByRecursion}
 use Rattle.std.specs.FinMap.{get}
-use Rattle.cp_rpc.specs.declared.message.Message.{Message}
-use Rattle.cp_rpc.specs.declared.message.Message.TheVariants as messages
+use Rattle.cp_messages.specs.declared.message.Message.{Message}
+use Rattle.cp_messages.specs.declared.message.Message.TheVariants as messages
 use Rattle.cp_refs.specs.declared.cap.Cap.{Cap}
 use Rattle.cp_refs.specs.declared.cap.Cap.TheVariants as caps
 use Rattle.cp_vat_machine.specs.State.{State}

@@ -1,6 +1,6 @@
 -- The faults that a vat never meets of another one like it, while neither is closed. (rpc.capnp: "Four Tables", "Return", "Release", "Unimplemented".)
 use Rattle.std.specs.Prelude.{◌≡◌, List, ◌∷◌, Err}
-use Rattle.cp_rpc.specs.declared.message.Message.{Message}
+use Rattle.cp_messages.specs.declared.message.Message.{Message}
 use Rattle.cp_vat_machine.specs.Step.{Receives}
 use Rattle.cp_vat_machine.specs.declared.fault.PeerFault.{PeerFault}
 use Rattle.cp_vat_machine.specs.declared.fault.PeerFault.TheVariants as faults

@@ -1,6 +1,6 @@
 -- Two vats and the messages between them. (rpc.capnp: a connection of two parties, whose messages come in the order in which they were sent.)
 use Rattle.std.specs.Prelude.{◌≡◌, ℕ, false, List, [], ◌∷◌, ◌++◌, flat_map, Option}
-use Rattle.cp_rpc.specs.declared.message.Message.{Message}
+use Rattle.cp_messages.specs.declared.message.Message.{Message}
 use Rattle.cp_vat_machine.specs.State.{State, new_state}
 use Rattle.cp_vat_machine.specs.Step.{Step}
 use Rattle.cp_vat_machine.specs.Run.{Moment}

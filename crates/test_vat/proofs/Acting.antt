@@ -7,7 +7,7 @@ use Rattle.std.specs.Ordering.{nat_cmp, eq_by_cmp}
 use Rattle.cp_tables.specs.declared.exchange.Exchange.{Exchange}
 use Rattle.cp_tables.specs.declared.exchange.Stage.{Stage}
 use Rattle.cp_tables.specs.declared.exchange.Stage.TheVariants as stages
-use Rattle.cp_rpc.specs.declared.message.Message.TheVariants as messages
+use Rattle.cp_messages.specs.declared.message.Message.TheVariants as messages
 use Rattle.cp_refs.specs.Route.{Way, ends, leads, missing}
 use Rattle.cp_refs.specs.declared.cap.Cap.{Cap}
 use Rattle.cp_refs.specs.declared.cap.Cap.TheVariants as caps

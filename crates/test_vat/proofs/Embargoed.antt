@@ -11,12 +11,12 @@ use Rattle.cp_tables.specs.Exchange.{new_exchange}
 use Rattle.cp_tables.specs.declared.counted.Counted.{Counted}
 use Rattle.cp_tables.specs.declared.exchange.Exchange.{Exchange}
 use Rattle.cp_tables.specs.declared.exchange.Stage.TheVariants as stages
-use Rattle.cp_rpc.specs.declared.descriptor.Descriptor.{Descriptor}
-use Rattle.cp_rpc.specs.declared.descriptor.Descriptor.TheVariants as descriptors
-use Rattle.cp_rpc.specs.declared.message.Message.TheVariants as messages
-use Rattle.cp_rpc.specs.declared.returned.Return.{Return}
-use Rattle.cp_rpc.specs.declared.returned.Returned.TheVariants as returns
-use Rattle.cp_rpc.specs.declared.target.Target.TheVariants as targets
+use Rattle.cp_messages.specs.declared.descriptor.Descriptor.{Descriptor}
+use Rattle.cp_messages.specs.declared.descriptor.Descriptor.TheVariants as descriptors
+use Rattle.cp_messages.specs.declared.message.Message.TheVariants as messages
+use Rattle.cp_messages.specs.declared.returned.Return.{Return}
+use Rattle.cp_messages.specs.declared.returned.Returned.TheVariants as returns
+use Rattle.cp_messages.specs.declared.target.Target.TheVariants as targets
 use Rattle.cp_refs.specs.Route.{ends, way, route_within, route_by, Routes}
 use Rattle.cp_refs.specs.Values.{ValueMaps}
 use Rattle.cp_refs.specs.declared.cap.Cap.{Cap}

@@ -9,7 +9,7 @@ use Rattle.cp_refs.specs.Route.{Way, ends, leads, missing, way, promise_way, que
 use Rattle.cp_refs.specs.declared.cap.Cap.{Cap}
 use Rattle.cp_refs.specs.declared.cap.Cap.TheVariants as caps
 use Rattle.cp_refs.specs.declared.route.Route.{Route}
-use Rattle.cp_rpc.specs.declared.descriptor.Descriptor.TheVariants as descriptors
+use Rattle.cp_messages.specs.declared.descriptor.Descriptor.TheVariants as descriptors
 use Rattle.cp_vat_machine.specs.Capacity.{Fresh, free, full, has_capacity}
 use Rattle.cp_vat_machine.specs.Writing.{end_by, end_within, ResolvesTo, HasNoExport, Raise, counted, opened, has_no_capacity, WritesEnd, WritesDescriptor, WritesDescriptors}
 use Rattle.cp_vat_machine.specs.Writing.{promised as promised_answer}

@@ -3,8 +3,8 @@ use Rattle.std.specs.Prelude.{refl, if◌then◌else◌, false, List, [], ◌∷
 use Rattle.std.specs.List.{AllByRecursion}
 use Rattle.std.proofs.Common.{ap, subst, sym}
 use Rattle.cp_tree.specs.Node.{cap}
-use Rattle.cp_rpc.specs.declared.descriptor.Descriptor.TheVariants as descriptors
-use Rattle.cp_rpc.specs.declared.message.Message.{Message}
+use Rattle.cp_messages.specs.declared.descriptor.Descriptor.TheVariants as descriptors
+use Rattle.cp_messages.specs.declared.message.Message.{Message}
 use Rattle.cp_vat_worlds.specs.Accounts.{asked_account, is_given_up}
 use Rattle.cp_vat_worlds.specs.Naming.{IsOfKindAfter, IsOfExportUnless, looked_at}
 use Rattle.test_vat.specs.RowWords.{return_message, results, one_object}

@@ -12,10 +12,10 @@ use Rattle.cp_tables.specs.Exchange.{new_exchange}
 use Rattle.cp_tables.specs.declared.counted.Counted.{Counted}
 use Rattle.cp_tables.specs.declared.exchange.Exchange.{Exchange}
 use Rattle.cp_tables.specs.declared.exchange.Stage.TheVariants as stages
-use Rattle.cp_rpc.specs.declared.descriptor.Descriptor.{Descriptor}
-use Rattle.cp_rpc.specs.declared.descriptor.Descriptor.TheVariants as descriptors
-use Rattle.cp_rpc.specs.declared.returned.Returned.{Returned}
-use Rattle.cp_rpc.specs.declared.returned.Returned.TheVariants as returns
+use Rattle.cp_messages.specs.declared.descriptor.Descriptor.{Descriptor}
+use Rattle.cp_messages.specs.declared.descriptor.Descriptor.TheVariants as descriptors
+use Rattle.cp_messages.specs.declared.returned.Returned.{Returned}
+use Rattle.cp_messages.specs.declared.returned.Returned.TheVariants as returns
 use Rattle.cp_refs.specs.Route.{Routes}
 use Rattle.cp_refs.specs.Values.{ValueMaps}
 use Rattle.cp_refs.specs.declared.cap.Cap.{Cap}
@@ -33,12 +33,12 @@ use Rattle.cp_vat_machine.specs.Give.{Give, SettleTied, given, GiveAnswer, GiveB
 use Rattle.cp_vat_machine.specs.Go.{Underway, underway, without_call, Leave, NoneOver, Go, GoTo, held_at, delivered}
 use Rattle.cp_vat_machine.specs.Answering.{with_answer, GoToAnswer, GoToTarget, peer_call, entered, call_faults, OnCall}
 use Rattle.test_vat.specs.OrderRows.{delivered_to}
-use Rattle.cp_rpc.specs.declared.call.Call.{Call}
-use Rattle.cp_rpc.specs.declared.call.SendResultsTo.TheVariants as results_to
-use Rattle.cp_rpc.specs.declared.target.Target.{Target}
-use Rattle.cp_rpc.specs.declared.target.Target.TheVariants as targets
-use Rattle.cp_rpc.specs.declared.message.Message.{Message}
-use Rattle.cp_rpc.specs.declared.message.Message.TheVariants as messages
+use Rattle.cp_messages.specs.declared.call.Call.{Call}
+use Rattle.cp_messages.specs.declared.call.SendResultsTo.TheVariants as results_to
+use Rattle.cp_messages.specs.declared.target.Target.{Target}
+use Rattle.cp_messages.specs.declared.target.Target.TheVariants as targets
+use Rattle.cp_messages.specs.declared.message.Message.{Message}
+use Rattle.cp_messages.specs.declared.message.Message.TheVariants as messages
 use Rattle.cp_refs.specs.declared.call.WaitingCall.{WaitingCall}
 use Rattle.cp_refs.specs.declared.call.Origin.TheVariants as origins
 use Rattle.cp_refs.specs.declared.route.Gate.TheVariants as gates

@@ -1,7 +1,7 @@
 -- The steps and runs of a vat, found by computing.
 use Rattle.std.specs.Prelude.{◌≡◌, refl, ℕ, Bool, true, false, List, [], ◌∷◌, ◌++◌, map, is_some, Option, Some, None, Result, Ok, Err}
 use Rattle.std.proofs.Common.{sym, ap, subst, unwrap_or, true≢false}
-use Rattle.cp_rpc.specs.declared.message.Message.{Message}
+use Rattle.cp_messages.specs.declared.message.Message.{Message}
 use Rattle.cp_vat_machine.specs.State.{State}
 use Rattle.cp_vat_machine.specs.Step.{Receives, Does, aborts, Follows, all_left, found_full, Step, was_closed, refused, did, received, faulted}
 use Rattle.cp_vat_machine.specs.Run.{Moment, Steps, Run}

@@ -11,8 +11,8 @@ use Rattle.cp_refs.specs.At.{cap_at}
 use Rattle.cp_refs.specs.declared.cap.Cap.{Cap}
 use Rattle.cp_refs.specs.declared.cap.Cap.TheVariants as caps
 use Rattle.cp_refs.specs.declared.outcome.Outcome.{Outcome}
-use Rattle.cp_rpc.specs.declared.descriptor.Descriptor.{Descriptor}
-use Rattle.cp_rpc.specs.declared.descriptor.Descriptor.TheVariants as descriptors
+use Rattle.cp_messages.specs.declared.descriptor.Descriptor.{Descriptor}
+use Rattle.cp_messages.specs.declared.descriptor.Descriptor.TheVariants as descriptors
 use Rattle.cp_vat_machine.specs.State.{State}
 use Rattle.cp_vat_machine.specs.Receiving.{path_of, held_once_more, held_import, answer_by, answer_of, tie, tied, ReceivesAnswer, taken_export, ReceivesCap, ReceivesCaps, less_by, lowered_by, lowered, times, release_exports, released}
 use Rattle.cp_vat_machine.specs.declared.entry.ImportKind.{ImportKind}

@@ -5,8 +5,8 @@ use Rattle.cp_tree.specs.Node.{cap}
 use Rattle.cp_tables.specs.Counted.{count_of, new_counted}
 use Rattle.cp_tables.specs.Exchange.{new_exchange}
 use Rattle.cp_tables.specs.declared.exchange.Stage.TheVariants as stages
-use Rattle.cp_rpc.specs.declared.descriptor.Descriptor.TheVariants as descriptors
-use Rattle.cp_rpc.specs.declared.message.Message.{Message}
+use Rattle.cp_messages.specs.declared.descriptor.Descriptor.TheVariants as descriptors
+use Rattle.cp_messages.specs.declared.message.Message.{Message}
 use Rattle.cp_refs.specs.declared.cap.Cap.TheVariants as caps
 use Rattle.cp_vat_machine.specs.State.{State, with_exports, with_questions}
 use Rattle.cp_vat_machine.specs.Run.{Moment}

@@ -1,8 +1,8 @@
 -- Worlds of two vats that moves come to, in which a clause must leave something out.
 use Rattle.std.specs.Prelude.{◌≡◌, true, List, [], ◌∷◌}
 use Rattle.std.specs.List.{AllByRecursion}
-use Rattle.cp_rpc.specs.declared.descriptor.Descriptor.TheVariants as descriptors
-use Rattle.cp_rpc.specs.declared.resolve.Resolution.TheVariants as resolutions
+use Rattle.cp_messages.specs.declared.descriptor.Descriptor.TheVariants as descriptors
+use Rattle.cp_messages.specs.declared.resolve.Resolution.TheVariants as resolutions
 use Rattle.cp_refs.specs.declared.cap.Cap.TheVariants as caps
 use Rattle.cp_refs.specs.declared.call.Origin.TheVariants as origins
 use Rattle.cp_refs.specs.declared.outcome.Outcome.TheVariants as outcomes

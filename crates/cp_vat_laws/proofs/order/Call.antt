@@ -206,7 +206,7 @@ module _ (old : State) (q : ℕ) (request : Request) (cap : Cap) (within : Withi
           (routes.Import j) goes tt (came_way kinds.Wire (routes.Import j) (rw (at) (1, refl))) (inl tt) (λ m mark off. subst IsOfThisEnd at (here_if m mark))
 
       -- to what fails
-      fails_holds : (x : Rattle.cp_rpc.specs.declared.exception.Exception.Exception) → (IsOfThisEnd v → ⊥) → ((r : Route) → Routes (called old q kinds.Local).values v r → r ≡ routes.Fail x)
+      fails_holds : (x : Rattle.cp_messages.specs.declared.exception.Exception.Exception) → (IsOfThisEnd v → ⊥) → ((r : Route) → Routes (called old q kinds.Local).values v r → r ≡ routes.Fail x)
           → GoTo (called old q kinds.Local) call v (Ok (first, mid)) → Holds
       fails_holds x away fails goes =
           let route_is = fails goes.0 goes.1 in
@@ -312,7 +312,7 @@ module _ (old : State) (q : ℕ) (request : Request) (cap : Cap) (within : Withi
           first_holds parts.0 (free_at old.marks.embargoes parts.0 parts.1) at (ok_in _ _ parts.2)
       back_holds (Some (Some n)) at goes = next_holds n at goes
 
-    one_fail : (values : Rattle.cp_refs.specs.Values.ValueMaps) (c : Cap) (x : Rattle.cp_rpc.specs.declared.exception.Exception.Exception)
+    one_fail : (values : Rattle.cp_refs.specs.Values.ValueMaps) (c : Cap) (x : Rattle.cp_messages.specs.declared.exception.Exception.Exception)
         → Routes values c (routes.Fail x) → (r : Route) → Routes values c r → r ≡ routes.Fail x
     one_fail values c x fails r way = Rattle.cp_vat_laws.proofs.order.Routes.one_route values c r (routes.Fail x) way fails
 

@@ -5,10 +5,10 @@ use Rattle.std.proofs.Common.{arith, ap, subst, ◌∙◌, true≢false}
 use Rattle.cp_tables.specs.Exchange.{new_exchange}
 use Rattle.cp_tables.specs.declared.counted.Counted.{Counted}
 use Rattle.cp_tables.specs.declared.exchange.Exchange.{Exchange}
-use Rattle.cp_rpc.specs.declared.call.Call.{Call}
-use Rattle.cp_rpc.specs.declared.target.Target.{Target}
-use Rattle.cp_rpc.specs.declared.target.Target.TheVariants as targets
-use Rattle.cp_rpc.specs.declared.message.Message.TheVariants as messages
+use Rattle.cp_messages.specs.declared.call.Call.{Call}
+use Rattle.cp_messages.specs.declared.target.Target.{Target}
+use Rattle.cp_messages.specs.declared.target.Target.TheVariants as targets
+use Rattle.cp_messages.specs.declared.message.Message.TheVariants as messages
 use Rattle.cp_refs.specs.At.{cap_at}
 use Rattle.cp_refs.specs.Route.{Routes}
 use Rattle.cp_refs.specs.declared.cap.Cap.{Cap}

@@ -3,8 +3,8 @@ use Rattle.std.specs.Prelude.{◌≡◌, ◌⊎◌, refl, ℕ, ◌==◌, not, co
 use Rattle.std.specs.FinMap.{get, empty, get-empty}
 use Rattle.std.specs.Ordering.{nat_cmp}
 use Rattle.std.proofs.Common.{inl, inr, ap, sym, ◌∙◌, true≢false}
-use Rattle.cp_rpc.specs.declared.message.Message.{Message}
-use Rattle.cp_rpc.specs.declared.message.Message.TheVariants as messages
+use Rattle.cp_messages.specs.declared.message.Message.{Message}
+use Rattle.cp_messages.specs.declared.message.Message.TheVariants as messages
 use Rattle.cp_refs.specs.declared.call.WaitingCall.{WaitingCall}
 use Rattle.cp_vat_machine.specs.State.{State, new_state, none_over}
 use Rattle.cp_vat_machine.specs.Then.{Done, fault_if}
@@ -90,7 +90,7 @@ module _ (past : List Turn) (old : State) (first : List Effect) (mid : State) (h
       on_holds m is (unless_out {A = Done} (fault_if (not (message_fits m)) faults.PayloadTooLarge) (On old m) (first, mid) does)
   receives_by m false is does =
       quietly_own (events.Receive m) values.Nothing (rw (is) refl)
-      (echo_by m (echo_fits (Rattle.cp_rpc.specs.Written.message_written (messages.Unimplemented (Rattle.cp_rpc.specs.Written.message_written m)))) _ is does (λ s. refl))
+      (echo_by m (echo_fits (Rattle.cp_messages.specs.Written.message_written (messages.Unimplemented (Rattle.cp_messages.specs.Written.message_written m)))) _ is does (λ s. refl))
 
   pub receives_holds : (m : Message) → Receives old m (Ok (first, mid)) → OrderHolds (owning (events.Receive m) values.Nothing old first mid ∷ past) mid
   receives_holds m does = receives_by m (is_supported m) refl does

@@ -7,7 +7,7 @@ use Rattle.std.proofs.Common.{arith, ap, sym, subst, ◌∙◌, true≢false}
 use Rattle.std.proofs.lemmas.List.Sums.{sum_by-cons}
 use Rattle.cp_tables.specs.Table.{Table}
 use Rattle.cp_tables.specs.declared.counted.Counted.{Counted}
-use Rattle.cp_rpc.specs.declared.exception.Exception.{Exception}
+use Rattle.cp_messages.specs.declared.exception.Exception.{Exception}
 use Rattle.cp_refs.specs.At.{cap_at}
 use Rattle.cp_refs.specs.Route.{Way, ends, leads, missing, promise_way, question_way, way, HasRoute}
 use Rattle.cp_refs.specs.Values.{ValueMaps}

@@ -1,9 +1,9 @@
 -- Each step keeps what holds of an open vat between events.
 use Rattle.std.specs.Prelude.{◌≡◌, refl, ◌⊎◌, not, if◌then◌else◌, Bool, true, false, List, [], ◌∷◌, None, Result, Ok, Err}
 use Rattle.std.proofs.Common.{inl, inr, sym, ◌∙◌, true≢false}
-use Rattle.cp_rpc.specs.Written.{message_written}
-use Rattle.cp_rpc.specs.declared.message.Message.{Message}
-use Rattle.cp_rpc.specs.declared.message.Message.TheVariants as messages
+use Rattle.cp_messages.specs.Written.{message_written}
+use Rattle.cp_messages.specs.declared.message.Message.{Message}
+use Rattle.cp_messages.specs.declared.message.Message.TheVariants as messages
 use Rattle.cp_vat_machine.specs.State.{State, none_over, new_state}
 use Rattle.cp_vat_machine.specs.Then.{Done, fault_if}
 use Rattle.cp_vat_machine.specs.Capacity.{message_fits}

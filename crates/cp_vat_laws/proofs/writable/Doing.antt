@@ -8,8 +8,8 @@ use Rattle.cp_tables.specs.declared.exchange.Exchange.{Exchange}
 use Rattle.cp_tables.specs.declared.exchange.Stage.{Stage}
 use Rattle.cp_tables.specs.declared.exchange.Stage.TheVariants as stages
 use Rattle.cp_tables.proofs.TableLemmas.{every-insert, every-remove}
-use Rattle.cp_rpc.proofs.Firsts.{none-left, none-right}
-use Rattle.cp_rpc.specs.declared.promised_answer.Op.TheVariants as ops
+use Rattle.cp_messages.proofs.Nones.{none-left, none-right}
+use Rattle.cp_messages.specs.declared.promised_answer.Op.TheVariants as ops
 use Rattle.cp_refs.specs.Values.{ValueMaps}
 use Rattle.cp_refs.specs.declared.cap.Cap.{Cap}
 use Rattle.cp_refs.specs.declared.cap.Cap.TheVariants as caps

@@ -5,24 +5,24 @@ use Rattle.std.proofs.lemmas.List.{length-map}
 use Rattle.cp_tree.specs.Node.{Node, Nodes, no_nodes, node, null, struct, Bodies, depth, greatest_depth, deepest_body, cost, count, total_cost, body_cost, number_of}
 use Rattle.cp_tree.specs.NodeOf.{bodies_of}
 use Rattle.cp_tree.proofs.Trees.{number_in}
-use Rattle.cp_rpc.specs.Written.{body_written, bootstrap_written, call_written, cap_table_written, descriptor_written, descriptor_pointer, disembargo_written, exception_written, finish_written, member_written, message_written, op_written, payload_written, promised_answer_written, release_written, resolution_pointer, resolve_written, return_written, returned_pointer, target_written, target_pointer, text_written, third_party_written, transform_written}
-use Rattle.cp_rpc.specs.declared.call.Call.{Call}
-use Rattle.cp_rpc.specs.declared.call.SendResultsTo.{SendResultsTo}
-use Rattle.cp_rpc.specs.declared.call.SendResultsTo.TheVariants as results_to
-use Rattle.cp_rpc.specs.declared.exception.Exception.{Exception}
-use Rattle.cp_rpc.specs.declared.promised_answer.Op.{Op}
-use Rattle.cp_rpc.specs.declared.promised_answer.PromisedAnswer.{PromisedAnswer}
-use Rattle.cp_rpc.specs.declared.target.Target.{Target}
-use Rattle.cp_rpc.specs.declared.target.Target.TheVariants as targets
-use Rattle.cp_rpc.specs.declared.descriptor.Descriptor.{Descriptor}
-use Rattle.cp_rpc.specs.declared.descriptor.Descriptor.TheVariants as descriptors
-use Rattle.cp_rpc.specs.declared.payload.Payload.{Payload}
-use Rattle.cp_rpc.specs.declared.returned.Returned.{Returned}
-use Rattle.cp_rpc.specs.declared.returned.Returned.TheVariants as returns
-use Rattle.cp_rpc.specs.declared.resolve.Resolution.{Resolution}
-use Rattle.cp_rpc.specs.declared.resolve.Resolution.TheVariants as resolutions
-use Rattle.cp_rpc.specs.declared.message.Message.{Message}
-use Rattle.cp_rpc.specs.declared.message.Message.TheVariants as messages
+use Rattle.cp_messages.specs.Written.{body_written, bootstrap_written, call_written, cap_table_written, descriptor_written, descriptor_pointer, disembargo_written, exception_written, finish_written, member_written, message_written, op_written, payload_written, promised_answer_written, release_written, resolution_pointer, resolve_written, return_written, returned_pointer, target_written, target_pointer, text_written, third_party_written, transform_written}
+use Rattle.cp_messages.specs.declared.call.Call.{Call}
+use Rattle.cp_messages.specs.declared.call.SendResultsTo.{SendResultsTo}
+use Rattle.cp_messages.specs.declared.call.SendResultsTo.TheVariants as results_to
+use Rattle.cp_messages.specs.declared.exception.Exception.{Exception}
+use Rattle.cp_messages.specs.declared.promised_answer.Op.{Op}
+use Rattle.cp_messages.specs.declared.promised_answer.PromisedAnswer.{PromisedAnswer}
+use Rattle.cp_messages.specs.declared.target.Target.{Target}
+use Rattle.cp_messages.specs.declared.target.Target.TheVariants as targets
+use Rattle.cp_messages.specs.declared.descriptor.Descriptor.{Descriptor}
+use Rattle.cp_messages.specs.declared.descriptor.Descriptor.TheVariants as descriptors
+use Rattle.cp_messages.specs.declared.payload.Payload.{Payload}
+use Rattle.cp_messages.specs.declared.returned.Returned.{Returned}
+use Rattle.cp_messages.specs.declared.returned.Returned.TheVariants as returns
+use Rattle.cp_messages.specs.declared.resolve.Resolution.{Resolution}
+use Rattle.cp_messages.specs.declared.resolve.Resolution.TheVariants as resolutions
+use Rattle.cp_messages.specs.declared.message.Message.{Message}
+use Rattle.cp_messages.specs.declared.message.Message.TheVariants as messages
 use Rattle.cp_vat_machine.specs.Capacity.{exception_fits}
 use Rattle.cp_vat_machine.specs.declared.effect.Effect.{Effect}
 use Rattle.cp_vat_machine.specs.declared.effect.Effect.TheVariants as effects

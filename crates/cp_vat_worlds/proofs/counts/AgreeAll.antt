@@ -2,7 +2,7 @@
 use Rattle.std.specs.Prelude.{List, [], ◌∷◌, ◌++◌}
 use Rattle.std.proofs.Common.{append_assoc}
 use Rattle.std.proofs.lemmas.List.{append-nil}
-use Rattle.cp_rpc.specs.declared.message.Message.{Message}
+use Rattle.cp_messages.specs.declared.message.Message.{Message}
 use Rattle.cp_vat_worlds.specs.Accounts.{Accounts, accounts_of}
 use Rattle.cp_vat_worlds.specs.World.{messages_sent}
 use Rattle.cp_vat_worlds.specs.Lives.{AreUsual, Agree}

@@ -3,8 +3,8 @@ use Rattle.std.specs.Prelude.{◌≡◌, refl, ℕ, ◌≤◌, ◌==◌, if◌th
 use Rattle.std.proofs.Common.{arith, ap, sym, true≢false}
 use Rattle.cp_tables.specs.declared.exchange.Stage.{Stage}
 use Rattle.cp_tables.specs.declared.exchange.Stage.TheVariants as stages
-use Rattle.cp_rpc.specs.declared.message.Message.{Message}
-use Rattle.cp_rpc.specs.declared.message.Message.TheVariants as messages
+use Rattle.cp_messages.specs.declared.message.Message.{Message}
+use Rattle.cp_messages.specs.declared.message.Message.TheVariants as messages
 use Rattle.cp_vat_machine.proofs.Basics.{is_itself}
 use Rattle.cp_vat_worlds.specs.Ledger.{named_by}
 use Rattle.cp_vat_worlds.specs.Accounts.{Account, Accounts, accounts_of, lowerable, lowered_by}

@@ -4,7 +4,7 @@ use Rattle.std.proofs.Common.{inl, inr}
 use Rattle.std.proofs.lemmas.List.{append-nil}
 use Rattle.cp_tables.specs.declared.exchange.Stage.{Stage}
 use Rattle.cp_tables.specs.declared.exchange.Stage.TheVariants as stages
-use Rattle.cp_rpc.specs.declared.message.Message.{Message}
+use Rattle.cp_messages.specs.declared.message.Message.{Message}
 use Rattle.cp_vat_machine.proofs.Basics.{some_out, none_out}
 use Rattle.cp_vat_worlds.specs.Ledger.{named_by, opens, returns_to, finishes}
 use Rattle.cp_vat_worlds.specs.Accounts.{Account, new_account, is_releasing, asked, given_up_at, question_finished, question_after, gone_by, given_at, answer_given, answer_after, question_returned, question_heard, return_noted, answer_finished, finish_noted, answer_heard}

@@ -2,7 +2,7 @@
 use Rattle.std.specs.Prelude.{◌≡◌, refl, ℕ, Bool, true, false, List, [], ◌∷◌, ◌++◌, Option, Result, Ok, Err}
 use Rattle.std.proofs.Common.{ap, sym, ◌∙◌, true≢false}
 use Rattle.cp_tables.specs.Counted.{count_of}
-use Rattle.cp_rpc.specs.declared.message.Message.{Message}
+use Rattle.cp_messages.specs.declared.message.Message.{Message}
 use Rattle.cp_vat_machine.specs.State.{State}
 use Rattle.cp_vat_machine.specs.Run.{Moment}
 use Rattle.cp_vat_machine.specs.Step.{Does, Step, was_closed, ran_out, refused, did, received, faulted}

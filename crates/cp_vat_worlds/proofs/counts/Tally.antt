@@ -3,8 +3,8 @@ use Rattle.std.specs.Prelude.{◌≡◌, refl, ℕ, if◌then◌else◌, Bool, t
 use Rattle.std.proofs.Common.{arith, ap, sym, true≢false}
 use Rattle.cp_tables.specs.declared.exchange.Stage.{Stage}
 use Rattle.cp_tables.specs.declared.exchange.Stage.TheVariants as stages
-use Rattle.cp_rpc.specs.declared.message.Message.{Message}
-use Rattle.cp_rpc.specs.declared.message.Message.TheVariants as messages
+use Rattle.cp_messages.specs.declared.message.Message.{Message}
+use Rattle.cp_messages.specs.declared.message.Message.TheVariants as messages
 use Rattle.cp_vat_machine.specs.Receiving.{times}
 use Rattle.cp_vat_machine.proofs.Basics.{some_out, none_out}
 use Rattle.cp_vat_worlds.specs.Ledger.{Traffic, came, sent, named_by, opens, returns_to, finishes, params_of, results_of, lowered_times, export_count, is_finished, taken_by, import_count, stage_returned, stage_finished, question_stage, answer_stage}

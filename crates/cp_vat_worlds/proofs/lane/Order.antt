@@ -3,7 +3,7 @@ use Rattle.std.specs.Prelude.{◌≡◌, refl, ℕ, ◌<◌, if◌then◌else◌
 use Rattle.std.specs.List.{AllByRecursion}
 use Rattle.std.proofs.Common.{ap, sym, ◌∙◌, append-nil, true≢false}
 use Rattle.std.proofs.lemmas.List.Elements.{filter-append}
-use Rattle.cp_rpc.specs.declared.message.Message.{Message}
+use Rattle.cp_messages.specs.declared.message.Message.{Message}
 use Rattle.cp_vat_machine.specs.State.{State}
 use Rattle.cp_vat_machine.specs.Local.{Local}
 use Rattle.cp_vat_machine.specs.Step.{Does, Receives, Step, was_closed, ran_out, refused, did, received, faulted, Follows, all_left, found_full}

@@ -13,7 +13,7 @@ use Rattle.cp_refs.specs.declared.route.Gate.TheVariants as gates
 use Rattle.cp_refs.specs.declared.values.Question.{Question}
 use Rattle.cp_refs.specs.declared.values.QuestionKind.{QuestionKind}
 use Rattle.cp_refs.specs.declared.values.QuestionKind.TheVariants as kinds
-use Rattle.cp_rpc.specs.declared.message.Message.{Message}
+use Rattle.cp_messages.specs.declared.message.Message.{Message}
 use Rattle.cp_vat_machine.specs.State.{State, gave, none_over}
 use Rattle.cp_vat_machine.specs.InUse.{is_question_here, is_open_here}
 use Rattle.cp_vat_machine.specs.Calling.{plain, on_wire, came_to, reference_of, import_reference, question_reference, path_reference}

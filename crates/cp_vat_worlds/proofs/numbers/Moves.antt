@@ -6,7 +6,7 @@ use Rattle.cp_tables.specs.Table.{Table}
 use Rattle.cp_tables.specs.Counted.{IsCount, AreCounts, count_of}
 use Rattle.cp_tables.specs.declared.counted.Counted.{Counted}
 use Rattle.cp_tables.proofs.CountedLemmas.{AreCounts-empty}
-use Rattle.cp_rpc.specs.declared.message.Message.{Message}
+use Rattle.cp_messages.specs.declared.message.Message.{Message}
 use Rattle.cp_refs.specs.declared.cap.Cap.{Cap}
 use Rattle.cp_vat_machine.specs.State.{State}
 use Rattle.cp_vat_machine.specs.Step.{Follows, all_left, found_full, Step, was_closed, ran_out, refused, did, received, faulted}

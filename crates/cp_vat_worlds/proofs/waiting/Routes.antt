@@ -3,7 +3,7 @@ use Rattle.std.specs.Prelude.{◌≡◌, refl, ℕ, zero, suc, if◌then◌else�
 use Rattle.std.specs.FinMap.{get}
 use Rattle.std.proofs.Common.{ap, sym, ◌∙◌}
 use Rattle.cp_tables.specs.Table.{Table}
-use Rattle.cp_rpc.specs.declared.exception.Exception.{Exception}
+use Rattle.cp_messages.specs.declared.exception.Exception.{Exception}
 use Rattle.cp_refs.specs.At.{null_capability}
 use Rattle.cp_refs.specs.Route.{Way, ends, leads, missing, promise_way, open_way, outcome_way, question_way, way, route_by, route_within, Routes}
 use Rattle.cp_refs.specs.Values.{ValueMaps}

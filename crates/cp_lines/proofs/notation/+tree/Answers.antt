@@ -1,6 +1,6 @@
 use Rattle.std.proofs.Common.{◌<◌, ◌≤◌, arith, sym, subst, ◌∙◌}
-use Rattle.cp_tree.specs.Node.{IsStruct, count, number_of, depth}
-use Rattle.cp_reading.specs.Rows.{row_of, bodies_in}
+use Rattle.cp_tree.specs.Node.{IsStruct, count, number_of, depth, row_of}
+use Rattle.cp_reading.specs.Rows.{bodies_in}
 use Rattle.cp_reading.proofs.Builds.{part-struct, struct-shape, pointers-shape, row_nests, element_nests}
 use Rattle.cp_lines.proofs.notation.+tree.Goals as goal
 

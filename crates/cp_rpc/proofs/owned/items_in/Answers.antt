@@ -1,6 +1,6 @@
 use Rattle.std.proofs.Common.{sym, ap, ◌∙◌}
 use Rattle.cp_tree.specs.NodeOf.{node_of}
-use Rattle.cp_rpc.specs.Fields.{items_of}
+use Rattle.cp_messages.specs.Fields.{items_of}
 use Rattle.cp_rpc.proofs.Parts.{items-Structs}
 use Rattle.cp_rpc.proofs.owned.items_in.Goals as goal
 

@@ -1,6 +1,6 @@
 use Rattle.std.proofs.Common.{sym, ap, ◌∙◌}
 use Rattle.cp_tree.specs.NodeOf.{node_of}
-use Rattle.cp_rpc.specs.Fields.{look_of}
+use Rattle.cp_rpc.specs.Looked.{look_of}
 use Rattle.cp_rpc.proofs.Parts.{look-Structs}
 use Rattle.cp_rpc.proofs.owned.look_at.Goals as goal
 

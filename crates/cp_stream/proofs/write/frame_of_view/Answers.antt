@@ -1,6 +1,6 @@
 use Rattle.std.proofs.Common.{◌≤◌, IfOk, IfErr, inr, subst, arith}
 use Rattle.cp_rpc.specs.Viewed.{viewed}
-use Rattle.cp_rpc.specs.declared.message.Message.{Message}
+use Rattle.cp_messages.specs.declared.message.Message.{Message}
 use Rattle.cp_stream.specs.Write.{IsWrittenAs, IsUnwrittenFor}
 use Rattle.cp_stream.proofs.Writing.{written_alone, refused_alone}
 use Rattle.cp_stream.proofs.Taking.{map_err, map_if_ok}

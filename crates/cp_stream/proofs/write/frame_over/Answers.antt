@@ -1,7 +1,7 @@
 use Rattle.std.proofs.Common.{◌≡◌, ◌++◌, ◌-◌, ◌/◌, ℕ, List, length, take, drop, subst, ap, ◌∙◌, arith}
 use Rattle.std.specs.Int.{to_le_bytes, w32}
 use Rattle.cp_tree.specs.Node.{Node}
-use Rattle.cp_rpc.specs.Written.{message_written}
+use Rattle.cp_messages.specs.Written.{message_written}
 use Rattle.cp_writing.specs.Writes.{AreBytesOf, FitsIn}
 use Rattle.cp_writing.proofs.Blocks.{refilled}
 use Rattle.cp_stream.proofs.Straight.{block_long, straight}

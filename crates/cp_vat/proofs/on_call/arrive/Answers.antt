@@ -2,7 +2,7 @@ use Rattle.std.proofs.Common.{List, Some, Ok, Err, subst}
 use Rattle.std.proofs.lemmas.Result.{err_from_is_err_and}
 use Rattle.cp_vat_machine.specs.Answering.{call_faults}
 use Rattle.cp_vat_machine.specs.Receiving.{ReceivesCaps}
-use Rattle.cp_rpc.specs.declared.descriptor.Descriptor.{Descriptor}
+use Rattle.cp_messages.specs.declared.descriptor.Descriptor.{Descriptor}
 use Rattle.cp_refs.specs.declared.call.Origin.TheVariants as origins
 use Rattle.cp_vat_rules.proofs.Ready.{may_go}
 use Rattle.cp_vat_state.specs.Halts.{Leaves}

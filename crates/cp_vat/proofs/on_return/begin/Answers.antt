@@ -1,5 +1,5 @@
 use Rattle.std.proofs.Common.{sym, ◌∙◌}
-use Rattle.cp_rpc.specs.declared.returned.Return.{Return}
+use Rattle.cp_messages.specs.declared.returned.Return.{Return}
 use Rattle.cp_vat_state.specs.StateOf.{state_of}
 use Rattle.cp_vat.proofs.Ready.{asked_awaits}
 use Rattle.cp_vat.proofs.Returning.{begins_open}

@@ -1,6 +1,6 @@
 use Rattle.std.proofs.Common.{◌≡◌, ℕ, true, refl, ap}
-use Rattle.cp_rpc.specs.declared.promised_answer.Op.{Op}
-use Rattle.cp_rpc.specs.declared.promised_answer.Op.TheVariants as ops
+use Rattle.cp_messages.specs.declared.promised_answer.Op.{Op}
+use Rattle.cp_messages.specs.declared.promised_answer.Op.TheVariants as ops
 use Rattle.cp_vat_machine.specs.Supported.{is_known_op}
 use Rattle.cp_vat.proofs.Listing.{all_more, all_fails}
 use Rattle.cp_vat.proofs.supported.is_supported_transform_view.Goals as goal

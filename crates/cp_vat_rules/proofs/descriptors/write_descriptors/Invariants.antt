@@ -1,5 +1,5 @@
 use Rattle.std.proofs.Common.{◌≡◌, drop, Result}
-use Rattle.cp_rpc.specs.declared.descriptor.Descriptor.{Descriptor}
+use Rattle.cp_messages.specs.declared.descriptor.Descriptor.{Descriptor}
 use Rattle.cp_vat_machine.specs.State.{State}
 use Rattle.cp_vat_machine.specs.Writing.{WritesDescriptors, mentions_of}
 use Rattle.cp_vat_machine.specs.declared.fault.PeerFault.{PeerFault}

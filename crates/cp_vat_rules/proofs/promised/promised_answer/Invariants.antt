@@ -1,5 +1,5 @@
 use Rattle.std.proofs.Common.{◌≡◌, map, take}
-use Rattle.cp_rpc.specs.declared.promised_answer.Op.TheVariants as ops
+use Rattle.cp_messages.specs.declared.promised_answer.Op.TheVariants as ops
 use Rattle.cp_vat_rules.proofs.promised.promised_answer.Given as goal
 
 abbrev pub invariant-loop-field : goal.invariant-loop-field

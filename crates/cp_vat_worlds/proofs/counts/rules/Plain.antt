@@ -7,8 +7,8 @@ use Rattle.cp_tree.specs.Node.{Node}
 use Rattle.cp_tree.specs.Node as nodes
 use Rattle.cp_tables.specs.Table.{Table}
 use Rattle.cp_tables.specs.declared.counted.Counted.{Counted}
-use Rattle.cp_rpc.specs.declared.descriptor.Descriptor.{Descriptor}
-use Rattle.cp_rpc.specs.declared.descriptor.Descriptor.TheVariants as descriptors
+use Rattle.cp_messages.specs.declared.descriptor.Descriptor.{Descriptor}
+use Rattle.cp_messages.specs.declared.descriptor.Descriptor.TheVariants as descriptors
 use Rattle.cp_refs.specs.At.{cap_at, cap_in, node_along}
 use Rattle.cp_refs.specs.Route.{promise_way}
 use Rattle.cp_refs.specs.Values.{ValueMaps}

@@ -5,13 +5,13 @@ use Rattle.std.proofs.Common.{arith, ap, sym, ◌∙◌, true≢false}
 use Rattle.cp_tree.specs.Node.{Node}
 use Rattle.cp_tables.specs.Table.{Table}
 use Rattle.cp_tables.specs.declared.counted.Counted.{Counted}
-use Rattle.cp_rpc.specs.declared.descriptor.Descriptor.{Descriptor}
-use Rattle.cp_rpc.specs.declared.exception.Exception.{Exception}
-use Rattle.cp_rpc.specs.declared.message.Message.{Message}
-use Rattle.cp_rpc.specs.declared.message.Message.TheVariants as messages
-use Rattle.cp_rpc.specs.declared.resolve.Resolution.{Resolution}
-use Rattle.cp_rpc.specs.declared.resolve.Resolution.TheVariants as resolutions
-use Rattle.cp_rpc.specs.declared.resolve.Resolve.{Resolve}
+use Rattle.cp_messages.specs.declared.descriptor.Descriptor.{Descriptor}
+use Rattle.cp_messages.specs.declared.exception.Exception.{Exception}
+use Rattle.cp_messages.specs.declared.message.Message.{Message}
+use Rattle.cp_messages.specs.declared.message.Message.TheVariants as messages
+use Rattle.cp_messages.specs.declared.resolve.Resolution.{Resolution}
+use Rattle.cp_messages.specs.declared.resolve.Resolution.TheVariants as resolutions
+use Rattle.cp_messages.specs.declared.resolve.Resolve.{Resolve}
 use Rattle.cp_refs.specs.declared.cap.Cap.{Cap}
 use Rattle.cp_refs.specs.declared.cap.Cap.TheVariants as caps
 use Rattle.cp_vat_machine.specs.State.{State, with_exports}

@@ -1,7 +1,7 @@
 -- Messages that are sent in two parts.
 use Rattle.std.specs.Prelude.{◌≡◌, refl, List, [], ◌∷◌, ◌++◌}
 use Rattle.std.proofs.Common.{sym, append_assoc}
-use Rattle.cp_rpc.specs.declared.message.Message.{Message}
+use Rattle.cp_messages.specs.declared.message.Message.{Message}
 use Rattle.cp_vat_machine.specs.State.{State}
 use Rattle.cp_vat_machine.specs.declared.effect.Effect.{Effect}
 use Rattle.cp_vat_worlds.specs.Accounts.{Accounts, accounts_of, Sent}

@@ -8,12 +8,12 @@ use Rattle.cp_tables.specs.declared.counted.Counted.{Counted}
 use Rattle.cp_tables.specs.declared.exchange.Exchange.{Exchange}
 use Rattle.cp_tables.specs.declared.exchange.Stage.{Stage}
 use Rattle.cp_tables.specs.declared.exchange.Stage.TheVariants as stages
-use Rattle.cp_rpc.specs.declared.call.Call.{Call}
-use Rattle.cp_rpc.specs.declared.promised_answer.Op.TheVariants as ops
-use Rattle.cp_rpc.specs.declared.target.Target.{Target}
-use Rattle.cp_rpc.specs.declared.target.Target.TheVariants as targets
-use Rattle.cp_rpc.specs.declared.message.Message.{Message}
-use Rattle.cp_rpc.specs.declared.message.Message.TheVariants as messages
+use Rattle.cp_messages.specs.declared.call.Call.{Call}
+use Rattle.cp_messages.specs.declared.promised_answer.Op.TheVariants as ops
+use Rattle.cp_messages.specs.declared.target.Target.{Target}
+use Rattle.cp_messages.specs.declared.target.Target.TheVariants as targets
+use Rattle.cp_messages.specs.declared.message.Message.{Message}
+use Rattle.cp_messages.specs.declared.message.Message.TheVariants as messages
 use Rattle.cp_refs.specs.At.{cap_at}
 use Rattle.cp_refs.specs.Route.{Routes}
 use Rattle.cp_refs.specs.declared.cap.Cap.{Cap}

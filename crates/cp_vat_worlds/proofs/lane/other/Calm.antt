@@ -3,7 +3,7 @@ use Rattle.std.specs.Prelude.{◌≡◌, ◌⊎◌, ℕ, Bool, false, List, [], 
 use Rattle.std.specs.List.{list_any, AllByRecursion}
 use Rattle.std.specs.FinMap.{get}
 use Rattle.std.proofs.Common.{inl, inr, ap, sym, ◌∙◌}
-use Rattle.cp_rpc.specs.declared.message.Message.{Message}
+use Rattle.cp_messages.specs.declared.message.Message.{Message}
 use Rattle.cp_refs.specs.declared.call.WaitingCall.{WaitingCall}
 use Rattle.cp_refs.specs.declared.route.Gate.{Gate}
 use Rattle.cp_vat_machine.specs.State.{State}

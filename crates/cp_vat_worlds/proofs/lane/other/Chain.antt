@@ -6,8 +6,8 @@ use Rattle.std.proofs.Common.{inl, inr, ap, sym, ◌∙◌, true≢false}
 use Rattle.std.proofs.lemmas.List.{append_assoc, append-nil}
 use Rattle.std.proofs.lemmas.Grind.{flat_map-append}
 use Rattle.cp_tables.specs.declared.counted.Counted.{Counted}
-use Rattle.cp_rpc.specs.declared.message.Message.{Message}
-use Rattle.cp_rpc.specs.declared.message.Message.TheVariants as messages
+use Rattle.cp_messages.specs.declared.message.Message.{Message}
+use Rattle.cp_messages.specs.declared.message.Message.TheVariants as messages
 use Rattle.cp_refs.specs.At.{cap_at}
 use Rattle.cp_refs.specs.Route.{Way, ends, leads, missing, promise_way, outcome_way, question_way, way, route_by, route_within, Routes}
 use Rattle.cp_refs.specs.Values.{ValueMaps}

@@ -1,6 +1,6 @@
 -- What the application does at the other end, with the waiting calls that leave then, keeps each lane.
 use Rattle.std.specs.Prelude.{refl, ℕ, List, ◌++◌, Ok}
-use Rattle.cp_rpc.specs.declared.message.Message.{Message}
+use Rattle.cp_messages.specs.declared.message.Message.{Message}
 use Rattle.cp_vat_machine.specs.State.{State}
 use Rattle.cp_vat_machine.specs.Go.{Leave}
 use Rattle.cp_vat_machine.specs.Then.{Done}

@@ -5,12 +5,12 @@ use Rattle.std.specs.FinMap.{get}
 use Rattle.std.proofs.Common.{ap, sym, true≢false}
 use Rattle.cp_tables.specs.declared.exchange.Exchange.{Exchange}
 use Rattle.cp_tables.specs.declared.exchange.Stage.TheVariants as stages
-use Rattle.cp_rpc.specs.declared.disembargo.Context.{Context}
-use Rattle.cp_rpc.specs.declared.disembargo.Context.TheVariants as contexts
-use Rattle.cp_rpc.specs.declared.disembargo.Disembargo.{Disembargo}
-use Rattle.cp_rpc.specs.declared.message.Message.{Message}
-use Rattle.cp_rpc.specs.declared.message.Message.TheVariants as messages
-use Rattle.cp_rpc.specs.declared.returned.Return.{Return}
+use Rattle.cp_messages.specs.declared.disembargo.Context.{Context}
+use Rattle.cp_messages.specs.declared.disembargo.Context.TheVariants as contexts
+use Rattle.cp_messages.specs.declared.disembargo.Disembargo.{Disembargo}
+use Rattle.cp_messages.specs.declared.message.Message.{Message}
+use Rattle.cp_messages.specs.declared.message.Message.TheVariants as messages
+use Rattle.cp_messages.specs.declared.returned.Return.{Return}
 use Rattle.cp_refs.specs.declared.call.WaitingCall.{WaitingCall}
 use Rattle.cp_refs.specs.declared.call.Origin.TheVariants as origins
 use Rattle.cp_vat_machine.specs.State.{State}

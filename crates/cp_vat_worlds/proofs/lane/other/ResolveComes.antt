@@ -5,15 +5,15 @@ use Rattle.std.specs.FinMap.{get, get-empty}
 use Rattle.std.specs.Ordering.{nat_cmp}
 use Rattle.std.proofs.Common.{inl, inr, ap, sym, ◌∙◌, true≢false}
 use Rattle.cp_tables.specs.declared.counted.Counted.{Counted}
-use Rattle.cp_rpc.specs.declared.disembargo.Context.TheVariants as contexts
-use Rattle.cp_rpc.specs.declared.disembargo.Disembargo.{Disembargo}
-use Rattle.cp_rpc.specs.declared.resolve.Resolution.{Resolution}
-use Rattle.cp_rpc.specs.declared.resolve.Resolution.TheVariants as resolutions
-use Rattle.cp_rpc.specs.declared.resolve.Resolve.{Resolve}
-use Rattle.cp_rpc.specs.declared.target.Target.{Target}
-use Rattle.cp_rpc.specs.declared.target.Target.TheVariants as targets
-use Rattle.cp_rpc.specs.declared.message.Message.{Message}
-use Rattle.cp_rpc.specs.declared.message.Message.TheVariants as messages
+use Rattle.cp_messages.specs.declared.disembargo.Context.TheVariants as contexts
+use Rattle.cp_messages.specs.declared.disembargo.Disembargo.{Disembargo}
+use Rattle.cp_messages.specs.declared.resolve.Resolution.{Resolution}
+use Rattle.cp_messages.specs.declared.resolve.Resolution.TheVariants as resolutions
+use Rattle.cp_messages.specs.declared.resolve.Resolve.{Resolve}
+use Rattle.cp_messages.specs.declared.target.Target.{Target}
+use Rattle.cp_messages.specs.declared.target.Target.TheVariants as targets
+use Rattle.cp_messages.specs.declared.message.Message.{Message}
+use Rattle.cp_messages.specs.declared.message.Message.TheVariants as messages
 use Rattle.cp_refs.specs.declared.cap.Cap.{Cap}
 use Rattle.cp_refs.specs.declared.cap.Cap.TheVariants as caps
 use Rattle.cp_refs.specs.declared.outcome.Outcome.{Outcome}

@@ -4,8 +4,8 @@ use Rattle.std.specs.List.{list_any}
 use Rattle.std.specs.FinMap.{get, insert}
 use Rattle.std.proofs.Common.{inl, inr, ap, subst, sym, ◌∙◌}
 use Rattle.std.proofs.lemmas.List.{append-nil}
-use Rattle.cp_rpc.specs.declared.descriptor.Descriptor.{Descriptor}
-use Rattle.cp_rpc.specs.declared.message.Message.{Message}
+use Rattle.cp_messages.specs.declared.descriptor.Descriptor.{Descriptor}
+use Rattle.cp_messages.specs.declared.message.Message.{Message}
 use Rattle.cp_refs.specs.declared.cap.Cap.{Cap}
 use Rattle.cp_refs.specs.declared.outcome.Outcome.{Outcome}
 use Rattle.cp_refs.specs.declared.route.Gate.TheVariants as gates

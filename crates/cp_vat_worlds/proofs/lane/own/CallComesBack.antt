@@ -4,10 +4,10 @@ use Rattle.std.specs.List.{AllByRecursion}
 use Rattle.std.specs.FinMap.{get, values, get-empty}
 use Rattle.std.specs.Ordering.{nat_cmp}
 use Rattle.std.proofs.Common.{inl, inr, arith, ap, subst, sym, ◌∙◌, append-nil}
-use Rattle.cp_rpc.specs.declared.call.Call.{Call}
-use Rattle.cp_rpc.specs.declared.message.Message.{Message}
-use Rattle.cp_rpc.specs.declared.message.Message.TheVariants as messages
-use Rattle.cp_rpc.specs.declared.target.Target.TheVariants as targets
+use Rattle.cp_messages.specs.declared.call.Call.{Call}
+use Rattle.cp_messages.specs.declared.message.Message.{Message}
+use Rattle.cp_messages.specs.declared.message.Message.TheVariants as messages
+use Rattle.cp_messages.specs.declared.target.Target.TheVariants as targets
 use Rattle.cp_refs.specs.declared.cap.Cap.{Cap}
 use Rattle.cp_refs.specs.declared.cap.Cap.TheVariants as caps
 use Rattle.cp_refs.specs.declared.call.WaitingCall.{WaitingCall}

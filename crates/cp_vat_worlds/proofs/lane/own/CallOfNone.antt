@@ -3,10 +3,10 @@ use Rattle.std.specs.Prelude.{◌≡◌, ◌⊎◌, refl, ℕ, ◌==◌, Bool, t
 use Rattle.std.specs.FinMap.{get, insert, values}
 use Rattle.std.proofs.Common.{inl, inr, ap, sym, ◌∙◌, true≢false}
 use Rattle.cp_tables.specs.declared.exchange.Exchange.{Exchange}
-use Rattle.cp_rpc.specs.declared.descriptor.Descriptor.{Descriptor}
-use Rattle.cp_rpc.specs.declared.message.Message.{Message}
-use Rattle.cp_rpc.specs.declared.target.Target.{Target}
-use Rattle.cp_rpc.specs.declared.target.Target.TheVariants as targets
+use Rattle.cp_messages.specs.declared.descriptor.Descriptor.{Descriptor}
+use Rattle.cp_messages.specs.declared.message.Message.{Message}
+use Rattle.cp_messages.specs.declared.target.Target.{Target}
+use Rattle.cp_messages.specs.declared.target.Target.TheVariants as targets
 use Rattle.cp_refs.specs.declared.call.WaitingCall.{WaitingCall}
 use Rattle.cp_refs.specs.declared.call.Origin.TheVariants as origins
 use Rattle.cp_refs.specs.declared.outcome.Outcome.TheVariants as outcomes

@@ -2,7 +2,7 @@
 use Rattle.std.specs.Prelude.{◌≡◌, ◌⊎◌, refl, ℕ, List, [], ◌++◌, None, Result, Ok, Err}
 use Rattle.std.specs.FinMap.{get}
 use Rattle.std.proofs.Common.{inl, inr, ap, sym, ◌∙◌, append-nil, append_assoc}
-use Rattle.cp_rpc.specs.declared.message.Message.{Message}
+use Rattle.cp_messages.specs.declared.message.Message.{Message}
 use Rattle.cp_refs.specs.declared.call.WaitingCall.{WaitingCall}
 use Rattle.cp_refs.specs.declared.route.Gate.{Gate}
 use Rattle.cp_vat_machine.specs.State.{State, gave, none_over, with_over}

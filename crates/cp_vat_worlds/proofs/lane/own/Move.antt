@@ -2,11 +2,11 @@
 use Rattle.std.specs.Prelude.{◌≡◌, refl, ℕ, not, if◌then◌else◌, Bool, true, false, List, [], ◌∷◌, ◌++◌, Result, Ok}
 use Rattle.std.proofs.Common.{ap, sym, append-nil, true≢false}
 use Rattle.std.proofs.lemmas.List.{append_assoc}
-use Rattle.cp_rpc.specs.declared.disembargo.Context.{Context}
-use Rattle.cp_rpc.specs.declared.disembargo.Context.TheVariants as contexts
-use Rattle.cp_rpc.specs.declared.message.Message.{Message}
-use Rattle.cp_rpc.specs.declared.message.Message.TheVariants as messages
-use Rattle.cp_rpc.specs.declared.target.Target.{Target}
+use Rattle.cp_messages.specs.declared.disembargo.Context.{Context}
+use Rattle.cp_messages.specs.declared.disembargo.Context.TheVariants as contexts
+use Rattle.cp_messages.specs.declared.message.Message.{Message}
+use Rattle.cp_messages.specs.declared.message.Message.TheVariants as messages
+use Rattle.cp_messages.specs.declared.target.Target.{Target}
 use Rattle.cp_refs.specs.declared.cap.Cap.{Cap}
 use Rattle.cp_vat_machine.specs.State.{State, none_over}
 use Rattle.cp_vat_machine.specs.Then.{Done, fault_if}

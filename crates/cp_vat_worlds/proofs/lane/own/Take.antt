@@ -4,9 +4,9 @@ use Rattle.std.specs.FinMap.{get, insert}
 use Rattle.std.proofs.Common.{inl, inr, arith, ap, sym, ◌∙◌, append-nil, true≢false}
 use Rattle.cp_tables.specs.Counted.{new_counted, count_of, IsCount}
 use Rattle.cp_tables.specs.declared.counted.Counted.{Counted}
-use Rattle.cp_rpc.specs.declared.descriptor.Descriptor.{Descriptor}
-use Rattle.cp_rpc.specs.declared.descriptor.Descriptor.TheVariants as descriptors
-use Rattle.cp_rpc.specs.declared.message.Message.{Message}
+use Rattle.cp_messages.specs.declared.descriptor.Descriptor.{Descriptor}
+use Rattle.cp_messages.specs.declared.descriptor.Descriptor.TheVariants as descriptors
+use Rattle.cp_messages.specs.declared.message.Message.{Message}
 use Rattle.cp_refs.specs.declared.cap.Cap.{Cap}
 use Rattle.cp_refs.specs.declared.cap.Cap.TheVariants as caps
 use Rattle.cp_refs.specs.declared.outcome.Outcome.{Outcome}

@@ -3,7 +3,7 @@ use Rattle.std.specs.Prelude.{◌≡◌, refl, ℕ, ◌||◌, Bool, true, false,
 use Rattle.std.specs.List.{list_any}
 use Rattle.std.proofs.Common.{sym, true≢false}
 use Rattle.cp_tables.specs.declared.exchange.Stage.TheVariants as stages
-use Rattle.cp_rpc.specs.declared.message.Message.{Message}
+use Rattle.cp_messages.specs.declared.message.Message.{Message}
 use Rattle.cp_vat_worlds.specs.Ledger.{opens, finishes}
 use Rattle.cp_vat_worlds.specs.Accounts.{is_releasing}
 use Rattle.cp_vat_worlds.specs.Lives.{Standing, absent, ungiven, left_ungiven, given, mistaken, opened, finished, stands_after, will_stand, FitsOpen, FitsNone, Fits}

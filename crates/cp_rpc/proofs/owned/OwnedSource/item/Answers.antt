@@ -2,7 +2,7 @@ use Rattle.std.proofs.Common.{◌≡◌, sym, subst, ◌∙◌, ◌<◌, ap, len
 use Rattle.cp_tree.specs.Shaped.{Shaped}
 use Rattle.cp_tree.specs.Node.{Node, null}
 use Rattle.cp_tree.specs.NodeOf.{node_of}
-use Rattle.cp_rpc.specs.Fields.{items_of}
+use Rattle.cp_messages.specs.Fields.{items_of}
 use Rattle.cp_rpc.specs.OwnedNode.{part_node, body_node}
 use Rattle.cp_rpc.specs.declared.owned.Part.{Part}
 use Rattle.cp_rpc.proofs.Parts.{shaped_item, item_at}

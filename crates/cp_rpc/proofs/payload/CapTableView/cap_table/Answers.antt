@@ -1,6 +1,6 @@
 use Rattle.std.proofs.Common.{refl, ◌∙◌}
 use Rattle.std.proofs.lemmas.List.{take_more, take_all}
-use Rattle.cp_rpc.specs.declared.descriptor.Descriptor.TheVariants as descriptors
+use Rattle.cp_messages.specs.declared.descriptor.Descriptor.TheVariants as descriptors
 use Rattle.cp_rpc.proofs.payload.CapTableView.cap_table.Goals as goal
 
 pub loop-i-preserved : goal.loop-i-preserved

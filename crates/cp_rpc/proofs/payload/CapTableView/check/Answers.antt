@@ -1,7 +1,7 @@
 use Rattle.std.proofs.lemmas.Result.{err_from_is_err_and}
 use Rattle.cp_tree.specs.Node.{null}
-use Rattle.cp_rpc.specs.Fields.{items_of}
-use Rattle.cp_rpc.specs.Faults.{descriptor_faults}
+use Rattle.cp_messages.specs.Fields.{items_of}
+use Rattle.cp_messages.specs.Faults.{descriptor_faults}
 use Rattle.cp_rpc.proofs.Firsts.{part-first}
 use Rattle.cp_rpc.proofs.payload.CapTableView.check.Goals as goal
 

@@ -1,7 +1,7 @@
 use Rattle.std.proofs.Common.{◌≡◌, [], take}
 use Rattle.std.specs.Prelude.{flat_map}
-use Rattle.cp_rpc.specs.Fields.{items_of}
-use Rattle.cp_rpc.specs.Faults.{descriptor_faults}
+use Rattle.cp_messages.specs.Fields.{items_of}
+use Rattle.cp_messages.specs.Faults.{descriptor_faults}
 use Rattle.cp_rpc.proofs.payload.CapTableView.check.Given as goal
 
 abbrev pub invariant-loop-i : goal.invariant-loop-i

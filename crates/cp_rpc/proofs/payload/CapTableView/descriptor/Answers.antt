@@ -1,8 +1,8 @@
 use Rattle.std.proofs.Common.{◌<◌, length, sym, subst}
 use Rattle.std.proofs.lemmas.List.{length-map}
 use Rattle.cp_tree.specs.Node.{null}
-use Rattle.cp_rpc.specs.Fields.{items_of}
-use Rattle.cp_rpc.specs.Faults.{descriptor_faults}
+use Rattle.cp_messages.specs.Fields.{items_of}
+use Rattle.cp_messages.specs.Faults.{descriptor_faults}
 use Rattle.cp_rpc.proofs.Firsts.{part-none, none-first}
 use Rattle.cp_rpc.proofs.payload.CapTableView.descriptor.Goals as goal
 

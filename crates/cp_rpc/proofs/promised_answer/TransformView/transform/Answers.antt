@@ -1,6 +1,6 @@
 use Rattle.std.proofs.Common.{refl, ◌∙◌}
 use Rattle.std.proofs.lemmas.List.{take_more, take_all}
-use Rattle.cp_rpc.specs.declared.promised_answer.Op.TheVariants as ops
+use Rattle.cp_messages.specs.declared.promised_answer.Op.TheVariants as ops
 use Rattle.cp_rpc.proofs.promised_answer.TransformView.transform.Goals as goal
 
 pub loop-i-preserved : goal.loop-i-preserved

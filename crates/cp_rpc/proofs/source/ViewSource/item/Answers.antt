@@ -1,5 +1,5 @@
 use Rattle.std.proofs.Common.{◌∙◌, sym, ap, subst, arith}
-use Rattle.cp_rpc.specs.Fields.{IsStructField}
+use Rattle.cp_messages.specs.Fields.{IsStructField}
 use Rattle.cp_rpc.proofs.Items.{item-shape, item-struct, part-item, count_in}
 use Rattle.cp_rpc.proofs.source.ViewSource.item.Goals as goal
 

@@ -1,0 +1,10 @@
+pub mod Names
+pub mod Fields
+pub mod Denoted
+pub mod Faults
+pub mod Others
+pub mod Written
+pub mod Representable
+pub mod Fitting
+pub mod Refused
+pub mod Says

@@ -1,5 +1,0 @@
-use Rattle.cp_rpc.proofs.Readback.{message_says}
-use Rattle.cp_rpc.proofs.laws.read_back.Goals as goal
-
-pub returns : goal.returns
-returns c = message_says

@@ -1,7 +1,0 @@
-use Rattle.std.proofs.Common.{◌≡◌, true, take}
-use Rattle.std.specs.List.{list_all}
-use Rattle.cp_rpc.specs.Fitting.{descriptor_fits}
-use Rattle.cp_rpc.proofs.payload.CapTable.descriptors_fit.Given as goal
-
-abbrev pub invariant-loop-descriptor : goal.invariant-loop-descriptor
-invariant-loop-descriptor l = list_all descriptor_fits (take l.descriptor-index l.self) ≡ true
