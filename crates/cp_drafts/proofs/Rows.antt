@@ -1,6 +1,6 @@
 -- Rows of trees, of which one is replaced.
-use Rattle.std.proofs.Common.{◌≡◌, ◌<◌, ◌^◌, ℕ, get_or, Vec, Global, length, zero, suc, List, [], ◌∷◌, ◌++◌, map, set, replicate, refl, ap, subst, sym, ◌∙◌}
-use Rattle.std.proofs.lemmas.List.{map-set}
+use Rattle.std.proofs.Common.{◌≡◌, ◌<◌, ◌^◌, ◌+◌, ℕ, get_or, Vec, Global, length, zero, suc, List, [], ◌∷◌, ◌++◌, map, set, replicate, refl, ap, subst, sym, ◌∙◌}
+use Rattle.std.proofs.lemmas.List.{append_assoc, map-set, replicate-append-replicate}
 use Rattle.cp_tree.specs.Node.{Node, null, Nodes, no_nodes, node}
 use Rattle.cp_tree.specs.NodeOf.{node_of, nodes_of}
 use Rattle.cp_tree.specs.Seen.{node_at}
@@ -39,6 +39,12 @@ map_last (old ∷ ts) t = ap (λ (ns : List Node). node_of old ∷ ns) (map_last
 
 pub row_shaped : (v : Vec Tree Global) → length v.items < 2 ^ 29 → EachShaped (nodes_of (map node_of v.items)) → Shaped (node_of (Ptrs v))
 row_shaped v short each = subst (λ (t : Node). Shaped t) (sym (node-Ptrs v)) (subst (λ (n : ℕ). n < 2 ^ 29) (sym (count_in node_of v.items)) short, each)
+
+-- one more null tree
+pub null_more : (front : List Node) (old new : List Tree) (t : Tree) (n : ℕ) → new ≡ old ++ t ∷ [] → node_of t ≡ null → map node_of old ≡ front ++ replicate n null
+    → map node_of new ≡ front ++ replicate (n + 1) null
+null_more front old new t n grown is so_far =
+    rw (grown, map_last old t, is, so_far, ← replicate-append-replicate n 1 null) (append_assoc front (replicate n null) (null ∷ []))
 
 -- a tree of a row, by its place in the list
 pub node_in : (ts : List Node) (i : ℕ) → node_at (nodes_of ts) i ≡ get_or ts i null

@@ -16,9 +16,15 @@ const MOST_ITEMS: usize = 0x4000_0000;
 const MOST_WORDS: usize = 0x2000_0000;
 
 /// A list of structs to be written, each of `W` data words and `P` pointers. Contracts see it as its tree.
-#[derive(Drop)]
 pub struct StructsDraft<const W: usize, const P: usize> {
     items: Vec<Body>,
+}
+
+// Not derived: a crate that lets one go calls this function, and need not prove the drop of all that it holds.
+impl<const W: usize, const P: usize> Drop for StructsDraft<W, P> {
+    fn drop(self) {
+        let StructsDraft { items: _ } = self;
+    }
 }
 
 impl<const W: usize, const P: usize> Model for StructsDraft<W, P> {
@@ -76,10 +82,11 @@ impl<const W: usize, const P: usize> StructsDraft<W, P> {
     pub fn into_whole(self) -> Whole
         ensures { result ≡ self.entry }
     {
+        let StructsDraft { items } = self;
         Whole::from_shaped(Tree::Structs {
             words: W as u16,
             ptrs: P as u16,
-            items: self.items,
+            items,
         })
     }
 

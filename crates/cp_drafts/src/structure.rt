@@ -3,6 +3,7 @@
 ghost use Rattle.std.specs.Prelude.{◌≡◌, ◌<◌, length, slice_set};
 ghost use Rattle.cp_tree.specs.Shaped.{AllFit};
 
+use crate::views::push_nulls;
 use cp_tree::{Body, Object, Tree, Whole};
 use std::alloc::{AllocError, Global};
 use std::marker::Model;
@@ -10,10 +11,19 @@ use std::marker::Model;
 /// A struct to be written, of `W` data words and `P` pointers, or more where it was read and its writer knew
 /// more fields. Its fields are set by their places: number `i` of a width counts numbers of that width from
 /// the start of the data section. A message can hold it at any time. Contracts see it as its tree.
-#[derive(Drop)]
 pub struct StructDraft<const W: usize, const P: usize> {
     pub(crate) words: Vec<u64>,
     pub(crate) pointers: Vec<Tree>,
+}
+
+// Not derived: a crate that lets one go calls this function, and need not prove the drop of all that it holds.
+impl<const W: usize, const P: usize> Drop for StructDraft<W, P> {
+    fn drop(self) {
+        let StructDraft {
+            words: _,
+            pointers: _,
+        } = self;
+    }
 }
 
 impl<const W: usize, const P: usize> Model for StructDraft<W, P> {
@@ -49,9 +59,7 @@ impl<const W: usize, const P: usize> StructDraft<W, P> {
     {
         let words = vec![in alloc; 0; W]?;
         let mut pointers = Vec::with_capacity(alloc, P)?;
-        for _ in 0..P {
-            pointers.push(Tree::Null)?;
-        }
+        push_nulls(&mut pointers, P)?;
         Ok(StructDraft { words, pointers })
     }
 
@@ -71,7 +79,10 @@ impl<const W: usize, const P: usize> StructDraft<W, P> {
         ensures sizes { HasSizes W P }
         ensures even { EachEven W P (bodies_of (body_of result ∷ [])) }
     {
-        let (mut words, mut ptrs) = (self.words, self.pointers);
+        let StructDraft {
+            mut words,
+            pointers: mut ptrs,
+        } = self;
         words.truncate(W);
         ptrs.truncate(P);
         fit(&words);
@@ -84,10 +95,11 @@ impl<const W: usize, const P: usize> StructDraft<W, P> {
         ensures body { struct (body_of result).0 (body_of result).1 ≡ self.entry }
         ensures shaped { Shaped self.entry }
     {
-        fit(&self.words);
+        let StructDraft { words, pointers } = self;
+        fit(&words);
         Body {
-            words: self.words,
-            ptrs: self.pointers,
+            words,
+            ptrs: pointers,
         }
     }
 

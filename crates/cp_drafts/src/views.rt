@@ -1,6 +1,6 @@
 //! Drafts of structs that were read. All that was read is kept, the fields of a newer schema too.
 
-ghost use Rattle.std.specs.Prelude.{◌≡◌, ◌-◌, ◌++◌, IfOk, length, map, replicate};
+ghost use Rattle.std.specs.Prelude.{◌≡◌, ◌-◌, ◌++◌, IfOk, OnOk, length, map, replicate};
 ghost use Rattle.cp_tree.specs.Node.{null, struct};
 ghost use Rattle.cp_tree.specs.NodeOf.{node_of, body_of};
 ghost use Rattle.cp_tree.specs.Shaped.{Shaped};
@@ -67,12 +67,20 @@ fn filled(words: Vec<u64>, count: usize) -> Result<Vec<u64>, AllocError>
 }
 
 /// Trees, and null ones after them up to this many.
-fn with_nulls(trees: Vec<Tree>, count: usize) -> Result<Vec<Tree>, AllocError>
+fn with_nulls(mut trees: Vec<Tree>, count: usize) -> Result<Vec<Tree>, AllocError>
     ensures { IfOk result (λ v. map node_of v.items ≡ map node_of trees.items ++ replicate (count - length trees.items) null) }
 {
-    let mut trees = trees;
-    for _ in 0..count.saturating_sub(trees.len()) {
+    let missing = count.saturating_sub(trees.len());
+    push_nulls(&mut trees, missing)?;
+    Ok(trees)
+}
+
+/// Appends this many null trees.
+pub(crate) fn push_nulls(trees: &mut Vec<Tree>, count: usize) -> Result<(), AllocError>
+    ensures { OnOk result (map node_of trees.new.items ≡ map node_of trees.old.items ++ replicate count null) }
+{
+    for _ in 0..count {
         trees.push(Tree::Null)?;
     }
-    Ok(trees)
+    Ok(())
 }
