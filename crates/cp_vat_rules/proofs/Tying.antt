@@ -1,4 +1,5 @@
 -- How the promises tied to an answer are settled, one after another.
+use Rattle.std.proofs.lemmas.List.{at_drop_more, drop_all}
 use Rattle.std.proofs.Common.{◌≡◌, ℕ, ◌+◌, ◌<◌, ◌≤◌, List, [], ◌∷◌, ◌++◌, length, get_or, drop, Some, Result, Ok, Err, sym, ap, ◌∙◌, subst}
 use Rattle.std.specs.FinMap.{insert}
 use Rattle.cp_tables.specs.Table.{Table}
@@ -82,13 +83,33 @@ given_as core now exports id outcome copied kept returned ids settled values ans
     rw (is_gates, is_answers, is_ids, is_values, is_ended, is_copied) (sym (ap after is))
 
 -- so after its Finish
-pub gone_as : (core now left : Core) (id : ℕ) (outcome copied : Outcome) (settled : List SettledPromise) (ended gates : Queue)
-    → now ≡ record core { values = record core.values { promises = now.values.promises }; exports = now.exports }
-    → ended ≡ with_over now.gates (over_with now.gates.waiting.over (gifts.Answer id copied)) → copied ≡ outcome
-    → state_of left ≡ without_answer (state_of (record now { gates = ended })) id
+pub gone_as : (core now final : Core) (id : ℕ) (outcome copied : Outcome) (settled : List SettledPromise)
+    → now ≡ record core { values = record core.values { promises = now.values.promises }; exports = now.exports } → copied ≡ outcome
+    → state_of final ≡ settling (gone (state_of now) id copied) now.values.promises now.exports settled
+    → settling (gone (state_of core) id outcome) now.values.promises now.exports settled ≡ state_of final
+gone_as core now final id outcome copied settled is is_copied ended =
+    let after : Core → Outcome → State = λ n o. settling (gone (state_of n) id o) now.values.promises now.exports settled in
+    sym (ended ∙ ap (λ n. after n copied) is ∙ ap (λ o. after (record core { values = record core.values { promises = now.values.promises }; exports = now.exports }) o) is_copied)
+
+-- an answer that was finished is taken out once its gate ended, and then the gates of settled promises end
+pub finished_as : (core left : Core) (id : ℕ) (outcome : Outcome) (settled : List SettledPromise) (ended gates : Queue)
+    → ended ≡ with_over core.gates (over_with core.gates.waiting.over (gifts.Answer id outcome))
+    → state_of left ≡ without_answer (state_of (record core { gates = ended })) id
     → gates ≡ with_over left.gates (over_settled left.gates.waiting.over settled)
-    → settling (gone (state_of core) id outcome) now.values.promises now.exports settled ≡ state_of (record left { gates = gates })
-gone_as core now left id outcome copied settled ended gates is is_ended is_copied is_left is_gates =
+    → state_of (record left { gates = gates }) ≡ settling (gone (state_of core) id outcome) core.values.promises core.exports settled
+finished_as core left id outcome settled ended gates is_ended is_left is_gates =
     let over : State → State = λ s. record s { waiting = record s.waiting { over = over_settled s.waiting.over settled } } in
-    let after : Core → State = λ n. over (without_answer (state_of (record n { gates = with_over n.gates (over_with n.gates.waiting.over (gifts.Answer id outcome)) })) id) in
-    rw (is_gates) (sym (ap after is) ∙ sym (ap (λ q. over (without_answer (state_of (record now { gates = q })) id)) (is_ended ∙ ap (λ o. with_over now.gates (over_with now.gates.waiting.over (gifts.Answer id o))) is_copied)) ∙ sym (ap over is_left))
+    rw is_gates (ap over is_left ∙ ap (λ q. over (without_answer (state_of (record core { gates = q })) id)) is_ended)
+
+-- a loop over settled promises that ends the gate of each
+module _ (start : Queue) (now next : Queue) (xs : List SettledPromise) (i : ℕ) (so_far : start ≡ with_over now (over_settled now.waiting.over (drop i xs))) where
+  -- one more gate ends
+  pub gates_go_on : (one : SettledPromise) (value : Cap) → i < length xs → one ≡ get_or xs i one → value ≡ one.value → next ≡ with_over now (over_with now.waiting.over (gifts.Promise one.promise value)) → start ≡ with_over next (over_settled next.waiting.over (drop (i + 1) xs))
+  gates_go_on one value inside is copied ended =
+      let here : drop i xs ≡ one ∷ drop (i + 1) xs = at_drop_more (λ l. l) xs i one inside ∙ ap (λ d. d ∷ drop (i + 1) xs) (sym is) in
+      let after = ended ∙ ap (λ v. with_over now (over_with now.waiting.over (gifts.Promise one.promise v))) copied in
+      so_far ∙ ap (λ l. with_over now (over_settled now.waiting.over l)) here ∙ sym (ap (λ q. with_over q (over_settled q.waiting.over (drop (i + 1) xs))) after)
+
+  -- none is left
+  pub gates_end : length xs ≤ i → now ≡ start
+  gates_end past = sym (so_far ∙ ap (λ l. with_over now (over_settled now.waiting.over l)) (drop_all i xs past))

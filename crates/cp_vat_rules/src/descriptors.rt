@@ -10,6 +10,7 @@ ghost use Rattle.cp_vat_rules.specs.Settling.{lowered_back};
 ghost use Rattle.cp_vat_rules.specs.Ungiven.{AllEnd};
 
 use crate::exports::withdraw_exports;
+use crate::lists::add;
 use crate::promised::promised_answer;
 use crate::resolve::resolve_cap;
 use cp_messages::{CapTable, Descriptor};
@@ -33,7 +34,7 @@ pub fn write_descriptors(
     let mut table = Vec::with_capacity(alloc, caps.len())?;
     for cap in caps {
         match write_descriptor(alloc, values, exports, cap) {
-            Ok(descriptor) => table.push(descriptor)?,
+            Ok(descriptor) => add(&mut table, descriptor)?,
             Err(halt) => {
                 let ids = mentioned(alloc, &table)?;
                 withdraw_exports(exports, ids.ids());

@@ -1,21 +1,25 @@
 //! How outcomes are given to answers.
 
 ghost use Rattle.std.specs.Prelude.{◌≡◌, [], Some, IfOk, OnOk, false};
+ghost use Rattle.std.specs.FinMap as map;
 ghost use Rattle.cp_tables.specs.declared.exchange.Stage.TheVariants as stages;
 ghost use Rattle.cp_vat_machine.specs.State.{State};
-ghost use Rattle.cp_vat_machine.specs.Give.{Give, GiveAnswer, Returns, return_of, returned_mentions};
+ghost use Rattle.cp_vat_machine.specs.Give.{Give, GiveAnswer, Returns, gone, return_of, returned_mentions};
 ghost use Rattle.cp_vat_machine.specs.InUse.{caps_of};
 ghost use Rattle.cp_vat_state.specs.Halts.{Acts, IfFault, Leaves};
+ghost use Rattle.cp_vat_state.specs.Overs.{over_with};
+ghost use Rattle.cp_vat_state.specs.Queue.{with_over};
 ghost use Rattle.cp_vat_state.specs.StateOf.{state_of};
-ghost use Rattle.cp_vat_rules.specs.Giving.{GivesAnswer};
+ghost use Rattle.cp_vat_rules.specs.Giving.{GivesAnswer, NotesGiven};
 ghost use Rattle.cp_vat_rules.specs.Leading.{with_parts};
 ghost use Rattle.cp_vat_rules.specs.Ungiven.{AllEnd, IsUngiven};
-ghost use Rattle.cp_vat_rules.specs.Settling.{IsUntied, OnlySettles, SettlesTiedTo, lowered_back};
+ghost use Rattle.cp_vat_rules.specs.Settling.{IsUntied, OnlySettles, SettlesTiedTo, lowered_back, over_settled, settling};
 
 use crate::descriptors::{mentioned, write_descriptors};
 use crate::entry::{note_given, remove_answer};
 use crate::exports::withdraw_exports;
 use crate::give_own::give_own;
+use crate::lists::add;
 use crate::settle::{SettledPromise, end_gates, settle_tied};
 use cp_messages::{Message, Payload, Return, Returned};
 use cp_refs::{KeptOutcome, Origin, Outcome, Values};
@@ -91,7 +95,7 @@ fn give_open(
     let gift = KeptOutcome::of(core.alloc, &outcome)?;
     let said = returned(core.alloc, core.values.values(), &mut core.exports, outcome)?;
     let ids = mentions(core.alloc, &said)?;
-    effects.push(return_effect(id, said))?;
+    add(effects, return_effect(id, said))?;
     let settled = match settle_promises(core, id, is_tied, &kept, effects) {
         Ok(settled) => settled,
         Err(halt) => {
@@ -99,10 +103,30 @@ fn give_open(
             return Err(halt);
         }
     };
+    let ended = end_answer(core, id, kept, gift, ids, &settled);
+    drop(settled);
+    Ok(ended?)
+}
+
+/// Keeps what an open answer came to, and ends its gate and those of the promises that were settled.
+fn end_answer(
+    core: &mut Core,
+    id: u32,
+    kept: KeptOutcome,
+    gift: KeptOutcome,
+    ids: Mentions,
+    settled: &[SettledPromise],
+) -> Result<(), AllocError>
+    ensures answers { OnOk result (NotesGiven core.old.answers id ids core.new.answers) }
+    ensures values { OnOk result (core.new.values ≡ record core.old.values { answers = map.insert core.old.values.answers id (Some kept) }) }
+    ensures gates { let over = over_with core.old.gates.waiting.over (Gift.Answer id gift) in
+        OnOk result (core.new.gates ≡ with_over core.old.gates (over_settled over settled.now)) }
+    ensures rest { OnOk result (core.new ≡ record core.old { values = core.new.values; answers = core.new.answers; gates = core.new.gates }) }
+{
+    note_given(core.alloc, &mut core.answers, id, ids);
     core.gates.end(Gift::Answer(id, gift))?;
     core.values.put_answer(id, Some(kept))?;
-    note_given(core.alloc, &mut core.answers, id, ids);
-    end_gates(core.alloc, &mut core.gates, &settled)?;
+    end_gates(core.alloc, &mut core.gates, settled)?;
     Ok(())
 }
 
@@ -120,12 +144,29 @@ fn give_finished(
     ensures acts { GivesAnswer stages.Finished core.old id outcome result effects.old.items effects.new.items core.new }
     ensures unchanged { IfFault result (core.new ≡ core.old) }
 {
-    let kept = KeptOutcome::of(core.alloc, &outcome)?;
-    effects.push(return_effect(id, Returned::Canceled))?;
+    let copied = KeptOutcome::of(core.alloc, &outcome);
+    drop(outcome);
+    let kept = copied?;
+    add(effects, return_effect(id, Returned::Canceled))?;
     let settled = settle_promises(core, id, is_tied, &kept, effects)?;
+    let ended = end_finished(core, id, kept, &settled);
+    drop(settled);
+    Ok(ended?)
+}
+
+/// Takes out an answer that was finished, and ends its gate and those of the promises that were settled.
+fn end_finished(
+    core: &mut Core,
+    id: u32,
+    kept: KeptOutcome,
+    settled: &[SettledPromise],
+) -> Result<(), AllocError>
+    ensures { let old = gone (state_of core.old) id kept in
+        OnOk result (state_of core.new ≡ settling old core.old.values.promises core.old.exports settled.now) }
+{
     core.gates.end(Gift::Answer(id, kept))?;
     remove_answer(core, id);
-    end_gates(core.alloc, &mut core.gates, &settled)?;
+    end_gates(core.alloc, &mut core.gates, settled)?;
     Ok(())
 }
 

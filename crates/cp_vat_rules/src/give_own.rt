@@ -9,6 +9,7 @@ ghost use Rattle.cp_vat_rules.specs.Giving.{GivesQuestion};
 ghost use Rattle.cp_vat_rules.specs.Ungiven.{IsUngiven};
 
 use crate::entry::remove_question;
+use crate::lists::add;
 use cp_refs::{KeptOutcome, Origin, Outcome};
 use cp_tables::Stage;
 use cp_vat_machine::Effect;
@@ -51,10 +52,11 @@ fn settle_question(
     let kept = KeptOutcome::of(core.alloc, &outcome)?;
     core.values.settle_question(id, kept)?;
     let _ = core.questions.note_return(id);
-    effects.push(Effect::Settled {
+    let settled = Effect::Settled {
         question: id,
         outcome,
-    })?;
+    };
+    add(effects, settled)?;
     Ok(())
 }
 

@@ -11,6 +11,7 @@ ghost use Rattle.cp_vat_rules.specs.Ungiven.{AllEnd, IsUngiven};
 use crate::descriptors::{mentioned, write_descriptors};
 use crate::entry::{note_delivered, note_mentions, note_sent};
 use crate::give::give;
+use crate::lists::add;
 use crate::promised::promised_answer;
 use cp_messages::{Call, CapTable, Finish, Message, Payload, SendResultsTo, Target};
 use cp_refs::{Cap, Origin, Outcome, Request, Route, WaitingCall};
@@ -94,12 +95,13 @@ fn deliver(
     ensures unchanged { IfFault result (core.new ≡ core.old) }
 {
     note_delivered(core, call.origin);
-    effects.push(Effect::Deliver {
+    let delivery = Effect::Deliver {
         object,
         origin: call.origin,
         ticket: call.ticket,
         call: call.request,
-    })?;
+    };
+    add(effects, delivery)?;
     Ok(())
 }
 
@@ -158,7 +160,7 @@ fn forward(
     };
     let ids = mentioned(core.alloc, table.descriptors())?;
     note_mentions(&mut core.questions, question, ids);
-    effects.push(call_effect(question, target, call.request, table))?;
+    add(effects, call_effect(question, target, call.request, table))?;
     Ok(())
 }
 
@@ -205,7 +207,7 @@ fn send_own(
     )?;
     let ids = mentioned(core.alloc, table.descriptors())?;
     note_sent(&mut core.questions, question, ids);
-    effects.push(call_effect(question, target, call.request, table))?;
+    add(effects, call_effect(question, target, call.request, table))?;
     finish_after(question, stage, effects)?;
     Ok(())
 }
@@ -217,6 +219,6 @@ fn finish_after(question: u32, stage: Stage, effects: &mut Vec<Effect>) -> Resul
     if stage != Stage::Finished {
         return Ok(());
     }
-    effects.push(finish_effect(question, true))?;
+    add(effects, finish_effect(question, true))?;
     Ok(())
 }

@@ -10,6 +10,7 @@ pub mod give;
 pub mod give_own;
 pub mod go;
 pub mod leave;
+pub mod lists;
 pub mod promised;
 pub mod receive;
 pub mod resolve;

@@ -9,6 +9,7 @@ ghost use Rattle.cp_vat_machine.specs.Receiving.{ReceivesCap, ReceivesCaps, Rece
 ghost use Rattle.cp_vat_state.specs.Halts.{Becomes, Leaves};
 ghost use Rattle.cp_vat_state.specs.StateOf.{state_of};
 
+use crate::lists::add;
 use crate::promised::path_of;
 use cp_messages::Descriptor;
 use cp_refs::{Cap, Caps, KeptOutcome, Path};
@@ -23,7 +24,7 @@ pub fn receive_caps(core: &mut Core, table: &[Descriptor]) -> Result<Caps, Halt>
 {
     let mut caps = Vec::with_capacity(core.alloc, table.len())?;
     for descriptor in table {
-        caps.push(receive_cap(core, descriptor)?)?;
+        add(&mut caps, receive_cap(core, descriptor)?)?;
     }
     Ok(Caps::new(caps))
 }

@@ -1,10 +1,10 @@
 //! How promises are settled.
 
-ghost use Rattle.std.specs.Prelude.{◌≡◌, ◌∷◌, [], Some, None, IfOk, OnOk, option_to_list};
+ghost use Rattle.std.specs.Prelude.{◌≡◌, ◌∷◌, [], Some, None, IsSome, IfOk, OnOk, option_to_list};
 ghost use Rattle.std.specs.FinMap as map;
 ghost use Rattle.cp_tables.specs.Table.{with_change};
 ghost use Rattle.cp_vat_machine.specs.State.{State, with_exports};
-ghost use Rattle.cp_vat_machine.specs.Give.{ResolvesEnd, Settle, Tells, value_for};
+ghost use Rattle.cp_vat_machine.specs.Give.{ResolvesEnd, Settle, Tells, last_for, value_for};
 ghost use Rattle.cp_vat_machine.specs.InUse.{caps_of};
 ghost use Rattle.cp_vat_machine.specs.Resolving.{given_back};
 ghost use Rattle.cp_refs.specs.Route.{HasRoute};
@@ -15,6 +15,7 @@ ghost use Rattle.cp_vat_rules.specs.Ungiven.{AllEnd, AreOpenOnce};
 ghost use Rattle.cp_vat_rules.specs.Settling.{Settles, SettlesBy, SettlesTied, TellsOf, lowered_back, over_settled, raised_by, reopened};
 
 use crate::descriptors::{mention, write_end};
+use crate::lists::add;
 use crate::resolve::resolve_cap;
 use cp_messages::{Message, Resolution, Resolve};
 use cp_refs::{Cap, KeptOutcome, PromiseId, failed};
@@ -76,7 +77,7 @@ pub(crate) fn settle_tied(
     for one in tied {
         let value = outcome.at(alloc, one.path.fields())?;
         match settle_value(alloc, values, exports, one.promise, value, effects) {
-            Ok(one) => settled.push(one)?,
+            Ok(one) => add(&mut settled, one)?,
             Err(halt) => {
                 take_back(values, exports, &settled)?;
                 return Err(halt);
@@ -121,15 +122,31 @@ fn settle_value(
 {
     let reached = resolve_cap(alloc, values.values(), &value)?;
     let value = value_for(alloc, promise, &reached, value)?;
-    let known = reached.copy(alloc)?;
-    let last = value_for(alloc, promise, &known, reached)?;
-    let raised = tell(alloc, exports, promise, &last, effects)?;
-    values.settle_promise(promise, value.copy(alloc)?)?;
+    let last = last_for(alloc, promise, reached)?;
+    let told = tell(alloc, exports, promise, &last, effects);
+    drop(last);
+    let raised = told?;
+    put_value(alloc, values, promise, &value)?;
     Ok(SettledPromise {
         promise,
         value,
         raised,
     })
+}
+
+/// Keeps what a promise that exists was settled to.
+fn put_value(
+    alloc: Global,
+    values: &mut Resolutions,
+    promise: PromiseId,
+    value: &Cap,
+) -> Result<(), AllocError>
+    requires { IsSome (map.get values.old.promises promise) }
+    ensures { OnOk result (values.new ≡ record values.old { promises = map.insert values.old.promises promise (Some value.now) }) }
+{
+    let kept = value.copy(alloc)?;
+    values.settle_promise(promise, kept)?;
+    Ok(())
 }
 
 /// What a promise is settled to, by what its value comes to.
@@ -139,12 +156,30 @@ fn value_for(alloc: Global, promise: PromiseId, last: &Cap, value: Cap) -> Resul
     match last {
         Cap::Promise(id) => {
             if *id == promise {
+                drop(value);
                 Ok(Cap::Broken(failed(alloc, "promise loop")?))
             } else {
                 Ok(value)
             }
         }
         _ => Ok(value),
+    }
+}
+
+/// What the value of a promise comes to once it is settled. It came to this before.
+fn last_for(alloc: Global, promise: PromiseId, reached: Cap) -> Result<Cap, AllocError>
+    ensures { IfOk result (λ last. last ≡ last_for promise reached) }
+{
+    match reached {
+        Cap::Promise(id) => {
+            drop(reached);
+            if id == promise {
+                Ok(Cap::Broken(failed(alloc, "promise loop")?))
+            } else {
+                Ok(Cap::Promise(id))
+            }
+        }
+        other => Ok(other),
     }
 }
 
@@ -165,10 +200,11 @@ fn tell(
     };
     let resolution = resolve_end(alloc, exports, last)?;
     let raised = raised_of(&resolution);
-    effects.push(Effect::Send(Message::Resolve(Resolve {
+    let report = Message::Resolve(Resolve {
         promise_id,
         resolution,
-    })))?;
+    });
+    add(effects, Effect::Send(report))?;
     Ok(raised)
 }
 

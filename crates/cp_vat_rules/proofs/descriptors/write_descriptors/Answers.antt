@@ -18,8 +18,8 @@ loop-cap-preserved c =
     record {
       said =
           λ s out rest.
-          each_step WritesDescriptor (with_parts s c.args.values.now c.args.exports.now) (with_parts s c.args.values.now c.loop-cap.exports) c.args.caps.now c.loop-cap.cap-index c.loop-cap.table.items (c.loop-cap.invariant.said s) c.cap-item.result c.in-Ok.descriptor c.push.new.self.items (with_parts s c.args.values.now c.write_descriptor.new.exports) c.loop-cap-test.true c.cap-item.is (c.in-Ok.ensures.said s) c.in_ok-push-in-Ok.ensures.items out rest;
-      back = said_back c.args.exports.now c.loop-cap.exports c.write_descriptor.new.exports c.loop-cap.table.items c.push.new.self.items c.in-Ok.descriptor c.loop-cap.invariant.back c.in-Ok.ensures.back c.in_ok-push-in-Ok.ensures.items;
+          each_step WritesDescriptor (with_parts s c.args.values.now c.args.exports.now) (with_parts s c.args.values.now c.loop-cap.exports) c.args.caps.now c.loop-cap.cap-index c.loop-cap.table.items (c.loop-cap.invariant.said s) c.cap-item.result c.in-Ok.descriptor c.add.new.list.items (with_parts s c.args.values.now c.write_descriptor.new.exports) c.loop-cap-test.true c.cap-item.is (c.in-Ok.ensures.said s) c.in_ok-add-in-Ok.ensures out rest;
+      back = said_back c.args.exports.now c.loop-cap.exports c.write_descriptor.new.exports c.loop-cap.table.items c.add.new.list.items c.in-Ok.descriptor c.loop-cap.invariant.back c.in-Ok.ensures.back c.in_ok-add-in-Ok.ensures;
     }
 
 pub returns-clause-said : goal.returns-clause-said

@@ -22,11 +22,12 @@ pub returns-clause-acts : goal.returns-clause-acts
 returns-clause-acts c = λ kept there.
     let old = state_of c.args.core.now in
     let mid = gone old c.args.id c.args.outcome in
-    let new : State = state_of (record c.remove_answer.new.core { gates = c.end_gates.new.gates }) in
+    let now = c.settle_promises.new.core in
+    let settled = c.in_ok-settled.settled.items in
+    let new : State = state_of c.end_finished-ended.new.core in
     let done = c.in_ok-settled.ensures.settled _ there mid refl in
-    let same : settling mid c.settle_promises.new.core.values.promises c.settle_promises.new.core.exports c.in_ok-settled.settled.items ≡ new =
-    gone_as c.args.core.now c.settle_promises.new.core c.remove_answer.new.core c.args.id c.args.outcome c.in_ok-kept.kept c.in_ok-settled.settled.items c.end.new.self c.end_gates.new.gates
-    c.in_ok-settled.ensures.promises c.in_ok-end.ensures c.in_ok-kept.ensures c.remove_answer.ensures (rw c.deref.ensures.value at c.in_ok-end_gates.ensures) in
-    let pushed : c.push.new.self.items ≡ c.args.effects.now.items ++ return_of c.args.id returns.Canceled ∷ [] = c.in_ok-push.ensures.items ∙ ap (λ e. c.args.effects.now.items ++ e ∷ []) c.return_effect.ensures in
-    given_canceled old new c.args.id c.args.outcome kept c.args.effects.now.items c.push.new.self.items c.settle_promises.new.effects.items pushed
-    (done.0, done.1, subst (λ s. SettleTied mid c.args.outcome kept.tied (Ok (done.0, s))) same (subst (λ o. SettleTied mid o kept.tied (Ok (done.0, settling mid c.settle_promises.new.core.values.promises c.settle_promises.new.core.exports c.in_ok-settled.settled.items))) c.in_ok-kept.ensures done.2))
+    let same : settling mid now.values.promises now.exports settled ≡ new =
+    gone_as c.args.core.now now c.end_finished-ended.new.core c.args.id c.args.outcome c.in_ok-kept.kept settled c.in_ok-settled.ensures.promises c.in_ok-kept.ensures (rw c.deref.ensures.value at c.in_ok-ended.ensures) in
+    let pushed : c.add.new.list.items ≡ c.args.effects.now.items ++ return_of c.args.id returns.Canceled ∷ [] = c.in_ok-add.ensures ∙ ap (λ e. c.args.effects.now.items ++ e ∷ []) c.return_effect.ensures in
+    given_canceled old new c.args.id c.args.outcome kept c.args.effects.now.items c.add.new.list.items c.settle_promises.new.effects.items pushed
+    (done.0, done.1, subst (λ s. SettleTied mid c.args.outcome kept.tied (Ok (done.0, s))) same (subst (λ o. SettleTied mid o kept.tied (Ok (done.0, settling mid now.values.promises now.exports settled))) c.in_ok-kept.ensures done.2))

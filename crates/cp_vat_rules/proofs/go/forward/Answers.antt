@@ -44,6 +44,6 @@ returns-clause-acts c =
     let noted = question_noted c.args.core.now.questions c.open.new.self c.note_mentions.new.questions c.in_ok-question.question _ c.in_ok-ids.ids c.in_ok-question.ensures.opened c.note_mentions.ensures in
     let named = ap (λ m. insert c.args.core.now.questions c.in_ok-question.question (new_exchange (record { forwards = Some c.args.answer; ticket = Some c.args.call.ticket; is_sent = true; is_delivered = false; mentions = m }))) (c.in_ok-ids.ensures ∙ ap mentions_of c.descriptors.ensures) in (
       _,
-      c.in_ok-push.ensures.items ∙ ap (λ e. c.args.effects.now.items ++ e ∷ []) c.call_effect.ensures,
+      c.in_ok-add.ensures ∙ ap (λ e. c.args.effects.now.items ++ e ∷ []) c.call_effect.ensures,
       (Ok c.in_ok-question.question, fresh, (Ok (c.in-Ok.table, said), subst P c.values.ensures (subst Q c.caps.ensures (c.in-Ok.ensures.said old)), ap (λ qs. Ok (call_of c.in_ok-question.question c.args.target c.args.call.request c.in-Ok.table ∷ [], with_questions said qs)) (noted ∙ named))),
     )

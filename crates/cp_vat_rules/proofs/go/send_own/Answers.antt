@@ -33,7 +33,7 @@ returns-clause-acts c =
     let Q : List Cap → Type 0 = λ caps. WritesDescriptors (with_parts old c.values.result.now c.args.core.now.exports) caps (Ok (c.in_ok-table.table, with_parts old c.values.result.now c.write_descriptors.new.exports)) in
     let sent_as = call_of q c.args.target c.args.call.request c.in_ok-table.table in
     let noted = c.note_sent.ensures ∙ ap (λ m. with_change c.args.core.now.questions q (λ entry. record entry { kept = record entry.kept { is_sent = true; mentions = m } })) (c.in_ok-ids.ensures ∙ ap mentions_of c.descriptors.ensures) in
-    let pushed = c.in_ok-push.ensures.items ∙ ap (λ e. c.args.effects.now.items ++ e ∷ []) c.call_effect.ensures in (
+    let pushed = c.in_ok-add.ensures ∙ ap (λ e. c.args.effects.now.items ++ e ∷ []) c.call_effect.ensures in (
       sent_as ∷ finish_after q c.in-Some.entry.now.stage,
       c.in_ok-finish_after.ensures ∙ ap (λ l. l ++ finish_after q c.in-Some.entry.now.stage) pushed ∙ append_assoc c.args.effects.now.items (sent_as ∷ []) (finish_after q c.in-Some.entry.now.stage),
       (

@@ -21,7 +21,7 @@ pub loop-descriptor-preserved : goal.loop-descriptor-preserved
 loop-descriptor-preserved c out rest =
     let old = state_of c.args.core.now in
     let now = state_of c.loop-descriptor.core in
-    each_step ReceivesCap old now c.args.table.now c.loop-descriptor.descriptor-index c.loop-descriptor.caps.items c.loop-descriptor.invariant c.descriptor-item.result c.in_ok-receive_cap.field-0 c.push.new.self.items (state_of c.receive_cap.new.core) c.loop-descriptor-test.true c.descriptor-item.is c.in_ok-receive_cap.ensures c.in_ok-push.ensures.items out rest
+    each_step ReceivesCap old now c.args.table.now c.loop-descriptor.descriptor-index c.loop-descriptor.caps.items c.loop-descriptor.invariant c.descriptor-item.result c.in_ok-receive_cap.field-0 c.add.new.list.items (state_of c.receive_cap.new.core) c.loop-descriptor-test.true c.descriptor-item.is c.in_ok-receive_cap.ensures c.in_ok-add.ensures out rest
 
 pub returns : goal.returns
 returns c =

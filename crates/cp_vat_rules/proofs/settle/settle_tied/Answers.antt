@@ -14,11 +14,11 @@ returns-in-Err-clause-settled c s same =
 pub loop-one-preserved : goal.loop-one-preserved
 loop-one-preserved c =
     let l = c.loop-one in
-    let reopens = settled_reopens c.args.values.now l.values c.settle_value.new.values l.settled.items c.push.new.self.items c.in-Ok.one c.one-item.result.promise l.invariant.promises l.invariant.reopens (next_open l.values.promises c.args.tied.now l.one-index c.one-item.result c.loop-one-test.true c.one-item.is l.invariant.unsettled) c.in-Ok.ensures.named c.in-Ok.ensures.put c.in_ok-push-in-Ok.ensures.items in
+    let reopens = settled_reopens c.args.values.now l.values c.settle_value.new.values l.settled.items c.add.new.list.items c.in-Ok.one c.one-item.result.promise l.invariant.promises l.invariant.reopens (next_open l.values.promises c.args.tied.now l.one-index c.one-item.result c.loop-one-test.true c.one-item.is l.invariant.unsettled) c.in-Ok.ensures.named c.in-Ok.ensures.put c.in_ok-add-in-Ok.ensures in
     record {
       settles =
           λ s same.
-          tied_goes_on s c.args.values.now l.values c.args.exports.now l.exports c.args.outcome.now c.args.tied.now l.one-index c.args.effects.now.items l.effects.items l.settled.items l.invariant.promises (l.invariant.settles s same) same c.one-item.result c.in_ok-value.value c.in-Ok.one c.push.new.self.items c.settle_value.new.values c.settle_value.new.exports c.settle_value.new.effects.items c.loop-one-test.true c.one-item.is (rw c.fields.ensures at c.in_ok-value.ensures) c.in-Ok.ensures.settled c.in_ok-push-in-Ok.ensures.items;
+          tied_goes_on s c.args.values.now l.values c.args.exports.now l.exports c.args.outcome.now c.args.tied.now l.one-index c.args.effects.now.items l.effects.items l.settled.items l.invariant.promises (l.invariant.settles s same) same c.one-item.result c.in_ok-value.value c.in-Ok.one c.add.new.list.items c.settle_value.new.values c.settle_value.new.exports c.settle_value.new.effects.items c.loop-one-test.true c.one-item.is (rw c.fields.ensures at c.in_ok-value.ensures) c.in-Ok.ensures.settled c.in_ok-add-in-Ok.ensures;
       promises = reopens.0;
       reopens = reopens.1;
       unsettled =
@@ -27,7 +27,7 @@ loop-one-preserved c =
       ends =
           all_end_on l.values c.settle_value.new.values c.one-item.result.promise c.in-Ok.one.value (caps_of c.args.outcome.now)
           (next_open l.values.promises c.args.tied.now l.one-index c.one-item.result c.loop-one-test.true c.one-item.is l.invariant.unsettled) c.in-Ok.ensures.put c.in-Ok.ensures.ends l.invariant.ends;
-      lowers = settled_lowers c.args.exports.now l.exports c.settle_value.new.exports l.settled.items c.push.new.self.items c.in-Ok.one l.invariant.lowers c.in-Ok.ensures.back c.in_ok-push-in-Ok.ensures.items;
+      lowers = settled_lowers c.args.exports.now l.exports c.settle_value.new.exports l.settled.items c.add.new.list.items c.in-Ok.one l.invariant.lowers c.in-Ok.ensures.back c.in_ok-add-in-Ok.ensures;
     }
 
 pub returns-clause-settled : goal.returns-clause-settled

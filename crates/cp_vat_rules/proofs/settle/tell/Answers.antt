@@ -22,4 +22,4 @@ pub returns-clause-told : goal.returns-clause-told
 returns-clause-told c s =
     let old = with_exports s c.args.exports.now in
     let exported = rw c.in-Some.is at (c.number.ensures s) in
-    (_, c.in_ok-push.ensures.items, inr (c.in-Some.promise_id, exported, (Ok (c.in_ok-resolution.resolution, _), c.in_ok-resolution.ensures.said s, refl)))
+    (_, c.in_ok-add.ensures, inr (c.in-Some.promise_id, exported, (Ok (c.in_ok-resolution.resolution, _), c.in_ok-resolution.ensures.said s, refl)))
