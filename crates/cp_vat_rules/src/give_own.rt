@@ -32,7 +32,11 @@ pub fn give_own(
     };
     match question.stage {
         Stage::Open => settle_question(core, id, outcome, effects),
-        Stage::Finished => Ok(end_question(core, id, &outcome)?),
+        Stage::Finished => {
+            let ended = end_question(core, id, &outcome);
+            drop(outcome);
+            Ok(ended?)
+        }
         Stage::Returned => unreachable!(),
     }
 }
