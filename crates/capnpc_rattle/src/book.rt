@@ -1,6 +1,7 @@
 //! The types of a request with the names that they get.
 
 use crate::names::{is_ambiguous, is_taken};
+use crate::only::{has_method, has_type};
 use crate::out::{Arg, Out};
 use crate::reach::{Line, lines, naming};
 use cp_types::{Node, NodeKind, Schema};
@@ -38,15 +39,23 @@ impl Drop for Named {
     }
 }
 
+/// What is written of a request.
+#[derive(Clone, Copy)]
+pub struct Scope<'s> {
+    /// The methods of views that are written; empty where all are.
+    pub only: &'s str,
+    /// Whether drafts are written beside the views.
+    pub drafts: bool,
+    /// Whether interfaces are written.
+    pub interfaces: bool,
+}
+
 /// All types and constants of a request.
 pub struct Book<'s> {
     pub alloc: Global,
     pub schema: &'s Schema,
     pub names: Vec<Named>,
-    /// Whether drafts are written beside the views.
-    pub drafts: bool,
-    /// Whether interfaces are written.
-    pub interfaces: bool,
+    pub scope: Scope<'s>,
     /// The interfaces with all that they extend.
     pub lines: Vec<Line>,
     /// The structs and groups that can name a capability.
@@ -60,8 +69,7 @@ impl Drop for Book<'_> {
             alloc: _,
             schema: _,
             names: _,
-            drafts: _,
-            interfaces: _,
+            scope: _,
             lines: _,
             naming: _,
         } = self;
@@ -74,19 +82,18 @@ impl<'s> Book<'s> {
         alloc: Global,
         schema: &'s Schema,
         (path, krate): (&str, &str),
-        (drafts, interfaces): (bool, bool),
+        scope: Scope<'s>,
     ) -> Result<Book<'s>, AllocError> {
         let mut names = Vec::new(alloc);
         for node in &schema.nodes {
             let krate = if node.path() == path { krate } else { "" };
-            names.push(names_of(alloc, schema, node, krate, interfaces))?;
+            names.push(names_of(alloc, schema, node, krate, scope))?;
         }
         Ok(Book {
             alloc,
             schema,
             names,
-            drafts,
-            interfaces,
+            scope,
             lines: lines(alloc, schema)?,
             naming: naming(alloc, schema)?,
         })
@@ -100,6 +107,16 @@ impl<'s> Book<'s> {
             }
         }
         None
+    }
+
+    /// Whether the view of a struct or of a group has the method of this name.
+    pub fn has_method(&self, node: &Node, name: &str) -> bool {
+        has_method(self.scope.only, node.name(), name)
+    }
+
+    /// Whether unions are written with what their members hold, by methods of all their fields.
+    pub fn has_members(&self) -> bool {
+        self.scope.only.is_empty()
     }
 
     /// All interfaces that the one of this number extends.
@@ -137,10 +154,12 @@ impl<'s> Book<'s> {
 }
 
 /// Whether a node is written.
-fn is_written(node: &Node, interfaces: bool) -> bool {
+fn is_written(node: &Node, scope: Scope<'_>) -> bool {
     match node.kind {
-        NodeKind::Struct(_) | NodeKind::Enum(_) | NodeKind::Const(_) => true,
-        NodeKind::Interface(_) => interfaces,
+        NodeKind::Struct(_) | NodeKind::Enum(_) | NodeKind::Const(_) => {
+            has_type(scope.only, node.name())
+        }
+        NodeKind::Interface(_) => scope.interfaces,
         _ => false,
     }
 }
@@ -151,7 +170,7 @@ fn names_of<'s>(
     schema: &'s Schema,
     node: &'s Node,
     krate: &str,
-    interfaces: bool,
+    scope: Scope<'_>,
 ) -> Named {
     let name = type_name(alloc, node);
     let word = Out::of(alloc, "$0", &[Arg::Snake(name.as_str())]);
@@ -161,7 +180,7 @@ fn names_of<'s>(
         word,
         module: module_of(alloc, schema, node),
         krate: crate_name(alloc, node.path(), krate),
-        is_written: is_written(node, interfaces),
+        is_written: is_written(node, scope),
     }
 }
 

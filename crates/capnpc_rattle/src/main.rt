@@ -2,10 +2,11 @@
 //! writes a crate of views for each requested file into the current folder.
 //!
 //!     capnp compile -oFOLDER/capnpc_rattle:OUT X.capnp
-//!     capnp compile -o- X.capnp | capnpc_rattle [--crate=NAME] [--drafts] [--interfaces] [--print]
+//!     capnp compile -o- X.capnp | capnpc_rattle [--crate=NAME] [--only=LIST] [--drafts] [--interfaces] [--print]
 //!
-//! With `--crate=NAME` the crate has this name, and not the file's; with `--drafts` it has drafts too, by which structs are
-//! written; with `--interfaces` it has typed clients and objects of its interfaces besides; with `--print` its files go to standard output.
+//! With `--crate=NAME` the crate has this name, and not the file's; with `--only=LIST` views have the methods that are listed, and
+//! no others; with `--drafts` it has drafts too, by which structs are written; with `--interfaces` it has typed clients and objects
+//! of its interfaces besides; with `--print` its files go to standard output.
 #![tactic(auto)]
 
 mod book;
@@ -21,6 +22,7 @@ mod interfaces;
 mod kinds;
 mod methods;
 mod names;
+mod only;
 mod out;
 mod pages;
 mod parts;
@@ -36,7 +38,7 @@ mod unions;
 mod uses;
 
 use anyhow::{anyhow, bail};
-use book::{Book, crate_name};
+use book::{Book, Scope, crate_name};
 use cp_types::{Node, Schema};
 use out::{Arg, Out};
 use pages::{line_of, name_twice, root_text, sheets, specs_root};
@@ -48,11 +50,14 @@ use twice::found_twice;
 /// What `--help` prints.
 const USAGE: &str = "\
 usage: capnp compile -oFOLDER/capnpc_rattle:OUT X.capnp
-       capnp compile -o- X.capnp | capnpc_rattle [--crate=NAME] [--drafts] [--interfaces] [--print]
+       capnp compile -o- X.capnp | capnpc_rattle [--crate=NAME] [--only=LIST] [--drafts] [--interfaces]
+                           [--print]
 
 Writes a crate of views for each schema file into the current folder.
 
   --crate=NAME  The crate's name, in place of the file's
+  --only=LIST   Of views only these methods, STRUCT.FIELD and STRUCT.of with commas
+                between; no types without one, and no members of unions
   --drafts      Drafts too, by which structs are written
   --interfaces  Typed clients and objects of interfaces, and drafts
   --print       Print the files, and write none
@@ -65,6 +70,8 @@ struct Task {
     helps: bool,
     /// The crate's name; empty where it is the file's.
     krate: String,
+    /// The methods of views that are written; empty where all are.
+    only: String,
     /// Whether the crate has drafts.
     drafts: bool,
     /// Whether the crate has interfaces, and so drafts too.
@@ -79,28 +86,45 @@ impl Task {
         let mut task = Task {
             helps: false,
             krate: String::new(rt.alloc()),
+            only: String::new(rt.alloc()),
             drafts: false,
             interfaces: false,
             prints: false,
         };
         for word in env::args(rt)?.skip(1) {
-            let word = word.as_str();
-            if let Some(name) = word.strip_prefix("--crate=") {
-                task.krate.push_str(name)?;
-            } else if word == "--help" {
-                task.helps = true;
-            } else if word == "--drafts" {
-                task.drafts = true;
-            } else if word == "--interfaces" {
-                task.drafts = true;
-                task.interfaces = true;
-            } else if word == "--print" {
-                task.prints = true;
-            } else {
-                bail!("{word}: neither --crate=NAME nor --drafts nor --interfaces nor --print");
-            }
+            task.take(word.as_str())?;
         }
         Ok(task)
+    }
+
+    /// Takes in what an argument says.
+    fn take(&mut self, word: &str) -> anyhow::Result<()> {
+        if let Some(name) = word.strip_prefix("--crate=") {
+            self.krate.push_str(name)?;
+        } else if let Some(names) = word.strip_prefix("--only=") {
+            self.only.push_str(names)?;
+        } else if word == "--help" {
+            self.helps = true;
+        } else if word == "--drafts" {
+            self.drafts = true;
+        } else if word == "--interfaces" {
+            self.drafts = true;
+            self.interfaces = true;
+        } else if word == "--print" {
+            self.prints = true;
+        } else {
+            bail!("{word}: no argument of capnpc_rattle, see --help");
+        }
+        Ok(())
+    }
+
+    /// What is written of a request.
+    fn scope(&self) -> Scope<'_> {
+        Scope {
+            only: self.only.as_str(),
+            drafts: self.drafts,
+            interfaces: self.interfaces,
+        }
     }
 
     /// Writes or prints a file of a crate. Its path is a template of the crate's name and that of the module.
@@ -191,7 +215,7 @@ struct File<'f> {
 fn make_crate(rt: &HostRuntime, task: &Task, schema: &Schema, file: &Node) -> anyhow::Result<()> {
     let name = crate_name(rt.alloc(), file.path(), task.krate.as_str());
     let of = (file.path(), name.as_str());
-    let book = Book::of(rt.alloc(), schema, of, (task.drafts, task.interfaces))?;
+    let book = Book::of(rt.alloc(), schema, of, task.scope())?;
     put_crate(rt, task, &book, file.path(), name.as_str())
 }
 

@@ -43,7 +43,8 @@ fn sheet_of<'b>(book: &'b Book<'_>, module: &'b str, krate: &'b str) -> Sheet<'b
     let mut sheet = Sheet::new(book.alloc, module, krate);
     for node in &book.schema.nodes {
         if let Some(named) = book.find(node.id) {
-            if named.krate.as_str() == krate && named.module.as_str() == module {
+            let is_here = named.krate.as_str() == krate && named.module.as_str() == module;
+            if is_here && named.is_written {
                 write_node(book, &mut sheet, node, named);
             }
         }
@@ -58,7 +59,7 @@ fn write_node<'b>(book: &'b Book<'_>, sheet: &mut Sheet<'b>, node: &'b Node, nam
         NodeKind::Struct(of) => structure(book, sheet, node, named, of),
         NodeKind::Enum(items) => enum_code(book, sheet, node, named, items.as_slice()),
         NodeKind::Const(of) => constant(book, sheet, node, of),
-        NodeKind::Interface(of) if book.interfaces => interface(book, sheet, node, named, of),
+        NodeKind::Interface(of) if book.scope.interfaces => interface(book, sheet, node, named, of),
         _ => {}
     }
 }
@@ -134,10 +135,10 @@ pub fn line_of(book: &Book<'_>, sheets: &[Sheet<'_>], krate: &str) -> Out {
         &[Arg::Text(krate)],
     );
     let mut crates = Out::new(book.alloc);
-    if book.drafts {
+    if book.scope.drafts {
         crates.put("cp_drafts\n");
     }
-    if book.interfaces {
+    if book.scope.interfaces {
         crates.put(STUBS);
     }
     for sheet in sheets {

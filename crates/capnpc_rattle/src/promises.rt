@@ -166,7 +166,7 @@ pub fn cap_getter<'b>(book: &'b Book<'_>, sheet: &mut Sheet<'_>, field: &'b Fiel
 /// The interface of a field that is a capability, where interfaces are written.
 pub fn client_of<'b>(book: &'b Book<'_>, slot: &Slot) -> Option<&'b Named> {
     match slot.of.of {
-        Base::Interface(id) if book.interfaces && slot.of.lists == 0 => book.find(id),
+        Base::Interface(id) if book.scope.interfaces && slot.of.lists == 0 => book.find(id),
         _ => None,
     }
 }

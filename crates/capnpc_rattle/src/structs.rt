@@ -80,10 +80,10 @@ pub fn structure<'b>(
     if of.tags > 0 {
         union_code(book, sheet, node, named, of);
     }
-    if book.drafts && !of.is_group {
+    if book.scope.drafts && !of.is_group {
         draft(book, sheet, node, named, of);
     }
-    if book.interfaces && !of.is_group && !is_params(node) {
+    if book.scope.interfaces && !of.is_group && !is_params(node) {
         promise(book, sheet, node, named, of);
     }
 }
@@ -154,13 +154,16 @@ fn methods<'b>(
         Arg::Text(named.word.as_str()),
         Arg::Number(of.tag_place as u64),
     ];
-    if !of.is_group {
+    if !of.is_group && book.has_method(node, "of") {
         sheet.code.fill(CONSTRUCTOR, &args);
     }
     if of.tags > 0 {
         sheet.code.fill(WHICH, &args);
     }
     for (i, field) in of.fields.iter().enumerate() {
+        if !book.has_method(node, field.name.as_str()) {
+            continue;
+        }
         match &field.kind {
             FieldKind::Group(id) => group_method(book, sheet, node, field, (i, *id)),
             FieldKind::Slot(slot) => slot_method(book, sheet, (node, named), field, (i, slot)),
@@ -173,7 +176,7 @@ fn methods<'b>(
             }
         }
     }
-    if of.tags > 0 {
+    if of.tags > 0 && book.has_members() {
         union_method(book, sheet, named, of);
     }
 }

@@ -151,8 +151,10 @@ pub fn union_code<'b>(
     match members(sheet, of) {
         Ok(members) => {
             which_type(book, sheet, node, named, members.as_slice());
-            member_type(book, sheet, node, named, members.as_slice());
-            member_specs(book, sheet, named, of.tag_place, members.as_slice());
+            if book.has_members() {
+                member_type(book, sheet, node, named, members.as_slice());
+                member_specs(book, sheet, named, of.tag_place, members.as_slice());
+            }
         }
         Err(_) => sheet.fail(),
     }
