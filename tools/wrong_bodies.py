@@ -67,14 +67,6 @@ def is_in_body(text, at, name):
     return any(line.endswith("{") for line in above) and f"{heads[-1][1]}}}" not in above
 
 
-def rounds(edits):
-    """The edits in lists, none of which has two of one function."""
-    while edits:
-        first = list({it.function: it for it in reversed(edits)}.values())
-        yield first
-        edits = [it for it in edits if it not in first]
-
-
 def check(crate, room, only):
     """The status of a check of these functions, the lines that it said, and its processor seconds."""
     words = [rtlib.RATTLE, "check", *crate.words(["--jobs", "1"], keeps=False), *[f"--only={it}" for it in only]]
@@ -135,17 +127,21 @@ def main(words):
     names, known, edits = [it for it in words if it != "--list"], {}, {}
     for file in sorted(TOP.glob("crates/*/wrong-bodies/*.edit")):
         if not names or file.parts[-3] in names:
-            edits.setdefault(file.parts[-3], []).append(Edit(file))
+            edit, turn = Edit(file), 0
+            # (two edits of one function are tried one after the other)
+            while edit.function in (it.function for it in edits.get((file.parts[-3], turn), [])):
+                turn += 1
+            edits.setdefault((file.parts[-3], turn), []).append(edit)
     every = [it for found in edits.values() for it in found]
     if "--list" in words:
         print(*[it.label for it in every], sep="\n")
         return 0
-    crates = [rtlib.Crate(f"{TOP}/crates/{it}", str(TOP), known) for it in edits]
-    find_libraries(crates)
+    crates = {name: rtlib.Crate(f"{TOP}/crates/{name}", str(TOP), known) for name, _ in edits}
+    find_libraries(crates.values())
     rtlib.guarded()
     with concurrent.futures.ThreadPoolExecutor(int(os.environ.get("RT_JOBS", len(os.sched_getaffinity(0))))) as pool:
-        for crate, found, end in [(it, some, pool.submit(try_together, it, some)) for it in crates for some in rounds(edits[it.name])]:
-            print(f"{crate.name}: {len(found)} edits in {end.result():.0f} s of a processor")
+        for name, found, end in [(name, found, pool.submit(try_together, crates[name], found)) for (name, _), found in edits.items()]:
+            print(f"{name}: {len(found)} edits in {end.result():.0f} s of a processor")
             print(*[f"{it.label}: {it.said[:200]}" for it in found], sep="\n", flush=True)
     passed = sum(it.is_refused for it in every)
     print(f"{passed} passed, {len(every) - passed} failed")
