@@ -2,7 +2,7 @@
 
 use crate::names::{is_ambiguous, is_taken};
 use crate::only::{has_method, has_type};
-use crate::out::{Arg, Out};
+use crate::out::{Arg, Out, before, file_name};
 use crate::reach::{Line, lines, naming};
 use cp_types::{Node, NodeKind, Schema};
 use std::alloc::{AllocError, Global};
@@ -227,8 +227,7 @@ pub fn crate_name(alloc: Global, path: &str, krate: &str) -> Out {
         name.put(krate);
         return name;
     }
-    let file = path.rsplit('/').next().unwrap_or(path);
-    for c in file.split('.').next().unwrap_or(file).chars() {
+    for c in before(file_name(path), '.').chars() {
         name.push(if c.is_ascii_alphanumeric() {
             c.to_ascii_lowercase()
         } else {

@@ -40,7 +40,7 @@ mod uses;
 use anyhow::{anyhow, bail};
 use book::{Book, Scope, crate_name};
 use cp_types::{Node, Schema};
-use out::{Arg, Out};
+use out::{Arg, Out, file_name};
 use pages::{line_of, name_twice, root_text, sheets, specs_root};
 use sheet::Sheet;
 use std::io::Read;
@@ -64,7 +64,6 @@ Writes a crate of views for each schema file into the current folder.
 ";
 
 /// What the plugin is asked to do with what it makes.
-#[derive(Drop)]
 struct Task {
     /// Whether it only prints how it is used.
     helps: bool,
@@ -72,12 +71,26 @@ struct Task {
     krate: String,
     /// The methods of views that are written; empty where all are.
     only: String,
-    /// Whether the crate has drafts.
+    /// Whether drafts are asked for.
     drafts: bool,
-    /// Whether the crate has interfaces, and so drafts too.
+    /// Whether interfaces are, and so drafts too.
     interfaces: bool,
     /// Whether the files are printed, and not written.
     prints: bool,
+}
+
+// Not derived: who lets one go calls this function, and need not prove the drop of its texts.
+impl Drop for Task {
+    fn drop(self) {
+        let Task {
+            helps: _,
+            krate: _,
+            only: _,
+            drafts: _,
+            interfaces: _,
+            prints: _,
+        } = self;
+    }
 }
 
 impl Task {
@@ -91,10 +104,16 @@ impl Task {
             interfaces: false,
             prints: false,
         };
-        for word in env::args(rt)?.skip(1) {
-            task.take(word.as_str())?;
-        }
+        task.take_all(rt)?;
         Ok(task)
+    }
+
+    /// Takes in what the arguments say.
+    fn take_all(&mut self, rt: &HostRuntime) -> anyhow::Result<()> {
+        for word in env::args(rt)?.skip(1) {
+            self.take(word.as_str())?;
+        }
+        Ok(())
     }
 
     /// Takes in what an argument says.
@@ -103,26 +122,31 @@ impl Task {
             self.krate.push_str(name)?;
         } else if let Some(names) = word.strip_prefix("--only=") {
             self.only.push_str(names)?;
-        } else if word == "--help" {
-            self.helps = true;
-        } else if word == "--drafts" {
-            self.drafts = true;
-        } else if word == "--interfaces" {
-            self.drafts = true;
-            self.interfaces = true;
-        } else if word == "--print" {
-            self.prints = true;
-        } else {
-            bail!("{word}: no argument of capnpc_rattle, see --help");
+        } else if !self.take_flag(word) {
+            bail!(
+                "{word}: neither --crate=NAME nor --only=LIST nor --drafts nor --interfaces nor --print"
+            );
         }
         Ok(())
+    }
+
+    /// Takes in an argument that is one word, if it is known.
+    fn take_flag(&mut self, word: &str) -> bool {
+        match word {
+            "--help" => self.helps = true,
+            "--drafts" => self.drafts = true,
+            "--interfaces" => self.interfaces = true,
+            "--print" => self.prints = true,
+            _ => return false,
+        }
+        true
     }
 
     /// What is written of a request.
     fn scope(&self) -> Scope<'_> {
         Scope {
             only: self.only.as_str(),
-            drafts: self.drafts,
+            drafts: self.drafts || self.interfaces,
             interfaces: self.interfaces,
         }
     }
@@ -162,7 +186,9 @@ impl Task {
             return Ok(());
         }
         let path = format!(in rt.alloc(); "{krate}/{name}")?;
-        Ok(fs::create_dir_all(rt, path.as_str())?)
+        let made = fs::create_dir_all(rt, path.as_str());
+        drop(path);
+        Ok(made?)
     }
 
     /// Writes or prints the files of the modules.
@@ -228,7 +254,7 @@ fn put_crate<'n>(
     krate: &'n str,
 ) -> anyhow::Result<()> {
     let sheets = sheets(book, krate)?;
-    let schema = path.rsplit('/').next().unwrap_or(path);
+    let schema = file_name(path);
     put_sheets(rt, task, book, &File { krate, schema }, sheets.as_slice())
 }
 

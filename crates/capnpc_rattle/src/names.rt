@@ -1,5 +1,8 @@
 //! Names that generated code can't have.
 
+/// Names that a struct or a group can't begin with.
+const AMBIGUOUS: &str = "Data Struct Structs Text";
+
 /// Types that generated code or definitions have from elsewhere.
 const TYPES: &str = "\
     AllocError Anything Bool Box CapFault Caps Constant ConstantBody DataView DraftFault Drop \
@@ -46,7 +49,7 @@ pub fn is_reserved(name: &str) -> bool {
 
 /// Whether the name of a struct or a group is one that it can't begin with.
 pub fn is_ambiguous(name: &str) -> bool {
-    name == "Data" || name == "Struct" || name == "Structs" || name == "Text"
+    has_word(AMBIGUOUS, name)
 }
 
 /// Whether an enum's name is one that generated code or definitions have from elsewhere.

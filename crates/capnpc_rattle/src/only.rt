@@ -1,35 +1,27 @@
-//! The methods of views that are written, where not all are: a list of names, `STRUCT.FIELD` and `STRUCT.of`, with commas between.
-//! One that is empty has all.
+//! What is written where not all is: a list of names, `STRUCT.FIELD`, `STRUCT.of` and types, with commas between.
 
-/// Whether a list has the method of this name.
-pub fn has_method(only: &str, structure: &str, method: &str) -> bool {
-    if only.is_empty() {
-        return true;
-    }
+/// Whether a list has this method of a type's view. One that is empty has all.
+pub fn has_method(only: &str, of: &str, method: &str) -> bool {
     for name in only.split(',') {
-        if let Some((of, last)) = name.rsplit_once('.') {
-            if of == structure && last == method {
-                return true;
-            }
-        }
-    }
-    false
-}
-
-/// Whether a list has a method of this type's view, or names the type.
-pub fn has_type(only: &str, of: &str) -> bool {
-    if only.is_empty() {
-        return true;
-    }
-    for name in only.split(',') {
-        if name == of {
+        if is_method(name, of, method) {
             return true;
         }
-        if let Some((structure, _)) = name.rsplit_once('.') {
-            if structure == of {
-                return true;
-            }
-        }
     }
-    false
+    only.is_empty()
+}
+
+/// Whether a list has a type, or a method of its view.
+pub fn has_type(only: &str, of: &str) -> bool {
+    has_method(only, of, "")
+}
+
+/// Whether a name is that of this method of a type; without one, whether it is of the type.
+fn is_method(name: &str, of: &str, method: &str) -> bool {
+    let Some(rest) = name.strip_prefix(of) else {
+        return false;
+    };
+    match rest.strip_prefix('.') {
+        Some(last) => method.is_empty() || last == method,
+        None => method.is_empty() && rest.is_empty(),
+    }
 }

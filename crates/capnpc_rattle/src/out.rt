@@ -306,15 +306,16 @@ impl Out {
     }
 
     /// Adds lines in order, each once, between these texts.
-    pub fn put_sorted(&mut self, lines: &str, (before, after): (&str, &str)) {
-        match sorted(self.alloc, lines) {
-            Ok(lines) => self.put_between(lines.as_slice(), (before, after)),
+    pub fn put_sorted(&mut self, text: &str, (before, after): (&str, &str)) {
+        let mut lines = Vec::new(self.alloc);
+        match sort(&mut lines, text) {
+            Ok(()) => self.put_between(lines.as_slice(), (before, after)),
             Err(_) => self.is_full = true,
         }
     }
 
     /// Adds lines between these texts.
-    fn put_between(&mut self, lines: &[&str], (before, after): (&str, &str)) {
+    pub fn put_between(&mut self, lines: &[&str], (before, after): (&str, &str)) {
         for line in lines {
             self.put(before);
             self.put(line);
@@ -338,15 +339,30 @@ pub fn name_of(path: &str) -> &str {
     }
 }
 
-/// The lines of a text in order, each once.
-fn sorted(alloc: Global, text: &str) -> Result<Vec<&str>, AllocError> {
-    let mut lines = Vec::new(alloc);
+/// The name of a file without its folders.
+pub fn file_name(path: &str) -> &str {
+    match path.rsplit_once('/') {
+        Some((_, name)) => name,
+        None => path,
+    }
+}
+
+/// What a text has before a character, if it has that.
+pub fn before(text: &str, end: char) -> &str {
+    match text.split_once(end) {
+        Some((start, _)) => start,
+        None => text,
+    }
+}
+
+/// Adds the lines of a text, and puts all in order, each once.
+fn sort<'t>(lines: &mut Vec<&'t str>, text: &'t str) -> Result<(), AllocError> {
     for line in text.lines() {
         lines.push(line)?;
     }
     lines.sort()?;
     lines.dedup();
-    Ok(lines)
+    Ok(())
 }
 
 /// The place that a digit names.

@@ -37,7 +37,7 @@ impl<'p> Part<'p> {
 }
 
 /// What is written of each field.
-#[derive(Clone, Copy, PartialEq, Eq)]
+#[derive(Clone, Copy)]
 pub enum Wanted {
     /// The methods that set it.
     Setters,

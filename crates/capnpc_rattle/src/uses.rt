@@ -74,16 +74,16 @@ const LIBRARY: [Module; 13] = [
 /// Where definitions have the kinds that a pointer may be of from.
 const WRONG_KIND: &str = "cp_fields.specs.declared.kind.WrongKind";
 
-/// The types of cp_fields that generated code cites.
-const FIELDS: [&str; 8] = [
-    "DataView",
-    "Item",
-    "List",
-    "Past",
-    "Pointee",
-    "StructView",
-    "TextView",
-    "WrongKind",
+/// The types of cp_fields that generated code cites, each with parts of a text that has it: a variant may be called so too.
+const FIELDS: [(&str, &[&str]); 8] = [
+    ("DataView", &["DataView<", "DataView::"]),
+    ("Item", &["Item<", "Item::"]),
+    ("List", &["List<", "List::"]),
+    ("Past", &["Past<", "Past::"]),
+    ("Pointee", &["Pointee<", "Pointee::"]),
+    ("StructView", &["StructView<", "StructView::"]),
+    ("TextView", &["TextView<", "TextView::"]),
+    ("WrongKind", &["WrongKind>", "WrongKind<", "WrongKind::"]),
 ];
 
 /// The paths of the types of other libraries that the code of drafts cites.
@@ -243,15 +243,19 @@ fn libraries<'n>(
 ) {
     prelude(out, text, (before, after));
     if has_word(text, "sizes") {
-        let args = [Arg::Text(before), Arg::Text(SIZES), Arg::Text(after)];
-        out.fill("$0$1$2", &args);
+        out.put_between(&[SIZES], (before, after));
     }
     let has_stubs = sheet.libraries.as_str().contains("cp_stubs::");
     for (module, words) in &LIBRARY {
-        if *module != skipped && (has_stubs || !module.starts_with("cp_stubs.")) {
+        if !is_left_out(module, skipped, has_stubs) {
             of_module(out, text, (module, words), (before, after));
         }
     }
+}
+
+/// Whether nothing of a module is imported: of this one, and of cp_stubs by what doesn't stand on it.
+fn is_left_out(module: &str, skipped: &str, has_stubs: bool) -> bool {
+    module == skipped || !has_stubs && module.starts_with("cp_stubs.")
 }
 
 /// Adds the imports of a module's definitions.
@@ -280,43 +284,27 @@ pub fn of_clauses(sheet: &Sheet<'_>, out: &mut Out) {
     out.put("\n");
 }
 
-/// Whether a text has a type of this name, comments aside; a variant may be called so too.
-fn has_type(text: &str, name: &str) -> bool {
-    for line in text.lines() {
-        if !is_comment(line) && line_has_type(line, name) {
-            return true;
-        }
-    }
-    false
-}
-
-/// Whether a line has a type of this name.
-fn line_has_type(line: &str, name: &str) -> bool {
-    for rest in line.split(name).skip(1) {
-        let is_fault = name == "WrongKind" && rest.starts_with('>');
-        if is_fault || rest.starts_with('<') || rest.starts_with("::") {
-            return true;
-        }
-    }
-    false
-}
-
 /// Adds the imports of a module's code.
 pub fn of_code(sheet: &Sheet<'_>, out: &mut Out) {
     let text = sheet.code.as_str();
     let mut paths = Out::new(sheet.alloc);
     paths.put(sheet.uses.as_str());
     paths.put(sheet.libraries.as_str());
-    for name in &FIELDS {
-        if has_type(text, name) {
-            paths.fill("cp_fields::$0\n", &[Arg::Text(name)]);
-        }
-    }
+    put_fields(&mut paths, text);
     if text.contains("Constant<'static>") {
         put_used(&mut paths, text, &CONSTANTS);
     }
     put_used(&mut paths, text, &DRAFTS);
     out.put_sorted(paths.as_str(), ("use ", ";\n"));
+}
+
+/// Adds the paths of those types of cp_fields that a text has, a line each.
+fn put_fields(out: &mut Out, text: &str) {
+    for (name, parts) in &FIELDS {
+        if has_part(text, parts) {
+            out.fill("cp_fields::$0\n", &[Arg::Text(name)]);
+        }
+    }
 }
 
 /// Adds those of the paths whose names a text has, a line each.
