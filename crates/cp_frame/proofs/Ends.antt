@@ -1,8 +1,9 @@
 -- When a frame has come, and when it hasn't.
-use Rattle.std.proofs.Common.{◌≡◌, inl, inr, ℕ, zero, suc, ◌+◌, ◌-◌, ◌*◌, ◌/◌, ◌%◌, ◌^◌, ◌<◌, ◌≤◌, List, [], ◌∷◌, ◌++◌, length, sum, take, drop, get_or, refl, sym, ◌∙◌, ap, subst, length-append, length-drop, arith}
+use Rattle.std.proofs.Common.{◌≡◌, inl, inr, Bool, true, false, ℕ, zero, suc, ◌+◌, ◌-◌, ◌*◌, ◌/◌, ◌%◌, ◌^◌, ◌<◌, ◌≤◌, List, [], ◌∷◌, ◌++◌, length, sum, take, drop, get_or, refl, sym, ◌∙◌, ap, subst, length-append, length-drop, arith}
 use Rattle.std.specs.List.{AllByRecursion, flat_map}
 use Rattle.std.proofs.lemmas.List.{append-nil, take-append-le, take-append-drop, take_all, get_or_past, nil_from_length}
 use Rattle.std.proofs.lemmas.List.Sums.{sum_by_more_le}
+use Rattle.std.proofs.lemmas.Bool.{true≢false}
 use Rattle.std.proofs.lemmas.Grind.{flat_map-append}
 use Rattle.std.specs.Int.{to_le_bytes, w32}
 use Rattle.cp_words.specs.Limits.{Bounds}
@@ -13,7 +14,7 @@ use Rattle.cp_frame.specs.Framed.{spelled, sizes_of, table, Framed}
 use Rattle.cp_packed.specs.Words.{AreWords, bytes_of}
 use Rattle.cp_frame.specs.Frame.{Frame}
 use Rattle.cp_frame.specs.Stream.{numbers, named_sizes, Frames, Open}
-use Rattle.cp_frame.specs.Parts.{halves, count_of, body, rest_of, InSegments, IsComplete, IsOpen, IsBegun, IsEmpty, NamesLittle, IsWholeTable}
+use Rattle.cp_frame.specs.Parts.{halves, count_of, body, rest_of, InTable, InSegments, IsComplete, IsOpen, IsBegun, IsEmpty, NamesLittle, IsWholeTable}
 use Rattle.cp_words.specs.Segments.{words_of}
 use Rattle.cp_packed.proofs.Bytes.{all-take}
 use Rattle.cp_frame.proofs.Numbers.{length_halves, length_spelled, spelled_halves, halves_small}
@@ -21,7 +22,7 @@ use Rattle.cp_frame.proofs.Tables.{length_named}
 use Rattle.cp_frame.proofs.Filling.{length_lists}
 use Rattle.cp_frame.proofs.Framing.{numbers_framed, length_framed, length_sizes}
 use Rattle.cp_frame.proofs.Streams.{plain_fault}
-use Rattle.cp_frame.proofs.Opened.{numbers_in_table, numbers_in_segments, length_rest, little_no_fault, little_whole, named_whole, front_in_table, last_of}
+use Rattle.cp_frame.proofs.Opened.{numbers_in_table, numbers_in_segments, length_rest, little_no_fault, little_whole, named_whole, front_in_table, last_of, table_goes_on}
 
 -- a place that holds more than 0 is inside
 pub inside : (ns : List ℕ) (i : ℕ) (n : ℕ) → n < get_or ns i 0 → i < length ns
@@ -84,6 +85,12 @@ complete_of limits f (inr h) whole all = h
 pub open_of : (limits : Bounds) (f : OpenFrame) → IsBegun limits f → (IsWholeTable f.table.items × (length f.segments.items ≡ count_of f.table.items) → ⊥) → IsOpen limits f
 open_of limits f (inl h) k = h
 open_of limits f (inr h) k = absurd (k (h.whole, h.all))
+
+pub open_by : (limits : Bounds) (f : OpenFrame) (done : Bool) → IsBegun limits f → (IsWholeTable f.table.items × (length f.segments.items ≡ count_of f.table.items) → done ≡ true) → done ≡ false → IsOpen limits f
+open_by limits f done h k e = open_of limits f h (λ w. true≢false (sym (k w) ∙ e))
+
+pub table_by : (limits : Bounds) (f : OpenFrame) (table : List ℕ) (whole : Bool) → IsOpen limits f → table ≡ f.table.items → (IsWholeTable table → whole ≡ true) → whole ≡ false → InTable limits f
+table_by limits f table whole h same k e = table_goes_on limits f h (λ w. true≢false (sym (k (subst (λ (ws : List ℕ). IsWholeTable ws) (sym same) w)) ∙ e))
 
 pub empty_open : (limits : Bounds) (f : OpenFrame) → IsEmpty f → IsOpen limits f
 empty_open limits f h = inl (record {

@@ -5,6 +5,7 @@ pub mod Tables
 pub mod Filling
 pub mod Opened
 pub mod Ends
+pub mod Begun
 pub mod Singles
 pub mod Readers
 pub mod Whole

@@ -1,18 +1,18 @@
 -- Groups taken at once into the segments of a frame.
-use Rattle.std.proofs.Common.{◌≡◌, ◌⊎◌, inl, inr, ℕ, ◌^◌, ◌<◌, List, [], ◌++◌, length, get_or, sym, ◌∙◌, ap, subst, append_assoc, length-append, arith}
+use Rattle.std.proofs.Common.{◌≡◌, ◌⊎◌, inl, inr, ℕ, ◌+◌, ◌-◌, ◌^◌, ◌<◌, List, [], ◌++◌, length, get_or, sym, ◌∙◌, ap, subst, append_assoc, length-append, arith}
 use Rattle.std.specs.Global.{Vec}
 use Rattle.std.proofs.lemmas.List.{append-nil}
 use Rattle.cp_words.specs.Limits.{Bounds}
 use Rattle.cp_frame.specs.declared.frame.OpenFrame.{OpenFrame}
 use Rattle.cp_frame.specs.declared.spare.Spare.{Spare}
 use Rattle.cp_frame.specs.declared.rest.Rest.{Rest}
-use Rattle.cp_packed.specs.Words.{bytes_of}
+use Rattle.cp_packed.specs.Words.{AreWords, bytes_of}
 use Rattle.cp_frame.specs.Stream.{named_sizes}
 use Rattle.cp_frame.specs.Parts.{halves, count_of, body, rest_of, Fills, InSegments, IsComplete}
 use Rattle.cp_words.specs.Segments.{words_of}
-use Rattle.cp_packed.specs.Unpacking.{Pending, nothing, given, laid, pending_of}
+use Rattle.cp_packed.specs.Unpacking.{Pending, nothing, after, given, laid, pending_of}
 use Rattle.cp_frame.specs.Rest.{InPacked, IsSound}
-use Rattle.cp_frame.specs.Bulk.{TakesPart}
+use Rattle.cp_frame.specs.Bulk.{TakesPart, TakesFront}
 use Rattle.cp_packed.specs.Groups.{running, TakesGroups}
 use Rattle.cp_frame.proofs.Filling.{fills_more, body_more, length_lists}
 use Rattle.cp_frame.proofs.Opened.{little_in_segments}
@@ -92,6 +92,23 @@ part_sound limits r s left back t none = by t.goes_on
         let same : pending_of s.group ≡ nothing =
         ap (λ (n : ℕ). let p : Pending = record { run = n; part = s.group.part.items } in p) h.1 ∙ ap (λ (b : List ℕ). let p : Pending = record { run = 0; part = b } in p) none in
         inl (h.0, same)
+
+-- what it took of the bytes
+pub part_front : (limits : Bounds) (r s : Rest) (left back : List ℕ) → TakesPart limits r.frame r.group.run left s.frame s.group.run back → r.group.part.items ≡ [] → s.group.part.items ≡ []
+    → s.taken ≡ r.taken + (length left - length back) → TakesFront limits r left s back
+part_front limits r s left back t none no_part count =
+    let same : running r.group.run ≡ pending_of r.group = ap (λ (b : List ℕ). let p : Pending = record { run = r.group.run; part = b } in p) (sym none) in
+    let next : pending_of s.group ≡ running s.group.run = ap (λ (b : List ℕ). let p : Pending = record { run = s.group.run; part = b } in p) no_part in (
+      t.front,
+      t.whole,
+      record {
+        no_part = t.no_part;
+        are_words = subst (λ (p : Pending). AreWords (given p t.front)) same t.are_words;
+        words = t.words ∙ ap (λ (p : Pending). rest_of r.frame ++ bytes_of (given p t.front)) same;
+        group = next ∙ sym t.open_then ∙ ap (λ (p : Pending). after p t.front) same;
+        taken = omega (arith, count, ap (λ (b : List ℕ). length b) t.whole, length-append t.front back);
+      },
+    )
 
 -- how many bytes have come of it
 pub few_taken : (limits : Bounds) (r : Rest) → InPacked limits r → r.group.part.items ≡ [] → r.taken < 2 ^ 44

@@ -1,5 +1,6 @@
 -- What a reader did with a piece, and what it stands for.
 use Rattle.std.proofs.Common.{◌≡◌, ◌⊎◌, inl, inr, ℕ, zero, suc, ◌+◌, ◌^◌, ◌<◌, ◌≤◌, List, [], ◌∷◌, ◌++◌, length, sum, take, get_or, refl, sym, ◌∙◌, ap, subst, length-append, arith}
+use Rattle.std.proofs.lemmas.List.{nil_from_length}
 use Rattle.cp_words.specs.Limits.{Bounds}
 use Rattle.cp_frame.specs.declared.fault.FrameFault.{FrameFault}
 use Rattle.cp_frame.specs.declared.fault.FrameFault.TheVariants as faults
@@ -13,9 +14,9 @@ use Rattle.cp_frame.specs.Framed.{sizes_of}
 use Rattle.cp_frame.specs.Stream.{Frames, HasFault, Laid, Open, numbers, named_sizes}
 use Rattle.cp_frame.specs.Parts.{rest_of, IsOpen, IsEmpty, InTable, InSegments, kept_words, halves}
 use Rattle.cp_words.specs.Segments.{words_of}
-use Rattle.cp_frame.specs.Reader.{Reader, Reports, KeepsLittle, failed}
+use Rattle.cp_frame.specs.Reader.{Reader, EndsWell, Gives, Reports, ReportsAtEnd, KeepsLittle, failed}
 use Rattle.cp_packed.specs.Unpacking.{Pending, IsPending, laid, pending_of}
-use Rattle.cp_frame.specs.Rest.{InPacked, IsRest, IsBlank, KeptFor, Refuses, bytes_for, words_in_order}
+use Rattle.cp_frame.specs.Rest.{InPacked, IsRest, IsBlank, KeptFor, Reads, Refuses, bytes_for, count_for, words_in_order}
 use Rattle.cp_frame.specs.Kept.{seen, KeepsUp}
 use Rattle.cp_frame.proofs.Numbers.{numbers_more}
 use Rattle.cp_frame.proofs.Streams.{sum_more}
@@ -42,6 +43,20 @@ reports_fault mode limits status r new piece given fault e f n (inr h) = subst (
         let all = h b m in
         let none : b ++ piece ≡ all.0 = subst (λ (gs : List (ℕ × List (List ℕ))). Frames mode limits (b ++ piece) gs all.0) n all.1 in
         subst (λ (x : List ℕ). HasFault mode limits x fault) (sym none) all.2
+
+-- frames are given
+pub gives_read : (mode : Mode) (limits : Bounds) (status : Status) (r : Rest) (form : Mode) (bounds : Bounds) (after : Status) (s : Rest) (piece : List ℕ) (given : List (ℕ × List (List ℕ))) → status ≡ statuses.Reading
+    → after ≡ statuses.Reading → form ≡ mode → bounds ≡ limits → Reads mode limits r piece given s → Gives (seen mode limits status r) piece (seen form bounds after s) given
+gives_read mode limits status r form bounds after s piece given e f m l h =
+    rw (e, f, m, l) (record { was_reading = tt; same_mode = refl; same_limits = refl; frames = λ b k. h b k; kept = λ k. absurd k })
+
+-- the stream ends inside a frame, or after one
+pub reports_cut : (mode : Mode) (limits : Bounds) (status : Status) (r : Rest) (new : Reader) → status ≡ statuses.Reading → new.state ≡ failed → (count_for mode r ≡ 0 → ⊥) → ReportsAtEnd (seen mode limits status r) new faults.Truncated
+reports_cut mode limits status r new e f k =
+    subst (λ (s : Status). ReportsAtEnd (seen mode limits s r) new faults.Truncated) (sym e) (record { reported = (refl, λ b h n. k (h.1 ∙ ap (λ (c : List ℕ). length c) n)); failed = f })
+
+pub ends_well : (mode : Mode) (limits : Bounds) (status : Status) (after : Status) (r : Rest) → status ≡ statuses.Reading → after ≡ statuses.Reading → count_for mode r ≡ 0 → EndsWell (seen mode limits status r) (seen mode limits after r)
+ends_well mode limits status after r e f k = rw (e, f) (record { was_reading = tt; same = refl; nothing = λ b h. nil_from_length b (sym h.1 ∙ k) })
 
 pub empty_words : (f : OpenFrame) → IsEmpty f → kept_words f ≡ 0
 empty_words f h = rw (h.table, h.segments, h.words) refl
