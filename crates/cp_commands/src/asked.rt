@@ -9,10 +9,10 @@ use cp_words::{Limits, Segments};
 use std::alloc::{AllocError, Global};
 use std::collections::BTreeMap;
 
-/// The methods that a stream calls, by their questions.
+/// The methods that a stream calls, by their questions: the number of each, and how often that came before.
 #[derive(Drop)]
 pub struct Asked {
-    methods: BTreeMap<u64, MethodNumber>,
+    methods: BTreeMap<(u32, u32), MethodNumber>,
 }
 
 /// How often each question's number has come. A number is used again only after its Return, so that each Return of a number
@@ -78,10 +78,10 @@ impl Occurrences {
         }
     }
 
-    /// A number and how often it came before, as one number.
-    fn next(&mut self, number: u32) -> Result<u64, AllocError> {
+    /// A number, which comes once more, and how often it came before.
+    fn next(&mut self, number: u32) -> Result<(u32, u32), AllocError> {
         let count = self.counts.get(&number).copied().unwrap_or(0);
         let _ = self.counts.insert(number, count.wrapping_add(1))?;
-        Ok(number as u64 * 4_294_967_296 + count as u64)
+        Ok((number, count))
     }
 }
