@@ -2,7 +2,6 @@ pub mod Results
 pub mod Keeping
 pub mod Noting
 pub mod Writable
-pub mod Valuing
 pub mod Concluding
 pub mod Reading
 pub mod Moving

@@ -10,4 +10,3 @@ pub mod Moves
 pub mod LinkOf
 pub mod Lives
 pub mod LinkCode
-pub mod Valued

@@ -1,17 +1,12 @@
 //! A connection without devices.
 
-ghost use Rattle.std.specs.Prelude.{◌≡◌, IfOk};
-ghost use Rattle.cp_vat_machine.specs.declared.event.Value.TheVariants as values;
-ghost use Rattle.cp_connection.specs.Doing.{answered};
-ghost use Rattle.cp_connection.specs.Valued.{IsQuestion, IsPromise, IsIdle, IsNothing};
-
 use crate::fault::ConnectionFault;
 use crate::happening::{Happening, Held, Tally};
 use crate::parts::Parts;
 use cp_frame::Mode;
 use cp_refs::{Cap, Origin, Outcome, PromiseId, Request};
 use cp_vat::Lent;
-use cp_vat_machine::{Event, Idle, Value};
+use cp_vat_machine::Idle;
 use cp_words::{Limits, Segments};
 use std::alloc::Global;
 use std::marker::Model;
@@ -175,63 +170,81 @@ impl Connection {
     pub fn bootstrap(&mut self) -> Result<u32, ConnectionFault>
         ensures { Acts self.old events.Bootstrap (answered (λ q. values.Question q) result) self.new }
     {
-        question(self.parts.act(Event::Bootstrap))
+        self.parts.check_open()?;
+        let acted = self.parts.vat.bootstrap();
+        self.parts.conclude(acted)
     }
 
     /// Calls a capability, and gives the question's number. Refused as `Vat::call`.
     pub fn call(&mut self, cap: Cap, request: Request) -> Result<u32, ConnectionFault>
         ensures { Acts self.old (events.Call cap request) (answered (λ q. values.Question q) result) self.new }
     {
-        question(self.parts.act(Event::Call(cap, request)))
+        self.parts.check_open()?;
+        let acted = self.parts.vat.call(cap, request);
+        self.parts.conclude(acted)
     }
 
     /// Answers a call that was delivered. Refused as `Vat::answer`.
     pub fn answer(&mut self, origin: Origin, outcome: Outcome) -> Result<(), ConnectionFault>
         ensures { Acts self.old (events.Answer origin outcome) (answered (λ _. values.Nothing) result) self.new }
     {
-        self.parts.answer(origin, outcome)
+        self.parts.check_open()?;
+        let acted = self.parts.vat.answer(origin, outcome);
+        self.parts.conclude(acted)
     }
 
     /// Makes an open promise. Refused as `Vat::promise`.
     pub fn promise(&mut self) -> Result<PromiseId, ConnectionFault>
         ensures { Acts self.old events.Promise (answered (λ p. values.Promise p) result) self.new }
     {
-        promise(self.parts.act(Event::Promise))
+        self.parts.check_open()?;
+        let acted = self.parts.vat.promise();
+        self.parts.conclude(acted)
     }
 
     /// Settles a promise that the application made. Refused as `Vat::resolve`.
     pub fn resolve(&mut self, promise: PromiseId, value: Cap) -> Result<(), ConnectionFault>
         ensures { Acts self.old (events.Resolve promise value) (answered (λ _. values.Nothing) result) self.new }
     {
-        nothing(self.parts.act(Event::Resolve(promise, value)))
+        self.parts.check_open()?;
+        let acted = self.parts.vat.resolve(promise, value);
+        self.parts.conclude(acted)
     }
 
     /// Gives a question up. Refused as `Vat::finish`.
     pub fn finish(&mut self, question: u32) -> Result<(), ConnectionFault>
         ensures { Acts self.old (events.Finish question) (answered (λ _. values.Nothing) result) self.new }
     {
-        nothing(self.parts.act(Event::Finish(question)))
+        self.parts.check_open()?;
+        let acted = self.parts.vat.finish(question);
+        self.parts.conclude(acted)
     }
 
     /// Gives an import back, with its whole count. Refused as `Vat::release`.
     pub fn release(&mut self, import: u32) -> Result<(), ConnectionFault>
         ensures { Acts self.old (events.Release import) (answered (λ _. values.Nothing) result) self.new }
     {
-        nothing(self.parts.act(Event::Release(import)))
+        self.parts.check_open()?;
+        let acted = self.parts.vat.release(import);
+        self.parts.conclude(acted)
     }
 
     /// Drops a settled promise. Refused as `Vat::forget`.
     pub fn forget(&mut self, promise: PromiseId) -> Result<(), ConnectionFault>
         ensures { Acts self.old (events.Forget promise) (answered (λ _. values.Nothing) result) self.new }
     {
-        nothing(self.parts.act(Event::Forget(promise)))
+        self.parts.check_open()?;
+        let acted = self.parts.vat.forget(promise);
+        self.parts.conclude(acted)
     }
 
     /// The imports and the promises that aren't in use.
     pub fn idle(&mut self) -> Result<Idle, ConnectionFault>
         ensures { Acts self.old events.Idle (answered (λ idle. values.Idle idle.imports idle.promises) result) self.new }
     {
-        idle(self.parts.act(Event::Idle))
+        self.parts.check_open()?;
+        let acted = self.parts.vat.idle();
+        self.parts.conclude(acted)
     }
 
     /// Why the connection ended, if it did.
@@ -269,49 +282,5 @@ impl Connection {
             imports: self.parts.vat.imports(),
             promises: self.parts.vat.promises(),
         }
-    }
-}
-
-/// The value of a call that gives a question.
-fn question(given: Result<Value, ConnectionFault>) -> Result<u32, ConnectionFault>
-    requires { IfOk given IsQuestion }
-    ensures { answered (λ q. values.Question q) result ≡ given }
-{
-    match given? {
-        Value::Question(question) => Ok(question),
-        _ => unreachable!(),
-    }
-}
-
-/// The value of a call that makes a promise.
-fn promise(given: Result<Value, ConnectionFault>) -> Result<PromiseId, ConnectionFault>
-    requires { IfOk given IsPromise }
-    ensures { answered (λ p. values.Promise p) result ≡ given }
-{
-    match given? {
-        Value::Promise(promise) => Ok(promise),
-        _ => unreachable!(),
-    }
-}
-
-/// The value of a call that gives what isn't in use.
-fn idle(given: Result<Value, ConnectionFault>) -> Result<Idle, ConnectionFault>
-    requires { IfOk given IsIdle }
-    ensures { answered (λ idle. values.Idle idle.imports idle.promises) result ≡ given }
-{
-    match given? {
-        Value::Idle { imports, promises } => Ok(Idle { imports, promises }),
-        _ => unreachable!(),
-    }
-}
-
-/// The value of a call that gives none.
-fn nothing(given: Result<Value, ConnectionFault>) -> Result<(), ConnectionFault>
-    requires { IfOk given IsNothing }
-    ensures { answered (λ _. values.Nothing) result ≡ given }
-{
-    match given? {
-        Value::Nothing => Ok(()),
-        _ => unreachable!(),
     }
 }

@@ -18,11 +18,10 @@ ghost use Rattle.cp_connection.specs.declared.fault.ConnectionFault.TheVariants.
 use crate::agenda::Agenda;
 use crate::fault::ConnectionFault;
 use cp_frame::{FrameFault, FrameReader, Mode};
-use cp_refs::{Origin, Outcome};
 use cp_rpc::MessageView;
 use cp_stream::{Refusal, StreamFault, view_of};
 use cp_vat::{Lent, Vat};
-use cp_vat_machine::{Acted, Event, Value, VatFault};
+use cp_vat_machine::{Acted, VatFault};
 use cp_words::{Limits, Segments};
 use std::alloc::Global;
 
@@ -112,37 +111,51 @@ impl Parts {
         ensures ended { OnOk result (EndsWell (link_of self.old) (link_of self.new)) }
         ensures cut { IfErr result (λ fault. EndsBadly (link_of self.old) fault (link_of self.new)) }
     {
-        if let Some(fault) = self.fault {
-            return Err(fault);
-        }
+        self.check_open()?;
         match self.frames.finish() {
             Ok(()) => Ok(()),
             Err(fault) => Err(self.fail(self.unreadable(Refusal::Frame(fault)))),
         }
     }
 
-    /// Does a call of the application.
-    pub fn act(&mut self, event: Event) -> Result<Value, ConnectionFault>
-        requires keeps { KeepsUp self.old }
-        ensures keeps { KeepsUp self.new }
-        ensures acts { Acts (link_of self.old) event result (link_of self.new) }
-    {
-        if let Some(fault) = self.fault {
-            return Err(fault);
-        }
-        let acted = self.vat.act(event);
-        self.conclude(acted)
-    }
-
-    /// Answers a call that was delivered, as `act` does, without an event and a value of any kind.
-    pub fn answer(&mut self, origin: Origin, outcome: Outcome) -> Result<(), ConnectionFault>
-        requires keeps { KeepsUp self.old }
-        ensures keeps { KeepsUp self.new }
-        ensures acts { Acts (link_of self.old) (events.Answer origin outcome) (answered (λ _. values.Nothing) result) (link_of self.new) }
+    /// Gives the fault of a connection that ended.
+    pub fn check_open(&self) -> Result<(), ConnectionFault>
+        ensures open { OnOk result (self.now.fault ≡ None) }
+        ensures ended { IfErr result (λ fault. self.now.fault ≡ Some fault) }
     {
         match self.fault {
             Some(fault) => Err(fault),
-            None => self.give(origin, outcome),
+            None => Ok(()),
+        }
+    }
+
+    /// Notes what the vat's effects ask for, and gives its value. Where memory ran out, for the vat or for these, the
+    /// connection ends, and where the vat closed.
+    pub fn conclude<V: Drop>(
+        &mut self,
+        acted: Result<Acted<V>, VatFault>,
+    ) -> Result<V, ConnectionFault>
+        requires is_open { self.old.fault ≡ None }
+        requires keeps { KeepsUp self.old }
+        requires writable { AreWritable (effects_of acted) }
+        ensures keeps { KeepsUp self.new }
+        ensures acts { Concludes self.old acted result self.new }
+        ensures noted { NotesAll self.old acted result self.new }
+    {
+        let acted = match acted {
+            Ok(acted) => acted,
+            Err(fault) => return Err(self.refuse(fault)),
+        };
+        match self.agenda.note(acted.effects) {
+            Ok(true) => {
+                self.fault = Some(ConnectionFault::Closed);
+                Ok(acted.value)
+            }
+            Ok(false) => Ok(acted.value),
+            Err(_) => {
+                self.is_lost = true;
+                Err(self.fail(ConnectionFault::OutOfMemory))
+            }
         }
     }
 
@@ -158,9 +171,7 @@ impl Parts {
         ensures none { IfOk result (λ next. IfNone next (ReadsOn (link_of self.old) piece.now (link_of self.new))) }
         ensures unreceived { IfErr result (λ fault. IsUnreceived (link_of self.old) piece.now [] fault (link_of self.new)) }
     {
-        if let Some(fault) = self.fault {
-            return Err(fault);
-        }
+        self.check_open()?;
         match self.frames.next(piece) {
             Ok(Some(next)) => Ok(Some(next)),
             Ok(None) => Ok(None),
@@ -214,44 +225,6 @@ impl Parts {
     {
         let acted = self.vat.receive_lending(message);
         self.conclude(acted)
-    }
-
-    /// Gives a call its outcome.
-    fn give(&mut self, origin: Origin, outcome: Outcome) -> Result<(), ConnectionFault>
-        requires is_open { self.old.fault ≡ None }
-        requires keeps { KeepsUp self.old }
-        ensures keeps { KeepsUp self.new }
-        ensures acts { Acts (link_of self.old) (events.Answer origin outcome) (answered (λ _. values.Nothing) result) (link_of self.new) }
-    {
-        let acted = self.vat.answer(origin, outcome);
-        self.conclude(acted)
-    }
-
-    /// Notes what the vat's effects ask for, and gives its value. Where memory ran out, for the vat or for these, the
-    /// connection ends, and where the vat closed.
-    fn conclude<V: Drop>(&mut self, acted: Result<Acted<V>, VatFault>) -> Result<V, ConnectionFault>
-        requires is_open { self.old.fault ≡ None }
-        requires keeps { KeepsUp self.old }
-        requires writable { AreWritable (effects_of acted) }
-        ensures keeps { KeepsUp self.new }
-        ensures acts { Concludes self.old acted result self.new }
-        ensures noted { NotesAll self.old acted result self.new }
-    {
-        let acted = match acted {
-            Ok(acted) => acted,
-            Err(fault) => return Err(self.refuse(fault)),
-        };
-        match self.agenda.note(acted.effects) {
-            Ok(true) => {
-                self.fault = Some(ConnectionFault::Closed);
-                Ok(acted.value)
-            }
-            Ok(false) => Ok(acted.value),
-            Err(_) => {
-                self.is_lost = true;
-                Err(self.fail(ConnectionFault::OutOfMemory))
-            }
-        }
     }
 
     /// A refusal of the vat's. Where memory ran out, the connection ends.
