@@ -6,7 +6,7 @@ ghost use Rattle.bench_c.specs.Read.{IsOfKind, Counts, CountsWithin, within};
 
 use cp_frame::{FrameReader, Mode};
 use cp_reading::read_root;
-use cp_stream::view_of;
+use cp_stream::view_in;
 use cp_words::{Limits, Segments};
 use std::alloc::Global;
 
@@ -104,7 +104,7 @@ fn gives(alloc: Global, segments: &Segments, kind: u8, limits: Limits) -> bool
 {
     match kind {
         0 => true,
-        1 => view_of(segments, limits).is_ok(),
+        1 => view_in(segments, limits).is_ok(),
         _ => read_root(alloc, segments, limits).is_ok(),
     }
 }

@@ -3,7 +3,7 @@
 use crate::asking::CallPlan;
 use cp_frame::FrameReader;
 use cp_lines::push_line;
-use cp_stream::view_of;
+use cp_stream::view_in;
 use cp_words::{Limits, Segments};
 use std::alloc::Global;
 
@@ -61,7 +61,7 @@ impl Log {
             Way::Received => next_frame(&mut self.received, bytes),
         };
         let (segments, rest) = frame?;
-        let Ok(view) = view_of(&segments, self.limits) else {
+        let Ok(view) = view_in(&segments, self.limits) else {
             return None;
         };
         self.lines.push_str(mark_of(way)).ok()?;

@@ -3,10 +3,10 @@
 use cp_decode::DecodeFault;
 use cp_frame::FrameFault;
 use cp_reading::TreeFault;
-use cp_stream::{Refusal, StreamFault};
+use cp_stream::Refusal;
 use cp_tree::WriteFault;
 use std::alloc::{AllocError, AllocFailed};
-use std::io::{self, ErrorKind};
+use std::io;
 
 /// Why a command stopped.
 #[derive(Debug, Drop)]
@@ -39,12 +39,9 @@ impl<T: Drop> From<AllocFailed<T>> for Stop {
     }
 }
 
-impl From<StreamFault> for Stop {
-    fn from(fault: StreamFault) -> Stop {
-        match fault {
-            StreamFault::Refused { refusal, .. } => Stop::Refused(refusal),
-            StreamFault::Device => Stop::Reading(io::Error::from(ErrorKind::Other)),
-        }
+impl From<Refusal> for Stop {
+    fn from(refusal: Refusal) -> Stop {
+        Stop::Refused(refusal)
     }
 }
 

@@ -9,7 +9,7 @@ use cp_decode::{Decoder, message_line};
 use cp_frame::{FrameReader, Mode};
 use cp_lines::push_line;
 use cp_reading::{View, read_root};
-use cp_stream::{check_of, view_of};
+use cp_stream::{check_in, view_in};
 use cp_words::{Limits, Segments};
 use cp_writing::write_segments;
 use std::alloc::Global;
@@ -107,7 +107,7 @@ impl Plan<'_> {
                 ..
             } => decode(alloc, segments, *limits, decoder, out),
             Plan::Name { limits, names, .. } => name(segments, *limits, names, last, out),
-            Plan::Check { limits, .. } => Ok(check_of(segments, *limits)?),
+            Plan::Check { limits, .. } => Ok(check_in(segments, *limits)?),
             Plan::Pack => last.batch.put(segments, Mode::Packed, out),
             Plan::Unpack => last.batch.put(segments, Mode::Plain, out),
             Plan::Recut { mode, words } => {
@@ -243,7 +243,7 @@ fn show<W: Write>(
     line: &mut String,
     out: &mut W,
 ) -> Result<(), Stop> {
-    let view = view_of(segments, limits)?;
+    let view = view_in(segments, limits)?;
     line.clear();
     push_line(alloc, line, &view)?;
     Ok(out.write_all(line.as_bytes())?)
@@ -258,7 +258,7 @@ fn name<W: Write>(
     out: &mut W,
 ) -> Result<(), Stop> {
     let alloc = last.alloc;
-    let view = view_of(segments, limits)?;
+    let view = view_in(segments, limits)?;
     last.line.clear();
     push_line(alloc, &mut last.line, &view)?;
     let named = names.line(alloc, &mut last.returns, last.line.as_str(), &view)?;

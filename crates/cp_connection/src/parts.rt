@@ -2,7 +2,7 @@
 
 ghost use Rattle.std.specs.Prelude.{◌≡◌, ◌<◌, [], ℕ, List, Some, None, IfOk, IfErr, IfSome, IfNone, OnOk, length};
 ghost use Rattle.cp_rpc.specs.Viewed.{viewed};
-ghost use Rattle.cp_stream.specs.Stream.{Holds, HoldsNone};
+ghost use Rattle.cp_stream.specs.Stream.{Holds};
 ghost use Rattle.cp_vat_machine.specs.declared.event.Event.TheVariants as events;
 ghost use Rattle.cp_vat_machine.specs.declared.event.Value.TheVariants as values;
 ghost use Rattle.cp_vat_laws.specs.Sizes.{AreWritable};
@@ -19,7 +19,7 @@ use crate::agenda::Agenda;
 use crate::fault::ConnectionFault;
 use cp_frame::{FrameFault, FrameReader, Mode};
 use cp_rpc::MessageView;
-use cp_stream::{Refusal, StreamFault, view_of};
+use cp_stream::{Refusal, view_in};
 use cp_vat::{Lent, Vat};
 use cp_vat_machine::{Acted, VatFault};
 use cp_words::{Limits, Segments};
@@ -191,7 +191,7 @@ impl Parts {
         ensures counted { OnOk result (CountsOne self.old taken self.new) }
         ensures refused { IfErr result (λ fault. RefusesFrame self.old segments.now fault self.new) }
     {
-        let message = match self.message_in(segments) {
+        let message = match view_in(segments, self.limits) {
             Ok(message) => message,
             Err(refusal) => return Err(self.fail(self.unreadable(refusal))),
         };
@@ -235,18 +235,6 @@ impl Parts {
         match fault {
             VatFault::OutOfMemory => self.fail(ConnectionFault::OutOfMemory),
             other => ConnectionFault::Refused(other),
-        }
-    }
-
-    /// The message that a frame holds, in place.
-    fn message_in<'a>(&self, segments: &'a Segments) -> Result<MessageView<'a>, Refusal>
-        ensures found { IfOk result (λ view. Holds self.now.limits segments.now (viewed view)) }
-        ensures refused { IfErr result (HoldsNone self.now.limits segments.now) }
-    {
-        match view_of(segments, self.limits) {
-            Ok(view) => Ok(view),
-            Err(StreamFault::Refused { refusal, .. }) => Err(refusal),
-            Err(StreamFault::Device) => unreachable!(),
         }
     }
 

@@ -2,7 +2,6 @@
 
 ghost use Rattle.std.specs.Prelude.{◌≡◌, ◌++◌, [], IfOk, IfErr, IfNone, IfSome, OnOk, None};
 ghost use Rattle.cp_rpc.specs.Viewed.{viewed};
-ghost use Rattle.cp_stream.specs.Stream.{Holds, HoldsNone};
 ghost use Rattle.cp_relay.specs.Passage.{seen, kept_with, IsOpen, IsMemoryFor, OnlyKeeps, Refuses, PassesNext, PassesNone, PutsFrame, StopsAtFrame, Makes, IsUnmade};
 
 use crate::fault::{RelayFault, Why};
@@ -10,7 +9,7 @@ use crate::output::Output;
 use crate::visitor::Visitor;
 use cp_frame::FrameReader;
 use cp_rpc::MessageView;
-use cp_stream::{Refusal, StreamFault, frame_of_view, view_of};
+use cp_stream::{Refusal, frame_of_view, view_in};
 use cp_words::{Limits, Segments};
 use std::alloc::{AllocError, Global};
 use std::mem;
@@ -184,16 +183,4 @@ fn move_over(kept: &mut Vec<u8>, out: &mut Vec<u8>) -> Result<(), AllocError>
     mem::swap(kept, out);
     out.clear();
     Ok(())
-}
-
-/// The message that a frame's segments hold, read in place.
-fn view_in<'a>(segments: &'a Segments, limits: Limits) -> Result<MessageView<'a>, Refusal>
-    ensures found { IfOk result (λ v. Holds limits segments.now (viewed v)) }
-    ensures refused { IfErr result (HoldsNone limits segments.now) }
-{
-    match view_of(segments, limits) {
-        Ok(view) => Ok(view),
-        Err(StreamFault::Refused { refusal, .. }) => Err(refusal),
-        Err(StreamFault::Device) => unreachable!(),
-    }
 }

@@ -2,7 +2,7 @@
 
 use crate::lines::segments_of;
 use cp_rpc::Message;
-use cp_stream::view_of;
+use cp_stream::view_in;
 use cp_vat::Vat;
 use cp_vat_machine::{Acted, Event, Value, VatFault};
 use cp_words::Limits;
@@ -39,7 +39,7 @@ fn receive(
     let segments = segments_of(alloc, &message);
     drop(message);
     let segments = segments?;
-    let Ok(view) = view_of(&segments, Limits::standard()) else {
+    let Ok(view) = view_in(&segments, Limits::standard()) else {
         return None;
     };
     match vat.receive_view(view) {

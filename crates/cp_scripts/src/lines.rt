@@ -3,7 +3,7 @@
 use cp_frame::{Mode, write_frame};
 use cp_lines::push_line;
 use cp_rpc::{Exception, Message, tree_of};
-use cp_stream::view_of;
+use cp_stream::view_in;
 use cp_tree::Whole;
 use cp_vat_machine::VatFault;
 use cp_words::{Limits, Segments};
@@ -87,7 +87,7 @@ impl Lines {
 
     /// Adds the line of a message that is written.
     fn push_written(&mut self, segments: &Segments) {
-        match view_of(segments, Limits::standard()) {
+        match view_in(segments, Limits::standard()) {
             Ok(view) => {
                 let pushed = push_line(self.alloc, &mut self.text, &view);
                 self.keep(pushed);

@@ -18,5 +18,5 @@ pub use read::{read_message, read_segments};
 pub use reader::MessageReader;
 pub use structs::{read_struct, write_struct};
 pub use tap::Tap;
-pub use view::{check_of, view_of};
+pub use view::{check_in, view_in, view_of};
 pub use write::{frame_of_view, put_message, write_message, write_message_in, write_whole};

@@ -45,7 +45,7 @@ pub fn read_segments<R: Read>(
 }
 
 /// Reads the next message of a device: exactly the bytes of its frame. `None` says that the device
-/// ended before any byte. Faults are those of `read_segments` and of `view_of`, and S3, all at 0.
+/// ended before any byte. Faults are those of `read_segments` and of `view_in`, and S3, all at 0.
 pub fn read_message<R: Read>(
     alloc: Global,
     from: &mut Tap<R>,

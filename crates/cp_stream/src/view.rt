@@ -13,19 +13,42 @@ use cp_rpc::{Message, MessageView, SchemaFault, check_message, message_view};
 use cp_words::{Limits, Segments};
 use std::alloc::Global;
 
-/// The message that the segments hold, read in place.
-pub(crate) fn view_in<'a>(
-    segments: &'a Segments,
-    limits: Limits,
-) -> Result<MessageView<'a>, Refusal>
+/// The message of rpc.capnp that a frame's segments hold, read in place: the first pointer's tree, as
+/// `struct Message` (encoding specification, "Messages"). No memory is taken. A fault of reading the
+/// tree (G1 to G9) refuses it, or else the first field that is at fault (S1, S2).
+pub fn view_in<'a>(segments: &'a Segments, limits: Limits) -> Result<MessageView<'a>, Refusal>
+    // What is viewed is the message that the segments hold.
     ensures found { IfOk result (λ v. Holds limits segments.now (viewed v)) }
+    // The message that the segments hold is viewed.
     ensures only { (m : Message) → Holds limits segments.now m → AnswersView result m }
+    // A refusal says why they hold none.
     ensures refused { IfErr result (HoldsNone limits segments.now) }
 {
     message_view(View::root(segments, limits)?).map_err(Refusal::Schema)
 }
 
-/// The message that the segments hold.
+/// As `view_in`, with a refusal reported at 0, as if the frame were the first of a stream.
+pub fn view_of<'a>(segments: &'a Segments, limits: Limits) -> Result<MessageView<'a>, StreamFault>
+    ensures found { IfOk result (λ v. Holds limits segments.now (viewed v)) }
+    ensures only { (m : Message) → Holds limits segments.now m → AnswersView result m }
+    ensures refused { IfErr result (IsAt 0 (HoldsNone limits segments.now)) }
+{
+    view_in(segments, limits).map_err(|refusal| refused(0, refusal))
+}
+
+/// Checks that a frame's segments hold a message of rpc.capnp, as `view_in` does, and hands out none.
+pub fn check_in(segments: &Segments, limits: Limits) -> Result<(), Refusal>
+    // The segments hold a message.
+    ensures found { OnOk result ((m : Message) × Holds limits segments.now m) }
+    // Segments that hold a message are accepted.
+    ensures only { (m : Message) → Holds limits segments.now m → IsOk result }
+    // A refusal says why they hold none.
+    ensures refused { IfErr result (HoldsNone limits segments.now) }
+{
+    check_message(&View::root(segments, limits)?).map_err(Refusal::Schema)
+}
+
+/// The message that the segments hold, owned.
 pub(crate) fn message_in(
     alloc: Global,
     segments: &Segments,
@@ -38,41 +61,4 @@ pub(crate) fn message_in(
     let message = view.message(alloc);
     drop(view);
     message.map_err(|_| Refusal::Schema(SchemaFault::OutOfMemory))
-}
-
-/// The message of rpc.capnp that a frame's segments hold, read in place: the first pointer's tree, as
-/// `struct Message` (encoding specification, "Messages"). No memory is taken. A fault of reading the
-/// tree (G1 to G9), or else the first field that is at fault (S1, S2), is reported at 0.
-pub fn view_of<'a>(segments: &'a Segments, limits: Limits) -> Result<MessageView<'a>, StreamFault>
-    // What is viewed is the message that the segments hold.
-    ensures found { IfOk result (λ v. Holds limits segments.now (viewed v)) }
-    // The message that the segments hold is viewed.
-    ensures only { (m : Message) → Holds limits segments.now m → AnswersView result m }
-    // A fault says why they hold none.
-    ensures refused { IfErr result (IsAt 0 (HoldsNone limits segments.now)) }
-{
-    let view = match View::root(segments, limits) {
-        Ok(view) => view,
-        Err(fault) => return Err(refused(0, Refusal::Tree(fault))),
-    };
-    message_view(view).map_err(|fault| refused(0, Refusal::Schema(fault)))
-}
-
-/// Checks that a frame's segments hold a message of rpc.capnp, as `view_of` does, and hands out none.
-pub fn check_of(segments: &Segments, limits: Limits) -> Result<(), StreamFault>
-    // The segments hold a message.
-    ensures found { OnOk result ((m : Message) × Holds limits segments.now m) }
-    // Segments that hold a message are accepted.
-    ensures only { (m : Message) → Holds limits segments.now m → IsOk result }
-    // A fault says why they hold none.
-    ensures refused { IfErr result (IsAt 0 (HoldsNone limits segments.now)) }
-{
-    let view = match View::root(segments, limits) {
-        Ok(view) => view,
-        Err(fault) => return Err(refused(0, Refusal::Tree(fault))),
-    };
-    if let Err(fault) = check_message(&view) {
-        return Err(refused(0, Refusal::Schema(fault)));
-    }
-    Ok(())
 }

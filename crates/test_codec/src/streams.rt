@@ -215,21 +215,22 @@ fn allocation_failure_is_reported_and_then_failed(rt: HostRuntime) {
 }
 
 /// The bytes are one frame, of which a view and a check end in this way.
-fn expect_viewed(rt: &impl Abort, alloc: Global, bytes: &[u8], fault: Option<StreamFault>) {
+fn expect_viewed(rt: &impl Abort, alloc: Global, bytes: &[u8], refusal: Option<Refusal>) {
     let mut reader = FrameReader::plain(alloc, Limits::standard());
     let frames = reader.feed(bytes).expect(rt, "frames");
     drop(reader);
     check!(rt; frames.len() == 1);
+    let fault = refusal.map(|refusal| at(0, refusal));
     check!(rt; view_of(&frames[0].1, Limits::standard()).err() == fault);
-    check!(rt; check_of(&frames[0].1, Limits::standard()).err() == fault);
+    check!(rt; view_in(&frames[0].1, Limits::standard()).err() == refusal);
+    check!(rt; check_in(&frames[0].1, Limits::standard()).err() == refusal);
     drop(frames);
 }
 
 #[test]
 fn a_view_is_of_one_frame(rt: HostRuntime) {
     expect_viewed(&rt, rt.alloc(), &TWO_SEGMENTS, None);
-    let fault = Some(at(0, OUT_OF_BOUNDS));
-    expect_viewed(&rt, rt.alloc(), &SHORT_ROOT, fault)
+    expect_viewed(&rt, rt.alloc(), &SHORT_ROOT, Some(OUT_OF_BOUNDS))
 }
 
 /// A device that fails once, at one of its calls, and takes or gives one byte at each other.

@@ -1,6 +1,6 @@
 //! What memory is taken for messages that are read in place.
 
-use cp_stream::view_of;
+use cp_stream::view_in;
 use cp_vat::Vat;
 use cp_vat_machine::{Acted, Effect, PeerFault, Reason, VatFault};
 use cp_words::{Limits, Segments};
@@ -77,7 +77,7 @@ fn deep_call(rt: &impl Abort, alloc: Global) -> Segments {
 
 /// What a new vat does with the message.
 fn receive(rt: &impl Abort, alloc: Global, segments: &Segments) -> Result<Acted<()>, VatFault> {
-    let view = view_of(segments, Limits::standard()).expect(rt, "a message");
+    let view = view_in(segments, Limits::standard()).expect(rt, "a message");
     let mut vat = Vat::new(alloc, None);
     let acted = vat.receive_view(view);
     drop(vat);
@@ -116,7 +116,7 @@ fn finished(alloc: Global) -> Option<Vat> {
 /// A Return to a question that was given up has no effect.
 fn expect_nothing(rt: &impl Abort, alloc: Global, segments: &Segments) {
     if let Some(mut vat) = finished(alloc) {
-        let view = view_of(segments, Limits::standard()).expect(rt, "a message");
+        let view = view_in(segments, Limits::standard()).expect(rt, "a message");
         let acted = vat.receive_view(view).expect(rt, "no memory is taken");
         drop(vat);
         check!(rt; acted.effects.effects().is_empty());
@@ -162,7 +162,7 @@ fn is_closed(vat: &mut Vat) -> bool {
 
 /// A vat's question is settled by the message, unless memory runs out; then the vat is closed.
 fn expect_settled(rt: &impl Abort, vat: &mut Vat, segments: &Segments) {
-    let view = view_of(segments, Limits::standard()).expect(rt, "a message");
+    let view = view_in(segments, Limits::standard()).expect(rt, "a message");
     match vat.receive_view(view) {
         Ok(acted) => {
             check!(rt; acted.effects.effects().len() == 1);
