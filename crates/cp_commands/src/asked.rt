@@ -2,17 +2,23 @@
 
 use cp_decode::MethodNumber;
 use cp_frame::{FrameReader, Mode};
-use cp_reading::View;
-use cp_rpc::{MessageIn, message_view};
-use cp_stream::Refusal;
+use cp_rpc::MessageIn;
+use cp_stream::{Refusal, view_in};
 use cp_words::{Limits, Segments};
 use std::alloc::{AllocError, Global};
 use std::collections::BTreeMap;
 
-/// The methods that a stream calls, by their questions: the number of each, and how often that came before.
+/// The methods that a stream calls, by their questions.
 #[derive(Drop)]
 pub struct Asked {
-    methods: BTreeMap<(u32, u32), MethodNumber>,
+    methods: BTreeMap<Occurrence, MethodNumber>,
+}
+
+/// A question, by its number and how often that came before.
+#[derive(Clone, Copy, PartialEq, Eq, PartialOrd, Ord)]
+struct Occurrence {
+    number: u32,
+    earlier: u32,
 }
 
 /// How often each question's number has come. A number is used again only after its Return, so that each Return of a number
@@ -44,16 +50,16 @@ impl Asked {
         segments: &Segments,
         limits: Limits,
     ) -> Result<(), Refusal> {
-        match message_view(View::root(segments, limits)?)? {
+        match view_in(segments, limits)? {
             MessageIn::Bootstrap(bootstrap) => {
                 let _ = questions.next(bootstrap.question_id)?;
             }
             MessageIn::Call(call) => {
-                let key = questions.next(call.question_id)?;
+                let question = questions.next(call.question_id)?;
                 let (interface, method) = (call.interface_id, call.method_id);
                 let _ = self
                     .methods
-                    .insert(key, MethodNumber { interface, method })?;
+                    .insert(question, MethodNumber { interface, method })?;
             }
             _ => {}
         }
@@ -66,8 +72,8 @@ impl Asked {
         returns: &mut Occurrences,
         number: u32,
     ) -> Result<Option<MethodNumber>, AllocError> {
-        let key = returns.next(number)?;
-        Ok(self.methods.get(&key).copied())
+        let question = returns.next(number)?;
+        Ok(self.methods.get(&question).copied())
     }
 }
 
@@ -78,10 +84,10 @@ impl Occurrences {
         }
     }
 
-    /// A number, which comes once more, and how often it came before.
-    fn next(&mut self, number: u32) -> Result<(u32, u32), AllocError> {
-        let count = self.counts.get(&number).copied().unwrap_or(0);
-        let _ = self.counts.insert(number, count.wrapping_add(1))?;
-        Ok((number, count))
+    /// Counts a number once more.
+    fn next(&mut self, number: u32) -> Result<Occurrence, AllocError> {
+        let earlier = self.counts.get(&number).copied().unwrap_or(0);
+        let _ = self.counts.insert(number, earlier.wrapping_add(1))?;
+        Ok(Occurrence { number, earlier })
     }
 }
