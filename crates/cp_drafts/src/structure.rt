@@ -131,7 +131,7 @@ fn put_tree(trees: &mut Vec<Tree>, i: usize, tree: Tree)
     trees[i] = tree;
 }
 
-/// Words of the program fit 64 bits.
+/// Words of the program fit 64 bits. This does nothing but tell a proof, which learns it by the type of a slice alone.
 fn fit(words: &[u64])
     ensures { AllFit 64 words.now }
 {}

@@ -4,7 +4,7 @@ ghost use Rattle.std.specs.Prelude.{All};
 ghost use Rattle.cp_words.specs.Segments.{words_of};
 ghost use Rattle.cp_tree.specs.Shaped.{AllFit};
 
-/// The words of all segments fit 64 bits. Nothing is looked at: the type of each says so, in the loop alone.
+/// The words of all segments fit 64 bits. This does nothing but tell a proof, which learns it by the type of a slice alone.
 pub(crate) fn segments_fit(segments: &[Vec<u64>])
     ensures { All (AllFit 64) (words_of segments.now) }
 {
@@ -13,7 +13,7 @@ pub(crate) fn segments_fit(segments: &[Vec<u64>])
     }
 }
 
-/// The words of one segment do.
+/// The same of one segment.
 fn words_fit(_words: &[u64])
     ensures { AllFit 64 _words.now }
 {}
