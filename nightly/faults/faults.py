@@ -44,7 +44,6 @@ ERRORS = {
 }
 # By what a call that a signal interrupts may end these. All others go on.
 INTERRUPTED = {
-    "serve -": naming(errno.EINTR),
     "call --timeout": naming(errno.EINTR) + "|nothing came for",
     "relay": naming(errno.EINTR),
 }
@@ -98,7 +97,7 @@ def system_calls(tally, name, script, whole):
         if name in NEVER_WAIT:
             change("would wait", call, errno.EAGAIN)
         else:
-            change("interrupted", call, errno.EINTR, naming(errno.EINTR))
+            change("interrupted", call, errno.EINTR)
 
 
 def signals(tally, name, script, whole):

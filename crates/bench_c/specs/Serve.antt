@@ -26,7 +26,7 @@ mode_of packed = if packed then modes.Packed else modes.Plain
 abbrev pub how_ended : Result Report ServeFault → ℕ
 how_ended (Ok report) = if is_some report.closed then 1 else 0
 how_ended (Err (faults.Stream (streams.Refused at refusal))) = 2
-how_ended (Err (faults.Stream streams.Device)) = 3
+how_ended (Err (faults.Stream (streams.Device error))) = 3
 how_ended (Err faults.OutOfMemory) = 4
 
 -- the object of a number, or from 2^32 on the import

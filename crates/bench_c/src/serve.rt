@@ -126,7 +126,7 @@ fn how_ended(ended: &Result<Report, ServeFault>) -> u8
     match ended {
         Ok(report) => report.closed.is_some() as u8,
         Err(ServeFault::Stream(StreamFault::Refused { .. })) => 2,
-        Err(ServeFault::Stream(StreamFault::Device)) => 3,
+        Err(ServeFault::Stream(StreamFault::Device(_))) => 3,
         Err(ServeFault::OutOfMemory) => 4,
     }
 }

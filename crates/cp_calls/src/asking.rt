@@ -6,11 +6,12 @@ use cp_client::{Client, ClientFault, Question};
 use cp_frame::Mode;
 use cp_refs::{Cap, Outcome, Request};
 use cp_scripts::Lines;
+use cp_stream::DeviceError;
 use cp_words::Limits;
 use mio::event::Source;
 use std::alloc::{AllocError, Global};
 use std::cell::RefCell;
-use std::io::{self, ErrorKind, Read, Write};
+use std::io::{ErrorKind, Read, Write};
 use std::net::Net;
 
 /// How calls are made.
@@ -119,7 +120,7 @@ impl<'a, 'b, S: Source + Read + Write + Drop> Conversation<'a, 'b, S> {
     fn wait(&mut self, question: Question) -> Result<Outcome, CallFault> {
         match self.client.wait(question) {
             Ok(outcome) => Ok(outcome),
-            Err(ClientFault::Device) => Err(self.device()),
+            Err(ClientFault::Device(error)) => Err(self.device(error)),
             Err(fault) => Err(self.fault(fault)?),
         }
     }
@@ -133,18 +134,12 @@ impl<'a, 'b, S: Source + Read + Write + Drop> Conversation<'a, 'b, S> {
     }
 
     /// Why a device failed: it has an error, or nothing came in time.
-    fn device(&self) -> CallFault {
-        let failed = match self.wire.try_borrow_mut() {
-            Ok(mut wire) => wire.failed.take(),
-            Err(_) => None,
-        };
-        match (failed, self.timeout) {
-            (Some(error), _) => CallFault::of_device(self.alloc, self.address, error),
-            (None, Some(seconds)) => CallFault::silent(self.alloc, self.address, seconds),
-            (None, None) => {
-                let error = io::Error::from(ErrorKind::Other);
-                CallFault::of_device(self.alloc, self.address, error)
-            }
+    fn device(&self, error: DeviceError) -> CallFault {
+        // Where the system says that a time is over, the error has its number.
+        let is_silent = error == DeviceError::from(ErrorKind::TimedOut);
+        match self.timeout {
+            Some(seconds) if is_silent => CallFault::silent(self.alloc, self.address, seconds),
+            _ => CallFault::of_device(self.alloc, self.address, error.into()),
         }
     }
 

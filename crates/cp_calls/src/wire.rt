@@ -34,8 +34,8 @@ pub(crate) struct Wire<S> {
     given: usize,
     /// Whether the peer takes nothing more.
     is_shut: bool,
-    /// Why a call failed.
-    pub(crate) failed: Option<io::Error>,
+    /// Why the peer takes nothing more, where a call failed.
+    failed: Option<io::Error>,
     pub(crate) log: Log,
 }
 
@@ -102,7 +102,7 @@ impl<S: Source + Read + Write + Drop> Wire<S> {
                 Ok(0) => return self.end(),
                 Ok(count) => return Ok(count),
                 Err(error) if error.kind() == ErrorKind::WouldBlock => self.wait()?,
-                Err(error) => return Err(self.fail(error)),
+                Err(error) => return Err(error),
             }
         }
         Err(io::Error::from(ErrorKind::Other))
@@ -112,8 +112,8 @@ impl<S: Source + Read + Write + Drop> Wire<S> {
     fn end(&self) -> io::Result<usize>
         ensures { IfOk result (λ count. count ≡ 0) }
     {
-        match &self.failed {
-            Some(error) => Err(io::Error::from(error.kind())),
+        match self.failed {
+            Some(error) => Err(error),
             None => Ok(0),
         }
     }
@@ -132,6 +132,7 @@ impl<S: Source + Read + Write + Drop> Wire<S> {
                     return Ok(count);
                 }
                 Err(error) if error.kind() == ErrorKind::WouldBlock => self.take_in()?,
+                Err(error) if error.kind() == ErrorKind::Interrupted => (),
                 Err(error) => self.shut(error),
             }
         }
@@ -148,6 +149,7 @@ impl<S: Source + Read + Write + Drop> Wire<S> {
             Ok(0) => self.is_shut = true,
             Ok(count) => self.ahead.extend_from_slice(&piece[..count])?,
             Err(error) if error.kind() == ErrorKind::WouldBlock => self.wait()?,
+            Err(error) if error.kind() == ErrorKind::Interrupted => (),
             Err(error) => self.shut(error),
         }
         Ok(())
@@ -157,36 +159,23 @@ impl<S: Source + Read + Write + Drop> Wire<S> {
     /// itself: a signal ends a wait, and so takes no more than that second.
     fn wait(&mut self) -> io::Result<()> {
         let Some(seconds) = self.timeout else {
-            return self.wait_for(None);
+            return self.poll.poll(&mut self.events, None);
         };
         for _ in 0..seconds {
-            self.wait_for(Some(Duration::from_secs(1)))?;
+            let second = Some(Duration::from_secs(1));
+            self.poll.poll(&mut self.events, second)?;
             if !self.events.is_empty() {
                 return Ok(());
             }
         }
-        Err(io::Error::from(ErrorKind::TimedOut))
-    }
-
-    /// Waits until something comes, or can be written, or the time is over.
-    fn wait_for(&mut self, time: Option<Duration>) -> io::Result<()> {
-        match self.poll.poll(&mut self.events, time) {
-            Ok(()) => Ok(()),
-            Err(error) => Err(self.fail(error)),
-        }
+        let silence = io::Error::from(ErrorKind::TimedOut);
+        Err(self.failed.unwrap_or(silence))
     }
 
     /// Keeps why the peer takes nothing more.
     fn shut(&mut self, error: io::Error) {
         self.is_shut = true;
         self.failed = Some(error);
-    }
-
-    /// Keeps why a call failed.
-    fn fail(&mut self, error: io::Error) -> io::Error {
-        let kind = error.kind();
-        self.failed = Some(error);
-        io::Error::from(kind)
     }
 }
 

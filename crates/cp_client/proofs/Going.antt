@@ -245,7 +245,7 @@ pub appends_kept : (a b : Option (List ℕ)) → Keeps a b → Appends a b []
 appends_kept a b keeps = Appends-kept a a b [] (Appends-nil a) keeps
 
 consumes_none : (old new : Device) (fault : ClientFault) → IsUnread fault old new → Consumes old.bytes new.bytes []
-consumes_none old new client_faults.Device h = Consumes-kept old.bytes old.bytes new.bytes [] (Consumes-nil old.bytes) h.1
+consumes_none old new (client_faults.Device error) h = Consumes-kept old.bytes old.bytes new.bytes [] (Consumes-nil old.bytes) h.1
 consumes_none old new (client_faults.Connection fault) h = rw h (Consumes-nil old.bytes)
 consumes_none old new client_faults.Ended h = absurd h
 consumes_none old new client_faults.NotAsked h = absurd h
@@ -256,7 +256,7 @@ exchanges_unread old new fault none gone unread same =
     exchanges_read old new none (subst (λ (b : List ℕ). Consumes old.from.bytes new.from.bytes b) (sym gone) (consumes_none old.from new.from fault unread)) same
 
 pub stops_unread : (old new : Seat) (fault : ClientFault) → IsUnread fault old.from new.from → StopsReading old fault new
-stops_unread old new client_faults.Device h = h.0
+stops_unread old new (client_faults.Device error) h = h.0
 stops_unread old new (client_faults.Connection fault) h = ap (λ (d : Device). d.failures) h
 stops_unread old new client_faults.Ended h = absurd h
 stops_unread old new client_faults.NotAsked h = absurd h

@@ -37,15 +37,15 @@ none_both x y = record { reads = y.reads ∙ x.reads; writes = y.writes ∙ x.wr
 
 -- a client that didn't fail before stops for what stops it now
 pub stops_after : {a b : Seat} (c : Seat) (fault : ClientFault) → NoneFailed a b → StopsFor b fault c → StopsFor a fault c
-stops_after c client_faults.Device none (inl h) = inl (record { reads = rw (← none.reads) h.reads; writes = h.writes ∙ none.writes })
-stops_after c client_faults.Device none (inr h) = inr (record { reads = h.reads ∙ none.reads; writes = rw (← none.writes) h.writes })
+stops_after c (client_faults.Device error) none (inl h) = inl (record { reads = rw (← none.reads) h.reads; writes = h.writes ∙ none.writes })
+stops_after c (client_faults.Device error) none (inr h) = inr (record { reads = h.reads ∙ none.reads; writes = rw (← none.writes) h.writes })
 stops_after c client_faults.Ended none h = (none_both none h.0, h.1)
 stops_after c (client_faults.Connection fault) none h = none_both none h
 stops_after c client_faults.NotAsked none h = absurd h
 
 -- it read, after all was written
 pub stops_reading : {a b : Seat} (c : Seat) (fault : ClientFault) → NoneFailed a b → b.link.unwritten ≡ [] → c.to ≡ b.to → StopsReading b fault c → StopsFor a fault c
-stops_reading c client_faults.Device none written to h = inl (record { reads = rw (← none.reads) h; writes = ap (λ d. d.failures) to ∙ none.writes })
+stops_reading c (client_faults.Device error) none written to h = inl (record { reads = rw (← none.reads) h; writes = ap (λ d. d.failures) to ∙ none.writes })
 stops_reading c client_faults.Ended none written to h = (
   record { reads = h.0 ∙ none.reads; writes = ap (λ d. d.failures) to ∙ none.writes },
   record { at_end = h.1; well = h.2; written = ap (λ l. l.unwritten) h.3 ∙ written },
@@ -55,14 +55,14 @@ stops_reading c client_faults.NotAsked none written to h = absurd h
 
 -- a fault of the connection isn't one of a device
 pub stops_connections : (a b : Seat) (fault : ClientFault) → IsConnections fault → NoneFailed a b → StopsFor a fault b
-stops_connections a b client_faults.Device is none = absurd is
+stops_connections a b (client_faults.Device error) is none = absurd is
 stops_connections a b client_faults.Ended is none = absurd is
 stops_connections a b client_faults.NotAsked is none = absurd is
 stops_connections a b (client_faults.Connection fault) is none = none
 
 pub untold_by : (a b : Seat) (q : ℕ) (fault : ClientFault) → StopsFor a fault b → IsUntold a q fault b
 untold_by a b q client_faults.NotAsked h = absurd h
-untold_by a b q client_faults.Device h = h
+untold_by a b q (client_faults.Device error) h = h
 untold_by a b q client_faults.Ended h = h
 untold_by a b q (client_faults.Connection fault) h = h
 

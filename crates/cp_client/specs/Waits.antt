@@ -45,7 +45,7 @@ pub record IsEnded (new : Seat) : Type 0 where
 
 -- why a client doesn't go on: a call of a device failed; or the peer's bytes ended; or the connection ended, or memory ran out
 abbrev pub StopsFor : Seat → ClientFault → Seat → Type 0
-StopsFor old client_faults.Device new = ReadFailed old new ⊎ WriteFailed old new
+StopsFor old (client_faults.Device error) new = ReadFailed old new ⊎ WriteFailed old new
 StopsFor old client_faults.Ended new = NoneFailed old new × IsEnded new
 StopsFor old (client_faults.Connection fault) new = NoneFailed old new
 StopsFor old client_faults.NotAsked new = ⊥

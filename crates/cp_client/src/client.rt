@@ -7,9 +7,9 @@ ghost use Rattle.cp_stream.specs.Tap.{failures_of};
 ghost use Rattle.cp_client.specs.Seat.{fresh, new_seat, seat_with};
 ghost use Rattle.cp_client.specs.SeatOf.{seat};
 ghost use Rattle.cp_client.specs.Goes.{Goes, Exchanges, NoneFailed, Asks, IsUnasked, IsUndone, Finishes, Releases};
-ghost use Rattle.cp_client.specs.Reading.{IsConnections, StopsReading};
+ghost use Rattle.cp_client.specs.Reading.{IsConnections, IsDevice, StopsReading};
 ghost use Rattle.cp_client.specs.Waits.{Waits, Stops, StopsFor, IsAnswered, IsUnanswered};
-ghost use Rattle.cp_client.specs.declared.fault.ClientFault.TheVariants.{Device, Ended};
+ghost use Rattle.cp_client.specs.declared.fault.ClientFault.TheVariants.{Ended};
 
 use crate::fault::ClientFault;
 use crate::question::Question;
@@ -17,11 +17,11 @@ use crate::session::Session;
 use cp_connection::{ConnectionFault, Tally};
 use cp_frame::Mode;
 use cp_refs::{Cap, Outcome, Request};
-use cp_stream::Tap;
+use cp_stream::{DeviceError, Tap};
 use cp_vat_machine::Reason;
 use cp_words::Limits;
 use std::alloc::Global;
-use std::io::{Read, Write};
+use std::io::{ErrorKind, Read, Write};
 
 /// One end of a connection over a reader and a writer, which asks questions and waits for their outcomes (rpc.capnp,
 /// level 1). It has no object for its peer's Bootstrap.
@@ -157,10 +157,8 @@ impl<R: Read + Drop, W: Write + Drop> Client<R, W> {
         ensures stops { let at = seat R.remaining W.contents in IfErr result (λ fault. StopsFor (at self.old) fault (at self.new)) }
     {
         self.write()?;
-        match self.to.flush() {
-            Ok(()) => Ok(()),
-            Err(_) => Err(ClientFault::Device),
-        }
+        self.to.flush()?;
+        Ok(())
     }
 
     /// Takes the peer's messages until they end. A call that comes fails with `no such object`.
@@ -250,7 +248,7 @@ impl<R: Read + Drop, W: Write + Drop> Client<R, W> {
         ensures same { (self.new.from ≡ self.old.from) × (self.new.session.over ≡ self.old.session.over) }
         ensures written { OnOk result (self.new.session.connection.unwritten ≡ []) }
         ensures none_failed { OnOk result (failures_of self.new.to ≡ failures_of self.old.to) }
-        ensures failed { IfErr result (λ fault. (fault ≡ Device) × FailedOnce (failures_of self.old.to) (failures_of self.new.to)) }
+        ensures failed { IfErr result (λ fault. IsDevice fault × FailedOnce (failures_of self.old.to) (failures_of self.new.to)) }
     {
         'writing: while !self.session.connection.outgoing().is_empty() {
             self.write_some()?;
@@ -264,13 +262,11 @@ impl<R: Read + Drop, W: Write + Drop> Client<R, W> {
         ensures same { (self.new.from ≡ self.old.from) × (self.new.session.over ≡ self.old.session.over) }
         ensures fewer { OnOk result (length self.new.session.connection.unwritten < length self.old.session.connection.unwritten) }
         ensures none_failed { OnOk result (failures_of self.new.to ≡ failures_of self.old.to) }
-        ensures failed { IfErr result (λ fault. (fault ≡ Device) × FailedOnce (failures_of self.old.to) (failures_of self.new.to)) }
+        ensures failed { IfErr result (λ fault. IsDevice fault × FailedOnce (failures_of self.old.to) (failures_of self.new.to)) }
     {
-        let Ok(count) = self.to.write(self.session.connection.outgoing()) else {
-            return Err(ClientFault::Device);
-        };
+        let count = self.to.write(self.session.connection.outgoing())?;
         if count == 0 {
-            return Err(ClientFault::Device);
+            return Err(ClientFault::Device(DeviceError::from(ErrorKind::WriteZero)));
         }
         self.session.connection.wrote(count);
         Ok(())

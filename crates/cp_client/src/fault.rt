@@ -1,21 +1,23 @@
 //! Why a call of a client, or of a stream, gives nothing.
 
 ghost use Rattle.std.specs.Prelude.{◌≡◌};
-ghost use Rattle.cp_client.specs.declared.fault.ClientFault.TheVariants.{Connection};
+ghost use Rattle.cp_client.specs.declared.fault.ClientFault.TheVariants.{Connection, Device};
 ghost use Rattle.cp_connection.specs.declared.fault.ConnectionFault.TheVariants.{OutOfMemory};
+ghost use Rattle.cp_stream.specs.Device.{of_error};
 
 use cp_connection::ConnectionFault;
+use cp_stream::DeviceError;
 use cp_stubs::NoResults;
 use std::alloc::{AllocError, AllocFailed};
 use std::error::Error;
-use std::fmt;
+use std::{fmt, io};
 
 /// Why a call of a client gives nothing.
 #[derive(Clone, Copy, PartialEq, Eq, Debug)]
 pub enum ClientFault {
-    /// A call of the reader or of the writer failed. Nothing is lost by it: what wasn't written stays to be written, and
-    /// the next call goes on from there.
-    Device,
+    /// A call of the reader or of the writer failed, with this error. Nothing is lost by it: what wasn't written stays to be
+    /// written, and the next call goes on from there. A write that took no byte has the kind `WriteZero`.
+    Device(DeviceError),
     /// The peer's messages ended, and the outcome hadn't come.
     Ended,
     /// V1: the question wasn't asked, or it was finished, or its outcome was given out.
@@ -27,7 +29,7 @@ pub enum ClientFault {
 impl fmt::Display for ClientFault {
     fn fmt<W: fmt::Write>(&self, f: &mut fmt::Formatter<W>) -> fmt::Result {
         match self {
-            ClientFault::Device => f.write_str("a call of a device failed"),
+            ClientFault::Device(error) => write!(f, "a call of a device failed: {error}"),
             ClientFault::Ended => f.write_str("the peer's messages ended"),
             ClientFault::NotAsked => f.write_str("V1 UnknownQuestion"),
             ClientFault::Connection(fault) => fault.fmt(f),
@@ -36,6 +38,14 @@ impl fmt::Display for ClientFault {
 }
 
 impl Error for ClientFault {}
+
+impl From<io::Error> for ClientFault {
+    ghost from_gives = { λ error r. r ≡ Device (of_error error) };
+
+    fn from(error: io::Error) -> ClientFault {
+        ClientFault::Device(DeviceError::from(error))
+    }
+}
 
 impl From<ConnectionFault> for ClientFault {
     ghost from_gives = { λ fault r. r ≡ Connection fault };

@@ -87,9 +87,7 @@ impl Piece {
         }
         self.start = 0;
         self.end = 0;
-        let Ok(count) = from.read(&mut self.buffer) else {
-            return Err(ClientFault::Device);
-        };
+        let count = from.read(&mut self.buffer)?;
         self.end = count;
         Ok(count > 0)
     }

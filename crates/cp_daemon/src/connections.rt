@@ -7,7 +7,6 @@ use crate::unserved::Unserved;
 use cp_commands::{ACCEPTED, BROKEN, Plan, act};
 use cp_frame::Mode;
 use cp_serve::ServeFault;
-use cp_stream::StreamFault;
 use cp_words::Limits;
 use std::alloc::Global;
 use std::io::{self, Read, Write};
@@ -159,9 +158,7 @@ fn serve_next<E: Write>(alloc: Global, listener: &TcpListener, mode: Mode, err: 
 /// Serves a connection, and closes it.
 fn serve_stream(alloc: Global, stream: &TcpStream, mode: Mode) -> Result<(), ServeFault> {
     // What was sent goes out at once, as the peer may wait for it.
-    if stream.set_nodelay(true).is_err() {
-        return Err(ServeFault::Stream(StreamFault::Device));
-    }
+    stream.set_nodelay(true)?;
     let served = serve_objects(alloc, stream, stream, mode);
     part(stream, served);
     served?;

@@ -3,7 +3,7 @@
 use crate::objects::Ending;
 use cp_serve::ServeFault;
 use cp_stream::StreamFault;
-use std::io::Read;
+use std::io::{ErrorKind, Read};
 use std::net::{Shutdown, TcpStream};
 use std::time::Duration;
 
@@ -18,7 +18,7 @@ const PIECES: usize = 64;
 /// Abort closes by itself, and some peers fail if they are closed on before.
 pub(crate) fn part(stream: &TcpStream, served: Result<Ending, ServeFault>) {
     match served {
-        Ok(Ending::Ended) | Err(ServeFault::Stream(StreamFault::Device)) => (),
+        Ok(Ending::Ended) | Err(ServeFault::Stream(StreamFault::Device(_))) => (),
         Ok(Ending::ByPeer) => wait_for_close(stream),
         Ok(Ending::ByFault) | Err(_) => {
             let _ = stream.shutdown(Shutdown::Write);
@@ -36,8 +36,10 @@ fn wait_for_close(mut stream: &TcpStream) {
     let mut piece = [0u8; 4_096];
     for _ in 0..PIECES {
         match stream.read(&mut piece) {
-            Ok(0) | Err(_) => break,
+            Ok(0) => break,
             Ok(_) => (),
+            Err(error) if error.kind() == ErrorKind::Interrupted => (),
+            Err(_) => break,
         }
     }
 }

@@ -14,7 +14,7 @@ impl Unserved {
     /// The status that a command ends with.
     pub(crate) fn status(&self) -> u8 {
         match self.0 {
-            ServeFault::Stream(StreamFault::Device) => BROKEN,
+            ServeFault::Stream(StreamFault::Device(_)) => BROKEN,
             _ => REFUSED,
         }
     }
@@ -23,7 +23,7 @@ impl Unserved {
 impl fmt::Display for Unserved {
     fn fmt<W: fmt::Write>(&self, f: &mut fmt::Formatter<W>) -> fmt::Result {
         match &self.0 {
-            ServeFault::Stream(StreamFault::Device) => f.write_str("device"),
+            ServeFault::Stream(StreamFault::Device(_)) => f.write_str("device"),
             fault => fault.fmt(f),
         }
     }

@@ -135,7 +135,7 @@ module _ {A : Type 0} {kind : Kind A} {mode : Mode} {start : List A} {held : Dev
       → Consumes from.bytes left.bytes bytes → IsOver bytes rest left.bytes r.last → EndsPart kind r.last s seen mid to → (fault : ServeFault) → IsUnended mid to fault
       → IsStopped kind mode start from left held to others fault
   ends_short bytes rest from left others mid to r out consumed over p (faults.Stream (streams.Refused at refusal)) h = absurd h
-  ends_short bytes rest from left others mid to r out consumed over p (faults.Stream streams.Device) h =
+  ends_short bytes rest from left others mid to r out consumed over p (faults.Stream (streams.Device error)) h =
       (bytes, consumed, (inr (subst (λ (n : ℕ). FailedOnce n to.failures) r.writes.counted h), cut_closing bytes rest left.bytes mid to r out over p))
   ends_short bytes rest from left others mid to r out consumed over p faults.OutOfMemory h = (bytes, consumed, cut_closing bytes rest left.bytes mid to r out over p)
 

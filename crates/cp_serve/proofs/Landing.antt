@@ -6,6 +6,7 @@ use Rattle.std.specs.Io.KnownBytes.{Appends, append_known}
 use Rattle.cp_words.specs.Limits.{standard}
 use Rattle.cp_frame.specs.declared.mode.Mode.{Mode}
 use Rattle.cp_messages.specs.declared.message.Message.{Message}
+use Rattle.cp_stream.specs.declared.device.DeviceError.{DeviceError}
 use Rattle.cp_stream.specs.declared.fault.StreamFault.TheVariants as streams
 use Rattle.cp_stream.specs.Read.{FailedOnce}
 use Rattle.cp_stream.specs.Write.{IsWrittenAs}
@@ -166,8 +167,8 @@ module _ {A : Type 0} (kind : Kind A) (mode : Mode) (start : List A) (held to ne
     place = h.place;
   })
   lands_stops bytes from left objects (faults.Stream (streams.Refused at refusal)) (inr h) = inr (lands_cut to new block moved same bytes left.bytes h.0, h.1, h.2)
-  lands_stops bytes from left objects (faults.Stream streams.Device) (inl failed, h) = (inl failed, lands_cut to new block moved same bytes left.bytes h)
-  lands_stops bytes from left objects (faults.Stream streams.Device) (inr failed, h) =
+  lands_stops bytes from left objects (faults.Stream (streams.Device error)) (inl failed, h) = (inl failed, lands_cut to new block moved same bytes left.bytes h)
+  lands_stops bytes from left objects (faults.Stream (streams.Device error)) (inr failed, h) =
       (inr (failed_there held.failures to.failures new.failures same failed), lands_cut to new block moved same bytes left.bytes h)
   lands_stops bytes from left objects faults.OutOfMemory h = lands_cut to new block moved same bytes left.bytes h
 
@@ -188,9 +189,9 @@ module _ {mode : Mode} {held : Device} (to new : Device) (block gone left : List
         appends = subst (λ (x : List ℕ). Appends held.bytes new.bytes x) cut.is place.3;
       }
 
-  pub stops_broken : {A : Type 0} {kind : Kind A} {start : List A} {before : List Message} (bytes : List ℕ) (from upto : Device) (others : List A) → Writes mode before held to
-      → IsCutOff kind mode start bytes upto.bytes held (ahead to block) → FailedOnce to.failures new.failures → StopsFor kind mode start bytes from upto held new others (faults.Stream streams.Device)
-  stops_broken bytes from upto others b h failed = (
+  pub stops_broken : {A : Type 0} {kind : Kind A} {start : List A} {before : List Message} (error : DeviceError) (bytes : List ℕ) (from upto : Device) (others : List A) → Writes mode before held to
+      → IsCutOff kind mode start bytes upto.bytes held (ahead to block) → FailedOnce to.failures new.failures → StopsFor kind mode start bytes from upto held new others (faults.Stream (streams.Device error))
+  stops_broken error bytes from upto others b h failed = (
     inr (subst (λ (n : ℕ). FailedOnce n new.failures) b.counted failed),
     record {
       taken = h.taken;
@@ -220,7 +221,7 @@ module _ {A : Type 0} {kind : Kind A} {mode : Mode} {start : List A} {held : Dev
     writes = writes_all held to h.before.writes;
   }
   cut_of_stops bytes from left objects (faults.Stream (streams.Refused at refusal)) (inr h) = h.0
-  cut_of_stops bytes from left objects (faults.Stream streams.Device) h = h.1
+  cut_of_stops bytes from left objects (faults.Stream (streams.Device error)) h = h.1
   cut_of_stops bytes from left objects faults.OutOfMemory h = h
 
   -- so is one that goes on

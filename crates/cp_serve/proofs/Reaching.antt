@@ -487,7 +487,7 @@ module _ {A : Type 0} (kind : Kind A) where
   -- no call of the reader failed
   pub reads_well : (mode : Mode) (start : List A) (from left held to : Device) (others : List A) (fault : ServeFault) → left.failures ≡ from.failures → ReadsTo kind mode start from left held to others fault
   reads_well mode start from left held to others (faults.Stream (streams.Refused at refusal)) same = same
-  reads_well mode start from left held to others (faults.Stream streams.Device) same = inl same
+  reads_well mode start from left held to others (faults.Stream (streams.Device error)) same = inl same
   reads_well mode start from left held to others faults.OutOfMemory same = same
 
 -- what was read before, and nothing more

@@ -183,7 +183,7 @@ module _ {A : Type 0} (kind : Kind A) where
   StopsFor mode objects bytes from left old new others (faults.Stream (streams.Refused at refusal)) =
       IsRefused mode objects bytes left.bytes old new at refusal others
       ⊎ ((cut : IsCutOff mode objects bytes left.bytes old new) × IsAllocationFailure refusal × IsPlace bytes cut.rest at)
-  StopsFor mode objects bytes from left old new others (faults.Stream streams.Device) =
+  StopsFor mode objects bytes from left old new others (faults.Stream (streams.Device error)) =
       (FailedOnce from.failures left.failures ⊎ FailedOnce old.failures new.failures) × IsCutOff mode objects bytes left.bytes old new
   StopsFor mode objects bytes from left old new others faults.OutOfMemory = IsCutOff mode objects bytes left.bytes old new
 
@@ -198,7 +198,7 @@ module _ {A : Type 0} (kind : Kind A) where
 
   -- no call of the reader failed; or the fault is that one did
   abbrev pub ReadsTo : Mode → List A → Device → Device → Device → Device → List A → ServeFault → Type 0
-  ReadsTo mode objects from left old new others (faults.Stream streams.Device) = (left.failures ≡ from.failures) ⊎ IsUnread mode objects from left old new others
+  ReadsTo mode objects from left old new others (faults.Stream (streams.Device error)) = (left.failures ≡ from.failures) ⊎ IsUnread mode objects from left old new others
   ReadsTo mode objects from left old new others fault = left.failures ≡ from.failures
 
   -- the same of what a run was given and left

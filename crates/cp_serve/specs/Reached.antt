@@ -61,7 +61,7 @@ pub record ReadsOn (rest : List ℕ) (s : Server) : Type 0 where
 -- why rounds aren't ended: a call of the writer failed; or memory ran out
 abbrev pub IsUnended : Device → Device → ServeFault → Type 0
 IsUnended old new (faults.Stream (streams.Refused at refusal)) = ⊥
-IsUnended old new (faults.Stream streams.Device) = FailedOnce old.failures new.failures
+IsUnended old new (faults.Stream (streams.Device error)) = FailedOnce old.failures new.failures
 IsUnended old new faults.OutOfMemory = Unit {0}
 
 -- The objects and the writer, before and after.

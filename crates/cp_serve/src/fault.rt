@@ -3,12 +3,14 @@
 ghost use Rattle.std.specs.Prelude.{◌≡◌};
 ghost use Rattle.cp_serve.specs.Faults.{fault_of};
 ghost use Rattle.cp_serve.specs.declared.fault.ServeFault.TheVariants.{Stream, OutOfMemory};
+ghost use Rattle.cp_stream.specs.Device.{of_error};
+ghost use Rattle.cp_stream.specs.declared.fault.StreamFault.TheVariants.{Device};
 
 use cp_connection::ConnectionFault;
 use cp_stream::StreamFault;
 use std::alloc::{AllocError, AllocFailed};
 use std::error::Error;
-use std::fmt;
+use std::{fmt, io};
 
 /// Why a server stopped before its run ended. Nothing is written after it.
 #[derive(Clone, Copy, PartialEq, Eq, Debug)]
@@ -37,6 +39,14 @@ impl From<StreamFault> for ServeFault {
 
     fn from(fault: StreamFault) -> ServeFault {
         ServeFault::Stream(fault)
+    }
+}
+
+impl From<io::Error> for ServeFault {
+    ghost from_gives = { λ error r. r ≡ Stream (Device (of_error error)) };
+
+    fn from(error: io::Error) -> ServeFault {
+        ServeFault::Stream(StreamFault::from(error))
     }
 }
 

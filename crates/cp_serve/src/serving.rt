@@ -1,9 +1,9 @@
 //! Serving a connection.
 
 ghost use Rattle.std.specs.Prelude.{◌≡◌, ◌<◌, ◌↔◌, ◌∷◌, [], None, false, IfOk, IfErr, OnOk, OnErr, IsSome, IsTrue, length, drop};
+ghost use Rattle.cp_stream.specs.Read.{IsDevice};
 ghost use Rattle.cp_stream.specs.Tap.{failures_of};
 ghost use Rattle.cp_stream.specs.Write.{Sends};
-ghost use Rattle.cp_stream.specs.declared.fault.StreamFault.TheVariants as faults;
 ghost use Rattle.cp_objects.specs.Work.{Lives};
 ghost use Rattle.cp_serve.specs.Matching.{reason_in};
 ghost use Rattle.cp_serve.specs.Output.{IsServedAt, IsStoppedAt, ReadsUpTo, ends, ends_of};
@@ -172,9 +172,7 @@ impl Server {
         let mut storage = vec![in self.alloc; 0u8; PIECE]?;
         let buffer = storage.as_mut_slice();
         for pieces in 0..u64::MAX {
-            let Ok(length) = from.read(buffer) else {
-                return Err(ServeFault::Stream(StreamFault::Device));
-            };
+            let length = from.read(buffer)?;
             if length == 0 {
                 self.connection.end()?;
                 return Ok(());
@@ -308,7 +306,7 @@ impl Server {
     /// Writes what is ready to go out.
     fn write<W: Write>(&mut self, to: &mut Tap<W>) -> Result<(), StreamFault>
         ensures sent { OnOk result (Sends W.contents to.old to.new (ready_of self.old)) }
-        ensures device { IfErr result (λ fault. fault ≡ faults.Device) }
+        ensures device { IfErr result IsDevice }
         ensures broken { IfErr result (λ _. BreaksOff W.contents to.old to.new (ready_of self.old)) }
         ensures written { OnOk result (self.new.connection ≡ record self.old.connection { unwritten = drop self.old.ready self.old.connection.unwritten }) }
         ensures same { OnOk result (self.new ≡ record self.old { connection = self.new.connection; ready = 0 }) }
@@ -341,12 +339,13 @@ fn reason_of(notice: Notice) -> Option<Reason>
 /// Writes all of the bytes, and has a writer that keeps bytes let them go out.
 fn write_out<W: Write>(to: &mut Tap<W>, bytes: &[u8]) -> Result<(), StreamFault>
     ensures sent { OnOk result (Sends W.contents to.old to.new bytes.now) }
-    ensures device { IfErr result (λ fault. fault ≡ faults.Device) }
+    ensures device { IfErr result IsDevice }
     ensures broken { IfErr result (λ _. BreaksOff W.contents to.old to.new bytes.now) }
 {
     write_whole(to, bytes)?;
     if bytes.is_empty() {
         return Ok(());
     }
-    to.flush().map_err(|_| StreamFault::Device)
+    to.flush()?;
+    Ok(())
 }

@@ -201,7 +201,7 @@ module _ (mode : Mode) (limits : Bounds) (bytes : List ℕ) (new : Option (List 
           → IsMemory refusal ⊎ (refusal ≡ refusals.Frame fault)
       told fault k (inl m) = inl m
       told fault k (inr m) = inr (m.1 ∙ ap refusals.Frame (one_fault mode limits bytes m.0 fault m.2 k))
-  frame_err faults.Device h = record { frame = λ S front back e f. tt; end = λ e. tt; inside = λ some o. tt; fault = λ fault k. tt }
+  frame_err (faults.Device error) h = record { frame = λ S front back e f. tt; end = λ e. tt; inside = λ some o. tt; fault = λ fault k. tt }
 
 pub only_frame : (mode : Mode) (limits : Bounds) (old new : Option (List ℕ)) (failures failed : ℕ) (result : Result (Option (List (List ℕ))) StreamFault) → IfOk result (ReadsFrame mode limits old new)
     → IfErr result (StopsAt (RefusesFrame mode limits new) old new failures failed) → (bytes : List ℕ) → AreBytes bytes → old ≡ Some bytes → OnlyFrame mode limits bytes old new result
@@ -308,7 +308,7 @@ module _ (mode : Mode) (limits : Bounds) (bytes : List ℕ) (new : Option (List 
 
   message_err : (fault : StreamFault) → StopsAt (RefusesMessage mode limits new) (Some bytes) new failures failed fault → OnlyMessage mode limits bytes (Some bytes) new (Err fault)
   message_err (faults.Refused at refusal) h = message_refused at h.2 refusal h.3 h.4
-  message_err faults.Device h = record { message = λ n m f. tt; end = λ e. tt; inside = λ some o. tt; fault = λ refusal k. tt }
+  message_err (faults.Device error) h = record { message = λ n m f. tt; end = λ e. tt; inside = λ some o. tt; fault = λ refusal k. tt }
 
 pub only_message : (mode : Mode) (limits : Bounds) (old new : Option (List ℕ)) (failures failed : ℕ) (result : Result (Option Message) StreamFault) → IfOk result (ReadsMessage mode limits old new)
     → IfErr result (StopsAt (RefusesMessage mode limits new) old new failures failed) → (bytes : List ℕ) → AreBytes bytes → old ≡ Some bytes → OnlyMessage mode limits bytes old new result

@@ -121,7 +121,7 @@ sent_alone contents mode limits m old new small h = (h.0, written_alone limits m
 pub cut_short_alone : {T : Type 0} (contents : T → Option (List ℕ)) (mode : Mode) (limits : Bounds) (m : Message) (old new : Tap T) → limits.frame_words ≤ 67108864 → (fault : StreamFault)
     → IsCutShort contents mode limits limits.frame_words limits.segments m old new fault → IsCutShort contents mode limits limits.frame_words 1 m old new fault
 cut_short_alone contents mode limits m old new small (faults.Refused at refusal) h = (h.0, h.1, refused_alone limits m small refusal h.2)
-cut_short_alone contents mode limits m old new small faults.Device h = (h.0, written_alone limits m small mode h.0 h.1, h.2)
+cut_short_alone contents mode limits m old new small (faults.Device error) h = (h.0, written_alone limits m small mode h.0 h.1, h.2)
 
 -- what is written of a message is a frame that holds it
 pub written_holds : (mode : Mode) (limits : Bounds) (words segments : ℕ) (m : Message) (b : List ℕ) → IsAllowed limits → IsWrittenAs mode limits words segments m b → IsFrameOf mode limits b m

@@ -1,4 +1,5 @@
 pub mod Tap
+pub mod Device
 pub mod Stream
 pub mod Reader
 pub mod Kept

@@ -9,6 +9,7 @@ use Rattle.cp_frame.specs.Frame.{Frame}
 use Rattle.cp_packed.specs.Words.{AreBytes}
 use Rattle.cp_frame.specs.Stream as streams
 use Rattle.cp_messages.specs.declared.message.Message.{Message}
+use Rattle.cp_stream.specs.declared.device.DeviceError.{DeviceError}
 use Rattle.cp_stream.specs.declared.fault.Refusal.{Refusal}
 use Rattle.cp_stream.specs.declared.fault.Refusal.TheVariants as refusals
 use Rattle.cp_stream.specs.declared.fault.StreamFault.{StreamFault}
@@ -52,10 +53,14 @@ RefusesMessage mode limits new b refusal =
 abbrev pub FailedOnce : ℕ → ℕ → Type 0
 FailedOnce old new = new ≡ (old + 1) % 2 ^ 64
 
+-- the fault is that a call of the device failed, whatever its error
+abbrev pub IsDevice : StreamFault → Type 0
+IsDevice fault = (error : DeviceError) × (fault ≡ faults.Device error)
+
 -- A fault is reported at 0, and what was read is refused for it; or the device failed in this call, as its tap counts.
 abbrev pub StopsAt : (List ℕ → Refusal → Type 0) → Option (List ℕ) → Option (List ℕ) → ℕ → ℕ → StreamFault → Type 0
 StopsAt why old new failures failed (faults.Refused at refusal) = (at ≡ 0) × (failed ≡ failures) × (b : List ℕ) × Consumes old new b × why b refusal
-StopsAt why old new failures failed faults.Device = FailedOnce failures failed × (b : List ℕ) × Consumes old new b
+StopsAt why old new failures failed (faults.Device error) = FailedOnce failures failed × (b : List ℕ) × Consumes old new b
 
 -- so of a reader, by what it tells of its bytes
 abbrev pub StopsReading : {T : Type 0} → (T → Option (List ℕ)) → (Option (List ℕ) → List ℕ → Refusal → Type 0) → Tap T → Tap T → StreamFault → Type 0
@@ -68,7 +73,7 @@ OfKnown known old new holds = (b : List ℕ) → AreBytes b → known (inner_of 
 -- the device failed, or memory ran out
 abbrev pub IsExcused : StreamFault → Type 0
 IsExcused (faults.Refused at refusal) = IsMemory refusal
-IsExcused faults.Device = Unit {0}
+IsExcused (faults.Device error) = Unit {0}
 
 -- this was given, and exactly these bytes were read; or the call is excused
 abbrev pub GivesOnly : {X : Type 0} → Option (List ℕ) → Option (List ℕ) → X → List ℕ → Result (Option X) StreamFault → Type 0
@@ -86,7 +91,7 @@ GivesNone (Err fault) = IsExcused fault
 abbrev pub ReportsOnly : {X : Type 0} → (Refusal → Type 0) → Result (Option X) StreamFault → Type 0
 ReportsOnly why (Ok x) = ⊥
 ReportsOnly why (Err (faults.Refused at refusal)) = IsMemory refusal ⊎ why refusal
-ReportsOnly why (Err faults.Device) = Unit {0}
+ReportsOnly why (Err (faults.Device error)) = Unit {0}
 
 -- What is read of a device is what its bytes say: a frame that they begin with; nothing where there are none; F3 where they end inside a frame; else their fault.
 pub record OnlyFrame (mode : Mode) (limits : Bounds) (bytes : List ℕ) (old new : Option (List ℕ)) (result : Result (Option (List (List ℕ))) StreamFault) : Type 0 where

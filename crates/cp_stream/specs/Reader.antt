@@ -80,7 +80,7 @@ IsReportedFor r piece (reading rest taken) refusal = IsMemory refusal ⊎ ((b : 
 -- the fault is this refusal, and names the bytes of the frames whose messages were given
 abbrev pub IsAt : ℕ → (Refusal → Type 0) → StreamFault → Type 0
 IsAt at why (faults.Refused place refusal) = (place ≡ at) × why refusal
-IsAt at why faults.Device = ⊥
+IsAt at why (faults.Device error) = ⊥
 
 -- A fault was reported, and the reader has failed.
 pub record Reports (old : Reader) (piece : List ℕ) (new : Reader) (fault : StreamFault) : Type 0 where

@@ -48,7 +48,7 @@ IsSent contents mode limits t old new = (b : List ℕ) × IsWrittenAs mode limit
 -- A fault is reported at 0, and nothing was written; or the writer failed while the frame went out.
 abbrev pub IsCutShort : {T : Type 0} → (T → Option (List ℕ)) → Mode → Bounds → Node → Tap T → Tap T → StreamFault → Type 0
 IsCutShort contents mode limits t old new (faults.Refused at refusal) = (at ≡ 0) × (new ≡ old) × IsUnwrittenFor limits t refusal
-IsCutShort contents mode limits t old new faults.Device = (b : List ℕ) × IsWrittenAs mode limits t b × Breaks contents old new b
+IsCutShort contents mode limits t old new (faults.Device error) = (b : List ℕ) × IsWrittenAs mode limits t b × Breaks contents old new b
 
 -- one frame's bytes were read, and its root is the tree; or none, at the end of the reader's bytes
 abbrev pub ReadsTree : Mode → Bounds → Option (List ℕ) → Option (List ℕ) → Option Node → Type 0

@@ -75,4 +75,4 @@ IsUnwrittenFor limits words segments m other = ⊥
 -- A fault is reported at 0, and nothing was written; or the writer failed while the frame went out.
 abbrev pub IsCutShort : {T : Type 0} → (T → Option (List ℕ)) → Mode → Bounds → ℕ → ℕ → Message → Tap T → Tap T → StreamFault → Type 0
 IsCutShort contents mode limits words segments m old new (faults.Refused at refusal) = (at ≡ 0) × (new ≡ old) × IsUnwrittenFor limits words segments m refusal
-IsCutShort contents mode limits words segments m old new faults.Device = (b : List ℕ) × IsWrittenAs mode limits words segments m b × Breaks contents old new b
+IsCutShort contents mode limits words segments m old new (faults.Device error) = (b : List ℕ) × IsWrittenAs mode limits words segments m b × Breaks contents old new b

@@ -3,15 +3,17 @@
 ghost use Rattle.std.specs.Prelude.{◌≡◌};
 ghost use Rattle.cp_frame.specs.declared.fault.FrameFault.TheVariants as frames;
 ghost use Rattle.cp_stream.specs.declared.fault.Refusal.TheVariants.{Frame, Tree, Schema, Write};
-ghost use Rattle.cp_stream.specs.declared.fault.StreamFault.TheVariants.{Refused};
+ghost use Rattle.cp_stream.specs.declared.fault.StreamFault.TheVariants.{Refused, Device};
+ghost use Rattle.cp_stream.specs.Device.{of_error};
 
+use crate::device::DeviceError;
 use cp_frame::FrameFault;
 use cp_reading::TreeFault;
 use cp_rpc::SchemaFault;
 use cp_tree::WriteFault;
 use std::alloc::{AllocError, AllocFailed};
 use std::error::Error;
-use std::fmt;
+use std::{fmt, io};
 
 /// What is wrong with bytes that were read, or with a message that was to be written.
 #[derive(Clone, Copy, PartialEq, Eq, Debug)]
@@ -32,8 +34,8 @@ pub enum StreamFault {
     /// The refusal, and how many bytes the accepted frames before it took: at most `u64::MAX`, where
     /// the number stays.
     Refused { at: u64, refusal: Refusal },
-    /// The reader or the writer failed.
-    Device,
+    /// A call of the reader or of the writer failed, with this error. A write that took no byte has the kind `WriteZero`.
+    Device(DeviceError),
 }
 
 /// A refusal after this many bytes of accepted frames.
@@ -78,12 +80,20 @@ impl fmt::Display for StreamFault {
                 write!(f, "refused at byte {at}: ")?;
                 refusal.fmt(f)
             }
-            StreamFault::Device => f.write_str("device failed"),
+            StreamFault::Device(error) => write!(f, "device failed: {error}"),
         }
     }
 }
 
 impl Error for StreamFault {}
+
+impl From<io::Error> for StreamFault {
+    ghost from_gives = { λ error r. r ≡ Device (of_error error) };
+
+    fn from(error: io::Error) -> StreamFault {
+        StreamFault::Device(DeviceError::from(error))
+    }
+}
 
 impl From<FrameFault> for Refusal {
     ghost from_gives = { λ fault r. r ≡ Frame fault };

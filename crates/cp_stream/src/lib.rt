@@ -2,16 +2,19 @@
 //! as one frame. A struct of any schema goes out and comes in as one frame too.
 #![tactic(auto)]
 
+mod device;
 mod fault;
 mod laws;
 mod read;
 mod reader;
+mod retry;
 mod status;
 mod structs;
 mod tap;
 mod view;
 mod write;
 
+pub use device::DeviceError;
 pub use fault::{Refusal, StreamFault};
 pub use laws::{any_cut, layout_denotes, one_front, read_back, written_is_read};
 pub use read::{read_message, read_segments};

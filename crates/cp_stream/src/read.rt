@@ -5,9 +5,9 @@ ghost use Rattle.std.specs.Io.KnownBytes.{Consumes, IsAtEnd};
 ghost use Rattle.cp_frame.specs.Reader.{StandsFor, IsReading};
 ghost use Rattle.cp_frame.specs.declared.fault.FrameFault.TheVariants.{Truncated};
 ghost use Rattle.cp_stream.specs.declared.fault.Refusal.TheVariants as refusals;
-ghost use Rattle.cp_stream.specs.declared.fault.StreamFault.TheVariants.{Device, Refused};
+ghost use Rattle.cp_stream.specs.declared.fault.StreamFault.TheVariants.{Refused};
 ghost use Rattle.cp_stream.specs.Tap.{inner_of, failures_of};
-ghost use Rattle.cp_stream.specs.Read.{FailedOnce, OfKnown, OnlyFrame, OnlyMessage, ReadsFrame, ReadsMessage, RefusesFrame, RefusesMessage, StopsReading};
+ghost use Rattle.cp_stream.specs.Read.{FailedOnce, IsDevice, OfKnown, OnlyFrame, OnlyMessage, ReadsFrame, ReadsMessage, RefusesFrame, RefusesMessage, StopsReading};
 
 use crate::fault::{Refusal, StreamFault, refused};
 use crate::tap::Tap;
@@ -106,14 +106,11 @@ fn read_some<R: Read>(
     ensures bytes { IfOk result (λ n. Consumes (R.remaining (inner_of from.old)) (R.remaining (inner_of from.new)) (take n buffer.new)) }
     ensures end { IfOk result (λ n. n ≡ 0 → IsAtEnd (R.remaining (inner_of from.new))) }
     ensures counted { OnOk result (failures_of from.new ≡ failures_of from.old) }
-    ensures device { IfErr result (λ fault. fault ≡ Device) }
+    ensures device { IfErr result IsDevice }
     ensures failed { OnErr result (FailedOnce (failures_of from.old) (failures_of from.new)) }
     ensures none { OnErr result (Consumes (R.remaining (inner_of from.old)) (R.remaining (inner_of from.new)) []) }
 {
-    match from.read(&mut buffer[..most]) {
-        Ok(length) => Ok(length),
-        Err(_) => Err(StreamFault::Device),
-    }
+    Ok(from.read(&mut buffer[..most])?)
 }
 
 /// Ends the reading of a frame, where the device ended.

@@ -1,15 +1,18 @@
 //! Readers and writers whose bytes and failures are counted.
 
-ghost use Rattle.std.specs.Prelude.{◌≡◌};
+ghost use Rattle.std.specs.Prelude.{◌≡◌, ◌≢◌, IfErr};
 ghost use Rattle.std.specs.Io.{ReadsAtMost, WritesAtMost};
 ghost use Rattle.std.specs.Io.KnownBytes.{ReadConsumes, WriteAppends, Keeps};
+ghost use Rattle.std.specs.IoError.{error_kind};
+ghost use Rattle.std.specs.declared.io.ErrorKind.TheVariants.{Interrupted};
 ghost use Rattle.cp_stream.specs.Tap.{inner_of, failures_of, bytes_of, CountsRead, CountsWrite, CountsFlush};
 
+use crate::retry::{flush_retrying, read_retrying, write_retrying};
 use std::io::{Read, Result, Write};
 
 /// A reader or a writer, with the number of its calls that failed and of the bytes that went through,
 /// each of which goes on at 0 after `u64::MAX`. A call failed if it gave an error of any kind, or if
-/// it is a write that took 0 bytes.
+/// it is a write that took 0 bytes. A call that a signal interrupted is made again, and hasn't failed.
 #[derive(Drop)]
 pub struct Tap<T> {
     inner: T,
@@ -60,8 +63,9 @@ impl<R: Read> Read for Tap<R> {
         ensures bound { ReadsAtMost result buf.new }
         ensures bytes { ReadConsumes (R.remaining (inner_of self.old)) (R.remaining (inner_of self.new)) result buf.new }
         ensures counts { CountsRead self.old self.new result }
+        ensures retried { IfErr result (λ e. error_kind e ≢ Interrupted) }
     {
-        match self.inner.read(buf) {
+        match read_retrying(&mut self.inner, buf) {
             Ok(count) => {
                 self.bytes = self.bytes.wrapping_add(count as u64);
                 Ok(count)
@@ -81,8 +85,9 @@ impl<W: Write> Write for Tap<W> {
         ensures bound { WritesAtMost result buf.now }
         ensures bytes { WriteAppends (W.contents (inner_of self.old)) (W.contents (inner_of self.new)) result buf.now }
         ensures counts { CountsWrite self.old self.new result }
+        ensures retried { IfErr result (λ e. error_kind e ≢ Interrupted) }
     {
-        match self.inner.write(buf) {
+        match write_retrying(&mut self.inner, buf) {
             Ok(0) => {
                 self.failures = self.failures.wrapping_add(1);
                 Ok(0)
@@ -101,8 +106,9 @@ impl<W: Write> Write for Tap<W> {
     fn flush(&mut self) -> Result<()>
         ensures bytes { Keeps (W.contents (inner_of self.old)) (W.contents (inner_of self.new)) }
         ensures counts { CountsFlush self.old self.new result }
+        ensures retried { IfErr result (λ e. error_kind e ≢ Interrupted) }
     {
-        match self.inner.flush() {
+        match flush_retrying(&mut self.inner) {
             Ok(()) => Ok(()),
             Err(error) => {
                 self.failures = self.failures.wrapping_add(1);

@@ -5,9 +5,10 @@ ghost use Rattle.std.specs.Int.{to_le_bytes, w32};
 ghost use Rattle.cp_frame.specs.declared.mode.Mode.TheVariants.{Plain};
 ghost use Rattle.cp_rpc.specs.Viewed.{viewed};
 ghost use Rattle.cp_stream.specs.Reader.{IsMemory};
-ghost use Rattle.cp_stream.specs.declared.fault.StreamFault.TheVariants.{Device};
+ghost use Rattle.cp_stream.specs.Read.{IsDevice};
 ghost use Rattle.cp_stream.specs.Write.{IsLaidOutAs, IsNotLaidOut, IsWrittenAs, IsPut, IsUnwrittenFor, IsSent, IsCutShort, Sends, Breaks};
 
+use crate::device::DeviceError;
 use crate::fault::{Refusal, StreamFault, refused};
 use crate::tap::Tap;
 use cp_frame::{Mode, write_after, write_frame};
@@ -16,21 +17,22 @@ use cp_tree::WriteFault;
 use cp_words::{Limits, Segments};
 use cp_writing::{write_draft_bytes, write_draft_over};
 use std::alloc::Global;
-use std::io::Write;
+use std::io::{ErrorKind, Write};
 use std::mem;
 
-/// Writes all of the bytes. They are offered at once, and then what is left of them. An error of any
-/// kind, an interrupted call's too, and a call that takes no byte end it.
+/// Writes all of the bytes. They are offered at once, and then what is left of them. An error, and a call
+/// that takes no byte, end it.
 pub fn write_whole<W: Write>(to: &mut Tap<W>, bytes: &[u8]) -> Result<(), StreamFault>
     ensures sent { OnOk result (Sends W.contents to.old to.new bytes.now) }
-    ensures device { IfErr result (λ fault. fault ≡ Device) }
+    ensures device { IfErr result IsDevice }
     ensures broken { IfErr result (λ _. Breaks W.contents to.old to.new bytes.now) }
 {
     let mut left = bytes;
     'writing: while !left.is_empty() {
         match to.write(left) {
             Ok(count) if count > 0 => left = &left[count..],
-            _ => return Err(StreamFault::Device),
+            Ok(_) => return Err(StreamFault::Device(DeviceError::from(ErrorKind::WriteZero))),
+            Err(error) => return Err(StreamFault::from(error)),
         }
     }
     Ok(())

@@ -8,9 +8,9 @@
 //! what is still to be sent. `into_devices` ends the client, and gives the reader and the writer back: a crate that ends its
 //! clients so has no drop of a whole vat to prove.
 //!
-//! A `ClientFault` says why a call gives nothing. After `Device` and `Ended` the client goes on, as where a reader's
-//! timeout ended a read. After a fault of the connection outcomes that came before are still given out, and
-//! `closed` says why the vat closed.
+//! A `ClientFault` says why a call gives nothing. `Device` has the error of the reader or of the writer. After it and after
+//! `Ended` the client goes on, as where a reader's timeout ended a read. After a fault of the connection outcomes that came
+//! before are still given out, and `closed` says why the vat closed.
 //!
 //! A `Content` makes the params of a call field by field, and `results_of`, `word_in`, `text_in` and `data_in` are what came.
 //! `request_of` is a call whose params are a struct of data words, and `word_at` a data word of results.

@@ -391,8 +391,8 @@ pub use cp_rpc as message;
 pub use cp_rpc::{Message, MessageIn, MessageView};
 pub use cp_stream as stream;
 pub use cp_stream::{
-    MessageReader, StreamFault, Tap, read_message, read_segments, read_struct, view_of,
-    write_message, write_struct,
+    DeviceError, MessageReader, StreamFault, Tap, read_message, read_segments, read_struct,
+    view_of, write_message, write_struct,
 };
 pub use cp_tree as tree;
 pub use cp_words as words;

@@ -3,7 +3,8 @@
 use crate::checks::expect_bytes;
 use crate::samples::{FINISH, PACKED, TWO_SEGMENTS};
 use crate::streams::{
-    Source, at, expect_cut_short, expect_fed_all, expect_read, is_memory, read, tap_of,
+    Failure, RESET, Source, at, expect_cut_short, expect_fed_all, expect_read, is_memory, read,
+    tap_failing, tap_of,
 };
 use cp_frame::Mode;
 use cp_rpc::{Message, Op, Returned, Target};
@@ -356,14 +357,20 @@ fn what_passes_the_limits_is_not_written(rt: HostRuntime) {
     check!(&rt; fault_within(&rt, rt.alloc(), 2, 6).0.is_none());
 }
 
-/// A writer that takes this many bytes a call, and fails once, at one of its calls.
+/// The fault of a writer that takes no byte.
+const TAKES_NONE: StreamFault = StreamFault::Device(DeviceError {
+    kind: std::io::ErrorKind::WriteZero,
+    code: None,
+});
+
+/// A writer that takes this many bytes a call, and fails once, at one of its calls, or takes none there.
 #[derive(Drop)]
 struct Sink {
     bytes: Vec<u8>,
     most: usize,
     call: u64,
     fails_at: u64,
-    takes_none: bool,
+    failure: Option<Failure>,
 }
 
 impl Write for Sink {
@@ -372,10 +379,10 @@ impl Write for Sink {
         if self.call != self.fails_at {
             return self.bytes.write(&buf[..buf.len().min(self.most)]);
         }
-        if self.takes_none {
-            return Ok(0);
+        match self.failure {
+            Some(failure) => Err(failure.error()),
+            None => Ok(0),
         }
-        Err(std::io::ErrorKind::Interrupted.into())
     }
 
     fn flush(&mut self) -> std::io::Result<()> {
@@ -384,20 +391,20 @@ impl Write for Sink {
 }
 
 /// A tap of a writer that fails at that call.
-fn sink_of(alloc: Global, most: usize, fails_at: u64, takes_none: bool) -> Tap<Sink> {
+fn sink_of(alloc: Global, most: usize, fails_at: u64, failure: Option<Failure>) -> Tap<Sink> {
     Tap::new(Sink {
         bytes: Vec::new(alloc),
         most,
         call: 0,
         fails_at,
-        takes_none,
+        failure,
     })
 }
 
 /// A plain frame's message is written as the frame, in this many calls of a writer that takes this many
 /// bytes a call.
 fn expect_calls(rt: &impl Abort, alloc: Global, frame: &[u8], most: usize, calls: u64) {
-    let mut to = sink_of(alloc, most, 0, false);
+    let mut to = sink_of(alloc, most, 0, None);
     forward(rt, alloc, frame, &mut to).expect(rt, "written");
     let sink = expect_taken(rt, to, 0, frame);
     check!(rt; sink.call == calls);
@@ -414,18 +421,35 @@ fn expect_taken(rt: &impl Abort, to: Tap<Sink>, failures: u64, bytes: &[u8]) -> 
 }
 
 /// A writer that fails after this front of a plain frame took the front alone.
-fn expect_front(rt: &impl Abort, alloc: Global, frame: &[u8], front: &[u8], takes_none: bool) {
-    let mut to = sink_of(alloc, 1, front.len() as u64 + 1, takes_none);
-    check!(rt; forward(rt, alloc, frame, &mut to) == Err(StreamFault::Device));
+fn expect_front(
+    rt: &impl Abort,
+    alloc: Global,
+    frame: &[u8],
+    front: &[u8],
+    (failure, fault): (Option<Failure>, StreamFault),
+) {
+    let mut to = sink_of(alloc, 1, front.len() as u64 + 1, failure);
+    check!(rt; forward(rt, alloc, frame, &mut to) == Err(fault));
     let sink = expect_taken(rt, to, 1, front);
+    drop(sink);
+}
+
+/// A writer that is interrupted once takes the whole frame, in one call more.
+fn expect_made_again(rt: &impl Abort, alloc: Global, frame: &[u8], call: u64) {
+    let mut to = sink_of(alloc, 1, call, Some(Failure::Interrupted));
+    forward(rt, alloc, frame, &mut to).expect(rt, "written");
+    let sink = expect_taken(rt, to, 0, frame);
+    check!(rt; sink.call == frame.len() as u64 + 1);
     drop(sink);
 }
 
 /// A writer that fails at one of its calls took all bytes before that.
 fn expect_fronts(rt: &impl Abort, alloc: Global, frame: &[u8]) {
     for length in 0..frame.len() {
-        expect_front(rt, alloc, frame, &frame[..length], false);
-        expect_front(rt, alloc, frame, &frame[..length], true);
+        let front = &frame[..length];
+        expect_front(rt, alloc, frame, front, (Some(Failure::Reset), RESET));
+        expect_front(rt, alloc, frame, front, (None, TAKES_NONE));
+        expect_made_again(rt, alloc, frame, length as u64 + 1);
     }
 }
 
@@ -469,8 +493,17 @@ fn expect_failure(rt: &impl Abort, alloc: Global, mode: Mode, stream: &[u8], cal
     let mut from = tap_of(stream, call);
     let (count, fault) = read_all(alloc, &mut from, mode);
     check!(rt; count <= 5);
-    check!(rt; fault == Some(StreamFault::Device));
+    check!(rt; fault == Some(RESET));
     check!(rt; from.failures() == 1);
+    drop(from);
+}
+
+/// Reads a stream of five messages by a device that is interrupted at that call.
+fn expect_read_again(rt: &impl Abort, alloc: Global, mode: Mode, stream: &[u8], call: u64) {
+    let mut from = tap_failing(stream, call, Failure::Interrupted);
+    check!(rt; read_all(alloc, &mut from, mode) == (5, None));
+    check!(rt; from.failures() == 0);
+    check!(rt; Tap::bytes(&from) == stream.len() as u64);
     drop(from);
 }
 
@@ -501,11 +534,12 @@ fn a_reader_may_fail_at_each_call(rt: HostRuntime) {
     expect_failures(&rt, alloc, Mode::Packed)
 }
 
-/// Reads a stream of five messages by a device that fails at each of its calls.
+/// Reads a stream of five messages by a device that fails, or is interrupted, at each of its calls.
 fn expect_failures(rt: &impl Abort, alloc: Global, mode: Mode) {
     let stream = stream_in(rt, alloc, mode);
     for call in 0..calls_of(rt, alloc, mode, &stream) {
         expect_failure(rt, alloc, mode, &stream, call + 1);
+        expect_read_again(rt, alloc, mode, &stream, call + 1);
     }
     drop(stream);
 }

@@ -3,11 +3,12 @@
 use cp_frame::FrameFault;
 use cp_reading::TreeFault;
 use cp_rpc::{Field, SchemaFault};
-use cp_stream::{Refusal, StreamFault};
+use cp_stream::{DeviceError, Refusal, StreamFault};
 use cp_tree::WriteFault;
 use cp_words::{BadCapability, Place};
 use std::alloc::Global;
 use std::fmt::Display;
+use std::io::ErrorKind;
 use std::process::Abort;
 
 /// Each fault prints its text.
@@ -131,5 +132,18 @@ const OF_STREAMS: &[(StreamFault, &str)] = &[
         },
         "refused at byte 0: B1 TooDeep",
     ),
-    (StreamFault::Device, "device failed"),
+    (
+        StreamFault::Device(DeviceError {
+            kind: ErrorKind::ConnectionReset,
+            code: Some(104),
+        }),
+        "device failed: Connection reset by peer (os error 104)",
+    ),
+    (
+        StreamFault::Device(DeviceError {
+            kind: ErrorKind::BrokenPipe,
+            code: None,
+        }),
+        "device failed: broken pipe",
+    ),
 ];

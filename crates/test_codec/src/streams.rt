@@ -233,11 +233,40 @@ fn a_view_is_of_one_frame(rt: HostRuntime) {
     expect_viewed(&rt, rt.alloc(), &SHORT_ROOT, Some(OUT_OF_BOUNDS))
 }
 
+/// The fault of a device whose connection is reset.
+pub(crate) const RESET: StreamFault = StreamFault::Device(DeviceError {
+    kind: std::io::ErrorKind::ConnectionReset,
+    code: Some(ECONNRESET),
+});
+
+/// Linux's number of its error.
+const ECONNRESET: i32 = 104;
+
+/// How a call of a device fails.
+#[derive(Clone, Copy)]
+pub(crate) enum Failure {
+    /// The connection is reset.
+    Reset,
+    /// A signal interrupts the call.
+    Interrupted,
+}
+
+impl Failure {
+    /// The error of the call.
+    pub(crate) fn error(self) -> std::io::Error {
+        match self {
+            Failure::Reset => std::io::Error::from_raw_os_error(ECONNRESET),
+            Failure::Interrupted => std::io::ErrorKind::Interrupted.into(),
+        }
+    }
+}
+
 /// A device that fails once, at one of its calls, and takes or gives one byte at each other.
 #[derive(Drop)]
 struct Failing {
     call: u64,
     fails_at: u64,
+    failure: Failure,
 }
 
 impl Failing {
@@ -253,7 +282,7 @@ impl Read for Failing {
         if self.goes_well() {
             return Ok(buf.len().min(1));
         }
-        Err(std::io::ErrorKind::Interrupted.into())
+        Err(self.failure.error())
     }
 }
 
@@ -262,15 +291,24 @@ impl Write for Failing {
         if self.goes_well() {
             return Ok(buf.len().min(1));
         }
-        Err(std::io::ErrorKind::Interrupted.into())
+        Err(self.failure.error())
     }
 
     fn flush(&mut self) -> std::io::Result<()> {
         if self.goes_well() {
             return Ok(());
         }
-        Err(std::io::ErrorKind::Interrupted.into())
+        Err(self.failure.error())
     }
+}
+
+/// A tap of a device that fails at that call.
+fn new_tap(fails_at: u64, failure: Failure) -> Tap<Failing> {
+    Tap::new(Failing {
+        call: 0,
+        fails_at,
+        failure,
+    })
 }
 
 /// This many calls failed, and this many bytes went through.
@@ -286,10 +324,7 @@ fn expect_taken(rt: &impl Abort, tap: &mut Tap<Failing>, bytes: &[u8], taken: Op
 
 #[test]
 fn a_tap_counts(rt: HostRuntime) {
-    let mut tap = Tap::new(Failing {
-        call: 0,
-        fails_at: 2,
-    });
+    let mut tap = new_tap(2, Failure::Reset);
     let mut buffer = [0; 4];
     check!(&rt; tap.read(&mut buffer).ok() == Some(1));
     expect_counts(&rt, &tap, 0, 1);
@@ -302,6 +337,25 @@ fn a_tap_counts(rt: HostRuntime) {
     check!(&rt; tap.flush().is_ok());
     check!(&rt; tap.failures() == 2);
     check!(&rt; tap.into_inner().call == 5);
+}
+
+/// The first call was made twice, and hasn't failed, and this many bytes went through.
+fn expect_made_again(rt: &impl Abort, tap: Tap<Failing>, bytes: u64) {
+    expect_counts(rt, &tap, 0, bytes);
+    check!(rt; tap.into_inner().call == 2);
+}
+
+#[test]
+fn a_tap_makes_an_interrupted_call_again(rt: HostRuntime) {
+    let mut tap = new_tap(1, Failure::Interrupted);
+    check!(&rt; tap.read(&mut [0; 4]).ok() == Some(1));
+    expect_made_again(&rt, tap, 1);
+    let mut tap = new_tap(1, Failure::Interrupted);
+    expect_taken(&rt, &mut tap, &[0; 4], Some(1));
+    expect_made_again(&rt, tap, 1);
+    let mut tap = new_tap(1, Failure::Interrupted);
+    check!(&rt; tap.flush().is_ok());
+    expect_made_again(&rt, tap, 0)
 }
 
 #[test]
@@ -323,24 +377,31 @@ pub(crate) struct Source<'a> {
     bytes: &'a [u8],
     pub(crate) call: u64,
     fails_at: u64,
+    failure: Failure,
 }
 
 impl<'a> Read for Source<'a> {
     fn read(&mut self, buf: &mut [u8]) -> std::io::Result<usize> {
         self.call = self.call.wrapping_add(1);
         if self.call == self.fails_at {
-            return Err(std::io::ErrorKind::Interrupted.into());
+            return Err(self.failure.error());
         }
         self.bytes.read(buf)
     }
 }
 
-/// A tap of a device that fails at that call.
+/// A tap of a device whose connection is reset at that call.
 pub(crate) fn tap_of(bytes: &[u8], fails_at: u64) -> Tap<Source<'_>> {
+    tap_failing(bytes, fails_at, Failure::Reset)
+}
+
+/// A tap of a device that fails at that call.
+pub(crate) fn tap_failing(bytes: &[u8], fails_at: u64, failure: Failure) -> Tap<Source<'_>> {
     Tap::new(Source {
         bytes,
         call: 0,
         fails_at,
+        failure,
     })
 }
 
@@ -416,7 +477,7 @@ fn expect_read_or_device(rt: &impl Abort, alloc: Global, mode: Mode, frame: &[u8
     if failures == 0 {
         check!(rt; found == Ok(true));
     } else {
-        check!(rt; found == Err(StreamFault::Device));
+        check!(rt; found == Err(RESET));
         check!(rt; failures == 1);
     }
 }

@@ -5,13 +5,18 @@ use std::io::{self, ErrorKind, Read, Write};
 /// Which calls of a device fail.
 #[derive(Clone, Copy)]
 pub enum Fails {
-    /// The call of this number, by an error.
+    /// The call of this number: the connection is reset.
     At(u64),
     /// The call of this number, by taking no byte.
     TakesNone(u64),
     /// Each but every third, by an error after which it is tried again.
     ButEachThird,
+    /// Each but every third, which a signal interrupts.
+    InterruptedButEachThird,
 }
+
+/// Linux's number of the error of a connection that is reset.
+pub const ECONNRESET: i32 = 104;
 
 /// A device of which calls fail.
 #[derive(Drop)]
@@ -38,10 +43,13 @@ impl<T> Device<T> {
     fn moved(&mut self) -> io::Result<usize> {
         self.calls = self.calls.saturating_add(1);
         match self.fails {
-            Fails::At(call) if call == self.calls => Err(io::Error::from(ErrorKind::Interrupted)),
+            Fails::At(call) if call == self.calls => Err(io::Error::from_raw_os_error(ECONNRESET)),
             Fails::TakesNone(call) if call == self.calls => Ok(0),
             Fails::ButEachThird if self.calls % 3 != 0 => {
                 Err(io::Error::from(ErrorKind::WouldBlock))
+            }
+            Fails::InterruptedButEachThird if self.calls % 3 != 0 => {
+                Err(io::Error::from(ErrorKind::Interrupted))
             }
             _ => Ok(self.most),
         }

@@ -28,6 +28,6 @@ fn allocation_failure_is_reported(rt: HostRuntime) {
     let memory = ClientFault::Connection(ConnectionFault::OutOfMemory);
     check!(&rt; match called {
         Ok(word) => word == Some(41),
-        Err(fault) => fault == memory || fault == ClientFault::Device,
+        Err(fault) => fault == memory || matches!(fault, ClientFault::Device(_)),
     });
 }

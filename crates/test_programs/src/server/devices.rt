@@ -1,6 +1,6 @@
 //! Readers and writers of a server that fail, and allocations that fail.
 
-use crate::devices::{Device, Fails};
+use crate::devices::{Device, ECONNRESET, Fails};
 use crate::frames::{
     ABORTED, ADD_FIVE, ANSWER, BOOTSTRAP, CELL_ANSWER, DESK_ANSWER, LATER, STRANGE_FINISH,
     bytes_of, prepared,
@@ -9,10 +9,10 @@ use cp_frame::{FrameFault, Mode};
 use cp_rpc::SchemaFault;
 use cp_servants::{Cell, Desk, Sample, Servant};
 use cp_serve::{ServeFault, serve, serve_each};
-use cp_stream::{Refusal, StreamFault, Tap};
+use cp_stream::{DeviceError, Refusal, StreamFault, Tap};
 use cp_tree::WriteFault;
 use std::alloc::Global;
-use std::io::{self, Write};
+use std::io::{self, ErrorKind, Write};
 use std::process::Abort;
 
 /// The calls of a reader and a writer that fail, and the most bytes that the others move.
@@ -55,6 +55,10 @@ fn over(alloc: Global, bytes: &[u8], trial: Trial) -> Tried {
     };
     let from = Device::new(bytes, Fails::At(trial.read), trial.most_read);
     let to = Device::new(Vec::new(alloc), writing, trial.most_written);
+    served_over(alloc, from, to)
+}
+
+fn served_over(alloc: Global, from: Device<&[u8]>, to: Device<Vec<u8>>) -> Tried {
     let (mut from, mut to) = (Tap::new(from), Tap::new(to));
     let mut objects = [
         Sample::Desk(Desk::new(alloc)),
@@ -79,12 +83,25 @@ fn over(alloc: Global, bytes: &[u8], trial: Trial) -> Tried {
     }
 }
 
-/// Where a call fails, the answer is `Device`, no call follows, and a beginning of the whole was written. Says whether one fails.
+/// The fault of a device whose connection is reset.
+const RESET: StreamFault = StreamFault::Device(DeviceError {
+    kind: ErrorKind::ConnectionReset,
+    code: Some(ECONNRESET),
+});
+
+/// The fault of a writer that takes no byte.
+const TAKES_NONE: StreamFault = StreamFault::Device(DeviceError {
+    kind: ErrorKind::WriteZero,
+    code: None,
+});
+
+/// Where a call fails, the answer says why, no call follows, and a beginning of the whole was written. Says whether one fails.
 fn expect_tried(rt: &impl Abort, tried: &Tried, whole: &[u8], trial: Trial) -> bool {
     check!(rt; tried.reads <= trial.read && tried.writes <= trial.write);
     if tried.failures > 0 {
         check!(rt; tried.failures == 1);
-        check!(rt; tried.fault == Some(ServeFault::Stream(StreamFault::Device)));
+        let fault = if trial.with_error { RESET } else { TAKES_NONE };
+        check!(rt; tried.fault == Some(ServeFault::Stream(fault)));
         check!(rt; whole.starts_with(&tried.written));
         return true;
     }
@@ -142,6 +159,23 @@ fn each_call_of_a_device_may_fail(rt: HostRuntime) {
         let bytes = bytes_of(&rt, rt.alloc(), frames);
         let whole = bytes_of(&rt, rt.alloc(), answers);
         expect_each(&rt, rt.alloc(), &bytes, &whole);
+        drop(whole);
+        drop(bytes);
+    }
+}
+
+#[test]
+fn an_interrupted_call_is_made_again(rt: HostRuntime) {
+    let alloc = rt.alloc();
+    for (frames, answers) in SESSIONS {
+        let bytes = bytes_of(&rt, alloc, frames);
+        let whole = bytes_of(&rt, alloc, answers);
+        let from = Device::new(bytes.as_slice(), Fails::InterruptedButEachThird, 40);
+        let to = Device::new(Vec::new(alloc), Fails::InterruptedButEachThird, 40);
+        let tried = served_over(alloc, from, to);
+        check!(&rt; tried.failures == 0);
+        check!(&rt; !expect_tried(&rt, &tried, &whole, SOUND));
+        drop(tried);
         drop(whole);
         drop(bytes);
     }
@@ -212,7 +246,7 @@ fn is_memory(fault: ServeFault) -> bool {
                 | Refusal::Schema(SchemaFault::OutOfMemory)
                 | Refusal::Write(WriteFault::OutOfMemory)
         ),
-        ServeFault::Stream(StreamFault::Device) => false,
+        ServeFault::Stream(StreamFault::Device(_)) => false,
     }
 }
 

@@ -1,11 +1,14 @@
-//! What the faults of a server and of a connection print that no row of test_exchanges comes to.
+//! What the faults of a server, of a client and of a connection print that no row of test_exchanges comes to.
 
+use crate::devices::ECONNRESET;
+use cp_client::ClientFault;
 use cp_connection::ConnectionFault;
 use cp_serve::ServeFault;
-use cp_stream::StreamFault;
+use cp_stream::{DeviceError, StreamFault};
 use cp_vat_machine::VatFault;
 use std::alloc::Global;
 use std::fmt::Display;
+use std::io::ErrorKind;
 use std::process::Abort;
 
 /// Each fault prints its text.
@@ -18,9 +21,20 @@ fn expect_texts<F: Display>(rt: &impl Abort, alloc: Global, rows: &[(F, &str)]) 
     }
 }
 
+/// The error of a connection that is reset.
+const RESET: DeviceError = DeviceError {
+    kind: ErrorKind::ConnectionReset,
+    code: Some(ECONNRESET),
+};
+
 const OF_SERVERS: &[(ServeFault, &str)] = &[(
-    ServeFault::Stream(StreamFault::Device),
-    "device failed",
+    ServeFault::Stream(StreamFault::Device(RESET)),
+    "device failed: Connection reset by peer (os error 104)",
+)];
+
+const OF_CLIENTS: &[(ClientFault, &str)] = &[(
+    ClientFault::Device(RESET),
+    "a call of a device failed: Connection reset by peer (os error 104)",
 )];
 
 const OF_CONNECTIONS: &[(ConnectionFault, &str)] = &[
@@ -32,5 +46,6 @@ const OF_CONNECTIONS: &[(ConnectionFault, &str)] = &[
 #[test]
 fn texts(rt: HostRuntime) {
     expect_texts(&rt, rt.alloc(), OF_SERVERS);
+    expect_texts(&rt, rt.alloc(), OF_CLIENTS);
     expect_texts(&rt, rt.alloc(), OF_CONNECTIONS);
 }

@@ -8,20 +8,21 @@ pub returns-in_err-write-clause-stops : goal.returns-in_err-write-clause-stops
 returns-in_err-write-clause-stops g c =
     let p = err_from_is_err_and c.from_residual.result c.from_residual.ensures.1 in
     let k = c.in_err-write.ensures in
-    rw (p.1, p.2, k.failed.0) (inr (record { reads = ap (λ t. failures_of t) k.same.0; writes = k.failed.1 }))
+    rw (p.1, p.2, k.failed.0.1) (inr (record { reads = ap (λ t. failures_of t) k.same.0; writes = k.failed.1 }))
 
-pub returns-in-Ok-clause-exchanges : goal.returns-in-Ok-clause-exchanges
-returns-in-Ok-clause-exchanges g c = exchanges_both c.in_ok-write.ensures.exchanges (exchanges_kept _ _ (appends_kept _ _ c.in-Ok.ensures.bytes) refl)
+pub returns-clause-exchanges : goal.returns-clause-exchanges
+returns-clause-exchanges g c = exchanges_both c.in_ok-write.ensures.exchanges (exchanges_kept _ _ (appends_kept _ _ c.in_ok-flush.ensures.bytes) refl)
 
-pub returns-in-Ok-clause-none_failed : goal.returns-in-Ok-clause-none_failed
-returns-in-Ok-clause-none_failed g c =
+pub returns-clause-none_failed : goal.returns-clause-none_failed
+returns-clause-none_failed g c =
     let k = c.in_ok-write.ensures in
-    record { reads = ap (λ t. failures_of t) k.same.0; writes = c.in-Ok.ensures.counts.failures ∙ k.none_failed }
+    record { reads = ap (λ t. failures_of t) k.same.0; writes = c.in_ok-flush.ensures.counts.failures ∙ k.none_failed }
 
-pub returns-in-Err-clause-exchanges : goal.returns-in-Err-clause-exchanges
-returns-in-Err-clause-exchanges g c = exchanges_both c.in_ok-write.ensures.exchanges (exchanges_kept _ _ (appends_kept _ _ c.in-Err.ensures.bytes) refl)
+pub returns-in_err-flush-clause-exchanges : goal.returns-in_err-flush-clause-exchanges
+returns-in_err-flush-clause-exchanges g c = exchanges_both c.in_ok-write.ensures.exchanges (exchanges_kept _ _ (appends_kept _ _ c.in_err-flush.ensures.bytes) refl)
 
-pub returns-in-Err-clause-stops : goal.returns-in-Err-clause-stops
-returns-in-Err-clause-stops g c =
+pub returns-in_err-flush-clause-stops : goal.returns-in_err-flush-clause-stops
+returns-in_err-flush-clause-stops g c =
+    let p = err_from_is_err_and c.from_residual-in_err-flush.result c.from_residual-in_err-flush.ensures.1 in
     let k = c.in_ok-write.ensures in
-    inr (record { reads = ap (λ t. failures_of t) k.same.0; writes = c.in-Err.ensures.counts.failures ∙ ap (λ (n : ℕ). (n + 1) % 2 ^ 64) k.none_failed })
+    rw (p.1, p.2) (inr (record { reads = ap (λ t. failures_of t) k.same.0; writes = c.in_err-flush.ensures.counts.failures ∙ ap (λ (n : ℕ). (n + 1) % 2 ^ 64) k.none_failed }))

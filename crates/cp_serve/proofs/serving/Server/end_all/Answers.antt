@@ -24,7 +24,7 @@ returns-in_err-write-clause-stopped g c =
     let to = device g.W.Write.contents c.loop.to in
     let after = device g.W.Write.contents c.write.new.to in
     let broken = c.in_err-write.ensures.broken in
-    rw (p.1, p.2, c.in_err-write.ensures.device) (λ first rests out.
+    rw (p.1, p.2, c.in_err-write.ensures.device.1) (λ first rests out.
     let h = c.loop.invariant first rests out in (
       ends_within first c.args.self.now _ before c.loop.self c.round.new.self c.in_ok-gave.gave to h is_open c.in_ok-gave.ensures.done c.in_ok-gave.ensures.ready after broken.sent broken.left broken.splits broken.passes.appends,
       why_unended first c.args.self.now _ before c.loop.self _ to after h broken.failed,

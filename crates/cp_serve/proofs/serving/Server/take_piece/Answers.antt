@@ -16,9 +16,9 @@ returns-in_err-write-clause-stopped g c =
     let new = device g.W.Write.contents c.write.new.to in
     let filled = c.fill_block-filled.new.self in
     let broken = c.in_err-write.ensures.broken in
-    rw (p.1, p.2, c.in_err-write.ensures.device) (λ mode start held from left bytes serves out.
+    rw (p.1, p.2, c.in_err-write.ensures.device.1) (λ mode start held from left bytes serves out.
     let now = c.taking.invariant mode start held bytes serves out in
-    stops_broken old new (ready_of filled) broken.sent broken.left broken.splits broken.passes.appends (bytes ++ c.args.piece.now) from left [] (all_written (bytes ++ now.0) now.2.0 c.taking.self now.2.1 now.3)
+    stops_broken old new (ready_of filled) broken.sent broken.left broken.splits broken.passes.appends c.in_err-write.ensures.device.0 (bytes ++ c.args.piece.now) from left [] (all_written (bytes ++ now.0) now.2.0 c.taking.self now.2.1 now.3)
     (either_way c.fill_block-filled.result c.fill_block-filled.ensures.taken c.fill_block-filled.ensures.stopped
     (λ x taken. cut_of_fills bytes now.0 c.taking.left.now c.args.piece.now x.now left.bytes now.1 (taken mode start held old (bytes ++ now.0) now.2))
     (λ fault stopped. cut_of_stopped bytes now.0 c.taking.left.now c.args.piece.now from left _ now.1 fault (stopped mode start held from left old (bytes ++ now.0) now.2)))
