@@ -11,13 +11,13 @@ use Rattle.cp_vat_machine.specs.Calling as calling
 use Rattle.cp_vat_machine.specs.Run.{Moment}
 use Rattle.cp_vat_machine.specs.declared.effect.Effect.{Effect}
 use Rattle.cp_vat_machine.specs.declared.effect.Effect.TheVariants as effects
-use Rattle.cp_vat_worlds.specs.World.{World, Side, at_first, at_second, across, end_of}
-use Rattle.cp_vat_worlds.specs.Lane.{Reference, cap_of, is_side, made, own_ticket, answer_forwarded, ticket_borne, Delivery, delivery_of, deliveries_of, deliveries, delivered_among}
-use Rattle.test_vat.specs.WorldRows.{turn_of}
+use Rattle.cp_vat_pair_laws.specs.VatPair.{VatPair, Side, at_first, at_second, across, end_of}
+use Rattle.cp_vat_pair_laws.specs.Lane.{Reference, cap_of, is_side, made, own_ticket, answer_forwarded, ticket_borne, Delivery, delivery_of, deliveries_of, deliveries, delivered_among}
+use Rattle.test_vat.specs.PairRows.{turn_of}
 use Rattle.test_vat.specs.LaneRows.{delivered_at, IsLane}
 use Rattle.test_vat.proofs.Known.{Known, state, at, get_is}
 use Rattle.test_vat.proofs.Owning.{known_reference, reference_is}
-use Rattle.test_vat.proofs.KnownWorlds.{KnownWorld, world, known_end, KnownMove, move, find_moves, moves_of, plays, last_known, last_is}
+use Rattle.test_vat.proofs.KnownPairs.{KnownPair, pair, known_end, KnownMove, move, find_moves, moves_of, plays, last_known, last_is}
 
 module _ (here there : Known) where
   abbrev pub known_stand : ℕ → List ℕ
@@ -43,23 +43,23 @@ module _ (here there : Known) where
   delivery_is (effects.Settled q outcome) = refl
   delivery_is (effects.Closed reason) = refl
 
-abbrev pub known_deliveries_of : KnownWorld → Side → KnownMove → List Delivery
+abbrev pub known_deliveries_of : KnownPair → Side → KnownMove → List Delivery
 known_deliveries_of w side m = if is_side m.side side then flat_map (known_delivery (known_end w side).vat (known_end w (across side)).vat) m.moment.effects else []
 
-deliveries_of_are : (w : KnownWorld) (side : Side) (m : KnownMove) → deliveries_of (world w) side (move m) ≡ known_deliveries_of w side m
+deliveries_of_are : (w : KnownPair) (side : Side) (m : KnownMove) → deliveries_of (pair w) side (move m) ≡ known_deliveries_of w side m
 deliveries_of_are w at_first m = λ i. if is_side m.side at_first then flat_map (λ effect. delivery_is w.first.vat w.second.vat effect i) m.moment.effects else []
 deliveries_of_are w at_second m = λ i. if is_side m.side at_second then flat_map (λ effect. delivery_is w.second.vat w.first.vat effect i) m.moment.effects else []
 
-abbrev pub known_deliveries : KnownWorld → Side → List KnownMove → List Delivery
+abbrev pub known_deliveries : KnownPair → Side → List KnownMove → List Delivery
 known_deliveries w side [] = []
 known_deliveries w side (m ∷ more) = known_deliveries_of w side m ++ known_deliveries m.after side more
 
-deliveries_are : (w : KnownWorld) (side : Side) (moves : List KnownMove) → deliveries (world w) side (map move moves) ≡ known_deliveries w side moves
+deliveries_are : (w : KnownPair) (side : Side) (moves : List KnownMove) → deliveries (pair w) side (map move moves) ≡ known_deliveries w side moves
 deliveries_are w side [] = refl
 deliveries_are w side (m ∷ more) = λ i. deliveries_of_are w side m i ++ deliveries_are m.after side more i
 
 -- what a reference came to
-reference_there : (w : KnownWorld) (side : Side) (c : Cap) → reference_of (end_of (world w) side).vat.values c ≡ known_reference (known_end w side).vat c
+reference_there : (w : KnownPair) (side : Side) (c : Cap) → reference_of (end_of (pair w) side).vat.values c ≡ known_reference (known_end w side).vat c
 reference_there w at_first c = reference_is w.first.vat c
 reference_there w at_second c = reference_is w.second.vat c
 
@@ -86,24 +86,24 @@ lane_seen turns k tickets =
       second = [];
     }
 
-module _ (w : KnownWorld) (moves : List KnownMove) (side : Side) (ref : Reference) where
+module _ (w : KnownPair) (moves : List KnownMove) (side : Side) (ref : Reference) where
   abbrev pub seen : Seen
   seen =
       let last = last_known w moves in
       record {
         turns = map turn_of (map move moves);
         value = known_reference (known_end last side).vat (cap_of ref);
-        made = made (world w) side ref (map move moves);
-        delivered = delivered_among (made (world w) side ref (map move moves)) (known_deliveries w side moves);
+        made = made (pair w) side ref (map move moves);
+        delivered = delivered_among (made (pair w) side ref (map move moves)) (known_deliveries w side moves);
         are_closed = (last.first.vat.is_closed, last.second.vat.is_closed);
         first = last.first.inbox;
         second = last.second.inbox;
       }
 
 -- The moves that these turns make are a lane, if that is what is seen of them.
-lane : (w : KnownWorld) (turns : List (Side × Moment)) (side : Side) (ref : Reference) (k : ℕ) (tickets : List ℕ)
+lane : (w : KnownPair) (turns : List (Side × Moment)) (side : Side) (ref : Reference) (k : ℕ) (tickets : List ℕ)
     → seen w (moves_of (find_moves w turns)) side ref ≡ lane_seen turns k tickets
-    → IsLane (world w) (map move (moves_of (find_moves w turns))) turns side ref k tickets
+    → IsLane (pair w) (map move (moves_of (find_moves w turns))) turns side ref k tickets
 lane w turns side ref k tickets e =
     let moves = moves_of (find_moves w turns) in
     let last = last_is w moves in
@@ -114,13 +114,13 @@ lane w turns side ref k tickets e =
           ∙ reference_there (last_known w moves) side (cap_of ref)
           ∙ ap (λ s. s.value) e;
       were_made = ap (λ s. s.made) e;
-      were_delivered = ap (delivered_among (made (world w) side ref (map move moves))) (deliveries_are w side moves) ∙ ap (λ s. s.delivered) e;
+      were_delivered = ap (delivered_among (made (pair w) side ref (map move moves))) (deliveries_are w side moves) ∙ ap (λ s. s.delivered) e;
       still_open =
           (ap (λ x. x.first.vat.is_closed) last ∙ ap (λ s. s.are_closed.0) e, ap (λ x. x.second.vat.is_closed) last ∙ ap (λ s. s.are_closed.1) e);
       quiet = (ap (λ x. x.first.inbox) last ∙ ap (λ s. s.first) e, ap (λ x. x.second.inbox) last ∙ ap (λ s. s.second) e);
     }
 
-pub is_lane : {old : World} (w : KnownWorld) (turns : List (Side × Moment)) (side : Side) (ref : Reference) (k : ℕ) (tickets : List ℕ) → old ≡ world w
+pub is_lane : {old : VatPair} (w : KnownPair) (turns : List (Side × Moment)) (side : Side) (ref : Reference) (k : ℕ) (tickets : List ℕ) → old ≡ pair w
     → seen w (moves_of (find_moves w turns)) side ref ≡ lane_seen turns k tickets
     → IsLane old (map move (moves_of (find_moves w turns))) turns side ref k tickets
 is_lane w turns side ref k tickets is e =

@@ -2,12 +2,12 @@
 use Rattle.std.specs.Prelude.{refl, List, map, Some, None}
 use Rattle.std.specs.FinMap.{get}
 use Rattle.std.proofs.Common.{ap, ◌∙◌}
-use Rattle.test_vat.specs.WorldRows.{finish_before_return, EndsWithoutExport}
+use Rattle.test_vat.specs.PairRows.{finish_before_return, EndsWithoutExport}
 use Rattle.test_vat.proofs.Known.{get_is}
-use Rattle.test_vat.proofs.KnownWorlds.{KnownWorld, new_worlds, KnownMove, move, find_moves, moves_of, plays, last_known, last_is}
+use Rattle.test_vat.proofs.KnownPairs.{KnownPair, new_pairs, KnownMove, move, find_moves, moves_of, plays, last_known, last_is}
 
-abbrev two_vats : KnownWorld
-two_vats = new_worlds None (Some 0)
+abbrev two_vats : KnownPair
+two_vats = new_pairs None (Some 0)
 
 abbrev moves : List KnownMove
 moves = moves_of (find_moves two_vats finish_before_return)

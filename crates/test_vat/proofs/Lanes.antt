@@ -1,12 +1,12 @@
 -- The lanes that two vats make.
 use Rattle.std.specs.Prelude.{refl, List, [], ◌∷◌, map, Some}
-use Rattle.cp_vat_worlds.specs.World.{at_first}
+use Rattle.cp_vat_pair_laws.specs.VatPair.{at_first}
 use Rattle.test_vat.specs.LaneRows.{given_reference, lane_of_three_calls, lane_without_embargo, lane_again, ThreeInOrder, LaneOfThreeCalls, LaneWithoutEmbargo, LaneAgain}
-use Rattle.test_vat.proofs.KnownWorlds.{KnownWorld, new_worlds, KnownMove, move, find_moves, moves_of, last_known, last_is}
+use Rattle.test_vat.proofs.KnownPairs.{KnownPair, new_pairs, KnownMove, move, find_moves, moves_of, last_known, last_is}
 use Rattle.test_vat.proofs.Delivering.{is_lane}
 
-abbrev begun : KnownWorld
-begun = new_worlds (Some 0) (Some 0)
+abbrev begun : KnownPair
+begun = new_pairs (Some 0) (Some 0)
 
 abbrev three : List KnownMove
 three = moves_of (find_moves begun lane_of_three_calls)
@@ -20,8 +20,8 @@ in_order = (map move three, three_in_order)
 pub without_embargo : LaneWithoutEmbargo
 without_embargo = (map move (moves_of (find_moves begun lane_without_embargo)), is_lane begun lane_without_embargo at_first given_reference 3 (1 ∷ 2 ∷ 3 ∷ []) refl refl)
 
--- the same world after the three calls
-abbrev past_three : KnownWorld
+-- the same pair after the three calls
+abbrev past_three : KnownPair
 past_three = last_known begun three
 
 pub again : LaneAgain

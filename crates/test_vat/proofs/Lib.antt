@@ -20,9 +20,9 @@ pub mod TwoOrdered
 pub mod Embargoed
 pub mod Unordered
 pub mod FinishFirst
-pub mod KnownWorlds
+pub mod KnownPairs
 pub mod Delivering
 pub mod Lanes
-pub mod LaneWorlds
-pub mod AheadWorlds
-pub mod CountWorlds
+pub mod LanePairs
+pub mod AheadPairs
+pub mod CountPairs

@@ -13,14 +13,14 @@ use Rattle.cp_vat_machine.specs.Run.{Moment}
 use Rattle.cp_vat_machine.specs.declared.effect.Effect.TheVariants as effects
 use Rattle.cp_vat_machine.specs.declared.event.Event.TheVariants as events
 use Rattle.cp_vat_machine.specs.declared.event.Value.TheVariants as values
-use Rattle.cp_vat_worlds.specs.World.{World, Side, at_first, at_second, end_of, new_world, Move, last_of, AreOpen, AreQuiet}
-use Rattle.cp_vat_worlds.specs.Lane.{Reference, path_to, CameTo, made, Delivery, delivered_on}
+use Rattle.cp_vat_pair_laws.specs.VatPair.{VatPair, Side, at_first, at_second, end_of, new_pair, Move, last_of, AreOpen, AreQuiet}
+use Rattle.cp_vat_pair_laws.specs.Lane.{Reference, path_to, CameTo, made, Delivery, delivered_on}
 use Rattle.test_vat.specs.RowWords.{comes, does, call_message, return_message, finish_message, release_message, disembargo_message, sends, on_import, on_answer, on_whole_answer, results, one_object, request, small_request, small_call, bootstrap_comes, bootstrap_does}
-use Rattle.test_vat.specs.WorldRows.{Plays}
+use Rattle.test_vat.specs.PairRows.{Plays}
 
 -- two new vats, each with a bootstrap object
-abbrev pub two_vats : World
-two_vats = new_world (Some 0) (Some 0)
+abbrev pub two_vats : VatPair
+two_vats = new_pair (Some 0) (Some 0)
 
 -- the calls of these tickets, each delivered at object k
 abbrev pub delivered_at : ℕ → List ℕ → List Delivery
@@ -28,7 +28,7 @@ delivered_at k tickets = map (λ ticket. record { ticket = ticket; object = k })
 
 -- The moves make these turns. The reference came to object k of the vat that holds it. The calls made on it bear these tickets, and were delivered at
 -- that object in that order, each once. At the end neither vat is closed, and no message is on the way.
-pub record IsLane (w : World) (moves : List Move) (turns : List (Side × Moment)) (side : Side) (ref : Reference) (k : ℕ) (tickets : List ℕ) : Type 0 where
+pub record IsLane (w : VatPair) (moves : List Move) (turns : List (Side × Moment)) (side : Side) (ref : Reference) (k : ℕ) (tickets : List ℕ) : Type 0 where
   pub plays : Plays w turns moves
   pub came : CameTo (end_of (last_of w moves) side).vat ref (caps.Object k)
   pub were_made : made w side ref moves ≡ tickets

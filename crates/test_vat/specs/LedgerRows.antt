@@ -16,7 +16,7 @@ use Rattle.cp_vat_machine.specs.Run.{Moment}
 use Rattle.cp_vat_machine.specs.declared.effect.Effect.TheVariants as effects
 use Rattle.cp_vat_machine.specs.declared.event.Event.TheVariants as events
 use Rattle.cp_vat_machine.specs.declared.event.Value.TheVariants as values
-use Rattle.cp_vat_worlds.specs.Ledger.{past_of, export_count, import_count, question_stage, answer_stage}
+use Rattle.cp_vat_pair_laws.specs.Ledger.{past_of, export_count, import_count, question_stage, answer_stage}
 use Rattle.test_vat.specs.RowWords.{comes, does, bootstrap_message, call_message, return_message, finish_message, resolve_message, release_message, sends, on_import, on_answer, small_call, small_request, results, no_content, one_object, request, bootstrap_comes, bootstrap_does}
 use Rattle.test_vat.specs.Rows.{call_comes}
 

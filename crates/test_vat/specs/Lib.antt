@@ -2,7 +2,7 @@ pub mod RowWords
 pub mod Rows
 pub mod LedgerRows
 pub mod OrderRows
-pub mod WorldRows
-pub mod CountWorlds
+pub mod PairRows
+pub mod CountPairs
 pub mod LaneRows
-pub mod LaneWorlds
+pub mod LanePairs

@@ -5,4 +5,4 @@ pub mod ledger_rows;
 pub mod memory;
 pub mod never;
 pub mod order;
-pub mod world_rows;
+pub mod pair_rows;

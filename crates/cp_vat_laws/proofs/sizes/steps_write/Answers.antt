@@ -1,5 +1,0 @@
-use Rattle.cp_vat_laws.proofs.writable.Stepping.{steps_write}
-use Rattle.cp_vat_laws.proofs.sizes.steps_write.Goals as goal
-
-pub returns : goal.returns
-returns c = steps_write

@@ -1,7 +1,0 @@
-pub mod NewWorlds
-pub mod NewVats
-pub mod counts
-pub mod numbers
-pub mod waiting
-pub mod still
-pub mod lane

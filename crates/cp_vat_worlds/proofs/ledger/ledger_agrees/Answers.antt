@@ -1,5 +1,0 @@
-use Rattle.cp_vat_worlds.proofs.counts.LedgerAgrees.{ledger_agrees}
-use Rattle.cp_vat_worlds.proofs.ledger.ledger_agrees.Goals as goal
-
-pub returns : goal.returns
-returns c = ledger_agrees

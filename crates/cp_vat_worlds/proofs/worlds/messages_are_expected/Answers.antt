@@ -1,8 +1,0 @@
-use Rattle.cp_vat_worlds.proofs.counts.Expected.{all_is_expected, stages_match}
-use Rattle.cp_vat_worlds.proofs.worlds.messages_are_expected.Goals as goal
-
-pub returns-clause-next : goal.returns-clause-next
-returns-clause-next c = all_is_expected
-
-pub returns-clause-quiet : goal.returns-clause-quiet
-returns-clause-quiet c = stages_match

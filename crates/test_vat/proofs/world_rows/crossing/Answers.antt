@@ -1,8 +1,0 @@
-use Rattle.test_vat.proofs.CountWorlds.{is_crossing, ignored_is_owed}
-use Rattle.test_vat.proofs.world_rows.crossing.Goals as goal
-
-pub returns-clause-owed : goal.returns-clause-owed
-returns-clause-owed c = is_crossing
-
-pub returns-clause-ignored : goal.returns-clause-ignored
-returns-clause-ignored c = ignored_is_owed

@@ -1,5 +1,0 @@
-use Rattle.test_vat.proofs.CountWorlds.{waiting_is_orderly}
-use Rattle.test_vat.proofs.world_rows.waiting_is_orderly.Goals as goal
-
-pub returns : goal.returns
-returns c = waiting_is_orderly
