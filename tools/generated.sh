@@ -1,5 +1,5 @@
 #!/usr/bin/env bash
-# tools/generated.sh    whether capnpc_rattle and `rt fmt` write again what is kept: cp_schemas, of the request in crates/capnpc_rattle/stdin, and
+# tools/generated.sh    whether capnpc_rattle and `rt fmt` write again what is kept: cp_schema_capnp, of the request in crates/capnpc_rattle/stdin, and
 #                       addressbook and store, of their schemas, where `capnp` is installed. A plugin that isn't built runs unproved, as a first look.
 #
 # The request is what `capnp compile -o-` printed of the schema.capnp that the reference library has beside it (0.9.2).
@@ -21,8 +21,8 @@ compare() { # CRATE    once what the plugin wrote of it is laid out
     done
 }
 
-generate "$root/crates/capnpc_rattle/stdin" --crate=cp_schemas --only="$(paste -sd, "$root/crates/cp_schemas/only.txt")"
-compare cp_schemas
+generate "$root/crates/capnpc_rattle/stdin" --crate=cp_schema_capnp --only="$(paste -sd, "$root/crates/cp_schema_capnp/only.txt")"
+compare cp_schema_capnp
 if command -v capnp >/dev/null; then
     (cd "$root/crates/addressbook" && capnp compile -o- addressbook.capnp) >"$room/request"
     generate "$room/request" --drafts

@@ -14,7 +14,7 @@ theirs() {
     "$folder/reference"
 }
 
-build_beside "$folder" "$here" time_drafts "cp_words cp_tree cp_writing cp_packed cp_frame cp_fields cp_drafts addressbook anyhow" >"$folder/said" 2>&1 ||
+build_beside "$folder" "$here" time_drafts "cp_words cp_tree cp_writing cp_packed cp_frame cp_fields cp_builder addressbook anyhow" >"$folder/said" 2>&1 ||
     { tail -n 20 "$folder/said" >&2; exit 1; }
 "$folder/time_drafts"
 theirs

@@ -1,6 +1,6 @@
 # How a folder, $room, gets copies of the libraries that programs over generated code use, from the repository, $root. It is sourced.
 
-libraries=(cp_words cp_tree cp_reading cp_writing cp_packed cp_frame cp_messages cp_rpc cp_stream cp_fields cp_drafts)
+libraries=(cp_words cp_tree cp_reading cp_writing cp_packed cp_frame cp_messages cp_rpc cp_stream cp_fields cp_builder)
 
 take_libraries() {
     rm -rf "$room/crates" "$room/crates.txt"

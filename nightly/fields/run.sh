@@ -61,7 +61,7 @@ make_copier() { # NAME STRUCT: the program that builds the messages of a schema 
     [ "$plugin" != - ] || return 0
     mkdir -p "$room/crates/copy_$1/src"
     "$here/copy.py" "$room/$1.request" "$2" >"$room/crates/copy_$1/src/main.rt"
-    printf 'copy_%s: cp_words cp_tree cp_reading cp_frame cp_fields cp_drafts cp_stream %s anyhow\n' "$1" "$1" >>"$room/crates.txt"
+    printf 'copy_%s: cp_words cp_tree cp_reading cp_frame cp_fields cp_builder cp_stream %s anyhow\n' "$1" "$1" >>"$room/crates.txt"
 }
 
 same() { # TEXTS READER: whether what was found is what is wanted
@@ -116,7 +116,7 @@ make_keeper() { # the program that writes messages of a newer schema again, by t
     [ "$plugin" != - ] || return 0
     mkdir -p "$room/crates/keep_older/src"
     cp "$here/keep.rt.in" "$room/crates/keep_older/src/main.rt"
-    printf 'keep_older: cp_words cp_tree cp_reading cp_frame cp_fields cp_drafts cp_stream older anyhow\n' >>"$room/crates.txt"
+    printf 'keep_older: cp_words cp_tree cp_reading cp_frame cp_fields cp_builder cp_stream older anyhow\n' >>"$room/crates.txt"
 }
 
 absent() { # FIELD..: what the newer edition's code reads of these fields, which the older one lacks, is what `capnp eval` says

@@ -113,7 +113,7 @@ try_code() { # SEED..    what their code prints of messages, twice each: as they
         names="$names s$seed s${seed}_other"
         place=$((place + 1))
     done
-    echo "trial: cp_words cp_tree cp_reading cp_frame cp_fields cp_drafts cp_stream$names anyhow" >>"$room/crates.txt"
+    echo "trial: cp_words cp_tree cp_reading cp_frame cp_fields cp_builder cp_stream$names anyhow" >>"$room/crates.txt"
     (cd "$room/crates/trial" && rt try --seconds 300 --steps 1000 <"$room/input" >"$room/found" 2>"$room/said") || :
     if cmp -s "$room/all" "$room/found"; then
         echo "the code of $# schemas: $(wc -l <"$room/all") lines are the same"

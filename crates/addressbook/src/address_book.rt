@@ -5,12 +5,12 @@ ghost use Rattle.cp_words.specs.declared.pointer.ElementSize.TheVariants as size
 ghost use Rattle.cp_tree.specs.Seen.{pointee_of};
 ghost use Rattle.cp_fields.specs.Constants.{constant_of};
 ghost use Rattle.cp_fields.specs.Pointers.{Reads, list_field, or_default, struct_field};
-ghost use Rattle.cp_drafts.specs.declared.fault.DraftFault.TheVariants.{TooLong};
-ghost use Rattle.cp_drafts.specs.Drafts.{HoldsOneMore, blank, blank_list, with_last, with_pointer};
+ghost use Rattle.cp_builder.specs.declared.fault.DraftFault.TheVariants.{TooLong};
+ghost use Rattle.cp_builder.specs.Drafts.{HoldsOneMore, blank, blank_list, with_last, with_pointer};
 ghost use Rattle.addressbook.specs.AddressBook.{address_book_owner_default, address_book_circles_default};
 
 use crate::person::{PersonDraft, PersonListDraft, PersonView};
-use cp_drafts::{DraftFault, StructDraft, StructsDraft};
+use cp_builder::{DraftFault, StructDraft, StructsDraft};
 use cp_fields::{Constant, ConstantBody, Item, List, Pointee, StructView, TextView, WrongKind};
 use cp_tree::{ListRef, Whole};
 use std::alloc::{AllocError, Global};

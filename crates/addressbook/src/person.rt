@@ -7,13 +7,13 @@ ghost use Rattle.std.specs.Float.{binary64};
 ghost use Rattle.cp_tree.specs.Seen.{pointee_of};
 ghost use Rattle.cp_fields.specs.Numbers.{flag, plain, uint};
 ghost use Rattle.cp_fields.specs.Pointers.{Reads, data_field, list_field, struct_field, text_field};
-ghost use Rattle.cp_drafts.specs.Numbers.{flag_bit};
-ghost use Rattle.cp_drafts.specs.declared.fault.DraftFault.TheVariants.{TooLong};
-ghost use Rattle.cp_drafts.specs.Drafts.{HoldsOneMore, blank, blank_list, bytes_tree, quads_tree, text_tree, with_last, with_pointer, with_uint};
+ghost use Rattle.cp_builder.specs.Numbers.{flag_bit};
+ghost use Rattle.cp_builder.specs.declared.fault.DraftFault.TheVariants.{TooLong};
+ghost use Rattle.cp_builder.specs.Drafts.{HoldsOneMore, blank, blank_list, bytes_tree, quads_tree, text_tree, with_last, with_pointer, with_uint};
 ghost use Rattle.addressbook.specs.Person.{person_employment_which_of, person_employment_member};
 
 use crate::person_phone_number::{PersonPhoneNumberListDraft, PersonPhoneNumberView};
-use cp_drafts::{DraftFault, StructDraft, StructsDraft};
+use cp_builder::{DraftFault, StructDraft, StructsDraft};
 use cp_fields::{DataView, Item, List, Past, Pointee, StructView, TextView, WrongKind};
 use std::alloc::{AllocError, Global};
 use std::num::f64_to_bits_with_nan;
@@ -170,7 +170,7 @@ impl PersonDraft {
         ensures left { OnErr result (self.new ≡ self.old) }
         ensures long { result ≡ Err TooLong → 2 ^ 29 ≤ length value.now + 1 }
     {
-        self.body.set_pointer(0, cp_drafts::text_of(alloc, value)?);
+        self.body.set_pointer(0, cp_builder::text_of(alloc, value)?);
         Ok(())
     }
 
@@ -180,7 +180,7 @@ impl PersonDraft {
         ensures left { OnErr result (self.new ≡ self.old) }
         ensures long { result ≡ Err TooLong → 2 ^ 29 ≤ length value.now + 1 }
     {
-        self.body.set_pointer(1, cp_drafts::text_of(alloc, value)?);
+        self.body.set_pointer(1, cp_builder::text_of(alloc, value)?);
         Ok(())
     }
 
@@ -204,7 +204,7 @@ impl PersonDraft {
         ensures left { OnErr result (self.new ≡ self.old) }
         ensures long { result ≡ Err TooLong → 2 ^ 29 ≤ length value.now + 1 }
     {
-        let whole = cp_drafts::text_of(alloc, value)?;
+        let whole = cp_builder::text_of(alloc, value)?;
         self.body.set_u16(2, 1);
         self.body.set_pointer(3, whole);
         Ok(())
@@ -216,7 +216,7 @@ impl PersonDraft {
         ensures left { OnErr result (self.new ≡ self.old) }
         ensures long { result ≡ Err TooLong → 2 ^ 29 ≤ length value.now + 1 }
     {
-        let whole = cp_drafts::text_of(alloc, value)?;
+        let whole = cp_builder::text_of(alloc, value)?;
         self.body.set_u16(2, 2);
         self.body.set_pointer(3, whole);
         Ok(())
@@ -263,7 +263,7 @@ impl PersonDraft {
         ensures left { OnErr result (self.new ≡ self.old) }
         ensures long { IfErr result (λ fault. (fault ≡ TooLong) × (2 ^ 29 ≤ length value.items)) }
     {
-        self.body.set_pointer(5, cp_drafts::quads_of(value)?);
+        self.body.set_pointer(5, cp_builder::quads_of(value)?);
         Ok(())
     }
 
@@ -273,7 +273,7 @@ impl PersonDraft {
         ensures left { OnErr result (self.new ≡ self.old) }
         ensures long { IfErr result (λ fault. (fault ≡ TooLong) × (2 ^ 29 ≤ length value.items)) }
     {
-        self.body.set_pointer(6, cp_drafts::bytes_of(value)?);
+        self.body.set_pointer(6, cp_builder::bytes_of(value)?);
         Ok(())
     }
 

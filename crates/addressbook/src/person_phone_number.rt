@@ -5,13 +5,13 @@ ghost use Rattle.cp_words.specs.declared.pointer.ElementSize.TheVariants as size
 ghost use Rattle.cp_tree.specs.Seen.{pointee_of};
 ghost use Rattle.cp_fields.specs.Numbers.{plain};
 ghost use Rattle.cp_fields.specs.Pointers.{Reads, struct_field, text_field};
-ghost use Rattle.cp_drafts.specs.declared.fault.DraftFault.TheVariants.{TooLong};
-ghost use Rattle.cp_drafts.specs.Drafts.{HoldsOneMore, blank, blank_list, text_tree, with_last, with_pointer, with_uint};
+ghost use Rattle.cp_builder.specs.declared.fault.DraftFault.TheVariants.{TooLong};
+ghost use Rattle.cp_builder.specs.Drafts.{HoldsOneMore, blank, blank_list, text_tree, with_last, with_pointer, with_uint};
 ghost use Rattle.addressbook.specs.PersonPhoneNumberType.{person_phone_number_type_number};
 ghost use Rattle.addressbook.specs.PersonPhoneNumberType.{person_phone_number_type_of};
 
 use crate::person_phone_number_type::PersonPhoneNumberType;
-use cp_drafts::{DraftFault, StructDraft, StructsDraft};
+use cp_builder::{DraftFault, StructDraft, StructsDraft};
 use cp_fields::{Item, Pointee, StructView, TextView, WrongKind};
 use std::alloc::{AllocError, Global};
 
@@ -86,7 +86,7 @@ impl PersonPhoneNumberDraft {
         ensures left { OnErr result (self.new ≡ self.old) }
         ensures long { result ≡ Err TooLong → 2 ^ 29 ≤ length value.now + 1 }
     {
-        self.body.set_pointer(0, cp_drafts::text_of(alloc, value)?);
+        self.body.set_pointer(0, cp_builder::text_of(alloc, value)?);
         Ok(())
     }
 

@@ -4,7 +4,7 @@ use crate::names::{is_ambiguous, is_taken};
 use crate::only::{has_method, has_type};
 use crate::out::{Arg, Out, before, file_name};
 use crate::reach::{Line, lines, naming};
-use cp_types::{Node, NodeKind, Schema};
+use cp_schema::{Node, NodeKind, Schema};
 use std::alloc::{AllocError, Global};
 
 /// The deepest that types may lie within one another.

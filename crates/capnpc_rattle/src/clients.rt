@@ -5,7 +5,7 @@ use crate::comments::about;
 use crate::methods::Way;
 use crate::out::Arg;
 use crate::sheet::Sheet;
-use cp_types::{Interface, Node};
+use cp_schema::{Interface, Node};
 
 const TYPE: &str = "\
 #[derive(Drop)]

@@ -5,7 +5,7 @@ use crate::comments::about;
 use crate::out::Arg;
 use crate::sheet::Sheet;
 use crate::trees::put_tree;
-use cp_types::{Base, Constant, Node, NodeKind, Value};
+use cp_schema::{Base, Constant, Node, NodeKind, Value};
 
 /// Writes a constant. One that is a struct or a list is a `static`, so that views of it may be lent for any time.
 pub fn constant(book: &Book<'_>, sheet: &mut Sheet<'_>, node: &Node, of: &Constant) {

@@ -4,8 +4,8 @@ use crate::book::Named;
 use crate::out::{Arg, Out};
 use crate::sheet::Sheet;
 use crate::trees::{define_tree, put_tree};
+use cp_schema::{Field, FieldKind, Value};
 use cp_tree::Tree;
-use cp_types::{Field, FieldKind, Value};
 
 const HEAD: &str = "
 /// What `$1` is by default.

@@ -5,7 +5,7 @@ use crate::kinds::takes;
 use crate::methods::Way;
 use crate::out::Arg;
 use crate::sheet::Sheet;
-use cp_types::Node;
+use cp_schema::Node;
 
 const CALL: &str = "
 /// Passes a call on to the method of an object that its interface and its number name.

@@ -9,7 +9,7 @@ use crate::promises::client_of;
 use crate::setters::{Setter, set_of};
 use crate::sheet::Sheet;
 use crate::structs::{has_name, is_void};
-use cp_types::{Base, Field, FieldKind, Node, Slot, Structure};
+use cp_schema::{Base, Field, FieldKind, Node, Slot, Structure};
 
 const TYPE: &str = "
 /// `struct $1`, to be written.

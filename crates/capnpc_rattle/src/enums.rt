@@ -4,7 +4,7 @@ use crate::book::{Book, Named};
 use crate::comments::{about, comment};
 use crate::out::{Arg, Out};
 use crate::sheet::Sheet;
-use cp_types::Node;
+use cp_schema::Node;
 
 /// An enum, or the members of a union.
 #[derive(Clone, Copy)]

@@ -3,8 +3,8 @@
 use crate::book::{Book, Named};
 use crate::defaults::default_of;
 use crate::out::Arg;
+use cp_schema::{Base, Field, Slot, Value};
 use cp_tree::Tree;
-use cp_types::{Base, Field, Slot, Value};
 
 /// How a field is read: its type, its value as a definition says, and the code. They are templates of the places that
 /// `args` gives.

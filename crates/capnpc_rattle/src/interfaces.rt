@@ -7,7 +7,7 @@ use crate::kinds::{family, kind};
 use crate::methods::Way;
 use crate::servers::server;
 use crate::sheet::Sheet;
-use cp_types::{Interface, Node};
+use cp_schema::{Interface, Node};
 
 /// Writes the code of an interface.
 pub fn interface<'b>(

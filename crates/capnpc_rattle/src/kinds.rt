@@ -4,7 +4,7 @@ use crate::book::{Book, Named};
 use crate::methods::Way;
 use crate::out::{Arg, Out};
 use crate::sheet::Sheet;
-use cp_types::Node;
+use cp_schema::Node;
 use std::alloc::AllocError;
 
 const HEADING: &str = "-- What calls of `$0` of $1 lead to.\n";

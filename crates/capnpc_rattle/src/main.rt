@@ -39,7 +39,7 @@ mod uses;
 
 use anyhow::{anyhow, bail};
 use book::{Book, Scope, crate_name};
-use cp_types::{Node, Schema};
+use cp_schema::{Node, Schema};
 use out::{Arg, Out, file_name};
 use pages::{line_of, name_twice, root_text, sheets, specs_root};
 use sheet::Sheet;

@@ -3,7 +3,7 @@
 use crate::book::{Book, Named};
 use crate::out::Arg;
 use crate::sheet::Sheet;
-use cp_types::{Method, Node};
+use cp_schema::{Method, Node};
 use std::alloc::AllocError;
 
 /// The number of `struct StreamResult` of stream.capnp, which methods with `-> stream` have for their results.

@@ -8,7 +8,7 @@ use crate::out::{Arg, Out, name_of};
 use crate::sheet::Sheet;
 use crate::structs::structure;
 use crate::uses::{of_clauses, of_code, of_specs};
-use cp_types::{Node, NodeKind};
+use cp_schema::{Node, NodeKind};
 use std::alloc::AllocError;
 
 /// The libraries that the code of interfaces stands on, besides those of drafts.
@@ -136,7 +136,7 @@ pub fn line_of(book: &Book<'_>, sheets: &[Sheet<'_>], krate: &str) -> Out {
     );
     let mut crates = Out::new(book.alloc);
     if book.scope.drafts {
-        crates.put("cp_drafts\n");
+        crates.put("cp_builder\n");
     }
     if book.scope.interfaces {
         crates.put(STUBS);

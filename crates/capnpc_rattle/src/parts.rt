@@ -5,7 +5,7 @@ use crate::drafts::setter;
 use crate::out::{Arg, Out};
 use crate::promises::promised;
 use crate::sheet::Sheet;
-use cp_types::{Field, FieldKind, Node, NodeKind, Structure};
+use cp_schema::{Field, FieldKind, Node, NodeKind, Structure};
 
 /// The deepest that groups may lie within one another.
 const DEEPEST: u32 = 64;

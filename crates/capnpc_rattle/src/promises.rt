@@ -4,7 +4,7 @@ use crate::book::{Book, Named};
 use crate::out::Arg;
 use crate::parts::{Part, Wanted, fields};
 use crate::sheet::Sheet;
-use cp_types::{Base, Field, FieldKind, Node, Slot, Structure};
+use cp_schema::{Base, Field, FieldKind, Node, Slot, Structure};
 
 const RESULTS: &str = "
 impl Results for $0Draft {

@@ -1,6 +1,6 @@
 //! What interfaces extend, and by which structs capabilities can be named.
 
-use cp_types::{Base, Field, FieldKind, Node, NodeKind, Schema};
+use cp_schema::{Base, Field, FieldKind, Node, NodeKind, Schema};
 use std::alloc::{AllocError, Global};
 
 /// An interface, and all that it extends, those of them too that they extend.

@@ -6,7 +6,7 @@ use crate::kinds::takes;
 use crate::methods::Way;
 use crate::out::Arg;
 use crate::sheet::Sheet;
-use cp_types::{Interface, Node};
+use cp_schema::{Interface, Node};
 
 const TRAIT: &str = "
 /// An object of `interface $1`.

@@ -3,7 +3,7 @@
 use crate::book::Book;
 use crate::getters::{names_in, width_of};
 use crate::out::Arg;
-use cp_types::{Base, Slot};
+use cp_schema::{Base, Slot};
 
 /// How a field is set: the type of its value, what its bits or its pointer become as a definition says, and the code. They
 /// are templates of the places that `args` gives.
@@ -223,14 +223,14 @@ fn one_pointer(of: Base) -> Form {
             shape: &COPIED,
             of: "&str",
             value: "(text_tree value.now)",
-            code: "cp_drafts::text_of(alloc, value)?",
+            code: "cp_builder::text_of(alloc, value)?",
         },
         Base::Data => long(
             "Vec<u8>",
             "(bytes_tree value.items)",
-            "cp_drafts::bytes_of(value)?",
+            "cp_builder::bytes_of(value)?",
         ),
-        Base::Interface(_) => pointer("u32", "(cap_tree value)", "cp_drafts::cap_of(value)"),
+        Base::Interface(_) => pointer("u32", "(cap_tree value)", "cp_builder::cap_of(value)"),
         Base::Struct(_) => pointer("$2Draft", "value.body", "value.body.into_whole()"),
         _ => pointer("Whole", "value", "value"),
     }
@@ -243,27 +243,27 @@ fn list(of: Base) -> Form {
         Base::Bool => long(
             "Vec<bool>",
             "(bits_tree value.items)",
-            "cp_drafts::bits_of(value)?",
+            "cp_builder::bits_of(value)?",
         ),
         Base::Unsigned(8) => long(
             "Vec<u8>",
             "(bytes_tree value.items)",
-            "cp_drafts::bytes_of(value)?",
+            "cp_builder::bytes_of(value)?",
         ),
         Base::Unsigned(16) => long(
             "Vec<u16>",
             "(halves_tree value.items)",
-            "cp_drafts::halves_of(value)?",
+            "cp_builder::halves_of(value)?",
         ),
         Base::Unsigned(32) => long(
             "Vec<u32>",
             "(quads_tree value.items)",
-            "cp_drafts::quads_of(value)?",
+            "cp_builder::quads_of(value)?",
         ),
         Base::Unsigned(_) => long(
             "Vec<u64>",
             "(words_tree value.items)",
-            "cp_drafts::words_of(value)?",
+            "cp_builder::words_of(value)?",
         ),
         _ => pointer("Whole", "value", "value"),
     }

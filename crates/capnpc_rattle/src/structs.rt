@@ -9,7 +9,7 @@ use crate::out::{Arg, Out};
 use crate::promises::{cap_getter, promise};
 use crate::sheet::Sheet;
 use crate::unions::{union_code, union_method};
-use cp_types::{Base, Field, FieldKind, Node, Slot, Structure};
+use cp_schema::{Base, Field, FieldKind, Node, Slot, Structure};
 
 const VIEW: &str = "\
 #[derive(Drop)]

@@ -6,7 +6,7 @@ use crate::getters::{Getter, node_in, read_of};
 use crate::out::Arg;
 use crate::sheet::Sheet;
 use crate::structs::is_void;
-use cp_types::{Base, Field, FieldKind, Node, Structure};
+use cp_schema::{Base, Field, FieldKind, Node, Structure};
 use std::alloc::AllocError;
 
 const METHOD: &str = "

@@ -30,13 +30,13 @@ const LIBRARY: [Module; 13] = [
         ],
     ),
     (WRONG_KIND, &["WrongKind"]),
-    ("cp_drafts.specs.Numbers", &["flag_bit"]),
+    ("cp_builder.specs.Numbers", &["flag_bit"]),
     (
-        "cp_drafts.specs.declared.fault.DraftFault.TheVariants",
+        "cp_builder.specs.declared.fault.DraftFault.TheVariants",
         &["TooLong"],
     ),
     (
-        "cp_drafts.specs.Drafts",
+        "cp_builder.specs.Drafts",
         &[
             "HoldsOneMore",
             "bits_tree",
@@ -88,9 +88,9 @@ const FIELDS: [(&str, &[&str]); 8] = [
 
 /// The paths of the types of other libraries that the code of drafts cites.
 const DRAFTS: [&str; 8] = [
-    "cp_drafts::DraftFault",
-    "cp_drafts::StructDraft",
-    "cp_drafts::StructsDraft",
+    "cp_builder::DraftFault",
+    "cp_builder::StructDraft",
+    "cp_builder::StructsDraft",
     "cp_tree::Whole",
     "std::alloc::AllocError",
     "std::alloc::Global",

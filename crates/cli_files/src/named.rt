@@ -3,8 +3,7 @@
 use crate::paths::{Form, on_file};
 use cli_words::SchemaNames;
 use cp_commands::{Asked, BROKEN, Names, Plan, REFUSED};
-use cp_decode::Decoder;
-use cp_types::Schema;
+use cp_schema::{Decoder, Schema};
 use std::{fs, io};
 
 /// Shows the messages of a file by a schema.

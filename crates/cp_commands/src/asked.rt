@@ -1,8 +1,8 @@
 //! The questions of one direction of a connection, by which the Returns of the other direction are shown.
 
-use cp_decode::MethodNumber;
 use cp_frame::{FrameReader, Mode};
 use cp_rpc::MessageIn;
+use cp_schema::MethodNumber;
 use cp_stream::{Refusal, view_in};
 use cp_words::{Limits, Segments};
 use std::alloc::{AllocError, Global};

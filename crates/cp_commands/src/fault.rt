@@ -1,8 +1,8 @@
 //! What stops a command.
 
-use cp_decode::DecodeFault;
 use cp_frame::FrameFault;
 use cp_reading::TreeFault;
+use cp_schema::DecodeFault;
 use cp_stream::Refusal;
 use cp_tree::WriteFault;
 use std::alloc::{AllocError, AllocFailed};

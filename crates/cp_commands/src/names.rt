@@ -2,10 +2,9 @@
 
 use crate::asked::{Asked, Occurrences};
 use crate::fault::Stop;
-use cp_decode::{MethodNumber, call_line, return_line};
 use cp_reading::View;
 use cp_rpc::{CallView, MessageIn, MessageView, ReturnView, ReturnedView};
-use cp_types::Schema;
+use cp_schema::{MethodNumber, Schema, call_line, return_line};
 use std::alloc::Global;
 
 /// By what calls, and what they return, are shown.

@@ -2,7 +2,7 @@
 
 ghost use Rattle.cp_tree.specs.Shaped.{AllFit};
 
-use cp_drafts::{bytes_of, cap_of, text_of};
+use cp_builder::{bytes_of, cap_of, text_of};
 use cp_refs::{Cap, Caps, Outcome, Request};
 use cp_tree::{Body, Tree, Whole};
 use std::alloc::{AllocError, Global};
@@ -44,7 +44,7 @@ impl Model for Content {
 
 impl Content {
     ghost use Rattle.std.specs.Prelude.{◌≡◌, ◌++◌, ◌∷◌, [], length, IfOk};
-    ghost use Rattle.cp_drafts.specs.Drafts.{text_tree, bytes_tree, cap_tree};
+    ghost use Rattle.cp_builder.specs.Drafts.{text_tree, bytes_tree, cap_tree};
     ghost use Rattle.cp_refs.specs.declared.outcome.Outcome.TheVariants.{Results};
     ghost use Rattle.cp_servants.specs.Made.{nothing, with_word, with_pointer, content_of};
 

@@ -9,8 +9,8 @@ use Rattle.cp_refs.specs.declared.cap.Cap.TheVariants as caps
 use Rattle.cp_refs.specs.declared.outcome.Outcome.TheVariants as outcomes
 use Rattle.cp_fields.specs.declared.text.TextFault.{TextFault}
 use Rattle.cp_fields.specs.declared.text.TextFault.TheVariants as texts
-use Rattle.cp_drafts.specs.declared.fault.DraftFault.{DraftFault}
-use Rattle.cp_drafts.specs.declared.fault.DraftFault.TheVariants as drafts
+use Rattle.cp_builder.specs.declared.fault.DraftFault.{DraftFault}
+use Rattle.cp_builder.specs.declared.fault.DraftFault.TheVariants as drafts
 use Rattle.cp_servants.specs.declared.servant.Reply.{Reply}
 use Rattle.cp_servants.specs.declared.servant.Reply.TheVariants as replies
 use Rattle.cp_servants.specs.Outcomes.{exception_of, noted_with}

@@ -4,7 +4,7 @@ ghost use Rattle.std.specs.Prelude.{◌≡◌, Some, IfOk};
 ghost use Rattle.cp_servants.specs.Outcomes.{exception_of};
 ghost use Rattle.cp_stubs.specs.Replies.{exception_for};
 
-use cp_drafts::DraftFault;
+use cp_builder::DraftFault;
 use cp_fields::{TextFault, WrongKind};
 use cp_rpc::{Exception, ExceptionKind, Text};
 use std::alloc::{AllocError, AllocFailed, Global};

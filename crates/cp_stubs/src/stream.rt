@@ -1,11 +1,11 @@
 //! Methods with `-> stream`: calls with empty results.
 
 ghost use Rattle.std.specs.Prelude.{◌≡◌, IfOk};
-ghost use Rattle.cp_drafts.specs.Drafts.{blank};
+ghost use Rattle.cp_builder.specs.Drafts.{blank};
 
 use crate::answer::Results;
 use crate::promised::Promised;
-use cp_drafts::StructDraft;
+use cp_builder::StructDraft;
 use cp_tree::Whole;
 use std::alloc::{AllocError, Global};
 

@@ -13,7 +13,7 @@
 //! `payload_of` the outcome that is waited for is what the promise's `results` reads. `get_request` is the call as a value, for
 //! a `Vat` or an object that asks (`Target::ask`).
 
-pub use cp_drafts::DraftFault;
+pub use cp_builder::DraftFault;
 pub use cp_refs::failed;
 pub use cp_stubs::{
     Answer, Call, Caller, CapFault, MethodFault, NoResults, Object, Payload, Promised, Results,

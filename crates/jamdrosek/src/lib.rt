@@ -352,7 +352,7 @@
 //! - `tree`: the values that a message holds, owned or with lent parts.
 //! - `reading`, `writing`: from segments to trees, in place or owned, and from trees to segments.
 //! - `packed`, `frame`: the packed form, and the frames of a stream in any pieces.
-//! - `fields`, `drafts`: the fields of any struct by their places, read and written; `Past`, a number that only a newer
+//! - `fields`, `builder`: the fields of any struct by their places, read and written; `Past`, a number that only a newer
 //!   schema knows.
 //! - `message`: the messages of rpc.capnp, owned or read in place.
 //! - `stream`: messages read from and written to streams.
@@ -380,7 +380,7 @@ pub mod interfaces;
 pub mod server;
 pub mod vat;
 
-pub use cp_drafts as drafts;
+pub use cp_builder as builder;
 pub use cp_fields as fields;
 pub use cp_frame as frame;
 pub use cp_frame::{FrameReader, Mode, send_frame};

@@ -3,10 +3,10 @@
 ghost use Rattle.std.specs.Prelude.{◌≡◌, IfOk, OnOk, OnErr, Err, ◌≤◌, ◌^◌, length, ◌+◌, []};
 ghost use Rattle.cp_tree.specs.Seen.{pointee_of};
 ghost use Rattle.cp_fields.specs.Pointers.{Reads, struct_field, text_field};
-ghost use Rattle.cp_drafts.specs.declared.fault.DraftFault.TheVariants.{TooLong};
-ghost use Rattle.cp_drafts.specs.Drafts.{blank, text_tree, with_pointer};
+ghost use Rattle.cp_builder.specs.declared.fault.DraftFault.TheVariants.{TooLong};
+ghost use Rattle.cp_builder.specs.Drafts.{blank, text_tree, with_pointer};
 
-use cp_drafts::{DraftFault, StructDraft};
+use cp_builder::{DraftFault, StructDraft};
 use cp_fields::{Pointee, StructView, TextView, WrongKind};
 use std::alloc::{AllocError, Global};
 
@@ -58,7 +58,7 @@ impl StoreGetParamsDraft {
         ensures left { OnErr result (self.new ≡ self.old) }
         ensures long { result ≡ Err TooLong → 2 ^ 29 ≤ length value.now + 1 }
     {
-        self.body.set_pointer(0, cp_drafts::text_of(alloc, value)?);
+        self.body.set_pointer(0, cp_builder::text_of(alloc, value)?);
         Ok(())
     }
 }

@@ -2,9 +2,9 @@
 
 ghost use Rattle.std.specs.Prelude.{◌≡◌, IfOk};
 ghost use Rattle.cp_fields.specs.Pointers.{Reads, struct_field};
-ghost use Rattle.cp_drafts.specs.Drafts.{blank};
+ghost use Rattle.cp_builder.specs.Drafts.{blank};
 
-use cp_drafts::StructDraft;
+use cp_builder::StructDraft;
 use cp_fields::{Pointee, StructView, WrongKind};
 use cp_stubs::{Payload, Promised, Results};
 use cp_tree::Whole;

@@ -1,7 +1,7 @@
 //! Structs that are written by the places of their fields, and over readers and writers.
 
 use crate::trees::tree_of_constant;
-use cp_drafts::*;
+use cp_builder::*;
 use cp_fields::{Constant, Pointee, StructView};
 use cp_frame::Mode;
 use cp_stream::{Tap, read_struct, write_struct};

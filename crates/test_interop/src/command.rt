@@ -3,9 +3,8 @@
 use crate::fault::Fault;
 use crate::row::{decoded, expect};
 use cp_commands::{Asked, Names, Plan, act};
-use cp_decode::Decoder;
 use cp_frame::Mode;
-use cp_types::Schema;
+use cp_schema::{Decoder, Schema};
 use cp_words::Limits;
 use std::alloc::Global;
 

@@ -1,8 +1,8 @@
 //! How a frame can fail its trial.
 
 use cp_frame::FrameFault;
+use cp_schema::RequestFault;
 use cp_stream::{Refusal, StreamFault};
-use cp_types::RequestFault;
 use std::alloc::{AllocError, AllocFailed};
 use thiserror::Error;
 

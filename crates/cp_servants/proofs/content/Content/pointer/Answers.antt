@@ -4,7 +4,7 @@ use Rattle.cp_tree.specs.Node.{Node}
 use Rattle.cp_tree.specs.NodeOf.{node_of, nodes_of}
 use Rattle.cp_tree.specs.Shaped.{Shaped, EachShaped}
 use Rattle.cp_tree.specs.declared.tree.Tree.{Tree}
-use Rattle.cp_drafts.proofs.Rows.{shaped_last}
+use Rattle.cp_builder.proofs.Rows.{shaped_last}
 use Rattle.cp_servants.proofs.content.Content.pointer.Goals as goal
 
 pub invariant_of-self : goal.invariant_of-self

@@ -1,0 +1,53 @@
+//! What is set is read back, and all else stays.
+
+ghost use Rattle.std.specs.Prelude.{◌≡◌, ◌≢◌, ℕ, ◌*◌, ◌/◌, ◌^◌, ◌<◌, List, length, Ok};
+ghost use Rattle.cp_tree.specs.Node.{Node, IsStruct, data_of, count};
+ghost use Rattle.cp_tree.specs.Seen.{pointee_of};
+ghost use Rattle.cp_fields.specs.Numbers.{plain};
+ghost use Rattle.cp_fields.specs.Pointers.{pointers_of, text_field};
+ghost use Rattle.cp_builder.specs.Numbers.{AreApart, IsInWord, IsNumber};
+ghost use Rattle.cp_builder.specs.Drafts.{widened, with_uint, with_pointer, text_tree};
+
+/// A number that was set is read back, if it lies within the data section.
+#[tactic(auto, using(crate::proofs::ReadBack::number_back))]
+pub fn numbers_come_back()
+    ensures { (t : Node) (w i n : ℕ) → IsStruct t → i * w / 64 < length (data_of t) → n < 2 ^ w → plain (with_uint t w i n) w i ≡ n }
+{}
+
+/// Setting a number changes no other one that shares no bit with it.
+#[tactic(auto, using(crate::proofs::Others::number_stays))]
+pub fn numbers_stay()
+    ensures { (t : Node) (w i n v j : ℕ) → IsNumber w i n → IsInWord v j → AreApart w i v j → plain (with_uint t w i n) v j ≡ plain t v j }
+{}
+
+/// What a pointer was set to is read back.
+#[tactic(auto, using(crate::proofs::ReadBack::pointer_back))]
+pub fn pointers_come_back()
+    ensures { (t : Node) (i : ℕ) (x : Node) → i < count (pointers_of t) → pointee_of (with_pointer t i x) i ≡ x }
+{}
+
+/// Setting a pointer changes no other one.
+#[tactic(auto, using(crate::proofs::Others::pointer_stays))]
+pub fn pointers_stay()
+    ensures { (t : Node) (i : ℕ) (x : Node) (j : ℕ) → i ≢ j → pointee_of (with_pointer t i x) j ≡ pointee_of t j }
+{}
+
+/// Numbers and pointers don't change each other.
+#[tactic(auto, using(crate::proofs::Others::pointer_beside, crate::proofs::Others::number_beside))]
+pub fn sections_stay()
+    ensures pointer { (t : Node) (w i n j : ℕ) → pointee_of (with_uint t w i n) j ≡ pointee_of t j }
+    ensures number { (t : Node) (i : ℕ) (x : Node) (w j : ℕ) → plain (with_pointer t i x) w j ≡ plain t w j }
+{}
+
+/// A draft of a struct that was read has the fields that were read.
+#[tactic(auto, using(crate::proofs::Widened::number_kept, crate::proofs::Widened::pointer_kept))]
+pub fn fields_are_kept()
+    ensures number { (d n : ℕ) (t : Node) (w i : ℕ) → plain (widened d n t) w i ≡ plain t w i }
+    ensures pointer { (d n : ℕ) (t : Node) (i : ℕ) → pointee_of (widened d n t) i ≡ pointee_of t i }
+{}
+
+/// A text that was written is read back.
+#[tactic(auto, using(crate::proofs::ReadBack::text_back))]
+pub fn texts_come_back()
+    ensures { (default bs : List ℕ) → text_field default (text_tree bs) ≡ Ok bs }
+{}

@@ -1,0 +1,86 @@
+//! Drafts of structs that were read. All that was read is kept, the fields of a newer schema too.
+
+ghost use Rattle.std.specs.Prelude.{◌≡◌, ◌-◌, ◌++◌, IfOk, OnOk, length, map, replicate};
+ghost use Rattle.cp_tree.specs.Node.{null, struct};
+ghost use Rattle.cp_tree.specs.NodeOf.{node_of, body_of};
+ghost use Rattle.cp_tree.specs.Shaped.{Shaped};
+
+use crate::fault::DraftFault;
+use crate::structure::StructDraft;
+use cp_fields::StructView;
+use cp_tree::{Body, Object, Tree};
+use std::alloc::{AllocError, Global};
+
+impl<const W: usize, const P: usize> StructDraft<W, P> {
+    ghost use Rattle.std.specs.Prelude.{◌≡◌, ◌<◌, ◌^◌, Err, IfOk, OnOk};
+    ghost use Rattle.cp_tree.specs.Shaped.{Shaped};
+    ghost use Rattle.cp_builder.specs.Drafts.{widened};
+    ghost use Rattle.cp_builder.specs.declared.fault.DraftFault.TheVariants.{TooLong};
+
+    /// A draft of a struct that was read where it lies. `TooLong` says that it is owned, and no message can hold it.
+    pub fn of_view(alloc: Global, view: &StructView<'_>) -> Result<StructDraft<W, P>, DraftFault>
+        requires words { W < 2 ^ 16 }
+        requires pointers { P < 2 ^ 16 }
+        ensures taken { IfOk result (λ d. d ≡ widened W P view.now) }
+        ensures shaped { OnOk result (Shaped view.now) }
+        ensures long { result ≡ Err TooLong → ¬ (Shaped view.now) }
+    {
+        match Object::new(view.tree(alloc)?) {
+            Ok(object) => Ok(StructDraft::of_object(object)?),
+            Err(_) => Err(DraftFault::TooLong),
+        }
+    }
+
+    /// A draft of a struct that was read and is owned. Nothing of it is copied.
+    pub fn of_object(object: Object) -> Result<StructDraft<W, P>, AllocError>
+        requires words { W < 2 ^ 16 }
+        requires pointers { P < 2 ^ 16 }
+        ensures { IfOk result (λ d. d ≡ widened W P object) }
+    {
+        let body = body_in(object);
+        let words = filled(body.words, W)?;
+        Ok(StructDraft {
+            words,
+            pointers: with_nulls(body.ptrs, P)?,
+        })
+    }
+}
+
+/// The struct that an object is.
+fn body_in(object: Object) -> Body
+    ensures body { struct (body_of result).0 (body_of result).1 ≡ object }
+    ensures shaped { Shaped object }
+{
+    match object.into_tree() {
+        Tree::Struct(body) => body,
+        _ => unreachable!(),
+    }
+}
+
+/// Words, and zeros after them up to this many.
+fn filled(words: Vec<u64>, count: usize) -> Result<Vec<u64>, AllocError>
+    ensures { IfOk result (λ v. v.items ≡ words.items ++ replicate (count - length words.items) 0) }
+{
+    let mut words = words;
+    words.resize(words.len().max(count), 0)?;
+    Ok(words)
+}
+
+/// Trees, and null ones after them up to this many.
+fn with_nulls(mut trees: Vec<Tree>, count: usize) -> Result<Vec<Tree>, AllocError>
+    ensures { IfOk result (λ v. map node_of v.items ≡ map node_of trees.items ++ replicate (count - length trees.items) null) }
+{
+    let missing = count.saturating_sub(trees.len());
+    push_nulls(&mut trees, missing)?;
+    Ok(trees)
+}
+
+/// Appends this many null trees.
+pub(crate) fn push_nulls(trees: &mut Vec<Tree>, count: usize) -> Result<(), AllocError>
+    ensures { OnOk result (map node_of trees.new.items ≡ map node_of trees.old.items ++ replicate count null) }
+{
+    for _ in 0..count {
+        trees.push(Tree::Null)?;
+    }
+    Ok(())
+}

@@ -1,5 +1,0 @@
-use Rattle.cp_drafts.proofs.Words.{put_is}
-use Rattle.cp_drafts.proofs.numbers.put.Goals as goal
-
-pub returns : goal.returns
-returns g = put_is g.args.word g.args.width g.args.first g.args.number g.ranges.word.fits g.requires.first g.requires.within g.requires.fits

@@ -1,0 +1,115 @@
+//! Calls and what they return, by the names of their methods.
+
+use crate::decoder::{DecodeFault, Decoder};
+use crate::line::Line;
+use crate::node::{Method, NodeKind, Schema};
+use cp_reading::View;
+use std::alloc::Global;
+
+/// A method by its numbers: that of its interface, and its own there.
+#[derive(Clone, Copy)]
+pub struct MethodNumber {
+    pub interface: u64,
+    pub method: u16,
+}
+
+/// A method that a schema has.
+#[derive(Clone, Copy)]
+struct Named<'s> {
+    schema: &'s Schema,
+    /// The name of its interface.
+    interface: &'s str,
+    method: &'s Method,
+}
+
+/// The line of a call whose line by numbers is `plain`, with the names of its interface and its method, and its params
+/// by their struct. `None`: the schema has no such method, or the params aren't as it says.
+pub fn call_line(
+    alloc: Global,
+    schema: &Schema,
+    number: MethodNumber,
+    plain: &str,
+    params: View<'_>,
+) -> Result<Option<String>, DecodeFault> {
+    match Named::find(schema, number) {
+        Some(named) => named.line(alloc, plain, " i=", named.method.params, params),
+        None => Ok(None),
+    }
+}
+
+/// The line of a Return with results whose line by numbers is `plain`, likewise, where this method was called.
+pub fn return_line(
+    alloc: Global,
+    schema: &Schema,
+    number: MethodNumber,
+    plain: &str,
+    results: View<'_>,
+) -> Result<Option<String>, DecodeFault> {
+    match Named::find(schema, number) {
+        Some(named) => named.line(alloc, plain, " {", named.method.results, results),
+        None => Ok(None),
+    }
+}
+
+impl<'s> Named<'s> {
+    /// The method of this number, if a schema has it.
+    fn find(schema: &'s Schema, number: MethodNumber) -> Option<Named<'s>> {
+        let node = schema.find(number.interface)?;
+        match &node.kind {
+            NodeKind::Interface(of) => Some(Named {
+                schema,
+                interface: node.name(),
+                method: of.methods.get(number.method as usize)?,
+            }),
+            _ => None,
+        }
+    }
+
+    /// The line `plain` up to `mark`, the names, the content by the struct of this number, and the capabilities of `plain`.
+    fn line(
+        &self,
+        alloc: Global,
+        plain: &str,
+        mark: &str,
+        structure: u64,
+        content: View<'_>,
+    ) -> Result<Option<String>, DecodeFault> {
+        let Some(decoder) = Decoder::by_number(self.schema, structure) else {
+            return Ok(None);
+        };
+        let mut line = Line::new(alloc);
+        line.put(before(plain, mark));
+        line.push(' ');
+        line.put(self.interface);
+        line.push('.');
+        line.put(self.method.name.as_str());
+        line.push(' ');
+        decoder.put(&mut line, content);
+        let caps = caps_of(plain);
+        if caps != "]" {
+            line.put(" caps[");
+            line.put(caps);
+        }
+        match line.done() {
+            Ok(text) => Ok(Some(text)),
+            Err(DecodeFault::OutOfMemory) => Err(DecodeFault::OutOfMemory),
+            Err(_) => Ok(None),
+        }
+    }
+}
+
+/// What stands in a line before the first `mark`.
+fn before<'t>(plain: &'t str, mark: &str) -> &'t str {
+    match plain.split_once(mark) {
+        Some((before, _)) => before,
+        None => plain,
+    }
+}
+
+/// The capabilities of a payload, as they stand at the end of its line.
+fn caps_of(plain: &str) -> &str {
+    match plain.rsplit_once(" caps[") {
+        Some((_, caps)) => caps.strip_suffix("}\n").unwrap_or(caps),
+        None => "]",
+    }
+}

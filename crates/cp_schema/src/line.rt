@@ -1,0 +1,149 @@
+//! A line in the reference tool's notation, as it is put together.
+
+use crate::decoder::DecodeFault;
+use cp_fields::{DataView, TextView, WrongKind};
+use std::alloc::Global;
+
+/// A line. It remembers whether memory ran out, and the first pointer that was of another kind than the schema says.
+#[derive(Drop)]
+pub(crate) struct Line {
+    pub(crate) alloc: Global,
+    pub(crate) text: String,
+    /// Whether a bracket was opened last.
+    opened: bool,
+    pub(crate) is_full: bool,
+    pub(crate) wrong: Option<WrongKind>,
+    /// Whether what it shows lies too deep.
+    pub(crate) is_deep: bool,
+}
+
+impl Line {
+    pub(crate) fn new(alloc: Global) -> Line {
+        Line {
+            alloc,
+            text: String::new(alloc),
+            opened: true,
+            is_full: false,
+            wrong: None,
+            is_deep: false,
+        }
+    }
+
+    /// The line with its line feed, if it is right.
+    pub(crate) fn done(mut self) -> Result<String, DecodeFault> {
+        self.push('\n');
+        if self.is_full {
+            return Err(DecodeFault::OutOfMemory);
+        }
+        if self.is_deep {
+            return Err(DecodeFault::TooDeep);
+        }
+        match self.wrong {
+            Some(wrong) => Err(DecodeFault::WrongKind(wrong)),
+            None => Ok(self.text),
+        }
+    }
+
+    /// Adds a text.
+    pub(crate) fn put(&mut self, text: &str) {
+        if self.text.push_str(text).is_err() {
+            self.is_full = true;
+        }
+    }
+
+    /// Adds a character.
+    pub(crate) fn push(&mut self, c: char) {
+        if self.text.push(c).is_err() {
+            self.is_full = true;
+        }
+    }
+
+    /// Opens a bracket.
+    pub(crate) fn open(&mut self, mark: char) {
+        self.push(mark);
+        self.opened = true;
+    }
+
+    /// Closes a bracket.
+    pub(crate) fn close(&mut self, mark: char) {
+        self.push(mark);
+        self.opened = false;
+    }
+
+    /// Adds what comes before an element.
+    pub(crate) fn item(&mut self) {
+        if !self.opened {
+            self.put(", ");
+        }
+        self.opened = false;
+    }
+
+    /// Adds what comes before a field's value.
+    pub(crate) fn field(&mut self, name: &str) {
+        self.item();
+        self.put(name);
+        self.put(" = ");
+    }
+
+    /// Says that a pointer is of another kind than the schema says.
+    pub(crate) fn refuse(&mut self, wrong: WrongKind) {
+        if self.wrong.is_none() {
+            self.wrong = Some(wrong);
+        }
+    }
+
+    /// Adds a text between quotes; one that isn't UTF-8 as bytes.
+    pub(crate) fn string(&mut self, text: &TextView<'_>) {
+        match text.text(self.alloc) {
+            Ok(owned) => self.characters(owned.as_str()),
+            Err(_) => self.bytes(&text.bytes()),
+        }
+    }
+
+    /// Adds characters between quotes.
+    pub(crate) fn characters(&mut self, text: &str) {
+        self.push('"');
+        for c in text.chars() {
+            if c.is_ascii() {
+                self.byte(c as u8);
+            } else {
+                self.push(c);
+            }
+        }
+        self.push('"');
+    }
+
+    /// Adds bytes between quotes.
+    pub(crate) fn bytes(&mut self, data: &DataView<'_>) {
+        self.push('"');
+        for i in 0..data.len() {
+            self.byte(data.get(i));
+        }
+        self.push('"');
+    }
+
+    /// Adds a byte of a text.
+    fn byte(&mut self, byte: u8) {
+        match byte {
+            7 => self.put("\\a"),
+            8 => self.put("\\b"),
+            9 => self.put("\\t"),
+            10 => self.put("\\n"),
+            11 => self.put("\\v"),
+            12 => self.put("\\f"),
+            13 => self.put("\\r"),
+            34 => self.put("\\\""),
+            39 => self.put("\\'"),
+            92 => self.put("\\\\"),
+            32..=126 => self.push(byte as char),
+            _ => self.octal(byte),
+        }
+    }
+
+    /// Adds a byte by its number.
+    fn octal(&mut self, byte: u8) {
+        if write!(self.text, "\\{byte:03o}").is_err() {
+            self.is_full = true;
+        }
+    }
+}

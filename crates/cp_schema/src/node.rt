@@ -1,0 +1,276 @@
+//! The nodes of a request: its files, structs, enums, interfaces and constants.
+
+use crate::fault::RequestFault;
+use crate::field::Field;
+use crate::kind::{DEEPEST, Type, type_of};
+use crate::load::{Load, load_all, text_of};
+use crate::value::{Value, value_of};
+use cp_fields::Pointee;
+use cp_frame::FrameReader;
+use cp_reading::View;
+use cp_schema_capnp::{
+    CodeGeneratorRequestRequestedFileImportView, CodeGeneratorRequestRequestedFileView,
+    CodeGeneratorRequestView, EnumerantView, MethodView, NodeConstView, NodeInterfaceView,
+    NodeSourceInfoMemberView, NodeSourceInfoView, NodeStructView, NodeView, NodeWhich,
+    SuperclassView,
+};
+use cp_words::{Limits, Segments};
+use std::alloc::Global;
+
+/// The types of a request.
+#[derive(Drop)]
+pub struct Schema {
+    pub nodes: Vec<Node>,
+    /// The files that were asked for.
+    pub files: Vec<File>,
+    pub comments: Vec<Comments>,
+}
+
+/// A file that was asked for.
+#[derive(Drop)]
+pub struct File {
+    pub id: u64,
+    /// The files that it imports.
+    pub imports: Vec<u64>,
+}
+
+/// The comments of a node and of its members, in the order of their numbers.
+#[derive(Drop)]
+pub struct Comments {
+    pub id: u64,
+    pub about: String,
+    pub members: Vec<String>,
+}
+
+/// A node.
+#[derive(Drop)]
+pub struct Node {
+    pub id: u64,
+    /// The node that it lies in.
+    pub scope: u64,
+    /// The path of its file, and after a colon its name with those of the types that it lies in.
+    pub title: String,
+    pub kind: NodeKind,
+}
+
+/// What a node is.
+#[derive(Drop)]
+pub enum NodeKind {
+    File,
+    Struct(Structure),
+    /// An enum, with the names of its values.
+    Enum(Vec<String>),
+    Interface(Interface),
+    Const(Constant),
+    /// An annotation, or what a newer schema.capnp has.
+    Other,
+}
+
+/// A struct or a group.
+#[derive(Drop)]
+pub struct Structure {
+    pub is_group: bool,
+    /// The numbers of its data words and pointers.
+    pub words: u16,
+    pub pointers: u16,
+    /// The number of members of its union; 0 where it has none.
+    pub tags: u16,
+    /// Where the number of the member is that is set.
+    pub tag_place: u32,
+    pub fields: Vec<Field>,
+}
+
+/// An interface.
+#[derive(Drop)]
+pub struct Interface {
+    /// The interfaces that it extends.
+    pub supers: Vec<u64>,
+    pub methods: Vec<Method>,
+}
+
+/// A method of an interface.
+#[derive(Drop)]
+pub struct Method {
+    pub name: String,
+    pub params: u64,
+    pub results: u64,
+}
+
+/// A constant.
+#[derive(Drop)]
+pub struct Constant {
+    pub of: Type,
+    pub value: Value,
+}
+
+impl Schema {
+    /// The types of the request whose frame is the first of these bytes.
+    pub fn read(alloc: Global, bytes: &[u8]) -> Result<Schema, RequestFault> {
+        let mut reader = FrameReader::plain(alloc, Limits::standard());
+        let frames = reader.feed(bytes)?;
+        match frames.first() {
+            Some((_, segments)) => schema_of(alloc, segments),
+            None => Err(RequestFault::Missing),
+        }
+    }
+
+    /// The node of this number.
+    pub fn find(&self, id: u64) -> Option<&Node> {
+        for node in &self.nodes {
+            if node.id == id {
+                return Some(node);
+            }
+        }
+        None
+    }
+}
+
+/// The types of the request that a message is.
+fn schema_of(alloc: Global, segments: &Segments) -> Result<Schema, RequestFault> {
+    let view = View::root(segments, Limits::standard())?;
+    let request = CodeGeneratorRequestView::of(Pointee::of_view(view))?;
+    let (nodes, files) = (request.nodes()?, request.requested_files()?);
+    let comments = load_all(alloc, request.source_info()?)?;
+    let files = load_all(alloc, files)?;
+    Ok(Schema {
+        nodes: load_all(alloc, nodes)?,
+        files,
+        comments,
+    })
+}
+
+impl Node {
+    /// The path of its file.
+    pub fn path(&self) -> &str {
+        match self.title.as_str().split_once(':') {
+            Some((path, _)) => path,
+            None => self.title.as_str(),
+        }
+    }
+
+    /// Its name with those of the types that it lies in, but not its file's.
+    pub fn name(&self) -> &str {
+        match self.title.as_str().split_once(':') {
+            Some((_, name)) => name,
+            None => "",
+        }
+    }
+}
+
+impl<'n> Load<NodeView<'n>> for Node {
+    fn load(alloc: Global, view: &NodeView<'n>) -> Result<Node, RequestFault> {
+        let title = text_of(alloc, view.display_name())?;
+        Ok(Node {
+            id: view.id(),
+            scope: view.scope_id(),
+            title,
+            kind: kind_of(alloc, view)?,
+        })
+    }
+}
+
+/// What a node is.
+fn kind_of(alloc: Global, view: &NodeView<'_>) -> Result<NodeKind, RequestFault> {
+    match view.which() {
+        NodeWhich::File => Ok(NodeKind::File),
+        NodeWhich::Struct => structure_of(alloc, &view.struct_()),
+        NodeWhich::Enum => match view.enum_().enumerants() {
+            Ok(items) => load_all(alloc, items).map(NodeKind::Enum),
+            Err(fault) => Err(RequestFault::WrongKind(fault)),
+        },
+        NodeWhich::Interface => interface_of(alloc, &view.interface()),
+        NodeWhich::Const => constant_of(alloc, &view.const_()),
+        _ => Ok(NodeKind::Other),
+    }
+}
+
+/// A struct or a group.
+fn structure_of(alloc: Global, view: &NodeStructView<'_>) -> Result<NodeKind, RequestFault> {
+    Ok(NodeKind::Struct(Structure {
+        is_group: view.is_group(),
+        words: view.data_word_count(),
+        pointers: view.pointer_count(),
+        tags: view.discriminant_count(),
+        tag_place: view.discriminant_offset(),
+        fields: load_all(alloc, view.fields()?)?,
+    }))
+}
+
+/// An interface.
+fn interface_of(alloc: Global, view: &NodeInterfaceView<'_>) -> Result<NodeKind, RequestFault> {
+    let (supers, methods) = (view.superclasses()?, view.methods()?);
+    let supers = load_all(alloc, supers)?;
+    Ok(NodeKind::Interface(Interface {
+        supers,
+        methods: load_all(alloc, methods)?,
+    }))
+}
+
+/// A constant.
+fn constant_of(alloc: Global, view: &NodeConstView<'_>) -> Result<NodeKind, RequestFault> {
+    let of = type_of(&view.type_()?, DEEPEST)?;
+    Ok(NodeKind::Const(Constant {
+        of,
+        value: value_of(alloc, &view.value()?)?,
+    }))
+}
+
+impl<'n> Load<EnumerantView<'n>> for String {
+    fn load(alloc: Global, view: &EnumerantView<'n>) -> Result<String, RequestFault> {
+        text_of(alloc, view.name())
+    }
+}
+
+impl<'n> Load<NodeSourceInfoMemberView<'n>> for String {
+    fn load(alloc: Global, view: &NodeSourceInfoMemberView<'n>) -> Result<String, RequestFault> {
+        text_of(alloc, view.doc_comment())
+    }
+}
+
+impl<'n> Load<CodeGeneratorRequestRequestedFileImportView<'n>> for u64 {
+    fn load(
+        _alloc: Global,
+        view: &CodeGeneratorRequestRequestedFileImportView<'n>,
+    ) -> Result<u64, RequestFault> {
+        Ok(view.id())
+    }
+}
+
+impl<'n> Load<SuperclassView<'n>> for u64 {
+    fn load(_alloc: Global, view: &SuperclassView<'n>) -> Result<u64, RequestFault> {
+        Ok(view.id())
+    }
+}
+
+impl<'n> Load<MethodView<'n>> for Method {
+    fn load(alloc: Global, view: &MethodView<'n>) -> Result<Method, RequestFault> {
+        Ok(Method {
+            name: text_of(alloc, view.name())?,
+            params: view.param_struct_type(),
+            results: view.result_struct_type(),
+        })
+    }
+}
+
+impl<'n> Load<CodeGeneratorRequestRequestedFileView<'n>> for File {
+    fn load(
+        alloc: Global,
+        view: &CodeGeneratorRequestRequestedFileView<'n>,
+    ) -> Result<File, RequestFault> {
+        Ok(File {
+            id: view.id(),
+            imports: load_all(alloc, view.imports()?)?,
+        })
+    }
+}
+
+impl<'n> Load<NodeSourceInfoView<'n>> for Comments {
+    fn load(alloc: Global, view: &NodeSourceInfoView<'n>) -> Result<Comments, RequestFault> {
+        let about = text_of(alloc, view.doc_comment())?;
+        Ok(Comments {
+            id: view.id(),
+            about,
+            members: load_all(alloc, view.members()?)?,
+        })
+    }
+}

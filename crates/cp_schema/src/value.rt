@@ -1,0 +1,78 @@
+//! The values of constants, and the defaults of fields.
+
+use crate::fault::RequestFault;
+use crate::load::text_of;
+use cp_schema_capnp::{ValueView, ValueWhich};
+use cp_tree::Tree;
+use std::alloc::Global;
+
+/// The value of a constant, or a field's default.
+#[derive(Drop)]
+pub enum Value {
+    /// A number, a bool or a value of an enum, by its bits.
+    Bits(u64),
+    Text(String),
+    Data(Vec<u8>),
+    /// A struct, a list that has elements, or what a pointer of any kind stands for.
+    Tree(Tree),
+    /// A value of another type, null, or an empty list, which null stands for.
+    Other,
+}
+
+impl Value {
+    /// Whether it is a pointer that reads otherwise than null.
+    pub(crate) fn points(&self) -> bool {
+        match self {
+            Value::Text(text) => !text.is_empty(),
+            Value::Data(bytes) => !bytes.is_empty(),
+            Value::Tree(_) => true,
+            Value::Bits(_) | Value::Other => false,
+        }
+    }
+}
+
+/// The value of a constant, or a field's default.
+pub(crate) fn value_of(alloc: Global, view: &ValueView<'_>) -> Result<Value, RequestFault> {
+    match view.which() {
+        ValueWhich::Text => text_of(alloc, view.text()).map(Value::Text),
+        ValueWhich::Data => Ok(Value::Data(view.data_()?.to_vec(alloc)?)),
+        ValueWhich::List => match view.list().tree(alloc)? {
+            list if is_empty(&list) => Ok(Value::Other),
+            list => Ok(Value::Tree(list)),
+        },
+        ValueWhich::Struct | ValueWhich::AnyPointer => match view.list().tree(alloc)? {
+            Tree::Null => Ok(Value::Other),
+            tree => Ok(Value::Tree(tree)),
+        },
+        ValueWhich::Void | ValueWhich::Interface | ValueWhich::Unknown(_) => Ok(Value::Other),
+        _ => Ok(Value::Bits(bits_of(view))),
+    }
+}
+
+/// The bits of a number.
+pub(crate) fn bits_of(value: &ValueView<'_>) -> u64 {
+    match value.which() {
+        ValueWhich::Bool => value.bool_() as u64,
+        ValueWhich::Int8 | ValueWhich::Uint8 => value.uint8() as u64,
+        ValueWhich::Int16 | ValueWhich::Uint16 | ValueWhich::Enum => value.uint16() as u64,
+        ValueWhich::Int32 | ValueWhich::Uint32 | ValueWhich::Float32 => value.uint32() as u64,
+        ValueWhich::Int64 | ValueWhich::Uint64 | ValueWhich::Float64 => value.uint64(),
+        _ => 0,
+    }
+}
+
+/// Whether a tree is null, or a list without elements.
+fn is_empty(tree: &Tree) -> bool {
+    match tree {
+        Tree::Null => true,
+        Tree::Voids(count) => *count == 0,
+        Tree::Bits(items) => items.is_empty(),
+        Tree::Bytes(items) => items.is_empty(),
+        Tree::Halves(items) => items.is_empty(),
+        Tree::Quads(items) => items.is_empty(),
+        Tree::Words(items) => items.is_empty(),
+        Tree::Ptrs(items) => items.is_empty(),
+        Tree::Structs { items, .. } => items.is_empty(),
+        Tree::Cap(_) | Tree::Struct(_) => false,
+    }
+}

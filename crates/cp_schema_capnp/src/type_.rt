@@ -1,0 +1,203 @@
+//! `type_` of schema.capnp.
+
+ghost use Rattle.std.specs.Prelude.{◌≡◌};
+ghost use Rattle.cp_words.specs.declared.pointer.ElementSize.TheVariants as sizes;
+ghost use Rattle.cp_tree.specs.Seen.{pointee_of};
+ghost use Rattle.cp_fields.specs.Numbers.{plain};
+ghost use Rattle.cp_fields.specs.Pointers.{Reads, struct_field};
+ghost use Rattle.cp_schema_capnp.specs.Type_.{type_which_of};
+
+use cp_fields::{Item, Past, StructView, WrongKind};
+
+/// Represents a type expression.
+#[derive(Drop)]
+pub struct TypeView<'a> {
+    /// The struct, by the places of its fields.
+    pub body: StructView<'a>,
+}
+
+impl<'a> Item<'a> for TypeView<'a> {
+    ghost SIZE = { sizes.Composite };
+
+    ghost read = { λ t. record { body = t } };
+
+    fn size() -> cp_words::ElementSize
+        ensures { result ≡ sizes.Composite }
+    {
+        cp_words::ElementSize::Composite
+    }
+
+    fn of_item(item: StructView<'a>) -> TypeView<'a> {
+        TypeView { body: item }
+    }
+}
+
+impl<'a> TypeView<'a> {
+    /// Which member of the union is set.
+    pub fn which(&self) -> TypeWhich
+        ensures { result ≡ type_which_of (plain self.now.body 16 0) }
+    {
+        TypeWhich::of(self.body.u16(0))
+    }
+
+    /// Group `list`.
+    pub fn list(&self) -> TypeListView<'a>
+        ensures { result.body ≡ self.now.body }
+    {
+        TypeListView {
+            body: self.body.again(),
+        }
+    }
+
+    /// Group `enum`.
+    pub fn enum_(&self) -> TypeEnumView<'a>
+        ensures { result.body ≡ self.now.body }
+    {
+        TypeEnumView {
+            body: self.body.again(),
+        }
+    }
+
+    /// Group `struct`.
+    pub fn struct_(&self) -> TypeStructView<'a>
+        ensures { result.body ≡ self.now.body }
+    {
+        TypeStructView {
+            body: self.body.again(),
+        }
+    }
+
+    /// Group `interface`.
+    pub fn interface(&self) -> TypeInterfaceView<'a>
+        ensures { result.body ≡ self.now.body }
+    {
+        TypeInterfaceView {
+            body: self.body.again(),
+        }
+    }
+}
+
+/// The members of the union of `Type`.
+#[derive(Clone, Copy, PartialEq, Eq)]
+pub enum TypeWhich {
+    Void,
+    Bool,
+    Int8,
+    Int16,
+    Int32,
+    Int64,
+    Uint8,
+    Uint16,
+    Uint32,
+    Uint64,
+    Float32,
+    Float64,
+    Text,
+    Data,
+    List,
+    Enum,
+    Struct,
+    Interface,
+    AnyPointer,
+    /// A number that a newer schema has.
+    Unknown(Past<18>),
+}
+
+impl TypeWhich {
+    /// The value of this number.
+    pub fn of(number: u16) -> TypeWhich
+        ensures { result ≡ type_which_of number }
+    {
+        match number {
+            0 => TypeWhich::Void,
+            1 => TypeWhich::Bool,
+            2 => TypeWhich::Int8,
+            3 => TypeWhich::Int16,
+            4 => TypeWhich::Int32,
+            5 => TypeWhich::Int64,
+            6 => TypeWhich::Uint8,
+            7 => TypeWhich::Uint16,
+            8 => TypeWhich::Uint32,
+            9 => TypeWhich::Uint64,
+            10 => TypeWhich::Float32,
+            11 => TypeWhich::Float64,
+            12 => TypeWhich::Text,
+            13 => TypeWhich::Data,
+            14 => TypeWhich::List,
+            15 => TypeWhich::Enum,
+            16 => TypeWhich::Struct,
+            17 => TypeWhich::Interface,
+            18 => TypeWhich::AnyPointer,
+            _ => match Past::new(number) {
+                Some(number) => TypeWhich::Unknown(number),
+                None => unreachable!(),
+            },
+        }
+    }
+}
+
+/// `group Type.list`.
+#[derive(Drop)]
+pub struct TypeListView<'a> {
+    /// The struct, by the places of its fields.
+    pub body: StructView<'a>,
+}
+
+impl<'a> TypeListView<'a> {
+    /// `elementType @14`.
+    pub fn element_type(&self) -> Result<TypeView<'a>, WrongKind>
+        ensures { Reads result (λ x. x.body) (struct_field (pointee_of self.now.body 0)) }
+    {
+        Ok(TypeView {
+            body: self.body.structure(0)?,
+        })
+    }
+}
+
+/// `group Type.enum`.
+#[derive(Drop)]
+pub struct TypeEnumView<'a> {
+    /// The struct, by the places of its fields.
+    pub body: StructView<'a>,
+}
+
+impl<'a> TypeEnumView<'a> {
+    /// `typeId @15`.
+    pub fn type_id(&self) -> u64
+        ensures { result ≡ plain self.now.body 64 1 }
+    {
+        self.body.u64(1)
+    }
+}
+
+/// `group Type.struct`.
+#[derive(Drop)]
+pub struct TypeStructView<'a> {
+    /// The struct, by the places of its fields.
+    pub body: StructView<'a>,
+}
+
+impl<'a> TypeStructView<'a> {
+    /// `typeId @16`.
+    pub fn type_id(&self) -> u64
+        ensures { result ≡ plain self.now.body 64 1 }
+    {
+        self.body.u64(1)
+    }
+}
+
+/// `group Type.interface`.
+#[derive(Drop)]
+pub struct TypeInterfaceView<'a> {
+    /// The struct, by the places of its fields.
+    pub body: StructView<'a>,
+}
+
+impl<'a> TypeInterfaceView<'a> {
+    /// `typeId @17`.
+    pub fn type_id(&self) -> u64
+        ensures { result ≡ plain self.now.body 64 1 }
+    {
+        self.body.u64(1)
+    }
+}
