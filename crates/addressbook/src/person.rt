@@ -263,7 +263,7 @@ impl PersonDraft {
         ensures left { OnErr result (self.new ≡ self.old) }
         ensures long { IfErr result (λ fault. (fault ≡ TooLong) × (2 ^ 29 ≤ length value.items)) }
     {
-        self.body.set_pointer(5, cp_builder::quads_of(value)?);
+        self.body.set_pointer(5, cp_builder::four_bytes_of(value)?);
         Ok(())
     }
 

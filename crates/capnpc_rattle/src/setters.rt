@@ -253,12 +253,12 @@ fn list(of: Base) -> Form {
         Base::Unsigned(16) => long(
             "Vec<u16>",
             "(halves_tree value.items)",
-            "cp_builder::halves_of(value)?",
+            "cp_builder::two_bytes_of(value)?",
         ),
         Base::Unsigned(32) => long(
             "Vec<u32>",
             "(quads_tree value.items)",
-            "cp_builder::quads_of(value)?",
+            "cp_builder::four_bytes_of(value)?",
         ),
         Base::Unsigned(_) => long(
             "Vec<u64>",

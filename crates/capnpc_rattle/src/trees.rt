@@ -67,8 +67,8 @@ fn kind_of(tree: &Tree) -> &'static str {
     match tree {
         Tree::Bits(_) => "Bits",
         Tree::Bytes(_) => "Bytes",
-        Tree::Halves(_) => "Halves",
-        Tree::Quads(_) => "Quads",
+        Tree::Halves(_) => "TwoBytes",
+        Tree::Quads(_) => "FourBytes",
         _ => "Words",
     }
 }

@@ -17,6 +17,7 @@ pub use laws::{
 };
 pub use lists::StructsDraft;
 pub use parts::{
-    bits_of, bytes_of, cap_of, halves_of, pointers_of, quads_of, text_of, voids_of, words_of,
+    bits_of, bytes_of, cap_of, four_bytes_of, pointers_of, text_of, two_bytes_of, voids_of,
+    words_of,
 };
 pub use structure::StructDraft;

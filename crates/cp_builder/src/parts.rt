@@ -58,22 +58,22 @@ pub fn bytes_of(items: Vec<u8>) -> Result<Whole, DraftFault>
 }
 
 /// A list of numbers of 16 bits.
-pub fn halves_of(items: Vec<u16>) -> Result<Whole, DraftFault>
+pub fn two_bytes_of(items: Vec<u16>) -> Result<Whole, DraftFault>
     ensures list { IfOk result (λ whole. whole ≡ halves_tree items.items) }
     ensures long { IfErr result (λ fault. (fault ≡ TooLong) × (2 ^ 29 ≤ length items.items)) }
 {
-    if !are_halves(&items) {
+    if !are_two_bytes(&items) {
         return Err(DraftFault::TooLong);
     }
     Ok(Whole::from_shaped(Tree::Halves(items)))
 }
 
 /// A list of numbers of 32 bits.
-pub fn quads_of(items: Vec<u32>) -> Result<Whole, DraftFault>
+pub fn four_bytes_of(items: Vec<u32>) -> Result<Whole, DraftFault>
     ensures list { IfOk result (λ whole. whole ≡ quads_tree items.items) }
     ensures long { IfErr result (λ fault. (fault ≡ TooLong) × (2 ^ 29 ≤ length items.items)) }
 {
-    if !are_quads(&items) {
+    if !are_four_bytes(&items) {
         return Err(DraftFault::TooLong);
     }
     Ok(Whole::from_shaped(Tree::Quads(items)))
@@ -140,7 +140,7 @@ fn are_bytes(items: &[u8]) -> bool
 }
 
 /// Whether a list of numbers of 16 bits is short enough.
-fn are_halves(items: &[u16]) -> bool
+fn are_two_bytes(items: &[u16]) -> bool
     ensures fit { IsTrue result → ElementsFit (halves items.now) }
     ensures long { IsFalse result → 2 ^ 29 ≤ length items.now }
 {
@@ -148,7 +148,7 @@ fn are_halves(items: &[u16]) -> bool
 }
 
 /// Whether a list of numbers of 32 bits is short enough.
-fn are_quads(items: &[u32]) -> bool
+fn are_four_bytes(items: &[u32]) -> bool
     ensures fit { IsTrue result → ElementsFit (quads items.now) }
     ensures long { IsFalse result → 2 ^ 29 ≤ length items.now }
 {

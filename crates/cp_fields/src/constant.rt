@@ -77,8 +77,8 @@ fn size_of_list(items: &ListRef<'_>) -> ElementSize
         ListRef::Voids(_) => ElementSize::Void,
         ListRef::Bits(_) => ElementSize::Bit,
         ListRef::Bytes(_) => ElementSize::Byte,
-        ListRef::Halves(_) => ElementSize::TwoBytes,
-        ListRef::Quads(_) => ElementSize::FourBytes,
+        ListRef::TwoBytes(_) => ElementSize::TwoBytes,
+        ListRef::FourBytes(_) => ElementSize::FourBytes,
         ListRef::Words(_) => ElementSize::EightBytes,
     }
 }
@@ -91,8 +91,8 @@ pub(crate) fn list_count(items: &ListRef<'_>) -> usize
         ListRef::Voids(count) => *count as usize,
         ListRef::Bits(items) => items.len(),
         ListRef::Bytes(items) => items.len(),
-        ListRef::Halves(items) => items.len(),
-        ListRef::Quads(items) => items.len(),
+        ListRef::TwoBytes(items) => items.len(),
+        ListRef::FourBytes(items) => items.len(),
         ListRef::Words(items) => items.len(),
     }
 }
@@ -111,11 +111,11 @@ pub(crate) fn list_number(items: &ListRef<'_>, i: usize) -> u64
             Some(number) => *number as u64,
             None => 0,
         },
-        ListRef::Halves(items) => match items.get(i) {
+        ListRef::TwoBytes(items) => match items.get(i) {
             Some(number) => *number as u64,
             None => 0,
         },
-        ListRef::Quads(items) => match items.get(i) {
+        ListRef::FourBytes(items) => match items.get(i) {
             Some(number) => *number as u64,
             None => 0,
         },
@@ -201,8 +201,8 @@ fn list_copy(alloc: Global, list: &ListRef<'_>) -> Result<Tree, AllocError>
         ListRef::Voids(count) => Tree::Voids(*count),
         ListRef::Bits(items) => Tree::Bits(Vec::from_slice(alloc, items)?),
         ListRef::Bytes(items) => Tree::Bytes(Vec::from_slice(alloc, items)?),
-        ListRef::Halves(items) => Tree::Halves(Vec::from_slice(alloc, items)?),
-        ListRef::Quads(items) => Tree::Quads(Vec::from_slice(alloc, items)?),
+        ListRef::TwoBytes(items) => Tree::Halves(Vec::from_slice(alloc, items)?),
+        ListRef::FourBytes(items) => Tree::Quads(Vec::from_slice(alloc, items)?),
         ListRef::Words(items) => Tree::Words(Vec::from_slice(alloc, items)?),
     })
 }

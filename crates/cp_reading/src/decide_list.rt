@@ -8,7 +8,7 @@ ghost use Rattle.cp_reading.specs.Reading.{lent_words};
 ghost use Rattle.cp_reading.specs.declared.area.Form.TheVariants as forms;
 
 use crate::area::Form;
-use crate::elements::{bits_of, bytes_of, halves_of, quads_of, words_of};
+use crate::elements::{bits_of, bytes_of, four_bytes_of, two_bytes_of, words_of};
 use cp_tree::Tree;
 use cp_words::ElementSize;
 use std::alloc::{AllocError, Global};
@@ -27,8 +27,8 @@ pub(crate) fn list_holds(
         Tree::Voids(count) => Ok(list_count(form, ElementSize::Void, *count as usize).is_some()),
         Tree::Bits(items) => bits_hold(alloc, form, words, items),
         Tree::Bytes(items) => bytes_hold(alloc, form, words, items),
-        Tree::Halves(items) => halves_hold(alloc, form, words, items),
-        Tree::Quads(items) => quads_hold(alloc, form, words, items),
+        Tree::Halves(items) => two_bytes_hold(alloc, form, words, items),
+        Tree::Quads(items) => four_bytes_hold(alloc, form, words, items),
         Tree::Words(items) => words_hold(alloc, form, words, items),
         _ => Ok(false),
     }
@@ -71,25 +71,35 @@ fn bytes_hold(alloc: Global, form: Form, words: &[u64], items: &[u8]) -> Result<
 }
 
 /// Whether the words of a body are those of a list of numbers of two bytes.
-fn halves_hold(alloc: Global, form: Form, words: &[u64], items: &[u16]) -> Result<bool, AllocError>
+fn two_bytes_hold(
+    alloc: Global,
+    form: Form,
+    words: &[u64],
+    items: &[u16],
+) -> Result<bool, AllocError>
     requires { length words.now ≡ lent_words form }
     ensures { IfOk result (λ b. Decides b (IsListIn form words.now (list (halves items.now)))) }
 {
     let Some(count) = list_count(form, ElementSize::TwoBytes, items.len()) else {
         return Ok(false);
     };
-    Ok(halves_of(alloc, words, count)?.as_slice() == items)
+    Ok(two_bytes_of(alloc, words, count)?.as_slice() == items)
 }
 
 /// Whether the words of a body are those of a list of numbers of four bytes.
-fn quads_hold(alloc: Global, form: Form, words: &[u64], items: &[u32]) -> Result<bool, AllocError>
+fn four_bytes_hold(
+    alloc: Global,
+    form: Form,
+    words: &[u64],
+    items: &[u32],
+) -> Result<bool, AllocError>
     requires { length words.now ≡ lent_words form }
     ensures { IfOk result (λ b. Decides b (IsListIn form words.now (list (quads items.now)))) }
 {
     let Some(count) = list_count(form, ElementSize::FourBytes, items.len()) else {
         return Ok(false);
     };
-    Ok(quads_of(alloc, words, count)?.as_slice() == items)
+    Ok(four_bytes_of(alloc, words, count)?.as_slice() == items)
 }
 
 /// Whether the words of a body are those of a list of words.

@@ -31,8 +31,8 @@ pub(crate) fn list_of(
         ElementSize::Void => Ok(Tree::Voids(count)),
         ElementSize::Bit => bits_of(alloc, words, count).map(Tree::Bits),
         ElementSize::Byte => bytes_of(alloc, words, count).map(Tree::Bytes),
-        ElementSize::TwoBytes => halves_of(alloc, words, count).map(Tree::Halves),
-        ElementSize::FourBytes => quads_of(alloc, words, count).map(Tree::Quads),
+        ElementSize::TwoBytes => two_bytes_of(alloc, words, count).map(Tree::Halves),
+        ElementSize::FourBytes => four_bytes_of(alloc, words, count).map(Tree::Quads),
         ElementSize::EightBytes | ElementSize::Pointer | ElementSize::Composite => {
             words_of(alloc, words, count).map(Tree::Words)
         }
@@ -74,7 +74,7 @@ pub(crate) fn bytes_of(alloc: Global, words: &[u64], count: u32) -> Result<Vec<u
 }
 
 /// The first numbers of two bytes, this many.
-pub(crate) fn halves_of(alloc: Global, words: &[u64], count: u32) -> Result<Vec<u16>, AllocError>
+pub(crate) fn two_bytes_of(alloc: Global, words: &[u64], count: u32) -> Result<Vec<u16>, AllocError>
     requires { words_for sizes.TwoBytes count ≤ length words.now }
     ensures { IfOk result (λ v. v.items ≡ numbers words.now 16 count) }
 {
@@ -82,14 +82,18 @@ pub(crate) fn halves_of(alloc: Global, words: &[u64], count: u32) -> Result<Vec<
     let whole = (count + 3) / 4;
     let mut items = Vec::with_capacity(alloc, 4 * whole)?;
     for i in 0..whole {
-        items.extend_from_slice(&halves_in(words[i]))?;
+        items.extend_from_slice(&two_bytes_in(words[i]))?;
     }
     items.truncate(count);
     Ok(items)
 }
 
 /// The first numbers of four bytes, this many.
-pub(crate) fn quads_of(alloc: Global, words: &[u64], count: u32) -> Result<Vec<u32>, AllocError>
+pub(crate) fn four_bytes_of(
+    alloc: Global,
+    words: &[u64],
+    count: u32,
+) -> Result<Vec<u32>, AllocError>
     requires { words_for sizes.FourBytes count ≤ length words.now }
     ensures { IfOk result (λ v. v.items ≡ numbers words.now 32 count) }
 {
@@ -97,7 +101,7 @@ pub(crate) fn quads_of(alloc: Global, words: &[u64], count: u32) -> Result<Vec<u
     let whole = (count + 1) / 2;
     let mut items = Vec::with_capacity(alloc, 2 * whole)?;
     for i in 0..whole {
-        items.extend_from_slice(&quads_in(words[i]))?;
+        items.extend_from_slice(&four_bytes_in(words[i]))?;
     }
     items.truncate(count);
     Ok(items)
@@ -129,7 +133,7 @@ fn element_of(words: &[u64], width: usize, index: u32) -> u64
 }
 
 /// The numbers of two bytes that a word holds.
-fn halves_in(word: u64) -> [u16; 4]
+fn two_bytes_in(word: u64) -> [u16; 4]
     ensures { result ≡ numbers (word ∷ []) 16 4 }
 {
     [
@@ -141,7 +145,7 @@ fn halves_in(word: u64) -> [u16; 4]
 }
 
 /// The numbers of four bytes that a word holds.
-fn quads_in(word: u64) -> [u32; 2]
+fn four_bytes_in(word: u64) -> [u32; 2]
     ensures { result ≡ numbers (word ∷ []) 32 2 }
 {
     [(word % 0x1_0000_0000) as u32, (word / 0x1_0000_0000) as u32]

@@ -35,8 +35,8 @@ abbrev pub elements_in : ListRef → Elements
 elements_in (lists.Voids n) = voids n
 elements_in (lists.Bits items) = bits items.now
 elements_in (lists.Bytes items) = bytes items.now
-elements_in (lists.Halves items) = halves items.now
-elements_in (lists.Quads items) = quads items.now
+elements_in (lists.TwoBytes items) = halves items.now
+elements_in (lists.FourBytes items) = quads items.now
 elements_in (lists.Words items) = words items.now
 
 -- the tree that is so at its top

@@ -107,8 +107,8 @@ fn list_copy(alloc: Global, list: ListRef) -> Result<Tree, AllocError>
         ListRef::Voids(count) => Tree::Voids(count),
         ListRef::Bits(items) => Tree::Bits(Vec::from_slice(alloc, items)?),
         ListRef::Bytes(items) => Tree::Bytes(Vec::from_slice(alloc, items)?),
-        ListRef::Halves(items) => Tree::Halves(Vec::from_slice(alloc, items)?),
-        ListRef::Quads(items) => Tree::Quads(Vec::from_slice(alloc, items)?),
+        ListRef::TwoBytes(items) => Tree::Halves(Vec::from_slice(alloc, items)?),
+        ListRef::FourBytes(items) => Tree::Quads(Vec::from_slice(alloc, items)?),
         ListRef::Words(items) => Tree::Words(Vec::from_slice(alloc, items)?),
     })
 }

@@ -53,8 +53,8 @@ pub enum ListRef<'a> {
     Voids(u32),
     Bits(&'a [bool]),
     Bytes(&'a [u8]),
-    Halves(&'a [u16]),
-    Quads(&'a [u32]),
+    TwoBytes(&'a [u16]),
+    FourBytes(&'a [u32]),
     Words(&'a [u64]),
 }
 
@@ -196,8 +196,8 @@ impl<'a> ListRef<'a> {
             ListRef::Voids(_) => 0,
             ListRef::Bits(items) => (items.len() as u64 + 63) / 64,
             ListRef::Bytes(items) => (items.len() as u64 + 7) / 8,
-            ListRef::Halves(items) => (items.len() as u64 + 3) / 4,
-            ListRef::Quads(items) => (items.len() as u64 + 1) / 2,
+            ListRef::TwoBytes(items) => (items.len() as u64 + 3) / 4,
+            ListRef::FourBytes(items) => (items.len() as u64 + 1) / 2,
             ListRef::Words(items) => items.len() as u64,
         }
     }
@@ -218,8 +218,8 @@ fn top_of<'a, 'd>(tree: &'a Tree) -> Top<'a, 'd>
         Tree::Voids(count) => Top::List(ListRef::Voids(*count)),
         Tree::Bits(items) => Top::List(ListRef::Bits(items)),
         Tree::Bytes(items) => Top::List(ListRef::Bytes(items)),
-        Tree::Halves(items) => Top::List(ListRef::Halves(items)),
-        Tree::Quads(items) => Top::List(ListRef::Quads(items)),
+        Tree::Halves(items) => Top::List(ListRef::TwoBytes(items)),
+        Tree::Quads(items) => Top::List(ListRef::FourBytes(items)),
         Tree::Words(items) => Top::List(ListRef::Words(items)),
         Tree::Ptrs(items) => Top::Ptrs(RowRef::Trees(items)),
         Tree::Structs { words, ptrs, items } => Top::Structs(StructsRef {

@@ -6,7 +6,7 @@ ghost use Rattle.cp_packed.specs.Words.{words_in};
 ghost use Rattle.cp_writing.specs.Blocks.{block_of};
 ghost use Rattle.cp_writing.specs.Packed.{groups, bit_of};
 
-use crate::pack::{bits_word, bytes_word, halves_word, quads_word};
+use crate::pack::{bits_word, bytes_word, four_bytes_word, two_bytes_word};
 use cp_packed::{push_plain, take_in};
 use std::alloc::{AllocError, Global};
 use std::marker::Model;
@@ -149,25 +149,25 @@ impl Block {
     }
 
     /// Appends the words of a list of numbers of two bytes.
-    pub fn append_halves(&mut self, items: &[u16]) -> Result<(), AllocError>
+    pub fn append_two_bytes(&mut self, items: &[u16]) -> Result<(), AllocError>
         ensures { OnOk result (self.new ≡ self.old ++ groups 65536 4 items.now) }
     {
         for k in 0..(items.len() + 3) / 4 {
             let start = 4 * k;
             let end = items.len().min(start + 4);
-            self.push(halves_word(&items[start..end]))?;
+            self.push(two_bytes_word(&items[start..end]))?;
         }
         Ok(())
     }
 
     /// Appends the words of a list of numbers of four bytes.
-    pub fn append_quads(&mut self, items: &[u32]) -> Result<(), AllocError>
+    pub fn append_four_bytes(&mut self, items: &[u32]) -> Result<(), AllocError>
         ensures { OnOk result (self.new ≡ self.old ++ groups 4294967296 2 items.now) }
     {
         for k in 0..(items.len() + 1) / 2 {
             let start = 2 * k;
             let end = items.len().min(start + 2);
-            self.push(quads_word(&items[start..end]))?;
+            self.push(four_bytes_word(&items[start..end]))?;
         }
         Ok(())
     }

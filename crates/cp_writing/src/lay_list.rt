@@ -28,8 +28,8 @@ pub(crate) fn lay_list(
         ListRef::Voids(count) => lay_voids(sheet, at, count, levels),
         ListRef::Bits(items) => lay_bits(sheet, at, items, levels),
         ListRef::Bytes(items) => lay_bytes(sheet, at, items, levels),
-        ListRef::Halves(items) => lay_halves(sheet, at, items, levels),
-        ListRef::Quads(items) => lay_quads(sheet, at, items, levels),
+        ListRef::TwoBytes(items) => lay_two_bytes(sheet, at, items, levels),
+        ListRef::FourBytes(items) => lay_four_bytes(sheet, at, items, levels),
         ListRef::Words(items) => lay_words(sheet, at, items, levels),
     }
 }
@@ -102,7 +102,7 @@ pub(crate) fn lay_bytes(
 }
 
 /// Lays out numbers of two bytes.
-fn lay_halves(sheet: &mut Sheet, at: Place, items: &[u16], levels: u32) -> Result<(), WriteFault>
+fn lay_two_bytes(sheet: &mut Sheet, at: Place, items: &[u16], levels: u32) -> Result<(), WriteFault>
     requires keeps { IsWithin sheet.old }
     requires there { IsPlace (written sheet.old) at }
     requires few { length items.now < 2 ^ 29 }
@@ -112,11 +112,16 @@ fn lay_halves(sheet: &mut Sheet, at: Place, items: &[u16], levels: u32) -> Resul
     let words = (count + 3) / 4;
     sheet.charge(levels, 1 + words as u64)?;
     place_list(sheet, at, ElementSize::TwoBytes, count, words)?;
-    sheet.append_halves(items)
+    sheet.append_two_bytes(items)
 }
 
 /// Lays out numbers of four bytes.
-fn lay_quads(sheet: &mut Sheet, at: Place, items: &[u32], levels: u32) -> Result<(), WriteFault>
+fn lay_four_bytes(
+    sheet: &mut Sheet,
+    at: Place,
+    items: &[u32],
+    levels: u32,
+) -> Result<(), WriteFault>
     requires keeps { IsWithin sheet.old }
     requires there { IsPlace (written sheet.old) at }
     requires few { length items.now < 2 ^ 29 }
@@ -126,7 +131,7 @@ fn lay_quads(sheet: &mut Sheet, at: Place, items: &[u32], levels: u32) -> Result
     let words = (count + 1) / 2;
     sheet.charge(levels, 1 + words as u64)?;
     place_list(sheet, at, ElementSize::FourBytes, count, words)?;
-    sheet.append_quads(items)
+    sheet.append_four_bytes(items)
 }
 
 /// Lays out words.

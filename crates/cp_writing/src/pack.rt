@@ -30,25 +30,25 @@ pub(crate) fn push_bytes(words: &mut Vec<u64>, items: &[u8]) -> Result<(), Alloc
 }
 
 /// Appends the words of a list of numbers of two bytes.
-pub(crate) fn push_halves(words: &mut Vec<u64>, items: &[u16]) -> Result<(), AllocError>
+pub(crate) fn push_two_bytes(words: &mut Vec<u64>, items: &[u16]) -> Result<(), AllocError>
     ensures { OnOk result (words.new.items ≡ words.old.items ++ groups 65536 4 items.now) }
 {
     let (chunks, rest) = items.as_chunks::<4>();
-    words.extend(chunks.iter().map(|chunk| four_halves(chunk)))?;
+    words.extend(chunks.iter().map(|chunk| word_of_four(chunk)))?;
     if !rest.is_empty() {
-        words.push(halves_word(rest))?;
+        words.push(two_bytes_word(rest))?;
     }
     Ok(())
 }
 
 /// Appends the words of a list of numbers of four bytes.
-pub(crate) fn push_quads(words: &mut Vec<u64>, items: &[u32]) -> Result<(), AllocError>
+pub(crate) fn push_four_bytes(words: &mut Vec<u64>, items: &[u32]) -> Result<(), AllocError>
     ensures { OnOk result (words.new.items ≡ words.old.items ++ groups 4294967296 2 items.now) }
 {
     let (chunks, rest) = items.as_chunks::<2>();
-    words.extend(chunks.iter().map(|chunk| two_quads(chunk)))?;
+    words.extend(chunks.iter().map(|chunk| word_of_two(chunk)))?;
     if !rest.is_empty() {
-        words.push(quads_word(rest))?;
+        words.push(four_bytes_word(rest))?;
     }
     Ok(())
 }
@@ -97,7 +97,7 @@ pub(crate) fn bytes_word(items: &[u8]) -> u64
 }
 
 /// The word that 4 numbers of two bytes are.
-fn four_halves(items: &[u16; 4]) -> u64
+fn word_of_four(items: &[u16; 4]) -> u64
     ensures { result ≡ value 65536 items.now }
 {
     let low = items[0] as u64 + 0x1_0000 * items[1] as u64;
@@ -106,7 +106,7 @@ fn four_halves(items: &[u16; 4]) -> u64
 }
 
 /// The word that at most 4 numbers of two bytes are, the first one lowest.
-pub(crate) fn halves_word(items: &[u16]) -> u64
+pub(crate) fn two_bytes_word(items: &[u16]) -> u64
     requires { length items.now ≤ 4 }
     ensures { result ≡ value 65536 items.now }
 {
@@ -120,14 +120,14 @@ pub(crate) fn halves_word(items: &[u16]) -> u64
 }
 
 /// The word that 2 numbers of four bytes are.
-fn two_quads(items: &[u32; 2]) -> u64
+fn word_of_two(items: &[u32; 2]) -> u64
     ensures { result ≡ value 4294967296 items.now }
 {
     items[0] as u64 + 0x1_0000_0000 * items[1] as u64
 }
 
 /// The word that at most 2 numbers of four bytes are, the first one lowest.
-pub(crate) fn quads_word(items: &[u32]) -> u64
+pub(crate) fn four_bytes_word(items: &[u32]) -> u64
     requires { length items.now ≤ 2 }
     ensures { result ≡ value 4294967296 items.now }
 {

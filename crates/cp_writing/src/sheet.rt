@@ -196,21 +196,21 @@ impl Sheet {
         Ok(())
     }
 
-    pub fn append_halves(&mut self, items: &[u16]) -> Result<(), WriteFault>
+    pub fn append_two_bytes(&mut self, items: &[u16]) -> Result<(), WriteFault>
         requires { IsWithin self.old }
         ensures { Appends self.old self.new result (packed (halves items.now)) }
     {
         self.count((items.len() + 3) / 4)?;
-        self.last.append_halves(items)?;
+        self.last.append_two_bytes(items)?;
         Ok(())
     }
 
-    pub fn append_quads(&mut self, items: &[u32]) -> Result<(), WriteFault>
+    pub fn append_four_bytes(&mut self, items: &[u32]) -> Result<(), WriteFault>
         requires { IsWithin self.old }
         ensures { Appends self.old self.new result (packed (quads items.now)) }
     {
         self.count((items.len() + 1) / 2)?;
-        self.last.append_quads(items)?;
+        self.last.append_four_bytes(items)?;
         Ok(())
     }
 

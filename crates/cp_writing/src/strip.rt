@@ -6,7 +6,7 @@ ghost use Rattle.cp_writing.specs.Strips.{words_on};
 ghost use Rattle.cp_writing.specs.Packed.{groups, bit_of};
 
 use crate::block::Block;
-use crate::pack::{push_bits, push_bytes, push_halves, push_quads};
+use crate::pack::{push_bits, push_bytes, push_four_bytes, push_two_bytes};
 use std::alloc::{AllocError, Global};
 
 /// The words of a segment, as words or as bytes.
@@ -127,22 +127,22 @@ impl Strip {
     }
 
     /// Appends the words of a list of numbers of two bytes.
-    pub fn append_halves(&mut self, items: &[u16]) -> Result<(), AllocError>
+    pub fn append_two_bytes(&mut self, items: &[u16]) -> Result<(), AllocError>
         ensures { OnOk result (words_on self.new ≡ words_on self.old ++ groups 65536 4 items.now) }
     {
         match self {
-            Strip::Words(words) => push_halves(words, items),
-            Strip::Bytes(block) => block.append_halves(items),
+            Strip::Words(words) => push_two_bytes(words, items),
+            Strip::Bytes(block) => block.append_two_bytes(items),
         }
     }
 
     /// Appends the words of a list of numbers of four bytes.
-    pub fn append_quads(&mut self, items: &[u32]) -> Result<(), AllocError>
+    pub fn append_four_bytes(&mut self, items: &[u32]) -> Result<(), AllocError>
         ensures { OnOk result (words_on self.new ≡ words_on self.old ++ groups 4294967296 2 items.now) }
     {
         match self {
-            Strip::Words(words) => push_quads(words, items),
-            Strip::Bytes(block) => block.append_quads(items),
+            Strip::Words(words) => push_four_bytes(words, items),
+            Strip::Bytes(block) => block.append_four_bytes(items),
         }
     }
 }

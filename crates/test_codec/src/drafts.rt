@@ -157,7 +157,12 @@ fn parts_of_each_kind_are_made(rt: HostRuntime) {
     let bits = vec![in alloc; true, false].expect(&rt, "memory");
     expect_part(&rt, alloc, bits_of(bits), ListRef::Bits(&[true, false]));
     let halves = vec![in alloc; 1, 0xffff].expect(&rt, "memory");
-    expect_part(&rt, alloc, halves_of(halves), ListRef::Halves(&[1, 0xffff]));
+    expect_part(
+        &rt,
+        alloc,
+        two_bytes_of(halves),
+        ListRef::TwoBytes(&[1, 0xffff]),
+    );
     let words = vec![in alloc; u64::MAX].expect(&rt, "memory");
     expect_part(&rt, alloc, words_of(words), ListRef::Words(&[u64::MAX]));
 }
@@ -172,7 +177,7 @@ fn parts_are_put_into_lists(rt: HostRuntime) {
         .push(bytes_of(bytes).expect(&rt, "bytes"))
         .expect(&rt, "memory");
     parts
-        .push(quads_of(quads).expect(&rt, "numbers"))
+        .push(four_bytes_of(quads).expect(&rt, "numbers"))
         .expect(&rt, "memory");
     let list = pointers_of(alloc, parts).expect(&rt, "a list");
     check!(&rt; matches!(list.tree(), Tree::Ptrs(items) if items.len() == 2));

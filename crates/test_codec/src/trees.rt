@@ -254,14 +254,14 @@ const ROWS: &[(&[&str], Constant)] = &[
         &["0000000000000100 0100000013000000 0102030400000000"],
         Constant::Struct(ConstantBody {
             words: &[],
-            ptrs: &[Constant::List(ListRef::Halves(&[0x0201, 0x0403]))],
+            ptrs: &[Constant::List(ListRef::TwoBytes(&[0x0201, 0x0403]))],
         }),
     ),
     (
         &["0000000000000100 010000000c000000 0102030400000000"],
         Constant::Struct(ConstantBody {
             words: &[],
-            ptrs: &[Constant::List(ListRef::Quads(&[0x0403_0201]))],
+            ptrs: &[Constant::List(ListRef::FourBytes(&[0x0403_0201]))],
         }),
     ),
     (

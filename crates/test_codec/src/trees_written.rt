@@ -140,8 +140,8 @@ const KINDS: &[Constant] = &[
     Constant::List(ListRef::Voids(5)),
     Constant::List(ListRef::Bits(&[true, false, true])),
     Constant::List(ListRef::Bytes(b"nine byte")),
-    Constant::List(ListRef::Halves(&[1, 2, 3, 4, 5])),
-    Constant::List(ListRef::Quads(&[6, 7, 8])),
+    Constant::List(ListRef::TwoBytes(&[1, 2, 3, 4, 5])),
+    Constant::List(ListRef::FourBytes(&[6, 7, 8])),
     Constant::List(ListRef::Words(&[10])),
     Constant::Ptrs(&[
         Constant::Struct(ConstantBody {

@@ -2,14 +2,14 @@ use Rattle.std.proofs.Common.{◌≡◌, ◌*◌, ◌-◌, ◌+◌, ◌/◌, ◌
 use Rattle.std.specs.List.{range_with_len}
 use Rattle.cp_writing.specs.Packed.{value}
 use Rattle.cp_writing.proofs.Packing.{one_more_group, group_to_end}
-use Rattle.cp_writing.proofs.block.Block.append_quads.Goals as goal
+use Rattle.cp_writing.proofs.block.Block.append_four_bytes.Goals as goal
 
 pub loop-k-preserved : goal.loop-k-preserved
 loop-k-preserved c =
     let items = c.args.items.now in
     let k = c.loop-k.k in
     one_more_group 4294967296 2 items c.args.self.now c.loop-k.self _ k _ c.loop-k.invariant
-    (c.quads_word.ensures ∙ ap (λ e. value 4294967296 (take (e - 2 * k) (drop (2 * k) items))) c.min-end.ensures ∙ ap (value 4294967296) (group_to_end items (2 * k) 2)) c.in_ok-push.ensures
+    (c.four_bytes_word.ensures ∙ ap (λ e. value 4294967296 (take (e - 2 * k) (drop (2 * k) items))) c.min-end.ensures ∙ ap (value 4294967296) (group_to_end items (2 * k) 2)) c.in_ok-push.ensures
 
 pub returns : goal.returns
 returns c =

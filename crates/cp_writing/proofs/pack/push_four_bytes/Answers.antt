@@ -6,7 +6,7 @@ use Rattle.std.proofs.lemmas.Iterator.Adapters.{items_from_extend}
 use Rattle.std.specs.declared.alloc.AllocError.{AllocError}
 use Rattle.cp_writing.specs.Packed.{value}
 use Rattle.cp_writing.proofs.Packing.{all_whole, one_rest}
-use Rattle.cp_writing.proofs.pack.push_quads.Goals as goal
+use Rattle.cp_writing.proofs.pack.push_four_bytes.Goals as goal
 
 pub returns-in_ok-push : goal.returns-in_ok-push
 returns-in_ok-push c =
@@ -16,7 +16,7 @@ returns-in_ok-push c =
     let given = items_from_extend {E = AllocError} (Ok c.in_ok-extend.field-0) c.in_ok-extend.ensures.ran
     (YieldsList-from_map _ (value 4294967296) (YieldsList-at c.map.ensures.source (YieldsList-from_slice c.as_chunks.result.0.now c.iter.ensures.rest)) c.map.ensures.closure (λ x r q k. search rules)) in
     let whole = given.0 ∙ ap (λ (xs : List (List ℕ)). c.args.words.now.items ++ map (value 4294967296) xs) c.as_chunks.ensures.front in
-    one_rest 4294967296 2 ns c.args.words.now.items _ (length ns / 2) whole c.as_chunks.result.1.now c.push.new.self.items c.quads_word.result (omega (arith, left, some)) c.as_chunks.ensures.back (omega (arith, left)) c.quads_word.ensures c.in_ok-push.ensures.items
+    one_rest 4294967296 2 ns c.args.words.now.items _ (length ns / 2) whole c.as_chunks.result.1.now c.push.new.self.items c.four_bytes_word.result (omega (arith, left, some)) c.as_chunks.ensures.back (omega (arith, left)) c.four_bytes_word.ensures c.in_ok-push.ensures.items
 
 pub returns-else-not-is_empty : goal.returns-else-not-is_empty
 returns-else-not-is_empty c =

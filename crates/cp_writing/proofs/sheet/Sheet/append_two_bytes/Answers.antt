@@ -4,7 +4,7 @@ use Rattle.cp_tree.specs.Node.{halves}
 use Rattle.cp_writing.specs.Packed.{packed}
 use Rattle.cp_writing.proofs.Packing.{length_groups}
 use Rattle.cp_writing.proofs.Sheets.{counted}
-use Rattle.cp_writing.proofs.sheet.Sheet.append_halves.Goals as goal
+use Rattle.cp_writing.proofs.sheet.Sheet.append_two_bytes.Goals as goal
 
 pub returns-in_err-count : goal.returns-in_err-count
 returns-in_err-count c =
@@ -17,4 +17,4 @@ returns c =
     let ws = packed (halves c.args.items.now) in
     let n = (length c.args.items.now + 3) / 4 in
     let long : length ws ≡ n = omega (arith, length_groups 65536 4 c.args.items.now) in
-    counted c.args.self.now c.count.new.self c.append_halves.new.self ws n c.requires long c.in_ok-count.ensures.within c.in_ok-count.ensures.counted c.in_ok-append_halves.ensures
+    counted c.args.self.now c.count.new.self c.append_two_bytes.new.self ws n c.requires long c.in_ok-count.ensures.within c.in_ok-count.ensures.counted c.in_ok-append_two_bytes.ensures
