@@ -33,7 +33,7 @@ pub extern "C" fn cpb_call(
             written: 0,
         };
     };
-    let mut peer = Peer::new(alloc, bytes, packed, first, piece);
+    let mut peer = MemoryClient::new(alloc, bytes, packed, first, piece);
     for line in script.lines() {
         peer.play(line);
     }
@@ -41,17 +41,23 @@ pub extern "C" fn cpb_call(
 }
 
 /// A client of a peer in memory, and what each line gave.
-struct Peer<'a> {
+struct MemoryClient<'a> {
     alloc: Global,
     client: Client<Pieces<'a>, Vec<u8>>,
     told: Lines,
 }
 
-impl<'a> Peer<'a> {
-    fn new(alloc: Global, left: &'a [u8], packed: bool, first: usize, piece: usize) -> Peer<'a> {
+impl<'a> MemoryClient<'a> {
+    fn new(
+        alloc: Global,
+        left: &'a [u8],
+        packed: bool,
+        first: usize,
+        piece: usize,
+    ) -> MemoryClient<'a> {
         let from = Pieces { left, first, piece };
         let (to, mode) = (Vec::new(alloc), mode_of(packed));
-        Peer {
+        MemoryClient {
             alloc,
             client: Client::new(alloc, from, to, mode, Limits::standard()),
             told: Lines::new(alloc),
@@ -140,7 +146,7 @@ impl<'a> Peer<'a> {
             self.tell("refused: ", &fault);
         }
         self.tell_all();
-        let Peer {
+        let MemoryClient {
             alloc: _,
             client,
             told,

@@ -11,7 +11,7 @@ const TYPE: &str = "\
 #[derive(Drop)]
 pub struct $0Client {
     /// The capability that is called.
-    pub target: Target,
+    pub target: CallTarget,
 }
 
 impl $0Client {
@@ -22,7 +22,7 @@ impl $0Client {
     pub fn new(alloc: Global, cap: Cap) -> $0Client
         ensures { result.target ≡ cap }
     {
-        $0Client { target: Target::new(alloc, cap) }
+        $0Client { target: CallTarget::new(alloc, cap) }
     }
 ";
 
@@ -82,7 +82,7 @@ const CITED: &str = "\
 cp_refs::Cap
 cp_refs::Request
 cp_stubs::Caller
-cp_stubs::Target
+cp_stubs::CallTarget
 std::alloc::Global
 ";
 

@@ -5,14 +5,14 @@ use crate::comments::about;
 use crate::out::Arg;
 use crate::sheet::Sheet;
 use crate::trees::put_tree;
-use cp_schema::{Base, Constant, Node, NodeKind, Value};
+use cp_schema::{Base, ConstNode, Node, NodeKind, SchemaValue};
 
 /// Writes a constant. One that is a struct or a list is a `static`, so that views of it may be lent for any time.
-pub fn constant(book: &Book<'_>, sheet: &mut Sheet<'_>, node: &Node, of: &Constant) {
+pub fn constant(book: &Book<'_>, sheet: &mut Sheet<'_>, node: &Node, of: &ConstNode) {
     let args = [Arg::Text(node.name()), Arg::Upper(node.name())];
     about(&mut sheet.code, book.about(node.id), "`const $0`.", &args);
     match &of.value {
-        Value::Tree(tree) => {
+        SchemaValue::Tree(tree) => {
             sheet
                 .code
                 .fill("pub static $1: Constant<'static> = ", &args);
@@ -30,12 +30,12 @@ pub fn constant(book: &Book<'_>, sheet: &mut Sheet<'_>, node: &Node, of: &Consta
 }
 
 /// Writes the type and the value of a constant, if they can be written.
-fn plain_value(book: &Book<'_>, sheet: &mut Sheet<'_>, of: &Constant) -> bool {
+fn plain_value(book: &Book<'_>, sheet: &mut Sheet<'_>, of: &ConstNode) -> bool {
     match &of.value {
-        Value::Text(text) => sheet.code.fill("&str = $0", &[Arg::Quoted(text.as_str())]),
-        Value::Data(bytes) => sheet.code.fill("&[u8] = $0", &[Arg::ByteText(bytes)]),
-        Value::Bits(bits) if of.of.lists == 0 => return number(book, sheet, of.of.of, *bits),
-        Value::Bits(_) | Value::Tree(_) | Value::Other => return false,
+        SchemaValue::Text(text) => sheet.code.fill("&str = $0", &[Arg::Quoted(text.as_str())]),
+        SchemaValue::Data(bytes) => sheet.code.fill("&[u8] = $0", &[Arg::ByteText(bytes)]),
+        SchemaValue::Bits(bits) if of.of.lists == 0 => return number(book, sheet, of.of.of, *bits),
+        SchemaValue::Bits(_) | SchemaValue::Tree(_) | SchemaValue::Other => return false,
     }
     true
 }

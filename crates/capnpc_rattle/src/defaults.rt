@@ -4,7 +4,7 @@ use crate::book::Named;
 use crate::out::{Arg, Out};
 use crate::sheet::Sheet;
 use crate::trees::{define_tree, put_tree};
-use cp_schema::{Field, FieldKind, Value};
+use cp_schema::{FieldKind, SchemaValue, StructField};
 use cp_tree::Tree;
 
 const HEAD: &str = "
@@ -20,16 +20,16 @@ abbrev pub $0 : Tree
 $0 = ";
 
 /// The default of a field, if it is a struct or a list, or what a pointer of any kind stands for.
-pub fn default_of(field: &Field) -> Option<&Tree> {
+pub fn default_of(field: &StructField) -> Option<&Tree> {
     match (&field.kind, &field.default) {
-        (FieldKind::Slot(slot), Value::Tree(tree)) if slot.points => Some(tree),
+        (FieldKind::Slot(slot), SchemaValue::Tree(tree)) if slot.points => Some(tree),
         _ => None,
     }
 }
 
 /// Writes a field's default: its definition, and the function that gives it. That holds it in a `static`, since a constant that
 /// holds references may not be lent for longer than the function.
-pub fn default(sheet: &mut Sheet<'_>, named: &Named, field: &Field, tree: &Tree) {
+pub fn default(sheet: &mut Sheet<'_>, named: &Named, field: &StructField, tree: &Tree) {
     let args = [
         Arg::Default(named.word.as_str(), field.name.as_str()),
         Arg::Text(field.name.as_str()),

@@ -12,7 +12,7 @@ const CALL: &str = "
 pub fn dispatch_$1<T: $0Server>(
     alloc: Global,
     object: &mut T,
-    call: &Call,
+    call: &MethodCall,
 ) -> Result<Reply, AllocError>
     ensures { IfOk result (λ reply. ";
 
@@ -34,7 +34,7 @@ const METHODS: &str = "
 pub fn dispatch_$1_method<T: $0Server>(
     alloc: Global,
     object: &mut T,
-    call: &Call,
+    call: &MethodCall,
 ) -> Result<Reply, AllocError>
     ensures { IfOk result (λ reply. $0MethodTakes T.$1_kind object.old call.now reply object.new) }
 {
@@ -49,7 +49,7 @@ const PASS: &str = "
 fn pass_$8<T: $0Server>(
     alloc: Global,
     object: &mut T,
-    call: &Call,
+    call: &MethodCall,
 ) -> Result<Reply, AllocError>
     ensures { IfOk result (λ reply. Passes T.$1_kind.on_$8 object.old call.now reply object.new) }
 {

@@ -9,7 +9,7 @@ use crate::promises::client_of;
 use crate::setters::{Setter, set_of};
 use crate::sheet::Sheet;
 use crate::structs::{has_name, is_void};
-use cp_schema::{Base, Field, FieldKind, Node, Slot, Structure};
+use cp_schema::{Base, FieldKind, Node, Slot, StructField, Structure};
 
 const TYPE: &str = "
 /// `struct $1`, to be written.
@@ -111,7 +111,7 @@ pub fn setter<'b>(
     book: &'b Book<'_>,
     sheet: &mut Sheet<'b>,
     part: &Part<'_>,
-    (i, field): (usize, &Field),
+    (i, field): (usize, &StructField),
 ) {
     match &field.kind {
         FieldKind::Slot(slot) if !is_void(&field.kind) => {
@@ -131,7 +131,12 @@ pub fn setter<'b>(
 }
 
 /// Writes the comment of a method that sets a field.
-fn comment(book: &Book<'_>, sheet: &mut Sheet<'_>, part: &Part<'_>, (i, field): (usize, &Field)) {
+fn comment(
+    book: &Book<'_>,
+    sheet: &mut Sheet<'_>,
+    part: &Part<'_>,
+    (i, field): (usize, &StructField),
+) {
     let args = [Arg::Text(field.name.as_str())];
     let text = book.about_member(part.node.id, i);
     let template = if field.is_member() {
@@ -143,7 +148,7 @@ fn comment(book: &Book<'_>, sheet: &mut Sheet<'_>, part: &Part<'_>, (i, field): 
 }
 
 /// Writes the struct as it is before a field is set: with the field's member of the union chosen, if it is one.
-fn chosen(out: &mut Out, part: &Part<'_>, field: &Field) {
+fn chosen(out: &mut Out, part: &Part<'_>, field: &StructField) {
     let args = [
         Arg::Number(part.of.tag_place as u64),
         Arg::Number(field.tag as u64),
@@ -163,7 +168,7 @@ fn slot_setter<'b>(
     book: &'b Book<'_>,
     sheet: &mut Sheet<'b>,
     part: &Part<'_>,
-    (i, field): (usize, &Field),
+    (i, field): (usize, &StructField),
     slot: &Slot,
 ) {
     let setter = match set_of(book, slot) {
@@ -184,7 +189,7 @@ fn slot_setter<'b>(
 }
 
 /// Writes the signature and the clauses of a method that sets a field.
-fn head<'b>(out: &mut Out, part: &Part<'_>, field: &Field, setter: &Setter<'b>) {
+fn head<'b>(out: &mut Out, part: &Part<'_>, field: &StructField, setter: &Setter<'b>) {
     let args = setter.args();
     out.fill("    pub fn set_$0(&mut self, ", &[part.name(field)]);
     out.put(setter.shape.takes);
@@ -198,7 +203,7 @@ fn head<'b>(out: &mut Out, part: &Part<'_>, field: &Field, setter: &Setter<'b>) 
 }
 
 /// Writes the code of a method that sets a field. What may fail comes first.
-fn code<'b>(out: &mut Out, part: &Part<'_>, field: &Field, setter: &Setter<'b>) {
+fn code<'b>(out: &mut Out, part: &Part<'_>, field: &StructField, setter: &Setter<'b>) {
     let args = setter.args();
     let is_first = setter.shape.fails && field.is_member();
     if is_first {
@@ -222,7 +227,7 @@ fn code<'b>(out: &mut Out, part: &Part<'_>, field: &Field, setter: &Setter<'b>) 
 fn by_client<'n>(
     sheet: &mut Sheet<'_>,
     part: &Part<'n>,
-    (field, named): (&'n Field, &'n Named),
+    (field, named): (&'n StructField, &'n Named),
     slot: &Slot,
 ) {
     let args = [

@@ -3,7 +3,7 @@
 use crate::book::{Book, Named};
 use crate::defaults::default_of;
 use crate::out::Arg;
-use cp_schema::{Base, Field, Slot, Value};
+use cp_schema::{Base, SchemaValue, Slot, StructField};
 use cp_tree::Tree;
 
 /// How a field is read: its type, its value as a definition says, and the code. They are templates of the places that
@@ -26,7 +26,7 @@ pub struct Getter<'b> {
     inner: u32,
     size: &'static str,
     /// What null stands for, where it is a text or data.
-    text: &'b Value,
+    text: &'b SchemaValue,
     /// What null stands for, where it is a struct or a list, and the name that definitions have for it.
     pub tree: Option<&'b Tree>,
     owner: &'b str,
@@ -37,8 +37,8 @@ impl<'b> Getter<'b> {
     /// What stands for the places of its templates, where definitions call the struct `body`.
     pub fn args(&self, body: &'b str) -> [Arg<'b>; 10] {
         let (bytes, literal) = match self.text {
-            Value::Text(text) => (Arg::Bytes(text.as_bytes()), Arg::Quoted(text.as_str())),
-            Value::Data(data) => (Arg::Bytes(data), Arg::ByteText(data)),
+            SchemaValue::Text(text) => (Arg::Bytes(text.as_bytes()), Arg::Quoted(text.as_str())),
+            SchemaValue::Data(data) => (Arg::Bytes(data), Arg::ByteText(data)),
             _ => (Arg::Text(self.size), Arg::Text("")),
         };
         [
@@ -92,7 +92,7 @@ fn unsure(of: &'static str, value: &'static str, code: &'static str) -> Form {
 pub fn read_of<'b>(
     book: &'b Book<'_>,
     owner: &'b Named,
-    field: &'b Field,
+    field: &'b StructField,
     slot: &Slot,
 ) -> Result<Getter<'b>, &'static str> {
     let (name, word) = names_in(book, slot.of.of)?;

@@ -23,7 +23,7 @@ any_$1 = record {
 const BY_METHOD: &str = "}
 
 -- A call of one of these methods does this to an object, by its number.
-pub record $0MethodTakes {S : Type 0} (kind : $0Kind S) (old : S) (call : Call) (reply : Reply) (new : S) : Type 0 where
+pub record $0MethodTakes {S : Type 0} (kind : $0Kind S) (old : S) (call : MethodCall) (reply : Reply) (new : S) : Type 0 where
 ";
 
 const ON_METHOD: &str =
@@ -38,12 +38,13 @@ pub record $0Takes {S : Type 0}
 const OF_INTERFACE: &str =
     "  pub of_$1 : call.request.interface ≡ $2 → $0MethodTakes $1_kind old call reply new\n";
 
-const BY_INTERFACE: &str = "    (old : S) (call : Call) (reply : Reply) (new : S) : Type 0 where\n";
+const BY_INTERFACE: &str =
+    "    (old : S) (call : MethodCall) (reply : Reply) (new : S) : Type 0 where\n";
 
 /// What these definitions cite of other crates.
 const CITED: &str = "\
 use Rattle.cp_servants.specs.declared.servant.Reply.{Reply}
-use Rattle.cp_stubs.specs.declared.call.Call.{Call}
+use Rattle.cp_stubs.specs.declared.call.MethodCall.{MethodCall}
 ";
 
 /// An interface, and all that it extends.

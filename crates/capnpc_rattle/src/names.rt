@@ -5,11 +5,11 @@ const AMBIGUOUS: &str = "Data Struct Structs Text";
 
 /// Types that generated code or definitions have from elsewhere.
 const TYPES: &str = "\
-    AllocError Anything Bool Box CapFault Caps Constant ConstantBody DataView DraftFault Drop \
-    Err Finds Gives Global HoldsOneMore IsElsewhere Item List ListRef Makes Method None Ok \
-    Option Passes Past Payload Pointee Promised Reads Refuses Request Result Results Self Some \
-    String StructDraft StructView StructsDraft Table Target TextView TooLong Tree Type Unit Vec \
-    Whole WrongKind";
+    AllocError Anything Bool Box CallTarget CapFault Caps Constant ConstantBody DataView \
+    DraftFault Drop Err Finds Gives Global HoldsOneMore IsElsewhere Item List ListRef Makes \
+    Method None Ok Option Passes Past Pointee Promised Reads Refuses Request Result \
+    ResultPayload Results Self Some String StructDraft StructView StructsDraft Table TextView \
+    TooLong Tree Type Unit Vec Whole WrongKind";
 
 /// Words of Rattle.
 const OF_RATTLE: &str = "\

@@ -5,7 +5,7 @@ use crate::drafts::setter;
 use crate::out::{Arg, Out};
 use crate::promises::promised;
 use crate::sheet::Sheet;
-use cp_schema::{Field, FieldKind, Node, NodeKind, Structure};
+use cp_schema::{FieldKind, Node, NodeKind, StructField, Structure};
 
 /// The deepest that groups may lie within one another.
 const DEEPEST: u32 = 64;
@@ -31,7 +31,7 @@ impl<'p> Part<'p> {
     }
 
     /// The name of a field, with the words before it.
-    pub fn name(&self, field: &'p Field) -> Arg<'p> {
+    pub fn name(&self, field: &'p StructField) -> Arg<'p> {
         Arg::Joined(self.prefix, field.name.as_str())
     }
 }
@@ -65,7 +65,7 @@ fn group<'b>(
     book: &'b Book<'_>,
     sheet: &mut Sheet<'b>,
     part: &Part<'_>,
-    (field, id): (&Field, u64),
+    (field, id): (&StructField, u64),
     wanted: Wanted,
 ) {
     let Some(node) = book.schema.find(id) else {

@@ -4,7 +4,7 @@ use crate::book::{Book, Named};
 use crate::out::Arg;
 use crate::parts::{Part, Wanted, fields};
 use crate::sheet::Sheet;
-use cp_schema::{Base, Field, FieldKind, Node, Slot, Structure};
+use cp_schema::{Base, FieldKind, Node, Slot, StructField, Structure};
 
 const RESULTS: &str = "
 impl Results for $0Draft {
@@ -31,7 +31,7 @@ impl $0Promise {
     }
 
     /// The results that came.
-    pub fn results<'a>(&self, came: &'a Payload) -> Result<$0View<'a>, WrongKind>
+    pub fn results<'a>(&self, came: &'a ResultPayload) -> Result<$0View<'a>, WrongKind>
         ensures { Reads result (λ x. x.body) (struct_field came.now.content) }
     {
         Ok($0View { body: came.results()? })
@@ -61,13 +61,13 @@ const GETTER: &str = "
         ensures { Finds result (λ c. c.target) (cap_field (pointee_of self.now.body $4)) caps.now }
     {
         let place = self.$0()?;
-        Ok($1Client { target: Target::of_field(alloc, place, caps)? })
+        Ok($1Client { target: CallTarget::of_field(alloc, place, caps)? })
     }
 ";
 
 /// What the promise of a struct cites of other crates.
 const CITED: &str = "\
-cp_stubs::Payload
+cp_stubs::ResultPayload
 cp_stubs::Promised
 cp_stubs::Results
 cp_tree::Whole
@@ -77,7 +77,7 @@ cp_tree::Whole
 const GETTER_CITED: &str = "\
 cp_refs::Caps
 cp_stubs::CapFault
-cp_stubs::Target
+cp_stubs::CallTarget
 std::alloc::Global
 ";
 
@@ -98,7 +98,12 @@ pub fn promise<'b>(
 }
 
 /// Writes the method that gives what a field will be, if it is a struct or a capability.
-pub fn promised<'b>(book: &'b Book<'_>, sheet: &mut Sheet<'b>, part: &Part<'_>, field: &Field) {
+pub fn promised<'b>(
+    book: &'b Book<'_>,
+    sheet: &mut Sheet<'b>,
+    part: &Part<'_>,
+    field: &StructField,
+) {
     let FieldKind::Slot(slot) = &field.kind else {
         return;
     };
@@ -123,7 +128,7 @@ pub fn promised<'b>(book: &'b Book<'_>, sheet: &mut Sheet<'b>, part: &Part<'_>, 
 fn one_field<'n>(
     book: &'n Book<'_>,
     sheet: &mut Sheet<'_>,
-    (part, field): (&Part<'n>, &'n Field),
+    (part, field): (&Part<'n>, &'n StructField),
     (id, slot): (u64, &Slot),
     (ending, body): (&'n str, &'n str),
 ) {
@@ -145,7 +150,12 @@ fn one_field<'n>(
 }
 
 /// Writes the method that gives a capability of a struct by name.
-pub fn cap_getter<'b>(book: &'b Book<'_>, sheet: &mut Sheet<'_>, field: &'b Field, slot: &Slot) {
+pub fn cap_getter<'b>(
+    book: &'b Book<'_>,
+    sheet: &mut Sheet<'_>,
+    field: &'b StructField,
+    slot: &Slot,
+) {
     let Some(named) = client_of(book, slot) else {
         return;
     };

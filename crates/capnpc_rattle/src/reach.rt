@@ -1,6 +1,6 @@
 //! What interfaces extend, and by which structs capabilities can be named.
 
-use cp_schema::{Base, Field, FieldKind, Node, NodeKind, Schema};
+use cp_schema::{Base, FieldKind, Node, NodeKind, Schema, StructField};
 use std::alloc::{AllocError, Global};
 
 /// An interface, and all that it extends, those of them too that they extend.
@@ -83,7 +83,7 @@ fn names_one(node: &Node, found: &[u64]) -> bool {
 }
 
 /// Whether a field can name a capability, where these structs and groups can.
-fn can_name(field: &Field, found: &[u64]) -> bool {
+fn can_name(field: &StructField, found: &[u64]) -> bool {
     match &field.kind {
         FieldKind::Group(id) => found.contains(id),
         FieldKind::Slot(slot) => match slot.of.of {

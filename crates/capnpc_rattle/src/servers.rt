@@ -19,7 +19,7 @@ const TRAIT_KIND: &str = " {
 
 const METHOD: &str = "    fn $4(
         &mut self,
-        call: &Call,
+        call: &MethodCall,
         params: &$6View<'_>,
     ) -> Result<Answer<$7Draft>, MethodFault>
         ensures { Gives (λ d. d.body) $1_kind.on_$8 self.old call.now params.now.body result self.new };
@@ -40,24 +40,24 @@ impl<T: $0Server> Servant for $0Servant<T> {
 const GLUE: &str = ") T.kind) };
 
     fn call(&mut self, ticket: u64, request: Request) -> Result<Reply, AllocError> {
-        let call = Call { ticket, request };
+        let call = MethodCall { ticket, request };
         dispatch_$2(self.alloc, &mut self.object, &call)
     }
 
     fn poll(&mut self) -> Result<Option<Settled>, AllocError> {
-        Object::poll(&mut self.object)
+        ServerObject::poll(&mut self.object)
     }
 
     fn again(&self) -> bool {
-        Object::again(&self.object)
+        ServerObject::again(&self.object)
     }
 
     fn ask(&mut self) -> Result<Option<Ask>, AllocError> {
-        Object::ask(&mut self.object)
+        ServerObject::ask(&mut self.object)
     }
 
     fn told(&mut self, mark: u64, outcome: Outcome) -> Result<(), AllocError> {
-        Object::told(&mut self.object, mark, outcome)
+        ServerObject::told(&mut self.object, mark, outcome)
     }
 }
 ";
@@ -70,8 +70,8 @@ cp_servants::Ask
 cp_servants::Reply
 cp_servants::Servant
 cp_servants::Settled
-cp_stubs::Call
-cp_stubs::Object
+cp_stubs::MethodCall
+cp_stubs::ServerObject
 std::alloc::AllocError
 std::alloc::Global
 ";
@@ -128,7 +128,7 @@ fn supers(book: &Book<'_>, sheet: &mut Sheet<'_>, of: &Interface) {
         }
     }
     if between.is_empty() {
-        sheet.code.put("Object");
+        sheet.code.put("ServerObject");
     }
 }
 

@@ -9,7 +9,7 @@ use crate::out::{Arg, Out};
 use crate::promises::{cap_getter, promise};
 use crate::sheet::Sheet;
 use crate::unions::{union_code, union_method};
-use cp_schema::{Base, Field, FieldKind, Node, Slot, Structure};
+use cp_schema::{Base, FieldKind, Node, Slot, StructField, Structure};
 
 const VIEW: &str = "\
 #[derive(Drop)]
@@ -186,7 +186,7 @@ fn group_method(
     book: &Book<'_>,
     sheet: &mut Sheet<'_>,
     node: &Node,
-    field: &Field,
+    field: &StructField,
     (i, id): (usize, u64),
 ) {
     let name = field.name.as_str();
@@ -213,7 +213,7 @@ fn slot_method<'b>(
     book: &'b Book<'_>,
     sheet: &mut Sheet<'b>,
     (node, named): (&Node, &'b Named),
-    field: &'b Field,
+    field: &'b StructField,
     (i, slot): (usize, &Slot),
 ) {
     if is_void(&field.kind) {

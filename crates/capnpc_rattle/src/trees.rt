@@ -62,7 +62,7 @@ fn put_row(out: &mut Out, trees: &[Tree]) {
     out.put("]");
 }
 
-/// The variant of a list without pointers.
+/// The variant of a list without pointers in code.
 fn kind_of(tree: &Tree) -> &'static str {
     match tree {
         Tree::Bits(_) => "Bits",
@@ -113,10 +113,21 @@ pub fn define_tree(out: &mut Out, tree: &Tree) {
             out.fill("trees.list (trees.voids $0)", &[Arg::Number(*count as u64)]);
         }
         _ => {
-            out.fill("trees.list (trees.$0 ", &[Arg::Snake(kind_of(tree))]);
+            out.fill("trees.list (trees.$0 ", &[Arg::Text(definition_of(tree))]);
             put_items(out, tree, LIST);
             out.put(")");
         }
+    }
+}
+
+/// The constructor of a list without pointers in definitions.
+fn definition_of(tree: &Tree) -> &'static str {
+    match tree {
+        Tree::Bits(_) => "bits",
+        Tree::Bytes(_) => "bytes",
+        Tree::Halves(_) => "halves",
+        Tree::Quads(_) => "quads",
+        _ => "words",
     }
 }
 

@@ -6,7 +6,7 @@ use crate::getters::{Getter, node_in, read_of};
 use crate::out::Arg;
 use crate::sheet::Sheet;
 use crate::structs::is_void;
-use cp_schema::{Base, Field, FieldKind, Node, Structure};
+use cp_schema::{Base, FieldKind, Node, StructField, Structure};
 use std::alloc::AllocError;
 
 const METHOD: &str = "
@@ -55,7 +55,7 @@ enum Held<'b> {
 }
 
 /// The fields of a union, in the order of their numbers.
-fn members<'b>(sheet: &Sheet<'_>, of: &'b Structure) -> Result<Vec<&'b Field>, AllocError> {
+fn members<'b>(sheet: &Sheet<'_>, of: &'b Structure) -> Result<Vec<&'b StructField>, AllocError> {
     let mut members = Vec::new(sheet.alloc);
     for number in 0..of.tags {
         for field in &of.fields {
@@ -68,7 +68,7 @@ fn members<'b>(sheet: &Sheet<'_>, of: &'b Structure) -> Result<Vec<&'b Field>, A
 }
 
 /// What a field of a union holds. What can't be written was refused where its method is.
-fn held_by<'b>(book: &'b Book<'_>, named: &'b Named, field: &'b Field) -> Held<'b> {
+fn held_by<'b>(book: &'b Book<'_>, named: &'b Named, field: &'b StructField) -> Held<'b> {
     match &field.kind {
         FieldKind::Group(id) => match book.find(*id) {
             Some(named) => Held::Group(named.name.as_str()),
@@ -83,7 +83,7 @@ fn held_by<'b>(book: &'b Book<'_>, named: &'b Named, field: &'b Field) -> Held<'
 }
 
 /// The lifetime of the type of what members hold, if some are views.
-fn lifetime<'b>(book: &'b Book<'_>, named: &'b Named, members: &[&'b Field]) -> &'static str {
+fn lifetime<'b>(book: &'b Book<'_>, named: &'b Named, members: &[&'b StructField]) -> &'static str {
     for member in members {
         match held_by(book, named, member) {
             Held::Group(_) => return "<'a>",
@@ -112,7 +112,7 @@ fn member_method<'b>(
     book: &'b Book<'_>,
     sheet: &mut Sheet<'_>,
     named: &'b Named,
-    members: &[&'b Field],
+    members: &[&'b StructField],
 ) {
     let args = [
         Arg::Text(named.name.as_str()),
@@ -166,7 +166,7 @@ fn which_type<'n>(
     sheet: &mut Sheet<'_>,
     node: &'n Node,
     named: &'n Named,
-    members: &[&Field],
+    members: &[&StructField],
 ) {
     let mut items = Vec::new(sheet.alloc);
     for member in members {
@@ -193,7 +193,7 @@ fn member_type<'b>(
     sheet: &mut Sheet<'_>,
     node: &'b Node,
     named: &'b Named,
-    members: &[&'b Field],
+    members: &[&'b StructField],
 ) {
     let args = [
         Arg::Text(named.name.as_str()),
@@ -227,7 +227,7 @@ fn member_specs<'b>(
     sheet: &mut Sheet<'_>,
     named: &'b Named,
     place: u32,
-    members: &[&'b Field],
+    members: &[&'b StructField],
 ) {
     let (name, word) = (named.name.as_str(), named.word.as_str());
     let args = [Arg::Text(name), Arg::Text(word), Arg::Number(place as u64)];
@@ -241,7 +241,12 @@ fn member_specs<'b>(
 }
 
 /// Writes what definitions say of a member.
-fn member_spec<'b>(book: &'b Book<'_>, sheet: &mut Sheet<'_>, named: &'b Named, member: &'b Field) {
+fn member_spec<'b>(
+    book: &'b Book<'_>,
+    sheet: &mut Sheet<'_>,
+    named: &'b Named,
+    member: &'b StructField,
+) {
     let args = [
         Arg::Text(named.word.as_str()),
         Arg::Variant(member.name.as_str()),
@@ -270,7 +275,7 @@ fn member_spec<'b>(book: &'b Book<'_>, sheet: &mut Sheet<'_>, named: &'b Named, 
 }
 
 /// Imports the definition of the values of a member that is an enum.
-fn import_type(book: &Book<'_>, sheet: &mut Sheet<'_>, member: &Field) {
+fn import_type(book: &Book<'_>, sheet: &mut Sheet<'_>, member: &StructField) {
     let FieldKind::Slot(slot) = &member.kind else {
         return;
     };

@@ -1,6 +1,6 @@
 //! Messages by the names of a schema.
 
-use crate::paths::{Form, on_file};
+use crate::paths::{InputForm, on_file};
 use cli_words::SchemaNames;
 use cp_commands::{Asked, BROKEN, Names, Plan, REFUSED};
 use cp_schema::{Decoder, Schema};
@@ -9,7 +9,7 @@ use std::{fs, io};
 /// Shows the messages of a file by a schema.
 pub(crate) fn show_by(
     rt: &HostRuntime,
-    form: &Form,
+    form: &InputForm,
     by: &SchemaNames<'_>,
     path: &str,
 ) -> io::Result<u8> {
@@ -33,7 +33,7 @@ pub(crate) fn show_by(
 /// Shows the messages of a file as structs of this name.
 fn show_structs(
     rt: &HostRuntime,
-    form: &Form,
+    form: &InputForm,
     by: &SchemaNames<'_>,
     schema: &Schema,
     name: &str,
@@ -49,7 +49,7 @@ fn show_structs(
 }
 
 /// How messages are shown as structs of this name, if the schema has it.
-fn structs_plan<'p>(form: &Form, schema: &'p Schema, name: &str) -> Option<Plan<'p>> {
+fn structs_plan<'p>(form: &InputForm, schema: &'p Schema, name: &str) -> Option<Plan<'p>> {
     let decoder = Decoder::by_name(schema, name)?;
     Some(Plan::Decode {
         mode: form.mode,
@@ -61,7 +61,7 @@ fn structs_plan<'p>(form: &Form, schema: &'p Schema, name: &str) -> Option<Plan<
 /// Shows the messages of a file by the names of the methods that they call and return from.
 fn show_calls(
     rt: &HostRuntime,
-    form: &Form,
+    form: &InputForm,
     by: &SchemaNames<'_>,
     schema: Schema,
     path: &str,
@@ -89,7 +89,7 @@ fn show_calls(
 }
 
 /// Shows the messages of a file by these names.
-fn show_named(rt: &HostRuntime, form: &Form, names: &Names, path: &str) -> io::Result<u8> {
+fn show_named(rt: &HostRuntime, form: &InputForm, names: &Names, path: &str) -> io::Result<u8> {
     match names_plan(form, names) {
         Some(plan) => on_file(rt, &plan, path),
         None => Ok(BROKEN),
@@ -99,7 +99,7 @@ fn show_named(rt: &HostRuntime, form: &Form, names: &Names, path: &str) -> io::R
 // It is an `Option` as `structs_plan` is: rattle's borrow checker doesn't cover a plan that is made where it is lent.
 
 /// How messages are shown by these names.
-fn names_plan<'p>(form: &Form, names: &'p Names) -> Option<Plan<'p>> {
+fn names_plan<'p>(form: &InputForm, names: &'p Names) -> Option<Plan<'p>> {
     Some(Plan::Name {
         mode: form.mode,
         limits: form.limits,
@@ -108,7 +108,11 @@ fn names_plan<'p>(form: &Form, names: &'p Names) -> Option<Plan<'p>> {
 }
 
 /// The questions of a file, or the status after they were refused, which a line says.
-fn asked_in(rt: &HostRuntime, form: &Form, path: &str) -> io::Result<Result<Option<Asked>, u8>> {
+fn asked_in(
+    rt: &HostRuntime,
+    form: &InputForm,
+    path: &str,
+) -> io::Result<Result<Option<Asked>, u8>> {
     let bytes = fs::read(rt, path)?;
     let asked = Asked::read(rt.alloc(), &bytes, form.mode, form.limits);
     drop(bytes);

@@ -16,7 +16,7 @@ pub const BUFFER: usize = 65_536;
 
 /// How messages are read.
 #[derive(Clone, Copy)]
-pub(crate) struct Form {
+pub(crate) struct InputForm {
     pub(crate) mode: Mode,
     pub(crate) limits: Limits,
 }
@@ -28,7 +28,7 @@ pub fn act_on_file(rt: &HostRuntime, command: &FileCommand, path: &str) -> u8 {
             mode,
             limits,
             names: Some(names),
-        } => show_by(rt, &Form { mode, limits }, &names, path),
+        } => show_by(rt, &InputForm { mode, limits }, &names, path),
         _ => on_plain(rt, command, path),
     };
     done.unwrap_or_else(|error| failed(rt, path, error))

@@ -11,42 +11,42 @@ pub(crate) const MOST_WORDS: i64 = 8_388_608;
 /// Packed frames instead of plain ones.
 pub(crate) const PACKED: Argument = Argument {
     name: "packed",
-    form: Form::Flag,
+    form: ArgumentForm::Flag,
     help: "The frames are packed",
 };
 
 /// The limit on nesting.
 pub(crate) const NESTING: Argument = Argument {
     name: "nesting",
-    form: Form::Number("N", 256),
+    form: ArgumentForm::Number("N", 256),
     help: "Structs and lists may nest N levels deep, 64 by default",
 };
 
 /// The limit on traversal.
 pub(crate) const TRAVERSAL: Argument = Argument {
     name: "traversal",
-    form: Form::Number("N", 67_108_864),
+    form: ArgumentForm::Number("N", 67_108_864),
     help: "A message may cost N words to go over, 8388608 by default",
 };
 
 /// The file that a command reads.
 pub(crate) const FILE: Argument = Argument {
     name: "FILE",
-    form: Form::Place,
+    form: ArgumentForm::Place,
     help: "A file of frames, one after another; - is standard input",
 };
 
 /// The port that is served.
 pub(crate) const PORT: Argument = Argument {
     name: "PORT",
-    form: Form::Port,
+    form: ArgumentForm::Port,
     help: "A port of 127.0.0.1",
 };
 
 /// The number of connections.
 pub(crate) const COUNT: Argument = Argument {
     name: "COUNT",
-    form: Form::Count,
+    form: ArgumentForm::Count,
     help: "The number of connections",
 };
 
@@ -62,13 +62,13 @@ pub(crate) struct Words {
 #[derive(Clone, Copy)]
 pub(crate) struct Argument {
     pub(crate) name: &'static str,
-    pub(crate) form: Form,
+    pub(crate) form: ArgumentForm,
     pub(crate) help: &'static str,
 }
 
 /// What is given for an argument.
 #[derive(Clone, Copy)]
-pub(crate) enum Form {
+pub(crate) enum ArgumentForm {
     /// Nothing: an option that is there, or isn't.
     Flag,
     /// An option with a text, which help calls so.
@@ -100,7 +100,7 @@ impl Argument {
     fn arg<'a>(&self, alloc: Global) -> Result<Arg<'a>, AllocError> {
         let arg = self.formed(alloc);
         match self.form {
-            Form::Beside {
+            ArgumentForm::Beside {
                 needs,
                 excludes,
                 ..
@@ -113,17 +113,19 @@ impl Argument {
     fn formed<'a>(&self, alloc: Global) -> Arg<'a> {
         let arg = Arg::new(alloc, self.name).help(self.help);
         match self.form {
-            Form::Flag => arg.long(self.name).action(ArgAction::SetTrue),
-            Form::Text(value) | Form::Beside { value, .. } => arg.long(self.name).value_name(value),
-            Form::Number(value, most) => self.number(arg, value, most),
-            Form::Size(value, most) => self.number(arg, value, most).required(true),
-            Form::Place => arg.required(true),
-            Form::Last => arg,
-            Form::Places => arg.required(true).num_args(1..),
-            Form::Port => arg
+            ArgumentForm::Flag => arg.long(self.name).action(ArgAction::SetTrue),
+            ArgumentForm::Text(value) | ArgumentForm::Beside { value, .. } => arg
+                .long(self.name)
+                .value_name(value),
+            ArgumentForm::Number(value, most) => self.number(arg, value, most),
+            ArgumentForm::Size(value, most) => self.number(arg, value, most).required(true),
+            ArgumentForm::Place => arg.required(true),
+            ArgumentForm::Last => arg,
+            ArgumentForm::Places => arg.required(true).num_args(1..),
+            ArgumentForm::Port => arg
                 .required(true)
                 .value_parser(value_parser!(u16).range(1..=65_535)),
-            Form::Count => arg.required(true).value_parser(value_parser!(u32)),
+            ArgumentForm::Count => arg.required(true).value_parser(value_parser!(u32)),
         }
     }
 

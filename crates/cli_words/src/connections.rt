@@ -1,8 +1,8 @@
 //! The words of `loop`, `relay` and `call`.
 
 use crate::arguments::{
-    Argument, COUNT, FILE, Form, MOST_WORDS, NESTING, PACKED, PORT, TRAVERSAL, Words, limits_of,
-    mode_of,
+    Argument, ArgumentForm, COUNT, FILE, MOST_WORDS, NESTING, PACKED, PORT, TRAVERSAL, Words,
+    limits_of, mode_of,
 };
 use crate::task::{Calling, Relaying, Task};
 use clap::ArgMatches;
@@ -12,63 +12,63 @@ use cp_words::Limits;
 /// Whether the target's frames are in the other form.
 const OTHER: Argument = Argument {
     name: "other",
-    form: Form::Flag,
+    form: ArgumentForm::Flag,
     help: "The frames of HOST:PORT are in the other form, and messages are written anew",
 };
 
 /// Messages that are written anew.
 const ANEW: Argument = Argument {
     name: "anew",
-    form: Form::Flag,
+    form: ArgumentForm::Flag,
     help: "Write each message anew, in one segment",
 };
 
 /// Messages that are printed.
 const SHOWS: Argument = Argument {
     name: "show",
-    form: Form::Flag,
+    form: ArgumentForm::Flag,
     help: "Print each message that goes, after > to HOST:PORT, or < from it",
 };
 
 /// The limit on the words of a frame.
 const FRAME_WORDS: Argument = Argument {
     name: "words",
-    form: Form::Number("N", MOST_WORDS),
+    form: ArgumentForm::Number("N", MOST_WORDS),
     help: "A frame may have N words, 8388608 by default, and no more are gone over",
 };
 
 /// Where connections are relayed to.
 const TARGET: Argument = Argument {
     name: "HOST:PORT",
-    form: Form::Place,
+    form: ArgumentForm::Place,
     help: "A name or an address, and a port",
 };
 
 /// Whether messages are printed.
 const MESSAGES: Argument = Argument {
     name: "messages",
-    form: Form::Flag,
+    form: ArgumentForm::Flag,
     help: "Print each message that is sent, after >, and that comes, after <",
 };
 
 /// How long nothing may come.
 const TIMEOUT: Argument = Argument {
     name: "timeout",
-    form: Form::Number("SECONDS", 86_400),
+    form: ArgumentForm::Number("SECONDS", 86_400),
     help: "Give up where nothing comes for so long; without it there is no end",
 };
 
 /// Whose objects are called.
 const ADDRESS: Argument = Argument {
     name: "ADDRESS",
-    form: Form::Place,
+    form: ArgumentForm::Place,
     help: "HOST:PORT, or the path of a Unix socket, with a slash",
 };
 
 /// The calls.
 const CALLS: Argument = Argument {
     name: "CALL",
-    form: Form::Places,
+    form: ArgumentForm::Places,
     help: "A call; all go out at once",
 };
 

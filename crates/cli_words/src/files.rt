@@ -1,7 +1,7 @@
 //! The words of the commands on a file.
 
 use crate::arguments::{
-    Argument, FILE, Form, MOST_WORDS, NESTING, PACKED, TRAVERSAL, Words, limits_of, mode_of,
+    Argument, ArgumentForm, FILE, MOST_WORDS, NESTING, PACKED, TRAVERSAL, Words, limits_of, mode_of,
 };
 use crate::task::{FileCommand, SchemaNames, Task};
 use clap::ArgMatches;
@@ -9,14 +9,14 @@ use clap::ArgMatches;
 /// The schema by which messages are shown.
 const SCHEMA: Argument = Argument {
     name: "schema",
-    form: Form::Text("REQUEST"),
+    form: ArgumentForm::Text("REQUEST"),
     help: "Show calls, or with --type messages, by a schema: what `capnp compile -o- X.capnp` prints",
 };
 
 /// The struct that each message is.
 const TYPE: Argument = Argument {
     name: "type",
-    form: Form::Beside {
+    form: ArgumentForm::Beside {
         value: "NAME",
         needs: Some("schema"),
         excludes: None,
@@ -27,7 +27,7 @@ const TYPE: Argument = Argument {
 /// The messages whose calls are returned from.
 const CALLS: Argument = Argument {
     name: "calls",
-    form: Form::Beside {
+    form: ArgumentForm::Beside {
         value: "FILE",
         needs: Some("schema"),
         excludes: Some("type"),
@@ -38,7 +38,7 @@ const CALLS: Argument = Argument {
 /// The greatest number of words in a segment.
 const WORDS: Argument = Argument {
     name: "words",
-    form: Form::Size("N", MOST_WORDS),
+    form: ArgumentForm::Size("N", MOST_WORDS),
     help: "A segment has at most N words, or one body",
 };
 

@@ -8,5 +8,7 @@ mod serving;
 mod task;
 mod words;
 
-pub use task::{Calling, FileCommand, Place, Relaying, SchemaNames, Service, Serving, Task};
+pub use task::{
+    Calling, FileCommand, GivenPlace, GivenService, Relaying, SchemaNames, Serving, Task,
+};
 pub use words::{Acts, WRONG, run};

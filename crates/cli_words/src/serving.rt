@@ -1,35 +1,35 @@
 //! The words of `serve`.
 
-use crate::arguments::{Argument, COUNT, Form, PACKED, PORT, Words, mode_of};
-use crate::task::{Place, Service, Serving, Task};
+use crate::arguments::{Argument, ArgumentForm, COUNT, PACKED, PORT, Words, mode_of};
+use crate::task::{GivenPlace, GivenService, Serving, Task};
 use clap::ArgMatches;
 use std::net::{IpAddr, Ipv4Addr, SocketAddr};
 
 /// The most connections at once.
 const AT_ONCE: Argument = Argument {
     name: "at-once",
-    form: Form::Number("N", 65_535),
+    form: ArgumentForm::Number("N", 65_535),
     help: "Serve N connections at once, 1 by default; further ones wait",
 };
 
 /// The time without a byte.
 const IDLE: Argument = Argument {
     name: "idle",
-    form: Form::Number("SECONDS", 4_294_967_295),
+    form: ArgumentForm::Number("SECONDS", 4_294_967_295),
     help: "Close a connection on which no byte moves for SECONDS",
 };
 
 /// The address that is listened on.
 const LISTEN: Argument = Argument {
     name: "listen",
-    form: Form::Text("ADDRESS"),
+    form: ArgumentForm::Text("ADDRESS"),
     help: "Listen on ADDRESS, 127.0.0.1 by default",
 };
 
 /// The path of a socket.
 const SOCKET: Argument = Argument {
     name: "socket",
-    form: Form::Beside {
+    form: ArgumentForm::Beside {
         value: "PATH",
         needs: None,
         excludes: Some("listen"),
@@ -40,14 +40,14 @@ const SOCKET: Argument = Argument {
 /// A port, or a dash, or the number of connections, where there is a path.
 const ANY_PLACE: Argument = Argument {
     name: "PORT",
-    form: Form::Place,
+    form: ArgumentForm::Place,
     help: "A port of 127.0.0.1, or - for standard input and output; no port with --socket",
 };
 
 /// The number of connections, or a dash.
 const ANY_COUNT: Argument = Argument {
     name: "COUNT",
-    form: Form::Last,
+    form: ArgumentForm::Last,
     help: "The number of connections, or - for no end",
 };
 
@@ -119,7 +119,7 @@ fn at_port<'a>(matches: &ArgMatches<'a>, port: u16, count: Option<u32>) -> Optio
             count,
         }),
         count => Some(Serving::Hosted {
-            place: Place::Address(SocketAddr::from((address(matches)?, port))),
+            place: GivenPlace::Address(SocketAddr::from((address(matches)?, port))),
             service: service(matches, count),
         }),
     }
@@ -136,7 +136,7 @@ fn at_path<'a>(
         return None;
     }
     Some(Serving::Hosted {
-        place: Place::Path(path),
+        place: GivenPlace::Path(path),
         service: service(matches, count_of(count)?),
     })
 }
@@ -168,8 +168,8 @@ fn count_of(word: &str) -> Option<Option<u32>> {
 }
 
 /// How connections are served.
-fn service(matches: &ArgMatches, count: Option<u32>) -> Service {
-    Service {
+fn service(matches: &ArgMatches, count: Option<u32>) -> GivenService {
+    GivenService {
         mode: mode_of(matches),
         at_once: matches.get_one::<u32>("at-once").unwrap_or(1),
         idle: matches.get_one::<u32>("idle"),

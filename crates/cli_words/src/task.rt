@@ -65,16 +65,25 @@ pub struct SchemaNames<'a> {
 #[derive(Clone, Copy)]
 pub enum Serving<'a> {
     /// This many connections on a port, one after another.
-    InTurn { mode: Mode, port: u16, count: u32 },
+    InTurn {
+        mode: Mode,
+        port: u16,
+        count: u32,
+    },
     /// Connections that come to a place, many at once.
-    Hosted { place: Place<'a>, service: Service },
+    Hosted {
+        place: GivenPlace<'a>,
+        service: GivenService,
+    },
     /// Standard input, and standard output.
-    Pipe { mode: Mode },
+    Pipe {
+        mode: Mode,
+    },
 }
 
 /// Where connections come to.
 #[derive(Clone, Copy)]
-pub enum Place<'a> {
+pub enum GivenPlace<'a> {
     Address(SocketAddr),
     /// A path, at which a socket is made.
     Path(&'a str),
@@ -82,7 +91,7 @@ pub enum Place<'a> {
 
 /// How connections are served.
 #[derive(Clone, Copy)]
-pub struct Service {
+pub struct GivenService {
     pub mode: Mode,
     /// The most connections at once.
     pub at_once: u32,

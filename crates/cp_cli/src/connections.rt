@@ -1,11 +1,13 @@
 //! The commands over connections.
 
 use cli_files::{BUFFER, STDIN};
-use cli_words::{Calling, Place as GivenPlace, Relaying, Service as GivenService, Serving};
+use cli_words::{Calling, GivenPlace, GivenService, Relaying, Serving};
 use cp_calls::{CallPlan, call_address};
-use cp_daemon::{LONGEST_LOOP, Place, Service, loop_bytes, serve_pipe, serve_place, serve_port};
+use cp_daemon::{
+    LONGEST_LOOP, ListenAddress, Service, loop_bytes, serve_pipe, serve_place, serve_port,
+};
 use cp_frame::Mode;
-use cp_guard::{Plan, Route, relay_port};
+use cp_guard::{RelayPlan, RelayRoute, relay_port};
 use std::fs::File;
 use std::io::{self, BufWriter, Read};
 
@@ -31,14 +33,14 @@ pub(crate) fn serve(rt: &HostRuntime, serving: &Serving) -> u8 {
 
 /// Relays connections.
 pub(crate) fn relay(rt: &HostRuntime, relaying: &Relaying) -> io::Result<u8> {
-    let plan = Plan {
+    let plan = RelayPlan {
         near: relaying.near,
         far: relaying.far,
         anew: relaying.anew,
         limits: relaying.limits,
         shows: relaying.shows,
     };
-    let route = Route {
+    let route = RelayRoute {
         port: relaying.port,
         target: relaying.target,
         count: relaying.count,
@@ -102,10 +104,10 @@ fn loop_over(rt: &HostRuntime, bytes: &[u8], mode: Mode) -> io::Result<u8> {
 }
 
 /// Where connections come to.
-fn place_of(place: GivenPlace<'_>) -> Place<'_> {
+fn place_of(place: GivenPlace<'_>) -> ListenAddress<'_> {
     match place {
-        GivenPlace::Address(address) => Place::Address(address),
-        GivenPlace::Path(path) => Place::Path(path),
+        GivenPlace::Address(address) => ListenAddress::Address(address),
+        GivenPlace::Path(path) => ListenAddress::Path(path),
     }
 }
 

@@ -17,7 +17,7 @@ use Rattle.cp_client.specs.Goes.{Exchanges, asked_after, closed_after}
 use Rattle.cp_client.proofs.Living.{life_still}
 use Rattle.cp_client.proofs.Going.{talks_both, talks_alone, asked_both, closed_both}
 use Rattle.cp_connection.specs.Lives.{begins}
-use Rattle.cp_client.specs.declared.exports.Exports.{Exports}
+use Rattle.cp_client.specs.declared.exports.ExportedObjects.{ExportedObjects}
 use Rattle.cp_client.specs.Attends.{TalksOn, Trades}
 use Rattle.cp_client.specs.Party.{Party}
 use Rattle.cp_client.specs.PartyOf.{owed_by, party_of, knowing}
@@ -108,7 +108,7 @@ loses_now old new fault is same = record {
 
 -- ---- parties
 
-module _ {O : Type 0} (exports : Exports O) where
+module _ {O : Type 0} (exports : ExportedObjects O) where
   -- only what is no part of the connection changed
   pub party_same : (old new : Seat) → new.link ≡ old.link → party_of exports new ≡ record (party_of exports old) { seat = new }
   party_same old new same = ap (λ (l : Link). record (party_of exports old) { seat = new; work = owed_by exports l }) same

@@ -1,7 +1,7 @@
 -- How the questions of a stream end, one after another.
 use Rattle.std.proofs.Common.{◌≡◌, ℕ, List, [], ◌∷◌, ◌++◌, Option, Some, None, Result, Ok, Err, IfErr, refl, sym, ap, ◌∙◌, subst, append_assoc, drop, length, ◌<◌, is_none, true≢false, arith}
 use Rattle.cp_client.specs.Seat.{Seat}
-use Rattle.cp_client.specs.declared.fault.StreamFault.{StreamFault}
+use Rattle.cp_client.specs.declared.fault.StreamingFault.{StreamingFault}
 use Rattle.cp_client.specs.Streams.{Flow, Ends, EndsEach, IsFull, IsUnended, MakesRoom, due, oldest}
 
 abbrev or_else : ℕ → Option ℕ → ℕ
@@ -33,7 +33,7 @@ pub room_seen : {f g : Flow} (asked : List ℕ) (old new : Seat) (first : Option
 room_seen {f} {g} asked old new first view room = subst (λ (h : Flow). MakesRoom asked old first h.under_way new) (sym view) room
 
 -- there is no room where the question doesn't end that has to
-pub is_full : (flow : Flow) (old : Seat) (q : ℕ) (result : Result (Unit {0}) StreamFault) (left : List ℕ) (new : Seat) → due flow ≡ Some q
+pub is_full : (flow : Flow) (old : Seat) (q : ℕ) (result : Result (Unit {0}) StreamingFault) (left : List ℕ) (new : Seat) → due flow ≡ Some q
     → IfErr result (λ fault. IsUnended flow.under_way old q fault left new) → IfErr result (λ fault. IsFull flow old fault left new)
 is_full flow old q (Ok x) left new is h = h
 is_full flow old q (Err fault) left new is h = (q, is, h)

@@ -7,12 +7,12 @@ use Rattle.cp_refs.specs.declared.outcome.Outcome.{Outcome}
 use Rattle.cp_vat_machine.specs.declared.event.Event.TheVariants as events
 use Rattle.cp_connection.specs.declared.fault.ConnectionFault.TheVariants as connection_faults
 use Rattle.cp_stubs.specs.declared.fault.NoResults.{NoResults}
-use Rattle.cp_stubs.specs.declared.payload.Payload.{Payload}
+use Rattle.cp_stubs.specs.declared.payload.ResultPayload.{ResultPayload}
 use Rattle.cp_stubs.specs.Payloads.{Comes}
 use Rattle.cp_client.specs.declared.fault.ClientFault.{ClientFault}
 use Rattle.cp_client.specs.declared.fault.ClientFault.TheVariants as client_faults
-use Rattle.cp_client.specs.declared.fault.StreamFault.{StreamFault}
-use Rattle.cp_client.specs.declared.fault.StreamFault.TheVariants as faults
+use Rattle.cp_client.specs.declared.fault.StreamingFault.{StreamingFault}
+use Rattle.cp_client.specs.declared.fault.StreamingFault.TheVariants as faults
 use Rattle.cp_client.specs.Seat.{Seat}
 use Rattle.cp_client.specs.Goes.{Asks, AsksOrNot, Finishes, IsUndone}
 use Rattle.cp_client.specs.Waits.{Stops, Waits}
@@ -37,7 +37,7 @@ due flow = if nat_lt (length flow.under_way) flow.window then None else oldest f
 
 -- an outcome is results; or it is none, for this reason
 abbrev pub ComesTo : Outcome → Option NoResults → Type 0
-ComesTo outcome None = (results : Payload) × Comes outcome (Ok results)
+ComesTo outcome None = (results : ResultPayload) × Comes outcome (Ok results)
 ComesTo outcome (Some reason) = Comes outcome (Err reason)
 
 -- The outcome of a question was waited for. It is results, and the question was given up.
@@ -55,7 +55,7 @@ EndsEach old (q ∷ qs) new = (mid : Seat) × Ends old q mid × EndsEach mid qs 
 
 -- Why the oldest of the questions under way didn't end: its outcome isn't given out, and it stays under way; or that is no results, and it was given up; or
 -- it can't be given up, and its outcome is lost.
-pub data IsUnended (asked : List ℕ) (old : Seat) (q : ℕ) (fault : StreamFault) (left : List ℕ) (new : Seat) : Type 0 where
+pub data IsUnended (asked : List ℕ) (old : Seat) (q : ℕ) (fault : StreamingFault) (left : List ℕ) (new : Seat) : Type 0 where
   untold : (f : ClientFault) → fault ≡ faults.Client f → left ≡ asked → Stops old q f new → IsUnended asked old q fault left new
   failed : (reason : NoResults) (outcome : Outcome) (told : Seat) → fault ≡ faults.NoResults reason → left ≡ drop 1 asked → Waits old q outcome told
       → ComesTo outcome (Some reason) → Finishes told q new → IsUnended asked old q fault left new
@@ -68,7 +68,7 @@ MakesRoom asked old None left new = (left ≡ asked) × (new ≡ old)
 MakesRoom asked old (Some q) left new = (left ≡ drop 1 asked) × Ends old q new
 
 -- why there is no room: the question didn't end that has to
-abbrev pub IsFull : Flow → Seat → StreamFault → List ℕ → Seat → Type 0
+abbrev pub IsFull : Flow → Seat → StreamingFault → List ℕ → Seat → Type 0
 IsFull flow old fault left new = (q : ℕ) × (due flow ≡ Some q) × IsUnended flow.under_way old q fault left new
 
 -- A capability was called, once there was room. The call is under way.
@@ -81,7 +81,7 @@ pub record Sends (flow : Flow) (old : Seat) (cap : Cap) (request : Request) (sen
   pub noted : sent ≡ record flow { under_way = left ++ question ∷ [] }
 
 -- Why no call is under way that wasn't: there is no room; or it isn't made; or it is, and memory ran out for its question.
-pub data IsUnsent (flow : Flow) (old : Seat) (cap : Cap) (request : Request) (fault : StreamFault) (left : List ℕ) (new : Seat) : Type 0 where
+pub data IsUnsent (flow : Flow) (old : Seat) (cap : Cap) (request : Request) (fault : StreamingFault) (left : List ℕ) (new : Seat) : Type 0 where
   full : IsFull flow old fault left new → IsUnsent flow old cap request fault left new
   uncalled : (f : ClientFault) (mid : Seat) → fault ≡ faults.Client f → MakesRoom flow.under_way old (due flow) left mid → AsksOrNot mid cap request (Err f) new
       → IsUnsent flow old cap request fault left new
@@ -89,7 +89,7 @@ pub data IsUnsent (flow : Flow) (old : Seat) (cap : Cap) (request : Request) (fa
       → MakesRoom flow.under_way old (due flow) left mid → Asks mid (events.Call cap request) q new → IsUnsent flow old cap request fault left new
 
 -- Some of the questions under way ended, one after another, and the next one didn't.
-pub record Breaks (asked : List ℕ) (old : Seat) (fault : StreamFault) (left : List ℕ) (new : Seat) : Type 0 where
+pub record Breaks (asked : List ℕ) (old : Seat) (fault : StreamingFault) (left : List ℕ) (new : Seat) : Type 0 where
   pub ended : List ℕ
   pub q : ℕ
   pub rest : List ℕ

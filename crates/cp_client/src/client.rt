@@ -51,7 +51,7 @@ use std::io::{ErrorKind, Read, Write};
 pub struct Client<R, W> {
     from: Tap<R>,
     to: Tap<W>,
-    /// All but the devices, for one who has what happened done by others, as `Exports` has by its objects.
+    /// All but the devices, for one who has what happened done by others, as `ExportedObjects` has by its objects.
     pub session: Session,
 }
 

@@ -47,18 +47,18 @@ const MOST: usize = 0xffff_ffff;
 /// Those of the client. Where memory runs out in a turn, a call or an outcome may be lost: the client takes no more bytes
 /// then, and each later wait gives that fault.
 #[derive(Drop)]
-pub struct Exports<O> {
+pub struct ExportedObjects<O> {
     objects: Vec<O>,
     work: Objects,
 }
 
-impl<O: Servant> Exports<O> {
+impl<O: Servant> ExportedObjects<O> {
     /// No objects.
-    pub fn new(alloc: Global) -> Exports<O>
+    pub fn new(alloc: Global) -> ExportedObjects<O>
         ensures none { objects_of result ≡ [] }
         ensures nothing { (link : Link) → owed_by result link ≡ begun true link }
     {
-        Exports {
+        ExportedObjects {
             objects: Vec::new(alloc),
             work: Objects::that_call(alloc),
         }

@@ -72,7 +72,7 @@ impl<T: Drop> From<AllocFailed<T>> for ClientFault {
 }
 
 /// Why a stream doesn't go on.
-pub enum StreamFault {
+pub enum StreamingFault {
     /// Why the client gives nothing.
     Client(ClientFault),
     /// A call came to no results. It was finished, and is no longer under way.
@@ -80,49 +80,49 @@ pub enum StreamFault {
 }
 
 // Not derived: a crate that lets one go calls this function, and need not prove the drop of all that it holds.
-impl Drop for StreamFault {
+impl Drop for StreamingFault {
     fn drop(self) {
         match self {
-            StreamFault::Client(_) => {}
-            StreamFault::NoResults(_) => {}
+            StreamingFault::Client(_) => {}
+            StreamingFault::NoResults(_) => {}
         }
     }
 }
 
-impl fmt::Display for StreamFault {
+impl fmt::Display for StreamingFault {
     fn fmt<W: fmt::Write>(&self, f: &mut fmt::Formatter<W>) -> fmt::Result {
         match self {
-            StreamFault::Client(fault) => fault.fmt(f),
-            StreamFault::NoResults(reason) => reason.fmt(f),
+            StreamingFault::Client(fault) => fault.fmt(f),
+            StreamingFault::NoResults(reason) => reason.fmt(f),
         }
     }
 }
 
 // Exceptions have no `Debug`.
-impl fmt::Debug for StreamFault {
+impl fmt::Debug for StreamingFault {
     fn fmt<W: fmt::Write>(&self, f: &mut fmt::Formatter<W>) -> fmt::Result {
         fmt::Display::fmt(self, f)
     }
 }
 
-impl Error for StreamFault {}
+impl Error for StreamingFault {}
 
-impl From<ClientFault> for StreamFault {
-    ghost use Rattle.cp_client.specs.declared.fault.StreamFault.TheVariants.{Client};
+impl From<ClientFault> for StreamingFault {
+    ghost use Rattle.cp_client.specs.declared.fault.StreamingFault.TheVariants.{Client};
 
     ghost from_gives = { λ fault r. r ≡ Client fault };
 
-    fn from(fault: ClientFault) -> StreamFault {
-        StreamFault::Client(fault)
+    fn from(fault: ClientFault) -> StreamingFault {
+        StreamingFault::Client(fault)
     }
 }
 
-impl<T: Drop> From<AllocFailed<T>> for StreamFault {
-    ghost use Rattle.cp_client.specs.declared.fault.StreamFault.TheVariants.{Client};
+impl<T: Drop> From<AllocFailed<T>> for StreamingFault {
+    ghost use Rattle.cp_client.specs.declared.fault.StreamingFault.TheVariants.{Client};
 
     ghost from_gives = { λ _ r. r ≡ Client (Connection OutOfMemory) };
 
-    fn from(_: AllocFailed<T>) -> StreamFault {
-        StreamFault::Client(ClientFault::Connection(ConnectionFault::OutOfMemory))
+    fn from(_: AllocFailed<T>) -> StreamingFault {
+        StreamingFault::Client(ClientFault::Connection(ConnectionFault::OutOfMemory))
     }
 }

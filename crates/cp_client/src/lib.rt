@@ -14,8 +14,8 @@ mod stream;
 
 pub use client::Client;
 pub use contents::{request_of, word_at};
-pub use exports::Exports;
-pub use fault::{ClientFault, StreamFault};
+pub use exports::ExportedObjects;
+pub use fault::{ClientFault, StreamingFault};
 pub use question::Question;
 pub use session::Session;
 pub use stream::Stream;

@@ -5,10 +5,10 @@ ghost use Rattle.cp_client.specs.SeatOf.{seat};
 ghost use Rattle.cp_client.specs.Streams.{Breaks, ComesTo, Ends, EndsEach, IsFull, IsUnended, IsUnsent, MakesRoom, Sends, due, new_flow, oldest};
 
 use crate::client::Client;
-use crate::fault::StreamFault;
+use crate::fault::StreamingFault;
 use crate::question::Question;
 use cp_refs::{Outcome, Request};
-use cp_stubs::{NoResults, Target, payload_of};
+use cp_stubs::{CallTarget, NoResults, payload_of};
 use std::alloc::Global;
 use std::collections::VecDeque;
 use std::io::{Read, Write};
@@ -53,9 +53,9 @@ impl Stream {
     pub fn send<R: Read + Drop, W: Write + Drop>(
         &mut self,
         client: &mut Client<R, W>,
-        target: &Target,
+        target: &CallTarget,
         request: Request,
-    ) -> Result<(), StreamFault>
+    ) -> Result<(), StreamingFault>
         ensures sends { let at = seat R.remaining W.contents in OnOk result (Sends self.old (at client.old) target.now request self.new (at client.new)) }
         ensures unsent { let at = seat R.remaining W.contents in IfErr result (λ f. IsUnsent self.old (at client.old) target.now request f self.new.under_way (at client.new)) }
         ensures same_window { self.new.window ≡ self.old.window }
@@ -70,7 +70,7 @@ impl Stream {
     pub fn end<R: Read + Drop, W: Write + Drop>(
         &mut self,
         client: &mut Client<R, W>,
-    ) -> Result<(), StreamFault>
+    ) -> Result<(), StreamingFault>
         ensures ends { let at = seat R.remaining W.contents in OnOk result (EndsEach (at client.old) self.old.under_way (at client.new)) }
         ensures none_left { OnOk result (self.new.under_way ≡ []) }
         ensures breaks { let at = seat R.remaining W.contents in IfErr result (λ f. Breaks self.old.under_way (at client.old) f self.new.under_way (at client.new)) }
@@ -86,7 +86,7 @@ impl Stream {
     fn make_room<R: Read + Drop, W: Write + Drop>(
         &mut self,
         client: &mut Client<R, W>,
-    ) -> Result<(), StreamFault>
+    ) -> Result<(), StreamingFault>
         ensures room { let at = seat R.remaining W.contents in OnOk result (MakesRoom self.old.under_way (at client.old) (due self.old) self.new.under_way (at client.new)) }
         ensures full { let at = seat R.remaining W.contents in IfErr result (λ f. IsFull self.old (at client.old) f self.new.under_way (at client.new)) }
         ensures same_window { self.new.window ≡ self.old.window }
@@ -119,7 +119,7 @@ impl Stream {
         &mut self,
         client: &mut Client<R, W>,
         question: u32,
-    ) -> Result<(), StreamFault>
+    ) -> Result<(), StreamingFault>
         ensures ends { let at = seat R.remaining W.contents in OnOk result (Ends (at client.old) question (at client.new)) }
         ensures left { OnOk result (self.new.under_way ≡ drop 1 self.old.under_way) }
         ensures unended { let at = seat R.remaining W.contents in IfErr result (λ f. IsUnended self.old.under_way (at client.old) question f self.new.under_way (at client.new)) }
@@ -130,7 +130,7 @@ impl Stream {
         let _ = self.under_way.pop_front();
         client.finish(Question { number })?;
         if let Some(reason) = reason {
-            return Err(StreamFault::NoResults(reason));
+            return Err(StreamingFault::NoResults(reason));
         }
         Ok(())
     }

@@ -12,4 +12,4 @@ mod unserved;
 
 pub use connections::{LONGEST_LOOP, loop_bytes, serve_connections, serve_port};
 pub use pipe::serve_pipe;
-pub use places::{Place, Service, serve_place};
+pub use places::{ListenAddress, Service, serve_place};

@@ -2,7 +2,7 @@
 
 use cp_commands::{ACCEPTED, BROKEN, REFUSED};
 use cp_frame::Mode;
-use cp_host::{End, Host, News, Plan};
+use cp_host::{End, Host, HostPlan, News};
 use cp_servants::{Cell, Desk, Sample};
 use cp_sockets::{Crowd, HostLimits, Listener, Peer};
 use cp_words::Limits;
@@ -15,7 +15,7 @@ use std::time::Clock;
 
 /// Where connections come to.
 #[derive(Clone, Copy)]
-pub enum Place<'a> {
+pub enum ListenAddress<'a> {
     Address(SocketAddr),
     /// A path, at which a socket is made.
     Path(&'a str),
@@ -40,7 +40,7 @@ pub struct Service {
 /// Of each connection that isn't served to its end, or that meets a limit, a line of `err` says why, and names its peer. The
 /// status is that of the first of these: 1 where something was refused, 2 where a stream failed. An Abort, of either side, ends a
 /// connection with status 0. A place that can't be listened on is a device that failed.
-pub fn serve_place<N, E: Write>(rt: &N, place: &Place, service: &Service, err: &mut E) -> u8
+pub fn serve_place<N, E: Write>(rt: &N, place: &ListenAddress, service: &Service, err: &mut E) -> u8
 where
     N: Net + Files + Clock + AllocGlobal,
 {
@@ -53,24 +53,24 @@ where
     }
 }
 
-impl fmt::Display for Place<'_> {
+impl fmt::Display for ListenAddress<'_> {
     fn fmt<W: fmt::Write>(&self, f: &mut fmt::Formatter<W>) -> fmt::Result {
         match self {
-            Place::Address(address) => address.fmt(f),
-            Place::Path(path) => f.write_str(path),
+            ListenAddress::Address(address) => address.fmt(f),
+            ListenAddress::Path(path) => f.write_str(path),
         }
     }
 }
 
 impl Service {
     /// The plan of its host.
-    fn plan(&self) -> Plan {
+    fn plan(&self) -> HostPlan {
         let standard = HostLimits::standard();
         let idle = match self.idle {
             Some(seconds) => seconds as u64 * 1_000,
             None => standard.idle,
         };
-        Plan {
+        HostPlan {
             mode: self.mode,
             messages: Limits::standard(),
             limits: HostLimits {
@@ -85,7 +85,12 @@ impl Service {
 }
 
 /// Serves all connections, and gives the status.
-fn serve_all<N, E: Write>(rt: &N, place: &Place, service: &Service, err: &mut E) -> io::Result<u8>
+fn serve_all<N, E: Write>(
+    rt: &N,
+    place: &ListenAddress,
+    service: &Service,
+    err: &mut E,
+) -> io::Result<u8>
 where
     N: Net + Files + Clock + AllocGlobal,
 {
@@ -136,12 +141,12 @@ fn admit(alloc: Global, host: &mut Host<Sample>) -> io::Result<()> {
 /// Listens, and says where.
 fn listener_at<N: Net + Files, E: Write>(
     rt: &N,
-    place: &Place,
+    place: &ListenAddress,
     err: &mut E,
 ) -> io::Result<Listener> {
     let listener = match place {
-        Place::Address(address) => Listener::bind(rt, *address)?,
-        Place::Path(path) => Listener::bind_path(rt, path)?,
+        ListenAddress::Address(address) => Listener::bind(rt, *address)?,
+        ListenAddress::Path(path) => Listener::bind_path(rt, path)?,
     };
     match listener.address()? {
         Some(address) => writeln!(err, "listening on {address}")?,

@@ -7,8 +7,8 @@ use Rattle.cp_fields.specs.Constants.{constant_of, constant_body_of}
 use Rattle.cp_fields.specs.Pointers.{pointers_of}
 use Rattle.cp_fields.specs.declared.pointee.Part.{Part}
 use Rattle.cp_fields.specs.declared.pointee.Part.TheVariants as parts
-use Rattle.cp_fields.specs.declared.bytes.Lent.{Lent}
-use Rattle.cp_fields.specs.declared.bytes.Lent.TheVariants as lents
+use Rattle.cp_fields.specs.declared.bytes.BorrowedBytes.{BorrowedBytes}
+use Rattle.cp_fields.specs.declared.bytes.BorrowedBytes.TheVariants as lents
 use Rattle.cp_fields.specs.declared.structure.Data.{Data}
 use Rattle.cp_fields.specs.declared.structure.Data.TheVariants as datas
 use Rattle.cp_fields.specs.declared.structure.Pointers.{Pointers}
@@ -21,7 +21,7 @@ part_node (parts.Tree t) = node_of t.now
 part_node (parts.Constant t) = constant_of t.now
 
 -- the bytes that words hold, or those of a slice
-abbrev pub bytes_in : Lent → List ℕ
+abbrev pub bytes_in : BorrowedBytes → List ℕ
 bytes_in (lents.Words ws n) = numbers ws.now 8 n
 bytes_in (lents.Slice bs) = bs.now
 
@@ -39,7 +39,7 @@ pointers_in (rows.Only t) = node t no_nodes
 pointers_in (rows.Constant b) = (constant_body_of b.now).1
 
 -- few enough bytes of words for a list
-abbrev pub IsLent : Lent → Type 0
+abbrev pub IsLent : BorrowedBytes → Type 0
 IsLent (lents.Words ws n) = n < 2 ^ 32
 IsLent (lents.Slice bs) = Unit {0}
 

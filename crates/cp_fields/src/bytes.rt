@@ -19,7 +19,7 @@ use std::marker::Model;
 
 /// Bytes that are lent: the first of those that words hold, or a slice.
 #[derive(Clone, Copy)]
-pub(crate) enum Lent<'a> {
+pub(crate) enum BorrowedBytes<'a> {
     Words(&'a [u64], usize),
     Slice(&'a [u8]),
 }
@@ -27,7 +27,7 @@ pub(crate) enum Lent<'a> {
 /// The bytes of a field of the type Data, where they lie. Contracts see it as its bytes.
 #[derive(Drop)]
 pub struct DataView<'a> {
-    bytes: Lent<'a>,
+    bytes: BorrowedBytes<'a>,
 }
 
 impl<'a> Model for DataView<'a> {
@@ -71,7 +71,7 @@ impl<'a> DataView<'a> {
         ensures { result ≡ bytes.now }
     {
         DataView {
-            bytes: Lent::Slice(bytes),
+            bytes: BorrowedBytes::Slice(bytes),
         }
     }
 
@@ -81,8 +81,8 @@ impl<'a> DataView<'a> {
         ensures { result ≡ length self.now }
     {
         match self.bytes {
-            Lent::Words(_, count) => count,
-            Lent::Slice(bytes) => bytes.len(),
+            BorrowedBytes::Words(_, count) => count,
+            BorrowedBytes::Slice(bytes) => bytes.len(),
         }
     }
 
@@ -100,8 +100,8 @@ impl<'a> DataView<'a> {
         ensures { result ≡ slice_index self.now i }
     {
         match self.bytes {
-            Lent::Words(words, _) => number_at(words, 8, i) as u8,
-            Lent::Slice(bytes) => bytes[i],
+            BorrowedBytes::Words(words, _) => number_at(words, 8, i) as u8,
+            BorrowedBytes::Slice(bytes) => bytes[i],
         }
     }
 
@@ -110,8 +110,8 @@ impl<'a> DataView<'a> {
         ensures { IfOk result (λ v. v.items ≡ self.now) }
     {
         match self.bytes {
-            Lent::Words(words, count) => copy_of(alloc, words, count),
-            Lent::Slice(bytes) => bytes.to_vec(alloc),
+            BorrowedBytes::Words(words, count) => copy_of(alloc, words, count),
+            BorrowedBytes::Slice(bytes) => bytes.to_vec(alloc),
         }
     }
 
@@ -120,8 +120,8 @@ impl<'a> DataView<'a> {
         ensures { IsTrue result ↔ IsUtf8 self.now }
     {
         match self.bytes {
-            Lent::Words(words, count) => utf8::is_utf8(words, count),
-            Lent::Slice(bytes) => simdutf8::is_utf8(bytes),
+            BorrowedBytes::Words(words, count) => utf8::is_utf8(words, count),
+            BorrowedBytes::Slice(bytes) => simdutf8::is_utf8(bytes),
         }
     }
 
@@ -154,8 +154,8 @@ impl<'a> DataView<'a> {
         ensures { result ≡ take count self.now }
     {
         match self.bytes {
-            Lent::Words(words, _) => DataView::of_words(words, count),
-            Lent::Slice(bytes) => DataView::of_slice(&bytes[..count]),
+            BorrowedBytes::Words(words, _) => DataView::of_words(words, count),
+            BorrowedBytes::Slice(bytes) => DataView::of_slice(&bytes[..count]),
         }
     }
 
@@ -166,7 +166,7 @@ impl<'a> DataView<'a> {
         ensures { result ≡ numbers words.now 8 count }
     {
         DataView {
-            bytes: Lent::Words(words, count),
+            bytes: BorrowedBytes::Words(words, count),
         }
     }
 }

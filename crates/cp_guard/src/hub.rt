@@ -1,9 +1,9 @@
 //! The connections that are relayed at once.
 
-use crate::link::{Ended, Link, Turn};
-use crate::plan::{ACCEPTED, Plan};
+use crate::direction::DirectionEnd;
+use crate::link::{Link, PairEnd, PairTurn};
+use crate::plan::{ACCEPTED, RelayPlan};
 use crate::watch::Watch;
-use crate::way::End;
 use mio::net::{TcpListener, TcpStream};
 use mio::{Events, Interest, Poll, Token};
 use slab::Slab;
@@ -35,7 +35,7 @@ const AGAIN: u64 = 100;
 #[derive(Drop)]
 pub(crate) struct Hub {
     alloc: Global,
-    plan: Plan,
+    plan: RelayPlan,
     poll: Poll,
     events: Events,
     listener: TcpListener,
@@ -59,7 +59,7 @@ impl Hub {
     /// A hub to which no connection has come.
     pub(crate) fn new<N: Net + AllocGlobal>(
         rt: &N,
-        plan: Plan,
+        plan: RelayPlan,
         mut listener: TcpListener,
         target: SocketAddr,
         count: u32,
@@ -167,9 +167,9 @@ impl Hub {
                     let number = self.came.saturating_add(1);
                     self.came = number;
                     if let Err(error) = self.admit(rt, stream) {
-                        let end = End::Unwritten(error);
+                        let end = DirectionEnd::Unwritten(error);
                         let comes_back = false;
-                        self.report(watch, err, number, Ended { end, comes_back });
+                        self.report(watch, err, number, PairEnd { end, comes_back });
                     }
                 }
                 Err(error) if error.kind() == ErrorKind::WouldBlock => self.acceptable = false,
@@ -210,9 +210,9 @@ impl Hub {
         };
         let number = link.number();
         match link.turn(watch, &mut self.spare) {
-            Turn::More => self.queue.push_back(key)?,
-            Turn::Waits => (),
-            Turn::Ends(ended) => {
+            PairTurn::More => self.queue.push_back(key)?,
+            PairTurn::Waits => (),
+            PairTurn::Ends(ended) => {
                 let _ = self.links.try_remove(key);
                 self.report(watch, err, number, ended);
             }
@@ -229,7 +229,7 @@ impl Hub {
         watch: &Watch<W>,
         err: &mut E,
         number: u64,
-        ended: Ended,
+        ended: PairEnd,
     ) {
         let status = ended.status();
         if self.status == ACCEPTED {

@@ -1,11 +1,11 @@
 //! Relays the connections of a port, both directions at once, and lets through what a relay accepts.
 #![tactic(auto)]
 
+mod direction;
 mod hub;
 mod link;
-mod piece;
 mod plan;
+mod read_buffer;
 mod watch;
-mod way;
 
-pub use plan::{Plan, Route, relay_port};
+pub use plan::{RelayPlan, RelayRoute, relay_port};

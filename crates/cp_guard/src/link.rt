@@ -1,8 +1,8 @@
 //! A connection and the one that was made for it.
 
-use crate::plan::{ACCEPTED, BROKEN, Plan, REFUSED};
-use crate::watch::{Place, Watch};
-use crate::way::{End, Way};
+use crate::direction::{Direction, DirectionEnd};
+use crate::plan::{ACCEPTED, BROKEN, REFUSED, RelayPlan};
+use crate::watch::{RelayedFrom, Watch};
 use cp_frame::FrameFault;
 use cp_relay::Why;
 use cp_stream::Refusal;
@@ -15,50 +15,53 @@ use std::net::Shutdown;
 
 /// How a connection ended.
 #[derive(Clone, Copy)]
-pub(crate) struct Ended {
-    pub end: End,
+pub(crate) struct PairEnd {
+    pub end: DirectionEnd,
     /// Of the two directions it is the one that comes from the target.
     pub comes_back: bool,
 }
 
-impl Ended {
+impl PairEnd {
     /// The status that it leads to.
     pub(crate) fn status(&self) -> u8 {
         match self.end {
-            End::Well => ACCEPTED,
-            End::Refused(_) => REFUSED,
-            End::Unread(_) | End::Unwritten(_) => BROKEN,
+            DirectionEnd::Well => ACCEPTED,
+            DirectionEnd::Refused(_) => REFUSED,
+            DirectionEnd::Unread(_) | DirectionEnd::Unwritten(_) => BROKEN,
         }
     }
 
     /// Whether the other direction's end is the one to be reported. A stream that couldn't be written to was reset: that
     /// it ends inside a message follows from it, since the failed write took the error that a read would have met.
-    fn yields_to(&self, other: &Ended) -> bool {
+    fn yields_to(&self, other: &PairEnd) -> bool {
         match self.end {
-            End::Well => true,
-            End::Refused(fault) => {
+            DirectionEnd::Well => true,
+            DirectionEnd::Refused(fault) => {
                 fault.why == Why::Refused(Refusal::Frame(FrameFault::Truncated))
-                    && matches!(other.end, End::Unwritten(_))
+                    && matches!(other.end, DirectionEnd::Unwritten(_))
             }
-            End::Unread(_) | End::Unwritten(_) => false,
+            DirectionEnd::Unread(_) | DirectionEnd::Unwritten(_) => false,
         }
     }
 
     /// Whether the other direction isn't waited for. Where the target has failed, what had come from it still goes out.
     fn ends_both(&self) -> bool {
         match self.end {
-            End::Refused(_) | End::Unread(_) => true,
-            End::Well | End::Unwritten(_) => false,
+            DirectionEnd::Refused(_) | DirectionEnd::Unread(_) => true,
+            DirectionEnd::Well | DirectionEnd::Unwritten(_) => false,
         }
     }
 }
 
-impl fmt::Display for Ended {
+impl fmt::Display for PairEnd {
     fn fmt<W: fmt::Write>(&self, f: &mut fmt::Formatter<W>) -> fmt::Result {
         match self.end {
-            End::Well => f.write_str("ended")?,
-            End::Refused(fault) => write!(f, "{fault}")?,
-            End::Unread(error) | End::Unwritten(error) => write!(f, "device: {error}")?,
+            DirectionEnd::Well => f.write_str("ended")?,
+            DirectionEnd::Refused(fault) => write!(f, "{fault}")?,
+            DirectionEnd::Unread(error) | DirectionEnd::Unwritten(error) => write!(
+                f,
+                "device: {error}"
+            )?,
         }
         write!(f, " ({})", arrow(self.comes_back))
     }
@@ -71,12 +74,12 @@ pub(crate) fn arrow(comes_back: bool) -> &'static str {
 
 /// What is left to do for a connection.
 #[derive(Clone, Copy)]
-pub(crate) enum Turn {
+pub(crate) enum PairTurn {
     /// Something can be done at once.
     More,
     /// Nothing can be done before the next event.
     Waits,
-    Ends(Ended),
+    Ends(PairEnd),
 }
 
 /// A connection that was accepted, and the one to the target.
@@ -84,8 +87,8 @@ pub(crate) enum Turn {
 pub(crate) struct Link {
     near: TcpStream,
     far: TcpStream,
-    there: Way,
-    back: Way,
+    there: Direction,
+    back: Direction,
     /// The target was told that there is no more.
     far_is_shut: bool,
     near_is_shut: bool,
@@ -98,7 +101,7 @@ impl Link {
     /// A link of two streams, of which nothing was read.
     pub(crate) fn new(
         alloc: Global,
-        plan: &Plan,
+        plan: &RelayPlan,
         near: TcpStream,
         far: TcpStream,
         number: u64,
@@ -106,8 +109,8 @@ impl Link {
         Ok(Link {
             near,
             far,
-            there: Way::new(alloc, plan.there(alloc))?,
-            back: Way::new(alloc, plan.back(alloc))?,
+            there: Direction::new(alloc, plan.there(alloc))?,
+            back: Direction::new(alloc, plan.back(alloc))?,
             far_is_shut: false,
             near_is_shut: false,
             number,
@@ -141,22 +144,26 @@ impl Link {
         &mut self,
         watch: &mut Watch<W>,
         spare: &mut Vec<u8>,
-    ) -> Turn {
+    ) -> PairTurn {
         watch.turn_to(self.place(false));
         self.there.turn(&mut self.near, &mut self.far, watch, spare);
         watch.turn_to(self.place(true));
         self.back.turn(&mut self.far, &mut self.near, watch, spare);
         self.pass_ends_on();
         if let Some(ended) = self.ended() {
-            return Turn::Ends(ended);
+            return PairTurn::Ends(ended);
         }
         self.queued = self.there.goes_on() || self.back.goes_on();
-        if self.queued { Turn::More } else { Turn::Waits }
+        if self.queued {
+            PairTurn::More
+        } else {
+            PairTurn::Waits
+        }
     }
 
     /// The place of the messages of a direction.
-    fn place(&self, comes_back: bool) -> Place {
-        Place {
+    fn place(&self, comes_back: bool) -> RelayedFrom {
+        RelayedFrom {
             number: self.number,
             comes_back,
         }
@@ -175,7 +182,7 @@ impl Link {
     }
 
     /// How the connection ended, once both directions did, or one in a way that ends both.
-    fn ended(&self) -> Option<Ended> {
+    fn ended(&self) -> Option<PairEnd> {
         let there = ended_in(&self.there, false);
         let back = ended_in(&self.back, true);
         if let (Some(one), Some(other)) = (there, back) {
@@ -187,7 +194,7 @@ impl Link {
 }
 
 /// How a direction ended, if it did.
-fn ended_in(way: &Way, comes_back: bool) -> Option<Ended> {
+fn ended_in(way: &Direction, comes_back: bool) -> Option<PairEnd> {
     let end = way.end()?;
-    Some(Ended { end, comes_back })
+    Some(PairEnd { end, comes_back })
 }

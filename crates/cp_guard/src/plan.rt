@@ -19,7 +19,7 @@ pub(crate) const BROKEN: u8 = 2;
 
 /// The connections that are relayed.
 #[derive(Clone, Copy)]
-pub struct Route<'a> {
+pub struct RelayRoute<'a> {
     /// The port of 127.0.0.1 that takes them.
     pub port: u16,
     /// A `HOST:PORT`, to which one is made for each.
@@ -30,7 +30,7 @@ pub struct Route<'a> {
 
 /// How the messages of a connection are relayed.
 #[derive(Clone, Copy)]
-pub struct Plan {
+pub struct RelayPlan {
     /// The form of the frames of those that connect.
     pub near: Mode,
     /// The form of the target's frames.
@@ -42,7 +42,7 @@ pub struct Plan {
     pub shows: bool,
 }
 
-impl Plan {
+impl RelayPlan {
     /// A relay to the target.
     pub(crate) fn there(&self, alloc: Global) -> Relay {
         Relay::new(alloc, self.near, self.output(self.far), self.limits)
@@ -72,8 +72,8 @@ impl Plan {
 /// where a connection failed, or `out`.
 pub fn relay_port<N, W: Write + Drop, E: Write>(
     rt: &N,
-    route: &Route,
-    plan: &Plan,
+    route: &RelayRoute,
+    plan: &RelayPlan,
     out: &mut W,
     err: &mut E,
 ) -> u8
@@ -93,8 +93,8 @@ where
 /// Relays the connections. An error is one of the listener, of the wait, or of `out`.
 fn relay<N, W: Write + Drop, E: Write>(
     rt: &N,
-    route: &Route,
-    plan: &Plan,
+    route: &RelayRoute,
+    plan: &RelayPlan,
     watch: &mut Watch<W>,
     err: &mut E,
 ) -> io::Result<u8>

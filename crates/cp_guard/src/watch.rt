@@ -9,7 +9,7 @@ use std::io::{self, Write};
 
 /// The direction of a message, and its connection's number, from 1 on.
 #[derive(Clone, Copy)]
-pub(crate) struct Place {
+pub(crate) struct RelayedFrom {
     pub number: u64,
     pub comes_back: bool,
 }
@@ -25,7 +25,7 @@ pub(crate) struct Watch<'a, W> {
     line: String,
     /// The error of the writer, which fails no more.
     failed: Option<io::Error>,
-    place: Place,
+    place: RelayedFrom,
 }
 
 impl<'a, W: Write + Drop> Watch<'a, W> {
@@ -37,7 +37,7 @@ impl<'a, W: Write + Drop> Watch<'a, W> {
             numbers,
             line: String::new(alloc),
             failed: None,
-            place: Place {
+            place: RelayedFrom {
                 number: 0,
                 comes_back: false,
             },
@@ -50,7 +50,7 @@ impl<'a, W: Write + Drop> Watch<'a, W> {
     }
 
     /// The next messages go there.
-    pub(crate) fn turn_to(&mut self, place: Place) {
+    pub(crate) fn turn_to(&mut self, place: RelayedFrom) {
         self.place = place;
     }
 
@@ -67,7 +67,7 @@ impl<'a, W: Write + Drop> Watch<'a, W> {
 
     /// The message's line, with its place before it.
     fn make_line(&mut self, message: &MessageView) -> Result<(), AllocError> {
-        let Place { number, comes_back } = self.place;
+        let RelayedFrom { number, comes_back } = self.place;
         let line = &mut self.line;
         line.clear();
         if self.numbers {

@@ -4,18 +4,18 @@ use Rattle.cp_sockets.specs.Limits.{HasRoom}
 use Rattle.cp_host.specs.Entry.{most}
 use Rattle.cp_host.specs.declared.host.News.{News}
 use Rattle.cp_host.specs.declared.host.News.TheVariants as all_news
-use Rattle.cp_host.specs.declared.plan.Plan.{Plan}
+use Rattle.cp_host.specs.declared.plan.HostPlan.{HostPlan}
 
 -- The plan, how many are to come, how many came, how many are served, and the number of the one that waits for its objects.
 pub record Roster : Type 0 where
-  pub plan : Plan
+  pub plan : HostPlan
   pub count : ℕ
   pub came : ℕ
   pub served : ℕ
   pub awaits : Option ℕ
 
 -- no connection came
-abbrev pub begun : Plan → Roster
+abbrev pub begun : HostPlan → Roster
 begun plan = record { plan = plan; count = most plan.count; came = 0; served = 0; awaits = None }
 
 -- None came, and none waits for its objects. No more are served.

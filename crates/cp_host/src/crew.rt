@@ -4,7 +4,7 @@ ghost use Rattle.std.specs.Prelude.{[], OnOk};
 ghost use Rattle.cp_host.specs.Feeding.{KeepsRest};
 
 use crate::feeding::feed;
-use crate::plan::Plan;
+use crate::plan::HostPlan;
 use crate::search::Search;
 use cp_connection::{Connection, ConnectionFault};
 use cp_objects::{Notice, Objects};
@@ -32,7 +32,7 @@ pub(crate) struct Crew<O> {
 
 impl<O: Servant> Crew<O> {
     /// A connection to which nothing came.
-    pub(crate) fn new(alloc: Global, plan: &Plan, objects: Vec<O>) -> Crew<O> {
+    pub(crate) fn new(alloc: Global, plan: &HostPlan, objects: Vec<O>) -> Crew<O> {
         Crew {
             alloc,
             connection: Connection::new(alloc, plan.mode, plan.messages, Some(0)),

@@ -3,7 +3,7 @@
 ghost use Rattle.std.specs.Prelude.{◌≡◌, ◌<◌, ◌≤◌, ◌+◌, ◌↔◌, IsTrue};
 ghost use Rattle.cp_host.specs.Entry.{most, Keeps};
 
-use cp_sockets::{Door, Listener, Peer, Wire};
+use cp_sockets::{Door, Listener, NonblockingStream, Peer};
 use mio::{Registry, Token};
 use std::io;
 
@@ -15,7 +15,7 @@ const BURST: usize = 64;
 pub(crate) struct Newcomer {
     pub number: u64,
     pub peer: Peer,
-    pub wire: Wire,
+    pub wire: NonblockingStream,
 }
 
 /// A listener, and how many connections came to it.
@@ -93,7 +93,7 @@ impl Entry {
     }
 
     /// Takes the next connection that waits, if one does.
-    pub(crate) fn accept(&mut self) -> Option<(Wire, Peer)>
+    pub(crate) fn accept(&mut self) -> Option<(NonblockingStream, Peer)>
         ensures { Keeps self.old self.new }
     {
         self.burst = self.burst.saturating_add(1);

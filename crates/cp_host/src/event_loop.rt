@@ -7,7 +7,7 @@ use crate::crew::Crew;
 use crate::end::Ended;
 use crate::entry::{Entry, Newcomer};
 use crate::guest::{Guest, Turn};
-use crate::plan::Plan;
+use crate::plan::HostPlan;
 use crate::time::Time;
 use cp_servants::Servant;
 use cp_sockets::HostLimits;
@@ -93,7 +93,7 @@ impl<O: Servant> EventLoop<O> {
     /// Serves a connection with these objects.
     pub(crate) fn admit(
         &mut self,
-        plan: &Plan,
+        plan: &HostPlan,
         mut newcomer: Newcomer,
         objects: Vec<O>,
     ) -> io::Result<()>

@@ -5,7 +5,7 @@ use crate::end::{End, Ended};
 use crate::entry::Newcomer;
 use cp_connection::ConnectionFault;
 use cp_servants::Servant;
-use cp_sockets::{Got, HostLimits, Limit, Peer, Phase, Ready, Seat, Wire};
+use cp_sockets::{Got, HostLimits, Limit, NonblockingStream, Peer, Phase, Ready, Seat};
 use mio::event::Event;
 use std::io;
 
@@ -24,7 +24,7 @@ pub(crate) enum Turn {
 pub(crate) struct Guest<O> {
     number: u64,
     peer: Peer,
-    wire: Wire,
+    wire: NonblockingStream,
     crew: Crew<O>,
     seat: Seat,
     /// The peer sends no more.

@@ -9,7 +9,7 @@ ghost use Rattle.cp_host.specs.declared.host.News.TheVariants as all_news;
 use crate::end::{End, Ended};
 use crate::entry::{Entry, Newcomer};
 use crate::event_loop::EventLoop;
-use crate::plan::Plan;
+use crate::plan::HostPlan;
 use cp_servants::Servant;
 use cp_sockets::{Crowd, Listener, Peer};
 use std::alloc::AllocGlobal;
@@ -65,7 +65,7 @@ pub enum News {
 /// An error of `next` is one of the listener's set of sockets, or says that memory ran out for it. Of a connection that fails the
 /// news says so, and the others go on.
 pub struct Host<O> {
-    plan: Plan,
+    plan: HostPlan,
     entry: Entry,
     newcomer: Option<Newcomer>,
     event_loop: EventLoop<O>,
@@ -86,7 +86,7 @@ impl<O: Servant> Host<O> {
     /// A host to which no connection has come.
     pub fn new<N: Net + Clock + AllocGlobal>(
         rt: &N,
-        plan: Plan,
+        plan: HostPlan,
         listener: Listener,
     ) -> io::Result<Host<O>>
         ensures { IfOk result (λ host. roster host ≡ begun plan) }

@@ -14,4 +14,4 @@ mod time;
 
 pub use end::End;
 pub use host::{Host, News};
-pub use plan::Plan;
+pub use plan::HostPlan;

@@ -6,7 +6,7 @@ use cp_words::Limits;
 
 /// How a host serves its connections.
 #[derive(Clone, Copy)]
-pub struct Plan {
+pub struct HostPlan {
     /// The form of the frames, both ways.
     pub mode: Mode,
     /// The limits within which messages are read.

@@ -4,8 +4,8 @@ use crate::notation::{separate, tree};
 use cp_reading::View;
 use cp_rpc::{
     CallView, Context, DescriptorView, DisembargoView, ExceptionKind, ExceptionView, MessageIn,
-    MessageView, Op, PayloadView, PromisedAnswerView, ResolutionView, ResolveView, ReturnView,
-    ReturnedView, SendResultsToView, TargetView, TextView,
+    MessageText, MessageView, Op, PayloadView, PromisedAnswerView, ResolutionView, ResolveView,
+    ReturnView, ReturnedView, SendResultsToView, TargetView,
 };
 use std::alloc::{AllocError, Global};
 
@@ -206,7 +206,7 @@ fn exception(
 
 /// A text between quotes. Bytes outside 20 to 7e, the quote and the backslash are written as `\x`
 /// and two hexadecimal digits.
-fn text(alloc: Global, line: &mut String, view: &TextView<View>) -> Result<(), AllocError> {
+fn text(alloc: Global, line: &mut String, view: &MessageText<View>) -> Result<(), AllocError> {
     line.push('"')?;
     for byte in view.text(alloc)?.as_str().as_bytes() {
         match *byte {

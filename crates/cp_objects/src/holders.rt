@@ -9,16 +9,16 @@ use std::alloc::{AllocError, Global};
 
 /// How many objects hold each import. One that no object holds takes no memory.
 #[derive(Drop)]
-pub(crate) struct Holders {
+pub(crate) struct ImportHolders {
     counts: Entries<u64>,
 }
 
-impl Holders {
+impl ImportHolders {
     /// No import is held.
-    pub(crate) fn new(alloc: Global) -> Holders
+    pub(crate) fn new(alloc: Global) -> ImportHolders
         ensures { result.counts ≡ map.empty }
     {
-        Holders {
+        ImportHolders {
             counts: Entries::new(alloc),
         }
     }

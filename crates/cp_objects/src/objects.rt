@@ -15,7 +15,7 @@ ghost use Rattle.cp_objects.specs.Receiving.{GivesLent, HandlesLent, IsCutShort,
 ghost use Rattle.cp_objects.specs.WorkOf.{work_of};
 
 use crate::asker::Asker;
-use crate::holders::Holders;
+use crate::holders::ImportHolders;
 use crate::notice::Notice;
 use cp_connection::{Connection, ConnectionFault, Happening};
 use cp_refs::{Caps, Origin, Outcome, Request};
@@ -81,7 +81,7 @@ pub struct Objects {
     awaited: Awaited,
     /// The calls that objects made, by their questions.
     asked: Entries<Asker>,
-    holders: Holders,
+    holders: ImportHolders,
     /// The imports that objects gave up and that none held then, until they are released.
     given_up: Vec<u32>,
     /// What is no object's business, in order.
@@ -232,7 +232,7 @@ impl Objects {
             may_call,
             awaited: Awaited::new(alloc),
             asked: Entries::new(alloc),
-            holders: Holders::new(alloc),
+            holders: ImportHolders::new(alloc),
             given_up: Vec::new(alloc),
             notices: VecDeque::new(alloc),
         }

@@ -3,7 +3,7 @@ use Rattle.std.proofs.Common.{◌≡◌, ℕ, zero, suc, ◌+◌, ◌-◌, ◌*�
 use Rattle.cp_tree.specs.Node.{Node, Nodes, node}
 use Rattle.cp_reading.specs.Visited.{passed, pointers, pointers_of_row, pointers_of_bodies}
 use Rattle.cp_reading.specs.Reading.{◌>>=◌, Read, Kids, row_by, bodies_by, target_by, area_by, body_by, pointer_by}
-use Rattle.cp_reading.specs.declared.target.Target.{Target}
+use Rattle.cp_reading.specs.declared.target.PointerTarget.{PointerTarget}
 use Rattle.cp_words.specs.declared.place.Place.{Place}
 use Rattle.cp_words.specs.declared.pointer.Pointer.{Pointer}
 use Rattle.cp_words.specs.declared.pointer.Pointer.TheVariants as pointers
@@ -73,7 +73,7 @@ passed-flat read S s d (suc n) q budget before =
     ∙ passed-flat read S s d n (q + d + 0) budget before
 
 -- a pointer that aims at a body
-pub target_found : (at : Place) (kids : Option Kids) (S : List (List ℕ)) (budget : ℕ) (r : Pointer) (target : Target) → target_by at S r ≡ Ok target → pointer_by at kids S budget (Some r) ≡ (area_by at S target >>= body_by at kids S budget)
+pub target_found : (at : Place) (kids : Option Kids) (S : List (List ℕ)) (budget : ℕ) (r : Pointer) (target : PointerTarget) → target_by at S r ≡ Ok target → pointer_by at kids S budget (Some r) ≡ (area_by at S target >>= body_by at kids S budget)
 target_found at kids S budget pointers.Null target e = cc
 target_found at kids S budget (pointers.Cap i) target e = cc
 target_found at kids S budget (pointers.Struct offset d n) target e = ap (λ q. q >>= area_by at S >>= body_by at kids S budget) e

@@ -12,9 +12,9 @@ use Rattle.cp_words.specs.Targets.{segment, IsBodyPointer, IsLandingPadTag, HasT
 use Rattle.cp_reading.specs.Locates.{Locates}
 use Rattle.cp_reading.specs.Denotes.{Denotes, EachDenotes, EachBody}
 use Rattle.cp_reading.specs.Reading.{◌>>=◌, Kids, row_by, bodies_by, start_of, in_segment, area_by, target_here, tag_kind_of, target_by, or_bad_pad, filled, price, IsWhole, body_by, budget_after, pointer_by, kids_at, tree_at, rows_at}
-use Rattle.cp_reading.specs.declared.target.Target.{Target}
-use Rattle.cp_words.specs.declared.kind.Kind.{Kind}
-use Rattle.cp_words.specs.declared.kind.Kind.TheVariants as kinds
+use Rattle.cp_reading.specs.declared.target.PointerTarget.{PointerTarget}
+use Rattle.cp_words.specs.declared.kind.BodyKind.{BodyKind}
+use Rattle.cp_words.specs.declared.kind.BodyKind.TheVariants as kinds
 use Rattle.cp_reading.specs.declared.area.Form.{Form}
 use Rattle.cp_reading.specs.declared.area.Form.TheVariants as forms
 use Rattle.cp_words.specs.declared.place.Place.{Place}
@@ -47,14 +47,14 @@ exists_if S s place h = go (nat_lt s (length S)) refl
         absurd (omega arith)
 
 -- what a pointer that aims at a body says
-says_kind : (s p : ℕ) (r : Pointer) (offset : ℤ) (k : Kind) (start : ℕ) → IsBodyPointer r offset k → start_of p offset ≡ Some start → target_here s p r ≡ Some (record { kind = k; segment = s; start = Some start })
+says_kind : (s p : ℕ) (r : Pointer) (offset : ℤ) (k : BodyKind) (start : ℕ) → IsBodyPointer r offset k → start_of p offset ≡ Some start → target_here s p r ≡ Some (record { kind = k; segment = s; start = Some start })
 says_kind s p (pointers.Struct o d n) offset k start h b = rw (h.0, h.1, b)
 says_kind s p (pointers.List o size n) offset k start h b = rw (h.0, h.1, b)
 says_kind s p pointers.Null offset k start h b = absurd h
 says_kind s p (pointers.Cap i) offset k start h b = absurd h
 says_kind s p (pointers.Far double place other) offset k start h b = absurd h
 
-pub says_tag : (r : Pointer) (k : Kind) → IsLandingPadTag r k → tag_kind_of (Some r) ≡ Some k
+pub says_tag : (r : Pointer) (k : BodyKind) → IsLandingPadTag r k → tag_kind_of (Some r) ≡ Some k
 says_tag pointers.Null k h = rw h
 says_tag (pointers.Struct o d n) k h = rw (h.0, h.1)
 says_tag (pointers.List o size n) k h = rw (h.0, h.1)
@@ -66,10 +66,10 @@ module _ (S : List (List ℕ)) (s p : ℕ) where
   at = record { segment = s; word = p }
 
   -- the word holds a pointer that aims there
-  unfoldable pub Found : Kind → ℕ → ℕ → Type 0
+  unfoldable pub Found : BodyKind → ℕ → ℕ → Type 0
   Found k s' start = (r : Pointer) × (pointer_of (slice_index (segment S s) p) ≡ Some r) × (target_by at S r ≡ Ok (record { kind = k; segment = s'; start = Some start }))
 
-  found_here : (k : Kind) (start : ℕ) → HasTargetHere S s p k start → Found k s start
+  found_here : (k : BodyKind) (start : ℕ) → HasTargetHere S s p k start → Found k s start
   unfolding Found
   found_here k start a = go a.pointer a.stands.1 (says_kind s p a.pointer a.offset k start a.says (begins_start p a.offset start a.begins)) a.says
     where
@@ -81,7 +81,7 @@ module _ (S : List (List ℕ)) (s p : ℕ) where
       go (pointers.Cap i) is e says = absurd says
       go (pointers.Far double place other) is e says = absurd says
 
-  found_by_pad : (k : Kind) (s' start : ℕ) → HasTargetByLandingPad S s p k s' start → Found k s' start
+  found_by_pad : (k : BodyKind) (s' start : ℕ) → HasTargetByLandingPad S s p k s' start → Found k s' start
   unfolding Found
   found_by_pad k s' start a =
       let place = a.place in
@@ -92,7 +92,7 @@ module _ (S : List (List ℕ)) (s p : ℕ) where
       let e = says_kind s' place landing_pad.pointer landing_pad.offset k start landing_pad.says (begins_start place landing_pad.offset start landing_pad.begins) in
       (pointers.Far false place s', a.stands.1, rw (x, w, landing_pad.stands.1, e))
 
-  found_by_two : (k : Kind) (s' start : ℕ) → HasTargetByTwoWords S s p k s' start → Found k s' start
+  found_by_two : (k : BodyKind) (s' start : ℕ) → HasTargetByTwoWords S s p k s' start → Found k s' start
   unfolding Found
   found_by_two k s' start a =
       let place = a.place in
@@ -101,7 +101,7 @@ module _ (S : List (List ℕ)) (s p : ℕ) where
       let y : nat_lt s' (length S) ≡ true = grind (arith, nat_tests, a.exists) in
       (pointers.Far true place a.other, a.stands.1, rw (x, w, a.first.1, a.second.1, says_tag a.pointer k a.says, y))
 
-  pub target_is_found : (k : Kind) (s' start : ℕ) → HasTarget S s p k s' start → Found k s' start
+  pub target_is_found : (k : BodyKind) (s' start : ℕ) → HasTarget S s p k s' start → Found k s' start
   target_is_found k s' start (inl a) = subst (λ x. Found k x start) (sym a.1) (found_here k start a.0)
   target_is_found k s' start (inr (inl a)) = found_by_pad k s' start a
   target_is_found k s' start (inr (inr a)) = found_by_two k s' start a
@@ -109,7 +109,7 @@ module _ (S : List (List ℕ)) (s p : ℕ) where
   -- the word holds a pointer that leads to this body
   pub record Led (f : Form) (s' start : ℕ) : Type 0 where
     pub pointer : Pointer
-    pub target : Target
+    pub target : PointerTarget
     pub says : pointer_of (slice_index (segment S s) p) ≡ Some pointer
     pub has_target : target_by at S pointer ≡ Ok target
     pub area : area_by at S target ≡ Ok (record { form = f; segment = s'; start = start })

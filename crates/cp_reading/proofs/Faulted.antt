@@ -12,7 +12,7 @@ use Rattle.cp_reading.specs.Faults.{FaultBy, IsOutOfBounds, NamesNoSegment, HasB
 use Rattle.cp_reading.specs.FirstFault.{HasWordFault}
 use Rattle.cp_reading.specs.Pruned.{Prunes, EachPrunes, EachPrunesBody, IsPointerOf, IsReachable, below}
 use Rattle.cp_reading.specs.Reading.{◌>>=◌, Read, Kids, row_by, bodies_by, target_by, area_by, charged, filled, price, body_words, IsWhole, body_by, pointer_by, word_by, kids_at, tree_at, rows_at}
-use Rattle.cp_reading.specs.declared.target.Target.{Target}
+use Rattle.cp_reading.specs.declared.target.PointerTarget.{PointerTarget}
 use Rattle.cp_reading.specs.declared.area.Area.{Area}
 use Rattle.cp_reading.specs.declared.area.Form.{Form}
 use Rattle.cp_reading.specs.declared.area.Form.TheVariants as forms
@@ -244,7 +244,7 @@ module _ (S : List (List ℕ)) (s p n budget : ℕ) (kids : Option Kids) (fails 
   pointer_faulted : (r : Pointer) (e : TreeFault) → Holds S s p r → (((x : ℕ) → r ≡ pointers.Cap x → ⊥) × (r ≡ pointers.Null → ⊥)) → (target_by here S r >>= area_by here S >>= body_by here kids S budget) ≡ Err e → FaultBy S (Deep S s p n) (Dear S s p budget) e
   pointer_faulted r e h kind f = go (bind_err (target_by here S r >>= area_by here S) _ e f)
     where
-      led : (target_by here S r ≡ Err e) ⊎ ((x : Target) × (target_by here S r ≡ Ok x) × (area_by here S x ≡ Err e)) → FaultBy S (Deep S s p n) (Dear S s p budget) e
+      led : (target_by here S r ≡ Err e) ⊎ ((x : PointerTarget) × (target_by here S r ≡ Ok x) × (area_by here S x ≡ Err e)) → FaultBy S (Deep S s p n) (Dear S s p budget) e
       led (inl g) = by_word S s p _ _ reach e (target_fails S s p r e h g kind)
       led (inr g) = by_word S s p _ _ reach e (area_fails S s p r g.0 e h g.1 g.2)
 

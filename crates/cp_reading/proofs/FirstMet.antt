@@ -11,7 +11,7 @@ use Rattle.cp_words.specs.Targets.{segment, Holds, words_at}
 use Rattle.cp_reading.specs.Denotes.{EachDenotes, EachBody}
 use Rattle.cp_reading.specs.FirstFault.{HasWordFault, HasFault, parts_of, pointers_at, FirstAt, own, below}
 use Rattle.cp_reading.specs.Reading.{◌>>=◌, Read, Kids, row_by, bodies_by, target_by, area_by, charged, filled, price, body_words, IsWhole, body_by, pointer_by, word_by, kids_at, tree_at, rows_at}
-use Rattle.cp_reading.specs.declared.target.Target.{Target}
+use Rattle.cp_reading.specs.declared.target.PointerTarget.{PointerTarget}
 use Rattle.cp_reading.specs.declared.area.Area.{Area}
 use Rattle.cp_reading.specs.declared.area.Form.{Form}
 use Rattle.cp_reading.specs.declared.area.Form.TheVariants as forms
@@ -258,7 +258,7 @@ module _ (S : List (List ℕ)) (s p n budget : ℕ) (kids : Option Kids) (met : 
   pointer_met : (r : Pointer) (e : TreeFault) → Holds S s p r → (((x : ℕ) → r ≡ pointers.Cap x → ⊥) × (r ≡ pointers.Null → ⊥)) → (target_by here S r >>= area_by here S >>= body_by here kids S budget) ≡ Err e → First e
   pointer_met r e h kind f = go (bind_err (target_by here S r >>= area_by here S) _ e f)
     where
-      led : (target_by here S r ≡ Err e) ⊎ ((x : Target) × (target_by here S r ≡ Ok x) × (area_by here S x ≡ Err e)) → First e
+      led : (target_by here S r ≡ Err e) ⊎ ((x : PointerTarget) × (target_by here S r ≡ Ok x) × (area_by here S x ≡ Err e)) → First e
       led (inl g) = own_met e (target_fails S s p r e h g kind)
       led (inr g) = own_met e (area_fails S s p r g.0 e h g.1 g.2)
 

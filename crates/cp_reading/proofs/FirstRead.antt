@@ -7,8 +7,8 @@ use Rattle.cp_words.specs.declared.pointer.Pointer.{Pointer}
 use Rattle.cp_words.specs.declared.pointer.Pointer.TheVariants as pointers
 use Rattle.cp_words.specs.declared.pointer.Tag.{Tag}
 use Rattle.cp_words.specs.declared.pointer.ElementSize.TheVariants as sizes
-use Rattle.cp_words.specs.declared.kind.Kind.{Kind}
-use Rattle.cp_words.specs.declared.kind.Kind.TheVariants as kinds
+use Rattle.cp_words.specs.declared.kind.BodyKind.{BodyKind}
+use Rattle.cp_words.specs.declared.kind.BodyKind.TheVariants as kinds
 use Rattle.cp_words.specs.declared.place.Place.{Place}
 use Rattle.cp_words.specs.Targets.{segment, Holds, IsBodyPointer}
 use Rattle.cp_tree.specs.Node.{Nodes, no_nodes, node, Bodies, no_bodies, body, count, number_of, greatest_depth, deepest_body, total_cost, body_cost, cost}
@@ -16,7 +16,7 @@ use Rattle.cp_reading.specs.Denotes.{EachDenotes, EachBody}
 use Rattle.cp_reading.specs.Faults.{kind_words, NamesNoSegment, HasBadPad, StartsBefore, IsOutOfBounds, HasBadTag}
 use Rattle.cp_reading.specs.FirstFault.{HasForm, HasWordFault, HasFault, parts_of, pointers_at, ComesBefore, FirstAt, own, below}
 use Rattle.cp_reading.specs.Reading.{◌>>=◌, Kids, row_by, bodies_by, start_of, in_segment, target_here, tag_kind_of, target_second, target_by_two, or_bad_pad, target_by_one, target_by_far, target_by, area_by_kind, area_by, budget_after, filled, price, body_by, pointer_by, word_by, kids_at, tree_at, rows_at}
-use Rattle.cp_reading.specs.declared.target.Target.{Target}
+use Rattle.cp_reading.specs.declared.target.PointerTarget.{PointerTarget}
 use Rattle.cp_reading.specs.declared.area.Form.{Form}
 use Rattle.cp_reading.specs.declared.area.Form.TheVariants as forms
 use Rattle.cp_reading.specs.declared.fault.TreeFault.{TreeFault}
@@ -36,7 +36,7 @@ starts_before p (negsuc n) h =
 
 module _ (at : Place) (ws : List ℕ) (s : ℕ) where
   -- it has no place
-  none_placed : (k : Kind) → area_by_kind at ws s None k ≡ Err (faults.OutOfBounds at)
+  none_placed : (k : BodyKind) → area_by_kind at ws s None k ≡ Err (faults.OutOfBounds at)
   none_placed (kinds.Struct d n) = refl
   none_placed (kinds.List sizes.Composite n) = refl
   none_placed (kinds.List size n) = refl
@@ -45,7 +45,7 @@ module _ (at : Place) (ws : List ℕ) (s : ℕ) where
   not_in size start past = let t : nat_le (start + size) (length ws) ≡ false = grind (arith, nat_tests) in rw t
 
   -- nor has one that ends after its segment
-  past_placed : (k : Kind) (start : ℕ) → length ws < start + kind_words k → area_by_kind at ws s (Some start) k ≡ Err (faults.OutOfBounds at)
+  past_placed : (k : BodyKind) (start : ℕ) → length ws < start + kind_words k → area_by_kind at ws s (Some start) k ≡ Err (faults.OutOfBounds at)
   past_placed (kinds.Struct d n) start past = rw (not_in (d + n) start past)
   past_placed (kinds.List sizes.Composite n) start past = rw (not_in (n + 1) start past)
   past_placed (kinds.List size n) start past = rw (not_in (words_for size n) start past)
@@ -69,7 +69,7 @@ module _ (S : List (List ℕ)) (s p : ℕ) (kids : Option Kids) (budget : ℕ) w
   Stops e = word_by kids S s p budget ≡ Err e
 
   -- a word whose target has no whole body
-  area_stops : (r : Pointer) (target : Target) (e : TreeFault) → pointer_of (slice_index (segment S s) p) ≡ Some r → target_by here S r ≡ Ok target → area_by here S target ≡ Err e → Stops e
+  area_stops : (r : Pointer) (target : PointerTarget) (e : TreeFault) → pointer_of (slice_index (segment S s) p) ≡ Some r → target_by here S r ≡ Ok target → area_by here S target ≡ Err e → Stops e
   area_stops r target e says found area =
       ap (pointer_by here kids S budget) says ∙ target_found here kids S budget r target found ∙ ap (λ q. q >>= body_by here kids S budget) area
 
@@ -118,7 +118,7 @@ module _ (S : List (List ℕ)) (s p : ℕ) (kids : Option Kids) (budget : ℕ) w
       go (Some (pointers.List o size n)) says = absurd (h.3.1 (pointers.List o size n) o (kinds.List size n) says (refl, refl))
   bad_pad (inr h) = far_stops true h.0 h.1 _ h.2 (two_pad h.0 h.1 h.3 ∙ one (pointer_of (slice_index (segment S h.1) h.0)) refl)
     where
-      second : (start s' : ℕ) → pointer_of (slice_index (segment S h.1) h.0) ≡ Some (pointers.Far false start s') → (o : Option Kind) → tag_kind_of (pointer_of (slice_index (segment S h.1) (h.0 + 1))) ≡ o → target_second here S start s' o ≡ Err (faults.BadPad here)
+      second : (start s' : ℕ) → pointer_of (slice_index (segment S h.1) h.0) ≡ Some (pointers.Far false start s') → (o : Option BodyKind) → tag_kind_of (pointer_of (slice_index (segment S h.1) (h.0 + 1))) ≡ o → target_second here S start s' o ≡ Err (faults.BadPad here)
       second start s' says None t = refl
       second start s' says (Some k) t = let tag = tag_sound (pointer_of (slice_index (segment S h.1) (h.0 + 1))) k t in absurd (h.4 start s' tag.0 k says tag.1 tag.2)
 
@@ -138,14 +138,14 @@ module _ (S : List (List ℕ)) (s p : ℕ) (kids : Option Kids) (budget : ℕ) w
       area_stops t.0 _ _ t.1 t.2 (rw (fits (segment S h.1) (h.0 + 1) h.2 h.3.inside, h.4))
 
   -- a pointer whose body would begin before its segment
-  before_here : (t q : ℕ) (r : Pointer) (o : ℤ) (k : Kind) → IsBodyPointer r o k → (pos (q + 1) +ℤ o) <ℤ pos 0 → target_here t q r ≡ Some (record { kind = k; segment = t; start = None })
+  before_here : (t q : ℕ) (r : Pointer) (o : ℤ) (k : BodyKind) → IsBodyPointer r o k → (pos (q + 1) +ℤ o) <ℤ pos 0 → target_here t q r ≡ Some (record { kind = k; segment = t; start = None })
   before_here t q pointers.Null o k says none = absurd says
   before_here t q (pointers.Cap i) o k says none = absurd says
   before_here t q (pointers.Far x y z) o k says none = absurd says
   before_here t q (pointers.Struct a d n) o k says none = rw (says.0, says.1, starts_before q o none)
   before_here t q (pointers.List a size n) o k says none = rw (says.0, says.1, starts_before q o none)
 
-  target_before : (r : Pointer) (o : ℤ) (k : Kind) → IsBodyPointer r o k → (pos (p + 1) +ℤ o) <ℤ pos 0 → target_by here S r ≡ Ok (record { kind = k; segment = s; start = None })
+  target_before : (r : Pointer) (o : ℤ) (k : BodyKind) → IsBodyPointer r o k → (pos (p + 1) +ℤ o) <ℤ pos 0 → target_by here S r ≡ Ok (record { kind = k; segment = s; start = None })
   target_before pointers.Null o k says none = absurd says
   target_before (pointers.Cap i) o k says none = absurd says
   target_before (pointers.Far x y z) o k says none = absurd says

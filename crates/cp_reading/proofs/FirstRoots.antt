@@ -7,14 +7,14 @@ use Rattle.cp_words.specs.Word.{pointer_of}
 use Rattle.cp_words.specs.declared.pointer.ElementSize.{ElementSize}
 use Rattle.cp_words.specs.declared.pointer.Pointer.{Pointer}
 use Rattle.cp_words.specs.declared.pointer.Pointer.TheVariants as pointers
-use Rattle.cp_words.specs.declared.kind.Kind.{Kind}
-use Rattle.cp_words.specs.declared.kind.Kind.TheVariants as kinds
+use Rattle.cp_words.specs.declared.kind.BodyKind.{BodyKind}
+use Rattle.cp_words.specs.declared.kind.BodyKind.TheVariants as kinds
 use Rattle.cp_words.specs.Targets.{segment}
 use Rattle.cp_tree.specs.Node.{Node}
 use Rattle.cp_reading.specs.Faults.{RootIsNoStruct}
 use Rattle.cp_reading.specs.FirstFault.{own, IsFirstFault, no_root, root_kind, first}
 use Rattle.cp_reading.specs.Reading.{◌>>=◌, Read, start_of, target_by, area_by, body_by, pointer_by, kids_at, tree_at, rooted, root_by, root_of, top}
-use Rattle.cp_reading.specs.declared.target.Target.{Target}
+use Rattle.cp_reading.specs.declared.target.PointerTarget.{PointerTarget}
 use Rattle.cp_reading.specs.declared.fault.TreeFault.{TreeFault}
 use Rattle.cp_reading.specs.declared.fault.TreeFault.TheVariants as faults
 use Rattle.cp_reading.proofs.Checks.{target_found}
@@ -30,13 +30,13 @@ module _ (S : List (List ℕ)) (limits : Bounds) where
   root_pointer = pointer_of (slice_index (segment S 0) 0)
 
   -- what the root's body is read as
-  abbrev read_of : Target → Read Node
+  abbrev read_of : PointerTarget → Read Node
   read_of target = area_by top S target >>= body_by top (kids_at limits.nesting S) S limits.traversal
 
   -- the root leads to a list
   record ListLed : Type 0 where
     pub pointer : Pointer
-    pub target : Target
+    pub target : PointerTarget
     pub size : ElementSize
     pub number : ℕ
     pub says : root_pointer ≡ Some pointer
@@ -60,7 +60,7 @@ module _ (S : List (List ℕ)) (limits : Bounds) where
       inr (h.4.0, record { pointer = pointers.Far true h.0 h.1; target = record { kind = kinds.List size n; segment = h.3; start = Some h.2 }; size = size; number = n; says = h.4.1; found = rw (x, w, h.5.1, h.7.1, h.8, y) refl; is_list = refl })
 
   -- where the root has a target of another kind, or none, it leads to a struct or nowhere
-  no_list : (r : Pointer) → root_pointer ≡ Some r → ((x : ℕ) → r ≡ pointers.Cap x → ⊥) → ((target : Target) (size : ElementSize) (n : ℕ) → target_by top S r ≡ Ok target → target.kind ≡ kinds.List size n → ⊥) → RootIsNoStruct S → ⊥
+  no_list : (r : Pointer) → root_pointer ≡ Some r → ((x : ℕ) → r ≡ pointers.Cap x → ⊥) → ((target : PointerTarget) (size : ElementSize) (n : ℕ) → target_by top S r ≡ Ok target → target.kind ≡ kinds.List size n → ⊥) → RootIsNoStruct S → ⊥
   no_list r says no_cap none h = go (no_struct h)
     where
       go : ((0 < length (segment S 0)) × (i : ℕ) × (root_pointer ≡ Some (pointers.Cap i))) ⊎ ((0 < length (segment S 0)) × ListLed) → ⊥
@@ -93,11 +93,11 @@ module _ (S : List (List ℕ)) (limits : Bounds) where
   unfolding root_of pointer_of
   root_stops e struct h = empty (length (segment S 0) == 0) refl
     where
-      kind_stops : 0 < length (segment S 0) → (r : Pointer) → root_pointer ≡ Some r → (target : Target) → target_by top S r ≡ Ok target → (k : Kind) → target.kind ≡ k → read_of target ≡ Err e → rooted k (read_of target) ≡ Err e
+      kind_stops : 0 < length (segment S 0) → (r : Pointer) → root_pointer ≡ Some r → (target : PointerTarget) → target_by top S r ≡ Ok target → (k : BodyKind) → target.kind ≡ k → read_of target ≡ Err e → rooted k (read_of target) ≡ Err e
       kind_stops within r says target found (kinds.List size n) is f = absurd (struct (root_list S limits r target size n (within, says) found is))
       kind_stops within r says target found (kinds.Struct d n) is f = rw f
 
-      target_stops : 0 < length (segment S 0) → (r : Pointer) → root_pointer ≡ Some r → (x : Result Target TreeFault) → target_by top S r ≡ x → (x >>= area_by top S >>= body_by top (kids_at limits.nesting S) S limits.traversal) ≡ Err e → (x >>= λ target. rooted target.kind (read_of target)) ≡ Err e
+      target_stops : 0 < length (segment S 0) → (r : Pointer) → root_pointer ≡ Some r → (x : Result PointerTarget TreeFault) → target_by top S r ≡ x → (x >>= area_by top S >>= body_by top (kids_at limits.nesting S) S limits.traversal) ≡ Err e → (x >>= λ target. rooted target.kind (read_of target)) ≡ Err e
       target_stops within r says (Err d) found f = ap (λ c. Err c) (err_is f)
       target_stops within r says (Ok target) found f = kind_stops within r says target found target.kind refl f
 
@@ -130,15 +130,15 @@ module _ (S : List (List ℕ)) (limits : Bounds) where
   unfolding root_of
   met_is_first e h = empty (length (segment S 0) == 0) refl h
     where
-      of_kind : 0 < length (segment S 0) → (r : Pointer) → root_pointer ≡ Some r → ((x : ℕ) → r ≡ pointers.Cap x → ⊥) → (target : Target) → target_by top S r ≡ Ok target → (k : Kind) → target.kind ≡ k → rooted k (read_of target) ≡ Err e → IsFirstFault S limits e
+      of_kind : 0 < length (segment S 0) → (r : Pointer) → root_pointer ≡ Some r → ((x : ℕ) → r ≡ pointers.Cap x → ⊥) → (target : PointerTarget) → target_by top S r ≡ Ok target → (k : BodyKind) → target.kind ≡ k → rooted k (read_of target) ≡ Err e → IsFirstFault S limits e
       of_kind within r says no_cap target found (kinds.List size n) is f = subst (IsFirstFault S limits) (err_is f) (root_kind (root_list S limits r target size n (within, says) found is))
       of_kind within r says no_cap target found (kinds.Struct d n) is f = go (bind_err (read_of target) _ e f)
         where
-          other : (t : Target) (size : ElementSize) (m : ℕ) → target_by top S r ≡ Ok t → t.kind ≡ kinds.List size m → ⊥
+          other : (t : PointerTarget) (size : ElementSize) (m : ℕ) → target_by top S r ≡ Ok t → t.kind ≡ kinds.List size m → ⊥
           other t size m g k =
-              let same : ◌≡◌ {A = Result Target TreeFault} (Ok target) (Ok t) = sym found ∙ g in
+              let same : ◌≡◌ {A = Result PointerTarget TreeFault} (Ok target) (Ok t) = sym found ∙ g in
               let same_target : target ≡ t = cc in
-              let wrong : kinds.Struct d n ≡ kinds.List size m = sym is ∙ ap (λ (a : Target). a.kind) same_target ∙ k in
+              let wrong : kinds.Struct d n ≡ kinds.List size m = sym is ∙ ap (λ (a : PointerTarget). a.kind) same_target ∙ k in
               cc
 
           go : (read_of target ≡ Err e) ⊎ ((x : Node × ℕ) × (read_of target ≡ Ok x) × (◌≡◌ {A = Result Node TreeFault} (Ok x.0) (Err e))) → IsFirstFault S limits e
@@ -150,9 +150,9 @@ module _ (S : List (List ℕ)) (limits : Bounds) where
       has_target : 0 < length (segment S 0) → (r : Pointer) → root_pointer ≡ Some r → (((x : ℕ) → r ≡ pointers.Cap x → ⊥) × (r ≡ pointers.Null → ⊥)) → (target_by top S r >>= λ target. rooted target.kind (read_of target)) ≡ Err e → IsFirstFault S limits e
       has_target within r says kind f = go (bind_err (target_by top S r) _ e f)
         where
-          go : (target_by top S r ≡ Err e) ⊎ ((x : Target) × (target_by top S r ≡ Ok x) × (rooted x.kind (read_of x) ≡ Err e)) → IsFirstFault S limits e
+          go : (target_by top S r ≡ Err e) ⊎ ((x : PointerTarget) × (target_by top S r ≡ Ok x) × (rooted x.kind (read_of x) ≡ Err e)) → IsFirstFault S limits e
           go (inl g) =
-              first (no_list r says kind.0 (λ t size m k is. let wrong : ◌≡◌ {A = Result Target TreeFault} (Ok t) (Err e) = sym k ∙ g in cc))
+              first (no_list r says kind.0 (λ t size m k is. let wrong : ◌≡◌ {A = Result PointerTarget TreeFault} (Ok t) (Err e) = sym k ∙ g in cc))
               (own (by_itself S 0 0 limits.nesting limits.traversal e (target_fails S 0 0 r e (within, says) g kind)))
           go (inr g) = of_kind within r says kind.0 g.0 g.1 g.0.kind refl g.2
 

@@ -7,8 +7,8 @@ use Rattle.cp_words.specs.declared.pointer.ElementSize.TheVariants as sizes
 use Rattle.cp_words.specs.declared.pointer.Pointer.{Pointer}
 use Rattle.cp_words.specs.declared.pointer.Pointer.TheVariants as pointers
 use Rattle.cp_words.specs.declared.pointer.Tag.{Tag}
-use Rattle.cp_words.specs.declared.kind.Kind.{Kind}
-use Rattle.cp_words.specs.declared.kind.Kind.TheVariants as kinds
+use Rattle.cp_words.specs.declared.kind.BodyKind.{BodyKind}
+use Rattle.cp_words.specs.declared.kind.BodyKind.TheVariants as kinds
 use Rattle.cp_words.specs.Targets.{segment, Holds, IsBodyPointer, IsLandingPadTag, HasTargetHere, HasTarget, words_at}
 use Rattle.cp_tree.specs.Elements.{element, elements_of, numbers}
 use Rattle.cp_reading.specs.Denotes.{Denotes, EachDenotes, EachBody}
@@ -24,7 +24,7 @@ PointerFits (pointers.List offset size n) = n < 2 ^ 29
 PointerFits (pointers.Far double place other) = Unit {0}
 PointerFits (pointers.Cap i) = i < 2 ^ 32
 
-abbrev KindFits : Kind → Type 0
+abbrev KindFits : BodyKind → Type 0
 KindFits (kinds.Struct d n) = HasSizes d n
 KindFits (kinds.List size n) = n < 2 ^ 29
 
@@ -52,14 +52,14 @@ tag_fits w small t e = go (w % 4 == 0) e
     go true k = subst (λ (x : Tag). (x.count < 2 ^ 30) × HasSizes x.words x.ptrs) (some_is k) (omega arith, (omega arith, omega arith))
     go false k = cc
 
-body_fits : (r : Pointer) (o : ℤ) (k : Kind) → PointerFits r → IsBodyPointer r o k → KindFits k
+body_fits : (r : Pointer) (o : ℤ) (k : BodyKind) → PointerFits r → IsBodyPointer r o k → KindFits k
 body_fits pointers.Null o k f i = absurd i
 body_fits (pointers.Struct offset d n) o k f i = subst KindFits i.1 f
 body_fits (pointers.List offset size n) o k f i = subst KindFits i.1 f
 body_fits (pointers.Far double place other) o k f i = absurd i
 body_fits (pointers.Cap c) o k f i = absurd i
 
-pad_tag_fits : (r : Pointer) (k : Kind) → PointerFits r → IsLandingPadTag r k → KindFits k
+pad_tag_fits : (r : Pointer) (k : BodyKind) → PointerFits r → IsLandingPadTag r k → KindFits k
 pad_tag_fits pointers.Null k f i = subst KindFits i (omega arith, omega arith)
 pad_tag_fits (pointers.Struct offset d n) k f i = subst KindFits i.1 f
 pad_tag_fits (pointers.List offset size n) k f i = subst KindFits i.1 f
@@ -83,10 +83,10 @@ module _ (S : List (List ℕ)) (fit : All (AllFit 64) S) where
   holds_fits : (s p : ℕ) (r : Pointer) → Holds S s p r → PointerFits r
   holds_fits s p r h = pointer_fits _ (word_fits s p) r h.1
 
-  here_fits : (s p : ℕ) (k : Kind) (start : ℕ) → HasTargetHere S s p k start → KindFits k
+  here_fits : (s p : ℕ) (k : BodyKind) (start : ℕ) → HasTargetHere S s p k start → KindFits k
   here_fits s p k start a = body_fits a.pointer a.offset k (holds_fits s p a.pointer a.stands) a.says
 
-  target_fits : (s p : ℕ) (k : Kind) (s' start : ℕ) → HasTarget S s p k s' start → KindFits k
+  target_fits : (s p : ℕ) (k : BodyKind) (s' start : ℕ) → HasTarget S s p k s' start → KindFits k
   target_fits s p k s' start (inl a) = here_fits s p k start a.0
   target_fits s p k s' start (inr (inl a)) = here_fits s' a.place k start a.landing_pad
   target_fits s p k s' start (inr (inr a)) = pad_tag_fits a.pointer k (holds_fits a.other (a.place + 1) a.pointer a.second) a.says

@@ -7,8 +7,8 @@ use Rattle.cp_words.specs.Targets.{segment}
 use Rattle.cp_reading.specs.Near.{Near}
 use Rattle.cp_reading.specs.Reading.{◌>>=◌, Kids, start_of, area_by, body_by, pointer_by, word_by}
 use Rattle.cp_reading.specs.Visited.{passed, pointers}
-use Rattle.cp_reading.specs.declared.target.Target.{Target}
-use Rattle.cp_words.specs.declared.kind.Kind.TheVariants as kinds
+use Rattle.cp_reading.specs.declared.target.PointerTarget.{PointerTarget}
+use Rattle.cp_words.specs.declared.kind.BodyKind.TheVariants as kinds
 use Rattle.cp_reading.specs.declared.area.Area.{Area}
 use Rattle.cp_words.specs.declared.place.Place.{Place}
 use Rattle.cp_reading.specs.declared.fault.TreeFault.{TreeFault}
@@ -39,7 +39,7 @@ pub near_list : (at : Place) (w : ℕ) → w % 4 ≡ 1
 near_list at w kind = record { pointer = pointers.List (offset_of w) (size_of (high_of w % 8)) (high_of w / 8); says = says_list w kind; has_target = λ S. refl }
 
 -- what is read of such a word
-pub near_read : (at : Place) (w : ℕ) (target : Target) → Near at w target → (kids : Option Kids) (S : List (List ℕ)) (budget : ℕ) → pointer_by at kids S budget (pointer_of w) ≡ (area_by at S target >>= body_by at kids S budget)
+pub near_read : (at : Place) (w : ℕ) (target : PointerTarget) → Near at w target → (kids : Option Kids) (S : List (List ℕ)) (budget : ℕ) → pointer_by at kids S budget (pointer_of w) ≡ (area_by at S target >>= body_by at kids S budget)
 near_read at w target n kids S budget = rw n.says (target_found at kids S budget n.pointer target (n.has_target S))
 
 module _ (at : Place) (w : ℕ) (kids : Option Kids) (S : List (List ℕ)) (budget before : ℕ) (stands : slice_index (segment S at.segment) at.word ≡ w) where
@@ -47,7 +47,7 @@ module _ (at : Place) (w : ℕ) (kids : Option Kids) (S : List (List ℕ)) (budg
   pub null_left : w ≡ 0 → passed pointers before (word_by kids S at.segment at.word budget) ≡ Ok (budget, before)
   null_left none = ap (λ x. passed pointers before (pointer_by at kids S budget (pointer_of x))) stands ∙ ap (λ o. passed pointers before (pointer_by at kids S budget o)) (says_null w none) ∙ rw add-zero refl
 
-  module _ (target : Target) (near : Near at w target) where
+  module _ (target : PointerTarget) (near : Near at w target) where
     word_is : word_by kids S at.segment at.word budget ≡ (area_by at S target >>= body_by at kids S budget)
     word_is = ap (λ x. pointer_by at kids S budget (pointer_of x)) stands ∙ near_read at w target near kids S budget
 

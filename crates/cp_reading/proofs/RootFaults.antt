@@ -11,9 +11,9 @@ use Rattle.cp_words.specs.Targets.{segment, Holds}
 use Rattle.cp_reading.specs.Faults.{FaultBy, RootIsNoStruct, IsFaultOf}
 use Rattle.cp_reading.specs.Pruned.{Prunes, Pruned, root}
 use Rattle.cp_reading.specs.Reading.{◌>>=◌, Read, tag_kind_of, target_here, target_second, target_by_two, or_bad_pad, target_by_one, target_by, area_by, body_by, kids_at, tree_at, rooted, root_by, root_of, top}
-use Rattle.cp_reading.specs.declared.target.Target.{Target}
-use Rattle.cp_words.specs.declared.kind.Kind.{Kind}
-use Rattle.cp_words.specs.declared.kind.Kind.TheVariants as kinds
+use Rattle.cp_reading.specs.declared.target.PointerTarget.{PointerTarget}
+use Rattle.cp_words.specs.declared.kind.BodyKind.{BodyKind}
+use Rattle.cp_words.specs.declared.kind.BodyKind.TheVariants as kinds
 use Rattle.cp_reading.specs.declared.fault.TreeFault.{TreeFault}
 use Rattle.cp_reading.specs.declared.fault.TreeFault.TheVariants as faults
 use Rattle.cp_reading.proofs.Checks.{target_found}
@@ -53,15 +53,15 @@ module _ (S : List (List ℕ)) (limits : Bounds) where
   is_fault faults.OutOfMemory h = absurd h
 
   -- the root's pointer says a list
-  here_list : (s p : ℕ) (r : Pointer) (target : Target) (size : ElementSize) (n : ℕ) → target_here s p r ≡ Some target → target.kind ≡ kinds.List size n → (o : ℤ) × (r ≡ pointers.List o size n)
+  here_list : (s p : ℕ) (r : Pointer) (target : PointerTarget) (size : ElementSize) (n : ℕ) → target_here s p r ≡ Some target → target.kind ≡ kinds.List size n → (o : ℤ) × (r ≡ pointers.List o size n)
   here_list s p pointers.Null target size n e k = cc
   here_list s p (pointers.Cap i) target size n e k = cc
   here_list s p (pointers.Far double place other) target size n e k = cc
   here_list s p (pointers.Struct o d m) target size n e k =
-      let is : kinds.Struct d m ≡ target.kind = ap (λ (a : Target). a.kind) (some_is e) in
+      let is : kinds.Struct d m ≡ target.kind = ap (λ (a : PointerTarget). a.kind) (some_is e) in
       let wrong : kinds.Struct d m ≡ kinds.List size n = is ∙ k in cc
   here_list s p (pointers.List o z m) target size n e k =
-      let is : kinds.List z m ≡ kinds.List size n = ap (λ (a : Target). a.kind) (some_is e) ∙ k in
+      let is : kinds.List z m ≡ kinds.List size n = ap (λ (a : PointerTarget). a.kind) (some_is e) ∙ k in
       let a : z ≡ size = cc in let b : m ≡ n = cc in (o, rw (a, b) refl)
 
   tag_list : (o : Option Pointer) (size : ElementSize) (n : ℕ) → tag_kind_of o ≡ Some (kinds.List size n) → o ≡ Some (pointers.List (pos 0) size n)
@@ -78,7 +78,7 @@ module _ (S : List (List ℕ)) (limits : Bounds) where
   tag_list (Some (pointers.List (pos (suc x)) z m)) size n e = cc
   tag_list (Some (pointers.List (negsuc x) z m)) size n e = cc
 
-  pub root_list : (r : Pointer) (target : Target) (size : ElementSize) (n : ℕ) → Holds S 0 0 r → target_by top S r ≡ Ok target → target.kind ≡ kinds.List size n → RootIsNoStruct S
+  pub root_list : (r : Pointer) (target : PointerTarget) (size : ElementSize) (n : ℕ) → Holds S 0 0 r → target_by top S r ≡ Ok target → target.kind ≡ kinds.List size n → RootIsNoStruct S
   root_list pointers.Null target size n h e k = cc
   root_list (pointers.Cap i) target size n h e k = cc
   root_list (pointers.Struct o d m) target size n h e k = let r = here_list 0 0 (pointers.Struct o d m) target size n (ap (λ x. Some x) (ok_is e)) k in let wrong = r.1 in cc
@@ -90,10 +90,10 @@ module _ (S : List (List ℕ)) (limits : Bounds) where
       let j = passed (nat_lt place (length (segment S other))) _ _ target i.1 in
       go (grind (arith, nat_tests, j.0)) (pointer_of (slice_index (segment S other) place)) refl j.1
     where
-      padded : (o : Option Target) (r : Pointer) → place < length (segment S other) → pointer_of (slice_index (segment S other) place) ≡ Some r → target_here other place r ≡ o → or_bad_pad top o ≡ Ok target → RootIsNoStruct S
+      padded : (o : Option PointerTarget) (r : Pointer) → place < length (segment S other) → pointer_of (slice_index (segment S other) place) ≡ Some r → target_here other place r ≡ o → or_bad_pad top o ≡ Ok target → RootIsNoStruct S
       padded None r within says g f = cc
       padded (Some a) r within says g f =
-          let l = here_list other place r a size n g (ap (λ (x : Target). x.kind) (ok_is f) ∙ k) in
+          let l = here_list other place r a size n g (ap (λ (x : PointerTarget). x.kind) (ok_is f) ∙ k) in
           inr (l.0, size, n, inr (inl (place, other, h, (within, says ∙ ap (λ x. Some x) l.1))))
 
       go : place < length (segment S other) → (o : Option Pointer) → pointer_of (slice_index (segment S other) place) ≡ o → target_by_one top other place o ≡ Ok target → RootIsNoStruct S
@@ -104,11 +104,11 @@ module _ (S : List (List ℕ)) (limits : Bounds) where
       let j = passed (nat_lt (place + 1) (length (segment S other))) _ _ target i.1 in
       two (grind (arith, nat_tests, j.0)) (pointer_of (slice_index (segment S other) place)) refl j.1
     where
-      second : (start s' : ℕ) → place + 1 < length (segment S other) → Holds S other place (pointers.Far false start s') → (o : Option Kind) → tag_kind_of (pointer_of (slice_index (segment S other) (place + 1))) ≡ o → target_second top S start s' o ≡ Ok target → RootIsNoStruct S
+      second : (start s' : ℕ) → place + 1 < length (segment S other) → Holds S other place (pointers.Far false start s') → (o : Option BodyKind) → tag_kind_of (pointer_of (slice_index (segment S other) (place + 1))) ≡ o → target_second top S start s' o ≡ Ok target → RootIsNoStruct S
       second start s' within one None t f = cc
       second start s' within one (Some q) t f =
           let j = passed (nat_lt s' (length S)) _ _ target f in
-          let is : q ≡ kinds.List size n = ap (λ (a : Target). a.kind) (ok_is j.1) ∙ k in
+          let is : q ≡ kinds.List size n = ap (λ (a : PointerTarget). a.kind) (ok_is j.1) ∙ k in
           let l = tag_list (pointer_of (slice_index (segment S other) (place + 1))) size n (t ∙ ap (λ x. Some x) is) in
           inr (pos 0, size, n, inr (inr (place, other, start, s', h, one, grind (arith, nat_tests, j.0), (within, l), refl)))
 
@@ -122,7 +122,7 @@ module _ (S : List (List ℕ)) (limits : Bounds) where
       two within (Some (pointers.Far false start s')) says f = second start s' within (omega (arith, within), says) (tag_kind_of (pointer_of (slice_index (segment S other) (place + 1)))) refl f
 
   -- what the root's body is read as
-  abbrev read_of : Target → Read Node
+  abbrev read_of : PointerTarget → Read Node
   read_of target = area_by top S target >>= body_by top (kids_at limits.nesting S) S limits.traversal
 
   -- a fault of reading the message's tree is one that it has
@@ -130,7 +130,7 @@ module _ (S : List (List ℕ)) (limits : Bounds) where
   unfolding root_of
   root_faulted e h = empty (length (segment S 0) == 0) refl h
     where
-      of_kind : 0 < length (segment S 0) → (r : Pointer) → pointer_of (slice_index (segment S 0) 0) ≡ Some r → (target : Target) → target_by top S r ≡ Ok target → (k : Kind) → target.kind ≡ k → rooted k (read_of target) ≡ Err e → IsFaultOf S limits e
+      of_kind : 0 < length (segment S 0) → (r : Pointer) → pointer_of (slice_index (segment S 0) 0) ≡ Some r → (target : PointerTarget) → target_by top S r ≡ Ok target → (k : BodyKind) → target.kind ≡ k → rooted k (read_of target) ≡ Err e → IsFaultOf S limits e
       of_kind within r says target has_target (kinds.List size n) is f = subst (IsFaultOf S limits) (err_is f) ((refl, refl), root_list r target size n (within, says) has_target is)
       of_kind within r says target has_target (kinds.Struct d n) is f = go (bind_err (read_of target) _ e f)
         where
@@ -143,7 +143,7 @@ module _ (S : List (List ℕ)) (limits : Bounds) where
       has_target : 0 < length (segment S 0) → (r : Pointer) → pointer_of (slice_index (segment S 0) 0) ≡ Some r → (((x : ℕ) → r ≡ pointers.Cap x → ⊥) × (r ≡ pointers.Null → ⊥)) → (target_by top S r >>= λ target. rooted target.kind (read_of target)) ≡ Err e → IsFaultOf S limits e
       has_target within r says kind f = go (bind_err (target_by top S r) _ e f)
         where
-          go : (target_by top S r ≡ Err e) ⊎ ((x : Target) × (target_by top S r ≡ Ok x) × (rooted x.kind (read_of x) ≡ Err e)) → IsFaultOf S limits e
+          go : (target_by top S r ≡ Err e) ⊎ ((x : PointerTarget) × (target_by top S r ≡ Ok x) × (rooted x.kind (read_of x) ≡ Err e)) → IsFaultOf S limits e
           go (inl g) = is_fault e (by_word S 0 0 _ _ root e (target_fails S 0 0 r e (within, says) g kind))
           go (inr g) = of_kind within r says g.0 g.1 g.0.kind refl g.2
 

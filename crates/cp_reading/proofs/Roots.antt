@@ -11,9 +11,9 @@ use Rattle.cp_reading.specs.Denotes.{Root}
 use Rattle.cp_reading.specs.Near.{Near}
 use Rattle.cp_reading.specs.Reading.{◌>>=◌, Read, Kids, target_by, area_by, area_by_kind, placed, in_segment, charged, filled, body_by, tree_at, kids_at, rooted, root_by, root_of, top}
 use Rattle.cp_reading.specs.Visited.{passed}
-use Rattle.cp_reading.specs.declared.target.Target.{Target}
-use Rattle.cp_words.specs.declared.kind.Kind.{Kind}
-use Rattle.cp_words.specs.declared.kind.Kind.TheVariants as kinds
+use Rattle.cp_reading.specs.declared.target.PointerTarget.{PointerTarget}
+use Rattle.cp_words.specs.declared.kind.BodyKind.{BodyKind}
+use Rattle.cp_words.specs.declared.kind.BodyKind.TheVariants as kinds
 use Rattle.cp_reading.specs.declared.area.Area.{Area}
 use Rattle.cp_reading.specs.declared.area.Form.TheVariants as forms
 use Rattle.cp_reading.specs.declared.fault.TreeFault.{TreeFault}
@@ -22,7 +22,7 @@ use Rattle.cp_reading.proofs.Complete.{Found, target_is_found, complete}
 use Rattle.cp_reading.proofs.Sound.{sound, ok_is, bind_ok, not_stopped}
 
 -- a word that aims at a body stands in its segment
-stands_within : (S : List (List ℕ)) (s' start : ℕ) (k : Kind) → HasTarget S 0 0 k s' start → 0 < length (segment S 0)
+stands_within : (S : List (List ℕ)) (s' start : ℕ) (k : BodyKind) → HasTarget S 0 0 k s' start → 0 < length (segment S 0)
 stands_within S s' start k (inl a) = a.0.stands.0
 stands_within S s' start k (inr (inl a)) = a.stands.0
 stands_within S s' start k (inr (inr a)) = a.stands.0
@@ -55,10 +55,10 @@ module _ (n b : ℕ) (S : List (List ℕ)) where
           let r = sound n S 0 0 b x within e in
           subst (Root S limits) is (record { denoted = r.denoted; is_struct = struct'; not_deeper = rw deep r.nests; not_dearer = rw dear (omega (arith, r.costs)) })
 
-      of_kind : 0 < length (segment S 0) → (target : Target) (k : Kind) → target.kind ≡ k → tree_at n S 0 0 b ≡ (area_by top S target >>= body_by top (kids_at n S) S b) → rooted k (area_by top S target >>= body_by top (kids_at n S) S b) ≡ Ok t → Root S limits t
+      of_kind : 0 < length (segment S 0) → (target : PointerTarget) (k : BodyKind) → target.kind ≡ k → tree_at n S 0 0 b ≡ (area_by top S target >>= body_by top (kids_at n S) S b) → rooted k (area_by top S target >>= body_by top (kids_at n S) S b) ≡ Ok t → Root S limits t
       of_kind within target (kinds.Struct d c) is same e =
           let x = bind_ok (area_by top S target >>= body_by top (kids_at n S) S b) (λ x. Ok x.0) t e in
-          let read = subst (λ (k : Kind). (area_by_kind top (segment S target.segment) target.segment target.start k >>= body_by top (kids_at n S) S b) ≡ Ok x.0) is x.1 in
+          let read = subst (λ (k : BodyKind). (area_by_kind top (segment S target.segment) target.segment target.start k >>= body_by top (kids_at n S) S b) ≡ Ok x.0) is x.1 in
           took within x.0 (kind_is target.segment d c target.start x.0 read) (same ∙ x.1) (ok_is x.2)
       of_kind within target (kinds.List size c) is same e = cc
 
@@ -77,7 +77,7 @@ module _ (n b : ℕ) (S : List (List ℕ)) where
       kinds within (Some (pointers.Far double place other)) is e = has_target within (pointers.Far double place other) is e
 
   -- the root word's pointer leads to its body
-  pub root_led : (r : Pointer) (target : Target) → target_by top S r ≡ Ok target → root_by (kids_at n S) S b (Some r) ≡ rooted target.kind (area_by top S target >>= body_by top (kids_at n S) S b)
+  pub root_led : (r : Pointer) (target : PointerTarget) → target_by top S r ≡ Ok target → root_by (kids_at n S) S b (Some r) ≡ rooted target.kind (area_by top S target >>= body_by top (kids_at n S) S b)
   root_led pointers.Null target h = cc
   root_led (pointers.Cap i) target h = cc
   root_led (pointers.Struct o d c) target h = ap (λ q. q >>= λ a. rooted a.kind (area_by top S a >>= body_by top (kids_at n S) S b)) h
@@ -85,16 +85,16 @@ module _ (n b : ℕ) (S : List (List ℕ)) where
   root_led (pointers.Far double place other) target h = ap (λ q. q >>= λ a. rooted a.kind (area_by top S a >>= body_by top (kids_at n S) S b)) h
 
   -- the root word's struct body, step by step
-  pub root_steps : (r : Pointer) (target : Target) (d c : ℕ) (a : Area) → 0 < length (segment S 0) → pointer_of (slice_index (segment S 0) 0) ≡ Some r → target_by top S r ≡ Ok target
+  pub root_steps : (r : Pointer) (target : PointerTarget) (d c : ℕ) (a : Area) → 0 < length (segment S 0) → pointer_of (slice_index (segment S 0) 0) ≡ Some r → target_by top S r ≡ Ok target
       → target.kind ≡ kinds.Struct d c → area_by top S target ≡ Ok a → root_of n b S ≡ (body_by top (kids_at n S) S b a >>= λ x. Ok x.0)
   unfolding root_of
   root_steps r target d c a within says has_target kind area =
       let some : (length (segment S 0) == 0) ≡ false = grind (arith, nat_tests) in
       rw (some, says) (root_led r target has_target
-      ∙ ap (λ (k : Kind). rooted k (area_by top S target >>= body_by top (kids_at n S) S b)) kind
+      ∙ ap (λ (k : BodyKind). rooted k (area_by top S target >>= body_by top (kids_at n S) S b)) kind
       ∙ ap (λ (q : Result Area TreeFault). q >>= body_by top (kids_at n S) S b >>= λ x. Ok x.0) area)
 
-  module _ (w : ℕ) (target : Target) (d c : ℕ) (within : 0 < length (segment S 0)) (stands : slice_index (segment S 0) 0 ≡ w) (near : Near top w target) (kind : target.kind ≡ kinds.Struct d c) where
+  module _ (w : ℕ) (target : PointerTarget) (d c : ℕ) (within : 0 < length (segment S 0)) (stands : slice_index (segment S 0) 0 ≡ w) (near : Near top w target) (kind : target.kind ≡ kinds.Struct d c) where
     -- the body of a root word that is a struct word
     pub root_near : (a : Area) → area_by top S target ≡ Ok a → root_of n b S ≡ (body_by top (kids_at n S) S b a >>= λ x. Ok x.0)
     root_near a area = root_steps near.pointer target d c a within (ap pointer_of stands ∙ near.says) (near.has_target S) kind area
@@ -105,7 +105,7 @@ module _ (n b : ℕ) (S : List (List ℕ)) where
         let some : (length (segment S 0) == 0) ≡ false = grind (arith, nat_tests) in
         let says : pointer_of (slice_index (segment S 0) 0) ≡ Some near.pointer = ap pointer_of stands ∙ near.says in
         rw (some, says) (root_led near.pointer target (near.has_target S)
-        ∙ ap (λ (k : Kind). rooted k (area_by top S target >>= body_by top (kids_at n S) S b)) kind
+        ∙ ap (λ (k : BodyKind). rooted k (area_by top S target >>= body_by top (kids_at n S) S b)) kind
         ∙ ap (λ (q : Result Area TreeFault). q >>= body_by top (kids_at n S) S b >>= λ x. Ok x.0) area)
 
   -- the message's tree is given
@@ -119,7 +119,7 @@ module _ (n b : ℕ) (S : List (List ℕ)) where
   root_given limits (struct ws ts) deep dear r =
       let d = r.denoted in
       let a = target_is_found S 0 0 (kinds.Struct (length ws) (count ts)) d.0 d.1 d.2.has_target in
-      let target : Target = record { kind = kinds.Struct (length ws) (count ts); segment = d.0; start = Some d.1 } in
+      let target : PointerTarget = record { kind = kinds.Struct (length ws) (count ts); segment = d.0; start = Some d.1 } in
       let within = stands_within S d.0 d.1 (kinds.Struct (length ws) (count ts)) d.2.has_target in
       let some : (length (segment S 0) == 0) ≡ false = grind (arith, nat_tests) in
       let read = complete (struct ws ts) n S 0 0 b d (rw (← deep) r.not_deeper) (rw (← dear) r.not_dearer) in

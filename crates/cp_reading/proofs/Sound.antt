@@ -15,9 +15,9 @@ use Rattle.cp_reading.specs.Locates.{Locates}
 use Rattle.cp_tree.specs.Elements.{elements_of}
 use Rattle.cp_reading.specs.Denotes.{Denotes, EachDenotes, EachBody}
 use Rattle.cp_reading.specs.Reading.{◌>>=◌, Read, Kids, row_by, bodies_by, start_of, in_segment, placed, tagged, target_here, tag_kind_of, target_second, target_by_two, or_bad_pad, target_by_one, target_by, area_by_kind, area_by, charged, filled, price, body_words, IsWhole, body_by, pointer_by, word_by, kids_at, tree_at, rows_at}
-use Rattle.cp_reading.specs.declared.target.Target.{Target}
-use Rattle.cp_words.specs.declared.kind.Kind.{Kind}
-use Rattle.cp_words.specs.declared.kind.Kind.TheVariants as kinds
+use Rattle.cp_reading.specs.declared.target.PointerTarget.{PointerTarget}
+use Rattle.cp_words.specs.declared.kind.BodyKind.{BodyKind}
+use Rattle.cp_words.specs.declared.kind.BodyKind.TheVariants as kinds
 use Rattle.cp_reading.specs.declared.area.Area.{Area}
 use Rattle.cp_reading.specs.declared.area.Form.{Form}
 use Rattle.cp_reading.specs.declared.area.Form.TheVariants as forms
@@ -65,7 +65,7 @@ placed_is at None q e = cc
 placed_is at (Some p) q e = let is : p ≡ q = cc in rw is refl
 
 -- what the second word of a pad says
-pub tag_sound : (r : Option Pointer) (k : Kind) → tag_kind_of r ≡ Some k → (q : Pointer) × (r ≡ Some q) × IsLandingPadTag q k
+pub tag_sound : (r : Option Pointer) (k : BodyKind) → tag_kind_of r ≡ Some k → (q : Pointer) × (r ≡ Some q) × IsLandingPadTag q k
 tag_sound None k e = cc
 tag_sound (Some pointers.Null) k e = (pointers.Null, refl, cc)
 tag_sound (Some (pointers.Cap i)) k e = cc
@@ -78,16 +78,16 @@ tag_sound (Some (pointers.List (pos (suc m)) size n)) k e = cc
 tag_sound (Some (pointers.List (negsuc m) size n)) k e = cc
 
 module _ (S : List (List ℕ)) where
-  here_sound : (s p : ℕ) (r : Pointer) (target : Target) → Holds S s p r → target_here s p r ≡ Some target → (start : ℕ) → target.start ≡ Some start → HasTargetHere S s p target.kind start × (target.segment ≡ s)
+  here_sound : (s p : ℕ) (r : Pointer) (target : PointerTarget) → Holds S s p r → target_here s p r ≡ Some target → (start : ℕ) → target.start ≡ Some start → HasTargetHere S s p target.kind start × (target.segment ≡ s)
   here_sound s p pointers.Null target h e = cc
   here_sound s p (pointers.Cap i) target h e = cc
   here_sound s p (pointers.Far double place other) target h e = cc
   here_sound s p (pointers.Struct offset d n) target h e =
-      let P : Target → Type 0 = λ a. (start : ℕ) → a.start ≡ Some start → HasTargetHere S s p a.kind start × (a.segment ≡ s) in
+      let P : PointerTarget → Type 0 = λ a. (start : ℕ) → a.start ≡ Some start → HasTargetHere S s p a.kind start × (a.segment ≡ s) in
       let is : record { kind = kinds.Struct d n; segment = s; start = start_of p offset } ≡ target = cc in
       subst P is (λ start b. (record { pointer = pointers.Struct offset d n; offset = offset; stands = h; says = (refl, refl); begins = start_begins p offset start b }, refl))
   here_sound s p (pointers.List offset size n) target h e =
-      let P : Target → Type 0 = λ a. (start : ℕ) → a.start ≡ Some start → HasTargetHere S s p a.kind start × (a.segment ≡ s) in
+      let P : PointerTarget → Type 0 = λ a. (start : ℕ) → a.start ≡ Some start → HasTargetHere S s p a.kind start × (a.segment ≡ s) in
       let is : record { kind = kinds.List size n; segment = s; start = start_of p offset } ≡ target = cc in
       subst P is (λ start b. (record { pointer = pointers.List offset size n; offset = offset; stands = h; says = (refl, refl); begins = start_begins p offset start b }, refl))
 
@@ -95,14 +95,14 @@ module _ (S : List (List ℕ)) where
     abbrev at : Place
     at = record { segment = s; word = p }
 
-    abbrev Right : Target → Type 0
+    abbrev Right : PointerTarget → Type 0
     Right a = (start : ℕ) → a.start ≡ Some start → HasTarget S s p a.kind a.segment start
 
     module _ (place other : ℕ) (stands : Holds S s p (pointers.Far true place other)) (room : place + 1 < length (segment S other)) where
       abbrev word_at : ℕ → Option Pointer
       word_at q = pointer_of (slice_index (segment S other) q)
 
-      by_two : (start s' : ℕ) (r : Pointer) (k : Kind) → word_at place ≡ Some (pointers.Far false start s') → word_at (place + 1) ≡ Some r → IsLandingPadTag r k
+      by_two : (start s' : ℕ) (r : Pointer) (k : BodyKind) → word_at place ≡ Some (pointers.Far false start s') → word_at (place + 1) ≡ Some r → IsLandingPadTag r k
           → nat_lt s' (length S) ≡ true → Right (record { kind = k; segment = s'; start = Some start })
       by_two start s' r k first second says exists begin b =
           let is : start ≡ begin = cc in
@@ -118,15 +118,15 @@ module _ (S : List (List ℕ)) where
             says = says;
           })))
 
-      second_sound : (start s' : ℕ) (two : Option Pointer) (target : Target) → word_at place ≡ Some (pointers.Far false start s') → word_at (place + 1) ≡ two
-          → (o : Option Kind) → tag_kind_of two ≡ o → target_second at S start s' o ≡ Ok target → Right target
+      second_sound : (start s' : ℕ) (two : Option Pointer) (target : PointerTarget) → word_at place ≡ Some (pointers.Far false start s') → word_at (place + 1) ≡ two
+          → (o : Option BodyKind) → tag_kind_of two ≡ o → target_second at S start s' o ≡ Ok target → Right target
       second_sound start s' two target f g None t e = cc
       second_sound start s' two target f g (Some k) t e =
           let j = passed (nat_lt s' (length S)) _ _ target e in
           let q = tag_sound two k t in
           subst Right (ok_is j.1) (by_two start s' q.0 k f (rw g q.1) q.2 j.0)
 
-      two_sound : (one two : Option Pointer) (target : Target) → word_at place ≡ one → word_at (place + 1) ≡ two → target_by_two at S one two ≡ Ok target → Right target
+      two_sound : (one two : Option Pointer) (target : PointerTarget) → word_at place ≡ one → word_at (place + 1) ≡ two → target_by_two at S one two ≡ Ok target → Right target
       two_sound None two target f g e = cc
       two_sound (Some pointers.Null) two target f g e = cc
       two_sound (Some (pointers.Cap i)) two target f g e = cc
@@ -135,19 +135,19 @@ module _ (S : List (List ℕ)) where
       two_sound (Some (pointers.Far true start s')) two target f g e = cc
       two_sound (Some (pointers.Far false start s')) two target f g e = second_sound start s' two target f g (tag_kind_of two) refl e
 
-    one_sound : (place s' : ℕ) (target : Target) → Holds S s p (pointers.Far false place s') → place < length (segment S s')
+    one_sound : (place s' : ℕ) (target : PointerTarget) → Holds S s p (pointers.Far false place s') → place < length (segment S s')
         → (o : Option Pointer) → pointer_of (slice_index (segment S s') place) ≡ o → target_by_one at s' place o ≡ Ok target → Right target
     one_sound place s' target stands within None f e = cc
     one_sound place s' target stands within (Some r) f e = go (target_here s' place r) refl e
       where
-        go : (m : Option Target) → target_here s' place r ≡ m → or_bad_pad at m ≡ Ok target → Right target
+        go : (m : Option PointerTarget) → target_here s' place r ≡ m → or_bad_pad at m ≡ Ok target → Right target
         go None g e = cc
         go (Some a) g e =
             subst Right (ok_is e) (λ start b.
             let h = here_sound s' place r a (within, f) g start b in
             subst (λ x. HasTarget S s p a.kind x start) (sym h.1) (inr (inl (record { place = place; stands = stands; landing_pad = h.0 }))))
 
-    pub target_sound : (r : Pointer) (target : Target) → Holds S s p r → target_by at S r ≡ Ok target → Right target
+    pub target_sound : (r : Pointer) (target : PointerTarget) → Holds S s p r → target_by at S r ≡ Ok target → Right target
     target_sound (pointers.Far false place s') target h e =
         let k = passed (nat_lt s' (length S)) _ _ target e in
         let j = passed (nat_lt place (length (segment S s'))) _ _ target k.1 in
@@ -167,7 +167,7 @@ module _ (S : List (List ℕ)) where
       pub inside : a.start + body_words a.form ≤ length (segment S a.segment)
       pub whole : IsWhole a.form
 
-    AimsAt : ℕ → Option ℕ → Kind → Type 0
+    AimsAt : ℕ → Option ℕ → BodyKind → Type 0
     AimsAt s' o k = (start : ℕ) → o ≡ Some start → HasTarget S s p k s' start
 
     -- a place in the segment
@@ -187,7 +187,7 @@ module _ (S : List (List ℕ)) where
           whole = tt;
         })
 
-    kind_sound : (place : Place) (s' : ℕ) (o : Option ℕ) (k : Kind) (a : Area) → AimsAt s' o k → area_by_kind place (segment S s') s' o k ≡ Ok a → Found a
+    kind_sound : (place : Place) (s' : ℕ) (o : Option ℕ) (k : BodyKind) (a : Area) → AimsAt s' o k → area_by_kind place (segment S s') s' o k ≡ Ok a → Found a
     unfolding AimsAt
     kind_sound place s' o (kinds.Struct d n) a has_target e =
         let k = bind_ok (placed place (in_segment (segment S s') (d + n) o)) _ a e in
@@ -201,7 +201,7 @@ module _ (S : List (List ℕ)) where
         let b = placed_in place s' (words_for size n) o k.0 k.1 in
         subst Found (ok_is k.2) (record { located = record { has_target = has_target k.0 b.0; inside = b.1 }; inside = b.1; whole = tt })
 
-    pub area_sound : (target : Target) (a : Area) → Right target → area_by at S target ≡ Ok a → Found a
+    pub area_sound : (target : PointerTarget) (a : Area) → Right target → area_by at S target ≡ Ok a → Found a
     unfolding AimsAt
     area_sound target a right e = kind_sound at target.segment target.start target.kind a right e
 

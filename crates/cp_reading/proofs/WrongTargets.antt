@@ -11,9 +11,9 @@ use Rattle.cp_words.specs.Targets.{segment, Holds, IsBodyPointer, IsLandingPadTa
 use Rattle.cp_reading.specs.Faults.{kind_words, StartsBefore, IsOutOfBounds}
 use Rattle.cp_reading.specs.FirstFault.{HasWordFault}
 use Rattle.cp_reading.specs.Reading.{◌>>=◌, start_of, in_segment, placed, tagged, target_here, tag_kind_of, target_second, target_by_two, or_bad_pad, target_by_one, target_by_far, target_by, area_by_kind, area_by}
-use Rattle.cp_reading.specs.declared.target.Target.{Target}
-use Rattle.cp_words.specs.declared.kind.Kind.{Kind}
-use Rattle.cp_words.specs.declared.kind.Kind.TheVariants as kinds
+use Rattle.cp_reading.specs.declared.target.PointerTarget.{PointerTarget}
+use Rattle.cp_words.specs.declared.kind.BodyKind.{BodyKind}
+use Rattle.cp_words.specs.declared.kind.BodyKind.TheVariants as kinds
 use Rattle.cp_reading.specs.declared.area.Area.{Area}
 use Rattle.cp_reading.specs.declared.area.Form.TheVariants as forms
 use Rattle.cp_words.specs.declared.place.Place.{Place}
@@ -61,7 +61,7 @@ module _ (S : List (List ℕ)) (s p : ℕ) where
       pad_is (Some (pointers.Struct o d n)) f = cc
       pad_is (Some (pointers.List o size n)) f = cc
 
-      no_body : (o : Option Pointer) → pointer_of (slice_index (segment S s') place) ≡ o → target_by_one at s' place o ≡ Err e → (r : Pointer) (i : ℤ) (k : Kind) → pointer_of (slice_index (segment S s') place) ≡ Some r → IsBodyPointer r i k → ⊥
+      no_body : (o : Option Pointer) → pointer_of (slice_index (segment S s') place) ≡ o → target_by_one at s' place o ≡ Err e → (r : Pointer) (i : ℤ) (k : BodyKind) → pointer_of (slice_index (segment S s') place) ≡ Some r → IsBodyPointer r i k → ⊥
       no_body None is f r i k says b = let wrong : ◌≡◌ {A = Option Pointer} None (Some r) = sym is ∙ says in cc
       no_body (Some pointers.Null) is f r i k says b = let same : ◌≡◌ {A = Option Pointer} (Some pointers.Null) (Some r) = sym is ∙ says in let q : pointers.Null ≡ r = cc in subst (λ x. IsBodyPointer x i k) (sym q) b
       no_body (Some (pointers.Cap j)) is f r i k says b = let same : ◌≡◌ {A = Option Pointer} (Some (pointers.Cap j)) (Some r) = sym is ∙ says in let q : pointers.Cap j ≡ r = cc in subst (λ x. IsBodyPointer x i k) (sym q) b
@@ -70,10 +70,10 @@ module _ (S : List (List ℕ)) (s p : ℕ) where
       no_body (Some (pointers.List o size n)) is f r i k says b = cc
 
   -- what is no pad tag has no kind
-  no_tag : (o : Option Pointer) (r : Pointer) (k : Kind) → tag_kind_of o ≡ None → o ≡ Some r → IsLandingPadTag r k → ⊥
-  no_tag o pointers.Null k e is t = let wrong : ◌≡◌ {A = Option Kind} (Some (kinds.Struct 0 0)) None = rw is at e in cc
-  no_tag o (pointers.Struct offset d n) k e is t = let wrong : ◌≡◌ {A = Option Kind} (Some (kinds.Struct d n)) None = rw (is, t.0) at e in cc
-  no_tag o (pointers.List offset size n) k e is t = let wrong : ◌≡◌ {A = Option Kind} (Some (kinds.List size n)) None = rw (is, t.0) at e in cc
+  no_tag : (o : Option Pointer) (r : Pointer) (k : BodyKind) → tag_kind_of o ≡ None → o ≡ Some r → IsLandingPadTag r k → ⊥
+  no_tag o pointers.Null k e is t = let wrong : ◌≡◌ {A = Option BodyKind} (Some (kinds.Struct 0 0)) None = rw is at e in cc
+  no_tag o (pointers.Struct offset d n) k e is t = let wrong : ◌≡◌ {A = Option BodyKind} (Some (kinds.Struct d n)) None = rw (is, t.0) at e in cc
+  no_tag o (pointers.List offset size n) k e is t = let wrong : ◌≡◌ {A = Option BodyKind} (Some (kinds.List size n)) None = rw (is, t.0) at e in cc
   no_tag o (pointers.Cap i) k e is t = t
   no_tag o (pointers.Far x y z) k e is t = t
 
@@ -82,16 +82,16 @@ module _ (S : List (List ℕ)) (s p : ℕ) where
     word_at q = pointer_of (slice_index (segment S other) q)
 
     abbrev NoPad : Type 0
-    NoPad = (start s' : ℕ) (r : Pointer) (k : Kind) → word_at place ≡ Some (pointers.Far false start s') → word_at (place + 1) ≡ Some r → IsLandingPadTag r k → ⊥
+    NoPad = (start s' : ℕ) (r : Pointer) (k : BodyKind) → word_at place ≡ Some (pointers.Far false start s') → word_at (place + 1) ≡ Some r → IsLandingPadTag r k → ⊥
 
     bad : (e : TreeFault) → faults.BadPad at ≡ e → NoPad → Faulty e
     bad e is none = subst Faulty is (refl, inr (place, other, h, room, none))
 
-    second_fails : (start s' : ℕ) (e : TreeFault) → word_at place ≡ Some (pointers.Far false start s') → (o : Option Kind) → tag_kind_of (word_at (place + 1)) ≡ o → target_second at S start s' o ≡ Err e → Faulty e
+    second_fails : (start s' : ℕ) (e : TreeFault) → word_at place ≡ Some (pointers.Far false start s') → (o : Option BodyKind) → tag_kind_of (word_at (place + 1)) ≡ o → target_second at S start s' o ≡ Err e → Faulty e
     second_fails start s' e f None t g = bad e (err_is g) (λ begin s'' r k first second tag. no_tag (word_at (place + 1)) r k t second tag)
     second_fails start s' e f (Some k) t g = go (tested (nat_lt s' (length S)) _ _ e g)
       where
-        go : ((nat_lt s' (length S) ≡ true) × (◌≡◌ {A = Result Target TreeFault} (Ok (record { kind = k; segment = s'; start = Some start })) (Err e))) ⊎ ((nat_lt s' (length S) ≡ false) × (faults.NoSegment at ≡ e)) → Faulty e
+        go : ((nat_lt s' (length S) ≡ true) × (◌≡◌ {A = Result PointerTarget TreeFault} (Ok (record { kind = k; segment = s'; start = Some start })) (Err e))) ⊎ ((nat_lt s' (length S) ≡ false) × (faults.NoSegment at ≡ e)) → Faulty e
         go (inl x) = let wrong = x.1 in cc
         go (inr x) =
             let tag = tag_sound (word_at (place + 1)) k t in
@@ -139,20 +139,20 @@ module _ (S : List (List ℕ)) (s p : ℕ) where
   abbrev Before : Type 0
   Before = StartsBefore S s p ⊎ ((place : ℕ) × (other : ℕ) × Holds S s p (pointers.Far false place other) × StartsBefore S other place)
 
-  here_before : (t q : ℕ) (r : Pointer) (target : Target) → Holds S t q r → target_here t q r ≡ Some target → target.start ≡ None → StartsBefore S t q
+  here_before : (t q : ℕ) (r : Pointer) (target : PointerTarget) → Holds S t q r → target_here t q r ≡ Some target → target.start ≡ None → StartsBefore S t q
   here_before t q pointers.Null target h e none = cc
   here_before t q (pointers.Cap i) target h e none = cc
   here_before t q (pointers.Far double place other) target h e none = cc
   here_before t q (pointers.Struct offset d n) target h e none =
       let is : record { kind = kinds.Struct d n; segment = t; start = start_of q offset } ≡ target = cc in
-      let first : start_of q offset ≡ None = ap (λ (a : Target). a.start) is ∙ none in
+      let first : start_of q offset ≡ None = ap (λ (a : PointerTarget). a.start) is ∙ none in
       (pointers.Struct offset d n, offset, kinds.Struct d n, h, (refl, refl), start_none q offset first)
   here_before t q (pointers.List offset size n) target h e none =
       let is : record { kind = kinds.List size n; segment = t; start = start_of q offset } ≡ target = cc in
-      let first : start_of q offset ≡ None = ap (λ (a : Target). a.start) is ∙ none in
+      let first : start_of q offset ≡ None = ap (λ (a : PointerTarget). a.start) is ∙ none in
       (pointers.List offset size n, offset, kinds.List size n, h, (refl, refl), start_none q offset first)
 
-  pub target_before : (r : Pointer) (target : Target) → Holds S s p r → target_by at S r ≡ Ok target → target.start ≡ None → Before
+  pub target_before : (r : Pointer) (target : PointerTarget) → Holds S s p r → target_by at S r ≡ Ok target → target.start ≡ None → Before
   target_before pointers.Null target h e none = cc
   target_before (pointers.Cap i) target h e none = cc
   target_before (pointers.Struct offset d n) target h e none = inl (here_before s p (pointers.Struct offset d n) target h (ap (λ x. Some x) (ok_is e)) none)
@@ -162,11 +162,11 @@ module _ (S : List (List ℕ)) (s p : ℕ) where
       let j = passed (nat_lt place (length (segment S other))) _ _ target k.1 in
       go (grind (arith, nat_tests, j.0)) (pointer_of (slice_index (segment S other) place)) refl j.1
     where
-      padded : (o : Option Target) (r : Pointer) → place < length (segment S other) → pointer_of (slice_index (segment S other) place) ≡ Some r → target_here other place r ≡ o → or_bad_pad at o ≡ Ok target → Before
+      padded : (o : Option PointerTarget) (r : Pointer) → place < length (segment S other) → pointer_of (slice_index (segment S other) place) ≡ Some r → target_here other place r ≡ o → or_bad_pad at o ≡ Ok target → Before
       padded None r within says g f = cc
       padded (Some a) r within says g f =
           let is : a ≡ target = ok_is f in
-          inr (place, other, h, here_before other place r a (within, says) g (ap (λ (a : Target). a.start) is ∙ none))
+          inr (place, other, h, here_before other place r a (within, says) g (ap (λ (a : PointerTarget). a.start) is ∙ none))
 
       go : place < length (segment S other) → (o : Option Pointer) → pointer_of (slice_index (segment S other) place) ≡ o → target_by_one at other place o ≡ Ok target → Before
       go within None says f = cc
@@ -176,15 +176,15 @@ module _ (S : List (List ℕ)) (s p : ℕ) where
       let j = passed (nat_lt (place + 1) (length (segment S other))) _ _ target k.1 in
       two (pointer_of (slice_index (segment S other) place)) (tag_kind_of (pointer_of (slice_index (segment S other) (place + 1)))) refl j.1
     where
-      second : (start s' : ℕ) (o : Option Kind) → target_second at S start s' o ≡ Ok target → Before
+      second : (start s' : ℕ) (o : Option BodyKind) → target_second at S start s' o ≡ Ok target → Before
       second start s' None f = cc
       second start s' (Some k) f =
           let j = passed (nat_lt s' (length S)) _ _ target f in
-          let begun : Some start ≡ target.start = ap (λ (a : Target). a.start) (ok_is j.1) in
+          let begun : Some start ≡ target.start = ap (λ (a : PointerTarget). a.start) (ok_is j.1) in
           let wrong : ◌≡◌ {A = Option ℕ} (Some start) None = begun ∙ none in
           cc
 
-      two : (one : Option Pointer) (o : Option Kind) → tag_kind_of (pointer_of (slice_index (segment S other) (place + 1))) ≡ o → target_by_two at S one (pointer_of (slice_index (segment S other) (place + 1))) ≡ Ok target → Before
+      two : (one : Option Pointer) (o : Option BodyKind) → tag_kind_of (pointer_of (slice_index (segment S other) (place + 1))) ≡ o → target_by_two at S one (pointer_of (slice_index (segment S other) (place + 1))) ≡ Ok target → Before
       two None o t f = cc
       two (Some pointers.Null) o t f = cc
       two (Some (pointers.Cap i)) o t f = cc
@@ -198,7 +198,7 @@ module _ (S : List (List ℕ)) (s p : ℕ) where
   no_room e is room = subst Faulty is (refl, room)
 
   -- where a body begins, or the fault
-  placed_fails : (k : Kind) (s' size : ℕ) (o : Option ℕ) (e : TreeFault) → size ≡ kind_words k → (o ≡ None → Before) → ((start : ℕ) → o ≡ Some start → HasTarget S s p k s' start) → placed at (in_segment (segment S s') size o) ≡ Err e → Faulty e
+  placed_fails : (k : BodyKind) (s' size : ℕ) (o : Option ℕ) (e : TreeFault) → size ≡ kind_words k → (o ≡ None → Before) → ((start : ℕ) → o ≡ Some start → HasTarget S s p k s' start) → placed at (in_segment (segment S s') size o) ≡ Err e → Faulty e
   placed_fails k s' size None e same before has_target f = no_room e (err_is f) (inr (inr (inl (before refl))))
   placed_fails k s' size (Some start) e same before has_target f = go (nat_le (start + size) (length (segment S s'))) refl f
     where
@@ -217,7 +217,7 @@ module _ (S : List (List ℕ)) (s p : ℕ) where
       go true t f = no_room e (err_is f) (inr (inr (inr (inr (size, s', tag, g, has_target, is, grind (arith, nat_tests))))))
       go false t f = cc
 
-  kind_fails : (s' : ℕ) (o : Option ℕ) (k : Kind) (e : TreeFault) → (o ≡ None → Before) → ((start : ℕ) → o ≡ Some start → HasTarget S s p k s' start) → area_by_kind at (segment S s') s' o k ≡ Err e → Faulty e
+  kind_fails : (s' : ℕ) (o : Option ℕ) (k : BodyKind) (e : TreeFault) → (o ≡ None → Before) → ((start : ℕ) → o ≡ Some start → HasTarget S s p k s' start) → area_by_kind at (segment S s') s' o k ≡ Err e → Faulty e
   kind_fails s' o (kinds.Struct d n) e before has_target f = go (bind_err (placed at (in_segment (segment S s') (d + n) o)) _ e f)
     where
       go : (placed at (in_segment (segment S s') (d + n) o) ≡ Err e) ⊎ ((q : ℕ) × (placed at (in_segment (segment S s') (d + n) o) ≡ Ok q) × (◌≡◌ {A = Result Area TreeFault} (Ok (record { form = forms.Struct d n; segment = s'; start = q })) (Err e))) → Faulty e
@@ -234,5 +234,5 @@ module _ (S : List (List ℕ)) (s p : ℕ) where
       go (inl g) = placed_fails (kinds.List size n) s' (words_for size n) o e refl before has_target g
       go (inr g) = let wrong = g.2 in cc
 
-  pub area_fails : (r : Pointer) (target : Target) (e : TreeFault) → Holds S s p r → target_by at S r ≡ Ok target → area_by at S target ≡ Err e → Faulty e
+  pub area_fails : (r : Pointer) (target : PointerTarget) (e : TreeFault) → Holds S s p r → target_by at S r ≡ Ok target → area_by at S target ≡ Err e → Faulty e
   area_fails r target e h has_target f = kind_fails target.segment target.start target.kind e (target_before r target h has_target) (target_sound S s p r target h has_target) f

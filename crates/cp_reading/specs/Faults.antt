@@ -7,8 +7,8 @@ use Rattle.cp_words.specs.declared.pointer.ElementSize.TheVariants as sizes
 use Rattle.cp_words.specs.declared.pointer.Pointer.{Pointer}
 use Rattle.cp_words.specs.declared.pointer.Pointer.TheVariants as pointers
 use Rattle.cp_words.specs.declared.pointer.Tag.{Tag}
-use Rattle.cp_words.specs.declared.kind.Kind.{Kind}
-use Rattle.cp_words.specs.declared.kind.Kind.TheVariants as kinds
+use Rattle.cp_words.specs.declared.kind.BodyKind.{BodyKind}
+use Rattle.cp_words.specs.declared.kind.BodyKind.TheVariants as kinds
 use Rattle.cp_words.specs.declared.place.Place.{Place}
 use Rattle.cp_reading.specs.declared.fault.TreeFault.{TreeFault}
 use Rattle.cp_reading.specs.declared.fault.TreeFault.TheVariants as faults
@@ -17,13 +17,13 @@ use Rattle.cp_words.specs.Targets.{segment, Holds, IsBodyPointer, IsLandingPadTa
 use Rattle.cp_reading.specs.Pruned.{Pruned, IsReachable}
 
 -- the words that a body of this kind takes, a composite list's tag included
-abbrev pub kind_words : Kind → ℕ
+abbrev pub kind_words : BodyKind → ℕ
 kind_words (kinds.Struct d n) = d + n
 kind_words (kinds.List size n) = words_for size n
 
 -- word p of segment s is inside, and says nothing that a body has
 abbrev pub IsNoBody : List (List ℕ) → ℕ → ℕ → Type 0
-IsNoBody S s p = (p < length (segment S s)) × ((r : Pointer) (o : ℤ) (k : Kind) → pointer_of (slice_index (segment S s) p) ≡ Some r → IsBodyPointer r o k → ⊥)
+IsNoBody S s p = (p < length (segment S s)) × ((r : Pointer) (o : ℤ) (k : BodyKind) → pointer_of (slice_index (segment S s) p) ≡ Some r → IsBodyPointer r o k → ⊥)
 
 -- G7: the word is a capability word with a bit that should be zero
 abbrev pub HasBadCapability : List (List ℕ) → ℕ → ℕ → Type 0
@@ -33,7 +33,7 @@ HasBadCapability S s p = pointer_of (slice_index (segment S s) p) ≡ None
 abbrev pub NamesNoSegment : List (List ℕ) → ℕ → ℕ → Type 0
 NamesNoSegment S s p =
     ((double : Bool) × (place : ℕ) × (other : ℕ) × Holds S s p (pointers.Far double place other) × (length S ≤ other))
-    ⊎ ((place : ℕ) × (other : ℕ) × (start : ℕ) × (s' : ℕ) × (r : Pointer) × (k : Kind) × Holds S s p (pointers.Far true place other)
+    ⊎ ((place : ℕ) × (other : ℕ) × (start : ℕ) × (s' : ℕ) × (r : Pointer) × (k : BodyKind) × Holds S s p (pointers.Far true place other)
     × Holds S other place (pointers.Far false start s') × Holds S other (place + 1) r × IsLandingPadTag r k × (length S ≤ s'))
 
 -- G5: the word is a far pointer whose landing pad is inside, and hasn't the form of one
@@ -41,11 +41,11 @@ abbrev pub HasBadPad : List (List ℕ) → ℕ → ℕ → Type 0
 HasBadPad S s p =
     ((place : ℕ) × (other : ℕ) × Holds S s p (pointers.Far false place other) × IsNoBody S other place)
     ⊎ ((place : ℕ) × (other : ℕ) × Holds S s p (pointers.Far true place other) × (place + 1 < length (segment S other))
-    × ((start s' : ℕ) (r : Pointer) (k : Kind) → pointer_of (slice_index (segment S other) place) ≡ Some (pointers.Far false start s') → pointer_of (slice_index (segment S other) (place + 1)) ≡ Some r → IsLandingPadTag r k → ⊥))
+    × ((start s' : ℕ) (r : Pointer) (k : BodyKind) → pointer_of (slice_index (segment S other) place) ≡ Some (pointers.Far false start s') → pointer_of (slice_index (segment S other) (place + 1)) ≡ Some r → IsLandingPadTag r k → ⊥))
 
 -- the word is a struct or list pointer whose body would begin before its segment
 abbrev pub StartsBefore : List (List ℕ) → ℕ → ℕ → Type 0
-StartsBefore S s p = (r : Pointer) × (o : ℤ) × (k : Kind) × Holds S s p r × IsBodyPointer r o k × ((pos (p + 1) +ℤ o) <ℤ pos 0)
+StartsBefore S s p = (r : Pointer) × (o : ℤ) × (k : BodyKind) × Holds S s p r × IsBodyPointer r o k × ((pos (p + 1) +ℤ o) <ℤ pos 0)
 
 -- G3: the landing pad of a far pointer isn't inside its segment, which exists; or the body begins before its segment, or
 -- ends after it; or a composite list's elements take more words than it has.
@@ -54,7 +54,7 @@ IsOutOfBounds S s p =
     ((place : ℕ) × (other : ℕ) × Holds S s p (pointers.Far false place other) × (other < length S) × (length (segment S other) ≤ place))
     ⊎ (((place : ℕ) × (other : ℕ) × Holds S s p (pointers.Far true place other) × (other < length S) × (length (segment S other) ≤ place + 1))
     ⊎ ((StartsBefore S s p ⊎ ((place : ℕ) × (other : ℕ) × Holds S s p (pointers.Far false place other) × StartsBefore S other place))
-    ⊎ (((k : Kind) × (s' : ℕ) × (start : ℕ) × HasTarget S s p k s' start × (length (segment S s') < start + kind_words k))
+    ⊎ (((k : BodyKind) × (s' : ℕ) × (start : ℕ) × HasTarget S s p k s' start × (length (segment S s') < start + kind_words k))
     ⊎ ((size : ℕ) × (s' : ℕ) × (tag : ℕ) × (g : Tag) × HasTarget S s p (kinds.List sizes.Composite size) s' tag
     × (tag_of (slice_index (segment S s') tag) ≡ Some g) × (size < g.count * (g.words + g.ptrs))))))
 

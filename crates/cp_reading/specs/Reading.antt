@@ -8,9 +8,9 @@ use Rattle.cp_words.specs.declared.pointer.Tag.{Tag}
 use Rattle.cp_tree.specs.Node.{Node, null, cap, struct, list, ptrs, structs, Nodes, no_nodes, node, Bodies, no_bodies, body}
 use Rattle.cp_words.specs.Targets.{segment, words_at}
 use Rattle.cp_tree.specs.Elements.{elements_of}
-use Rattle.cp_reading.specs.declared.target.Target.{Target}
-use Rattle.cp_words.specs.declared.kind.Kind.{Kind}
-use Rattle.cp_words.specs.declared.kind.Kind.TheVariants as kinds
+use Rattle.cp_reading.specs.declared.target.PointerTarget.{PointerTarget}
+use Rattle.cp_words.specs.declared.kind.BodyKind.{BodyKind}
+use Rattle.cp_words.specs.declared.kind.BodyKind.TheVariants as kinds
 use Rattle.cp_reading.specs.declared.area.Area.{Area}
 use Rattle.cp_reading.specs.declared.area.Form.{Form}
 use Rattle.cp_reading.specs.declared.area.Form.TheVariants as forms
@@ -33,7 +33,7 @@ start_of p (pos n) = Some (p + 1 + n)
 start_of p (negsuc n) = if nat_le n p then Some (p - n) else None
 
 -- the body of a pointer at word p of segment s
-abbrev pub target_here : ℕ → ℕ → Pointer → Option Target
+abbrev pub target_here : ℕ → ℕ → Pointer → Option PointerTarget
 target_here s p (pointers.Struct offset d n) = Some (record { kind = kinds.Struct d n; segment = s; start = start_of p offset })
 target_here s p (pointers.List offset size n) = Some (record { kind = kinds.List size n; segment = s; start = start_of p offset })
 target_here s p pointers.Null = None
@@ -41,31 +41,31 @@ target_here s p (pointers.Cap i) = None
 target_here s p (pointers.Far double place other) = None
 
 -- what the second word of a landing pad says that the body is
-abbrev pub tag_kind_of : Option Pointer → Option Kind
+abbrev pub tag_kind_of : Option Pointer → Option BodyKind
 tag_kind_of (Some pointers.Null) = Some (kinds.Struct 0 0)
 tag_kind_of (Some (pointers.Struct (pos zero) d n)) = Some (kinds.Struct d n)
 tag_kind_of (Some (pointers.List (pos zero) size n)) = Some (kinds.List size n)
 tag_kind_of other = None
 
 -- the body that a landing pad of two words names
-abbrev pub target_second : Place → List (List ℕ) → ℕ → ℕ → Option Kind → Result Target TreeFault
+abbrev pub target_second : Place → List (List ℕ) → ℕ → ℕ → Option BodyKind → Result PointerTarget TreeFault
 target_second at S start s' None = Err (faults.BadPad at)
 target_second at S start s' (Some k) = if nat_lt s' (length S) then Ok (record { kind = k; segment = s'; start = Some start }) else Err (faults.NoSegment at)
 
-abbrev pub target_by_two : Place → List (List ℕ) → Option Pointer → Option Pointer → Result Target TreeFault
+abbrev pub target_by_two : Place → List (List ℕ) → Option Pointer → Option Pointer → Result PointerTarget TreeFault
 target_by_two at S (Some (pointers.Far false start s')) second = target_second at S start s' (tag_kind_of second)
 target_by_two at S first second = Err (faults.BadPad at)
 
-abbrev pub or_bad_pad : Place → Option Target → Result Target TreeFault
+abbrev pub or_bad_pad : Place → Option PointerTarget → Result PointerTarget TreeFault
 or_bad_pad at None = Err (faults.BadPad at)
 or_bad_pad at (Some target) = Ok target
 
-abbrev pub target_by_one : Place → ℕ → ℕ → Option Pointer → Result Target TreeFault
+abbrev pub target_by_one : Place → ℕ → ℕ → Option Pointer → Result PointerTarget TreeFault
 target_by_one at s p None = Err (faults.BadPad at)
 target_by_one at s p (Some r) = or_bad_pad at (target_here s p r)
 
 -- the body to which a far pointer leads
-abbrev pub target_by_far : Place → List (List ℕ) → Bool → ℕ → ℕ → Result Target TreeFault
+abbrev pub target_by_far : Place → List (List ℕ) → Bool → ℕ → ℕ → Result PointerTarget TreeFault
 target_by_far at S false place s' =
     if nat_lt s' (length S) then
     (if nat_lt place (length (segment S s')) then target_by_one at s' place (pointer_of (slice_index (segment S s') place)) else Err (faults.OutOfBounds at))
@@ -76,7 +76,7 @@ target_by_far at S true place s' =
     else Err (faults.NoSegment at)
 
 -- the body to which a pointer leads: at its own word, or where a far pointer leads
-abbrev pub target_by : Place → List (List ℕ) → Pointer → Result Target TreeFault
+abbrev pub target_by : Place → List (List ℕ) → Pointer → Result PointerTarget TreeFault
 target_by at S (pointers.Far double place other) = target_by_far at S double place other
 target_by at S r = or_bad_pad at (target_here at.segment at.word r)
 
@@ -97,13 +97,13 @@ tagged at s size start (Some tag) =
     if nat_lt size (tag.count * (tag.words + tag.ptrs)) then Err (faults.OutOfBounds at)
     else Ok (record { form = forms.Structs tag.words tag.ptrs tag.count; segment = s; start = start + 1 })
 
-abbrev pub area_by_kind : Place → List ℕ → ℕ → Option ℕ → Kind → Result Area TreeFault
+abbrev pub area_by_kind : Place → List ℕ → ℕ → Option ℕ → BodyKind → Result Area TreeFault
 area_by_kind at ws s start (kinds.Struct d n) = placed at (in_segment ws (d + n) start) >>= λ q. Ok (record { form = forms.Struct d n; segment = s; start = q })
 area_by_kind at ws s start (kinds.List sizes.Composite n) = placed at (in_segment ws (n + 1) start) >>= λ q. tagged at s n q (tag_of (slice_index ws q))
 area_by_kind at ws s start (kinds.List size n) = placed at (in_segment ws (words_for size n) start) >>= λ q. Ok (record { form = forms.List size n; segment = s; start = q })
 
 -- the body to which a pointer leads, if it is wholly inside its segment
-abbrev pub area_by : Place → List (List ℕ) → Target → Result Area TreeFault
+abbrev pub area_by : Place → List (List ℕ) → PointerTarget → Result Area TreeFault
 area_by at S target = area_by_kind at (segment S target.segment) target.segment target.start target.kind
 
 -- the body of a pointer that leads into its own segment, which has these words
@@ -177,7 +177,7 @@ abbrev pub top : Place
 top = record { segment = 0; word = 0 }
 
 -- the root leads to a struct
-abbrev pub rooted : Kind → Read Node → Result Node TreeFault
+abbrev pub rooted : BodyKind → Read Node → Result Node TreeFault
 rooted (kinds.Struct d n) read = read >>= λ x. Ok x.0
 rooted (kinds.List size n) read = Err (faults.RootKind top)
 

@@ -7,8 +7,8 @@ ghost use Rattle.cp_words.specs.Segments.{words_of};
 ghost use Rattle.cp_reading.specs.Reading.{in_segment, start_of, placed, tagged, area_by, area_here, price, body_words, lent_words, IsWhole, IsWithin};
 
 use crate::fault::TreeFault;
-use crate::target::{Target, segment_at};
-use cp_words::{ElementSize, Kind, Place, Pointer, decode_tag, list_words};
+use crate::target::{PointerTarget, segment_at};
+use cp_words::{BodyKind, ElementSize, Place, Pointer, decode_tag, list_words};
 
 /// What a body is.
 #[derive(Clone, Copy)]
@@ -64,7 +64,11 @@ impl Form {
 
 /// The body to which a pointer leads, if it lies wholly inside its segment.
 #[inline(always)]
-pub(crate) fn area_of(segments: &[Vec<u64>], at: Place, target: Target) -> Result<Area, TreeFault>
+pub(crate) fn area_of(
+    segments: &[Vec<u64>],
+    at: Place,
+    target: PointerTarget,
+) -> Result<Area, TreeFault>
     requires exists { target.segment < length segments.now }
     ensures area { result ≡ area_by at (words_of segments.now) target }
     ensures within { IfOk result (IsWithin (words_of segments.now)) }
@@ -72,17 +76,17 @@ pub(crate) fn area_of(segments: &[Vec<u64>], at: Place, target: Target) -> Resul
 {
     let words = segment_at(segments, target.segment);
     let (form, size) = match target.kind {
-        Kind::List {
+        BodyKind::List {
             size: ElementSize::Composite,
             count,
         } => {
             let tag = inside(at, words, count as usize + 1, target.start)?;
             return elements_at(segments, at, target.segment, tag, count);
         }
-        Kind::Struct { words, ptrs } => {
+        BodyKind::Struct { words, ptrs } => {
             (Form::Struct { words, ptrs }, words as usize + ptrs as usize)
         }
-        Kind::List { size, count } => {
+        BodyKind::List { size, count } => {
             (Form::List { size, count }, list_words(size, count) as usize)
         }
     };

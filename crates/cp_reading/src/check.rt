@@ -14,7 +14,7 @@ use crate::fault::TreeFault;
 use crate::near::{list_target, struct_target};
 use crate::target::{pointer_at, pointer_in, segment_at, target_of};
 use crate::visits::Visits;
-use cp_words::{ElementSize, Kind, Place, Pointer};
+use cp_words::{BodyKind, ElementSize, Place, Pointer};
 use std::sync::ledger::Ledger;
 
 /// The root's place.
@@ -75,7 +75,7 @@ impl<'a, 'v, L: Ledger> Checker<'a, 'v, L> {
             Some(Pointer::Cap(_)) => Err(TreeFault::RootKind(TOP)),
             Some(pointer) => {
                 let target = target_of(self.segments, TOP, pointer)?;
-                let Kind::Struct { .. } = target.kind else {
+                let BodyKind::Struct { .. } = target.kind else {
                     return Err(TreeFault::RootKind(TOP));
                 };
                 let area = area_of(self.segments, TOP, target)?;

@@ -4,14 +4,14 @@ ghost use Rattle.std.specs.Prelude.{◌≡◌, ◌<◌, ◌%◌, ◌/◌, ◌^�
 ghost use Rattle.cp_words.specs.Word.{high_of, offset_of, size_of};
 ghost use Rattle.cp_reading.specs.Near.{Near};
 ghost use Rattle.cp_reading.specs.Reading.{start_of};
-ghost use Rattle.cp_words.specs.declared.kind.Kind.TheVariants.{Struct};
+ghost use Rattle.cp_words.specs.declared.kind.BodyKind.TheVariants.{Struct};
 
-use crate::target::{Target, start_from};
-use cp_words::{Kind, Place, offset_of, size_of};
+use crate::target::{PointerTarget, start_from};
+use cp_words::{BodyKind, Place, offset_of, size_of};
 
 /// The body of a struct word.
 #[inline(always)]
-pub(crate) fn struct_target(at: Place, word: u64) -> Target
+pub(crate) fn struct_target(at: Place, word: u64) -> PointerTarget
     requires small { at.word < 2 ^ 63 }
     requires some { 0 < word }
     requires kind { word % 4 ≡ 0 }
@@ -20,8 +20,8 @@ pub(crate) fn struct_target(at: Place, word: u64) -> Target
     ensures kind { result.kind ≡ Struct (high_of word % 2 ^ 16) (high_of word / 2 ^ 16) }
 {
     let high = word / 0x1_0000_0000;
-    Target {
-        kind: Kind::Struct {
+    PointerTarget {
+        kind: BodyKind::Struct {
             words: (high % 0x1_0000) as u16,
             ptrs: (high / 0x1_0000) as u16,
         },
@@ -32,15 +32,15 @@ pub(crate) fn struct_target(at: Place, word: u64) -> Target
 
 /// The body of a list word.
 #[inline(always)]
-pub(crate) fn list_target(at: Place, word: u64) -> Target
+pub(crate) fn list_target(at: Place, word: u64) -> PointerTarget
     requires small { at.word < 2 ^ 63 }
     requires kind { word % 4 ≡ 1 }
     ensures near { Near at word result }
     ensures here { result.segment ≡ at.segment }
 {
     let high = word / 0x1_0000_0000;
-    Target {
-        kind: Kind::List {
+    PointerTarget {
+        kind: BodyKind::List {
             size: size_of(high % 8),
             count: (high / 8) as u32,
         },

@@ -7,12 +7,12 @@ ghost use Rattle.cp_words.specs.Segments.{words_of};
 ghost use Rattle.cp_reading.specs.Reading.{start_of, target_here, target_by_two, target_by_one, target_by_far, target_by, tag_kind_of};
 
 use crate::fault::TreeFault;
-use cp_words::{Kind, Place, Pointer, decode};
+use cp_words::{BodyKind, Place, Pointer, decode};
 
 /// The body that a pointer leads to. `None` starts before its segment.
 #[derive(Clone, Copy)]
-pub(crate) struct Target {
-    pub kind: Kind,
+pub(crate) struct PointerTarget {
+    pub kind: BodyKind,
     pub segment: usize,
     pub start: Option<usize>,
 }
@@ -22,7 +22,7 @@ pub(crate) fn target_of(
     segments: &[Vec<u64>],
     at: Place,
     pointer: Pointer,
-) -> Result<Target, TreeFault>
+) -> Result<PointerTarget, TreeFault>
     requires exists { at.segment < length segments.now }
     requires small { at.word < 2 ^ 63 }
     ensures target { result ≡ target_by at (words_of segments.now) pointer }
@@ -87,7 +87,7 @@ fn target_by_far(
     double: bool,
     place: u32,
     segment: u32,
-) -> Result<Target, TreeFault>
+) -> Result<PointerTarget, TreeFault>
     ensures target { result ≡ target_by_far at (words_of segments.now) double place segment }
     ensures exists { IfOk result (λ a. a.segment < length segments.now) }
 {
@@ -126,7 +126,7 @@ fn landing_pad_at(
     at: Place,
     landing_pad: Place,
     pointer: Option<Pointer>,
-) -> Result<Target, TreeFault>
+) -> Result<PointerTarget, TreeFault>
     requires { landing_pad.word < 2 ^ 63 }
     ensures target { result ≡ target_by_one at landing_pad.segment landing_pad.word pointer }
     ensures here { IfOk result (λ a. a.segment ≡ landing_pad.segment) }
@@ -143,7 +143,7 @@ fn target_by_two(
     at: Place,
     first: Option<Pointer>,
     second: Option<Pointer>,
-) -> Result<Target, TreeFault>
+) -> Result<PointerTarget, TreeFault>
     ensures target { result ≡ target_by_two at (words_of segments.now) first second }
     ensures exists { IfOk result (λ a. a.segment < length segments.now) }
 {
@@ -163,7 +163,7 @@ fn target_by_two(
     if segment as usize >= segments.len() {
         return Err(TreeFault::NoSegment(at));
     }
-    Ok(Target {
+    Ok(PointerTarget {
         kind,
         segment: segment as usize,
         start: Some(place as usize),
@@ -172,31 +172,31 @@ fn target_by_two(
 
 /// What the second word of a landing pad says that the body is: a struct or list word with offset 0, where
 /// a word of zero bits is a struct of size zero.
-fn tag_kind(second: Option<Pointer>) -> Option<Kind>
+fn tag_kind(second: Option<Pointer>) -> Option<BodyKind>
     ensures { result ≡ tag_kind_of second }
 {
     match second {
-        Some(Pointer::Null) => Some(Kind::Struct { words: 0, ptrs: 0 }),
+        Some(Pointer::Null) => Some(BodyKind::Struct { words: 0, ptrs: 0 }),
         Some(
             Pointer::Struct {
                 offset: 0,
                 words,
                 ptrs,
             },
-        ) => Some(Kind::Struct { words, ptrs }),
+        ) => Some(BodyKind::Struct { words, ptrs }),
         Some(
             Pointer::List {
                 offset: 0,
                 size,
                 count,
             },
-        ) => Some(Kind::List { size, count }),
+        ) => Some(BodyKind::List { size, count }),
         _ => None,
     }
 }
 
 /// The body of a struct or list pointer.
-fn target_at(at: Place, pointer: Pointer) -> Option<Target>
+fn target_at(at: Place, pointer: Pointer) -> Option<PointerTarget>
     requires { at.word < 2 ^ 63 }
     ensures target { result ≡ target_here at.segment at.word pointer }
     ensures here { IfSome result (λ a. a.segment ≡ at.segment) }
@@ -206,8 +206,8 @@ fn target_at(at: Place, pointer: Pointer) -> Option<Target>
             offset,
             words,
             ptrs,
-        } => Some(Target {
-            kind: Kind::Struct { words, ptrs },
+        } => Some(PointerTarget {
+            kind: BodyKind::Struct { words, ptrs },
             segment: at.segment,
             start: start_from(at.word, offset),
         }),
@@ -215,8 +215,8 @@ fn target_at(at: Place, pointer: Pointer) -> Option<Target>
             offset,
             size,
             count,
-        } => Some(Target {
-            kind: Kind::List { size, count },
+        } => Some(PointerTarget {
+            kind: BodyKind::List { size, count },
             segment: at.segment,
             start: start_from(at.word, offset),
         }),

@@ -14,11 +14,11 @@ use Rattle.cp_refs.specs.declared.cap.Cap.{Cap}
 use Rattle.cp_refs.specs.declared.cap.Cap.TheVariants as caps
 use Rattle.cp_refs.specs.declared.outcome.Outcome.{Outcome}
 use Rattle.cp_refs.specs.declared.route.Route.{Route}
-use Rattle.cp_refs.specs.declared.values.Question.{Question}
+use Rattle.cp_refs.specs.declared.values.QuestionState.{QuestionState}
 
 module _ (values : ValueMaps) where
   -- a settled question leads to what its outcome gives
-  settled_way : (q : ℕ) (path : List ℕ) (question : Question) (outcome : Outcome) → get values.questions q ≡ Some question → question.outcome ≡ Some outcome → way values (caps.Pipelined q path) ≡ leads (cap_at outcome path)
+  settled_way : (q : ℕ) (path : List ℕ) (question : QuestionState) (outcome : Outcome) → get values.questions q ≡ Some question → question.outcome ≡ Some outcome → way values (caps.Pipelined q path) ≡ leads (cap_at outcome path)
   settled_way q path question outcome h o = rw (h, o)
 
   -- if a capability leads to one whose route is known, that is its route
@@ -35,7 +35,7 @@ module _ (values : ValueMaps) where
       {E : Type 0}
       (q : ℕ)
       (path : List ℕ)
-      (question : Question)
+      (question : QuestionState)
       (outcome : Outcome)
       (result : Result Step E)
       → get values.questions q ≡ Some question
@@ -76,7 +76,7 @@ module _ (values : ValueMaps) where
   promise_routes p value c d h e f (n, r) = (suc n, rw (sym h, e, f) r)
 
   -- for callers: what an open question gives has a route
-  pub open_routes : (q : ℕ) (path : List ℕ) (question : Question) → Some question ≡ get values.questions q → is_some question.outcome ≡ false → HasRoute values (caps.Pipelined q path)
+  pub open_routes : (q : ℕ) (path : List ℕ) (question : QuestionState) → Some question ≡ get values.questions q → is_some question.outcome ≡ false → HasRoute values (caps.Pipelined q path)
   open_routes q path question h e = by_outcome question.outcome refl e
     where
       by_outcome : (outcome : Option Outcome) → question.outcome ≡ outcome → is_some outcome ≡ false → HasRoute values (caps.Pipelined q path)

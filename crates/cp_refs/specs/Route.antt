@@ -9,7 +9,7 @@ use Rattle.cp_refs.specs.declared.route.Gate.TheVariants as gates
 use Rattle.cp_refs.specs.declared.route.Route.{Route}
 use Rattle.cp_refs.specs.declared.route.Route.TheVariants as routes
 use Rattle.cp_refs.specs.declared.outcome.Outcome.{Outcome}
-use Rattle.cp_refs.specs.declared.values.Question.{Question}
+use Rattle.cp_refs.specs.declared.values.QuestionState.{QuestionState}
 use Rattle.cp_refs.specs.declared.values.QuestionKind.{QuestionKind}
 use Rattle.cp_refs.specs.declared.values.QuestionKind.TheVariants as kinds
 
@@ -34,7 +34,7 @@ abbrev pub outcome_way : QuestionKind → ℕ → List ℕ → Option Outcome �
 outcome_way kind q path None = ends (open_way kind q path)
 outcome_way kind q path (Some outcome) = leads (cap_at outcome path)
 
-abbrev pub question_way : ℕ → List ℕ → Option Question → Way
+abbrev pub question_way : ℕ → List ℕ → Option QuestionState → Way
 question_way q path None = missing
 question_way q path (Some question) = outcome_way question.kind q path question.outcome
 

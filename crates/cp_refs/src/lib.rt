@@ -19,5 +19,5 @@ pub use cap::{Cap, Caps, Path, PromiseId};
 pub use kept_outcome::KeptOutcome;
 pub use outcome::{Outcome, failed};
 pub use route::{Gate, Route};
-pub use values::{Question, QuestionKind, Values};
+pub use values::{QuestionKind, QuestionState, Values};
 pub use waiting::Waiting;

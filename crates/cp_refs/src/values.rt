@@ -24,7 +24,7 @@ pub enum QuestionKind {
 
 /// A question, and what it came to.
 #[derive(Drop)]
-pub struct Question {
+pub struct QuestionState {
     pub kind: QuestionKind,
     /// `None` while it is open.
     pub outcome: Option<KeptOutcome>,
@@ -36,7 +36,7 @@ pub struct Values {
     promises: Entries<Option<Cap>>,
     imports: Entries<Option<Cap>>,
     answers: Entries<Option<KeptOutcome>>,
-    questions: Entries<Question>,
+    questions: Entries<QuestionState>,
 }
 
 // Not derived: a crate that lets one go calls this function, and need not prove the drop of all that it holds.
@@ -103,7 +103,7 @@ impl Values {
     }
 
     /// What a question came to.
-    pub fn question(&self, id: u32) -> Option<&Question>
+    pub fn question(&self, id: u32) -> Option<&QuestionState>
         ensures { option_copied result ≡ map.get self.now.questions id }
     {
         self.questions.get(id)
@@ -131,7 +131,7 @@ impl Values {
     }
 
     /// What each question came to, with its number, rising.
-    pub fn questions(&self) -> Iter<'_, u32, Question>
+    pub fn questions(&self) -> Iter<'_, u32, QuestionState>
         ensures { result ≡ map.entries self.now.questions }
     {
         self.questions.iter()
@@ -187,8 +187,8 @@ impl Values {
     pub fn put_question(
         &mut self,
         id: u32,
-        question: Question,
-    ) -> Result<Option<Question>, AllocFailed<Question>>
+        question: QuestionState,
+    ) -> Result<Option<QuestionState>, AllocFailed<QuestionState>>
         ensures value { IfOk result (λ old. old ≡ map.get self.old.questions id) }
         ensures put { OnOk result (self.new ≡ record self.old { questions = map.insert self.old.questions id question }) }
         ensures back { IfErr result (λ failed. failed.value ≡ question) }
@@ -222,7 +222,7 @@ impl Values {
     }
 
     /// Takes a question out.
-    pub fn remove_question(&mut self, id: u32) -> Option<Question>
+    pub fn remove_question(&mut self, id: u32) -> Option<QuestionState>
         ensures value { result ≡ map.get self.old.questions id }
         ensures removed { self.new ≡ record self.old { questions = map.remove self.old.questions id } }
     {

@@ -9,7 +9,7 @@ ghost use Rattle.cp_rpc.specs.Viewed.{viewed_exception};
 
 use crate::field::text_field;
 use crate::source::Source;
-use crate::text::TextView;
+use crate::text::MessageText;
 use cp_fields::u16_at;
 use cp_messages::{Exception, ExceptionKind, Field, SchemaFault};
 use cp_tree::Past;
@@ -19,8 +19,8 @@ use std::alloc::{AllocError, Global};
 #[derive(Drop)]
 pub struct ExceptionView<S: Source> {
     pub kind: ExceptionKind,
-    pub reason: TextView<S>,
-    pub trace: TextView<S>,
+    pub reason: MessageText<S>,
+    pub trace: MessageText<S>,
 }
 
 impl<S: Source> ExceptionView<S> {
@@ -43,8 +43,8 @@ impl<S: Source> ExceptionView<S> {
     {
         Ok(ExceptionView {
             kind: kind_of(u16_at(t.data(), Exception::KIND)),
-            reason: TextView::of(text_field(t, Exception::REASON, Field::ExceptionReason)?),
-            trace: TextView::of(text_field(t, Exception::TRACE, Field::ExceptionTrace)?),
+            reason: MessageText::of(text_field(t, Exception::REASON, Field::ExceptionReason)?),
+            trace: MessageText::of(text_field(t, Exception::TRACE, Field::ExceptionTrace)?),
         })
     }
 

@@ -37,4 +37,4 @@ pub use resolve::{ResolutionView, ResolveView};
 pub use returned::{ReturnView, ReturnedView};
 pub use source::{Look, Source};
 pub use target::TargetView;
-pub use text::TextView;
+pub use text::MessageText;

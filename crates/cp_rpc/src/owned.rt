@@ -17,7 +17,7 @@ use std::marker::Model;
 /// A part of a tree: a null pointer past a struct's end, a tree, or an element of a composite
 /// list.
 #[derive(Clone, Copy)]
-pub(crate) enum Part<'a> {
+pub(crate) enum TreePart<'a> {
     Null,
     Tree(&'a Tree),
     Body(&'a Body),
@@ -27,7 +27,7 @@ pub(crate) enum Part<'a> {
 /// its tree.
 #[derive(Drop)]
 pub(crate) struct Owned<'a> {
-    part: Part<'a>,
+    part: TreePart<'a>,
 }
 
 impl<'a> Model for Owned<'a> {
@@ -56,7 +56,9 @@ impl<'a> Owned<'a> {
     fn null() -> Owned<'a>
         ensures { result ≡ null }
     {
-        Owned { part: Part::Null }
+        Owned {
+            part: TreePart::Null,
+        }
     }
 
     /// The tree.
@@ -65,7 +67,7 @@ impl<'a> Owned<'a> {
         ensures { result ≡ node_of tree.now }
     {
         Owned {
-            part: Part::Tree(tree),
+            part: TreePart::Tree(tree),
         }
     }
 }
@@ -75,28 +77,28 @@ impl<'a> Source for Owned<'a> {
 
     fn look(&self) -> Look {
         match self.part {
-            Part::Null => Look::Null,
-            Part::Body(_) => Look::Struct,
-            Part::Tree(tree) => look_at(tree),
+            TreePart::Null => Look::Null,
+            TreePart::Body(_) => Look::Struct,
+            TreePart::Tree(tree) => look_at(tree),
         }
     }
 
     fn data(&self) -> &[u64] {
         match self.part {
-            Part::Null => &[],
-            Part::Tree(tree) => tree.data(),
-            Part::Body(body) => &body.words,
+            TreePart::Null => &[],
+            TreePart::Tree(tree) => tree.data(),
+            TreePart::Body(body) => &body.words,
         }
     }
 
     fn pointer(&self, i: u32) -> Owned<'a> {
         match self.part {
-            Part::Null => Owned::null(),
-            Part::Tree(tree) => match tree.pointer(i) {
+            TreePart::Null => Owned::null(),
+            TreePart::Tree(tree) => match tree.pointer(i) {
                 Some(tree) => Owned::of(tree),
                 None => Owned::null(),
             },
-            Part::Body(body) => match body.pointer(i) {
+            TreePart::Body(body) => match body.pointer(i) {
                 Some(tree) => Owned::of(tree),
                 None => Owned::null(),
             },
@@ -104,33 +106,33 @@ impl<'a> Source for Owned<'a> {
     }
 
     fn item(&self, i: usize) -> Owned<'a> {
-        let Part::Tree(tree) = self.part else {
+        let TreePart::Tree(tree) = self.part else {
             unreachable!();
         };
         Owned {
-            part: Part::Body(&items_in(tree)[i]),
+            part: TreePart::Body(&items_in(tree)[i]),
         }
     }
 
     fn is_text(&self) -> bool {
         match self.part {
-            Part::Tree(tree) => is_text(Pointee::of_tree(tree)),
-            Part::Null | Part::Body(_) => false,
+            TreePart::Tree(tree) => is_text(Pointee::of_tree(tree)),
+            TreePart::Null | TreePart::Body(_) => false,
         }
     }
 
     fn text(&self, alloc: Global) -> Result<Text, AllocError> {
         match self.part {
-            Part::Tree(tree) => text_at(alloc, Pointee::of_tree(tree)),
-            Part::Null | Part::Body(_) => Ok(Text::new(String::new(alloc))),
+            TreePart::Tree(tree) => text_at(alloc, Pointee::of_tree(tree)),
+            TreePart::Null | TreePart::Body(_) => Ok(Text::new(String::new(alloc))),
         }
     }
 
     fn whole(&self, alloc: Global) -> Result<Whole, AllocError> {
         match self.part {
-            Part::Null => Ok(Whole::null()),
-            Part::Tree(tree) => tree.copy(alloc),
-            Part::Body(body) => body.copy(alloc),
+            TreePart::Null => Ok(Whole::null()),
+            TreePart::Tree(tree) => tree.copy(alloc),
+            TreePart::Body(body) => body.copy(alloc),
         }
     }
 }

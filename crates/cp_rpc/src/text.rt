@@ -11,11 +11,11 @@ use std::marker::Model;
 
 /// A text that is read in place. Contracts see it as its bytes, without the zero byte that ends it.
 #[derive(Drop)]
-pub struct TextView<S: Source> {
+pub struct MessageText<S: Source> {
     source: S,
 }
 
-impl<S: Source> Model for TextView<S> {
+impl<S: Source> Model for MessageText<S> {
     ghost use Rattle.std.specs.Prelude.{ℕ, List};
 
     ghost Value = { List ℕ };
@@ -27,13 +27,13 @@ impl<S: Source> Model for TextView<S> {
     ghost invariant = { λ t. IsTextField (S.seen t.source) };
 }
 
-impl<S: Source> TextView<S> {
+impl<S: Source> MessageText<S> {
     /// The text that a tree holds.
-    pub(crate) fn of(source: S) -> TextView<S>
+    pub(crate) fn of(source: S) -> MessageText<S>
         requires { IsTextField (S.seen source) }
         ensures { result ≡ text_of (S.seen source) }
     {
-        TextView { source }
+        MessageText { source }
     }
 
     /// The number of bytes.

@@ -1,11 +1,11 @@
 //! Structs, lists and values, as the reference tool prints them.
 
-use crate::field::{Field, FieldKind, Slot};
+use crate::field::{FieldKind, Slot, StructField};
 use crate::kind::{Base, Type};
 use crate::line::Line;
 use crate::node::{Node, NodeKind, Schema, Structure};
 use crate::number::signed;
-use crate::value::Value;
+use crate::value::SchemaValue;
 use cp_fields::{DataView, Pointee, StructView, WrongKind};
 use cp_reading::View;
 use cp_tree::Tree;
@@ -108,7 +108,13 @@ fn structure(line: &mut Line, schema: &Schema, of: &Structure, at: &StructView<'
 
 /// Adds a field, if it isn't a pointer that is null; another member of a union than the first is added even so.
 #[cycle(show)]
-fn show_field(line: &mut Line, schema: &Schema, field: &Field, at: &StructView<'_>, depth: u32) {
+fn show_field(
+    line: &mut Line,
+    schema: &Schema,
+    field: &StructField,
+    at: &StructView<'_>,
+    depth: u32,
+) {
     match &field.kind {
         FieldKind::Group(id) => {
             line.field(field.name.as_str());
@@ -121,9 +127,11 @@ fn show_field(line: &mut Line, schema: &Schema, field: &Field, at: &StructView<'
             }
             line.field(field.name.as_str());
             match &field.default {
-                Value::Text(text) if is_null => line.characters(text.as_str()),
-                Value::Data(bytes) if is_null => line.bytes(&DataView::of_slice(bytes)),
-                Value::Tree(tree) if is_null => default_value(line, schema, slot.of, tree, depth),
+                SchemaValue::Text(text) if is_null => line.characters(text.as_str()),
+                SchemaValue::Data(bytes) if is_null => line.bytes(&DataView::of_slice(bytes)),
+                SchemaValue::Tree(tree) if is_null => default_value(
+                    line, schema, slot.of, tree, depth,
+                ),
                 _ => value(line, schema, slot, at, depth),
             }
         }

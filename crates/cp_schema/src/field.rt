@@ -3,20 +3,20 @@
 use crate::fault::RequestFault;
 use crate::kind::{DEEPEST, Type, type_of};
 use crate::load::{Load, text_of};
-use crate::value::{Value, bits_of, value_of};
+use crate::value::{SchemaValue, bits_of, value_of};
 use cp_schema_capnp::{FieldSlotView, FieldView, FieldWhich};
 use std::alloc::Global;
 
 /// A field of a struct.
 #[derive(Drop)]
-pub struct Field {
+pub struct StructField {
     pub name: String,
     /// Its number in the union that it is in; 65,535 where it is in none.
     pub tag: u16,
     /// Its number in the schema, if it isn't a group.
     pub ordinal: u16,
     pub kind: FieldKind,
-    pub default: Value,
+    pub default: SchemaValue,
 }
 
 /// What a field is.
@@ -41,19 +41,19 @@ pub struct Slot {
     pub points: bool,
 }
 
-impl Field {
+impl StructField {
     /// Whether it is in a union.
     pub fn is_member(&self) -> bool {
         self.tag != 65_535
     }
 }
 
-impl<'n> Load<FieldView<'n>> for Field {
-    fn load(alloc: Global, view: &FieldView<'n>) -> Result<Field, RequestFault> {
+impl<'n> Load<FieldView<'n>> for StructField {
+    fn load(alloc: Global, view: &FieldView<'n>) -> Result<StructField, RequestFault> {
         let default = default_of(alloc, view)?;
         let kind = kind_of(view, &default)?;
         let name = text_of(alloc, view.name())?;
-        Ok(Field {
+        Ok(StructField {
             name,
             tag: view.discriminant_value(),
             ordinal: view.ordinal().explicit(),
@@ -64,15 +64,15 @@ impl<'n> Load<FieldView<'n>> for Field {
 }
 
 /// The default of a field.
-fn default_of(alloc: Global, view: &FieldView<'_>) -> Result<Value, RequestFault> {
+fn default_of(alloc: Global, view: &FieldView<'_>) -> Result<SchemaValue, RequestFault> {
     match view.which() {
         FieldWhich::Slot => value_of(alloc, &view.slot().default_value()?),
-        _ => Ok(Value::Other),
+        _ => Ok(SchemaValue::Other),
     }
 }
 
 /// What a field with this default is.
-fn kind_of(view: &FieldView<'_>, default: &Value) -> Result<FieldKind, RequestFault> {
+fn kind_of(view: &FieldView<'_>, default: &SchemaValue) -> Result<FieldKind, RequestFault> {
     match view.which() {
         FieldWhich::Slot => slot_of(&view.slot(), default),
         FieldWhich::Group => Ok(FieldKind::Group(view.group().type_id())),
@@ -81,7 +81,7 @@ fn kind_of(view: &FieldView<'_>, default: &Value) -> Result<FieldKind, RequestFa
 }
 
 /// Where a field with this default lies.
-fn slot_of(view: &FieldSlotView<'_>, default: &Value) -> Result<FieldKind, RequestFault> {
+fn slot_of(view: &FieldSlotView<'_>, default: &SchemaValue) -> Result<FieldKind, RequestFault> {
     let of = type_of(&view.type_()?, DEEPEST)?;
     Ok(FieldKind::Slot(Slot {
         place: view.offset(),

@@ -1,10 +1,10 @@
 //! The nodes of a request: its files, structs, enums, interfaces and constants.
 
 use crate::fault::RequestFault;
-use crate::field::Field;
+use crate::field::StructField;
 use crate::kind::{DEEPEST, Type, type_of};
 use crate::load::{Load, load_all, text_of};
-use crate::value::{Value, value_of};
+use crate::value::{SchemaValue, value_of};
 use cp_fields::Pointee;
 use cp_frame::FrameReader;
 use cp_reading::View;
@@ -61,7 +61,7 @@ pub enum NodeKind {
     /// An enum, with the names of its values.
     Enum(Vec<String>),
     Interface(Interface),
-    Const(Constant),
+    Const(ConstNode),
     /// An annotation, or what a newer schema.capnp has.
     Other,
 }
@@ -77,7 +77,7 @@ pub struct Structure {
     pub tags: u16,
     /// Where the number of the member is that is set.
     pub tag_place: u32,
-    pub fields: Vec<Field>,
+    pub fields: Vec<StructField>,
 }
 
 /// An interface.
@@ -98,9 +98,9 @@ pub struct Method {
 
 /// A constant.
 #[derive(Drop)]
-pub struct Constant {
+pub struct ConstNode {
     pub of: Type,
-    pub value: Value,
+    pub value: SchemaValue,
 }
 
 impl Schema {
@@ -209,7 +209,7 @@ fn interface_of(alloc: Global, view: &NodeInterfaceView<'_>) -> Result<NodeKind,
 /// A constant.
 fn constant_of(alloc: Global, view: &NodeConstView<'_>) -> Result<NodeKind, RequestFault> {
     let of = type_of(&view.type_()?, DEEPEST)?;
-    Ok(NodeKind::Const(Constant {
+    Ok(NodeKind::Const(ConstNode {
         of,
         value: value_of(alloc, &view.value()?)?,
     }))

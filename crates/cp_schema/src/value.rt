@@ -8,7 +8,7 @@ use std::alloc::Global;
 
 /// The value of a constant, or a field's default.
 #[derive(Drop)]
-pub enum Value {
+pub enum SchemaValue {
     /// A number, a bool or a value of an enum, by its bits.
     Bits(u64),
     Text(String),
@@ -19,33 +19,33 @@ pub enum Value {
     Other,
 }
 
-impl Value {
+impl SchemaValue {
     /// Whether it is a pointer that reads otherwise than null.
     pub(crate) fn points(&self) -> bool {
         match self {
-            Value::Text(text) => !text.is_empty(),
-            Value::Data(bytes) => !bytes.is_empty(),
-            Value::Tree(_) => true,
-            Value::Bits(_) | Value::Other => false,
+            SchemaValue::Text(text) => !text.is_empty(),
+            SchemaValue::Data(bytes) => !bytes.is_empty(),
+            SchemaValue::Tree(_) => true,
+            SchemaValue::Bits(_) | SchemaValue::Other => false,
         }
     }
 }
 
 /// The value of a constant, or a field's default.
-pub(crate) fn value_of(alloc: Global, view: &ValueView<'_>) -> Result<Value, RequestFault> {
+pub(crate) fn value_of(alloc: Global, view: &ValueView<'_>) -> Result<SchemaValue, RequestFault> {
     match view.which() {
-        ValueWhich::Text => text_of(alloc, view.text()).map(Value::Text),
-        ValueWhich::Data => Ok(Value::Data(view.data_()?.to_vec(alloc)?)),
+        ValueWhich::Text => text_of(alloc, view.text()).map(SchemaValue::Text),
+        ValueWhich::Data => Ok(SchemaValue::Data(view.data_()?.to_vec(alloc)?)),
         ValueWhich::List => match view.list().tree(alloc)? {
-            list if is_empty(&list) => Ok(Value::Other),
-            list => Ok(Value::Tree(list)),
+            list if is_empty(&list) => Ok(SchemaValue::Other),
+            list => Ok(SchemaValue::Tree(list)),
         },
         ValueWhich::Struct | ValueWhich::AnyPointer => match view.list().tree(alloc)? {
-            Tree::Null => Ok(Value::Other),
-            tree => Ok(Value::Tree(tree)),
+            Tree::Null => Ok(SchemaValue::Other),
+            tree => Ok(SchemaValue::Tree(tree)),
         },
-        ValueWhich::Void | ValueWhich::Interface | ValueWhich::Unknown(_) => Ok(Value::Other),
-        _ => Ok(Value::Bits(bits_of(view))),
+        ValueWhich::Void | ValueWhich::Interface | ValueWhich::Unknown(_) => Ok(SchemaValue::Other),
+        _ => Ok(SchemaValue::Bits(bits_of(view))),
     }
 }
 

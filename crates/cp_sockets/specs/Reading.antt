@@ -1,7 +1,7 @@
 -- What is read of a stream.
 use Rattle.std.specs.Prelude.{ℕ, ◌≤◌}
-use Rattle.cp_sockets.specs.declared.wire.Got.{Got}
-use Rattle.cp_sockets.specs.declared.wire.Got.TheVariants as gots
+use Rattle.cp_sockets.specs.declared.nonblocking_stream.Got.{Got}
+use Rattle.cp_sockets.specs.declared.nonblocking_stream.Got.TheVariants as gots
 
 -- what was read fits a piece of this length
 abbrev pub Fits : Got → ℕ → Type 0

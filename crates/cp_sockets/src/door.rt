@@ -1,7 +1,7 @@
 //! A listener whose connections are taken without waiting.
 
 use crate::listener::{Listener, Peer};
-use crate::wire::Wire;
+use crate::nonblocking_stream::NonblockingStream;
 use mio::{Registry, Token};
 use std::io::{self, ErrorKind};
 
@@ -47,9 +47,9 @@ impl Door {
     }
 
     /// Takes the next connection that waits, if one does.
-    pub fn accept(&mut self) -> Option<(Wire, Peer)> {
+    pub fn accept(&mut self) -> Option<(NonblockingStream, Peer)> {
         match self.listener.accept() {
-            Ok((stream, peer)) => Some((Wire::new(stream), peer)),
+            Ok((stream, peer)) => Some((NonblockingStream::new(stream), peer)),
             Err(error) => {
                 self.note(error.kind());
                 None

@@ -5,12 +5,12 @@
 mod door;
 mod limits;
 mod listener;
+mod nonblocking_stream;
 mod seat;
 mod stream;
-mod wire;
 
 pub use door::Door;
 pub use limits::{Crowd, HostLimits};
 pub use listener::{Listener, Peer};
+pub use nonblocking_stream::{Got, NonblockingStream};
 pub use seat::{Limit, Phase, Ready, Seat};
-pub use wire::{Got, Wire};

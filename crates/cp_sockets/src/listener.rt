@@ -1,6 +1,6 @@
 //! What connections come to: an address, or a path.
 
-use crate::stream::Stream;
+use crate::stream::StreamSocket;
 use mio::net::{TcpListener, UnixListener};
 use mio::{Interest, Registry, Token};
 use std::fs::Files;
@@ -60,16 +60,16 @@ impl Listener {
     }
 
     /// The next connection. What is sent on it goes out at once, as the peer may wait for it.
-    pub(crate) fn accept(&self) -> io::Result<(Stream, Peer)> {
+    pub(crate) fn accept(&self) -> io::Result<(StreamSocket, Peer)> {
         match self {
             Listener::Tcp(listener) => {
                 let (stream, address) = listener.accept()?;
                 let _ = stream.set_nodelay(true);
-                Ok((Stream::Tcp(stream), Peer::Tcp(address)))
+                Ok((StreamSocket::Tcp(stream), Peer::Tcp(address)))
             }
             Listener::Unix(listener) => {
                 let (stream, _) = listener.accept()?;
-                Ok((Stream::Unix(stream), Peer::Unix))
+                Ok((StreamSocket::Unix(stream), Peer::Unix))
             }
         }
     }

@@ -7,44 +7,44 @@ use std::net::Shutdown;
 
 /// A connection's socket.
 #[derive(Drop)]
-pub(crate) enum Stream {
+pub(crate) enum StreamSocket {
     Tcp(TcpStream),
     Unix(UnixStream),
 }
 
-impl Stream {
+impl StreamSocket {
     /// Has its readiness reported under a token.
     pub(crate) fn register(&mut self, registry: &Registry, token: Token) -> io::Result<()> {
         let both = Interest::READABLE | Interest::WRITABLE;
         match self {
-            Stream::Tcp(stream) => registry.register(stream, token, both),
-            Stream::Unix(stream) => registry.register(stream, token, both),
+            StreamSocket::Tcp(stream) => registry.register(stream, token, both),
+            StreamSocket::Unix(stream) => registry.register(stream, token, both),
         }
     }
 
     /// Tells the peer that nothing more comes.
     pub(crate) fn shut(&self) -> io::Result<()> {
         match self {
-            Stream::Tcp(stream) => stream.shutdown(Shutdown::Write),
-            Stream::Unix(stream) => stream.shutdown(Shutdown::Write),
+            StreamSocket::Tcp(stream) => stream.shutdown(Shutdown::Write),
+            StreamSocket::Unix(stream) => stream.shutdown(Shutdown::Write),
         }
     }
 }
 
-impl Read for Stream {
+impl Read for StreamSocket {
     fn read(&mut self, buf: &mut [u8]) -> io::Result<usize> {
         match self {
-            Stream::Tcp(stream) => stream.read(buf),
-            Stream::Unix(stream) => stream.read(buf),
+            StreamSocket::Tcp(stream) => stream.read(buf),
+            StreamSocket::Unix(stream) => stream.read(buf),
         }
     }
 }
 
-impl Write for Stream {
+impl Write for StreamSocket {
     fn write(&mut self, buf: &[u8]) -> io::Result<usize> {
         match self {
-            Stream::Tcp(stream) => stream.write(buf),
-            Stream::Unix(stream) => stream.write(buf),
+            StreamSocket::Tcp(stream) => stream.write(buf),
+            StreamSocket::Unix(stream) => stream.write(buf),
         }
     }
 

@@ -3,8 +3,8 @@ use Rattle.std.proofs.Common.{◌≡◌, ℕ, ◌+◌, ◌*◌, ◌/◌, ◌≤�
 use Rattle.cp_words.specs.Word.{words_for}
 use Rattle.cp_words.specs.declared.pointer.Pointer.TheVariants as pointers
 use Rattle.cp_words.specs.declared.pointer.ElementSize.TheVariants as sizes
-use Rattle.cp_words.specs.declared.kind.Kind.{Kind}
-use Rattle.cp_words.specs.declared.kind.Kind.TheVariants as kinds
+use Rattle.cp_words.specs.declared.kind.BodyKind.{BodyKind}
+use Rattle.cp_words.specs.declared.kind.BodyKind.TheVariants as kinds
 use Rattle.cp_words.specs.Targets.{segment, Holds, HasBody}
 use Rattle.cp_reading.specs.Denotes.{Denotes, EachDenotes, EachBody}
 use Rattle.cp_writing.specs.Layout.{Filled, Capacity, Follows, FollowsLandingPad, Begins, IsEnd, Places, without_words, here, after_landing_pad, in_new, last_here, last_after_landing_pad, Lays, LaysRow, LaysBodies, Layout}
@@ -17,11 +17,11 @@ module _ (S : List (List ℕ)) where
   Within f = f.used ≤ length (segment S f.last)
 
   -- a body lies inside its segment, and what was filled before it does too
-  pub record Lies (s p : ℕ) (k : Kind) (size : ℕ) (before : Filled) (s' start : ℕ) : Type 0 where
+  pub record Lies (s p : ℕ) (k : BodyKind) (size : ℕ) (before : Filled) (s' start : ℕ) : Type 0 where
     pub located : HasBody S s p k size s' start
     pub earlier : Within before
 
-  module _ (capacity : Capacity) (s p : ℕ) (k : Kind) (size : ℕ) (before : Filled) (s' start : ℕ) (after : Filled) where
+  module _ (capacity : Capacity) (s p : ℕ) (k : BodyKind) (size : ℕ) (before : Filled) (s' start : ℕ) (after : Filled) where
     at_end : IsEnd S s before start → Within before → start ≤ length (segment S s)
     at_end (inl h) fits = subst (λ x. start ≤ length (segment S x)) (sym h.0) (omega (arith, h.1, fits))
     at_end (inr h) fits = omega (arith, h.1)

@@ -8,7 +8,7 @@ use Rattle.cp_messages.specs.declared.message.Message.{Message}
 use Rattle.cp_stream.specs.declared.fault.Refusal.{Refusal}
 use Rattle.cp_stream.specs.declared.fault.Refusal.TheVariants as refusals
 use Rattle.cp_stream.specs.declared.fault.StreamFault.TheVariants as faults
-use Rattle.cp_stream.specs.declared.status.Status.TheVariants as statuses
+use Rattle.cp_stream.specs.declared.status.ReaderStatus.TheVariants as statuses
 use Rattle.cp_stream.specs.Stream.{HasFault, Messages}
 use Rattle.cp_stream.specs.Reader.{Stands, IsReading, IsRefusing, IsMemory, IsReportedFor, IsReportedAtEnd, Gives, Reports, EndsWell, ReportsAtEnd, Reader}
 use Rattle.cp_stream.specs.Kept.{seen, frames_state, ReadsPiece, RefusesPiece}

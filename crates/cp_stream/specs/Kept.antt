@@ -11,8 +11,8 @@ use Rattle.cp_stream.specs.Stream.{HasFault}
 use Rattle.cp_stream.specs.Reader.{Reads, IsMemory, Reader, State, failed, refusing, reading}
 use Rattle.cp_stream.specs.declared.fault.Refusal.{Refusal}
 use Rattle.cp_stream.specs.declared.fault.Refusal.TheVariants as refusals
-use Rattle.cp_stream.specs.declared.status.Status.{Status}
-use Rattle.cp_stream.specs.declared.status.Status.TheVariants as statuses
+use Rattle.cp_stream.specs.declared.status.ReaderStatus.{ReaderStatus}
+use Rattle.cp_stream.specs.declared.status.ReaderStatus.TheVariants as statuses
 use Rattle.cp_stream.specs.declared.tap.Tap.{Tap}
 use Rattle.cp_stream.specs.Write.{Sends}
 
@@ -22,17 +22,17 @@ frames_state frames.failed = failed
 frames_state (frames.refusing fault) = refusing (refusals.Frame fault)
 frames_state (frames.reading rest taken) = reading rest taken
 
-abbrev pub state_of : Status → frames.State → State
+abbrev pub state_of : ReaderStatus → frames.State → State
 state_of statuses.Reading s = frames_state s
 state_of (statuses.Refusing refusal) s = refusing refusal
 state_of statuses.Failed s = failed
 
 -- a reader by its parts
-abbrev pub seen : Status → frames.Reader → ℕ → Reader
+abbrev pub seen : ReaderStatus → frames.Reader → ℕ → Reader
 seen status r at = record { mode = r.mode; limits = r.limits; state = state_of status r.state; at = at }
 
 -- while the stream is read, its frames are read within the same limits
-abbrev pub KeepsUp : Bounds → Status → frames.Reader → Type 0
+abbrev pub KeepsUp : Bounds → ReaderStatus → frames.Reader → Type 0
 KeepsUp limits statuses.Reading r = r.limits ≡ limits
 KeepsUp limits (statuses.Refusing refusal) r = Unit {0}
 KeepsUp limits statuses.Failed r = Unit {0}

@@ -7,7 +7,7 @@ ghost use Rattle.cp_stream.specs.Reader.{IsMemory, Gives, Reports};
 ghost use Rattle.cp_stream.specs.Kept.{seen, KeepsUp, ReadsOf, RefusesOf, ReadsPiece, RefusesPiece};
 
 use crate::fault::{Refusal, StreamFault, refused};
-use crate::status::Status;
+use crate::status::ReaderStatus;
 use crate::view::message_in;
 use cp_frame::{FrameFault, FrameReader};
 use cp_rpc::Message;
@@ -21,7 +21,7 @@ pub struct MessageReader {
     alloc: Global,
     limits: Limits,
     frames: FrameReader,
-    status: Status,
+    status: ReaderStatus,
     at: u64,
 }
 
@@ -53,7 +53,7 @@ impl Model for MessageReader {
 impl MessageReader {
     ghost use Rattle.std.specs.Prelude.{◌≡◌, OnOk, IfOk, IfErr, []};
     ghost use Rattle.cp_frame.specs.declared.mode.Mode.TheVariants.{Plain, Packed};
-    ghost use Rattle.cp_stream.specs.declared.status.Status.TheVariants.{Reading};
+    ghost use Rattle.cp_stream.specs.declared.status.ReaderStatus.TheVariants.{Reading};
     ghost use Rattle.cp_stream.specs.Kept.{seen};
     ghost use Rattle.cp_stream.specs.Reader.{StandsFor, Gives, Reports, EndsWell, ReportsAtEnd, new_reader};
 
@@ -66,7 +66,7 @@ impl MessageReader {
             alloc,
             limits,
             frames,
-            status: Status::Reading,
+            status: ReaderStatus::Reading,
             at: 0,
         }
     }
@@ -117,15 +117,15 @@ impl MessageReader {
         ensures reported { IfErr result (ReportsAtEnd self.old self.new) }
     {
         match self.status {
-            Status::Failed => Err(refused(self.at, Refusal::Frame(FrameFault::Failed))),
-            Status::Refusing(refusal) => {
-                self.status = Status::Failed;
+            ReaderStatus::Failed => Err(refused(self.at, Refusal::Frame(FrameFault::Failed))),
+            ReaderStatus::Refusing(refusal) => {
+                self.status = ReaderStatus::Failed;
                 Err(refused(self.at, refusal))
             }
-            Status::Reading => match self.frames.finish() {
+            ReaderStatus::Reading => match self.frames.finish() {
                 Ok(()) => Ok(()),
                 Err(fault) => {
-                    self.status = Status::Failed;
+                    self.status = ReaderStatus::Failed;
                     Err(refused(self.at, Refusal::Frame(fault)))
                 }
             },
@@ -138,7 +138,7 @@ fn read_piece(
     alloc: Global,
     limits: Limits,
     frames: &mut FrameReader,
-    status: &mut Status,
+    status: &mut ReaderStatus,
     at: &mut u64,
     piece: &[u8],
 ) -> Result<Vec<Message>, StreamFault>
@@ -148,12 +148,12 @@ fn read_piece(
     ensures reported { IfErr result (Reports (seen status.old frames.old at.old) piece.now (seen status.new frames.new at.new)) }
 {
     match *status {
-        Status::Failed => return Err(refused(*at, Refusal::Frame(FrameFault::Failed))),
-        Status::Refusing(refusal) => {
-            *status = Status::Failed;
+        ReaderStatus::Failed => return Err(refused(*at, Refusal::Frame(FrameFault::Failed))),
+        ReaderStatus::Refusing(refusal) => {
+            *status = ReaderStatus::Failed;
             return Err(refused(*at, refusal));
         }
-        Status::Reading => {}
+        ReaderStatus::Reading => {}
     }
     let mut messages = Vec::new(alloc);
     let mut reached = *at;
@@ -164,10 +164,10 @@ fn read_piece(
         }
         Err(refusal) => {
             if refusal.is_memory() || messages.is_empty() {
-                *status = Status::Failed;
+                *status = ReaderStatus::Failed;
                 return Err(refused(*at, refusal));
             }
-            *status = Status::Refusing(refusal);
+            *status = ReaderStatus::Refusing(refusal);
             *at = reached;
             Ok(messages)
         }

@@ -4,7 +4,7 @@ use crate::fault::Refusal;
 
 /// Whether a reader reads on.
 #[derive(Clone, Copy)]
-pub(crate) enum Status {
+pub(crate) enum ReaderStatus {
     /// The stream is read on.
     Reading,
     /// A frame after messages that were given holds none: this is reported next.

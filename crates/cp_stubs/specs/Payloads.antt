@@ -2,12 +2,12 @@
 use Rattle.std.specs.Prelude.{◌≡◌, Result, Ok, Err}
 use Rattle.cp_refs.specs.declared.outcome.Outcome.{Outcome}
 use Rattle.cp_refs.specs.declared.outcome.Outcome.TheVariants as outcomes
-use Rattle.cp_stubs.specs.declared.payload.Payload.{Payload}
+use Rattle.cp_stubs.specs.declared.payload.ResultPayload.{ResultPayload}
 use Rattle.cp_stubs.specs.declared.fault.NoResults.{NoResults}
 use Rattle.cp_stubs.specs.declared.fault.NoResults.TheVariants as faults
 
 -- an outcome is these results, or no results for this reason
-abbrev pub Comes : Outcome → Result Payload NoResults → Type 0
+abbrev pub Comes : Outcome → Result ResultPayload NoResults → Type 0
 Comes outcome (Ok results) = outcome ≡ outcomes.Results results.content results.caps
 Comes outcome (Err (faults.Failed exception)) = outcome ≡ outcomes.Failed exception
 Comes outcome (Err faults.Canceled) = outcome ≡ outcomes.Canceled

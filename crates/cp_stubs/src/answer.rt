@@ -8,7 +8,7 @@ ghost use Rattle.cp_stubs.specs.Calls.{import_of};
 
 use crate::replies::{at_once, outcome_of};
 use crate::table::Table;
-use crate::target::Target;
+use crate::target::CallTarget;
 use cp_refs::Caps;
 use cp_servants::Reply;
 use cp_tree::Whole;
@@ -76,7 +76,7 @@ impl<D: Drop> Answer<D> {
     }
 
     /// The same, where the object keeps this capability of the params.
-    pub fn keeping(self, target: &Target) -> Result<Answer<D>, AllocError>
+    pub fn keeping(self, target: &CallTarget) -> Result<Answer<D>, AllocError>
         ensures { IfOk result (λ answer. answer ≡ keeping (import_of target.now) self) }
     {
         match self {

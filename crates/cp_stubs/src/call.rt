@@ -7,23 +7,23 @@ use cp_fields::{Pointee, StructView, WrongKind};
 use cp_refs::{Caps, Request};
 
 /// A call of a method.
-pub struct Call {
+pub struct MethodCall {
     /// No other call of the connection has it. An answer that is given later names it.
     pub ticket: u64,
     pub request: Request,
 }
 
 // Not derived: a crate that lets one go calls this function, and need not prove the drop of all that it holds.
-impl Drop for Call {
+impl Drop for MethodCall {
     fn drop(self) {
-        let Call {
+        let MethodCall {
             ticket: _,
             request: _,
         } = self;
     }
 }
 
-impl Call {
+impl MethodCall {
     /// The struct of its params.
     pub fn params(&self) -> Result<StructView<'_>, WrongKind>
         ensures { result ≡ struct_field self.now.request.content }

@@ -14,13 +14,13 @@ mod table;
 mod target;
 
 pub use answer::{Answer, Results};
-pub use call::Call;
+pub use call::MethodCall;
 pub use caller::Caller;
 pub use fault::{CapFault, MethodFault, NoResults};
-pub use object::Object;
-pub use payload::{Payload, payload_of};
+pub use object::ServerObject;
+pub use payload::{ResultPayload, payload_of};
 pub use promised::Promised;
 pub use replies::{refuse, reply, results};
 pub use stream::{StreamResultDraft, StreamResultPromise};
 pub use table::Table;
-pub use target::Target;
+pub use target::CallTarget;

@@ -9,8 +9,8 @@ use cp_servants::{Ask, Settled};
 use std::alloc::AllocError;
 
 /// An object that has the methods of an interface, and what else a `Servant` may do. An object that answers each call at
-/// once, and makes none, has `impl Object for .. {}`.
-pub trait Object: Drop {
+/// once, and makes none, has `impl ServerObject for .. {}`.
+pub trait ServerObject: Drop {
     /// What objects of this kind do, calls aside: what these do is said method by method. Of an object that doesn't say it
     /// nothing is known.
     ghost kind: { Kind Self } = { any };

@@ -10,22 +10,22 @@ use cp_refs::{Caps, Outcome};
 use cp_tree::Whole;
 
 /// The results of a call, with the table of the capabilities that they name.
-pub struct Payload {
+pub struct ResultPayload {
     pub content: Whole,
     pub caps: Caps,
 }
 
 // Not derived: a crate that lets one go calls this function, and need not prove the drop of all that it holds.
-impl Drop for Payload {
+impl Drop for ResultPayload {
     fn drop(self) {
-        let Payload {
+        let ResultPayload {
             content: _,
             caps: _,
         } = self;
     }
 }
 
-impl Payload {
+impl ResultPayload {
     /// The struct of the results.
     pub fn results(&self) -> Result<StructView<'_>, WrongKind>
         ensures { result ≡ struct_field self.now.content }
@@ -35,11 +35,11 @@ impl Payload {
 }
 
 /// The results that an outcome is, or why it is none.
-pub fn payload_of(outcome: Outcome) -> Result<Payload, NoResults>
+pub fn payload_of(outcome: Outcome) -> Result<ResultPayload, NoResults>
     ensures { Comes outcome result }
 {
     match outcome {
-        Outcome::Results { content, caps } => Ok(Payload { content, caps }),
+        Outcome::Results { content, caps } => Ok(ResultPayload { content, caps }),
         Outcome::Failed(exception) => Err(NoResults::Failed(exception)),
         Outcome::Canceled => Err(NoResults::Canceled),
     }

@@ -4,7 +4,7 @@ ghost use Rattle.std.specs.Prelude.{◌≡◌, ◌++◌, ◌∷◌, [], IfOk};
 ghost use Rattle.cp_refs.specs.declared.cap.Cap.TheVariants.{Pipelined};
 ghost use Rattle.cp_stubs.specs.Promises.{promise_of, along};
 
-use crate::target::Target;
+use crate::target::CallTarget;
 use cp_refs::{Cap, Path};
 use std::alloc::{AllocError, Global};
 use std::marker::Model;
@@ -69,11 +69,11 @@ impl Promised {
     }
 
     /// What a pointer field of it will be, as a capability that may be called at once.
-    pub fn target(&self, field: u16) -> Result<Target, AllocError>
+    pub fn target(&self, field: u16) -> Result<CallTarget, AllocError>
         ensures { IfOk result (λ t. t ≡ Pipelined self.now.question (self.now.path ++ field ∷ [])) }
     {
         let path = Path::new(self.path_to(field)?);
-        Ok(Target::new(self.alloc, Cap::Pipelined(self.question, path)))
+        Ok(CallTarget::new(self.alloc, Cap::Pipelined(self.question, path)))
     }
 
     /// The path to a pointer field.

@@ -6,7 +6,7 @@ ghost use Rattle.cp_servants.specs.declared.servant.Reply.TheVariants.{Now};
 ghost use Rattle.cp_stubs.specs.Replies.{reply_to, refusal_of, given_up, noted_but};
 
 use crate::answer::{Answer, Results};
-use crate::call::Call;
+use crate::call::MethodCall;
 use crate::fault::MethodFault;
 use crate::table::Table;
 use cp_refs::{Cap, Caps, Outcome};
@@ -17,7 +17,7 @@ use std::alloc::{AllocError, Global};
 /// What goes to the peer for what a method answered. `Err`: memory ran out.
 pub fn reply<D: Results>(
     alloc: Global,
-    call: &Call,
+    call: &MethodCall,
     answered: Result<Answer<D>, MethodFault>,
 ) -> Result<Reply, AllocError>
     ensures { IfOk result (λ reply. reply_to D.content call.now.request.caps answered ≡ Some reply) }
@@ -29,7 +29,7 @@ pub fn reply<D: Results>(
 }
 
 /// What goes to the peer for a call that a method, or the dispatch, has no results for. `Err`: memory ran out.
-pub fn refuse(alloc: Global, call: &Call, fault: MethodFault) -> Result<Reply, AllocError>
+pub fn refuse(alloc: Global, call: &MethodCall, fault: MethodFault) -> Result<Reply, AllocError>
     ensures { IfOk result (λ reply. refusal_of call.now.request.caps fault ≡ Some reply) }
 {
     let outcome = Outcome::Failed(fault.exception(alloc)?);

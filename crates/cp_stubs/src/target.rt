@@ -15,12 +15,12 @@ use std::alloc::{AllocError, Global};
 use std::marker::Model;
 
 /// A capability that is called. Contracts see it as the capability.
-pub struct Target {
+pub struct CallTarget {
     alloc: Global,
     cap: Cap,
 }
 
-impl Model for Target {
+impl Model for CallTarget {
     ghost use Rattle.cp_refs.specs.declared.cap.Cap.{Cap};
     ghost use Rattle.cp_refs.specs.contracts.cap.Cap.{the_row};
 
@@ -32,28 +32,32 @@ impl Model for Target {
 }
 
 // Not derived: a crate that lets one go calls this function, and need not prove the drop of all that it holds.
-impl Drop for Target {
+impl Drop for CallTarget {
     fn drop(self) {
-        let Target { alloc: _, cap: _ } = self;
+        let CallTarget { alloc: _, cap: _ } = self;
     }
 }
 
-impl Target {
+impl CallTarget {
     /// This capability.
-    pub fn new(alloc: Global, cap: Cap) -> Target
+    pub fn new(alloc: Global, cap: Cap) -> CallTarget
         ensures { result ≡ cap }
     {
-        Target { alloc, cap }
+        CallTarget { alloc, cap }
     }
 
     /// The capability that a field names, by its place in the table that goes with the field's message. A field that names
     /// none, or none of the table, is null.
-    pub fn of_field(alloc: Global, place: Option<u32>, caps: &Caps) -> Result<Target, AllocError>
+    pub fn of_field(
+        alloc: Global,
+        place: Option<u32>,
+        caps: &Caps,
+    ) -> Result<CallTarget, AllocError>
         ensures { IfOk result (λ t. t ≡ named place caps.now) }
     {
         match place {
-            Some(place) => Target::at(alloc, place, caps),
-            None => Ok(Target::new(alloc, Cap::None)),
+            Some(place) => CallTarget::at(alloc, place, caps),
+            None => Ok(CallTarget::new(alloc, Cap::None)),
         }
     }
 
@@ -68,15 +72,15 @@ impl Target {
     pub fn into_cap(self) -> Cap
         ensures { result ≡ self }
     {
-        let Target { alloc: _, cap } = self;
+        let CallTarget { alloc: _, cap } = self;
         cap
     }
 
     /// An equal one.
-    pub fn copy(&self) -> Result<Target, AllocError>
+    pub fn copy(&self) -> Result<CallTarget, AllocError>
         ensures { IfOk result (λ t. t ≡ self.now) }
     {
-        Ok(Target::new(self.alloc, self.cap.copy(self.alloc)?))
+        Ok(CallTarget::new(self.alloc, self.cap.copy(self.alloc)?))
     }
 
     /// The import that it is, if it is one: an object keeps it, and a client releases it.
@@ -136,12 +140,12 @@ impl Target {
     }
 
     /// The capability at a place of a table. Past the table it is null.
-    fn at(alloc: Global, place: u32, caps: &Caps) -> Result<Target, AllocError>
+    fn at(alloc: Global, place: u32, caps: &Caps) -> Result<CallTarget, AllocError>
         ensures { IfOk result (λ t. t ≡ slice_index_or caps.now place None) }
     {
         match caps.caps().get(place as usize) {
-            Some(cap) => Ok(Target::new(alloc, cap.copy(alloc)?)),
-            None => Ok(Target::new(alloc, Cap::None)),
+            Some(cap) => Ok(CallTarget::new(alloc, cap.copy(alloc)?)),
+            None => Ok(CallTarget::new(alloc, Cap::None)),
         }
     }
 }

@@ -8,7 +8,7 @@ use cp_tree::Whole;
 use std::alloc::{AllocError, Global};
 
 /// A content that came with a message, owned or read in place.
-pub(crate) trait Content: Drop {
+pub(crate) trait ReceivedContent: Drop {
     ghost seen: { Self → Node };
 
     /// The content, owned. Only one that is read in place takes memory.
@@ -16,7 +16,7 @@ pub(crate) trait Content: Drop {
         ensures { IfOk result (λ w. w ≡ seen self) };
 }
 
-impl Content for Whole {
+impl ReceivedContent for Whole {
     ghost seen = { λ w. w };
 
     fn whole(self, _alloc: Global) -> Result<Whole, AllocError> {
@@ -24,7 +24,7 @@ impl Content for Whole {
     }
 }
 
-impl<'a> Content for View<'a> {
+impl<'a> ReceivedContent for View<'a> {
     ghost seen = { λ v. v };
 
     fn whole(self, alloc: Global) -> Result<Whole, AllocError> {

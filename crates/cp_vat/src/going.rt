@@ -9,7 +9,7 @@ ghost use Rattle.cp_vat_rules.specs.Going.{MayGo, underway_of};
 ghost use Rattle.cp_vat.specs.Doing.{ActsOn};
 ghost use Rattle.cp_vat.specs.Ways.{GoMarked, GoesBy, WayEnds, kind_of, seen, value_kind};
 
-use cp_refs::{Cap, Gate, Path, Question, QuestionKind, Route, Values};
+use cp_refs::{Cap, Gate, Path, QuestionKind, QuestionState, Route, Values};
 use cp_rpc::{Context, Disembargo, Message, Target};
 use cp_vat_machine::Effect;
 use cp_vat_rules::go::{Underway, go, go_to};
@@ -78,7 +78,7 @@ pub(crate) fn go_from(
 
 fn path_reference(
     alloc: Global,
-    question: Option<&Question>,
+    question: Option<&QuestionState>,
     path: &Path,
 ) -> Result<Standing, AllocError>
     ensures { IfOk result (λ r. seen r ≡ question_reference path.now (option_copied question.entry)) }

@@ -18,7 +18,7 @@ ghost use Rattle.cp_vat.specs.Lending.{ActsLending, deliveries};
 ghost use Rattle.cp_vat.specs.Receiving.{Carries, HoldsWithin, Leads, LeadsBy, with_content};
 
 use crate::checks::check_call;
-use crate::content::Content;
+use crate::content::ReceivedContent;
 use crate::lent::Lent;
 use crate::on_bootstrap::open_answer;
 use cp_reading::View;
@@ -42,7 +42,7 @@ struct Arrival {
 
 /// A Call is taken in, and goes by its route. Its content comes beside it. One that is read in place is made last,
 /// once it is known where the call goes.
-pub(crate) fn on_call<C: Content>(
+pub(crate) fn on_call<C: ReceivedContent>(
     core: &mut Core,
     call: Call,
     content: C,
@@ -112,7 +112,7 @@ fn arrive(core: &mut Core, call: &Call) -> Result<Arrival, Halt>
 }
 
 /// A Call that was taken in goes by its route.
-fn go_on<C: Content>(
+fn go_on<C: ReceivedContent>(
     core: &mut Core,
     call: &Call,
     arrival: Arrival,
@@ -161,7 +161,11 @@ fn lend<'a>(
 }
 
 /// The content that a call carries which takes this route. One that fails needs none.
-fn content_for<C: Content>(alloc: Global, route: &Route, content: C) -> Result<Whole, AllocError>
+fn content_for<C: ReceivedContent>(
+    alloc: Global,
+    route: &Route,
+    content: C,
+) -> Result<Whole, AllocError>
     ensures { IfOk result (Carries route.now (C.seen content)) }
 {
     match route {

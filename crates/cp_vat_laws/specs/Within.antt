@@ -17,7 +17,7 @@ use Rattle.cp_refs.specs.declared.call.Origin.{Origin}
 use Rattle.cp_refs.specs.declared.call.Origin.TheVariants as origins
 use Rattle.cp_refs.specs.declared.outcome.Outcome.{Outcome}
 use Rattle.cp_refs.specs.declared.route.Gate.{Gate}
-use Rattle.cp_refs.specs.declared.values.Question.{Question}
+use Rattle.cp_refs.specs.declared.values.QuestionState.{QuestionState}
 use Rattle.cp_vat_machine.specs.State.{State, gave}
 use Rattle.cp_vat_machine.specs.Go.{Underway}
 use Rattle.cp_vat_machine.specs.InUse.{caps_of, is_pipelined, is_pipelined_of, is_at_question, is_unsettled, is_local_path}
@@ -55,7 +55,7 @@ pub record AreValues (P : Cap → Type 0) (values : ValueMaps) : Type 0 where
   pub promises : (p : ℕ) (value : Cap) → get values.promises p ≡ Some (Some value) → P value
   pub imports : (i : ℕ) (value : Cap) → get values.imports i ≡ Some (Some value) → P value
   pub answers : (a : ℕ) (outcome : Outcome) → get values.answers a ≡ Some (Some outcome) → AllByRecursion P (caps_of outcome)
-  pub questions : (q : ℕ) (question : Question) (outcome : Outcome) → get values.questions q ≡ Some question → question.outcome ≡ Some outcome
+  pub questions : (q : ℕ) (question : QuestionState) (outcome : Outcome) → get values.questions q ≡ Some question → question.outcome ≡ Some outcome
       → AllByRecursion P (caps_of outcome)
 
 -- and what waiting calls, embargoes and exports name
@@ -91,7 +91,7 @@ pub record Within (s : State) (hand : Option Origin) (next : List Tied) : Type 0
   -- under the number of a gate that is over nothing is open, and what it gave is fit to be a value
   pub over_answers : (a : ℕ) (outcome : Outcome) → get s.waiting.over.answers a ≡ Some outcome → get s.values.answers a ≡ Some None → ⊥
   pub over_promises : (p : ℕ) (value : Cap) → get s.waiting.over.promises p ≡ Some value → get s.values.promises p ≡ Some None → ⊥
-  pub over_questions : (q : ℕ) (outcome : Outcome) (question : Question) → get s.waiting.over.questions q ≡ Some outcome
+  pub over_questions : (q : ℕ) (outcome : Outcome) (question : QuestionState) → get s.waiting.over.questions q ≡ Some outcome
       → get s.values.questions q ≡ Some question → question.outcome ≡ None → ⊥
   pub over_embargoes : (n : ℕ) (value : Cap) → get s.waiting.over.embargoes n ≡ Some value → get s.marks.embargoes n ≡ None
   pub gifts : (gate : Gate) (cap : Cap) → gave s.waiting.over gate ≡ Some cap → IsFit s cap

@@ -12,7 +12,7 @@ use Rattle.cp_refs.specs.declared.cap.Cap.{Cap}
 use Rattle.cp_refs.specs.declared.cap.Cap.TheVariants as caps
 use Rattle.cp_refs.specs.declared.call.WaitingCall.{WaitingCall}
 use Rattle.cp_refs.specs.declared.outcome.Outcome.{Outcome}
-use Rattle.cp_refs.specs.declared.values.Question.{Question}
+use Rattle.cp_refs.specs.declared.values.QuestionState.{QuestionState}
 use Rattle.cp_vat_machine.specs.State.{new_state}
 use Rattle.cp_vat_machine.specs.Calling.{mark_of}
 use Rattle.cp_vat_machine.specs.Local.{Local, all_caps, values_kept, tied_in}
@@ -29,14 +29,14 @@ no_caps one =
     rw (
       no_entries {X = Option Cap} nat_cmp,
       no_entries {X = Option Outcome} nat_cmp,
-      no_entries {X = Question} nat_cmp,
+      no_entries {X = QuestionState} nat_cmp,
       no_entries {X = WaitingCall} nat_cmp,
       no_entries {X = Cap} nat_cmp,
       no_entries {X = Counted Cap} nat_cmp,
     ) refl
 
 no_values : (one : Option ℕ) → values_kept (new_state one) ≡ []
-no_values one = rw (no_entries {X = Option Cap} nat_cmp, no_entries {X = Option Outcome} nat_cmp, no_entries {X = Question} nat_cmp) refl
+no_values one = rw (no_entries {X = Option Cap} nat_cmp, no_entries {X = Option Outcome} nat_cmp, no_entries {X = QuestionState} nat_cmp) refl
 
 no_tied : (one : Option ℕ) (p : ℕ) → tied_in (new_state one) p ≡ 0
 no_tied one p = rw (no_entries {X = Exchange AnswerEntry} nat_cmp) refl
@@ -74,7 +74,7 @@ new_local one =
       no_paths = rw (no_values one) tt;
       finished = λ q. rw (get-empty {X = Exchange QuestionEntry} nat_cmp q) tt;
       answers_valued = λ a. rw (get-empty {X = Exchange AnswerEntry} nat_cmp a, get-empty {X = Option Outcome} nat_cmp a) tt;
-      questions_valued = λ q. rw (get-empty {X = Exchange QuestionEntry} nat_cmp q, get-empty {X = Question} nat_cmp q) tt;
+      questions_valued = λ q. rw (get-empty {X = Exchange QuestionEntry} nat_cmp q, get-empty {X = QuestionState} nat_cmp q) tt;
       imports_valued = λ i. rw (get-empty {X = Counted ImportKind} nat_cmp i, get-empty {X = Option Cap} nat_cmp i) refl;
       import_marks = λ i. rw (get-empty {X = Option ℕ} nat_cmp i) tt;
       path_marks = λ key. rw (get-empty {X = Option ℕ} (slice_cmp nat_cmp) key) tt;

@@ -16,7 +16,7 @@ use Rattle.cp_refs.specs.declared.call.Request.{Request}
 use Rattle.cp_refs.specs.declared.outcome.Outcome.{Outcome}
 use Rattle.cp_refs.specs.declared.route.Gate.TheVariants as gates
 use Rattle.cp_refs.specs.declared.route.Route.TheVariants as routes
-use Rattle.cp_refs.specs.declared.values.Question.{Question}
+use Rattle.cp_refs.specs.declared.values.QuestionState.{QuestionState}
 use Rattle.cp_refs.specs.declared.values.QuestionKind.{QuestionKind}
 use Rattle.cp_refs.specs.declared.values.QuestionKind.TheVariants as kinds
 use Rattle.cp_vat_machine.specs.State.{State}
@@ -51,7 +51,7 @@ path_reference path kinds.Wire None = on_wire
 path_reference path kinds.Local None = plain
 path_reference path kind (Some outcome) = came_to (cap_at outcome path)
 
-abbrev pub question_reference : List ℕ → Option Question → Standing
+abbrev pub question_reference : List ℕ → Option QuestionState → Standing
 question_reference path None = plain
 question_reference path (Some question) = path_reference path question.kind question.outcome
 

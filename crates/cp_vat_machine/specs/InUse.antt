@@ -12,7 +12,7 @@ use Rattle.cp_refs.specs.declared.outcome.Outcome.{Outcome}
 use Rattle.cp_refs.specs.declared.outcome.Outcome.TheVariants as outcomes
 use Rattle.cp_refs.specs.declared.route.Gate.{Gate}
 use Rattle.cp_refs.specs.declared.route.Gate.TheVariants as gates
-use Rattle.cp_refs.specs.declared.values.Question.{Question}
+use Rattle.cp_refs.specs.declared.values.QuestionState.{QuestionState}
 use Rattle.cp_refs.specs.declared.values.QuestionKind.{QuestionKind}
 use Rattle.cp_refs.specs.declared.values.QuestionKind.TheVariants as kinds
 use Rattle.cp_vat_machine.specs.State.{State}
@@ -135,7 +135,7 @@ abbrev pub is_open_here : QuestionKind → Option Outcome → Bool
 is_open_here kinds.Local None = true
 is_open_here kind outcome = false
 
-abbrev pub is_question_here : Option Question → Bool
+abbrev pub is_question_here : Option QuestionState → Bool
 is_question_here None = false
 is_question_here (Some question) = is_open_here question.kind question.outcome
 

@@ -18,7 +18,7 @@ use Rattle.cp_refs.specs.declared.call.Origin.TheVariants as origins
 use Rattle.cp_refs.specs.declared.outcome.Outcome.{Outcome}
 use Rattle.cp_refs.specs.declared.route.Gate.{Gate}
 use Rattle.cp_refs.specs.declared.route.Gate.TheVariants as gates
-use Rattle.cp_refs.specs.declared.values.Question.{Question}
+use Rattle.cp_refs.specs.declared.values.QuestionState.{QuestionState}
 use Rattle.cp_refs.specs.declared.values.QuestionKind.{QuestionKind}
 use Rattle.cp_refs.specs.declared.values.QuestionKind.TheVariants as kinds
 use Rattle.cp_vat_machine.specs.State.{State, none_over}
@@ -144,12 +144,12 @@ AnswerIs None None = Unit {0}
 AnswerIs (Some entry) (Some outcome) = IsValued entry.stage (is_some outcome)
 AnswerIs entry outcome = ⊥
 
-abbrev pub OwnIs : Option ℕ → Stage → Option Question → Type 0
+abbrev pub OwnIs : Option ℕ → Stage → Option QuestionState → Type 0
 OwnIs None stage (Some question) = IsValued stage (is_some question.outcome)
 OwnIs (Some a) stage None = Unit {0}
 OwnIs forwards stage question = ⊥
 
-abbrev pub QuestionIs : Option (Exchange QuestionEntry) → Option Question → Type 0
+abbrev pub QuestionIs : Option (Exchange QuestionEntry) → Option QuestionState → Type 0
 QuestionIs None None = Unit {0}
 QuestionIs None (Some question) = ⊥
 QuestionIs (Some entry) question = OwnIs entry.kept.forwards entry.stage question
@@ -167,7 +167,7 @@ abbrev pub given_at : Option Outcome → List ℕ → Option Cap
 given_at None path = None
 given_at (Some outcome) path = Some (cap_at outcome path)
 
-abbrev pub path_value : Option Question → List ℕ → Option Cap
+abbrev pub path_value : Option QuestionState → List ℕ → Option Cap
 path_value None path = None
 path_value (Some question) path = given_at question.outcome path
 
@@ -176,7 +176,7 @@ abbrev pub is_wire_kind : QuestionKind → Bool
 is_wire_kind kinds.Wire = true
 is_wire_kind kinds.Local = false
 
-abbrev pub is_wire : Option Question → Bool
+abbrev pub is_wire : Option QuestionState → Bool
 is_wire None = false
 is_wire (Some question) = is_wire_kind question.kind
 

@@ -9,7 +9,7 @@ use Rattle.cp_refs.specs.declared.cap.Cap.{Cap}
 use Rattle.cp_refs.specs.declared.call.WaitingCall.{WaitingCall}
 use Rattle.cp_refs.specs.declared.call.Origin.{Origin}
 use Rattle.cp_refs.specs.declared.call.Origin.TheVariants as origins
-use Rattle.cp_refs.specs.declared.values.Question.{Question}
+use Rattle.cp_refs.specs.declared.values.QuestionState.{QuestionState}
 use Rattle.cp_vat_machine.specs.State.{new_state}
 use Rattle.cp_vat_machine.specs.Calling.{plain, reference_of}
 use Rattle.cp_vat_machine.specs.Waits.{WaitRightly}
@@ -31,7 +31,7 @@ new_looped one other n = rw (get-empty {X = Cap} nat_cmp n) refl
 
 no_reference : (one : Option ℕ) (ref : Reference) → reference_of (new_state one).values (cap_of ref) ≡ plain
 no_reference one (import_ i) = rw (get-empty {X = Option Cap} nat_cmp i) refl
-no_reference one (path_to q path) = rw (get-empty {X = Question} nat_cmp q) refl
+no_reference one (path_to q path) = rw (get-empty {X = QuestionState} nat_cmp q) refl
 
 new_whole : (one other : Option ℕ) → IsWhole (new_end one) (new_end other) [] []
 new_whole one other = rw (no_entries {X = WaitingCall} nat_cmp) refl
@@ -39,7 +39,7 @@ new_whole one other = rw (no_entries {X = WaitingCall} nat_cmp) refl
 -- of each end
 pub new_absent : (one other : Option ℕ) (ref : Reference) → IsAbsent (new_state one) (new_state other) ref
 new_absent one other (import_ i) = (get-empty {X = Option Cap} nat_cmp i, get-empty {X = Counted Cap} nat_cmp i)
-new_absent one other (path_to q path) = get-empty {X = Question} nat_cmp q
+new_absent one other (path_to q path) = get-empty {X = QuestionState} nat_cmp q
 
 pub new_lanes : (one other : Option ℕ) (ref : Reference) → LaneHolds (new_end one) (new_end other) ref [] []
 new_lanes one other ref =

@@ -16,7 +16,7 @@ use Rattle.cp_refs.specs.declared.outcome.Outcome.{Outcome}
 use Rattle.cp_refs.specs.declared.route.Gate.{Gate}
 use Rattle.cp_refs.specs.declared.route.Route.{Route}
 use Rattle.cp_refs.specs.declared.route.Route.TheVariants as routes
-use Rattle.cp_refs.specs.declared.values.Question.{Question}
+use Rattle.cp_refs.specs.declared.values.QuestionState.{QuestionState}
 use Rattle.cp_vat_machine.specs.State.{State, gave}
 use Rattle.cp_vat_machine.specs.Then.{Done}
 use Rattle.cp_vat_machine.specs.Give.{Settle}
@@ -56,7 +56,7 @@ IsNoPortOf q other = Unit {0}
 
 pub record NobodyWaitsFor (s : State) (ports : Table Port) (q : ℕ) : Type 0 where
   pub values : (p : ℕ) (value : Cap) → get s.values.promises p ≡ Some (Some value) → is_pipelined_of q value ≡ false
-  pub results : (r : ℕ) (question : Question) (outcome : Outcome) (path : List ℕ) → get s.values.questions r ≡ Some question → question.outcome ≡ Some outcome
+  pub results : (r : ℕ) (question : QuestionState) (outcome : Outcome) (path : List ℕ) → get s.values.questions r ≡ Some question → question.outcome ≡ Some outcome
       → is_pipelined_of q (cap_at outcome path) ≡ false
   pub gifts : (gate : Gate) (cap : Cap) → gave s.waiting.over gate ≡ Some cap → is_pipelined_of q cap ≡ false
   pub calls : (ticket : ℕ) → IfSome (get s.waiting.calls ticket) (λ call. (is_at_question q call.gate ≡ false) × IsNoPortOf q (get ports ticket))
@@ -64,7 +64,7 @@ pub record NobodyWaitsFor (s : State) (ports : Table Port) (q : ℕ) : Type 0 wh
 -- a question without an outcome, or one that was finished and that nobody waits for
 abbrev pub IsOpenQuestion : State → Table Port → ℕ → Stage → Type 0
 IsOpenQuestion s ports q stages.Finished = NobodyWaitsFor s ports q
-IsOpenQuestion s ports q other = (question : Question) × (get s.values.questions q ≡ Some question) × (question.outcome ≡ None)
+IsOpenQuestion s ports q other = (question : QuestionState) × (get s.values.questions q ≡ Some question) × (question.outcome ≡ None)
 
 -- Nothing was given yet to whom a call's outcome is for, and the promises tied to its answer are open.
 abbrev pub IsUngiven : State → Table Port → Origin → Type 0

@@ -6,7 +6,7 @@ ghost use Rattle.cp_refs.specs.Route.{HasRoute, missing, question_way, way};
 ghost use Rattle.cp_vat_machine.specs.Writing.{ResolvesTo};
 ghost use Rattle.cp_vat_rules.specs.Leading.{LeadsTo};
 
-use cp_refs::{Cap, Path, Question, Values};
+use cp_refs::{Cap, Path, QuestionState, Values};
 use std::alloc::{AllocError, Global};
 
 /// What a capability comes to: the first one on its way that is neither a settled promise nor a path
@@ -19,8 +19,8 @@ pub fn resolve_cap(alloc: Global, values: &Values, cap: &Cap) -> Result<Cap, All
     let mut reached = Waypoint::new(values, cap.copy(alloc)?);
     loop {
         match reached.on(alloc)? {
-            Pace::Ends(last) => return Ok(last),
-            Pace::Leads(next) => reached = next,
+            WaypointStep::Ends(last) => return Ok(last),
+            WaypointStep::Leads(next) => reached = next,
         }
     }
 }
@@ -35,7 +35,7 @@ struct Waypoint<'a> {
 
 /// Where one step comes to.
 #[derive(Drop)]
-enum Pace<'a> {
+enum WaypointStep<'a> {
     Ends(Cap),
     Leads(Waypoint<'a>),
 }
@@ -54,13 +54,13 @@ impl<'a> Waypoint<'a> {
     }
 
     /// One step on.
-    fn on(self, alloc: Global) -> Result<Pace<'a>, AllocError>
+    fn on(self, alloc: Global) -> Result<WaypointStep<'a>, AllocError>
         ensures { IfOk result (PacesFrom self.entry.values.now self.entry.cap) }
     {
         let Waypoint { values, cap } = self;
         match next_of(alloc, values, &cap)? {
-            Some(next) => Ok(Pace::Leads(Waypoint { values, cap: next })),
-            None => Ok(Pace::Ends(cap)),
+            Some(next) => Ok(WaypointStep::Leads(Waypoint { values, cap: next })),
+            None => Ok(WaypointStep::Ends(cap)),
         }
     }
 }
@@ -85,7 +85,7 @@ fn next_of_path(
     alloc: Global,
     id: u32,
     path: &Path,
-    question: Option<&Question>,
+    question: Option<&QuestionState>,
 ) -> Result<Option<Cap>, AllocError>
     requires { question_way id path.now (option_copied question) ≢ missing }
     ensures { IfOk result (LeadsTo (question_way id path.now (option_copied question.entry))) }

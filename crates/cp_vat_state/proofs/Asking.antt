@@ -10,7 +10,7 @@ use Rattle.cp_refs.specs.declared.cap.Cap.{Cap}
 use Rattle.cp_refs.specs.declared.call.WaitingCall.{WaitingCall}
 use Rattle.cp_refs.specs.declared.route.Gate.{Gate}
 use Rattle.cp_refs.specs.declared.route.Gate.TheVariants as gates
-use Rattle.cp_refs.specs.declared.values.Question.{Question}
+use Rattle.cp_refs.specs.declared.values.QuestionState.{QuestionState}
 use Rattle.cp_vat_machine.specs.InUse.{is_import, is_promise, is_at_promise, is_at_question, caps_given, value_unless}
 use Rattle.cp_vat_state.specs.Sought.{is_sought, is_named, named_by, awaited_at}
 use Rattle.cp_vat_state.specs.Counts.{number_of, times_in}
@@ -29,14 +29,14 @@ any_flat p g xs = any_counts p (flat_map g xs) ∙ ap (λ n. ltb 0 n) (count-fla
 -- it is kept
 pub is_kept : (v : ValueMaps) (kept imported : Holders) (s : Sought) → AreHeld v kept imported
     → ltb 0 (number_of kept s)
-    ≡ list_any (is_sought s) (flat_map option_to_list (values v.promises) ++ flat_map caps_given (values v.answers) ++ flat_map (λ (question : Question). caps_given question.outcome) (values v.questions))
+    ≡ list_any (is_sought s) (flat_map option_to_list (values v.promises) ++ flat_map caps_given (values v.answers) ++ flat_map (λ (question : QuestionState). caps_given question.outcome) (values v.questions))
 is_kept v kept imported s is =
     let a = flat_map option_to_list (values v.promises) in
     let b = flat_map caps_given (values v.answers) in
-    let c = flat_map (λ (question : Question). caps_given question.outcome) (values v.questions) in
+    let c = flat_map (λ (question : QuestionState). caps_given question.outcome) (values v.questions) in
     let together : count_by (is_sought s) (a ++ b ++ c) ≡ count_by (is_sought s) a + count_by (is_sought s) b + count_by (is_sought s) c = sum_by-append (λ cap. cond (is_sought s cap) 1 0) (a ++ b) c ∙ ap (λ n. n + count_by (is_sought s) c) (sum_by-append (λ cap. cond (is_sought s cap) 1 0) a b) in
     let number : number_of kept s ≡ count_by (is_sought s) (a ++ b ++ c) =
-    omega (arith, is.kept_so_often s, together, count-flat_map (is_sought s) option_to_list (values v.promises), count-flat_map (is_sought s) caps_given (values v.answers), count-flat_map (is_sought s) (λ (question : Question). caps_given question.outcome) (values v.questions)) in
+    omega (arith, is.kept_so_often s, together, count-flat_map (is_sought s) option_to_list (values v.promises), count-flat_map (is_sought s) caps_given (values v.answers), count-flat_map (is_sought s) (λ (question : QuestionState). caps_given question.outcome) (values v.questions)) in
     ap (λ n. ltb 0 n) number ∙ sym (any_counts (is_sought s) (a ++ b ++ c))
 
 -- it is the value of an import

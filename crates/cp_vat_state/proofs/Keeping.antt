@@ -6,7 +6,7 @@ use Rattle.cp_refs.specs.Values.{ValueMaps}
 use Rattle.cp_refs.specs.declared.cap.Cap.{Cap}
 use Rattle.cp_refs.specs.declared.call.WaitingCall.{WaitingCall}
 use Rattle.cp_refs.specs.declared.outcome.Outcome.{Outcome}
-use Rattle.cp_refs.specs.declared.values.Question.{Question}
+use Rattle.cp_refs.specs.declared.values.QuestionState.{QuestionState}
 use Rattle.cp_vat_machine.specs.InUse.{caps_given}
 use Rattle.cp_vat_state.specs.Sought.{question_caps, named_by, awaited_at}
 use Rattle.cp_vat_state.specs.Counts.{number_of, times_named, times_in, IsMore, IsLess}
@@ -26,7 +26,7 @@ outcome_of_entry : (o : Option (Option Outcome)) (s : Sought) → of_entry (λ o
 outcome_of_entry None s = refl
 outcome_of_entry (Some outcome) s = refl
 
-question_of_entry : (o : Option Question) (s : Sought) → of_entry (λ question. times_in (caps_given question.outcome) s) o ≡ times_in (question_caps o) s
+question_of_entry : (o : Option QuestionState) (s : Sought) → of_entry (λ question. times_in (caps_given question.outcome) s) o ≡ times_in (question_caps o) s
 question_of_entry None s = refl
 question_of_entry (Some question) s = refl
 
@@ -35,7 +35,7 @@ pub held_nothing : (kept imported : Holders) → ((s : Sought) → number_of kep
 held_nothing kept imported none none_imported =
     record {
       kept_so_often =
-          λ s. omega (arith, none s, held-empty (λ (value : Option Cap). times_in (option_to_list value) s), held-empty (λ (outcome : Option Outcome). times_in (caps_given outcome) s), held-empty (λ (question : Question). times_in (caps_given question.outcome) s));
+          λ s. omega (arith, none s, held-empty (λ (value : Option Cap). times_in (option_to_list value) s), held-empty (λ (outcome : Option Outcome). times_in (caps_given outcome) s), held-empty (λ (question : QuestionState). times_in (caps_given question.outcome) s));
       imported_so_often = λ s. omega (arith, none_imported s, held-empty (λ (value : Option Cap). times_in (option_to_list value) s));
     }
 
@@ -72,7 +72,7 @@ module _ (v : ValueMaps) (kept imported h1 h2 : Holders) (came went : List Cap) 
             imported_so_often = is.imported_so_often;
           }
 
-      pub held-put_question : (id : ℕ) (question : Question) → came ≡ caps_given question.outcome → went ≡ question_caps (get v.questions id)
+      pub held-put_question : (id : ℕ) (question : QuestionState) → came ≡ caps_given question.outcome → went ≡ question_caps (get v.questions id)
           → AreHeld (record v { questions = insert v.questions id question }) h2 imported
       held-put_question id question comes goes =
           record {

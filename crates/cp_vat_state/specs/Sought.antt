@@ -4,7 +4,7 @@ use Rattle.cp_refs.specs.declared.cap.Cap.{Cap}
 use Rattle.cp_refs.specs.declared.cap.Cap.TheVariants as caps
 use Rattle.cp_refs.specs.declared.route.Gate.{Gate}
 use Rattle.cp_refs.specs.declared.route.Gate.TheVariants as gates
-use Rattle.cp_refs.specs.declared.values.Question.{Question}
+use Rattle.cp_refs.specs.declared.values.QuestionState.{QuestionState}
 use Rattle.cp_vat_machine.specs.InUse.{is_import, is_promise, is_pipelined_of, caps_given}
 use Rattle.cp_vat_state.specs.declared.sought.Sought.{Sought}
 use Rattle.cp_vat_state.specs.declared.sought.Sought.TheVariants as sought
@@ -41,6 +41,6 @@ is_named s None = false
 is_named s (Some other) = is_same s other
 
 -- the capabilities of what a question came to
-abbrev pub question_caps : Option Question → List Cap
+abbrev pub question_caps : Option QuestionState → List Cap
 question_caps None = []
 question_caps (Some question) = caps_given question.outcome

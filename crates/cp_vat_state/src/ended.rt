@@ -8,20 +8,20 @@ use std::alloc::{AllocError, Global};
 use std::marker::Model;
 
 /// What the gates of one kind gave that ended in an event, by their numbers. Contracts see it as a finite map.
-pub(crate) struct Ended<V> {
+pub(crate) struct EndedGates<V> {
     /// Mostly one gate ends, which takes no memory here.
     one: Option<(u32, V)>,
     others: Entries<V>,
 }
 
 // Not derived: a function that lets one go calls this one, and need not prove the drop of all that it holds.
-impl<V: Drop> Drop for Ended<V> {
+impl<V: Drop> Drop for EndedGates<V> {
     fn drop(self) {
-        let Ended { one: _, others: _ } = self;
+        let EndedGates { one: _, others: _ } = self;
     }
 }
 
-impl<V> Model for Ended<V> {
+impl<V> Model for EndedGates<V> {
     ghost use Rattle.std.specs.FinMap as map;
     ghost use Rattle.std.specs.Coded.{coded_ℕ};
     ghost use Rattle.cp_tables.specs.Table.{Table};
@@ -34,12 +34,12 @@ impl<V> Model for Ended<V> {
     ghost view = { λ e. ended e.one e.others };
 }
 
-impl<V> Ended<V> {
+impl<V> EndedGates<V> {
     /// None ended.
-    pub(crate) fn new(alloc: Global) -> Ended<V>
+    pub(crate) fn new(alloc: Global) -> EndedGates<V>
         ensures { result ≡ map.empty }
     {
-        Ended {
+        EndedGates {
             one: None,
             others: Entries::new(alloc),
         }

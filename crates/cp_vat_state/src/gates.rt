@@ -11,7 +11,7 @@ ghost use Rattle.cp_vat_state.specs.Sought.{is_sought};
 ghost use Rattle.cp_vat_state.specs.Overs.{over_of, gate_of, bare_gate, over_with, NoneOverIn, IsNextIn};
 
 use crate::counted_calls::CountedCalls;
-use crate::ended::Ended;
+use crate::ended::EndedGates;
 use crate::sought::Sought;
 use cp_refs::{Cap, Gate, KeptOutcome, Path, PromiseId, WaitingCall};
 use std::alloc::{AllocError, Global};
@@ -265,10 +265,10 @@ impl Gates {
 
 /// What the gates gave that ended.
 struct Overs {
-    answers: Ended<KeptOutcome>,
-    promises: Ended<Cap>,
-    questions: Ended<KeptOutcome>,
-    embargoes: Ended<Cap>,
+    answers: EndedGates<KeptOutcome>,
+    promises: EndedGates<Cap>,
+    questions: EndedGates<KeptOutcome>,
+    embargoes: EndedGates<Cap>,
 }
 
 // Not derived: a function that lets one go calls this one, and need not prove the drop of all that it holds.
@@ -288,10 +288,10 @@ impl Overs {
         ensures { over_of result ≡ none_over }
     {
         Overs {
-            answers: Ended::new(alloc),
-            promises: Ended::new(alloc),
-            questions: Ended::new(alloc),
-            embargoes: Ended::new(alloc),
+            answers: EndedGates::new(alloc),
+            promises: EndedGates::new(alloc),
+            questions: EndedGates::new(alloc),
+            embargoes: EndedGates::new(alloc),
         }
     }
 

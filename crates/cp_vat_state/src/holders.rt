@@ -8,7 +8,7 @@ ghost use Rattle.cp_vat_state.specs.declared.sought.Sought.{Sought};
 
 use crate::counts::Counts;
 use crate::sought::Sought;
-use cp_refs::{Cap, KeptOutcome, Question};
+use cp_refs::{Cap, KeptOutcome, QuestionState};
 use std::alloc::{AllocError, Global};
 
 /// How often each import, each promise and each question's paths are held.
@@ -126,7 +126,7 @@ pub(crate) fn caps_of_outcome(outcome: &Option<KeptOutcome>) -> &[Cap]
 }
 
 /// The capabilities of what a question came to.
-pub(crate) fn caps_of_question(question: &Option<Question>) -> &[Cap]
+pub(crate) fn caps_of_question(question: &Option<QuestionState>) -> &[Cap]
     ensures { result.now ≡ question_caps question.now }
 {
     match question {

@@ -10,7 +10,7 @@ ghost use Rattle.cp_vat_state.specs.Holding.{kept_by, import_values, values_of_o
 use crate::halt::Halt;
 use crate::holders::{Holders, caps_of_outcome, caps_of_question, caps_of_value};
 use crate::sought::Sought;
-use cp_refs::{Cap, KeptOutcome, PromiseId, Question, QuestionKind, Values};
+use cp_refs::{Cap, KeptOutcome, PromiseId, QuestionKind, QuestionState, Values};
 use cp_tables::{Embargoes, LIMIT};
 use cp_vat_machine::PeerFault;
 use std::alloc::{AllocError, Global};
@@ -193,7 +193,7 @@ impl Resolutions {
     {
         self.put_question(
             id,
-            Question {
+            QuestionState {
                 kind,
                 outcome: None,
             },
@@ -211,7 +211,7 @@ impl Resolutions {
         let kind = question.kind;
         self.put_question(
             id,
-            Question {
+            QuestionState {
                 kind,
                 outcome: Some(outcome),
             },
@@ -269,7 +269,7 @@ impl Resolutions {
     }
 
     /// Puts a question and what it came to.
-    fn put_question(&mut self, id: u32, question: Question) -> Result<(), AllocError>
+    fn put_question(&mut self, id: u32, question: QuestionState) -> Result<(), AllocError>
         ensures put { OnOk result (self.new ≡ record self.old { questions = map.insert self.old.questions id question }) }
         ensures err { OnErr result (self.new ≡ self.old) }
     {

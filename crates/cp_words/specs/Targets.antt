@@ -3,8 +3,8 @@ use Rattle.std.specs.Prelude.{◌≡◌, ◌⊎◌, ℕ, ◌+◌, ◌≤◌, ◌
 use Rattle.cp_words.specs.Word.{pointer_of}
 use Rattle.cp_words.specs.declared.pointer.Pointer.{Pointer}
 use Rattle.cp_words.specs.declared.pointer.Pointer.TheVariants as pointers
-use Rattle.cp_words.specs.declared.kind.Kind.{Kind}
-use Rattle.cp_words.specs.declared.kind.Kind.TheVariants as kinds
+use Rattle.cp_words.specs.declared.kind.BodyKind.{BodyKind}
+use Rattle.cp_words.specs.declared.kind.BodyKind.TheVariants as kinds
 
 -- the words of a segment, or none where there is no such segment
 abbrev pub segment : List (List ℕ) → ℕ → List ℕ
@@ -19,7 +19,7 @@ abbrev pub Holds : List (List ℕ) → ℕ → ℕ → Pointer → Type 0
 Holds S s p r = (p < length (segment S s)) × (pointer_of (slice_index (segment S s) p) ≡ Some r)
 
 -- A struct or list pointer: how far after the word after it its body begins, and what the body is.
-abbrev pub IsBodyPointer : Pointer → ℤ → Kind → Type 0
+abbrev pub IsBodyPointer : Pointer → ℤ → BodyKind → Type 0
 IsBodyPointer (pointers.Struct offset d n) o k = (offset ≡ o) × (kinds.Struct d n ≡ k)
 IsBodyPointer (pointers.List offset size n) o k = (offset ≡ o) × (kinds.List size n ≡ k)
 IsBodyPointer pointers.Null o k = ⊥
@@ -27,7 +27,7 @@ IsBodyPointer (pointers.Far double place other) o k = ⊥
 IsBodyPointer (pointers.Cap i) o k = ⊥
 
 -- The second word of a landing pad: a struct or list pointer with offset zero. All zero bits are the struct of size zero.
-abbrev pub IsLandingPadTag : Pointer → Kind → Type 0
+abbrev pub IsLandingPadTag : Pointer → BodyKind → Type 0
 IsLandingPadTag pointers.Null k = kinds.Struct 0 0 ≡ k
 IsLandingPadTag (pointers.Struct offset d n) k = (offset ≡ pos 0) × (kinds.Struct d n ≡ k)
 IsLandingPadTag (pointers.List offset size n) k = (offset ≡ pos 0) × (kinds.List size n ≡ k)
@@ -35,7 +35,7 @@ IsLandingPadTag (pointers.Far double place other) k = ⊥
 IsLandingPadTag (pointers.Cap i) k = ⊥
 
 -- directly: the word's own body, in its segment
-pub record HasTargetHere (S : List (List ℕ)) (s p : ℕ) (k : Kind) (start : ℕ) : Type 0 where
+pub record HasTargetHere (S : List (List ℕ)) (s p : ℕ) (k : BodyKind) (start : ℕ) : Type 0 where
   pub pointer : Pointer
   pub offset : ℤ
   pub stands : Holds S s p pointer
@@ -43,13 +43,13 @@ pub record HasTargetHere (S : List (List ℕ)) (s p : ℕ) (k : Kind) (start : �
   pub begins : pos start ≡ pos (p + 1) +ℤ offset
 
 -- by a landing pad of one word, which stands for the pointer
-pub record HasTargetByLandingPad (S : List (List ℕ)) (s p : ℕ) (k : Kind) (s' start : ℕ) : Type 0 where
+pub record HasTargetByLandingPad (S : List (List ℕ)) (s p : ℕ) (k : BodyKind) (s' start : ℕ) : Type 0 where
   pub place : ℕ
   pub stands : Holds S s p (pointers.Far false place s')
   pub landing_pad : HasTargetHere S s' place k start
 
 -- by a landing pad of two words: where the body begins, and what it is
-pub record HasTargetByTwoWords (S : List (List ℕ)) (s p : ℕ) (k : Kind) (s' start : ℕ) : Type 0 where
+pub record HasTargetByTwoWords (S : List (List ℕ)) (s p : ℕ) (k : BodyKind) (s' start : ℕ) : Type 0 where
   pub place : ℕ
   pub other : ℕ
   pub pointer : Pointer
@@ -60,10 +60,10 @@ pub record HasTargetByTwoWords (S : List (List ℕ)) (s p : ℕ) (k : Kind) (s' 
   pub says : IsLandingPadTag pointer k
 
 -- the word leads to a body of this kind, which begins at a word of segment s'
-abbrev pub HasTarget : List (List ℕ) → ℕ → ℕ → Kind → ℕ → ℕ → Type 0
+abbrev pub HasTarget : List (List ℕ) → ℕ → ℕ → BodyKind → ℕ → ℕ → Type 0
 HasTarget S s p k s' start = (HasTargetHere S s p k start × (s' ≡ s)) ⊎ (HasTargetByLandingPad S s p k s' start ⊎ HasTargetByTwoWords S s p k s' start)
 
 -- the word leads to a body of this many words, which lies wholly inside its segment
-pub record HasBody (S : List (List ℕ)) (s p : ℕ) (k : Kind) (size s' start : ℕ) : Type 0 where
+pub record HasBody (S : List (List ℕ)) (s p : ℕ) (k : BodyKind) (size s' start : ℕ) : Type 0 where
   pub has_target : HasTarget S s p k s' start
   pub inside : start + size ≤ length (segment S s')

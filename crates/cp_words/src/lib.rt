@@ -8,7 +8,7 @@ mod place;
 mod pointer;
 mod segments;
 
-pub use kind::Kind;
+pub use kind::BodyKind;
 pub use limits::Limits;
 pub use place::Place;
 pub use pointer::{

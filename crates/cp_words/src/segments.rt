@@ -8,7 +8,7 @@ use std::slice;
 
 /// One or more segments, each a list of words, numbered from 0. Contracts see them as the list of these lists.
 pub struct Segments {
-    held: Held,
+    held: SegmentList,
 }
 
 // Not derived: a crate that lets one go calls this function, and need not prove the drop of all that it holds.
@@ -20,7 +20,7 @@ impl Drop for Segments {
 
 /// The segments. Most messages have one, which needs no vector around it.
 #[derive(Drop)]
-enum Held {
+enum SegmentList {
     One(Vec<u64>),
     Many(Vec<Vec<u64>>),
 }
@@ -44,7 +44,7 @@ impl Segments {
             return Err(segments);
         }
         Ok(Segments {
-            held: Held::Many(segments),
+            held: SegmentList::Many(segments),
         })
     }
 
@@ -53,7 +53,7 @@ impl Segments {
         ensures { result ≡ words.items ∷ [] }
     {
         Segments {
-            held: Held::One(words),
+            held: SegmentList::One(words),
         }
     }
 
@@ -63,8 +63,8 @@ impl Segments {
         ensures some { 0 < length result.now }
     {
         match &self.held {
-            Held::One(words) => slice::from_ref(words),
-            Held::Many(segments) => segments,
+            SegmentList::One(words) => slice::from_ref(words),
+            SegmentList::Many(segments) => segments,
         }
     }
 
@@ -74,8 +74,8 @@ impl Segments {
     {
         let Segments { held } = self;
         match held {
-            Held::One(words) => words,
-            Held::Many(mut segments) => segments.swap_remove(0),
+            SegmentList::One(words) => words,
+            SegmentList::Many(mut segments) => segments.swap_remove(0),
         }
     }
 }

@@ -4,8 +4,8 @@ use Rattle.std.proofs.lemmas.List.{nil_from_length}
 use Rattle.cp_words.specs.Word.{word_of, words_for}
 use Rattle.cp_words.specs.declared.pointer.ElementSize.TheVariants as sizes
 use Rattle.cp_words.specs.declared.pointer.Pointer.TheVariants as pointers
-use Rattle.cp_words.specs.declared.kind.Kind.{Kind}
-use Rattle.cp_words.specs.declared.kind.Kind.TheVariants as kinds
+use Rattle.cp_words.specs.declared.kind.BodyKind.{BodyKind}
+use Rattle.cp_words.specs.declared.kind.BodyKind.TheVariants as kinds
 use Rattle.cp_writing.specs.declared.sheet.Capacity.{Capacity}
 use Rattle.cp_tree.specs.Node.{element_size, element_count, Node, null, cap, struct, list, ptrs, structs, Nodes, no_nodes, node, Bodies, no_bodies, body, count, number_of}
 use Rattle.cp_writing.specs.Sheets.{Written, segments_of, place_by, with_segment_for}
@@ -17,7 +17,7 @@ abbrev pub Alone : Written → Type 0
 Alone F = length F.full ≡ 0
 
 module _ (capacity : Capacity) (one : capacity.segments ≤ 1) where
-  alone_place : (s p : ℕ) (k : Kind) (size : ℕ) (F : Written) → Alone F → Alone (place_by capacity s p k size F).sheet
+  alone_place : (s p : ℕ) (k : BodyKind) (size : ℕ) (F : Written) → Alone F → Alone (place_by capacity s p k size F).sheet
   alone_place s p k size F h =
       let G = with_segment_for capacity s size F in
       let g : Alone G = with_room_keeps Alone capacity s size F h (λ more. absurd (omega (arith, more, one))) in

@@ -4,8 +4,8 @@ use Rattle.std.specs.Prelude.{◌==◌, if◌then◌else◌}
 use Rattle.cp_words.specs.Word.{word_of, words_for}
 use Rattle.cp_words.specs.declared.pointer.ElementSize.TheVariants as sizes
 use Rattle.cp_words.specs.declared.pointer.Pointer.TheVariants as pointers
-use Rattle.cp_words.specs.declared.kind.Kind.{Kind}
-use Rattle.cp_words.specs.declared.kind.Kind.TheVariants as kinds
+use Rattle.cp_words.specs.declared.kind.BodyKind.{BodyKind}
+use Rattle.cp_words.specs.declared.kind.BodyKind.TheVariants as kinds
 use Rattle.cp_writing.specs.declared.sheet.Capacity.{Capacity}
 use Rattle.cp_tree.specs.Node.{element_size, element_count, Node, null, cap, struct, list, ptrs, structs, Nodes, no_nodes, node, Bodies, no_bodies, body, count, number_of}
 use Rattle.cp_writing.specs.Packed.{packed}
@@ -14,7 +14,7 @@ use Rattle.cp_writing.specs.Writing.{body_blank, bodies_blank, tag_word, struct_
 use Rattle.cp_writing.proofs.Sheets.{with_room_keeps}
 
 module _ (a b : Capacity) (one : a.segments ≤ 1) (other : b.segments ≤ 1) where
-  same_place : (s p : ℕ) (k : Kind) (size : ℕ) (F : Written) → place_by a s p k size F ≡ place_by b s p k size F
+  same_place : (s p : ℕ) (k : BodyKind) (size : ℕ) (F : Written) → place_by a s p k size F ≡ place_by b s p k size F
   same_place s p k size F =
       let stays : (capacity : Capacity) → capacity.segments ≤ 1 → with_segment_for capacity s size F ≡ F = λ capacity few. with_room_keeps (λ G. G ≡ F) capacity s size F refl (λ more. absurd (omega (arith, more, few))) in
       ap (place_in s p k size) (stays a one ∙ sym (stays b other))

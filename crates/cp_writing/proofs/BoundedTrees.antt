@@ -5,8 +5,8 @@ use Rattle.std.specs.Prelude.{negsuc, false, ◌==◌, if◌then◌else◌}
 use Rattle.cp_words.specs.Word.{word_of, words_for}
 use Rattle.cp_words.specs.declared.pointer.ElementSize.TheVariants as sizes
 use Rattle.cp_words.specs.declared.pointer.Pointer.TheVariants as pointers
-use Rattle.cp_words.specs.declared.kind.Kind.{Kind}
-use Rattle.cp_words.specs.declared.kind.Kind.TheVariants as kinds
+use Rattle.cp_words.specs.declared.kind.BodyKind.{BodyKind}
+use Rattle.cp_words.specs.declared.kind.BodyKind.TheVariants as kinds
 use Rattle.cp_writing.specs.declared.sheet.Capacity.{Capacity}
 use Rattle.cp_tree.specs.Node.{element_size, element_count, Node, null, cap, struct, list, ptrs, structs, Nodes, no_nodes, node, Bodies, no_bodies, body, count, number_of}
 use Rattle.cp_writing.specs.Packed.{packed}
@@ -23,7 +23,7 @@ by_size : (P : Written → Type 0) (n : ℕ) (F G : Written) → P F → (0 < n 
 by_size P n F G h k = ⊎_elim (λ z. rw (eq-eqb n 0 z) h) (λ nz. rw (ne_eqb n 0 nz) (k (omega (arith, nz)))) (cases_eq n 0)
 
 module _ (capacity : Capacity) (few : capacity.segments ≤ 512) where
-  bounded_place : (s p : ℕ) (k : Kind) (size : ℕ) (F : Written) → s ≤ length F.full → IsNamed k → Bounded F → Bounded (place_by capacity s p k size F).sheet
+  bounded_place : (s p : ℕ) (k : BodyKind) (size : ℕ) (F : Written) → s ≤ length F.full → IsNamed k → Bounded F → Bounded (place_by capacity s p k size F).sheet
   bounded_place s p k size F le named h =
       let G = with_segment_for capacity s size F in
       let g : Bounded G = with_room_keeps Bounded capacity s size F h (λ more. bounded_begin F (omega (arith, more, few)) h) in

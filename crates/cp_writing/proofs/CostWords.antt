@@ -5,8 +5,8 @@ use Rattle.cp_words.specs.Limits.{Bounds}
 use Rattle.cp_words.specs.Word.{word_of, words_for}
 use Rattle.cp_words.specs.declared.pointer.ElementSize.TheVariants as sizes
 use Rattle.cp_words.specs.declared.pointer.Pointer.TheVariants as pointers
-use Rattle.cp_words.specs.declared.kind.Kind.{Kind}
-use Rattle.cp_words.specs.declared.kind.Kind.TheVariants as kinds
+use Rattle.cp_words.specs.declared.kind.BodyKind.{BodyKind}
+use Rattle.cp_words.specs.declared.kind.BodyKind.TheVariants as kinds
 use Rattle.cp_tree.specs.Node.{element_size, element_count, Node, null, cap, struct, list, ptrs, structs, Nodes, no_nodes, node, Bodies, no_bodies, body, count, number_of, cost, total_cost, body_cost}
 use Rattle.cp_tree.specs.Shaped.{Shaped, EachShaped, EachEven}
 use Rattle.cp_tree.specs.declared.fault.WriteFault.TheVariants as faults
@@ -35,7 +35,7 @@ takes_put : (s p w n : ℕ) (F : Written) → length F.full ≡ 0 → Takes F n 
 takes_put s p w n F alone = (full-put F s p w ∙ alone, omega (arith, words-put F s p w))
 
 module _ (capacity : Capacity) (one : capacity.segments ≤ 1) where
-  is_placed : (s p : ℕ) (k : Kind) (size : ℕ) (F : Written) → s ≡ 0 → length F.full ≡ 0 → IsPlaced F (place_by capacity s p k size F)
+  is_placed : (s p : ℕ) (k : BodyKind) (size : ℕ) (F : Written) → s ≡ 0 → length F.full ≡ 0 → IsPlaced F (place_by capacity s p k size F)
   is_placed s p k size F first alone =
       let G = with_segment_for capacity s size F in
       let g : (length G.full ≡ 0) × (G.words ≡ F.words) =

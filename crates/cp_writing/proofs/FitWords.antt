@@ -8,8 +8,8 @@ use Rattle.cp_words.specs.Word.{word_of, size_code}
 use Rattle.cp_words.specs.declared.pointer.ElementSize.{ElementSize}
 use Rattle.cp_words.specs.declared.pointer.ElementSize.TheVariants as sizes
 use Rattle.cp_words.specs.declared.pointer.Pointer.TheVariants as pointers
-use Rattle.cp_words.specs.declared.kind.Kind.{Kind}
-use Rattle.cp_words.specs.declared.kind.Kind.TheVariants as kinds
+use Rattle.cp_words.specs.declared.kind.BodyKind.{BodyKind}
+use Rattle.cp_words.specs.declared.kind.BodyKind.TheVariants as kinds
 use Rattle.cp_tree.specs.Node.{Elements, Bodies, no_bodies, body, count}
 use Rattle.cp_writing.specs.Packed.{packed}
 use Rattle.cp_tree.specs.Shaped.{AllFit, ElementsFit, EachEven}
@@ -70,7 +70,7 @@ code_below sizes.EightBytes = omega arith
 code_below sizes.Pointer = omega arith
 code_below sizes.Composite = omega arith
 
-pub body_word_fits : (k : Kind) (o : ℕ) → IsNamed k → o < 2 ^ 29 → body_word k o < 2 ^ 64
+pub body_word_fits : (k : BodyKind) (o : ℕ) → IsNamed k → o < 2 ^ 29 → body_word k o < 2 ^ 64
 body_word_fits (kinds.Struct d n) o named near = omega (arith, named.0, named.1, near)
 body_word_fits (kinds.List size n) o named near = omega (arith, named, near, code_below size)
 

@@ -5,10 +5,10 @@ use Rattle.std.proofs.Math.Nat.{suc-mul}
 use Rattle.cp_words.specs.Word.{word_of, words_for}
 use Rattle.cp_words.specs.declared.pointer.ElementSize.TheVariants as sizes
 use Rattle.cp_words.specs.declared.pointer.Pointer.TheVariants as pointers
-use Rattle.cp_words.specs.declared.kind.Kind.TheVariants as kinds
+use Rattle.cp_words.specs.declared.kind.BodyKind.TheVariants as kinds
 use Rattle.std.proofs.lemmas.Bool.{cases_eq, ne_eqb}
 use Rattle.std.proofs.lemmas.List.{length-append, length-replicate, get_or_append_left, get_or-set_other}
-use Rattle.cp_words.specs.declared.kind.Kind.{Kind}
+use Rattle.cp_words.specs.declared.kind.BodyKind.{BodyKind}
 use Rattle.cp_writing.specs.declared.sheet.Capacity.{Capacity}
 use Rattle.cp_tree.specs.Node.{Node, null, cap, struct, list, ptrs, structs, Nodes, no_nodes, node, Bodies, no_bodies, body, count, number_of, element_size, element_count}
 use Rattle.cp_writing.specs.Packed.{packed}
@@ -96,7 +96,7 @@ pub record Spot (F : Written) (s p size : ℕ) (x : Placed) : Type 0 where
 keeps_room : (capacity : Capacity) (s p n size : ℕ) (F : Written) → Keeps F s p n (with_segment_for capacity s size F)
 keeps_room capacity s p n size F = with_room_keeps (λ G. Keeps F s p n G) capacity s size F (keeps_nothing F s p n) (λ more. keeps_begin F s p n)
 
-spot_here : (F G : Written) (s p : ℕ) (k : Kind) (size : ℕ) → Keeps F s p 1 G → s ≤ length G.full → (size ≡ 0) ⊎ (s ≡ length G.full) → Spot F s p size (here s p k G)
+spot_here : (F G : Written) (s p : ℕ) (k : BodyKind) (size : ℕ) → Keeps F s p 1 G → s ≤ length G.full → (size ≡ 0) ⊎ (s ≡ length G.full) → Spot F s p size (here s p k G)
 spot_here F G s p k size h le direct =
     let w = body_word k (end_of G s - (p + 1)) in
     record {
@@ -106,7 +106,7 @@ spot_here F G s p k size h le direct =
       last = λ some. ⊎_elim (λ z. absurd (omega (arith, z, some))) (λ e. e ∙ sym (full-put G s p w)) direct;
     }
 
-spot_after : (F G : Written) (s p : ℕ) (k : Kind) (size : ℕ) → Keeps F s p 1 G → s ≤ length G.full → Spot F s p size (after_landing_pad s p k G)
+spot_after : (F G : Written) (s p : ℕ) (k : BodyKind) (size : ℕ) → Keeps F s p 1 G → s ≤ length G.full → Spot F s p size (after_landing_pad s p k G)
 spot_after F G s p k size h le =
     let w = word_of (pointers.Far false (length G.last) (length G.full)) in
     let P = put s p w G in
@@ -120,7 +120,7 @@ spot_after F G s p k size h le =
       last = λ some. sym full;
     }
 
-pub spot : (capacity : Capacity) (s p : ℕ) (k : Kind) (size : ℕ) (F : Written) → s ≤ length F.full → Spot F s p size (place_by capacity s p k size F)
+pub spot : (capacity : Capacity) (s p : ℕ) (k : BodyKind) (size : ℕ) (F : Written) → s ≤ length F.full → Spot F s p size (place_by capacity s p k size F)
 spot capacity s p k size F le =
     let G = with_segment_for capacity s size F in
     let h = keeps_room capacity s p 1 size F in
@@ -128,7 +128,7 @@ spot capacity s p k size F le =
     place-cases (Spot F s p size) s p k size G (spot_here F G s p k size h there) (λ some other. spot_after F G s p k size h there)
 
 -- where a body was placed is within what may be written
-pub place_small : (old new : Sheet) (name : Place) (k : Kind) (size : ℕ) (start : Place) → name.segment ≤ length (written old).full → written new ≡ (place_on old name k size).sheet → IsWithin new → start ≡ (place_on old name k size).at
+pub place_small : (old new : Sheet) (name : Place) (k : BodyKind) (size : ℕ) (start : Place) → name.segment ≤ length (written old).full → written new ≡ (place_on old name k size).sheet → IsWithin new → start ≡ (place_on old name k size).at
     → start.word ≤ 67108864
 place_small old new name k size start le is keeps e =
     let there = spot old.capacity name.segment name.word k size (written old) le in

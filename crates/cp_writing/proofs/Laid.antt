@@ -8,8 +8,8 @@ use Rattle.cp_words.specs.Word.{pointer_of, word_of, tag_of, words_for}
 use Rattle.cp_words.specs.declared.pointer.ElementSize.TheVariants as sizes
 use Rattle.cp_words.specs.declared.pointer.Pointer.{Pointer}
 use Rattle.cp_words.specs.declared.pointer.Pointer.TheVariants as pointers
-use Rattle.cp_words.specs.declared.kind.Kind.{Kind}
-use Rattle.cp_words.specs.declared.kind.Kind.TheVariants as kinds
+use Rattle.cp_words.specs.declared.kind.BodyKind.{BodyKind}
+use Rattle.cp_words.specs.declared.kind.BodyKind.TheVariants as kinds
 use Rattle.cp_writing.specs.declared.sheet.Capacity.{Capacity}
 use Rattle.cp_tree.specs.Node.{Elements, voids, bits, bytes, halves, quads, words, element_size, element_count, Node, null, cap, struct, list, ptrs, structs, Nodes, no_nodes, node, Bodies, no_bodies, body, count, number_of}
 use Rattle.cp_words.specs.Targets.{segment, Holds, words_at}
@@ -48,13 +48,13 @@ module _ (capacity : Capacity) (S : List (List ℕ)) (small : (b : ℕ) → leng
       (omega (arith, inside, l.ends s), ap pointer_of (l.same s p (inr (refl, omega arith, omega arith)) inside ∙ at-put F s p w le lt) ∙ says)
 
   -- a body of this many words, with pointers after the first of them, and what hangs on these
-  record BodyLaid (F : Written) (s p : ℕ) (k : Kind) (size : ℕ) (xs : List ℕ) (lo m : ℕ) (x : Placed) (G : Written) : Type 0 where
+  record BodyLaid (F : Written) (s p : ℕ) (k : BodyKind) (size : ℕ) (xs : List ℕ) (lo m : ℕ) (x : Placed) (G : Written) : Type 0 where
     places : Places S (capacity_of capacity) s p k size (filled F) x.at.segment x.at.word (filled (append xs x.sheet))
     rest : Later (append xs x.sheet) x.at.segment (x.at.word + lo) m G S
     first : (i : ℕ) → i < lo → slice_index (segment S x.at.segment) (x.at.word + i) ≡ get_or xs i 0
     inside : x.at.word + size ≤ length (segment S x.at.segment)
 
-  body_laid : (F : Written) (s p : ℕ) (k : Kind) (size : ℕ) (xs : List ℕ) (lo m : ℕ) (G : Written) → length xs ≡ size → s ≤ length F.full → p < end_of F s → IsNamed k → lo ≤ size
+  body_laid : (F : Written) (s p : ℕ) (k : BodyKind) (size : ℕ) (xs : List ℕ) (lo m : ℕ) (G : Written) → length xs ≡ size → s ≤ length F.full → p < end_of F s → IsNamed k → lo ≤ size
       → Keeps (append xs (place_by capacity s p k size F).sheet) (place_by capacity s p k size F).at.segment ((place_by capacity s p k size F).at.word + lo) m G → Later F s p 1 G S → BodyLaid F s p k size xs lo m (place_by capacity s p k size F) G
   body_laid F s p k size xs lo m G long le lt named within kept l =
       let x = place_by capacity s p k size F in

@@ -7,8 +7,8 @@ use Rattle.std.proofs.lemmas.List.{ext_get_or, get_or-map, length-map, length-re
 use Rattle.cp_words.specs.Word.{words_for, word_of}
 use Rattle.cp_words.specs.declared.pointer.ElementSize.TheVariants as sizes
 use Rattle.cp_words.specs.declared.pointer.Pointer.TheVariants as pointers
-use Rattle.cp_words.specs.declared.kind.Kind.{Kind}
-use Rattle.cp_words.specs.declared.kind.Kind.TheVariants as kinds
+use Rattle.cp_words.specs.declared.kind.BodyKind.{BodyKind}
+use Rattle.cp_words.specs.declared.kind.BodyKind.TheVariants as kinds
 use Rattle.cp_words.specs.Targets.{segment}
 use Rattle.cp_tree.specs.Node.{Node, null, cap, struct, list, ptrs, structs, Nodes, no_nodes, node, Bodies, no_bodies, body, count, number_of, element_size, element_count}
 use Rattle.cp_tree.specs.Shaped.{Shaped, EachShaped, EachEven}
@@ -52,7 +52,7 @@ module _ (capacity : Capacity) (S : List (List ℕ)) where
       (λ ge. let e : b ≡ length F.full = omega (arith, ge, lt, full-begin F) in subst (λ (b : ℕ). length (segment S b) ≡ end_of (begin F) b) (sym e) (ends ∙ sym (end-begin F (length F.full) ∙ end-last F)))
       (cases_lt b (length F.full))
 
-  fits-starts_after : (F : Written) (s p : ℕ) (k : Kind) → s ≤ length F.full → Fits F → Fits (after_landing_pad s p k F).sheet
+  fits-starts_after : (F : Written) (s p : ℕ) (k : BodyKind) → s ≤ length F.full → Fits F → Fits (after_landing_pad s p k F).sheet
   fits-starts_after F s p k le fits =
       let w = word_of (pointers.Far false (length F.last) (length F.full)) in
       fits-append (put s p w F) (body_word k 0 ∷ []) (fits-put F s p w le fits)
@@ -64,7 +64,7 @@ module _ (capacity : Capacity) (S : List (List ℕ)) where
     fills : filled (append xs x.sheet) ≡ g
     fits : Fits (append xs x.sheet)
 
-  module _ (F : Written) (s p : ℕ) (k : Kind) (size : ℕ) (xs : List ℕ) (s' start : ℕ) (g : Filled) (long : length xs ≡ size) (le : s ≤ length F.full) (fits : Fits F) where
+  module _ (F : Written) (s p : ℕ) (k : BodyKind) (size : ℕ) (xs : List ℕ) (s' start : ℕ) (g : Filled) (long : length xs ≡ size) (le : s ≤ length F.full) (fits : Fits F) where
     as_direct : s' ≡ s → start ≡ end_of F s → g ≡ record { last = length F.full; used = length F.last + size } → PlacedAs xs s' start g (here s p k F)
     as_direct at word fills = record {
       at = sym at;

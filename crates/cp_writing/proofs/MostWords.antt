@@ -5,8 +5,8 @@ use Rattle.cp_words.specs.Limits.{Bounds, IsAllowed}
 use Rattle.cp_words.specs.Word.{word_of, words_for}
 use Rattle.cp_words.specs.declared.pointer.ElementSize.TheVariants as sizes
 use Rattle.cp_words.specs.declared.pointer.Pointer.TheVariants as pointers
-use Rattle.cp_words.specs.declared.kind.Kind.{Kind}
-use Rattle.cp_words.specs.declared.kind.Kind.TheVariants as kinds
+use Rattle.cp_words.specs.declared.kind.BodyKind.{BodyKind}
+use Rattle.cp_words.specs.declared.kind.BodyKind.TheVariants as kinds
 use Rattle.cp_tree.specs.Node.{element_size, element_count, Node, null, cap, struct, list, ptrs, structs, Nodes, no_nodes, node, Bodies, no_bodies, body, count, number_of, cost, total_cost, body_cost}
 use Rattle.cp_tree.specs.Shaped.{Shaped, EachShaped, EachEven}
 use Rattle.cp_writing.specs.declared.sheet.Capacity.{Capacity}
@@ -27,7 +27,7 @@ IsMore F n G = G.words ≤ F.words + n
 
 module _ (capacity : Capacity) where
   -- a body's pointer and its landing pad
-  placed_words : (s p : ℕ) (k : Kind) (size : ℕ) (F : Written) → IsMore F 1 (place_by capacity s p k size F).sheet
+  placed_words : (s p : ℕ) (k : BodyKind) (size : ℕ) (F : Written) → IsMore F 1 (place_by capacity s p k size F).sheet
   placed_words s p k size F =
       let G = with_segment_for capacity s size F in
       let same : G.words ≡ F.words = with_room_keeps (λ H. H.words ≡ F.words) capacity s size F refl (λ more. refl) in

@@ -9,8 +9,8 @@ use Rattle.cp_words.specs.Word.{words_for, tag_of}
 use Rattle.cp_words.specs.declared.pointer.ElementSize.TheVariants as sizes
 use Rattle.cp_words.specs.declared.pointer.Pointer.{Pointer}
 use Rattle.cp_words.specs.declared.pointer.Pointer.TheVariants as pointers
-use Rattle.cp_words.specs.declared.kind.Kind.{Kind}
-use Rattle.cp_words.specs.declared.kind.Kind.TheVariants as kinds
+use Rattle.cp_words.specs.declared.kind.BodyKind.{BodyKind}
+use Rattle.cp_words.specs.declared.kind.BodyKind.TheVariants as kinds
 use Rattle.cp_words.specs.Targets.{segment, words_at, Holds, IsBodyPointer, HasTargetHere, HasTargetByLandingPad}
 use Rattle.cp_tree.specs.Node.{Node, null, cap, struct, list, ptrs, structs, Nodes, no_nodes, node, Bodies, no_bodies, body, count, number_of, element_size, element_count}
 use Rattle.cp_tree.specs.Shaped.{AllFit, Shaped, EachShaped, EachEven}
@@ -32,13 +32,13 @@ way_by capacity s size f =
     else (if nat_le (f.used + 1 + size) capacity.words then padded else (if nat_le capacity.segments (f.last + 1) then padded else fresh)))
 
 -- the body is placed so
-abbrev Goes : Way → List (List ℕ) → ℕ → ℕ → Kind → ℕ → Filled → ℕ → ℕ → Filled → Type 0
+abbrev Goes : Way → List (List ℕ) → ℕ → ℕ → BodyKind → ℕ → Filled → ℕ → ℕ → Filled → Type 0
 Goes empty S s p k size f s' start g = (size ≡ 0) × (s' ≡ s) × HasTargetHere S s p k start × IsEnd S s f start × (g ≡ f)
 Goes direct S s p k size f s' start g = (s ≡ f.last) × Follows S s p k size f s' start g
 Goes padded S s p k size f s' start g = FollowsLandingPad S s p k size f s' start g
 Goes fresh S s p k size f s' start g = Begins S s p k size f s' start g
 
-module _ (S : List (List ℕ)) (capacity : Capacity) (s p : ℕ) (k : Kind) (size : ℕ) (f : Filled) (s' start : ℕ) (g : Filled) where
+module _ (S : List (List ℕ)) (capacity : Capacity) (s p : ℕ) (k : BodyKind) (size : ℕ) (f : Filled) (s' start : ℕ) (g : Filled) where
   abbrev At : Way → Type 0
   At w = Goes w S s p k size f s' start g
 
@@ -74,16 +74,16 @@ module _ (S : List (List ℕ)) (capacity : Capacity) (s p : ℕ) (k : Kind) (siz
 -- ---- words
 
 -- the pointer to a body
-abbrev pointer_for : ℤ → Kind → Pointer
+abbrev pointer_for : ℤ → BodyKind → Pointer
 pointer_for o (kinds.Struct d n) = pointers.Struct o d n
 pointer_for o (kinds.List size n) = pointers.List o size n
 
-pointer_is : (r : Pointer) (o : ℤ) (k : Kind) → IsBodyPointer r o k → r ≡ pointer_for o k
+pointer_is : (r : Pointer) (o : ℤ) (k : BodyKind) → IsBodyPointer r o k → r ≡ pointer_for o k
 pointer_is pointers.Null o k h = absurd h
 pointer_is (pointers.Cap i) o k h = absurd h
 pointer_is (pointers.Far double place other) o k h = absurd h
-pointer_is (pointers.Struct offset d n) o k h = subst (λ (k : Kind). pointers.Struct offset d n ≡ pointer_for o k) h.1 (ap (λ (x : ℤ). pointers.Struct x d n) h.0)
-pointer_is (pointers.List offset size n) o k h = subst (λ (k : Kind). pointers.List offset size n ≡ pointer_for o k) h.1 (ap (λ (x : ℤ). pointers.List x size n) h.0)
+pointer_is (pointers.Struct offset d n) o k h = subst (λ (k : BodyKind). pointers.Struct offset d n ≡ pointer_for o k) h.1 (ap (λ (x : ℤ). pointers.Struct x d n) h.0)
+pointer_is (pointers.List offset size n) o k h = subst (λ (k : BodyKind). pointers.List offset size n ≡ pointer_for o k) h.1 (ap (λ (x : ℤ). pointers.List x size n) h.0)
 
 word_fits : (S : List (List ℕ)) → All (AllFit 64) S → (s p : ℕ) → slice_index (segment S s) p < 2 ^ 64
 word_fits S fit s p = ⊎_elim
@@ -104,13 +104,13 @@ module _ (S T : List (List ℕ)) (fit : All (AllFit 64) S) (fits : All (AllFit 6
   pointer_same : (s p : ℕ) (r : Pointer) → Holds S s p r → Holds T s p r → Same s p
   pointer_same s p r h k = one_word (slice_index (segment S s) p) (slice_index (segment T s) p) r (word_fits S fit s p) (word_fits T fits s p) h.1 k.1
 
-  here_same : (s p : ℕ) (k : Kind) (start : ℕ) → HasTargetHere S s p k start → HasTargetHere T s p k start → Same s p
+  here_same : (s p : ℕ) (k : BodyKind) (start : ℕ) → HasTargetHere S s p k start → HasTargetHere T s p k start → Same s p
   here_same s p k start h g =
       let offset : h.offset ≡ g.offset = omega (arith, ints, h.begins, g.begins) in
       let pointer : h.pointer ≡ g.pointer = pointer_is h.pointer h.offset k h.says ∙ ap (λ (o : ℤ). pointer_for o k) offset ∙ sym (pointer_is g.pointer g.offset k g.says) in
       pointer_same s p g.pointer (subst (Holds S s p) pointer h.stands) g.stands
 
-  pad_same : (s p : ℕ) (k : Kind) (a b a' b' : ℕ) (h : HasTargetByLandingPad S s p k a b) (g : HasTargetByLandingPad T s p k a' b') → a ≡ a' → b ≡ b' → h.place ≡ g.place → Same s p × Same a h.place
+  pad_same : (s p : ℕ) (k : BodyKind) (a b a' b' : ℕ) (h : HasTargetByLandingPad S s p k a b) (g : HasTargetByLandingPad T s p k a' b') → a ≡ a' → b ≡ b' → h.place ≡ g.place → Same s p × Same a h.place
   pad_same s p k a b a' b' h g there start place =
       let pointer = subst (λ (t : ℕ). Holds T s p (pointers.Far false h.place t)) (sym there) (subst (λ (i : ℕ). Holds T s p (pointers.Far false i a')) (sym place) g.stands) in
       let begun = subst (λ (i : ℕ). HasTargetHere T a' h.place k i) (sym start) (subst (λ (i : ℕ). HasTargetHere T a' i k b') (sym place) g.landing_pad) in
@@ -193,7 +193,7 @@ module _ (S T : List (List ℕ)) (fit : All (AllFit 64) S) (fits : All (AllFit 6
     known : Known g
     alike : ((i : ℕ) → i < size → Same a (b + i)) → Alike f g
 
-  module _ (s p : ℕ) (k : Kind) (size : ℕ) (f : Filled) (a b : ℕ) (g : Filled) (a' b' : ℕ) (g' : Filled) (le : s ≤ f.last) (known : Known f) where
+  module _ (s p : ℕ) (k : BodyKind) (size : ℕ) (f : Filled) (a b : ℕ) (g : Filled) (a' b' : ℕ) (g' : Filled) (le : s ≤ f.last) (known : Known f) where
     goes_same : (w : Way) → Goes w S s p k size f a b g → Goes w T s p k size f a' b' g' → PlacedSame s p size f a b g a' b' g'
     goes_same empty h m =
         let end : b ≡ b' = ends h.3 m.3 in
@@ -277,7 +277,7 @@ module _ (S T : List (List ℕ)) (fit : All (AllFit 64) S) (fits : All (AllFit 6
             (cases_lt t f.last)
 
   module _ (capacity : Capacity) where
-    placed_same : (s p : ℕ) (k : Kind) (size : ℕ) (f : Filled) (a b : ℕ) (g : Filled) (a' b' : ℕ) (g' : Filled) → s ≤ f.last → Known f
+    placed_same : (s p : ℕ) (k : BodyKind) (size : ℕ) (f : Filled) (a b : ℕ) (g : Filled) (a' b' : ℕ) (g' : Filled) → s ≤ f.last → Known f
         → Places S capacity s p k size f a b g → Places T capacity s p k size f a' b' g' → PlacedSame s p size f a b g a' b' g'
     placed_same s p k size f a b g a' b' g' le known h m =
         goes_same s p k size f a b g a' b' g' le known (way_by capacity s size f) (goes S capacity s p k size f a b g h) (goes T capacity s p k size f a' b' g' m)

@@ -6,8 +6,8 @@ use Rattle.cp_words.specs.Limits.{Bounds}
 use Rattle.cp_words.specs.Word.{word_of, words_for}
 use Rattle.cp_words.specs.declared.pointer.ElementSize.TheVariants as sizes
 use Rattle.cp_words.specs.declared.pointer.Pointer.TheVariants as pointers
-use Rattle.cp_words.specs.declared.kind.Kind.{Kind}
-use Rattle.cp_words.specs.declared.kind.Kind.TheVariants as kinds
+use Rattle.cp_words.specs.declared.kind.BodyKind.{BodyKind}
+use Rattle.cp_words.specs.declared.kind.BodyKind.TheVariants as kinds
 use Rattle.cp_writing.specs.declared.sheet.Capacity.{Capacity}
 use Rattle.cp_tree.specs.Node.{Elements, element_size, element_count, voids, bits, bytes, halves, quads, words, Node, null, cap, struct, list, ptrs, structs, Nodes, no_nodes, node, Bodies, no_bodies, body, count, number_of}
 use Rattle.cp_writing.specs.Packed.{packed, bit_of}
@@ -21,7 +21,7 @@ use Rattle.cp_writing.proofs.Packing.{length_groups, length_bits}
 
 -- ---- writing more counts no fewer words
 
-counts_place : (capacity : Capacity) (s p : ℕ) (k : Kind) (size : ℕ) (F : Written) → F.words ≤ (place_by capacity s p k size F).sheet.words
+counts_place : (capacity : Capacity) (s p : ℕ) (k : BodyKind) (size : ℕ) (F : Written) → F.words ≤ (place_by capacity s p k size F).sheet.words
 counts_place capacity s p k size F =
     let G = with_segment_for capacity s size F in
     let more : F.words ≤ G.words = with_room_keeps (λ H. F.words ≤ H.words) capacity s size F (omega arith) (λ _. omega arith) in
@@ -96,12 +96,12 @@ module _ (u : ℕ) where
       let none : landing_pad_for 0 F ≡ 0 = ap (λ b. if b then 0 else 1) (eq-eqb 0 (length F.full) (sym sole.0)) in
       stays _ _ _ F (begin F) (le-leb (length F.last + landing_pad_for 0 F + size) capacity.words (omega (arith, none, sole.1, fits, wide)))
 
-  placed_here : (capacity : Capacity) → Wide u capacity → (p : ℕ) (k : Kind) (size : ℕ) (F : Written) → Sole F → F.words + size ≤ u → place_by capacity 0 p k size F ≡ here 0 p k F
+  placed_here : (capacity : Capacity) → Wide u capacity → (p : ℕ) (k : BodyKind) (size : ℕ) (F : Written) → Sole F → F.words + size ≤ u → place_by capacity 0 p k size F ≡ here 0 p k F
   placed_here capacity wide p k size F sole fits = ap (place_in 0 p k size) (with_here capacity wide size F sole fits) ∙ place-here 0 p k size F (inr (sym sole.0))
 
 module _ (u : ℕ) (Q R : Capacity) (wq : Wide u Q) (wr : Wide u R) where
   -- a body and what hangs on it, where its words fit
-  begun_same : (k : Kind) (size n p : ℕ) (blank : List ℕ) (F : Written) (rest : Capacity → Placed → Written)
+  begun_same : (k : BodyKind) (size n p : ℕ) (blank : List ℕ) (F : Written) (rest : Capacity → Placed → Written)
       → ((x : Placed) → x.sheet.words ≤ (rest Q x).words)
       → ((x : Placed) → x.at.segment ≡ 0 → Sole x.sheet → (rest Q x).words ≤ u → Same (rest R x) (rest Q x))
       → Sole F → length blank ≡ size → (rest Q (begun blank n (place_by Q 0 p k size F))).words ≤ u

@@ -5,8 +5,8 @@ use Rattle.std.proofs.lemmas.Bool.{cases_eq, cases_lt, eq-eqb, ne_eqb, le-leb, l
 use Rattle.std.proofs.lemmas.List.{length-append}
 use Rattle.cp_words.specs.Word.{pointer_of, word_of}
 use Rattle.cp_words.specs.declared.pointer.Pointer.TheVariants as pointers
-use Rattle.cp_words.specs.declared.kind.Kind.{Kind}
-use Rattle.cp_words.specs.declared.kind.Kind.TheVariants as kinds
+use Rattle.cp_words.specs.declared.kind.BodyKind.{BodyKind}
+use Rattle.cp_words.specs.declared.kind.BodyKind.TheVariants as kinds
 use Rattle.cp_writing.specs.declared.sheet.Capacity.{Capacity}
 use Rattle.cp_words.specs.Targets.{segment, HasTargetHere, HasTargetByLandingPad}
 use Rattle.cp_writing.specs.Layout.{Filled, FitsHere, FitsAfterLandingPad, Follows, FollowsLandingPad, Begins, IsEnd, Places, without_words, here as placed_here, after_landing_pad as placed_after, in_new, last_here, last_after_landing_pad}
@@ -22,19 +22,19 @@ abbrev pub capacity_of : Capacity → layout.Capacity
 capacity_of capacity = record { words = capacity.words; segments = capacity.segments }
 
 -- a word that names a body after it
-has_target : (S : List (List ℕ)) (s p o start : ℕ) (k : Kind) → p < length (segment S s) → slice_index (segment S s) p ≡ body_word k o → IsNamed k → o < 2 ^ 29 → start ≡ p + 1 + o → HasTargetHere S s p k start
+has_target : (S : List (List ℕ)) (s p o start : ℕ) (k : BodyKind) → p < length (segment S s) → slice_index (segment S s) p ≡ body_word k o → IsNamed k → o < 2 ^ 29 → start ≡ p + 1 + o → HasTargetHere S s p k start
 has_target S s p o start (kinds.Struct d n) lt is named near e =
     record { pointer = pointers.Struct (pos o) d n; offset = pos o; stands = (lt, ap pointer_of is ∙ says_struct o d n near named.0 named.1 (omega (arith, named.2))); says = (refl, refl); begins = ap pos e }
 has_target S s p o start (kinds.List size n) lt is named near e =
     record { pointer = pointers.List (pos o) size n; offset = pos o; stands = (lt, ap pointer_of is ∙ says_list o size n near); says = (refl, refl); begins = ap pos e }
 
 -- how far segments are filled once the body's words are appended
-pub filled-here : (F : Written) (s p : ℕ) (k : Kind) (size : ℕ) (xs : List ℕ) → length xs ≡ size → filled (append xs (here s p k F).sheet) ≡ record { last = length F.full; used = length F.last + size }
+pub filled-here : (F : Written) (s p : ℕ) (k : BodyKind) (size : ℕ) (xs : List ℕ) → length xs ≡ size → filled (append xs (here s p k F).sheet) ≡ record { last = length F.full; used = length F.last + size }
 filled-here F s p k size xs long =
     let w = body_word k (end_of F s - (p + 1)) in
     rw (length-append (put s p w F).last xs, full-put F s p w, last-put F s p w, long) refl
 
-pub filled-starts_after : (F : Written) (s p : ℕ) (k : Kind) (size : ℕ) (xs : List ℕ) → length xs ≡ size → filled (append xs (after_landing_pad s p k F).sheet) ≡ record { last = length F.full; used = length F.last + 1 + size }
+pub filled-starts_after : (F : Written) (s p : ℕ) (k : BodyKind) (size : ℕ) (xs : List ℕ) → length xs ≡ size → filled (append xs (after_landing_pad s p k F).sheet) ≡ record { last = length F.full; used = length F.last + 1 + size }
 filled-starts_after F s p k size xs long =
     let w = word_of (pointers.Far false (length F.last) (length F.full)) in
     let landing_pad = body_word k 0 ∷ [] in
@@ -56,7 +56,7 @@ module _ (capacity : Capacity) (s size : ℕ) (F : Written) where
 
 module _ (capacity : Capacity) (S : List (List ℕ)) (small : (b : ℕ) → length (segment S b) ≤ 134217728) where
   -- directly
-  target_here : (F : Written) (s p : ℕ) (k : Kind) → s ≤ length F.full → p < end_of F s → IsNamed k → Later F s p 1 (here s p k F).sheet S → HasTargetHere S s p k (end_of F s)
+  target_here : (F : Written) (s p : ℕ) (k : BodyKind) → s ≤ length F.full → p < end_of F s → IsNamed k → Later F s p 1 (here s p k F).sheet S → HasTargetHere S s p k (end_of F s)
   target_here F s p k le lt named l =
       let o = end_of F s - (p + 1) in
       let G = put s p (body_word k o) F in
@@ -65,7 +65,7 @@ module _ (capacity : Capacity) (S : List (List ℕ)) (small : (b : ℕ) → leng
       has_target S s p o (end_of F s) k (omega (arith, lt, end, l.ends s)) is named (omega (arith, small s, l.ends s, end)) (omega (arith, lt))
 
   -- by a pad
-  target_pad : (F : Written) (s p : ℕ) (k : Kind) → s ≤ length F.full → p < end_of F s → IsNamed k → Later F s p 1 (after_landing_pad s p k F).sheet S
+  target_pad : (F : Written) (s p : ℕ) (k : BodyKind) → s ≤ length F.full → p < end_of F s → IsNamed k → Later F s p 1 (after_landing_pad s p k F).sheet S
       → (a : HasTargetByLandingPad S s p k (length F.full) (length F.last + 1)) × (a.place ≡ length F.last)
   target_pad F s p k le lt named l =
       let far = word_of (pointers.Far false (length F.last) (length F.full)) in
@@ -90,17 +90,17 @@ module _ (capacity : Capacity) (S : List (List ℕ)) (small : (b : ℕ) → leng
       )
 
   -- the body's words follow
-  follows : (F : Written) (s p : ℕ) (k : Kind) (size : ℕ) (xs : List ℕ) → length xs ≡ size → s ≤ length F.full → p < end_of F s → IsNamed k → s ≡ length F.full → Later F s p 1 (here s p k F).sheet S
+  follows : (F : Written) (s p : ℕ) (k : BodyKind) (size : ℕ) (xs : List ℕ) → length xs ≡ size → s ≤ length F.full → p < end_of F s → IsNamed k → s ≡ length F.full → Later F s p 1 (here s p k F).sheet S
       → Follows S s p k size (filled F) s (end_of F s) (filled (append xs (here s p k F).sheet))
   follows F s p k size xs long le lt named e l = record { has_target = target_here F s p k le lt named l; same = refl; starts_after = ap (end_of F) e ∙ end-last F; fills = filled-here F s p k size xs long }
 
-  follows_pad : (F : Written) (s p : ℕ) (k : Kind) (size : ℕ) (xs : List ℕ) → length xs ≡ size → s ≤ length F.full → p < end_of F s → IsNamed k → Later F s p 1 (after_landing_pad s p k F).sheet S
+  follows_pad : (F : Written) (s p : ℕ) (k : BodyKind) (size : ℕ) (xs : List ℕ) → length xs ≡ size → s ≤ length F.full → p < end_of F s → IsNamed k → Later F s p 1 (after_landing_pad s p k F).sheet S
       → FollowsLandingPad S s p k size (filled F) (length F.full) (length F.last + 1) (filled (append xs (after_landing_pad s p k F).sheet))
   follows_pad F s p k size xs long le lt named l =
       let a = target_pad F s p k le lt named l in
       record { has_target = a.0; last = refl; landing_pad = a.1; starts_after = refl; fills = filled-starts_after F s p k size xs long }
 
-  begins : (F : Written) (s p : ℕ) (k : Kind) (size : ℕ) (xs : List ℕ) → length xs ≡ size → s ≤ length F.full → p < end_of F s → IsNamed k → Later F s p 1 (after_landing_pad s p k (begin F)).sheet S
+  begins : (F : Written) (s p : ℕ) (k : BodyKind) (size : ℕ) (xs : List ℕ) → length xs ≡ size → s ≤ length F.full → p < end_of F s → IsNamed k → Later F s p 1 (after_landing_pad s p k (begin F)).sheet S
       → Begins S s p k size (filled F) (length (begin F).full) 1 (filled (append xs (after_landing_pad s p k (begin F)).sheet))
   begins F s p k size xs long le lt named l =
       let G = begin F in
@@ -119,10 +119,10 @@ module _ (capacity : Capacity) (S : List (List ℕ)) (small : (b : ℕ) → leng
       }
 
   -- where a body goes, and how far the segments are filled with it
-  abbrev pub AsLaid : Written → ℕ → ℕ → Kind → ℕ → List ℕ → Placed → Type 0
+  abbrev pub AsLaid : Written → ℕ → ℕ → BodyKind → ℕ → List ℕ → Placed → Type 0
   AsLaid F s p k size xs x = Later F s p 1 x.sheet S → Places S (capacity_of capacity) s p k size (filled F) x.at.segment x.at.word (filled (append xs x.sheet))
 
-  placed_nothing : (F : Written) (s p : ℕ) (k : Kind) (size : ℕ) (xs : List ℕ) → length xs ≡ size → s ≤ length F.full → p < end_of F s → IsNamed k → size ≡ 0 → AsLaid F s p k size xs (here s p k F)
+  placed_nothing : (F : Written) (s p : ℕ) (k : BodyKind) (size : ℕ) (xs : List ℕ) → length xs ≡ size → s ≤ length F.full → p < end_of F s → IsNamed k → size ≡ 0 → AsLaid F s p k size xs (here s p k F)
   placed_nothing F s p k size xs long le lt named z l =
       let w = body_word k (end_of F s - (p + 1)) in
       let end : IsEnd S s (filled F) (end_of F s) = ⊎_elim
@@ -131,7 +131,7 @@ module _ (capacity : Capacity) (S : List (List ℕ)) (small : (b : ℕ) → leng
       (cases_eq s (length F.full)) in
       without_words z (target_here F s p k le lt named l) refl end (filled-here F s p k size xs long ∙ ap (λ n. record { last = length F.full; used = n }) (omega (arith, z)))
 
-  placed_some : (F : Written) (s p : ℕ) (k : Kind) (size : ℕ) (xs : List ℕ) → length xs ≡ size → s ≤ length F.full → p < end_of F s → IsNamed k → 0 < size → s ≡ length F.full → AsLaid F s p k size xs (place_by capacity s p k size F)
+  placed_some : (F : Written) (s p : ℕ) (k : BodyKind) (size : ℕ) (xs : List ℕ) → length xs ≡ size → s ≤ length F.full → p < end_of F s → IsNamed k → 0 < size → s ≡ length F.full → AsLaid F s p k size xs (place_by capacity s p k size F)
   placed_some F s p k size xs long le lt named some e =
       let landing_pad : landing_pad_for s F ≡ 0 = rw (eq-eqb s (length F.full) e) refl in
       let is : with_segment_for capacity s size F ≡ F → place_by capacity s p k size F ≡ here s p k F = λ q. ap (place_in s p k size) q ∙ place-here s p k size F (inr e) in
@@ -148,7 +148,7 @@ module _ (capacity : Capacity) (S : List (List ℕ)) (small : (b : ℕ) → leng
       (λ fits. subst (AsLaid F s p k size xs) (sym (is (segment_for_fits capacity s size F some (omega (arith, fits, landing_pad))))) (λ l. placed_here some (e, fits) (follows F s p k size xs long le lt named e l)))
       (cases_lt capacity.words (length F.last + size))
 
-  placed_other : (F : Written) (s p : ℕ) (k : Kind) (size : ℕ) (xs : List ℕ) → length xs ≡ size → s ≤ length F.full → p < end_of F s → IsNamed k → 0 < size → s ≢ length F.full → AsLaid F s p k size xs (place_by capacity s p k size F)
+  placed_other : (F : Written) (s p : ℕ) (k : BodyKind) (size : ℕ) (xs : List ℕ) → length xs ≡ size → s ≤ length F.full → p < end_of F s → IsNamed k → 0 < size → s ≢ length F.full → AsLaid F s p k size xs (place_by capacity s p k size F)
   placed_other F s p k size xs long le lt named some other =
       let landing_pad : landing_pad_for s F ≡ 1 = rw (ne_eqb s (length F.full) other) refl in
       let is : with_segment_for capacity s size F ≡ F → place_by capacity s p k size F ≡ after_landing_pad s p k F = λ q. ap (place_in s p k size) q ∙ place-there s p k size F some other in
@@ -165,7 +165,7 @@ module _ (capacity : Capacity) (S : List (List ℕ)) (small : (b : ℕ) → leng
       (λ fits. subst (AsLaid F s p k size xs) (sym (is (segment_for_fits capacity s size F some (omega (arith, fits, landing_pad))))) (λ l. placed_after some not_here (other, fits) (follows_pad F s p k size xs long le lt named l)))
       (cases_lt capacity.words (length F.last + 1 + size))
 
-  pub placed : (F : Written) (s p : ℕ) (k : Kind) (size : ℕ) (xs : List ℕ) → length xs ≡ size → s ≤ length F.full → p < end_of F s → IsNamed k → AsLaid F s p k size xs (place_by capacity s p k size F)
+  pub placed : (F : Written) (s p : ℕ) (k : BodyKind) (size : ℕ) (xs : List ℕ) → length xs ≡ size → s ≤ length F.full → p < end_of F s → IsNamed k → AsLaid F s p k size xs (place_by capacity s p k size F)
   placed F s p k size xs long le lt named = ⊎_elim
       (λ z. subst (AsLaid F s p k size xs) (sym (ap (place_in s p k size) (segment_for_nothing capacity s size F z) ∙ place-here s p k size F (inl z))) (placed_nothing F s p k size xs long le lt named z))
       (λ nz.

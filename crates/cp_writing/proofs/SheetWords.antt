@@ -7,8 +7,8 @@ use Rattle.std.proofs.lemmas.List.Sums.{sum_by_push}
 use Rattle.cp_words.specs.Word.{word_of, words_for}
 use Rattle.cp_words.specs.declared.pointer.ElementSize.TheVariants as sizes
 use Rattle.cp_words.specs.declared.pointer.Pointer.TheVariants as pointers
-use Rattle.cp_words.specs.declared.kind.Kind.{Kind}
-use Rattle.cp_words.specs.declared.kind.Kind.TheVariants as kinds
+use Rattle.cp_words.specs.declared.kind.BodyKind.{BodyKind}
+use Rattle.cp_words.specs.declared.kind.BodyKind.TheVariants as kinds
 use Rattle.cp_writing.specs.declared.sheet.Capacity.{Capacity}
 use Rattle.cp_tree.specs.Node.{Node, null, cap, struct, list, ptrs, structs, Nodes, no_nodes, node, Bodies, no_bodies, body, count, number_of, element_size, element_count}
 use Rattle.cp_writing.specs.Packed.{packed}
@@ -26,7 +26,7 @@ pub record IsKept (capacity : Capacity) (P : Written → Type 0) : Type 0 where
   pub begins : (F : Written) → length F.full + 1 < capacity.segments → P F → P (begin F)
 
 module _ (capacity : Capacity) (P : Written → Type 0) (kept : IsKept capacity P) where
-  placed : (s p : ℕ) (k : Kind) (size : ℕ) (F : Written) → P F → P (place_by capacity s p k size F).sheet
+  placed : (s p : ℕ) (k : BodyKind) (size : ℕ) (F : Written) → P F → P (place_by capacity s p k size F).sheet
   placed s p k size F h =
       let G = with_segment_for capacity s size F in
       let g : P G = with_room_keeps P capacity s size F h (λ more. kept.begins F more h) in

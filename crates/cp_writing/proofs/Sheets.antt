@@ -13,7 +13,7 @@ use Rattle.cp_writing.specs.declared.sheet.Capacity.{Capacity}
 use Rattle.cp_writing.specs.declared.sheet.Sheet.{Sheet}
 use Rattle.cp_writing.specs.declared.strip.Strip.{Strip}
 use Rattle.cp_writing.specs.Strips.{words_on}
-use Rattle.cp_words.specs.declared.kind.Kind.{Kind}
+use Rattle.cp_words.specs.declared.kind.BodyKind.{BodyKind}
 use Rattle.cp_words.specs.declared.place.Place.{Place}
 use Rattle.cp_writing.specs.Sheets.{Placed, here, after_landing_pad, place_in, with_segment_for, KeepsTo, IsPlace, IsWithin, SameLimits, Refuses, Writes, Written, written, segments_of, end_of, put, append, begin}
 
@@ -192,16 +192,16 @@ counted old mid v ws n h long most count is =
     subst (Appended old ws v) (sym count) (e, within old new _ e (refl, refl) (append-keeps old.capacity (written old) ws h (omega (arith, long, most))), (refl, refl))
 
 -- where a body is placed directly, and where not
-pub place-here : (s p : ℕ) (k : Kind) (size : ℕ) (F : Written) → (size ≡ 0) ⊎ (s ≡ length F.full) → place_in s p k size F ≡ here s p k F
+pub place-here : (s p : ℕ) (k : BodyKind) (size : ℕ) (F : Written) → (size ≡ 0) ⊎ (s ≡ length F.full) → place_in s p k size F ≡ here s p k F
 place-here s p k zero F h = refl
 place-here s p k (suc size) F (inl e) = absurd (omega (arith, e))
 place-here s p k (suc size) F (inr e) = rw (ne_eqb (suc size) 0 (λ z. omega (arith, z)), eq-eqb s (length F.full) e) refl
 
-pub place-there : (s p : ℕ) (k : Kind) (size : ℕ) (F : Written) → 0 < size → s ≢ length F.full → place_in s p k size F ≡ after_landing_pad s p k F
+pub place-there : (s p : ℕ) (k : BodyKind) (size : ℕ) (F : Written) → 0 < size → s ≢ length F.full → place_in s p k size F ≡ after_landing_pad s p k F
 place-there s p k zero F some other = absurd (omega (arith, some))
 place-there s p k (suc size) F some other = rw (ne_eqb (suc size) 0 (λ z. omega (arith, z)), ne_eqb s (length F.full) other) refl
 
-pub place-cases : (P : Placed → Type 0) (s p : ℕ) (k : Kind) (size : ℕ) (F : Written) → ((size ≡ 0) ⊎ (s ≡ length F.full) → P (here s p k F)) → (0 < size → s ≢ length F.full → P (after_landing_pad s p k F)) → P (place_in s p k size F)
+pub place-cases : (P : Placed → Type 0) (s p : ℕ) (k : BodyKind) (size : ℕ) (F : Written) → ((size ≡ 0) ⊎ (s ≡ length F.full) → P (here s p k F)) → (0 < size → s ≢ length F.full → P (after_landing_pad s p k F)) → P (place_in s p k size F)
 place-cases P s p k zero F direct padded = direct (inl refl)
 place-cases P s p k (suc size) F direct padded = ⊎_elim
     (λ e. subst P (sym (place-here s p k (suc size) F (inr e))) (direct (inr e)))

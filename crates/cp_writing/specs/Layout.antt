@@ -3,8 +3,8 @@ use Rattle.std.specs.Prelude.{◌≡◌, ◌≢◌, ◌⊎◌, ℕ, ◌+◌, ◌
 use Rattle.cp_words.specs.Word.{bits_of, words_for, tag_of}
 use Rattle.cp_words.specs.declared.pointer.ElementSize.TheVariants as sizes
 use Rattle.cp_words.specs.declared.pointer.Pointer.TheVariants as pointers
-use Rattle.cp_words.specs.declared.kind.Kind.{Kind}
-use Rattle.cp_words.specs.declared.kind.Kind.TheVariants as kinds
+use Rattle.cp_words.specs.declared.kind.BodyKind.{BodyKind}
+use Rattle.cp_words.specs.declared.kind.BodyKind.TheVariants as kinds
 use Rattle.cp_tree.specs.Node.{Elements, element_size, element_count, Node, null, cap, struct, list, ptrs, structs, Nodes, no_nodes, node, Bodies, no_bodies, body, count, number_of}
 use Rattle.cp_words.specs.Targets.{segment, Holds, HasTargetHere, HasTargetByLandingPad, words_at}
 use Rattle.cp_tree.specs.Elements.{element, elements_of}
@@ -29,14 +29,14 @@ abbrev pub FitsAfterLandingPad : Capacity → ℕ → ℕ → Filled → Type 0
 FitsAfterLandingPad capacity s size f = (s ≢ f.last) × (f.used + 1 + size ≤ capacity.words)
 
 -- The body follows what the last segment has.
-pub record Follows (S : List (List ℕ)) (s p : ℕ) (k : Kind) (size : ℕ) (before : Filled) (s' start : ℕ) (after : Filled) : Type 0 where
+pub record Follows (S : List (List ℕ)) (s p : ℕ) (k : BodyKind) (size : ℕ) (before : Filled) (s' start : ℕ) (after : Filled) : Type 0 where
   pub has_target : HasTargetHere S s p k start
   pub same : s' ≡ s
   pub starts_after : start ≡ before.used
   pub fills : after ≡ record { last = before.last; used = before.used + size }
 
 -- The body follows a landing pad of one word, which follows what the last segment has.
-pub record FollowsLandingPad (S : List (List ℕ)) (s p : ℕ) (k : Kind) (size : ℕ) (before : Filled) (s' start : ℕ) (after : Filled) : Type 0 where
+pub record FollowsLandingPad (S : List (List ℕ)) (s p : ℕ) (k : BodyKind) (size : ℕ) (before : Filled) (s' start : ℕ) (after : Filled) : Type 0 where
   pub has_target : HasTargetByLandingPad S s p k s' start
   pub last : s' ≡ before.last
   pub landing_pad : has_target.place ≡ before.used
@@ -44,7 +44,7 @@ pub record FollowsLandingPad (S : List (List ℕ)) (s p : ℕ) (k : Kind) (size 
   pub fills : after ≡ record { last = before.last; used = before.used + 1 + size }
 
 -- The landing pad and the body begin a new segment, and the one before it ends.
-pub record Begins (S : List (List ℕ)) (s p : ℕ) (k : Kind) (size : ℕ) (before : Filled) (s' start : ℕ) (after : Filled) : Type 0 where
+pub record Begins (S : List (List ℕ)) (s p : ℕ) (k : BodyKind) (size : ℕ) (before : Filled) (s' start : ℕ) (after : Filled) : Type 0 where
   pub has_target : HasTargetByLandingPad S s p k s' start
   pub ends : length (segment S before.last) ≡ before.used
   pub next : s' ≡ before.last + 1
@@ -61,7 +61,7 @@ IsEnd S s f end = ((s ≡ f.last) × (end ≡ f.used)) ⊎ ((s ≢ f.last) × (e
 -- landing pad with the body after it is placed: in the last segment, if the pointer is in another and both fit; else in a
 -- new segment. Where no segment may be begun any more, the body goes to the end of the last one, after a landing pad unless
 -- its pointer is there.
-pub data Places (S : List (List ℕ)) (capacity : Capacity) (s p : ℕ) (k : Kind) (size : ℕ) (before : Filled) (s' start : ℕ) (after : Filled) : Type 0 where
+pub data Places (S : List (List ℕ)) (capacity : Capacity) (s p : ℕ) (k : BodyKind) (size : ℕ) (before : Filled) (s' start : ℕ) (after : Filled) : Type 0 where
   without_words : (none : size ≡ 0) (has_target : HasTargetHere S s p k start) (same : s' ≡ s) (end : IsEnd S s before start) (fills : after ≡ before) → Places S capacity s p k size before s' start after
   here : (some : 0 < size) (fits : FitsHere capacity s size before) (follows : Follows S s p k size before s' start after) → Places S capacity s p k size before s' start after
   after_landing_pad : (some : 0 < size) (not_here : ¬ (FitsHere capacity s size before)) (fits : FitsAfterLandingPad capacity s size before) (follows : FollowsLandingPad S s p k size before s' start after) → Places S capacity s p k size before s' start after

@@ -2,8 +2,8 @@
 use Rattle.std.specs.Prelude.{◌≡◌, ℕ, ◌+◌, ◌-◌, ◌^◌, ◌<◌, ◌≤◌, pos, false, List, [], ◌∷◌, ◌++◌, length, set, slice_index_or, if◌then◌else◌, ◌==◌, nat_le, Result, Ok, Err, IfOk}
 use Rattle.cp_words.specs.Word.{word_of}
 use Rattle.cp_words.specs.declared.pointer.Pointer.TheVariants as pointers
-use Rattle.cp_words.specs.declared.kind.Kind.{Kind}
-use Rattle.cp_words.specs.declared.kind.Kind.TheVariants as kinds
+use Rattle.cp_words.specs.declared.kind.BodyKind.{BodyKind}
+use Rattle.cp_words.specs.declared.kind.BodyKind.TheVariants as kinds
 use Rattle.cp_words.specs.declared.place.Place.{Place}
 use Rattle.cp_tree.specs.declared.fault.WriteFault.{WriteFault}
 use Rattle.cp_tree.specs.declared.fault.WriteFault.TheVariants as faults
@@ -44,12 +44,12 @@ abbrev pub begin : Written → Written
 begin F = record { full = F.full ++ F.last ∷ []; last = []; words = F.words }
 
 -- the word of a pointer to a body that begins this many words after it
-abbrev pub body_word : Kind → ℕ → ℕ
+abbrev pub body_word : BodyKind → ℕ → ℕ
 body_word (kinds.Struct d n) o = word_of (pointers.Struct (pos o) d n)
 body_word (kinds.List size n) o = word_of (pointers.List (pos o) size n)
 
 -- a body that a pointer word can name
-abbrev pub IsNamed : Kind → Type 0
+abbrev pub IsNamed : BodyKind → Type 0
 IsNamed (kinds.Struct d n) = (d < 2 ^ 16) × (n < 2 ^ 16) × (0 < d + n)
 IsNamed (kinds.List size n) = n < 2 ^ 29
 
@@ -59,11 +59,11 @@ pub record Placed : Type 0 where
   pub at : Place
 
 -- directly, at the end of its pointer's segment
-abbrev pub here : ℕ → ℕ → Kind → Written → Placed
+abbrev pub here : ℕ → ℕ → BodyKind → Written → Placed
 here s p k F = record { sheet = put s p (body_word k (end_of F s - (p + 1))) F; at = record { segment = s; word = end_of F s } }
 
 -- after a landing pad, at the end of the last segment
-abbrev pub after_landing_pad : ℕ → ℕ → Kind → Written → Placed
+abbrev pub after_landing_pad : ℕ → ℕ → BodyKind → Written → Placed
 after_landing_pad s p k F =
     record { sheet = append (body_word k 0 ∷ []) (put s p (word_of (pointers.Far false (length F.last) (length F.full))) F); at = record { segment = length F.full; word = length F.last + 1 } }
 
@@ -79,17 +79,17 @@ with_segment_for capacity s size F =
     else (if nat_le capacity.segments (length F.full + 1) then F
     else begin F))
 
-abbrev pub place_in : ℕ → ℕ → Kind → ℕ → Written → Placed
+abbrev pub place_in : ℕ → ℕ → BodyKind → ℕ → Written → Placed
 place_in s p k size F =
     if size == 0 then here s p k F
     else (if s == length F.full then here s p k F
     else after_landing_pad s p k F)
 
-abbrev pub place_by : Capacity → ℕ → ℕ → Kind → ℕ → Written → Placed
+abbrev pub place_by : Capacity → ℕ → ℕ → BodyKind → ℕ → Written → Placed
 place_by capacity s p k size F = place_in s p k size (with_segment_for capacity s size F)
 
 -- the same on a sheet, of a body whose pointer is at a place
-abbrev pub place_on : Sheet → Place → Kind → ℕ → Placed
+abbrev pub place_on : Sheet → Place → BodyKind → ℕ → Placed
 place_on w at k size = place_by w.capacity at.segment at.word k size (written w)
 
 -- no more than limits can allow

@@ -11,7 +11,7 @@ ghost use Rattle.cp_writing.specs.Writing.{body_blank, bodies_blank, tag_word, s
 use crate::lay_list::{lay_bytes, lay_list, place_list};
 use crate::sheet::Sheet;
 use cp_tree::{BodiesRef, RowRef, StructsRef, Top, Tree, TreeRef, WriteFault};
-use cp_words::{ElementSize, Kind, Place, Pointer, encode};
+use cp_words::{BodyKind, ElementSize, Place, Pointer, encode};
 
 /// Lays out a tree whose pointer is at a place, if it nests no deeper than this many levels and costs
 /// no more than the sheet's budget.
@@ -153,7 +153,7 @@ fn begin_struct(
         sheet.put(at, encode(empty));
         return Ok(at);
     }
-    let kind = Kind::Struct {
+    let kind = BodyKind::Struct {
         words: words.len() as u16,
         ptrs: ptrs as u16,
     };

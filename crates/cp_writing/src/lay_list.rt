@@ -1,7 +1,7 @@
 //! How lists without pointers are laid out in segments.
 
 ghost use Rattle.std.specs.Prelude.{◌<◌, ◌^◌, length};
-ghost use Rattle.cp_words.specs.declared.kind.Kind.TheVariants as kinds;
+ghost use Rattle.cp_words.specs.declared.kind.BodyKind.TheVariants as kinds;
 ghost use Rattle.cp_tree.specs.Lent.{elements_in};
 ghost use Rattle.cp_tree.specs.Node.{element_count, list as list_node, voids, bits, bytes, halves, quads, words as words_list};
 ghost use Rattle.cp_writing.specs.Sheets.{written, place_on, IsWithin, IsPlace, Places};
@@ -9,7 +9,7 @@ ghost use Rattle.cp_writing.specs.Writing.{LaysTree};
 
 use crate::sheet::Sheet;
 use cp_tree::{ListRef, WriteFault};
-use cp_words::{ElementSize, Kind, Place};
+use cp_words::{BodyKind, ElementSize, Place};
 
 /// Lays out a list, as `lay` does a tree.
 #[inline(always)]
@@ -49,7 +49,7 @@ pub(crate) fn place_list(
     requires sized { words < 2 ^ 60 }
     ensures { Places sheet.old sheet.new result (place_on sheet.old at (kinds.List size count) words) }
 {
-    let kind = Kind::List {
+    let kind = BodyKind::List {
         size,
         count: count as u32,
     };

@@ -11,7 +11,7 @@ ghost use Rattle.cp_tree.specs.declared.fault.WriteFault.TheVariants.{TooManyWor
 
 use crate::strip::Strip;
 use cp_tree::WriteFault;
-use cp_words::{Kind, Place, Pointer, Segments, encode};
+use cp_words::{BodyKind, Place, Pointer, Segments, encode};
 use std::alloc::{AllocError, Global};
 use std::mem;
 
@@ -248,7 +248,7 @@ impl Sheet {
 
     /// Names a body directly, and gives where it is to be written: at the end of its pointer's segment.
     #[inline(always)]
-    fn place_here(&mut self, at: Place, kind: Kind) -> Place
+    fn place_here(&mut self, at: Place, kind: BodyKind) -> Place
         requires small { (s : ℕ) → end_of (written self.old) s ≤ 67108864 }
         requires there { IsPlace (written self.old) at }
         requires named { IsNamed kind }
@@ -267,7 +267,7 @@ impl Sheet {
     /// Names a body by a landing pad, and gives where it is to be written: after the landing pad, which is at the end
     /// of the last segment.
     #[cold]
-    fn place_after_landing_pad(&mut self, at: Place, kind: Kind) -> Result<Place, WriteFault>
+    fn place_after_landing_pad(&mut self, at: Place, kind: BodyKind) -> Result<Place, WriteFault>
         requires keeps { IsWithin self.old }
         requires there { IsPlace (written self.old) at }
         requires named { IsNamed kind }
@@ -291,7 +291,7 @@ impl Sheet {
     /// Places a body of this many words, whose pointer is at a place: directly, or after a landing pad.
     /// Gives where it is to be written.
     #[inline(always)]
-    pub fn place(&mut self, at: Place, kind: Kind, size: usize) -> Result<Place, WriteFault>
+    pub fn place(&mut self, at: Place, kind: BodyKind, size: usize) -> Result<Place, WriteFault>
         requires keeps { IsWithin self.old }
         requires there { IsPlace (written self.old) at }
         requires named { IsNamed kind }
@@ -307,19 +307,19 @@ impl Sheet {
 }
 
 /// The word of a pointer to a body that begins this many words after it.
-fn body_word(kind: Kind, offset: usize) -> u64
+fn body_word(kind: BodyKind, offset: usize) -> u64
     requires named { IsNamed kind }
     requires near { offset < 2 ^ 29 }
     ensures { result ≡ body_word kind offset }
 {
     let offset = offset as i32;
     encode(match kind {
-        Kind::Struct { words, ptrs } => Pointer::Struct {
+        BodyKind::Struct { words, ptrs } => Pointer::Struct {
             offset,
             words,
             ptrs,
         },
-        Kind::List { size, count } => Pointer::List {
+        BodyKind::List { size, count } => Pointer::List {
             offset,
             size,
             count,

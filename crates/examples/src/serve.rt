@@ -1,6 +1,6 @@
 //! Serves a store of texts, the interface of crates/store/store.capnp, to a client whose messages are in a file.
 
-use jamdrosek::interfaces::{Answer, Call, MethodFault, Object};
+use jamdrosek::interfaces::{Answer, MethodCall, MethodFault, ServerObject};
 use jamdrosek::server::{Servant, serve};
 use jamdrosek::{Mode, Tap};
 use std::alloc::Global;
@@ -31,12 +31,12 @@ struct Shelf {
     texts: BTreeMap<String, String>,
 }
 
-impl Object for Shelf {}
+impl ServerObject for Shelf {}
 
 impl StoreServer for Shelf {
     fn put(
         &mut self,
-        _call: &Call,
+        _call: &MethodCall,
         params: &StorePutParamsView<'_>,
     ) -> Result<Answer<StorePutResultsDraft>, MethodFault> {
         let key = params.key()?.text(self.alloc)?;
@@ -47,7 +47,7 @@ impl StoreServer for Shelf {
 
     fn get(
         &mut self,
-        _call: &Call,
+        _call: &MethodCall,
         params: &StoreGetParamsView<'_>,
     ) -> Result<Answer<StoreGetResultsDraft>, MethodFault> {
         let key = params.key()?.text(self.alloc)?;

@@ -15,17 +15,17 @@
 //! A `Content` makes the params of a call field by field, and `results_of`, `word_in`, `text_in` and `data_in` are what came.
 //! `request_of` is a call whose params are a struct of data words, and `word_at` a data word of results.
 //!
-//! A client answers a call that comes with `no such object`. To offer objects, `export` them from an `Exports`, name their
-//! capabilities in calls, and wait by `Exports::wait`: it hands the calls that come to them, and polls them, while it waits.
+//! A client answers a call that comes with `no such object`. To offer objects, `export` them from an `ExportedObjects`, name their
+//! capabilities in calls, and wait by `ExportedObjects::wait`: it hands the calls that come to them, and polls them, while it waits.
 //! They may call what they were given (`server::Servant::ask`). A client made by `with_bootstrap` gives the object
-//! of that number, 0 for the first one exported, to its peer's Bootstrap. `Exports::serve` answers until the peer ends.
+//! of that number, 0 for the first one exported, to its peer's Bootstrap. `ExportedObjects::serve` answers until the peer ends.
 //!
 //! A `Stream` sends calls of which several are under way, up to a window, as those of a method with `-> stream`.
 //!
 //! The reader and the writer may be the two ends of a `TcpStream`, `&stream` twice, or bytes in memory.
 
 pub use cp_client::{
-    Client, ClientFault, Exports, Question, Stream, StreamFault, request_of, word_at,
+    Client, ClientFault, ExportedObjects, Question, Stream, StreamingFault, request_of, word_at,
 };
 pub use cp_connection::ConnectionFault;
 pub use cp_refs::{Cap, Caps, Outcome, Path, Request};

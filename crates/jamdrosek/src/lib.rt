@@ -126,7 +126,7 @@
 //! ```
 //! #![tactic(auto)]
 //!
-//! use jamdrosek::interfaces::{Answer, Call, MethodFault, Object};
+//! use jamdrosek::interfaces::{Answer, MethodCall, MethodFault, ServerObject};
 //! use jamdrosek::server::{Servant, serve};
 //! use jamdrosek::{Mode, Tap};
 //! use std::alloc::Global;
@@ -145,12 +145,12 @@
 //!     texts: BTreeMap<String, String>,
 //! }
 //!
-//! impl Object for Shelf {}
+//! impl ServerObject for Shelf {}
 //!
 //! impl StoreServer for Shelf {
 //!     fn put(
 //!         &mut self,
-//!         _call: &Call,
+//!         _call: &MethodCall,
 //!         params: &StorePutParamsView<'_>,
 //!     ) -> Result<Answer<StorePutResultsDraft>, MethodFault> {
 //!         let key = params.key()?.text(self.alloc)?;
@@ -161,7 +161,7 @@
 //!
 //!     fn get(
 //!         &mut self,
-//!         _call: &Call,
+//!         _call: &MethodCall,
 //!         params: &StoreGetParamsView<'_>,
 //!     ) -> Result<Answer<StoreGetResultsDraft>, MethodFault> {
 //!         let key = params.key()?.text(self.alloc)?;
@@ -252,8 +252,8 @@
 //!
 //! # Let objects answer while a client waits
 //!
-//! A peer may call what a call gave it. `Exports` holds such objects, of one type that is a `server::Servant`, or
-//! boxed ones of several. They answer while `Exports::wait` waits, in the place of `Client::wait`:
+//! A peer may call what a call gave it. `ExportedObjects` holds such objects, of one type that is a `server::Servant`, or
+//! boxed ones of several. They answer while `ExportedObjects::wait` waits, in the place of `Client::wait`:
 //!
 //! ```
 //! let object = Counter { alloc, count: 0 };

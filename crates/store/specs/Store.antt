@@ -2,7 +2,7 @@
 use Rattle.std.specs.Prelude.{◌≡◌, ◌≤◌, ◌∷◌, []}
 use Rattle.cp_stubs.specs.Dispatch.{Anything, IsElsewhere, Method, Passes, Refuses}
 use Rattle.cp_servants.specs.declared.servant.Reply.{Reply}
-use Rattle.cp_stubs.specs.declared.call.Call.{Call}
+use Rattle.cp_stubs.specs.declared.call.MethodCall.{MethodCall}
 
 -- What a call of each method leads to.
 pub record StoreKind (S : Type 0) : Type 1 where
@@ -17,7 +17,7 @@ any_store = record {
 }
 
 -- A call of one of these methods does this to an object, by its number.
-pub record StoreMethodTakes {S : Type 0} (kind : StoreKind S) (old : S) (call : Call) (reply : Reply) (new : S) : Type 0 where
+pub record StoreMethodTakes {S : Type 0} (kind : StoreKind S) (old : S) (call : MethodCall) (reply : Reply) (new : S) : Type 0 where
   pub on_put : call.request.method ≡ 0 → Passes kind.on_put old call reply new
   pub on_get : call.request.method ≡ 1 → Passes kind.on_get old call reply new
   pub past : 2 ≤ call.request.method → Refuses old call reply new
@@ -25,6 +25,6 @@ pub record StoreMethodTakes {S : Type 0} (kind : StoreKind S) (old : S) (call : 
 -- A call does this to an object, by its interface.
 pub record StoreTakes {S : Type 0}
     (store_kind : StoreKind S)
-    (old : S) (call : Call) (reply : Reply) (new : S) : Type 0 where
+    (old : S) (call : MethodCall) (reply : Reply) (new : S) : Type 0 where
   pub of_store : call.request.interface ≡ 0xea2f6e3bf233ec72 → StoreMethodTakes store_kind old call reply new
   pub elsewhere : IsElsewhere (0xea2f6e3bf233ec72 ∷ []) call → Refuses old call reply new

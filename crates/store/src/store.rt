@@ -13,14 +13,14 @@ use crate::store_put_params::{StorePutParamsDraft, StorePutParamsView};
 use crate::store_put_results::{StorePutResultsDraft, StorePutResultsPromise};
 use cp_refs::{Cap, Outcome, Request};
 use cp_servants::{Ask, Reply, Servant, Settled};
-use cp_stubs::{Answer, Call, Caller, MethodFault, Object, Target, refuse, reply};
+use cp_stubs::{Answer, CallTarget, Caller, MethodCall, MethodFault, ServerObject, refuse, reply};
 use std::alloc::{AllocError, Global};
 
 /// Keeps texts by their keys.
 #[derive(Drop)]
 pub struct StoreClient {
     /// The capability that is called.
-    pub target: Target,
+    pub target: CallTarget,
 }
 
 impl StoreClient {
@@ -32,7 +32,7 @@ impl StoreClient {
         ensures { result.target ≡ cap }
     {
         StoreClient {
-            target: Target::new(alloc, cap),
+            target: CallTarget::new(alloc, cap),
         }
     }
 
@@ -82,14 +82,14 @@ impl StoreClient {
 }
 
 /// An object of `interface Store`.
-pub trait StoreServer: Object {
+pub trait StoreServer: ServerObject {
     /// What calls of its methods lead to. Of an object that doesn't say it nothing is known.
     ghost store_kind: { StoreKind Self } = { any_store };
 
     /// Keeps a text under a key, in place of the one before.
     fn put(
         &mut self,
-        call: &Call,
+        call: &MethodCall,
         params: &StorePutParamsView<'_>,
     ) -> Result<Answer<StorePutResultsDraft>, MethodFault>
         ensures { Gives (λ d. d.body) store_kind.on_put self.old call.now params.now.body result self.new };
@@ -97,7 +97,7 @@ pub trait StoreServer: Object {
     /// The text of a key, or none.
     fn get(
         &mut self,
-        call: &Call,
+        call: &MethodCall,
         params: &StoreGetParamsView<'_>,
     ) -> Result<Answer<StoreGetResultsDraft>, MethodFault>
         ensures { Gives (λ d. d.body) store_kind.on_get self.old call.now params.now.body result self.new };
@@ -114,24 +114,24 @@ impl<T: StoreServer> Servant for StoreServant<T> {
     ghost kind = { seen_as (λ s. s.object) (taking (StoreTakes T.store_kind) T.kind) };
 
     fn call(&mut self, ticket: u64, request: Request) -> Result<Reply, AllocError> {
-        let call = Call { ticket, request };
+        let call = MethodCall { ticket, request };
         dispatch_store(self.alloc, &mut self.object, &call)
     }
 
     fn poll(&mut self) -> Result<Option<Settled>, AllocError> {
-        Object::poll(&mut self.object)
+        ServerObject::poll(&mut self.object)
     }
 
     fn again(&self) -> bool {
-        Object::again(&self.object)
+        ServerObject::again(&self.object)
     }
 
     fn ask(&mut self) -> Result<Option<Ask>, AllocError> {
-        Object::ask(&mut self.object)
+        ServerObject::ask(&mut self.object)
     }
 
     fn told(&mut self, mark: u64, outcome: Outcome) -> Result<(), AllocError> {
-        Object::told(&mut self.object, mark, outcome)
+        ServerObject::told(&mut self.object, mark, outcome)
     }
 }
 
@@ -139,7 +139,7 @@ impl<T: StoreServer> Servant for StoreServant<T> {
 pub fn dispatch_store<T: StoreServer>(
     alloc: Global,
     object: &mut T,
-    call: &Call,
+    call: &MethodCall,
 ) -> Result<Reply, AllocError>
     ensures { IfOk result (λ reply. StoreTakes T.store_kind object.old call.now reply object.new) }
 {
@@ -153,7 +153,7 @@ pub fn dispatch_store<T: StoreServer>(
 pub fn dispatch_store_method<T: StoreServer>(
     alloc: Global,
     object: &mut T,
-    call: &Call,
+    call: &MethodCall,
 ) -> Result<Reply, AllocError>
     ensures { IfOk result (λ reply. StoreMethodTakes T.store_kind object.old call.now reply object.new) }
 {
@@ -165,7 +165,11 @@ pub fn dispatch_store_method<T: StoreServer>(
 }
 
 /// Passes a call of `put` on.
-fn pass_put<T: StoreServer>(alloc: Global, object: &mut T, call: &Call) -> Result<Reply, AllocError>
+fn pass_put<T: StoreServer>(
+    alloc: Global,
+    object: &mut T,
+    call: &MethodCall,
+) -> Result<Reply, AllocError>
     ensures { IfOk result (λ reply. Passes T.store_kind.on_put object.old call.now reply object.new) }
 {
     match call.params() {
@@ -179,7 +183,11 @@ fn pass_put<T: StoreServer>(alloc: Global, object: &mut T, call: &Call) -> Resul
 }
 
 /// Passes a call of `get` on.
-fn pass_get<T: StoreServer>(alloc: Global, object: &mut T, call: &Call) -> Result<Reply, AllocError>
+fn pass_get<T: StoreServer>(
+    alloc: Global,
+    object: &mut T,
+    call: &MethodCall,
+) -> Result<Reply, AllocError>
     ensures { IfOk result (λ reply. Passes T.store_kind.on_get object.old call.now reply object.new) }
 {
     match call.params() {

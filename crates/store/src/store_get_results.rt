@@ -8,7 +8,7 @@ ghost use Rattle.cp_builder.specs.Drafts.{blank, text_tree, with_pointer};
 
 use cp_builder::{DraftFault, StructDraft};
 use cp_fields::{Pointee, StructView, TextView, WrongKind};
-use cp_stubs::{Payload, Promised, Results};
+use cp_stubs::{Promised, ResultPayload, Results};
 use cp_tree::Whole;
 use std::alloc::{AllocError, Global};
 
@@ -89,7 +89,7 @@ impl StoreGetResultsPromise {
     }
 
     /// The results that came.
-    pub fn results<'a>(&self, came: &'a Payload) -> Result<StoreGetResultsView<'a>, WrongKind>
+    pub fn results<'a>(&self, came: &'a ResultPayload) -> Result<StoreGetResultsView<'a>, WrongKind>
         ensures { Reads result (λ x. x.body) (struct_field came.now.content) }
     {
         Ok(StoreGetResultsView {

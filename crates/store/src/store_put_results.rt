@@ -6,7 +6,7 @@ ghost use Rattle.cp_builder.specs.Drafts.{blank};
 
 use cp_builder::StructDraft;
 use cp_fields::{Pointee, StructView, WrongKind};
-use cp_stubs::{Payload, Promised, Results};
+use cp_stubs::{Promised, ResultPayload, Results};
 use cp_tree::Whole;
 use std::alloc::{AllocError, Global};
 
@@ -70,7 +70,7 @@ impl StorePutResultsPromise {
     }
 
     /// The results that came.
-    pub fn results<'a>(&self, came: &'a Payload) -> Result<StorePutResultsView<'a>, WrongKind>
+    pub fn results<'a>(&self, came: &'a ResultPayload) -> Result<StorePutResultsView<'a>, WrongKind>
         ensures { Reads result (λ x. x.body) (struct_field came.now.content) }
     {
         Ok(StorePutResultsView {

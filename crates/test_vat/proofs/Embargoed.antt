@@ -27,7 +27,7 @@ use Rattle.cp_refs.specs.declared.outcome.Outcome.{Outcome}
 use Rattle.cp_refs.specs.declared.outcome.Outcome.TheVariants as outcomes
 use Rattle.cp_refs.specs.declared.route.Route.{Route}
 use Rattle.cp_refs.specs.declared.route.Route.TheVariants as routes
-use Rattle.cp_refs.specs.declared.values.Question.{Question}
+use Rattle.cp_refs.specs.declared.values.QuestionState.{QuestionState}
 use Rattle.cp_refs.specs.declared.values.QuestionKind.TheVariants as kinds
 use Rattle.cp_vat_machine.specs.State.{State, new_state, none_over, with_over, with_exports}
 use Rattle.cp_vat_machine.specs.Then.{Done, Then, OrFull}
@@ -102,13 +102,13 @@ abbrev marked_a : State
 marked_a = with_mark (called s_a 1 kinds.Wire) bootstrap_cap None
 
 reference_a : reference_of s_a.values bootstrap_cap ≡ on_wire
-reference_a = simp (get-insert {X = Question} nat_cmp_total) refl
+reference_a = simp (get-insert {X = QuestionState} nat_cmp_total) refl
 
 marks_a : marked (called s_a 1 kinds.Wire) bootstrap_cap (mark_of s_a bootstrap_cap) ≡ Ok marked_a
 marks_a = rw (get-empty {X = Option ℕ} (slice_cmp nat_cmp) (0 ∷ []), len-empty (slice_cmp nat_cmp) (Option ℕ)) refl
 
 way_a : way marked_a.values bootstrap_cap ≡ ends (routes.Pipe 0 [])
-way_a = simp (get-insert {X = Question} nat_cmp_total) refl
+way_a = simp (get-insert {X = QuestionState} nat_cmp_total) refl
 
 abbrev s_b : Table (Counted Cap) → List Descriptor → State
 s_b exports named = with_over (sent (with_exports marked_a exports) 1 named) none_over
@@ -235,7 +235,7 @@ is_delivery (effects.Deliver k origin ticket request ∷ more) = true
 is_delivery other = false
 
 reference_c : (exports : Table (Counted Cap)) (named : List Descriptor) → reference_of (s_c (s_b exports named)).values bootstrap_cap ≡ came_to (caps.Object 3)
-reference_c exports named = simp (get-insert {X = Question} nat_cmp_total) refl
+reference_c exports named = simp (get-insert {X = QuestionState} nat_cmp_total) refl
 
 mark_c : (exports : Table (Counted Cap)) (named : List Descriptor) → mark_of (s_c (s_b exports named)) bootstrap_cap ≡ Some None
 mark_c exports named = get-insert nat_list_cmp_total empty (0 ∷ []) None (0 ∷ [])

@@ -12,7 +12,7 @@ use Rattle.cp_tables.specs.declared.exchange.Exchange.{Exchange}
 use Rattle.cp_refs.specs.declared.cap.Cap.{Cap}
 use Rattle.cp_refs.specs.declared.call.WaitingCall.{WaitingCall}
 use Rattle.cp_refs.specs.declared.outcome.Outcome.{Outcome}
-use Rattle.cp_refs.specs.declared.values.Question.{Question}
+use Rattle.cp_refs.specs.declared.values.QuestionState.{QuestionState}
 use Rattle.cp_vat_machine.specs.State.{State}
 use Rattle.cp_vat_machine.specs.declared.entry.AnswerEntry.{AnswerEntry}
 use Rattle.cp_vat_machine.specs.declared.entry.ImportKind.{ImportKind}
@@ -30,7 +30,7 @@ pub record Known : Type 0 where
   pub promises : Listed (Option Cap)
   pub import_values : Listed (Option Cap)
   pub answers : Listed (Option Outcome)
-  pub questions : Listed Question
+  pub questions : Listed QuestionState
   pub asked : Listed (Exchange QuestionEntry)
   pub answering : Listed (Exchange AnswerEntry)
   pub own : List ℕ

@@ -14,7 +14,7 @@ use Rattle.cp_refs.specs.declared.route.Gate.{Gate}
 use Rattle.cp_refs.specs.declared.route.Gate.TheVariants as gates
 use Rattle.cp_refs.specs.declared.route.Route.{Route}
 use Rattle.cp_refs.specs.declared.route.Route.TheVariants as routes
-use Rattle.cp_refs.specs.declared.values.Question.{Question}
+use Rattle.cp_refs.specs.declared.values.QuestionState.{QuestionState}
 use Rattle.cp_refs.specs.declared.values.QuestionKind.{QuestionKind}
 use Rattle.cp_refs.specs.declared.values.QuestionKind.TheVariants as kinds
 use Rattle.cp_vat_machine.specs.State.{State, none_over, gave}
@@ -52,7 +52,7 @@ use Rattle.cp_vat_laws.proofs.Tables.{no_faults, front_empty, back_empty, not_me
 pub free_question : (s : State) (q : ℕ) → Within s None [] → get s.entries.questions q ≡ None → get s.values.questions q ≡ None
 free_question s q w free = by (get s.values.questions q) refl (rw (free) at (w.questions_valued q))
   where
-    by : (o : Option Question) → get s.values.questions q ≡ o → QuestionIs None o → get s.values.questions q ≡ None
+    by : (o : Option QuestionState) → get s.values.questions q ≡ o → QuestionIs None o → get s.values.questions q ≡ None
     by None is h = is
     by (Some x) is h = absurd h
 
@@ -71,7 +71,7 @@ module _ (old : State) (q : ℕ) (request : Request) (cap : Cap) (within : Withi
   module _ (kind : QuestionKind) (between : State) (only : between ≡ record (called old q kind) { marks = between.marks })
       (embargoes : (n : ℕ) (v : Cap) → get old.marks.embargoes n ≡ Some v → get between.marks.embargoes n ≡ Some v)
       (marks : (c : Cap) (g : Gate) → is_off_wire (reference_of old.values c) ≡ true → FitsMark old (mark_of old c) g → FitsMark between (mark_of between c) g) where
-    abbrev its_question : Question
+    abbrev its_question : QuestionState
     its_question = record { kind = kind; outcome = None }
 
     abbrev its_entry : Exchange QuestionEntry
@@ -345,7 +345,7 @@ question_some : (s : State) (q : ℕ) → Within s None [] → (e : Option (Exch
 question_some s q w None is own = absurd (true≢false (sym own))
 question_some s q w (Some entry) is own = by entry.kept.forwards (get s.values.questions q) (rw (is) at (w.questions_valued q)) own
   where
-    by : (f : Option ℕ) (o : Option Question) → OwnIs f entry.stage o → (not (is_some f) && Rattle.cp_vat_machine.specs.InUse.is_unfinished entry.stage) ≡ true → is_some o ≡ true
+    by : (f : Option ℕ) (o : Option QuestionState) → OwnIs f entry.stage o → (not (is_some f) && Rattle.cp_vat_machine.specs.InUse.is_unfinished entry.stage) ≡ true → is_some o ≡ true
     by None None h own = absurd h
     by None (Some x) h own = refl
     by (Some a) o h own = absurd (true≢false (sym own))

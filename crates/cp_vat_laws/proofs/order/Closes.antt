@@ -6,7 +6,7 @@ use Rattle.std.proofs.lemmas.List.Concat.{flat_map-append}
 use Rattle.std.proofs.lemmas.List.Elements.{filter-append}
 use Rattle.cp_refs.specs.declared.cap.Cap.{Cap}
 use Rattle.cp_refs.specs.declared.cap.Cap.TheVariants as caps
-use Rattle.cp_refs.specs.declared.values.Question.{Question}
+use Rattle.cp_refs.specs.declared.values.QuestionState.{QuestionState}
 use Rattle.cp_vat_machine.specs.State.{State}
 use Rattle.cp_vat_machine.specs.Ports.{capability, is_there}
 use Rattle.cp_vat_machine.specs.Exits.{exit_by}
@@ -67,12 +67,12 @@ slot_both {X} o m l x y z one more adds =
     by some (inl h) = more.open_ h.0 h.1 some
     by some (inr h) = inr (h.0, λ some. more.set h.0 (h.1 (adds some)) some, more.over h.0 h.2)
 
-outcome_some : (o p : Option Question) → (is_some p ≡ true → is_some o ≡ true) → is_some (outcome_of p) ≡ true → is_some (outcome_of o) ≡ true
+outcome_some : (o p : Option QuestionState) → (is_some p ≡ true → is_some o ≡ true) → is_some (outcome_of p) ≡ true → is_some (outcome_of o) ≡ true
 outcome_some None None h some = some
 outcome_some None (Some y) h some = h refl
 outcome_some (Some x) p h some = refl
 
-there_question : (o : Option Question) → is_some o ≡ true → (x : Question) × (o ≡ Some x)
+there_question : (o : Option QuestionState) → is_some o ≡ true → (x : QuestionState) × (o ≡ Some x)
 there_question None some = absurd (true≢false (sym some))
 there_question (Some x) some = (x, refl)
 

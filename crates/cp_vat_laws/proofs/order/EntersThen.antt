@@ -14,7 +14,7 @@ use Rattle.cp_refs.specs.declared.route.Gate.{Gate}
 use Rattle.cp_refs.specs.declared.route.Gate.TheVariants as gates
 use Rattle.cp_refs.specs.declared.route.Route.{Route}
 use Rattle.cp_refs.specs.declared.route.Route.TheVariants as routes
-use Rattle.cp_refs.specs.declared.values.Question.{Question}
+use Rattle.cp_refs.specs.declared.values.QuestionState.{QuestionState}
 use Rattle.cp_refs.specs.declared.values.QuestionKind.{QuestionKind}
 use Rattle.cp_refs.specs.declared.values.QuestionKind.TheVariants as kinds
 use Rattle.cp_vat_machine.specs.State.{State, none_over, gave}
@@ -63,7 +63,7 @@ module _ (values : ValueMaps) where
   outcome_plain n q path r more kind None e = subst IsPlainWait (some_out e) (open_plain kind q path)
   outcome_plain n q path r more kind (Some outcome) e = more (cap_at outcome path) e
 
-  question_plain : (n q : ℕ) (path : List ℕ) (r : Route) → ((c : Cap) → route_within n values c ≡ Some r → IsPlainWait r) → (o : Option Question)
+  question_plain : (n q : ℕ) (path : List ℕ) (r : Route) → ((c : Cap) → route_within n values c ≡ Some r → IsPlainWait r) → (o : Option QuestionState)
       → route_by (λ next. route_within n values next) (question_way q path o) ≡ Some r → IsPlainWait r
   question_plain n q path r more None e = none_out e
   question_plain n q path r more (Some question) e = outcome_plain n q path r more question.kind question.outcome e

@@ -13,7 +13,7 @@ use Rattle.cp_refs.specs.declared.call.Origin.{Origin}
 use Rattle.cp_refs.specs.declared.call.Origin.TheVariants as origins
 use Rattle.cp_refs.specs.declared.outcome.Outcome.{Outcome}
 use Rattle.cp_refs.specs.declared.outcome.Outcome.TheVariants as outcomes
-use Rattle.cp_refs.specs.declared.values.Question.{Question}
+use Rattle.cp_refs.specs.declared.values.QuestionState.{QuestionState}
 use Rattle.cp_vat_machine.specs.State.{State, Exchanges}
 use Rattle.cp_vat_machine.specs.Then.{Done}
 use Rattle.cp_vat_machine.specs.Writing.{WritesDescriptors}
@@ -141,15 +141,15 @@ answer_by s a outcome kept stages.Finished done gives open_ ungiven are =
 answer_by s a outcome kept stages.Returned done gives open_ ungiven are = absurd gives
 
 -- an own question is over, and settled or gone
-abbrev with_outcome : Question → Outcome → Question
+abbrev with_outcome : QuestionState → Outcome → QuestionState
 with_outcome question outcome = record question { outcome = Some outcome }
 
-module _ (s : State) (q : ℕ) (outcome : Outcome) (question : Question) (is : get s.values.questions q ≡ Some question) (none : question.outcome ≡ None)
+module _ (s : State) (q : ℕ) (outcome : Outcome) (question : QuestionState) (is : get s.values.questions q ≡ Some question) (none : question.outcome ≡ None)
     (ungiven : get s.waiting.over.questions q ≡ None) where
   open_is : outcome_of (get s.values.questions q) ≡ Some None
   open_is = rw (is) (ap (λ o. Some o) none)
 
-  question_slot : (questions : Table Question) → (is_some (outcome_of (get questions q)) ≡ true → outcome_of (get questions q) ≡ Some (Some outcome))
+  question_slot : (questions : Table QuestionState) → (is_some (outcome_of (get questions q)) ≡ true → outcome_of (get questions q) ≡ Some (Some outcome))
       → ((r : ℕ) → (q == r) ≡ false → get questions r ≡ get s.values.questions r) → (r : ℕ) (t : Bool) → (q == r) ≡ t
       → Slot (outcome_of (get s.values.questions r)) (outcome_of (get questions r)) (get s.waiting.over.questions r) (get (insert s.waiting.over.questions q outcome) r)
   question_slot questions here others r true t =
@@ -164,13 +164,13 @@ module _ (s : State) (q : ℕ) (outcome : Outcome) (question : Question) (is : g
       same_slot _ _ _ _ (ap outcome_of (others r t)) (put_at s.waiting.over.questions q r outcome false t)
 
   -- it stands with its outcome
-  abbrev kept_questions : Table Question
+  abbrev kept_questions : Table QuestionState
   kept_questions = insert s.values.questions q (with_outcome question outcome)
 
   abbrev settled_by : Exchanges → State
   settled_by entries = record (question_over s q outcome) { values = record s.values { questions = kept_questions }; entries = entries }
 
-  kept_kind : (r : ℕ) (t : Bool) → (q == r) ≡ t → (one other : Question) → get s.values.questions r ≡ Some one → get kept_questions r ≡ Some other → other.kind ≡ one.kind
+  kept_kind : (r : ℕ) (t : Bool) → (q == r) ≡ t → (one other : QuestionState) → get s.values.questions r ≡ Some one → get kept_questions r ≡ Some other → other.kind ≡ one.kind
   kept_kind r true t one other at there =
       let old_is : get s.values.questions r ≡ Some question = rw (← is_equal q r t) is in
       let mine : question ≡ one = some_out (sym old_is ∙ at) in
@@ -232,7 +232,7 @@ mark_stays s mid q (caps.Pipelined r path) marks away there = ap (λ m. get m.pa
 mark_stays s mid q (caps.Broken x) marks away there = refl
 
 -- the question is gone
-module _ (s : State) (q : ℕ) (outcome : Outcome) (question : Question) (is : get s.values.questions q ≡ Some question) (none : question.outcome ≡ None)
+module _ (s : State) (q : ℕ) (outcome : Outcome) (question : QuestionState) (is : get s.values.questions q ≡ Some question) (none : question.outcome ≡ None)
     (ungiven : get s.waiting.over.questions q ≡ None) where
   abbrev without : State
   without = without_question (question_over s q outcome) q
@@ -245,7 +245,7 @@ module _ (s : State) (q : ℕ) (outcome : Outcome) (question : Question) (is : g
   gone_adds r true t some = rw (← is_equal q r t, is) refl
   gone_adds r false t some = rw (← gone_at s.values.questions q r false t) some
 
-  gone_kind : (r : ℕ) (t : Bool) → (q == r) ≡ t → (one other : Question) → get s.values.questions r ≡ Some one → get (remove s.values.questions q) r ≡ Some other → other.kind ≡ one.kind
+  gone_kind : (r : ℕ) (t : Bool) → (q == r) ≡ t → (one other : QuestionState) → get s.values.questions r ≡ Some one → get (remove s.values.questions q) r ≡ Some other → other.kind ≡ one.kind
   gone_kind r true t one other at there = none_out (sym (gone_at s.values.questions q r true t) ∙ there)
   gone_kind r false t one other at there = ap (λ x. x.kind) (some_out (sym there ∙ gone_at s.values.questions q r false t ∙ at))
 
@@ -282,11 +282,11 @@ module _ (s : State) (q : ℕ) (outcome : Outcome) (question : Question) (is : g
         next = refl;
       }
 
-settled_is : (s : State) (q : ℕ) (outcome : Outcome) (question : Question) → get s.values.questions q ≡ Some question
+settled_is : (s : State) (q : ℕ) (outcome : Outcome) (question : QuestionState) → get s.values.questions q ≡ Some question
     → with_change s.values.questions q (λ one. record one { outcome = Some outcome }) ≡ insert s.values.questions q (with_outcome question outcome)
 settled_is s q outcome question is = rw (is) refl
 
-own_by : (s : State) (q : ℕ) (outcome : Outcome) (stage : Stage) (done : Done) → GiveOwnBy s q outcome stage (Ok done) → (question : Question)
+own_by : (s : State) (q : ℕ) (outcome : Outcome) (stage : Stage) (done : Done) → GiveOwnBy s q outcome stage (Ok done) → (question : QuestionState)
     → get s.values.questions q ≡ Some question → question.outcome ≡ None → get s.waiting.over.questions q ≡ None → IsDone s (origins.Own q) outcome done
 own_by s q outcome stages.Open done gives question is none ungiven =
     let mid : State = question_settled s q outcome in
@@ -314,7 +314,7 @@ own_by s q outcome stages.Returned done gives question is none ungiven = absurd 
 abbrev pub IsUngiven : State → Origin → Type 0
 IsUngiven s (origins.Answer a) =
     (get s.values.answers a ≡ Some None) × (get s.waiting.over.answers a ≡ None) × IfSome (get s.entries.answers a) (λ entry. AreOpen s entry.kept.tied)
-IsUngiven s (origins.Own q) = (question : Question) × (get s.values.questions q ≡ Some question) × (question.outcome ≡ None) × (get s.waiting.over.questions q ≡ None)
+IsUngiven s (origins.Own q) = (question : QuestionState) × (get s.values.questions q ≡ Some question) × (question.outcome ≡ None) × (get s.waiting.over.questions q ≡ None)
 
 pub give_done : (s : State) (origin : Origin) (outcome : Outcome) (done : Done) → Give s origin outcome (Ok done) → IsUngiven s origin → IsDone s origin outcome done
 give_done s (origins.Answer a) outcome done (entry, is, gives) may =

@@ -11,7 +11,7 @@ use Rattle.cp_refs.specs.declared.cap.Cap.TheVariants as caps
 use Rattle.cp_refs.specs.declared.outcome.Outcome.{Outcome}
 use Rattle.cp_refs.specs.declared.route.Gate.{Gate}
 use Rattle.cp_refs.specs.declared.route.Route.{Route}
-use Rattle.cp_refs.specs.declared.values.Question.{Question}
+use Rattle.cp_refs.specs.declared.values.QuestionState.{QuestionState}
 use Rattle.cp_vat_machine.specs.State.{State, none_over, gave}
 use Rattle.cp_vat_machine.specs.Calling.{Standing, plain, on_wire, came_to, import_reference, question_reference, reference_of, mark_of}
 use Rattle.cp_vat_machine.specs.Ports.{Name, answer_path, capability, AnswerRoute, ReferenceRoute, NameRoute, is_there}
@@ -25,7 +25,7 @@ pub record GrowsTo (values new : ValueMaps) : Type 0 where
   pub promises : (p : ℕ) (x : Option Cap) → get values.promises p ≡ Some x → get new.promises p ≡ Some x
   pub imports : (i : ℕ) (x : Option Cap) → get values.imports i ≡ Some x → get new.imports i ≡ Some x
   pub answers : (a : ℕ) (x : Option Outcome) → get values.answers a ≡ Some x → get new.answers a ≡ Some x
-  pub questions : (q : ℕ) (x : Question) → get values.questions q ≡ Some x → get new.questions q ≡ Some x
+  pub questions : (q : ℕ) (x : QuestionState) → get values.questions q ≡ Some x → get new.questions q ≡ Some x
 
 -- a free number is taken
 pub put_grows : {X : Type 0} (table : Table X) (k : ℕ) (v : X) → get table k ≡ None → (q : ℕ) (x : X) → get table q ≡ Some x → get (insert table k v) q ≡ Some x
@@ -42,13 +42,13 @@ module _ (values new : ValueMaps) (grows : GrowsTo values new) where
   promise_grows n p r more (Some None) is e = rw (grows.promises p None is) e
   promise_grows n p r more (Some (Some v)) is e = rw (grows.promises p (Some v) is) (more v e)
 
-  outcome_grows : (n q : ℕ) (path : List ℕ) (r : Route) → ((c : Cap) → route_within n values c ≡ Some r → route_within n new c ≡ Some r) → (question : Question)
+  outcome_grows : (n q : ℕ) (path : List ℕ) (r : Route) → ((c : Cap) → route_within n values c ≡ Some r → route_within n new c ≡ Some r) → (question : QuestionState)
       → (o : Option Outcome) → route_by (λ next. route_within n values next) (outcome_way question.kind q path o) ≡ Some r
       → route_by (λ next. route_within n new next) (outcome_way question.kind q path o) ≡ Some r
   outcome_grows n q path r more question None e = e
   outcome_grows n q path r more question (Some outcome) e = more (cap_at outcome path) e
 
-  question_grows : (n q : ℕ) (path : List ℕ) (r : Route) → ((c : Cap) → route_within n values c ≡ Some r → route_within n new c ≡ Some r) → (o : Option Question)
+  question_grows : (n q : ℕ) (path : List ℕ) (r : Route) → ((c : Cap) → route_within n values c ≡ Some r → route_within n new c ≡ Some r) → (o : Option QuestionState)
       → get values.questions q ≡ o → route_by (λ next. route_within n values next) (question_way q path o) ≡ Some r
       → route_by (λ next. route_within n new next) (question_way q path (get new.questions q)) ≡ Some r
   question_grows n q path r more None is e = none_out e
@@ -81,7 +81,7 @@ module _ (values new : ValueMaps) (grows : GrowsTo values new) where
   import_same i None is there = absurd (true≢false (sym there))
   import_same i (Some x) is there = ap import_reference (grows.imports i x is)
 
-  path_same : (q : ℕ) (path : List ℕ) (o : Option Question) → get values.questions q ≡ o → is_some o ≡ true → question_reference path (get new.questions q) ≡ question_reference path o
+  path_same : (q : ℕ) (path : List ℕ) (o : Option QuestionState) → get values.questions q ≡ o → is_some o ≡ true → question_reference path (get new.questions q) ≡ question_reference path o
   path_same q path None is there = absurd (true≢false (sym there))
   path_same q path (Some x) is there = ap (question_reference path) (grows.questions q x is)
 
@@ -114,7 +114,7 @@ module _ (values new : ValueMaps) (grows : GrowsTo values new) where
 slot_grows : {X : Type 0} (o p : Option (Option X)) (x y : Option X) → ((v : Option X) → o ≡ Some v → p ≡ Some v) → y ≡ x → Slot o p x y
 slot_grows o p x y h over = record { over = λ v e. over ∙ e; set = λ v e some. h (Some v) e; open_ = λ e none some. inl (h None e, over ∙ none) }
 
-outcome_grown : (o p : Option Question) → ((x : Question) → o ≡ Some x → p ≡ Some x) → (v : Option Outcome) → outcome_of o ≡ Some v → outcome_of p ≡ Some v
+outcome_grown : (o p : Option QuestionState) → ((x : QuestionState) → o ≡ Some x → p ≡ Some x) → (v : Option Outcome) → outcome_of o ≡ Some v → outcome_of p ≡ Some v
 outcome_grown None p h v e = none_out e
 outcome_grown (Some x) p h v e = ap outcome_of (h x refl) ∙ e
 

@@ -14,7 +14,7 @@ use Rattle.cp_refs.specs.declared.cap.Cap.{Cap}
 use Rattle.cp_refs.specs.declared.cap.Cap.TheVariants as caps
 use Rattle.cp_refs.specs.declared.outcome.Outcome.{Outcome}
 use Rattle.cp_refs.specs.declared.route.Route.{Route}
-use Rattle.cp_refs.specs.declared.values.Question.{Question}
+use Rattle.cp_refs.specs.declared.values.QuestionState.{QuestionState}
 use Rattle.cp_refs.specs.declared.values.QuestionKind.{QuestionKind}
 use Rattle.cp_refs.specs.declared.values.QuestionKind.TheVariants as kinds
 use Rattle.cp_vat_machine.specs.State.{State}
@@ -50,8 +50,8 @@ path_came_by path kinds.Local None v e = none_out (ap came e)
 path_came_by path kinds.Wire (Some outcome) v e = (outcome, refl, some_out (ap came (sym e)))
 path_came_by path kinds.Local (Some outcome) v e = (outcome, refl, some_out (ap came (sym e)))
 
-path_came : (path : List ℕ) (o : Option Question) (v : Cap) → question_reference path o ≡ came_to v
-    → (question : Question) × (outcome : Outcome) × (o ≡ Some question) × (question.outcome ≡ Some outcome) × (v ≡ cap_at outcome path)
+path_came : (path : List ℕ) (o : Option QuestionState) (v : Cap) → question_reference path o ≡ came_to v
+    → (question : QuestionState) × (outcome : Outcome) × (o ≡ Some question) × (question.outcome ≡ Some outcome) × (v ≡ cap_at outcome path)
 path_came path None v e = none_out (ap came e)
 path_came path (Some question) v e = let by = path_came_by path question.kind question.outcome v e in (question, by.0, refl, by.1, by.2)
 
@@ -70,7 +70,7 @@ came_kept s (caps.Broken x) v sound e = none_out (ap came e)
 embargo_is : (s : State) (value : Option Cap) (m : ℕ) (v : Cap) → value ≡ Some v → IsEmbargoOf s value (Some m) → get s.marks.embargoes m ≡ Some v
 embargo_is s value m v is h = sym h.0 ∙ is
 
-path_is : (question : Question) (outcome : Outcome) (path : List ℕ) → question.outcome ≡ Some outcome → path_value (Some question) path ≡ Some (cap_at outcome path)
+path_is : (question : QuestionState) (outcome : Outcome) (path : List ℕ) → question.outcome ≡ Some outcome → path_value (Some question) path ≡ Some (cap_at outcome path)
 path_is question outcome path e = rw (e) refl
 
 pub mark_embargo : (s : State) (c v : Cap) (m : ℕ) → Within s None [] → reference_of s.values c ≡ came_to v → mark_of s c ≡ Some (Some m) → get s.marks.embargoes m ≡ Some v
@@ -92,14 +92,14 @@ import_plain None e there = true≢false (sym there)
 import_plain (Some None) e there = true≢false (sym (ap is_plain e))
 import_plain (Some (Some v)) e there = true≢false (sym (ap is_plain e))
 
-wire_plain : (path : List ℕ) (question : Question) (kind : QuestionKind) (o : Option Outcome) → question.kind ≡ kind → question.outcome ≡ o → path_reference path kind o ≡ plain
+wire_plain : (path : List ℕ) (question : QuestionState) (kind : QuestionKind) (o : Option Outcome) → question.kind ≡ kind → question.outcome ≡ o → path_reference path kind o ≡ plain
     → is_wire (Some question) ≡ true → ⊥
 wire_plain path question kinds.Wire None kind none e wire = true≢false (sym (ap is_plain e))
 wire_plain path question kinds.Local None kind none e wire = true≢false (sym (rw (kind) at wire))
 wire_plain path question kinds.Wire (Some outcome) kind given e wire = true≢false (sym (ap is_plain e))
 wire_plain path question kinds.Local (Some outcome) kind given e wire = true≢false (sym (ap is_plain e))
 
-path_plain : (path : List ℕ) (o : Option Question) → question_reference path o ≡ plain → is_wire o ≡ true → ⊥
+path_plain : (path : List ℕ) (o : Option QuestionState) → question_reference path o ≡ plain → is_wire o ≡ true → ⊥
 path_plain path None e wire = true≢false (sym wire)
 path_plain path (Some question) e wire = wire_plain path question question.kind question.outcome refl refl e wire
 
@@ -116,14 +116,14 @@ plain_unmarked s (caps.Pipelined q path) w there e = by (get s.marks.paths (q �
 plain_unmarked s (caps.Broken x) w there e = refl
 
 -- One that is open on the wire leads there.
-wire_question : (values : ValueMaps) (n q : ℕ) (path : List ℕ) (r : Route) (question : Question) (kind : QuestionKind) (o : Option Outcome) → question.kind ≡ kind → question.outcome ≡ o
+wire_question : (values : ValueMaps) (n q : ℕ) (path : List ℕ) (r : Route) (question : QuestionState) (kind : QuestionKind) (o : Option Outcome) → question.kind ≡ kind → question.outcome ≡ o
     → path_reference path kind o ≡ on_wire → route_by (λ next. route_within n values next) (outcome_way kind q path o) ≡ Some r → IsGoing r × IsSent r
 wire_question values n q path r question kinds.Wire None kind none e h = subst (λ x. IsGoing x × IsSent x) (some_out h) (tt, tt)
 wire_question values n q path r question kinds.Local None kind none e h = absurd (true≢false (ap is_off_wire e))
 wire_question values n q path r question kinds.Wire (Some outcome) kind given e h = absurd (true≢false (ap is_off_wire e))
 wire_question values n q path r question kinds.Local (Some outcome) kind given e h = absurd (true≢false (ap is_off_wire e))
 
-wire_path : (values : ValueMaps) (n q : ℕ) (path : List ℕ) (r : Route) (o : Option Question) → question_reference path o ≡ on_wire
+wire_path : (values : ValueMaps) (n q : ℕ) (path : List ℕ) (r : Route) (o : Option QuestionState) → question_reference path o ≡ on_wire
     → route_by (λ next. route_within n values next) (question_way q path o) ≡ Some r → IsGoing r × IsSent r
 wire_path values n q path r None e h = none_out h
 wire_path values n q path r (Some question) e h = wire_question values n q path r question question.kind question.outcome refl refl e h

@@ -13,7 +13,7 @@ use Rattle.cp_refs.specs.declared.route.Gate.{Gate}
 use Rattle.cp_refs.specs.declared.route.Gate.TheVariants as gates
 use Rattle.cp_refs.specs.declared.route.Route.{Route}
 use Rattle.cp_refs.specs.declared.route.Route.TheVariants as routes
-use Rattle.cp_refs.specs.declared.values.Question.{Question}
+use Rattle.cp_refs.specs.declared.values.QuestionState.{QuestionState}
 use Rattle.cp_refs.specs.declared.values.QuestionKind.{QuestionKind}
 use Rattle.cp_refs.specs.declared.values.QuestionKind.TheVariants as kinds
 use Rattle.cp_vat_machine.specs.State.{State, gave}
@@ -25,19 +25,19 @@ use Rattle.cp_vat_machine.proofs.Basics.{none_out}
 use Rattle.cp_vat_laws.proofs.order.Passes.{IsOfThisEnd, Opens, Sound, IsStillOpen, IsGiven, StaysOrEnds, Passes, outcome_out, outcome_in, some_outcome, follows, path_follows}
 
 -- a question's path that came to something has the route of that
-path_in_by : (values : ValueMaps) (q : ℕ) (path : List ℕ) (r : Route) (question : Question) → get values.questions q ≡ Some question → (kind : QuestionKind) (x : Option Outcome)
+path_in_by : (values : ValueMaps) (q : ℕ) (path : List ℕ) (r : Route) (question : QuestionState) → get values.questions q ≡ Some question → (kind : QuestionKind) (x : Option Outcome)
     → question.kind ≡ kind → question.outcome ≡ x → ReferenceRoute values (caps.Pipelined q path) (path_reference path kind x) r → Routes values (caps.Pipelined q path) r
 path_in_by values q path r question is kinds.Wire None same none h = h
 path_in_by values q path r question is kinds.Local None same none h = h
 path_in_by values q path r question is kinds.Wire (Some o) same given h = (suc h.0, rw (is, given) h.1)
 path_in_by values q path r question is kinds.Local (Some o) same given h = (suc h.0, rw (is, given) h.1)
 
-path_in : (values : ValueMaps) (q : ℕ) (path : List ℕ) (r : Route) (o : Option Question) → get values.questions q ≡ o
+path_in : (values : ValueMaps) (q : ℕ) (path : List ℕ) (r : Route) (o : Option QuestionState) → get values.questions q ≡ o
     → ReferenceRoute values (caps.Pipelined q path) (question_reference path o) r → Routes values (caps.Pipelined q path) r
 path_in values q path r None is h = h
 path_in values q path r (Some question) is h = path_in_by values q path r question is question.kind question.outcome refl refl h
 
-path_out_by : (values : ValueMaps) (n q : ℕ) (path : List ℕ) (r : Route) (question : Question) → get values.questions q ≡ Some question → (kind : QuestionKind) (x : Option Outcome)
+path_out_by : (values : ValueMaps) (n q : ℕ) (path : List ℕ) (r : Route) (question : QuestionState) → get values.questions q ≡ Some question → (kind : QuestionKind) (x : Option Outcome)
     → question.kind ≡ kind → question.outcome ≡ x → route_by (λ next. route_within n values next) (outcome_way kind q path x) ≡ Some r
     → Routes values (caps.Pipelined q path) r → ReferenceRoute values (caps.Pipelined q path) (path_reference path kind x) r
 path_out_by values n q path r question is kinds.Wire None same none e h = h
@@ -45,7 +45,7 @@ path_out_by values n q path r question is kinds.Local None same none e h = h
 path_out_by values n q path r question is kinds.Wire (Some o) same given e h = (n, e)
 path_out_by values n q path r question is kinds.Local (Some o) same given e h = (n, e)
 
-path_out_of : (values : ValueMaps) (n q : ℕ) (path : List ℕ) (r : Route) (o : Option Question) → get values.questions q ≡ o
+path_out_of : (values : ValueMaps) (n q : ℕ) (path : List ℕ) (r : Route) (o : Option QuestionState) → get values.questions q ≡ o
     → route_by (λ next. route_within n values next) (question_way q path o) ≡ Some r → Routes values (caps.Pipelined q path) r
     → ReferenceRoute values (caps.Pipelined q path) (question_reference path o) r
 path_out_of values n q path r None is e h = h
@@ -85,11 +85,11 @@ module _ (old mid : State) (passes : Passes old mid) where
   given_off path kinds.Wire o = refl
   given_off path kinds.Local o = refl
 
-  question_there : (q : ℕ) (o : Option Question) → get mid.values.questions q ≡ o → is_some o ≡ true → (other : Question) × (get mid.values.questions q ≡ Some other)
+  question_there : (q : ℕ) (o : Option QuestionState) → get mid.values.questions q ≡ o → is_some o ≡ true → (other : QuestionState) × (get mid.values.questions q ≡ Some other)
   question_there q None is there = absurd (true≢false (sym there))
   question_there q (Some other) is there = (other, is)
 
-  path_off_by : (q : ℕ) (path : List ℕ) (question : Question) → is_some (get mid.values.questions q) ≡ true → get old.values.questions q ≡ Some question
+  path_off_by : (q : ℕ) (path : List ℕ) (question : QuestionState) → is_some (get mid.values.questions q) ≡ true → get old.values.questions q ≡ Some question
       → (kind : QuestionKind) (x : Option Outcome) → question.kind ≡ kind → question.outcome ≡ x → is_off_wire (path_reference path kind x) ≡ true
       → is_off_wire (question_reference path (get mid.values.questions q)) ≡ true
   path_off_by q path question found is kinds.Wire None same none off = absurd (true≢false (sym off))
@@ -101,7 +101,7 @@ module _ (old mid : State) (passes : Passes old mid) where
       let there = outcome_in (get mid.values.questions q) (Some o) set in
       rw (there.1, there.2) (given_off path there.0.kind o)
 
-  path_off : (q : ℕ) (path : List ℕ) → is_some (get mid.values.questions q) ≡ true → (o : Option Question) → get old.values.questions q ≡ o → is_some o ≡ true
+  path_off : (q : ℕ) (path : List ℕ) → is_some (get mid.values.questions q) ≡ true → (o : Option QuestionState) → get old.values.questions q ≡ o → is_some o ≡ true
       → is_off_wire (question_reference path o) ≡ true → is_off_wire (question_reference path (get mid.values.questions q)) ≡ true
   path_off q path found None is there off = absurd (true≢false (sym there))
   path_off q path found (Some question) is there off = path_off_by q path question found is question.kind question.outcome refl refl off

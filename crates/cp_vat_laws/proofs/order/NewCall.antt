@@ -18,7 +18,7 @@ use Rattle.cp_refs.specs.declared.outcome.Outcome.{Outcome}
 use Rattle.cp_refs.specs.declared.outcome.Outcome.TheVariants as outcomes
 use Rattle.cp_refs.specs.declared.route.Route.{Route}
 use Rattle.cp_refs.specs.declared.route.Route.TheVariants as routes
-use Rattle.cp_refs.specs.declared.values.Question.{Question}
+use Rattle.cp_refs.specs.declared.values.QuestionState.{QuestionState}
 use Rattle.cp_vat_machine.specs.State.{State}
 use Rattle.cp_vat_machine.specs.Then.{Done}
 use Rattle.cp_vat_machine.specs.Capacity.{Fresh}
@@ -74,12 +74,12 @@ answers_there values a o (capability (caps.Import i)) there = there
 answers_there values a o (capability (caps.Pipelined q path)) there = there
 answers_there values a o (capability (caps.Broken x)) there = refl
 
-change_there : (questions : Table Question) (q r : ℕ) (change : Question → Question) (o : Option Question) → get questions q ≡ o → is_some (get questions r) ≡ true
+change_there : (questions : Table QuestionState) (q r : ℕ) (change : QuestionState → QuestionState) (o : Option QuestionState) → get questions q ≡ o → is_some (get questions r) ≡ true
     → is_some (get (with_change questions q change) r) ≡ true
 change_there questions q r change None is some = rw (is) some
 change_there questions q r change (Some x) is some = rw (is) (put_there questions q (change x) r (q == r) refl some)
 
-questions_there : (values : ValueMaps) (q : ℕ) (change : Question → Question) → StaysThere values (record values { questions = with_change values.questions q change })
+questions_there : (values : ValueMaps) (q : ℕ) (change : QuestionState → QuestionState) → StaysThere values (record values { questions = with_change values.questions q change })
 questions_there values q change (answer_path b path) there = there
 questions_there values q change (capability caps.None) there = refl
 questions_there values q change (capability (caps.Object k)) there = refl

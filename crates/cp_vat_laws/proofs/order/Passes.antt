@@ -13,7 +13,7 @@ use Rattle.cp_refs.specs.declared.route.Gate.{Gate}
 use Rattle.cp_refs.specs.declared.route.Gate.TheVariants as gates
 use Rattle.cp_refs.specs.declared.route.Route.{Route}
 use Rattle.cp_refs.specs.declared.route.Route.TheVariants as routes
-use Rattle.cp_refs.specs.declared.values.Question.{Question}
+use Rattle.cp_refs.specs.declared.values.QuestionState.{QuestionState}
 use Rattle.cp_refs.specs.declared.values.QuestionKind.{QuestionKind}
 use Rattle.cp_refs.specs.declared.values.QuestionKind.TheVariants as kinds
 use Rattle.cp_vat_machine.specs.State.{State, gave}
@@ -43,14 +43,14 @@ IsOfThisEnd other = ⊥
 pub record Opens (s : State) : Type 0 where
   pub open_promises : (p : ℕ) → get s.values.promises p ≡ Some None → get s.waiting.over.promises p ≡ None
   pub open_answers : (a : ℕ) → get s.values.answers a ≡ Some None → get s.waiting.over.answers a ≡ None
-  pub open_questions : (q : ℕ) (question : Question) → get s.values.questions q ≡ Some question → question.outcome ≡ None → get s.waiting.over.questions q ≡ None
+  pub open_questions : (q : ℕ) (question : QuestionState) → get s.values.questions q ≡ Some question → question.outcome ≡ None → get s.waiting.over.questions q ≡ None
 
 -- What holds of the values of a vat: each is kept well, and what is open isn't over.
 pub record Sound (s : State) : Type 0 where
   pub promises : (p : ℕ) (v : Cap) → get s.values.promises p ≡ Some (Some v) → IsKept s v
   pub imports : (i : ℕ) (v : Cap) → get s.values.imports i ≡ Some (Some v) → IsKept s v
   pub answers : (a : ℕ) (o : Outcome) (path : List ℕ) → get s.values.answers a ≡ Some (Some o) → IsKept s (cap_at o path)
-  pub questions : (q : ℕ) (question : Question) (o : Outcome) (path : List ℕ) → get s.values.questions q ≡ Some question → question.outcome ≡ Some o → IsKept s (cap_at o path)
+  pub questions : (q : ℕ) (question : QuestionState) (o : Outcome) (path : List ℕ) → get s.values.questions q ≡ Some question → question.outcome ≡ Some o → IsKept s (cap_at o path)
   pub gifts : (g : Gate) (c : Cap) → gave s.waiting.over g ≡ Some c → IsKept s c
   pub embargoes : (n : ℕ) (v : Cap) → get s.marks.embargoes n ≡ Some v → IsOfThisEnd v × (is_found s.values v ≡ true) × HasRoute s.values v
   pub opens : Opens s
@@ -67,7 +67,7 @@ pub record Slot {X : Type 0} (old new : Option (Option X)) (before after : Optio
   pub set : (x : X) → old ≡ Some (Some x) → is_some new ≡ true → new ≡ Some (Some x)
   pub open_ : old ≡ Some None → before ≡ None → is_some new ≡ true → IsStillOpen new after ⊎ IsGiven new after
 
-abbrev pub outcome_of : Option Question → Option (Option Outcome)
+abbrev pub outcome_of : Option QuestionState → Option (Option Outcome)
 outcome_of o = option_map (λ question. question.outcome) o
 
 -- an embargo stays, or it is over and gave what it led to
@@ -80,7 +80,7 @@ pub record Passes (old mid : State) : Type 0 where
   pub answers : (a : ℕ) → Slot (get old.values.answers a) (get mid.values.answers a) (get old.waiting.over.answers a) (get mid.waiting.over.answers a)
   pub questions : (q : ℕ)
       → Slot (outcome_of (get old.values.questions q)) (outcome_of (get mid.values.questions q)) (get old.waiting.over.questions q) (get mid.waiting.over.questions q)
-  pub kinds : (q : ℕ) (one other : Question) → get old.values.questions q ≡ Some one → get mid.values.questions q ≡ Some other → other.kind ≡ one.kind
+  pub kinds : (q : ℕ) (one other : QuestionState) → get old.values.questions q ≡ Some one → get mid.values.questions q ≡ Some other → other.kind ≡ one.kind
   pub imports : (i : ℕ) (v : Cap) → get old.values.imports i ≡ Some (Some v) → is_some (get mid.values.imports i) ≡ true → get mid.values.imports i ≡ Some (Some v)
   pub embargoes : (n : ℕ) (v : Cap) → get old.marks.embargoes n ≡ Some v → get old.waiting.over.embargoes n ≡ None → StaysOrEnds mid n v
   pub ended : (n : ℕ) (v : Cap) → get old.waiting.over.embargoes n ≡ Some v → get mid.waiting.over.embargoes n ≡ Some v
@@ -88,15 +88,15 @@ pub record Passes (old mid : State) : Type 0 where
       → is_off_wire (reference_of old.values c) ≡ true → FitsMark old (mark_of old c) g → FitsMark mid (mark_of mid c) g
   pub next : old.next_ticket ≤ mid.next_ticket
 
-pub outcome_out : (o : Option Question) (question : Question) (x : Option Outcome) → o ≡ Some question → question.outcome ≡ x → outcome_of o ≡ Some x
+pub outcome_out : (o : Option QuestionState) (question : QuestionState) (x : Option Outcome) → o ≡ Some question → question.outcome ≡ x → outcome_of o ≡ Some x
 outcome_out o question x is e = rw (is) (ap (λ y. Some y) e)
 
 -- a question with this outcome
-pub outcome_in : (o : Option Question) (x : Option Outcome) → outcome_of o ≡ Some x → (question : Question) × (o ≡ Some question) × (question.outcome ≡ x)
+pub outcome_in : (o : Option QuestionState) (x : Option Outcome) → outcome_of o ≡ Some x → (question : QuestionState) × (o ≡ Some question) × (question.outcome ≡ x)
 outcome_in None x e = none_out e
 outcome_in (Some question) x e = (question, refl, some_out e)
 
-pub some_outcome : (o : Option Question) → is_some o ≡ true → is_some (outcome_of o) ≡ true
+pub some_outcome : (o : Option QuestionState) → is_some o ≡ true → is_some (outcome_of o) ≡ true
 some_outcome None e = e
 some_outcome (Some question) e = refl
 
@@ -144,7 +144,7 @@ module _ (old mid : State) (opens : Opens old) (later : Sound mid) (passes : Pas
       let there = outcome_in (get mid.values.questions q) (Some o) is in
       (suc way.0, rw (there.1, there.2) way.1)
 
-  path_open : (q : ℕ) (path : List ℕ) (to : Route) (question : Question) → get old.values.questions q ≡ Some question → question.kind ≡ kinds.Local → question.outcome ≡ None
+  path_open : (q : ℕ) (path : List ℕ) (to : Route) (question : QuestionState) → get old.values.questions q ≡ Some question → question.kind ≡ kinds.Local → question.outcome ≡ None
       → is_some (get mid.values.questions q) ≡ true → KeptRoute mid (routes.Wait (gates.Question q path)) to → Routes mid.values (caps.Pipelined q path) to
   path_open q path to question is local none found kept =
       by ((passes.questions q).open_ (outcome_out (get old.values.questions q) question None is none) (opens.open_questions q question is none) (some_outcome (get mid.values.questions q) found))
@@ -160,7 +160,7 @@ module _ (old mid : State) (opens : Opens old) (later : Sound mid) (passes : Pas
           let way : Routes mid.values (cap_at h.0 path) to = rw (h.2) at kept in
           path_given q path to h.0 (h.1 (some_outcome (get mid.values.questions q) found)) way
 
-  path_by : (n q : ℕ) (path : List ℕ) (r to : Route) (question : Question) → get old.values.questions q ≡ Some question → is_some (get mid.values.questions q) ≡ true
+  path_by : (n q : ℕ) (path : List ℕ) (r to : Route) (question : QuestionState) → get old.values.questions q ≡ Some question → is_some (get mid.values.questions q) ≡ true
       → KeptRoute mid r to → (kind : QuestionKind) (x : Option Outcome) → question.kind ≡ kind → question.outcome ≡ x → is_off_wire (path_reference path kind x) ≡ true
       → route_by (λ next. route_within n old.values next) (outcome_way kind q path x) ≡ Some r → Routes mid.values (caps.Pipelined q path) to
   path_by n q path r to question is found kept kinds.Wire None kind none off e = absurd (true≢false (sym off))
@@ -171,7 +171,7 @@ module _ (old mid : State) (opens : Opens old) (later : Sound mid) (passes : Pas
       let well = later.questions q there.0 o path there.1 there.2 in
       path_given q path to o set (plain_follows n (cap_at o path) r to well.plain_ well.found e kept)
 
-  question_by : (n q : ℕ) (path : List ℕ) (r to : Route) → is_some (get mid.values.questions q) ≡ true → KeptRoute mid r to → (o : Option Question)
+  question_by : (n q : ℕ) (path : List ℕ) (r to : Route) → is_some (get mid.values.questions q) ≡ true → KeptRoute mid r to → (o : Option QuestionState)
       → get old.values.questions q ≡ o → is_off_wire (question_reference path o) ≡ true
       → route_by (λ next. route_within n old.values next) (question_way q path o) ≡ Some r → Routes mid.values (caps.Pipelined q path) to
   question_by n q path r to found kept None is off e = none_out e

@@ -7,7 +7,7 @@ use Rattle.cp_refs.specs.declared.cap.Cap.{Cap}
 use Rattle.cp_refs.specs.declared.cap.Cap.TheVariants as caps
 use Rattle.cp_refs.specs.declared.route.Gate.{Gate}
 use Rattle.cp_refs.specs.declared.route.Gate.TheVariants as gates
-use Rattle.cp_refs.specs.declared.values.Question.{Question}
+use Rattle.cp_refs.specs.declared.values.QuestionState.{QuestionState}
 use Rattle.cp_vat_machine.specs.State.{State}
 use Rattle.cp_vat_machine.specs.Answering.{without_answer}
 use Rattle.cp_vat_machine.specs.Calling.{mark_of}
@@ -140,12 +140,12 @@ import_goes s i =
     }
 
 -- a question, with the marks of its paths
-question_slot : (table : Table Question) (over : Table Rattle.cp_refs.specs.declared.outcome.Outcome.Outcome) (k q : ℕ) (b : Bool) → (k == q) ≡ b
+question_slot : (table : Table QuestionState) (over : Table Rattle.cp_refs.specs.declared.outcome.Outcome.Outcome) (k q : ℕ) (b : Bool) → (k == q) ≡ b
     → Slot (outcome_of (get table q)) (outcome_of (get (remove table k) q)) (get over q) (get over q)
 question_slot table over k q true e = gone_slot _ _ _ (ap outcome_of (gone_at table k q true e))
 question_slot table over k q false e = same_slot _ _ _ _ (ap outcome_of (gone_at table k q false e)) refl
 
-left_kind : (table : Table Question) (k q : ℕ) (b : Bool) → (k == q) ≡ b → (one other : Question) → get table q ≡ Some one → get (remove table k) q ≡ Some other → other.kind ≡ one.kind
+left_kind : (table : Table QuestionState) (k q : ℕ) (b : Bool) → (k == q) ≡ b → (one other : QuestionState) → get table q ≡ Some one → get (remove table k) q ≡ Some other → other.kind ≡ one.kind
 left_kind table k q true e one other is there = none_out (sym (gone_at table k q true e) ∙ there)
 left_kind table k q false e one other is there = ap (λ x. x.kind) (some_out (sym there ∙ gone_at table k q false e ∙ is))
 

@@ -17,7 +17,7 @@ use Rattle.cp_refs.specs.declared.call.WaitingCall.{WaitingCall}
 use Rattle.cp_refs.specs.declared.call.Origin.{Origin}
 use Rattle.cp_refs.specs.declared.call.Origin.TheVariants as origins
 use Rattle.cp_refs.specs.declared.outcome.Outcome.{Outcome}
-use Rattle.cp_refs.specs.declared.values.Question.{Question}
+use Rattle.cp_refs.specs.declared.values.QuestionState.{QuestionState}
 use Rattle.cp_vat_machine.specs.State.{State}
 use Rattle.cp_vat_machine.specs.Go.{without_call}
 use Rattle.cp_vat_machine.specs.InUse.{is_unsettled, caps_of}
@@ -104,8 +104,8 @@ module _ (s : State) (hand : Option Origin) (next : List Tied) (w : Within s han
       by h = h
 
   pub question_open : (q : ℕ) (entry : Exchange QuestionEntry) → get s.entries.questions q ≡ Some entry → is_open_stage entry.stage ≡ true → entry.kept.forwards ≡ None
-      → (o : Option Question) → get s.values.questions q ≡ o → QuestionIs (get s.entries.questions q) o
-      → (question : Question) × (o ≡ Some question) × (question.outcome ≡ None)
+      → (o : Option QuestionState) → get s.values.questions q ≡ o → QuestionIs (get s.entries.questions q) o
+      → (question : QuestionState) × (o ≡ Some question) × (question.outcome ≡ None)
   question_open q entry is open_ own None at h = absurd (by (rw (is, own) at h))
     where
       by : OwnIs None entry.stage None → ⊥

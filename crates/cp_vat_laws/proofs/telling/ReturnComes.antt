@@ -20,7 +20,7 @@ use Rattle.cp_refs.specs.declared.cap.Cap.{Cap}
 use Rattle.cp_refs.specs.declared.cap.Cap.TheVariants as caps
 use Rattle.cp_refs.specs.declared.call.Origin.TheVariants as origins
 use Rattle.cp_refs.specs.declared.outcome.Outcome.{Outcome}
-use Rattle.cp_refs.specs.declared.values.Question.{Question}
+use Rattle.cp_refs.specs.declared.values.QuestionState.{QuestionState}
 use Rattle.cp_vat_machine.specs.State.{State, none_over, with_exports}
 use Rattle.cp_vat_machine.specs.Then.{Done, Then, fault_if}
 use Rattle.cp_vat_machine.specs.Capacity.{has_capacity}
@@ -59,7 +59,7 @@ next_of (leads c) = Some c
 next_of other = None
 
 module _ (values new : ValueMaps) (promises : (p : ℕ) (v : Cap) → get new.promises p ≡ Some (Some v) → get values.promises p ≡ Some (Some v))
-    (questions : (q : ℕ) (x : Question) → get new.questions q ≡ Some x → get values.questions q ≡ Some x) where
+    (questions : (q : ℕ) (x : QuestionState) → get new.questions q ≡ Some x → get values.questions q ≡ Some x) where
   promise_back : (p : ℕ) (o : Option (Option Cap)) (next : Cap) → get new.promises p ≡ o → next_of (promise_way p o) ≡ Some next → way values (caps.Promise p) ≡ leads next
   promise_back p None next is e = none_out e
   promise_back p (Some None) next is e = none_out e
@@ -70,7 +70,7 @@ module _ (values new : ValueMaps) (promises : (p : ℕ) (v : Cap) → get new.pr
   lead_is (leads c) next e = ap (λ c. leads c) (some_out e)
   lead_is missing next e = none_out e
 
-  question_back : (q : ℕ) (path : List ℕ) (o : Option Question) (next : Cap) → get new.questions q ≡ o → next_of (question_way q path o) ≡ Some next
+  question_back : (q : ℕ) (path : List ℕ) (o : Option QuestionState) (next : Cap) → get new.questions q ≡ o → next_of (question_way q path o) ≡ Some next
       → way values (caps.Pipelined q path) ≡ leads next
   question_back q path None next is e = none_out e
   question_back q path (Some x) next is e = rw (questions q x is) (lead_is (question_way q path (Some x)) next e)
@@ -249,7 +249,7 @@ module _ (old : State) (exports : Table (Counted Cap)) (r : Return) (entry : Exc
 
   -- what leads on after what was taken in
   leads_back : (s : State) (first : List Effect) (mid : State) → s.values.promises ≡ taken.1.values.promises
-      → ((q : ℕ) (x : Question) → get s.values.questions q ≡ Some x → get taken.1.values.questions q ≡ Some x) → (c last : Cap) → ResolvesTo s.values c last → LeadsTo old.values c last
+      → ((q : ℕ) (x : QuestionState) → get s.values.questions q ≡ Some x → get taken.1.values.questions q ≡ Some x) → (c last : Cap) → ResolvesTo s.values c last → LeadsTo old.values c last
   leads_back s first mid promises questions =
       back_leads old.values s.values (λ p v at. (since_of first mid).settled p v (ap (λ t. get t p) (sym promises) ∙ at))
       (λ q x at. ap (λ t. get t q) (sym (since_of first mid).questions) ∙ questions q x at)
@@ -267,7 +267,7 @@ module _ (old : State) (exports : Table (Counted Cap)) (r : Return) (entry : Exc
             stay),
       )
 
-  left_question : (q : ℕ) (b : Bool) → (r.answer_id == q) ≡ b → (x : Question) → get (remove taken.1.values.questions r.answer_id) q ≡ Some x → get taken.1.values.questions q ≡ Some x
+  left_question : (q : ℕ) (b : Bool) → (r.answer_id == q) ≡ b → (x : QuestionState) → get (remove taken.1.values.questions r.answer_id) q ≡ Some x → get taken.1.values.questions q ≡ Some x
   left_question q true e x at = none_out (sym (gone_at taken.1.values.questions r.answer_id q true e) ∙ at)
   left_question q false e x at = sym (gone_at taken.1.values.questions r.answer_id q false e) ∙ at
 

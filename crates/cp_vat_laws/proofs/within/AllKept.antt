@@ -15,7 +15,7 @@ use Rattle.cp_refs.specs.declared.cap.Cap.TheVariants as caps
 use Rattle.cp_refs.specs.declared.call.WaitingCall.{WaitingCall}
 use Rattle.cp_refs.specs.declared.outcome.Outcome.{Outcome}
 use Rattle.cp_refs.specs.declared.outcome.Outcome.TheVariants as outcomes
-use Rattle.cp_refs.specs.declared.values.Question.{Question}
+use Rattle.cp_refs.specs.declared.values.QuestionState.{QuestionState}
 use Rattle.cp_vat_machine.specs.InUse.{caps_of}
 use Rattle.cp_vat_laws.specs.Within.{AreValues, AreKept}
 use Rattle.cp_vat_laws.proofs.Tables.{put_cases, gone_cases, all_of, each_kept}
@@ -94,7 +94,7 @@ module _ (P : Cap → Type 0) where
           questions = h.questions;
         }
 
-    pub question_put : (q : ℕ) (question : Question) → ((v : Outcome) → question.outcome ≡ Some v → AllByRecursion P (caps_of v))
+    pub question_put : (q : ℕ) (question : QuestionState) → ((v : Outcome) → question.outcome ≡ Some v → AllByRecursion P (caps_of v))
         → AreValues P (record values { questions = insert values.questions q question })
     question_put q question here =
         record {

@@ -13,7 +13,7 @@ use Rattle.cp_refs.specs.declared.call.WaitingCall.{WaitingCall}
 use Rattle.cp_refs.specs.declared.call.Origin.{Origin}
 use Rattle.cp_refs.specs.declared.call.Origin.TheVariants as origins
 use Rattle.cp_refs.specs.declared.outcome.Outcome.{Outcome}
-use Rattle.cp_refs.specs.declared.values.Question.{Question}
+use Rattle.cp_refs.specs.declared.values.QuestionState.{QuestionState}
 use Rattle.cp_refs.specs.declared.values.QuestionKind.{QuestionKind}
 use Rattle.cp_refs.specs.declared.call.Request.{Request}
 use Rattle.cp_vat_machine.specs.State.{State}
@@ -41,7 +41,7 @@ module _ {s : State} (h : Within s None []) (q : ℕ) (kind : QuestionKind) (tic
   abbrev opened : Exchange QuestionEntry
   opened = new_exchange (record { forwards = None; ticket = ticket; is_sent = is_sent; is_delivered = false; mentions = [] })
 
-  abbrev asked_question : Question
+  abbrev asked_question : QuestionState
   asked_question = record { kind = kind; outcome = None }
 
   abbrev asked_state : State
@@ -53,7 +53,7 @@ module _ {s : State} (h : Within s None []) (q : ℕ) (kind : QuestionKind) (tic
   no_ticket : (t : ℕ) → IsTicketOf s (origins.Own q) t → ⊥
   no_ticket t it = none_out (sym fresh ∙ it.1)
 
-  over_at : (r : ℕ) (o : Outcome) (question : Question) (b : Bool) → (q == r) ≡ b → get s.waiting.over.questions r ≡ Some o
+  over_at : (r : ℕ) (o : Outcome) (question : QuestionState) (b : Bool) → (q == r) ≡ b → get s.waiting.over.questions r ≡ Some o
       → get (insert s.values.questions q asked_question) r ≡ Some question
       → question.outcome ≡ None → ⊥
   over_at r o question true t is there unset = let over : get s.waiting.over.questions q ≡ Some o = rw (is_equal q r t) is in none_out (sym not_over ∙ over)

@@ -15,7 +15,7 @@ use Rattle.cp_refs.specs.declared.call.WaitingCall.{WaitingCall}
 use Rattle.cp_refs.specs.declared.outcome.Outcome.{Outcome}
 use Rattle.cp_refs.specs.declared.route.Gate.{Gate}
 use Rattle.cp_refs.specs.declared.route.Gate.TheVariants as gates
-use Rattle.cp_refs.specs.declared.values.Question.{Question}
+use Rattle.cp_refs.specs.declared.values.QuestionState.{QuestionState}
 use Rattle.cp_vat_machine.specs.State.{State, gave, none_over, with_over}
 use Rattle.cp_vat_machine.specs.InUse.{waiting_calls, kept_caps, caps_given, caps_of, is_pipelined_of, is_at_question, is_question_used}
 use Rattle.cp_vat_machine.specs.Local.{Local, all_caps, values_kept, IsLeft, IsThere, IsWaiting, IsUngivenAt}
@@ -67,8 +67,8 @@ module _ (P : Cap → Type 0) (vals : ValueMaps) where
         answers = λ a v is. value_of (λ o. AllByRecursion P (caps_given o)) vals.answers a (Some v) is (flat_all P caps_given (values vals.answers) answers);
         questions = λ q question v is given.
             given_in P question.outcome v given
-            (value_of (λ (x : Question). AllByRecursion P (caps_given x.outcome)) vals.questions q question is
-            (flat_all P (λ (x : Question). caps_given x.outcome) (values vals.questions) questions));
+            (value_of (λ (x : QuestionState). AllByRecursion P (caps_given x.outcome)) vals.questions q question is
+            (flat_all P (λ (x : QuestionState). caps_given x.outcome) (values vals.questions) questions));
       }
 
   module _ (h : AreValues P vals) where
@@ -88,8 +88,8 @@ module _ (P : Cap → Type 0) (vals : ValueMaps) where
         (λ p. here_of _ (get vals.answers p) (λ o is. listed_given P o (λ v e. h.answers p v (is ∙ ap (λ x. Some x) e)))))
 
     list_questions : AllByRecursion P (questions_in vals)
-    list_questions = all_flat P (λ (x : Question). caps_given x.outcome) (values vals.questions)
-        (all_values (λ (x : Question). AllByRecursion P (caps_given x.outcome)) vals.questions
+    list_questions = all_flat P (λ (x : QuestionState). caps_given x.outcome) (values vals.questions)
+        (all_values (λ (x : QuestionState). AllByRecursion P (caps_given x.outcome)) vals.questions
         (λ q. here_of _ (get vals.questions q) (λ question is. listed_given P question.outcome (λ v e. h.questions q question v is e))))
 
 module _ (P : Cap → Type 0) (s : State) where

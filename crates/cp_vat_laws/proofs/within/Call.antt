@@ -17,7 +17,7 @@ use Rattle.cp_refs.specs.declared.outcome.Outcome.{Outcome}
 use Rattle.cp_refs.specs.declared.route.Gate.TheVariants as gates
 use Rattle.cp_refs.specs.declared.route.Route.{Route}
 use Rattle.cp_refs.specs.declared.route.Route.TheVariants as routes
-use Rattle.cp_refs.specs.declared.values.Question.{Question}
+use Rattle.cp_refs.specs.declared.values.QuestionState.{QuestionState}
 use Rattle.cp_refs.specs.declared.values.QuestionKind.{QuestionKind}
 use Rattle.cp_refs.specs.declared.values.QuestionKind.TheVariants as kinds
 use Rattle.cp_refs.specs.declared.call.Request.{Request}
@@ -77,21 +77,21 @@ path_wired path kinds.Local None is = absurd (cc)
 path_wired path kinds.Wire (Some outcome) is = absurd (cc)
 path_wired path kinds.Local (Some outcome) is = absurd (cc)
 
-question_came : (path : List ℕ) (o : Option Question) (v : Cap) → question_reference path o ≡ came_to v
-    → (question : Question) × (outcome : Outcome) × (o ≡ Some question) × (question.outcome ≡ Some outcome) × (v ≡ cap_at outcome path)
+question_came : (path : List ℕ) (o : Option QuestionState) (v : Cap) → question_reference path o ≡ came_to v
+    → (question : QuestionState) × (outcome : Outcome) × (o ≡ Some question) × (question.outcome ≡ Some outcome) × (v ≡ cap_at outcome path)
 question_came path None v is = absurd (cc)
 question_came path (Some question) v is =
     let found = path_came path question.kind question.outcome v is in
     (question, found.0, refl, found.1, found.2)
 
-question_wired : (path : List ℕ) (o : Option Question) → question_reference path o ≡ on_wire
-    → (question : Question) × (o ≡ Some question) × (question.kind ≡ kinds.Wire) × (question.outcome ≡ None)
+question_wired : (path : List ℕ) (o : Option QuestionState) → question_reference path o ≡ on_wire
+    → (question : QuestionState) × (o ≡ Some question) × (question.kind ≡ kinds.Wire) × (question.outcome ≡ None)
 question_wired path None is = absurd (cc)
 question_wired path (Some question) is =
     let found = path_wired path question.kind question.outcome is in
     (question, refl, found.0, found.1)
 
-path_at : (o : Option Question) (path : List ℕ) (question : Question) (outcome : Outcome) (v : Cap) → o ≡ Some question → question.outcome ≡ Some outcome
+path_at : (o : Option QuestionState) (path : List ℕ) (question : QuestionState) (outcome : Outcome) (v : Cap) → o ≡ Some question → question.outcome ≡ Some outcome
     → v ≡ cap_at outcome path
     → path_value o path ≡ Some v
 path_at o path question outcome v at given same = rw (at, given) (ap (λ c. Some c) (sym same))
@@ -127,7 +127,7 @@ import_route values i r routed = by routed.0 routed.1
     by zero is = none_out is
     by (suc n) is = sym (some_out is)
 
-pipe_route : (values : ValueMaps) (q : ℕ) (path : List ℕ) (question : Question) (r : Route) → get values.questions q ≡ Some question
+pipe_route : (values : ValueMaps) (q : ℕ) (path : List ℕ) (question : QuestionState) (r : Route) → get values.questions q ≡ Some question
     → question.kind ≡ kinds.Wire → question.outcome ≡ None
     → Routes values (caps.Pipelined q path) r → r ≡ routes.Pipe q path
 pipe_route values q path question r there wire unset routed = by routed.0 routed.1
@@ -235,7 +235,7 @@ module _ (s : State) (h : Within s None []) (still : s.waiting.over ≡ none_ove
       by (inr old) = target r entry old.1 stage
 
   -- another question is as it was
-  other_question : (r : ℕ) (question : Question) (kind : QuestionKind) → get s.values.questions r ≡ Some question
+  other_question : (r : ℕ) (question : QuestionState) (kind : QuestionKind) → get s.values.questions r ≡ Some question
       → get (insert s.values.questions q (record { kind = kind; outcome = None })) r ≡ Some question
   other_question r question kind at = fresh_kept s.values.questions q (record { kind = kind; outcome = None }) no_value r question at
 
@@ -257,7 +257,7 @@ module _ (s : State) (h : Within s None []) (still : s.waiting.over ≡ none_ove
       let may_out : MayGo mid (origins.Own q) goes.0 = rw (route) tt in
       go_keeps mid (own_call s q request) goes.0 done within hand may_out goes.2
 
-  path_goes : (mid : State) (r : ℕ) (path : List ℕ) (question : Question) (done : Done) → Within mid (Some (origins.Own q)) []
+  path_goes : (mid : State) (r : ℕ) (path : List ℕ) (question : QuestionState) (done : Done) → Within mid (Some (origins.Own q)) []
       → IsInHand mid (own_call s q request)
       → get mid.values.questions r ≡ Some question → question.kind ≡ kinds.Wire → question.outcome ≡ None
       → GoTo mid (own_call s q request) (caps.Pipelined r path) (Ok done) → Within done.1 None []

@@ -21,7 +21,7 @@ use Rattle.cp_refs.specs.declared.call.WaitingCall.{WaitingCall}
 use Rattle.cp_refs.specs.declared.call.Origin.{Origin}
 use Rattle.cp_refs.specs.declared.call.Origin.TheVariants as origins
 use Rattle.cp_refs.specs.declared.outcome.Outcome.{Outcome}
-use Rattle.cp_refs.specs.declared.values.Question.{Question}
+use Rattle.cp_refs.specs.declared.values.QuestionState.{QuestionState}
 use Rattle.cp_refs.specs.declared.values.QuestionKind.TheVariants as kinds
 use Rattle.cp_vat_machine.specs.State.{State, gave, none_over}
 use Rattle.cp_vat_machine.specs.Then.{Done, OrFull, fault_if}
@@ -325,11 +325,11 @@ module _ (s : State) (test : Cap → Bool) (off : IsKeptOff test s) where
   off_answers a outcome is = value_of (λ o. AllByRecursion Off (caps_given o)) s.values.answers a (Some outcome) is
       (flat_all Off caps_given (values s.values.answers) (all_back Off (flat_map option_to_list (values s.values.promises)) _ before_questions))
 
-  off_questions : (q : ℕ) (question : Question) (outcome : Outcome) → get s.values.questions q ≡ Some question → question.outcome ≡ Some outcome
+  off_questions : (q : ℕ) (question : QuestionState) (outcome : Outcome) → get s.values.questions q ≡ Some question → question.outcome ≡ Some outcome
       → AllByRecursion Off (caps_of outcome)
   off_questions q question outcome is given = given_in Off question.outcome outcome given
-      (value_of (λ (x : Question). AllByRecursion Off (caps_given x.outcome)) s.values.questions q question is
-      (flat_all Off (λ (x : Question). caps_given x.outcome) (values s.values.questions)
+      (value_of (λ (x : QuestionState). AllByRecursion Off (caps_given x.outcome)) s.values.questions q question is
+      (flat_all Off (λ (x : QuestionState). caps_given x.outcome) (values s.values.questions)
       (all_back Off _ (flat_map (λ question. caps_given question.outcome) (values s.values.questions)) before_calls)))
 
   off_calls : (t : ℕ) (call : WaitingCall) → get s.waiting.calls t ≡ Some call → AllByRecursion Off call.request.caps

@@ -8,7 +8,7 @@ use Rattle.cp_tables.specs.declared.exchange.Stage.{Stage}
 use Rattle.cp_tables.specs.declared.exchange.Stage.TheVariants as stages
 use Rattle.cp_refs.specs.declared.call.WaitingCall.{WaitingCall}
 use Rattle.cp_refs.specs.declared.call.Origin.TheVariants as origins
-use Rattle.cp_refs.specs.declared.values.Question.{Question}
+use Rattle.cp_refs.specs.declared.values.QuestionState.{QuestionState}
 use Rattle.cp_vat_machine.specs.State.{State, with_questions}
 use Rattle.cp_vat_machine.specs.Give.{without_question}
 use Rattle.cp_vat_machine.specs.InUse.{is_pipelined_of, is_unfinished, is_own, is_own_question, is_question_used}
@@ -58,7 +58,7 @@ module _ {s : State} (h : Within s None []) (q : ℕ) (entry : Exchange Question
     finished_now r e (inl new) stage = rw (← new.0) off
     finished_now r e (inr old) stage = h.finished r e old.1 stage
 
-    finished_as : (o : Option ℕ) (v : Option Question) → OwnIs o stages.Open v → OwnIs o stages.Finished v
+    finished_as : (o : Option ℕ) (v : Option QuestionState) → OwnIs o stages.Open v → OwnIs o stages.Finished v
     finished_as None None is = absurd is
     finished_as None (Some question) is = is
     finished_as (Some a) None is = tt

@@ -12,7 +12,7 @@ use Rattle.cp_refs.specs.declared.call.WaitingCall.{WaitingCall}
 use Rattle.cp_refs.specs.declared.call.Origin.{Origin}
 use Rattle.cp_refs.specs.declared.call.Origin.TheVariants as origins
 use Rattle.cp_refs.specs.declared.outcome.Outcome.{Outcome}
-use Rattle.cp_refs.specs.declared.values.Question.{Question}
+use Rattle.cp_refs.specs.declared.values.QuestionState.{QuestionState}
 use Rattle.cp_refs.specs.declared.values.QuestionKind.{QuestionKind}
 use Rattle.cp_vat_machine.specs.State.{State}
 use Rattle.cp_vat_machine.specs.InUse.{caps_of, is_pipelined_of, is_local_path}
@@ -86,7 +86,7 @@ module _ {s : State} {hand : Option Origin} {next : List Tied} (h : Within s han
       let within = within_sum (λ e. cond (is_forwarding a e) 1 0) s.entries.questions q entry is in
       omega (arith, one, within, none))
 
-question_absent : (o : Option Question) → QuestionIs None o → o ≡ None
+question_absent : (o : Option QuestionState) → QuestionIs None o → o ≡ None
 question_absent None is = refl
 question_absent (Some x) is = absurd is
 
@@ -111,7 +111,7 @@ module _ (s : State) (values_end : AreValues (HasRoute s.values) s.values) where
   outcome_end kind q path None all = (0, refl)
   outcome_end kind q path (Some outcome) all = at_path (HasRoute s.values) outcome path (1, refl) (λ x. (1, refl)) (all outcome refl)
 
-  question_end : (q : ℕ) (path : List ℕ) (o : Option Question) → get s.values.questions q ≡ o → is_some o ≡ true → HasEnd s.values (question_way q path o)
+  question_end : (q : ℕ) (path : List ℕ) (o : Option QuestionState) → get s.values.questions q ≡ o → is_some o ≡ true → HasEnd s.values (question_way q path o)
   question_end q path None is there = absurd (true≢false (sym there))
   question_end q path (Some question) is there = outcome_end question.kind q path question.outcome
       (λ outcome given. values_end.questions q question outcome is given)

@@ -20,7 +20,7 @@ use Rattle.cp_refs.specs.declared.call.Origin.TheVariants as origins
 use Rattle.cp_refs.specs.declared.outcome.Outcome.{Outcome}
 use Rattle.cp_refs.specs.declared.route.Gate.{Gate}
 use Rattle.cp_refs.specs.declared.route.Gate.TheVariants as gates
-use Rattle.cp_refs.specs.declared.values.Question.{Question}
+use Rattle.cp_refs.specs.declared.values.QuestionState.{QuestionState}
 use Rattle.cp_refs.specs.declared.values.QuestionKind.{QuestionKind}
 use Rattle.cp_refs.specs.declared.values.QuestionKind.TheVariants as kinds
 use Rattle.cp_vat_machine.specs.State.{State, gave}
@@ -188,7 +188,7 @@ module _ {s : State} {hand : Option Origin} {next : List Tied} (h : Within s han
   abbrev over_by : State
   over_by = question_over s q outcome
 
-  over_at : (r : ℕ) (o : Outcome) (question : Question) (b : Bool) → (q == r) ≡ b → get (insert s.waiting.over.questions q outcome) r ≡ Some o
+  over_at : (r : ℕ) (o : Outcome) (question : QuestionState) (b : Bool) → (q == r) ≡ b → get (insert s.waiting.over.questions q outcome) r ≡ Some o
       → get s.values.questions r ≡ Some question → question.outcome ≡ None → ⊥
   over_at r o question true t is at unset = let there : get s.values.questions q ≡ Some question = rw (is_equal q r t) at in none_out (sym gone ∙ there)
   over_at r o question false t is at unset = h.over_questions r o question (sym (put_at s.waiting.over.questions q r outcome false t) ∙ is) at unset
@@ -287,13 +287,13 @@ pub record IsToSettle (s : State) (hand : Option Origin) (q : ℕ) : Type 0 wher
   pub sent : (entry : Exchange QuestionEntry) → get s.entries.questions q ≡ Some entry → IsSentIf (is_wire (get s.values.questions q)) entry.kept
 
 -- a question of the application's has a value
-pub its_question : (forwards : Option ℕ) (stage : Stage) (o : Option Question) → forwards ≡ None → OwnIs forwards stage o
-    → (question : Question) × (o ≡ Some question)
+pub its_question : (forwards : Option ℕ) (stage : Stage) (o : Option QuestionState) → forwards ≡ None → OwnIs forwards stage o
+    → (question : QuestionState) × (o ≡ Some question)
 its_question None stage None is valued = absurd valued
 its_question None stage (Some question) is valued = (question, refl)
 its_question (Some a) stage o is valued = none_out (sym is)
 
-own_valued : (forwards : Option ℕ) (question : Question) (outcome : Outcome) → forwards ≡ None
+own_valued : (forwards : Option ℕ) (question : QuestionState) (outcome : Outcome) → forwards ≡ None
     → OwnIs forwards stages.Returned (Some (record question { outcome = Some outcome }))
 own_valued None question outcome is = refl
 own_valued (Some a) question outcome is = none_out (sym is)
@@ -315,14 +315,14 @@ module _ {s : State} {hand : Option Origin} (h : Within s hand []) (q : ℕ) (en
   own = to.own entry was
 
   -- it is kept until it is finished
-  module _ (question : Question) (is_question : get s.values.questions q ≡ Some question) (unset : question.outcome ≡ None) where
+  module _ (question : QuestionState) (is_question : get s.values.questions q ≡ Some question) (unset : question.outcome ≡ None) where
     waits : waiting_of s (origins.Own q) ≡ 0
     waits = to.waits
 
     abbrev given_entry : Exchange QuestionEntry
     given_entry = record entry { stage = stages.Returned }
 
-    abbrev given_question : Question
+    abbrev given_question : QuestionState
     given_question = record question { outcome = Some outcome }
 
     abbrev settled_by : State
@@ -338,10 +338,10 @@ module _ {s : State} {hand : Option Origin} (h : Within s hand []) (q : ℕ) (en
     settled_fit : (c : Cap) → IsFit s c → IsFit settled_by c
     settled_fit c f = (f.0, settled_stays c f.1, plain_route s.values settled_by.values h.plain (λ p o is. is) c f.0 f.2)
 
-    over_settled : (r : ℕ) (o : Outcome) (x : Question) (b : Bool) → (q == r) ≡ b → get (insert s.waiting.over.questions q outcome) r ≡ Some o
+    over_settled : (r : ℕ) (o : Outcome) (x : QuestionState) (b : Bool) → (q == r) ≡ b → get (insert s.waiting.over.questions q outcome) r ≡ Some o
         → get (insert s.values.questions q given_question) r ≡ Some x → x.outcome ≡ None → ⊥
     over_settled r o x true t is at none =
-        none_out (sym (ap (λ (y : Question). y.outcome) (some_out (sym (put_at s.values.questions q r given_question true t) ∙ at)) ∙ none))
+        none_out (sym (ap (λ (y : QuestionState). y.outcome) (some_out (sym (put_at s.values.questions q r given_question true t) ∙ at)) ∙ none))
     over_settled r o x false t is at none =
         h.over_questions r o x (sym (put_at s.waiting.over.questions q r outcome false t) ∙ is)
         (sym (put_at s.values.questions q r given_question false t) ∙ at) none
@@ -504,7 +504,7 @@ module _ {s : State} {hand : Option Origin} (h : Within s hand []) (q : ℕ) (en
       question_ends (own_leaves h q entry was own alone to.waits off) q (gone_at s.values.questions q q true (is_itself q)) outcome
       (all_of (IsFit s) (IsFit (without_question s q)) (caps_of outcome) (own_fit h q entry was own alone to.waits off) fit)
 
-open_unset : (forwards : Option ℕ) (question : Question) → forwards ≡ None → OwnIs forwards stages.Open (Some question) → question.outcome ≡ None
+open_unset : (forwards : Option ℕ) (question : QuestionState) → forwards ≡ None → OwnIs forwards stages.Open (Some question) → question.outcome ≡ None
 open_unset None question is valued = by question.outcome valued
   where
     by : (o : Option Outcome) → is_some o ≡ false → o ≡ None

@@ -22,7 +22,7 @@ use Rattle.cp_refs.specs.declared.route.Gate.{Gate}
 use Rattle.cp_refs.specs.declared.route.Gate.TheVariants as gates
 use Rattle.cp_refs.specs.declared.route.Route.{Route}
 use Rattle.cp_refs.specs.declared.route.Route.TheVariants as routes
-use Rattle.cp_refs.specs.declared.values.Question.{Question}
+use Rattle.cp_refs.specs.declared.values.QuestionState.{QuestionState}
 use Rattle.cp_refs.specs.declared.values.QuestionKind.{QuestionKind}
 use Rattle.cp_refs.specs.declared.values.QuestionKind.TheVariants as kinds
 use Rattle.cp_vat_machine.specs.State.{State, gave, with_questions}
@@ -195,7 +195,7 @@ module _ (values : ValueMaps) (q : ℕ) (plain : AreValues IsPlain values) where
   outcome_off kind r path None other all = open_off kind r path other
   outcome_off kind r path (Some outcome) other all = plain_of q (cap_at outcome path) (at_path IsPlain outcome path refl (λ x. refl) (all outcome refl))
 
-  question_off : (r : ℕ) (path : List ℕ) (o : Option Question) → get values.questions r ≡ o → (r == q) ≡ false → IsWayOff q (question_way r path o)
+  question_off : (r : ℕ) (path : List ℕ) (o : Option QuestionState) → get values.questions r ≡ o → (r == q) ≡ false → IsWayOff q (question_way r path o)
   question_off r path None is other = tt
   question_off r path (Some question) is other = outcome_off question.kind r path question.outcome other
       (λ outcome given. plain.questions r question outcome is given)
@@ -256,7 +256,7 @@ module _ (values : ValueMaps) where
   outcome_on kind q path None = open_on kind q path
   outcome_on kind q path (Some outcome) = tt
 
-  question_on : (q : ℕ) (path : List ℕ) (o : Option Question) → IsWayOn (question_way q path o)
+  question_on : (q : ℕ) (path : List ℕ) (o : Option QuestionState) → IsWayOn (question_way q path o)
   question_on q path None = tt
   question_on q path (Some question) = outcome_on question.kind q path question.outcome
 

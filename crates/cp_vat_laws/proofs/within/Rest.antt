@@ -10,7 +10,7 @@ use Rattle.cp_refs.specs.declared.call.WaitingCall.{WaitingCall}
 use Rattle.cp_refs.specs.declared.call.Origin.{Origin}
 use Rattle.cp_refs.specs.declared.call.Origin.TheVariants as origins
 use Rattle.cp_refs.specs.declared.route.Gate.{Gate}
-use Rattle.cp_refs.specs.declared.values.Question.{Question}
+use Rattle.cp_refs.specs.declared.values.QuestionState.{QuestionState}
 use Rattle.cp_vat_machine.specs.State.{State, gave, with_questions, with_answers}
 use Rattle.cp_vat_machine.specs.Go.{Underway, held_at}
 use Rattle.cp_vat_machine.specs.InUse.{is_at_question, is_local_path}
@@ -208,7 +208,7 @@ module _ {s : State} (a : ℕ) (h : Within s (Some (origins.Answer a)) []) (entr
         waited_for = h.waited_for;
       }
 
-pub same_question : (entry new : Exchange QuestionEntry) (o : Option Question) → new.stage ≡ entry.stage → new.kept.forwards ≡ entry.kept.forwards
+pub same_question : (entry new : Exchange QuestionEntry) (o : Option QuestionState) → new.stage ≡ entry.stage → new.kept.forwards ≡ entry.kept.forwards
     → QuestionIs (Some entry) o → QuestionIs (Some new) o
 same_question entry new o stage forwards is = rw (stage, forwards) is
 

@@ -16,7 +16,7 @@ use Rattle.cp_refs.specs.declared.cap.Cap.TheVariants as caps
 use Rattle.cp_refs.specs.declared.call.WaitingCall.{WaitingCall}
 use Rattle.cp_refs.specs.declared.call.Origin.TheVariants as origins
 use Rattle.cp_refs.specs.declared.outcome.Outcome.{Outcome}
-use Rattle.cp_refs.specs.declared.values.Question.{Question}
+use Rattle.cp_refs.specs.declared.values.QuestionState.{QuestionState}
 use Rattle.cp_vat_machine.specs.State.{State, none_over, with_exports}
 use Rattle.cp_vat_machine.specs.Then.{Done, Then, fault_if}
 use Rattle.cp_vat_machine.specs.InUse.{caps_of, is_pipelined_of}
@@ -76,7 +76,7 @@ module _ {s : State} (h : Within s None []) (q : ℕ) (entry : Exchange Question
   no_value : (a : ℕ) → entry.kept.forwards ≡ Some a → get s.values.questions q ≡ None
   no_value a it = absent entry.kept.forwards (get s.values.questions q) it (rw was at (h.questions_valued q))
     where
-      absent : (o : Option ℕ) (v : Option Question) → o ≡ Some a → OwnIs o entry.stage v → v ≡ None
+      absent : (o : Option ℕ) (v : Option QuestionState) → o ≡ Some a → OwnIs o entry.stage v → v ≡ None
       absent None v is valued = none_out is
       absent (Some b) None is valued = refl
       absent (Some b) (Some x) is valued = absurd valued

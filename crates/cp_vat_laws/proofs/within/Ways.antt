@@ -8,7 +8,7 @@ use Rattle.cp_refs.specs.Values.{ValueMaps}
 use Rattle.cp_refs.specs.declared.cap.Cap.{Cap}
 use Rattle.cp_refs.specs.declared.cap.Cap.TheVariants as caps
 use Rattle.cp_refs.specs.declared.outcome.Outcome.{Outcome}
-use Rattle.cp_refs.specs.declared.values.Question.{Question}
+use Rattle.cp_refs.specs.declared.values.QuestionState.{QuestionState}
 use Rattle.cp_refs.specs.declared.values.QuestionKind.{QuestionKind}
 use Rattle.cp_vat_machine.specs.Writing.{ResolvesTo, end_by, end_within}
 use Rattle.cp_vat_machine.proofs.Basics.{some_out, none_out}
@@ -76,8 +76,8 @@ outcome_leads kind q path (Some outcome) c is = (outcome, refl, sym (leads_out _
     leads_out : (x y : Cap) → leads x ≡ leads y → x ≡ y
     leads_out x y is = cc
 
-pub question_leads : (q : ℕ) (path : List ℕ) (o : Option Question) (c : Cap) → question_way q path o ≡ leads c
-    → (question : Question) × (outcome : Outcome) × (o ≡ Some question) × (question.outcome ≡ Some outcome) × (c ≡ cap_at outcome path)
+pub question_leads : (q : ℕ) (path : List ℕ) (o : Option QuestionState) (c : Cap) → question_way q path o ≡ leads c
+    → (question : QuestionState) × (outcome : Outcome) × (o ≡ Some question) × (question.outcome ≡ Some outcome) × (c ≡ cap_at outcome path)
 question_leads q path None c is = absurd (cc)
 question_leads q path (Some question) c is =
     let found = outcome_leads question.kind q path question.outcome c is in

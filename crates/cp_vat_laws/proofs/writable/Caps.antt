@@ -13,7 +13,7 @@ use Rattle.cp_refs.specs.declared.outcome.Outcome.{Outcome}
 use Rattle.cp_refs.specs.declared.outcome.Outcome.TheVariants as outcomes
 use Rattle.cp_refs.specs.declared.route.Route.{Route}
 use Rattle.cp_refs.specs.declared.route.Route.TheVariants as routes
-use Rattle.cp_refs.specs.declared.values.Question.{Question}
+use Rattle.cp_refs.specs.declared.values.QuestionState.{QuestionState}
 use Rattle.cp_refs.specs.declared.values.QuestionKind.{QuestionKind}
 use Rattle.cp_refs.specs.declared.values.QuestionKind.TheVariants as kinds
 use Rattle.cp_vat_machine.specs.Capacity.{cap_fits, caps_fit, content_fits, exception_fits}
@@ -88,7 +88,7 @@ module _ (v : ValueMaps) (fits : ValuesFit v) where
   outcome_way_fits kind q path None short h = open_fits kind q path short
   outcome_way_fits kind q path (Some outcome) short h = at_fits outcome path h
 
-  question_fits : (q : ℕ) (path : List ℕ) (o : Option Question) → leb (length path) 16 ≡ true → IfSome o (λ question. IfSome question.outcome OutcomeFits) → WayFits (question_way q path o)
+  question_fits : (q : ℕ) (path : List ℕ) (o : Option QuestionState) → leb (length path) 16 ≡ true → IfSome o (λ question. IfSome question.outcome OutcomeFits) → WayFits (question_way q path o)
   question_fits q path None short h = tt
   question_fits q path (Some question) short h = outcome_way_fits question.kind q path question.outcome short h
 

@@ -18,7 +18,7 @@ use Rattle.cp_refs.specs.declared.call.Request.{Request}
 use Rattle.cp_refs.specs.declared.outcome.Outcome.{Outcome}
 use Rattle.cp_refs.specs.declared.route.Gate.TheVariants as gates
 use Rattle.cp_refs.specs.declared.route.Route.TheVariants as routes
-use Rattle.cp_refs.specs.declared.values.Question.{Question}
+use Rattle.cp_refs.specs.declared.values.QuestionState.{QuestionState}
 use Rattle.cp_refs.specs.declared.values.QuestionKind.{QuestionKind}
 use Rattle.cp_refs.specs.declared.values.QuestionKind.TheVariants as kinds
 use Rattle.cp_vat_machine.specs.State.{State}
@@ -122,7 +122,7 @@ path_fits path kinds.Local None h = tt
 path_fits path kinds.Wire (Some outcome) h = at_fits outcome path h
 path_fits path kinds.Local (Some outcome) h = at_fits outcome path h
 
-question_fits : (path : List ℕ) (o : Option Question) → IfSome o (λ question. IfSome question.outcome OutcomeFits) → ReferenceFits (question_reference path o)
+question_fits : (path : List ℕ) (o : Option QuestionState) → IfSome o (λ question. IfSome question.outcome OutcomeFits) → ReferenceFits (question_reference path o)
 question_fits path None h = tt
 question_fits path (Some question) h = path_fits path question.kind question.outcome h
 

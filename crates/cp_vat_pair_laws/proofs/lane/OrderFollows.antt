@@ -10,7 +10,7 @@ use Rattle.cp_refs.specs.declared.call.WaitingCall.{WaitingCall}
 use Rattle.cp_refs.specs.declared.outcome.Outcome.{Outcome}
 use Rattle.cp_refs.specs.declared.route.Gate.{Gate}
 use Rattle.cp_refs.specs.declared.route.Gate.TheVariants as gates
-use Rattle.cp_refs.specs.declared.values.Question.{Question}
+use Rattle.cp_refs.specs.declared.values.QuestionState.{QuestionState}
 use Rattle.cp_refs.specs.declared.values.QuestionKind.{QuestionKind}
 use Rattle.cp_refs.specs.declared.values.QuestionKind.TheVariants as kinds
 use Rattle.cp_messages.specs.declared.message.Message.{Message}
@@ -103,7 +103,7 @@ open_here_plain path kinds.Wire None is = absurd (true≢false (sym is))
 open_here_plain path kinds.Local (Some x) is = absurd (true≢false (sym is))
 open_here_plain path kinds.Wire (Some x) is = absurd (true≢false (sym is))
 
-here_plain : (path : List ℕ) (o : Option Question) → IsTrue (is_question_here o) → question_reference path o ≡ plain
+here_plain : (path : List ℕ) (o : Option QuestionState) → IsTrue (is_question_here o) → question_reference path o ≡ plain
 here_plain path None is = refl
 here_plain path (Some question) is = open_here_plain path question.kind question.outcome is
 

@@ -19,7 +19,7 @@ use Rattle.cp_refs.specs.declared.outcome.Outcome.{Outcome}
 use Rattle.cp_refs.specs.declared.route.Gate.TheVariants as gates
 use Rattle.cp_refs.specs.declared.route.Route.{Route}
 use Rattle.cp_refs.specs.declared.route.Route.TheVariants as routes
-use Rattle.cp_refs.specs.declared.values.Question.{Question}
+use Rattle.cp_refs.specs.declared.values.QuestionState.{QuestionState}
 use Rattle.cp_refs.specs.declared.values.QuestionKind.{QuestionKind}
 use Rattle.cp_refs.specs.declared.values.QuestionKind.TheVariants as kinds
 use Rattle.cp_vat_machine.specs.State.{State}
@@ -106,7 +106,7 @@ module _ (s : State) (q : ℕ) (kind : QuestionKind) (ticket : Option ℕ) (is_s
   abbrev asked_state : State
   asked_state = asked s q kind ticket is_sent
 
-  outcome_stays : (fresh : get s.values.questions q ≡ None) (r : ℕ) (question : Question) (o : Outcome) (b : Bool) → (q == r) ≡ b
+  outcome_stays : (fresh : get s.values.questions q ≡ None) (r : ℕ) (question : QuestionState) (o : Outcome) (b : Bool) → (q == r) ≡ b
       → get s.values.questions r ≡ Some question → get asked_state.values.questions r ≡ Some question
   outcome_stays fresh r question o true t is =
       let here : get s.values.questions q ≡ Some question = rw (is_equal q r t) is in
@@ -223,12 +223,12 @@ pipe_route values r path zero route at is = none_out is
 pipe_route values r path (suc n) route at is =
     some_out (sym (ap (λ o. route_by (λ next. route_within n values next) (question_way r path o)) at) ∙ is)
 
-pub wire_at : (path : List ℕ) (o : Option Question) → question_reference path o ≡ on_wire → o ≡ Some (record { kind = kinds.Wire; outcome = None })
+pub wire_at : (path : List ℕ) (o : Option QuestionState) → question_reference path o ≡ on_wire → o ≡ Some (record { kind = kinds.Wire; outcome = None })
 wire_at path None is = absurd (cc)
 wire_at path (Some question) is = by question.kind question.outcome is
   where
     by : (kind : QuestionKind) (o : Option Outcome) → path_reference path kind o ≡ on_wire
-        → ◌≡◌ {A = Option Question} (Some (record { kind = kind; outcome = o })) (Some (record { kind = kinds.Wire; outcome = None }))
+        → ◌≡◌ {A = Option QuestionState} (Some (record { kind = kind; outcome = o })) (Some (record { kind = kinds.Wire; outcome = None }))
     by kinds.Wire None is = refl
     by kinds.Local None is = absurd (cc)
     by kinds.Wire (Some x) is = absurd (cc)
@@ -242,7 +242,7 @@ module _ (s : State) (q : ℕ) (request : Request) (one : AreOne s) where
   local_may : MayGive (called s q kinds.Local) (origins.Own q)
   local_may question is =
       let same = some_out (sym (put_at s.values.questions q q (record { kind = kinds.Local; outcome = None }) true (is_itself q)) ∙ is) in
-      (ap (λ (x : Question). x.outcome) (sym same), ap (λ (x : Question). is_wire_kind x.kind) (sym same))
+      (ap (λ (x : QuestionState). x.outcome) (sym same), ap (λ (x : QuestionState). is_wire_kind x.kind) (sym same))
 
   wire_question : (r : ℕ) (b : Bool) → (q == r) ≡ b → get s.values.questions r ≡ Some (record { kind = kinds.Wire; outcome = None })
       → get (called s q kinds.Wire).values.questions r ≡ Some (record { kind = kinds.Wire; outcome = None })
@@ -297,7 +297,7 @@ module _ (s : State) (q : ℕ) (request : Request) (one : AreOne s) where
 pub fresh_value : {s : State} {hand : Option Origin} → Within s hand [] → (q : ℕ) → get s.entries.questions q ≡ None → get s.values.questions q ≡ None
 fresh_value {s = s} h q is = by (get s.values.questions q) (rw is at (h.questions_valued q))
   where
-    by : (o : Option Question) → QuestionIs None o → o ≡ None
+    by : (o : Option QuestionState) → QuestionIs None o → o ≡ None
     by None valued = refl
     by (Some question) valued = absurd valued
 
@@ -332,10 +332,10 @@ asked_wired s q kind ticket is_sent =
       wired = λ r question o is given_ wire. by r question o given_ (put_cases s.values.questions q r (record { kind = kind; outcome = None }) question is);
     }
   where
-    by : (r : ℕ) (question : Question) (o : Outcome) → question.outcome ≡ Some o
+    by : (r : ℕ) (question : QuestionState) (o : Outcome) → question.outcome ≡ Some o
         → ((q ≡ r) × (record { kind = kind; outcome = None } ≡ question)) ⊎ (((q == r) ≡ false) × (get s.values.questions r ≡ Some question))
         → get s.values.questions r ≡ Some question
-    by r question o given_ (inl new) = none_out (ap (λ (x : Question). x.outcome) new.1 ∙ given_)
+    by r question o given_ (inl new) = none_out (ap (λ (x : QuestionState). x.outcome) new.1 ∙ given_)
     by r question o given_ (inr old) = old.1
 
 bootstrap_grows : (s : State) (done : OwnDone) → Within s None [] → DoBootstrap s (Ok done) → Grown s done.1 done.2
@@ -412,7 +412,7 @@ module _ {s : State} (h : Within s None []) where
   ungiven_parts is_delivered stages.Finished e = (refl, e)
   ungiven_parts is_delivered stages.Returned e = absurd (true≢false (sym e))
 
-  kind_here : (q : ℕ) (entry : Exchange QuestionEntry) (question : Question) (b : Bool) → is_wire_kind question.kind ≡ b → get s.entries.questions q ≡ Some entry
+  kind_here : (q : ℕ) (entry : Exchange QuestionEntry) (question : QuestionState) (b : Bool) → is_wire_kind question.kind ≡ b → get s.entries.questions q ≡ Some entry
       → get s.values.questions q ≡ Some question → entry.kept.is_delivered ≡ true → is_wire_kind question.kind ≡ false
   kind_here q entry question true wire was at went =
       let on : is_wire (get s.values.questions q) ≡ true = rw (at) wire in

@@ -19,7 +19,7 @@ use Rattle.cp_refs.specs.declared.call.Origin.{Origin}
 use Rattle.cp_refs.specs.declared.call.Origin.TheVariants as origins
 use Rattle.cp_refs.specs.declared.outcome.Outcome.{Outcome}
 use Rattle.cp_refs.specs.declared.outcome.Outcome.TheVariants as outcomes
-use Rattle.cp_refs.specs.declared.values.Question.{Question}
+use Rattle.cp_refs.specs.declared.values.QuestionState.{QuestionState}
 use Rattle.cp_vat_machine.specs.State.{State, with_exports}
 use Rattle.cp_vat_machine.specs.Then.{Done, Then}
 use Rattle.cp_vat_machine.specs.Writing.{IsExport, WritesEnd, WritesDescriptors}
@@ -312,7 +312,7 @@ abbrev pub MayGive : State → Origin → Type 0
 MayGive s (origins.Answer a) =
     ((o : Outcome) → get s.values.answers a ≡ Some (Some o) → ⊥)
     × ((entry : Exchange AnswerEntry) → get s.entries.answers a ≡ Some entry → AreOpen s.values entry.kept.tied)
-MayGive s (origins.Own q) = (question : Question) → get s.values.questions q ≡ Some question → (question.outcome ≡ None) × (is_wire_kind question.kind ≡ false)
+MayGive s (origins.Own q) = (question : QuestionState) → get s.values.questions q ≡ Some question → (question.outcome ≡ None) × (is_wire_kind question.kind ≡ false)
 
 answer_by : (old : State) (a : ℕ) (outcome : Outcome) (entry : Exchange AnswerEntry) (stage : Stage) (done : Done) → AreOne old → MayGive old (origins.Answer a)
     → get old.entries.answers a ≡ Some entry → GiveBy old a outcome entry.kept stage (Ok done) → Grown old done.0 done.1
@@ -345,13 +345,13 @@ answer_grows old a outcome done one may gives = answer_by old a outcome gives.0 
 
 -- a question gets its outcome, or goes
 module _ (s : State) (q : ℕ) (outcome : Outcome)
-    (unset : (question : Question) → get s.values.questions q ≡ Some question → question.outcome ≡ None) where
-  has_none : {A : Type 0} (r : ℕ) (question : Question) (o : Outcome) → (q == r) ≡ true → get s.values.questions r ≡ Some question → question.outcome ≡ Some o → A
+    (unset : (question : QuestionState) → get s.values.questions q ≡ Some question → question.outcome ≡ None) where
+  has_none : {A : Type 0} (r : ℕ) (question : QuestionState) (o : Outcome) → (q == r) ≡ true → get s.values.questions r ≡ Some question → question.outcome ≡ Some o → A
   has_none r question o t is given_ =
       let here : get s.values.questions q ≡ Some question = rw (is_equal q r t) is in
       none_out (sym (unset question here) ∙ given_)
 
-  outcome_stays : (r : ℕ) (question : Question) (o : Outcome) (b : Bool) → (q == r) ≡ b → get s.values.questions r ≡ Some question → question.outcome ≡ Some o
+  outcome_stays : (r : ℕ) (question : QuestionState) (o : Outcome) (b : Bool) → (q == r) ≡ b → get s.values.questions r ≡ Some question → question.outcome ≡ Some o
       → get (question_settled s q outcome).values.questions r ≡ Some question
   outcome_stays r question o true t is given_ = has_none r question o t is given_
   outcome_stays r question o false t is given_ = changed_get s.values.questions q r (λ x. record x { outcome = Some outcome }) false t ∙ is
@@ -391,7 +391,7 @@ module _ (s : State) (q : ℕ) (outcome : Outcome)
   pub outcome_mails : Mails s (effects.Settled q outcome ∷ []) (question_settled s q outcome)
   outcome_mails = no_mail refl unfinished_settled
 
-  outcome_left : (r : ℕ) (question : Question) (o : Outcome) (b : Bool) → (q == r) ≡ b → get s.values.questions r ≡ Some question → question.outcome ≡ Some o
+  outcome_left : (r : ℕ) (question : QuestionState) (o : Outcome) (b : Bool) → (q == r) ≡ b → get s.values.questions r ≡ Some question → question.outcome ≡ Some o
       → get (remove s.values.questions q) r ≡ Some question
   outcome_left r question o true t is given_ = has_none r question o t is given_
   outcome_left r question o false t is given_ = gone_at s.values.questions q r false t ∙ is
@@ -431,21 +431,21 @@ module _ (s : State) (q : ℕ) (outcome : Outcome)
 
 -- where its call wasn't sent at once
 module _ (s : State) (q : ℕ) (outcome : Outcome) (may : MayGive s (origins.Own q)) where
-  not_wired : {A : Type 0} (r : ℕ) (question x : Question) → (q == r) ≡ true → get s.values.questions r ≡ Some x → question ≡ record x { outcome = Some outcome }
+  not_wired : {A : Type 0} (r : ℕ) (question x : QuestionState) → (q == r) ≡ true → get s.values.questions r ≡ Some x → question ≡ record x { outcome = Some outcome }
       → IsTrue (is_wire_kind question.kind) → A
   not_wired r question x t is e wire =
       let here : get s.values.questions q ≡ Some x = rw (is_equal q r t) is in
-      absurd (true≢false (sym wire ∙ ap (λ (y : Question). is_wire_kind y.kind) e ∙ (may x here).1))
+      absurd (true≢false (sym wire ∙ ap (λ (y : QuestionState). is_wire_kind y.kind) e ∙ (may x here).1))
 
-  wired_by : (r : ℕ) (question : Question) (b : Bool) → (q == r) ≡ b → get (question_settled s q outcome).values.questions r ≡ Some question
+  wired_by : (r : ℕ) (question : QuestionState) (b : Bool) → (q == r) ≡ b → get (question_settled s q outcome).values.questions r ≡ Some question
       → IsTrue (is_wire_kind question.kind) → get s.values.questions r ≡ Some question
   wired_by r question true t is wire =
-      let found = mapped_out (λ (x : Question). record x { outcome = Some outcome }) (get s.values.questions r) question
+      let found = mapped_out (λ (x : QuestionState). record x { outcome = Some outcome }) (get s.values.questions r) question
       (sym (changed_get s.values.questions q r (λ x. record x { outcome = Some outcome }) true t) ∙ is) in
       not_wired r question found.0 t found.1 found.2 wire
   wired_by r question false t is wire = sym (changed_get s.values.questions q r (λ x. record x { outcome = Some outcome }) false t) ∙ is
 
-  unset_by : (question : Question) → get s.values.questions q ≡ Some question → question.outcome ≡ None
+  unset_by : (question : QuestionState) → get s.values.questions q ≡ Some question → question.outcome ≡ None
   unset_by question is = (may question is).0
 
   pub settled_question_grows : Grown s (effects.Settled q outcome ∷ []) (question_settled s q outcome)

@@ -19,7 +19,7 @@ use Rattle.cp_refs.specs.declared.outcome.Outcome.{Outcome}
 use Rattle.cp_refs.specs.declared.outcome.Outcome.TheVariants as outcomes
 use Rattle.cp_refs.specs.declared.route.Route.{Route}
 use Rattle.cp_refs.specs.declared.route.Route.TheVariants as routes
-use Rattle.cp_refs.specs.declared.values.Question.{Question}
+use Rattle.cp_refs.specs.declared.values.QuestionState.{QuestionState}
 use Rattle.cp_vat_machine.specs.State.{State, with_questions}
 use Rattle.cp_vat_machine.specs.Then.{Done}
 use Rattle.cp_vat_machine.specs.Capacity.{Fresh}
@@ -239,7 +239,7 @@ module _ {s : State} {hand : Option Origin} (h : Within s hand []) where
       let valued : AnswerIs (Some entry) (Some (Some o)) = rw is at (rw at at (h.answers_valued a)) in
       true≢false (valued ∙ ap not open_)
 
-  pub no_outcome : (q : ℕ) (entry : Exchange QuestionEntry) (question : Question) → get s.entries.questions q ≡ Some entry → IsTrue (is_open_stage entry.stage)
+  pub no_outcome : (q : ℕ) (entry : Exchange QuestionEntry) (question : QuestionState) → get s.entries.questions q ≡ Some entry → IsTrue (is_open_stage entry.stage)
       → get s.values.questions q ≡ Some question → question.outcome ≡ None
   no_outcome q entry question is open_ at =
       let valued : QuestionIs (Some entry) (Some question) = rw is at (rw at at (h.questions_valued q)) in
@@ -256,7 +256,7 @@ module _ {s : State} (h : Within s None []) (call : WaitingCall) (cap : Cap) (ne
   waits = there_of (WaitsFor s call.ticket) (get s.waiting.calls call.ticket) call next.waits (h.waiting call.ticket)
 
   -- a call that waits wasn't sent, so its question isn't on the wire
-  pub kind_off : (q : ℕ) (question : Question) → call.origin ≡ origins.Own q → get s.values.questions q ≡ Some question → is_wire_kind question.kind ≡ false
+  pub kind_off : (q : ℕ) (question : QuestionState) → call.origin ≡ origins.Own q → get s.values.questions q ≡ Some question → is_wire_kind question.kind ≡ false
   kind_off q question is at = by (is_wire_kind question.kind) refl
     where
       by : (b : Bool) → is_wire_kind question.kind ≡ b → b ≡ false

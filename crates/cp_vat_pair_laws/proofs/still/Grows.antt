@@ -14,7 +14,7 @@ use Rattle.cp_refs.specs.declared.cap.Cap.TheVariants as caps
 use Rattle.cp_refs.specs.declared.call.Origin.{Origin}
 use Rattle.cp_refs.specs.declared.call.Origin.TheVariants as origins
 use Rattle.cp_refs.specs.declared.outcome.Outcome.{Outcome}
-use Rattle.cp_refs.specs.declared.values.Question.{Question}
+use Rattle.cp_refs.specs.declared.values.QuestionState.{QuestionState}
 use Rattle.cp_vat_machine.specs.State.{State}
 use Rattle.cp_vat_machine.specs.Writing.{ResolvesTo, IsExport, end_by, end_within}
 use Rattle.cp_vat_machine.specs.Receiving.{times}
@@ -33,7 +33,7 @@ use Rattle.cp_vat_pair_laws.proofs.counts.rules.TwoParts.{sent_both}
 -- What a promise was settled to, and what a question gave, stays.
 pub record WaysStay (old new : ValueMaps) : Type 0 where
   pub promises : (p : ℕ) (value : Cap) → get old.promises p ≡ Some (Some value) → get new.promises p ≡ Some (Some value)
-  pub questions : (q : ℕ) (question : Question) (outcome : Outcome) → get old.questions q ≡ Some question → question.outcome ≡ Some outcome
+  pub questions : (q : ℕ) (question : QuestionState) (outcome : Outcome) → get old.questions q ≡ Some question → question.outcome ≡ Some outcome
       → get new.questions q ≡ Some question
 
 -- So do what an answer gave, and exports, of which there is one for each capability.
@@ -47,7 +47,7 @@ pub record PlacesStay (old new : State) : Type 0 where
 pub record RefsStay (old new : State) : Type 0 where
   pub imports : (i : ℕ) (value : Cap) → get old.values.imports i ≡ Some (Some value) → get new.values.imports i ≡ Some (Some value)
   pub unresolved : (i : ℕ) (value : Cap) → get new.values.imports i ≡ Some (Some value) → get old.values.imports i ≡ Some (Some value)
-  pub wired : (q : ℕ) (question : Question) (outcome : Outcome) → get new.values.questions q ≡ Some question → question.outcome ≡ Some outcome
+  pub wired : (q : ℕ) (question : QuestionState) (outcome : Outcome) → get new.values.questions q ≡ Some question → question.outcome ≡ Some outcome
       → IsTrue (is_wire_kind question.kind) → get old.values.questions q ≡ Some question
 
 -- No call has another ticket, nor is there one more.

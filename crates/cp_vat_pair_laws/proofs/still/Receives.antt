@@ -34,7 +34,7 @@ use Rattle.cp_refs.specs.declared.call.Origin.TheVariants as origins
 use Rattle.cp_refs.specs.declared.outcome.Outcome.{Outcome}
 use Rattle.cp_refs.specs.declared.route.Gate.TheVariants as gates
 use Rattle.cp_refs.specs.declared.route.Route.TheVariants as routes
-use Rattle.cp_refs.specs.declared.values.Question.{Question}
+use Rattle.cp_refs.specs.declared.values.QuestionState.{QuestionState}
 use Rattle.cp_vat_machine.specs.State.{State, none_over, with_exports, with_answers}
 use Rattle.cp_vat_machine.specs.Then.{Done, Then, fault_if}
 use Rattle.cp_vat_machine.specs.Capacity.{has_capacity, Fresh, message_fits}
@@ -300,7 +300,7 @@ module _ {s : State} (h : Within s None []) (still : s.waiting.over ≡ none_ove
 -- An open question has no outcome, also where it forwards.
 module _ {s : State} (h : Within s None []) where
   pub unset : (q : ℕ) (entry : Exchange QuestionEntry) → get s.entries.questions q ≡ Some entry → IsTrue (is_open_stage entry.stage)
-      → (question : Question) → get s.values.questions q ≡ Some question → question.outcome ≡ None
+      → (question : QuestionState) → get s.values.questions q ≡ Some question → question.outcome ≡ None
   unset q entry is open_ question at = no_outcome h q entry question is open_ at
 
   -- the answer whose call is forwarded isn't given
@@ -325,7 +325,7 @@ finish_grows s q =
       loops = no_loop refl (λ n. refl) (λ n. refl);
     }
 
-settled_moved : (s : State) (q : ℕ) (outcome : Outcome) → ((question : Question) → get s.values.questions q ≡ Some question → question.outcome ≡ None)
+settled_moved : (s : State) (q : ℕ) (outcome : Outcome) → ((question : QuestionState) → get s.values.questions q ≡ Some question → question.outcome ≡ None)
     → Moved [] s (effects.Settled q outcome ∷ []) (question_settled s q outcome)
 settled_moved s q outcome none =
     let places = outcome_places s q outcome none in

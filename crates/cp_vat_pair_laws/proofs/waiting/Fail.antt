@@ -23,7 +23,7 @@ use Rattle.cp_refs.specs.declared.route.Gate.{Gate}
 use Rattle.cp_refs.specs.declared.route.Gate.TheVariants as gates
 use Rattle.cp_refs.specs.declared.route.Route.{Route}
 use Rattle.cp_refs.specs.declared.route.Route.TheVariants as routes
-use Rattle.cp_refs.specs.declared.values.Question.{Question}
+use Rattle.cp_refs.specs.declared.values.QuestionState.{QuestionState}
 use Rattle.cp_refs.specs.declared.values.QuestionKind.{QuestionKind}
 use Rattle.cp_refs.specs.declared.values.QuestionKind.TheVariants as kinds
 use Rattle.cp_vat_machine.specs.State.{State, Exchanges, gave}
@@ -143,7 +143,7 @@ at_question q (routes.Wait (gates.Question r path)) = r == q
 at_question q (routes.Pipe r path) = r == q
 at_question q other = false
 
-abbrev question_ended : State → ℕ → Exception → Table Question → Exchanges → State
+abbrev question_ended : State → ℕ → Exception → Table QuestionState → Exchanges → State
 question_ended s q x questions entries = record (question_over s q (outcomes.Failed x)) { values = record s.values { questions = questions }; entries = entries }
 
 open_fails : (new : ValueMaps) (q r : ℕ) (path : List ℕ) (kind : QuestionKind) (x : Exception) → (r == q) ≡ true
@@ -152,7 +152,7 @@ open_fails new q r path kinds.Wire x t = rw (t) (1, refl)
 open_fails new q r path kinds.Local x t = rw (t) (1, refl)
 
 -- the question's results, in place of none
-abbrev failed_question : Question → Exception → Question
+abbrev failed_question : QuestionState → Exception → QuestionState
 failed_question question x = record question { outcome = Some (outcomes.Failed x) }
 
 fails_by : (new : ValueMaps) (q r : ℕ) (path : List ℕ) (kind : QuestionKind) (o : Option Outcome) (x : Exception) → (r == q) ≡ true → o ≡ None
@@ -160,9 +160,9 @@ fails_by : (new : ValueMaps) (q r : ℕ) (path : List ℕ) (kind : QuestionKind)
 fails_by new q r path kind None x t e = λ any. open_fails new q r path kind x t
 fails_by new q r path kind (Some outcome) x t e = none_out (sym e)
 
-module _ (s : State) (q : ℕ) (x : Exception) (question : Question) (entries : Exchanges) (ungiven : get s.waiting.over.questions q ≡ None)
+module _ (s : State) (q : ℕ) (x : Exception) (question : QuestionState) (entries : Exchanges) (ungiven : get s.waiting.over.questions q ≡ None)
     (is : get s.values.questions q ≡ Some question) (none : question.outcome ≡ None) where
-  abbrev new_questions : Table Question
+  abbrev new_questions : Table QuestionState
   new_questions = insert s.values.questions q (failed_question question x)
 
   abbrev later : ValueMaps
@@ -244,7 +244,7 @@ module _ (s : State) (q : ℕ) (x : Exception) (question : Question) (entries : 
   question_on : NoOpenOver s → MovesOn s ended
   question_on over = (move_where (at_question q) (routes.Fail x), question_moves, question_none_over over)
 
-changed_question : (s : State) (q : ℕ) (x : Exception) (question : Question) → get s.values.questions q ≡ Some question
+changed_question : (s : State) (q : ℕ) (x : Exception) (question : QuestionState) → get s.values.questions q ≡ Some question
     → with_change s.values.questions q (λ one. record one { outcome = Some (outcomes.Failed x) }) ≡ insert s.values.questions q (failed_question question x)
 changed_question s q x question is = rw (is) refl
 
@@ -270,12 +270,12 @@ module _ (s : State) (ports : Table Port) (q : ℕ) (x : Exception) (alone : Nob
   promise_next p (Some None) c e h = none_out h
   promise_next p (Some (Some v)) c e h = rw (← some_out h) (alone.values p v e)
 
-  outcome_next : (r : ℕ) (path : List ℕ) (question : Question) (o : Option Outcome) (c : Cap) → get s.values.questions r ≡ Some question → question.outcome ≡ o
+  outcome_next : (r : ℕ) (path : List ℕ) (question : QuestionState) (o : Option Outcome) (c : Cap) → get s.values.questions r ≡ Some question → question.outcome ≡ o
       → next_of (outcome_way question.kind r path o) ≡ Some c → NotOf c
   outcome_next r path question None c e is h = none_out h
   outcome_next r path question (Some outcome) c e is h = rw (← some_out h) (alone.results r question outcome path e is)
 
-  question_next : (r : ℕ) (path : List ℕ) (o : Option Question) (c : Cap) → get s.values.questions r ≡ o → next_of (question_way r path o) ≡ Some c → NotOf c
+  question_next : (r : ℕ) (path : List ℕ) (o : Option QuestionState) (c : Cap) → get s.values.questions r ≡ o → next_of (question_way r path o) ≡ Some c → NotOf c
   question_next r path None c e h = none_out h
   question_next r path (Some question) c e h = outcome_next r path question question.outcome c e refl h
 

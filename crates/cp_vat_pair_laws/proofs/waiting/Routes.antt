@@ -15,7 +15,7 @@ use Rattle.cp_refs.specs.declared.route.Gate.{Gate}
 use Rattle.cp_refs.specs.declared.route.Gate.TheVariants as gates
 use Rattle.cp_refs.specs.declared.route.Route.{Route}
 use Rattle.cp_refs.specs.declared.route.Route.TheVariants as routes
-use Rattle.cp_refs.specs.declared.values.Question.{Question}
+use Rattle.cp_refs.specs.declared.values.QuestionState.{QuestionState}
 use Rattle.cp_refs.specs.declared.values.QuestionKind.{QuestionKind}
 use Rattle.cp_refs.specs.declared.values.QuestionKind.TheVariants as kinds
 use Rattle.cp_vat_machine.specs.State.{State, gave}
@@ -155,7 +155,7 @@ module _ (test : Route → Bool) (q : ℕ) (path : List ℕ) (piped : test (rout
   off_outcome kind None = off_open kind
   off_outcome kind (Some outcome) = tt
 
-  pub off_question : (o : Option Question) → EndsOff test (question_way q path o)
+  pub off_question : (o : Option QuestionState) → EndsOff test (question_way q path o)
   off_question None = tt
   off_question (Some question) = off_outcome question.kind question.outcome
 
@@ -189,7 +189,7 @@ open_outcome : (values : ValueMaps) (q : ℕ) (path : List ℕ) (kind : Question
 open_outcome values q path kind None e = open_kind values q path kind e
 open_outcome values q path kind (Some outcome) e = tt
 
-open_question : (values : ValueMaps) (q : ℕ) (path : List ℕ) (o : Option Question) → get values.questions q ≡ o → EndsOpen values (question_way q path o)
+open_question : (values : ValueMaps) (q : ℕ) (path : List ℕ) (o : Option QuestionState) → get values.questions q ≡ o → EndsOpen values (question_way q path o)
 open_question values q path None e = tt
 open_question values q path (Some question) e = open_outcome values q path question.kind question.outcome e
 

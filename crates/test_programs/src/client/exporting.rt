@@ -2,7 +2,7 @@
 
 use crate::client::peer::client_of;
 use crate::frames::{DESK, NEXT_SUM, SUM, bytes_of};
-use cp_client::{Client, ClientFault, Exports, word_at};
+use cp_client::{Client, ClientFault, ExportedObjects, word_at};
 use cp_frame::Mode;
 use cp_refs::{Cap, Outcome, Request};
 use cp_servants::{Ask, Cell, Content, Reply, Servant, Settled};
@@ -71,7 +71,7 @@ impl Servant for Through {
 fn call_with<O: Servant>(
     alloc: Global,
     client: &mut Client<&[u8], Vec<u8>>,
-    exports: &mut Exports<O>,
+    exports: &mut ExportedObjects<O>,
     object: O,
 ) -> Result<Option<u64>, ClientFault> {
     let desk = client.bootstrap()?;
@@ -90,7 +90,7 @@ fn objects_answer_while_a_client_waits(rt: HostRuntime) {
     let alloc = rt.alloc();
     let bytes = bytes_of(&rt, alloc, &[DESK, GET, SUM]);
     let mut client = client_of(alloc, &bytes);
-    let mut exports = Exports::new(alloc);
+    let mut exports = ExportedObjects::new(alloc);
     let given = call_with(alloc, &mut client, &mut exports, Cell::new(alloc));
     check!(&rt; given == Ok(Some(41)));
     check!(&rt; exports.objects().len() == 1);
@@ -107,7 +107,7 @@ fn objects_ask_what_they_were_given(rt: HostRuntime) {
     let alloc = rt.alloc();
     let bytes = bytes_of(&rt, alloc, &[DESK, GET, NEXT_SUM, SUM]);
     let mut client = client_of(alloc, &bytes);
-    let mut exports = Exports::new(alloc);
+    let mut exports = ExportedObjects::new(alloc);
     let through = Through {
         alloc,
         ask: None,
@@ -123,7 +123,11 @@ fn objects_ask_what_they_were_given(rt: HostRuntime) {
 }
 
 /// A client that offers its first object to such a peer, which it serves until that ends.
-fn serve(alloc: Global, bytes: &[u8], exports: &mut Exports<Cell>) -> (Option<ClientFault>, u64) {
+fn serve(
+    alloc: Global,
+    bytes: &[u8],
+    exports: &mut ExportedObjects<Cell>,
+) -> (Option<ClientFault>, u64) {
     let (to, limits) = (Vec::new(alloc), Limits::standard());
     let mut client = Client::with_bootstrap(alloc, bytes, to, Mode::Plain, limits, 0);
     let ended = exports.serve(&mut client).err();
@@ -136,7 +140,7 @@ fn serve(alloc: Global, bytes: &[u8], exports: &mut Exports<Cell>) -> (Option<Cl
 fn a_client_has_a_bootstrap_object(rt: HostRuntime) {
     let alloc = rt.alloc();
     let bytes = bytes_of(&rt, alloc, &[BOOTSTRAP, GET_BEFORE]);
-    let mut exports = Exports::new(alloc);
+    let mut exports = ExportedObjects::new(alloc);
     let cap = exports.export(Cell::new(alloc)).expect(&rt, "memory");
     check!(&rt; matches!(cap, Cap::Object(0)));
     check!(&rt; serve(alloc, &bytes, &mut exports) == (None, 2));

@@ -2,8 +2,8 @@
 
 use crate::client::peer::client_of;
 use crate::frames::{DESK, FAILED, NEXT_SUM, SUM, bytes_of};
-use cp_client::{Client, Stream, StreamFault, request_of};
-use cp_stubs::{NoResults, Target};
+use cp_client::{Client, Stream, StreamingFault, request_of};
+use cp_stubs::{CallTarget, NoResults};
 use std::alloc::Global;
 use std::process::Abort;
 
@@ -11,9 +11,9 @@ use std::process::Abort;
 type Peer<'a> = Client<&'a [u8], Vec<u8>>;
 
 /// The peer's object.
-fn desk(rt: &impl Abort, alloc: Global, client: &mut Peer<'_>) -> Target {
+fn desk(rt: &impl Abort, alloc: Global, client: &mut Peer<'_>) -> CallTarget {
     let desk = client.bootstrap().expect(rt, "a bootstrap");
-    Target::new(alloc, desk.cap(alloc))
+    CallTarget::new(alloc, desk.cap(alloc))
 }
 
 /// Calls method 0 of an object, in a stream.
@@ -22,8 +22,8 @@ fn send(
     alloc: Global,
     stream: &mut Stream,
     client: &mut Peer<'_>,
-    target: &Target,
-) -> Result<(), StreamFault> {
+    target: &CallTarget,
+) -> Result<(), StreamingFault> {
     let request = request_of(alloc, 1, 0, &[]).expect(rt, "memory");
     stream.send(client, target, request)
 }
@@ -59,7 +59,10 @@ fn says_failed(rt: &impl Abort, alloc: Global, client: &mut Peer<'_>) -> bool {
     let mut stream = Stream::new(alloc, 1);
     check!(rt; send(rt, alloc, &mut stream, client, &target).is_ok());
     let fault = send(rt, alloc, &mut stream, client, &target).err();
-    let has_failed = matches!(&fault, Some(StreamFault::NoResults(NoResults::Failed(_))));
+    let has_failed = matches!(
+        &fault,
+        Some(StreamingFault::NoResults(NoResults::Failed(_)))
+    );
     drop(fault);
     drop(stream);
     drop(target);

@@ -1,7 +1,7 @@
 //! A host of 127.0.0.1, and a client in the same thread.
 
 use cp_frame::Mode;
-use cp_host::{End, Host, News, Plan};
+use cp_host::{End, Host, HostPlan, News};
 use cp_servants::Desk;
 use cp_sockets::{HostLimits, Listener};
 use cp_words::Limits;
@@ -22,8 +22,8 @@ const TWO: [u8; 96] = [
 ];
 
 /// One connection, plain, of which each turn takes one message.
-fn plan() -> Plan {
-    Plan {
+fn plan() -> HostPlan {
+    HostPlan {
         mode: Mode::Plain,
         messages: Limits::standard(),
         limits: HostLimits {

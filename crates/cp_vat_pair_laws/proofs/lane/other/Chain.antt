@@ -18,7 +18,7 @@ use Rattle.cp_refs.specs.declared.call.Origin.TheVariants as origins
 use Rattle.cp_refs.specs.declared.outcome.Outcome.{Outcome}
 use Rattle.cp_refs.specs.declared.route.Gate.{Gate}
 use Rattle.cp_refs.specs.declared.route.Route.TheVariants as routes
-use Rattle.cp_refs.specs.declared.values.Question.{Question}
+use Rattle.cp_refs.specs.declared.values.QuestionState.{QuestionState}
 use Rattle.cp_refs.specs.declared.values.QuestionKind.{QuestionKind}
 use Rattle.cp_refs.specs.declared.values.QuestionKind.TheVariants as kinds
 use Rattle.cp_vat_machine.specs.State.{State, gave}
@@ -62,7 +62,7 @@ outcome_not kinds.Local q path None = refl
 outcome_not kinds.Wire q path (Some x) = refl
 outcome_not kinds.Local q path (Some x) = refl
 
-question_not : (q : ℕ) (path : List ℕ) (o : Option Question) → is_to_import (question_way q path o) ≡ false
+question_not : (q : ℕ) (path : List ℕ) (o : Option QuestionState) → is_to_import (question_way q path o) ≡ false
 question_not q path None = refl
 question_not q path (Some question) = outcome_not question.kind q path question.outcome
 

@@ -15,7 +15,7 @@ use Rattle.cp_refs.specs.declared.cap.Cap.{Cap}
 use Rattle.cp_refs.specs.declared.cap.Cap.TheVariants as caps
 use Rattle.cp_refs.specs.declared.outcome.Outcome.{Outcome}
 use Rattle.cp_refs.specs.declared.route.Gate.{Gate}
-use Rattle.cp_refs.specs.declared.values.Question.{Question}
+use Rattle.cp_refs.specs.declared.values.QuestionState.{QuestionState}
 use Rattle.cp_refs.specs.declared.values.QuestionKind.{QuestionKind}
 use Rattle.cp_refs.specs.declared.values.QuestionKind.TheVariants as kinds
 use Rattle.cp_vat_machine.specs.State.{State}
@@ -155,7 +155,7 @@ module _ (s : State) (local_ : Local s) (a : ℕ) (path : List ℕ) (value : Cap
   own_returned None stage kind o valued found = returned_stage stage (rw (found.1) at valued)
   own_returned (Some b) stage kind o valued found = absurd valued
 
-  entry_not : (o : Option (Exchange QuestionEntry)) (question : Question) → get s.entries.questions a ≡ o → get s.values.questions a ≡ Some question → is_wire_kind question.kind ≡ true
+  entry_not : (o : Option (Exchange QuestionEntry)) (question : QuestionState) → get s.entries.questions a ≡ o → get s.values.questions a ≡ Some question → is_wire_kind question.kind ≡ true
       → (outcome : Outcome) × (question.outcome ≡ Some outcome) → ⊥
   entry_not None question is at wire found = absurd (by (rw is at (rw at at (local_.questions_valued a))))
     where
@@ -167,7 +167,7 @@ module _ (s : State) (local_ : Local s) (a : ℕ) (path : List ℕ) (value : Cap
       let sent : IsSentIf true entry.kept = rw wire at (rw at at sent_if) in
       there_of IsUnreturned (get s.entries.questions a) entry is unreturned sent.0 (own_returned entry.kept.forwards entry.stage question.kind question.outcome valued found)
 
-  question_not : (o : Option Question) → get s.values.questions a ≡ o → is_wire o ≡ true → question_reference path o ≡ came_to value → ⊥
+  question_not : (o : Option QuestionState) → get s.values.questions a ≡ o → is_wire o ≡ true → question_reference path o ≡ came_to value → ⊥
   question_not None at wire is = true≢false (sym wire)
   question_not (Some question) at wire is = entry_not (get s.entries.questions a) question refl at wire (came_by path question.kind question.outcome value is)
 

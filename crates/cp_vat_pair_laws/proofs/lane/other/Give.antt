@@ -18,7 +18,7 @@ use Rattle.cp_refs.specs.declared.call.Origin.TheVariants as origins
 use Rattle.cp_refs.specs.declared.outcome.Outcome.{Outcome}
 use Rattle.cp_refs.specs.declared.outcome.Outcome.TheVariants as outcomes
 use Rattle.cp_refs.specs.declared.route.Gate.TheVariants as gates
-use Rattle.cp_refs.specs.declared.values.Question.{Question}
+use Rattle.cp_refs.specs.declared.values.QuestionState.{QuestionState}
 use Rattle.cp_vat_machine.specs.State.{State, gave, with_exports}
 use Rattle.cp_vat_machine.specs.Then.{Done}
 use Rattle.cp_vat_machine.specs.Writing.{Raise, counted, counted_out, opened, has_no_capacity, IsExport, WritesEnd, WritesDescriptor, WritesDescriptors}
@@ -337,7 +337,7 @@ answer_by old a outcome entry stages.Finished done one was open_ ungiven are lef
 answer_by old a outcome entry stages.Returned done one was open_ ungiven are left gives = absurd gives
 
 -- An own question is given.
-module _ (old : State) (q : ℕ) (outcome : Outcome) (question : Question) (is : get old.values.questions q ≡ Some question) (none : question.outcome ≡ None)
+module _ (old : State) (q : ℕ) (outcome : Outcome) (question : QuestionState) (is : get old.values.questions q ≡ Some question) (none : question.outcome ≡ None)
     (ungiven : get old.waiting.over.questions q ≡ None) where
   abbrev own_then : State
   own_then = question_settled old q outcome
@@ -345,7 +345,7 @@ module _ (old : State) (q : ℕ) (outcome : Outcome) (question : Question) (is :
   changed : own_then.values.questions ≡ insert old.values.questions q (record question { outcome = Some outcome })
   changed = rw (is) refl
 
-  stays_by : (r : ℕ) (b : Bool) (other : Question) (o : Outcome) → (q == r) ≡ b → get old.values.questions r ≡ Some other → other.outcome ≡ Some o
+  stays_by : (r : ℕ) (b : Bool) (other : QuestionState) (o : Outcome) → (q == r) ≡ b → get old.values.questions r ≡ Some other → other.outcome ≡ Some o
       → get (insert old.values.questions q (record question { outcome = Some outcome })) r ≡ Some other
   stays_by r true other o t at some =
       let same : question ≡ other = some_out (sym is ∙ ap (λ n. get old.values.questions n) (is_equal q r t) ∙ at) in

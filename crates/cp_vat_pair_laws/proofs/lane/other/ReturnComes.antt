@@ -17,7 +17,7 @@ use Rattle.cp_refs.specs.declared.cap.Cap.{Cap}
 use Rattle.cp_refs.specs.declared.call.Origin.{Origin}
 use Rattle.cp_refs.specs.declared.call.Origin.TheVariants as origins
 use Rattle.cp_refs.specs.declared.outcome.Outcome.{Outcome}
-use Rattle.cp_refs.specs.declared.values.Question.{Question}
+use Rattle.cp_refs.specs.declared.values.QuestionState.{QuestionState}
 use Rattle.cp_vat_machine.specs.State.{State, none_over, with_exports}
 use Rattle.cp_vat_machine.specs.Then.{Done, Then, fault_if, after}
 use Rattle.cp_vat_machine.specs.Receiving.{ReceivesCaps, release_exports}
@@ -64,7 +64,7 @@ question_gone_places s q unvalued =
       one_export = λ one. one;
     }
   where
-    by : (r : ℕ) (question : Question) (b : Bool) → (q == r) ≡ b → get s.values.questions r ≡ Some question → get (remove s.values.questions q) r ≡ Some question
+    by : (r : ℕ) (question : QuestionState) (b : Bool) → (q == r) ≡ b → get s.values.questions r ≡ Some question → get (remove s.values.questions q) r ≡ Some question
     by r question true t is = none_out (sym unvalued ∙ ap (λ n. get s.values.questions n) (is_equal q r t) ∙ is)
     by r question false t is = gone_at s.values.questions q r false t ∙ is
 
@@ -201,11 +201,11 @@ module _ (here : End) (s final : State) (r : Return) (rest : List Message) (know
     unvalued : get t.values.questions q ≡ None
     unvalued = by (get t.values.questions q) (rw entry_t at (inn.within.questions_valued q))
       where
-        none_own : (o : Option Question) → OwnIs (Some a) entry.stage o → o ≡ None
+        none_own : (o : Option QuestionState) → OwnIs (Some a) entry.stage o → o ≡ None
         none_own None h = refl
         none_own (Some question) h = absurd h
 
-        by : (o : Option Question) → QuestionIs (Some entry) o → o ≡ None
+        by : (o : Option QuestionState) → QuestionIs (Some entry) o → o ≡ None
         by o h = none_own o (rw forwards at h)
 
     may : IsUngiven (without_question t q) (origins.Answer a)

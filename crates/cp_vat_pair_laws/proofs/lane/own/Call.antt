@@ -14,7 +14,7 @@ use Rattle.cp_refs.specs.declared.call.Origin.TheVariants as origins
 use Rattle.cp_refs.specs.declared.call.Request.{Request}
 use Rattle.cp_refs.specs.declared.route.Gate.TheVariants as gates
 use Rattle.cp_refs.specs.declared.route.Route.TheVariants as routes
-use Rattle.cp_refs.specs.declared.values.Question.{Question}
+use Rattle.cp_refs.specs.declared.values.QuestionState.{QuestionState}
 use Rattle.cp_refs.specs.declared.values.QuestionKind.{QuestionKind}
 use Rattle.cp_refs.specs.declared.values.QuestionKind.TheVariants as kinds
 use Rattle.cp_vat_machine.specs.State.{State}
@@ -100,7 +100,7 @@ module _ (s : State) (inbox : List Message) (there : End) (local_ : Local s) (th
       none_by None e = refl
       none_by (Some a) e = absurd (true≢false (sym e))
 
-  path_there : (r : ℕ) → has_question s (caps.Pipelined r []) ≡ true → (question : Question) × (get s.values.questions r ≡ Some question)
+  path_there : (r : ℕ) → has_question s (caps.Pipelined r []) ≡ true → (question : QuestionState) × (get s.values.questions r ≡ Some question)
   path_there r has =
       let own = own_is (get s.entries.questions r) has in
       its_question own.0.kept.forwards own.0.stage (get s.values.questions r) own.2 (rw own.1 at (midway.within.questions_valued r))

@@ -15,7 +15,7 @@ use Rattle.cp_refs.specs.declared.call.Request.{Request}
 use Rattle.cp_refs.specs.declared.outcome.Outcome.{Outcome}
 use Rattle.cp_refs.specs.declared.route.Gate.{Gate}
 use Rattle.cp_refs.specs.declared.route.Gate.TheVariants as gates
-use Rattle.cp_refs.specs.declared.values.Question.{Question}
+use Rattle.cp_refs.specs.declared.values.QuestionState.{QuestionState}
 use Rattle.cp_refs.specs.declared.values.QuestionKind.{QuestionKind}
 use Rattle.cp_refs.specs.declared.values.QuestionKind.TheVariants as kinds
 use Rattle.cp_vat_machine.specs.State.{State}
@@ -62,10 +62,10 @@ pub same_value : (one other : Cap) → came_to one ≡ came_to other → one ≡
 same_value one other is = cc
 
 -- a question of the application's that is open at its path as it is
-pub local_question : (path : List ℕ) (question : Question) → question_reference path (Some question) ≡ plain → question ≡ record { kind = kinds.Local; outcome = None }
+pub local_question : (path : List ℕ) (question : QuestionState) → question_reference path (Some question) ≡ plain → question ≡ record { kind = kinds.Local; outcome = None }
 local_question path question is = by question.kind question.outcome is
   where
-    by : (kind : QuestionKind) (o : Option Outcome) → path_reference path kind o ≡ plain → ◌≡◌ {A = Question} (record { kind = kind; outcome = o }) (record { kind = kinds.Local; outcome = None })
+    by : (kind : QuestionKind) (o : Option Outcome) → path_reference path kind o ≡ plain → ◌≡◌ {A = QuestionState} (record { kind = kind; outcome = o }) (record { kind = kinds.Local; outcome = None })
     by kinds.Local None is = refl
     by kinds.Wire None is = wire_plain is
     by kinds.Wire (Some outcome) is = absurd (cc)

@@ -23,7 +23,7 @@ use Rattle.cp_refs.specs.declared.route.Gate.{Gate}
 use Rattle.cp_refs.specs.declared.route.Gate.TheVariants as gates
 use Rattle.cp_refs.specs.declared.route.Route.{Route}
 use Rattle.cp_refs.specs.declared.route.Route.TheVariants as routes
-use Rattle.cp_refs.specs.declared.values.Question.{Question}
+use Rattle.cp_refs.specs.declared.values.QuestionState.{QuestionState}
 use Rattle.cp_refs.specs.declared.values.QuestionKind.{QuestionKind}
 use Rattle.cp_refs.specs.declared.values.QuestionKind.TheVariants as kinds
 use Rattle.cp_vat_machine.specs.State.{State}
@@ -121,7 +121,7 @@ module _ (s : State) (q : ℕ) (request : Request) (none : NoneFinished s) (fres
   abbrev call : Underway
   call = own_call s q request
 
-  abbrev its_question : QuestionKind → Question
+  abbrev its_question : QuestionKind → QuestionState
   its_question kind = record { kind = kind; outcome = None }
 
   abbrev its_entry : Exchange QuestionEntry
@@ -241,7 +241,7 @@ module _ (s : State) (q : ℕ) (request : Request) (none : NoneFinished s) (fres
         (same)
         (broken x kinds.Local
         (changed_get mid.values.questions q q (λ y. record y { outcome = Some (outcomes.Failed x) }) true (is_itself q)
-        ∙ ap (λ (o : Option Question). option_map (λ (y : Question). record y { outcome = Some (outcomes.Failed x) }) o) (question_at kinds.Local cap mid h))) in
+        ∙ ap (λ (o : Option QuestionState). option_map (λ (y : QuestionState). record y { outcome = Some (outcomes.Failed x) }) o) (question_at kinds.Local cap mid h))) in
         called_by kinds.Local cap mid h done aside (gone_on (silent.calls ∙ ap (λ w. w.calls) h.waiting_)) (λ r other. rw (same) refl) (λ n open_. rw (same) refl) (rw (same) tt)
         (inl silent.no_delivery) asked_
     fails_by x entry stages.Finished done is at gives =

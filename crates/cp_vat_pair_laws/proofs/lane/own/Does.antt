@@ -11,7 +11,7 @@ use Rattle.cp_refs.specs.declared.cap.Cap.{Cap}
 use Rattle.cp_refs.specs.declared.call.Origin.{Origin}
 use Rattle.cp_refs.specs.declared.call.Origin.TheVariants as origins
 use Rattle.cp_refs.specs.declared.outcome.Outcome.{Outcome}
-use Rattle.cp_refs.specs.declared.values.Question.{Question}
+use Rattle.cp_refs.specs.declared.values.QuestionState.{QuestionState}
 use Rattle.cp_refs.specs.declared.values.QuestionKind.{QuestionKind}
 use Rattle.cp_refs.specs.declared.values.QuestionKind.TheVariants as kinds
 use Rattle.cp_vat_machine.specs.State.{State, none_over}
@@ -83,7 +83,7 @@ module _ {s : State} (h : Within s None []) (q : ℕ) where
   its_entry None was is = absurd (true≢false (sym is))
   its_entry (Some entry) was is = (entry, was, is)
 
-  asked_here : awaits s (origins.Own q) ≡ true → (question : Question) × (get s.values.questions q ≡ Some question)
+  asked_here : awaits s (origins.Own q) ≡ true → (question : QuestionState) × (get s.values.questions q ≡ Some question)
   asked_here is =
       let found = its_entry (get s.entries.questions q) refl is in
       its_question found.0.kept.forwards found.0.stage (get s.values.questions q) (forwards_none found.0 found.1 found.2) (rw found.1 at (h.questions_valued q))

@@ -14,7 +14,7 @@ use Rattle.cp_refs.specs.declared.cap.Cap.TheVariants as caps
 use Rattle.cp_refs.specs.declared.outcome.Outcome.{Outcome}
 use Rattle.cp_refs.specs.declared.route.Gate.{Gate}
 use Rattle.cp_refs.specs.declared.route.Gate.TheVariants as gates
-use Rattle.cp_refs.specs.declared.values.Question.{Question}
+use Rattle.cp_refs.specs.declared.values.QuestionState.{QuestionState}
 use Rattle.cp_refs.specs.declared.values.QuestionKind.{QuestionKind}
 use Rattle.cp_refs.specs.declared.values.QuestionKind.TheVariants as kinds
 use Rattle.cp_vat_machine.specs.State.{State, gave}
@@ -76,11 +76,11 @@ path_plain path kind None is = refl
 path_plain path kinds.Wire (Some outcome) is = absurd (cc)
 path_plain path kinds.Local (Some outcome) is = absurd (cc)
 
-question_came : (path : List ℕ) (o : Option Question) (v : Cap) → question_reference path o ≡ came_to v → path_value o path ≡ Some v
+question_came : (path : List ℕ) (o : Option QuestionState) (v : Cap) → question_reference path o ≡ came_to v → path_value o path ≡ Some v
 question_came path None v is = absurd (cc)
 question_came path (Some question) v is = path_came path question.kind question.outcome v is
 
-question_plain : (path : List ℕ) (o : Option Question) → question_reference path o ≡ plain → is_some (path_value o path) ≡ false
+question_plain : (path : List ℕ) (o : Option QuestionState) → question_reference path o ≡ plain → is_some (path_value o path) ≡ false
 question_plain path None is = refl
 question_plain path (Some question) is = path_plain path question.kind question.outcome is
 

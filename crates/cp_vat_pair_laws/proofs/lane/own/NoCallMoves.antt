@@ -9,7 +9,7 @@ use Rattle.cp_refs.specs.declared.cap.Cap.TheVariants as caps
 use Rattle.cp_refs.specs.declared.outcome.Outcome.{Outcome}
 use Rattle.cp_refs.specs.declared.route.Gate.{Gate}
 use Rattle.cp_refs.specs.declared.route.Gate.TheVariants as gates
-use Rattle.cp_refs.specs.declared.values.Question.{Question}
+use Rattle.cp_refs.specs.declared.values.QuestionState.{QuestionState}
 use Rattle.cp_refs.specs.declared.values.QuestionKind.TheVariants as kinds
 use Rattle.cp_vat_machine.specs.State.{State, gave}
 use Rattle.cp_vat_machine.specs.Writing.{IsExport}
@@ -92,7 +92,7 @@ module _ (here there : End) (ref : Reference) (made : List ℕ) (mid : State) (i
       (level_lane here there ref made mid inbox effects (silent_here here there made mid inbox taken effects silent) refs exports front delivered holds)
 
 -- The application gives an outcome to a local question: its paths come to that, and others stay as they are.
-module _ (here there : End) (q : ℕ) (outcome : Outcome) (question : Question) (at : get here.vat.values.questions q ≡ Some question)
+module _ (here there : End) (q : ℕ) (outcome : Outcome) (question : QuestionState) (at : get here.vat.values.questions q ≡ Some question)
     (local_ : question.kind ≡ kinds.Local) (unset : question.outcome ≡ None) (not_over : get here.vat.waiting.over.questions q ≡ None) (h : Within here.vat None [])
     (silent : Silent here.vat (effects.Settled q outcome ∷ []) (question_settled here.vat q outcome)) where
   abbrev mid : State

@@ -12,7 +12,7 @@ use Rattle.cp_refs.specs.declared.outcome.Outcome.{Outcome}
 use Rattle.cp_refs.specs.declared.outcome.Outcome.TheVariants as outcomes
 use Rattle.cp_refs.specs.declared.route.Gate.{Gate}
 use Rattle.cp_refs.specs.declared.route.Gate.TheVariants as gates
-use Rattle.cp_refs.specs.declared.values.Question.{Question}
+use Rattle.cp_refs.specs.declared.values.QuestionState.{QuestionState}
 use Rattle.cp_refs.specs.declared.values.QuestionKind.{QuestionKind}
 use Rattle.cp_refs.specs.declared.values.QuestionKind.TheVariants as kinds
 use Rattle.cp_vat_machine.specs.State.{State, gave}
@@ -53,7 +53,7 @@ none_opened i (m ∷ ms) = none_opened i ms
 path_opened : (q : ℕ) (path : List ℕ) (ms : List Message) → list_any (opens q) ms ≡ false → list_any (opens_place (path_to q path)) ms ≡ false
 path_opened q path ms none = none
 
-wired : (path : List ℕ) (o : Option Question) → question_reference path o ≡ on_wire → IsTrue (is_wire o)
+wired : (path : List ℕ) (o : Option QuestionState) → question_reference path o ≡ on_wire → IsTrue (is_wire o)
 wired path o is = rw (wire_at path o is) refl
 
 -- where imports, questions and marks are as they were
@@ -134,12 +134,12 @@ module _ (s : State) (q : ℕ) (outcome : Outcome) (none : get s.waiting.over.qu
       others r false t not_ = changed_get s.values.questions q r (λ x. record x { outcome = Some outcome }) false t
 
   -- what a path of it comes to
-  pub path_comes : (path : List ℕ) (question : Question) → get s.values.questions q ≡ Some question
+  pub path_comes : (path : List ℕ) (question : QuestionState) → get s.values.questions q ≡ Some question
       → CameTo given_state (path_to q path) (cap_at outcome path)
   path_comes path question is =
       let at : get given_state.values.questions q ≡ Some (record question { outcome = Some outcome }) =
       changed_get s.values.questions q q (λ x. record x { outcome = Some outcome }) true (is_itself q)
-      ∙ ap (λ (o : Option Question). option_map (λ (x : Question). record x { outcome = Some outcome }) o) is in
+      ∙ ap (λ (o : Option QuestionState). option_map (λ (x : QuestionState). record x { outcome = Some outcome }) o) is in
       ap (question_reference path) at ∙ by question.kind
     where
       by : (kind : QuestionKind) → path_reference path kind (Some outcome) ≡ came_to (cap_at outcome path)

@@ -21,7 +21,7 @@ use Rattle.cp_refs.specs.declared.cap.Cap.TheVariants as caps
 use Rattle.cp_refs.specs.declared.outcome.Outcome.{Outcome}
 use Rattle.cp_refs.specs.declared.route.Gate.{Gate}
 use Rattle.cp_refs.specs.declared.route.Gate.TheVariants as gates
-use Rattle.cp_refs.specs.declared.values.Question.{Question}
+use Rattle.cp_refs.specs.declared.values.QuestionState.{QuestionState}
 use Rattle.cp_refs.specs.declared.values.QuestionKind.{QuestionKind}
 use Rattle.cp_refs.specs.declared.values.QuestionKind.TheVariants as kinds
 use Rattle.cp_vat_machine.specs.State.{State, gave, none_over, with_exports}
@@ -79,11 +79,11 @@ not_only inbox is before m after none only =
     let all : (list_any is before || list_any is (m ∷ after)) ≡ false = sym (ap (list_any is) only.all ∙ list_any-append is before (m ∷ after)) ∙ none in
     absurd (true≢false (sym only.it ∙ none_of_front is m after (or_second (list_any is before) (list_any is (m ∷ after)) all)))
 
-same_question : (question : Question) (kind : QuestionKind) → question.kind ≡ kind → question.outcome ≡ None → question ≡ record { kind = kind; outcome = None }
+same_question : (question : QuestionState) (kind : QuestionKind) → question.kind ≡ kind → question.outcome ≡ None → question ≡ record { kind = kind; outcome = None }
 same_question question kind is unset = rw (is, unset) refl
 
 -- A question of the application's is given what a Return told.
-module _ (s : State) (r : Return) (rest : List Message) (there : End) (made : List ℕ) (delivered : List Delivery) (outcome : Outcome) (question : Question)
+module _ (s : State) (r : Return) (rest : List Message) (there : End) (made : List ℕ) (delivered : List Delivery) (outcome : Outcome) (question : QuestionState)
     (at : get s.values.questions r.answer_id ≡ Some question) (open_ : question.outcome ≡ None) (not_over : get s.waiting.over.questions r.answer_id ≡ None)
     (silent : Silent s (effects.Settled r.answer_id outcome ∷ []) (question_settled s r.answer_id outcome))
     (taken : (path : List ℕ) → IsTakenAs (path_returned path r.returned) s (cap_at outcome path)) (unopened_ : list_any (opens r.answer_id) there.inbox ≡ false)
@@ -281,11 +281,11 @@ module _ (s : State) (r : Return) (rest : List Message) (there : End) (made : Li
   unvalued : get s.values.questions q_ ≡ None
   unvalued = by (get s.values.questions q_) (rw is at (h.questions_valued q_))
     where
-      none_own : (o : Option Question) → OwnIs (Some a) entry.stage o → o ≡ None
+      none_own : (o : Option QuestionState) → OwnIs (Some a) entry.stage o → o ≡ None
       none_own None valued = refl
       none_own (Some question) valued = absurd valued
 
-      by : (o : Option Question) → QuestionIs (Some entry) o → o ≡ None
+      by : (o : Option QuestionState) → QuestionIs (Some entry) o → o ≡ None
       by o valued = none_own o (rw forwards at valued)
 
   ticket_none : own_ticket (get s.entries.questions q_) ≡ []

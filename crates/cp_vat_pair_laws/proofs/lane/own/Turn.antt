@@ -28,7 +28,7 @@ use Rattle.cp_refs.specs.declared.route.Gate.{Gate}
 use Rattle.cp_refs.specs.declared.route.Gate.TheVariants as gates
 use Rattle.cp_refs.specs.declared.route.Route.{Route}
 use Rattle.cp_refs.specs.declared.route.Route.TheVariants as routes
-use Rattle.cp_refs.specs.declared.values.Question.{Question}
+use Rattle.cp_refs.specs.declared.values.QuestionState.{QuestionState}
 use Rattle.cp_refs.specs.declared.values.QuestionKind.{QuestionKind}
 use Rattle.cp_refs.specs.declared.values.QuestionKind.TheVariants as kinds
 use Rattle.cp_vat_machine.specs.State.{State, gave, with_exports}
@@ -131,7 +131,7 @@ module _ {s : State} {inbox : List Message} {other : End} (h : Midway s inbox ot
   opens_not q r true t off on = absurd (true≢false (sym on ∙ ap (λ x. is_wire (get s.values.questions x)) (sym (is_equal q r t)) ∙ off))
   opens_not q r false t off on = t
 
-  wire_off : (q : ℕ) (o : Option Question) → get s.values.questions q ≡ o → call.origin ≡ origins.Own q → is_wire (get s.values.questions q) ≡ false
+  wire_off : (q : ℕ) (o : Option QuestionState) → get s.values.questions q ≡ o → call.origin ≡ origins.Own q → is_wire (get s.values.questions q) ≡ false
   wire_off q None at from = ap is_wire at
   wire_off q (Some question) at from = ap is_wire at ∙ kind_off h.within call cap next q question from at
 
@@ -240,7 +240,7 @@ local_not_over : (s : State) (ref : Reference) (gate : Gate) (cap : Cap) → Wit
 local_not_over s (import_ i) gate cap h is over = is
 local_not_over s (path_to q path) gate cap h is over = by (get s.waiting.over.questions q) refl (rw is.1 at over)
   where
-    unset : (o : Option Question) → get s.values.questions q ≡ o → IsTrue (is_question_here o) → (question : Question) × (get s.values.questions q ≡ Some question) × (question.outcome ≡ None)
+    unset : (o : Option QuestionState) → get s.values.questions q ≡ o → IsTrue (is_question_here o) → (question : QuestionState) × (get s.values.questions q ≡ Some question) × (question.outcome ≡ None)
     unset None at here = absurd (true≢false (sym here))
     unset (Some question) at here = (question, at, none question.kind question.outcome here)
       where
@@ -267,7 +267,7 @@ module _ {s : State} (h : Within s None []) (call : WaitingCall) (cap : Cap) (ne
       let waits = there_of (WaitsFor s call.ticket) (get s.waiting.calls call.ticket) call next.waits (h.waiting call.ticket) in
       rw from at waits.2
 
-  its : (question : Question) × (get s.values.questions q ≡ Some question)
+  its : (question : QuestionState) × (get s.values.questions q ≡ Some question)
   its = its_question whose.0.kept.forwards whose.0.stage (get s.values.questions q) whose.4 (rw whose.1 at (h.questions_valued q))
 
   not_over : get s.waiting.over.questions q ≡ None

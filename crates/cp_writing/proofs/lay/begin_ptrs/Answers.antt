@@ -2,7 +2,7 @@ use Rattle.std.proofs.Common.{◌≡◌, ℕ, ◌+◌, replicate, ap, ◌∙◌,
 use Rattle.std.proofs.lemmas.Result.{err_from_is_err_and}
 use Rattle.std.proofs.lemmas.List.{length-replicate}
 use Rattle.cp_words.specs.declared.pointer.ElementSize.TheVariants as sizes
-use Rattle.cp_words.specs.declared.kind.Kind.TheVariants as kinds
+use Rattle.cp_words.specs.declared.kind.BodyKind.TheVariants as kinds
 use Rattle.cp_writing.specs.Sheets.{written, append}
 use Rattle.cp_writing.specs.Writing.{ptrs_placed}
 use Rattle.cp_writing.proofs.Begins.{run_of, ptrs_hang, ptrs_refuse}

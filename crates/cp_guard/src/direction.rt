@@ -1,0 +1,223 @@
+//! One direction of a connection: what was read, and what is still to be written.
+
+use crate::read_buffer::{PIECE, ReadBuffer};
+use cp_relay::{Relay, RelayFault, Visitor};
+use std::alloc::{AllocError, Global};
+use std::io::{self, ErrorKind, Read, Write};
+use std::mem;
+
+/// The most pieces of a long frame that one turn takes, so that other connections have theirs.
+const PIECES: usize = 32;
+
+/// The most capacity that is kept for what goes out.
+const SPARE: usize = 65_536;
+
+/// How a direction ended.
+#[derive(Clone, Copy)]
+pub(crate) enum DirectionEnd {
+    /// The source ended after a message.
+    Well,
+    /// A message was refused, or the source ended inside one. What was accepted went out.
+    Refused(RelayFault),
+    /// The source failed. What was accepted went out.
+    Unread(io::Error),
+    /// The target failed.
+    Unwritten(io::Error),
+}
+
+/// What is known of the two streams of a direction. A wrong `true` costs one call.
+#[derive(Clone, Copy)]
+pub(crate) struct Readiness {
+    pub readable: bool,
+    /// The source sends no more, or failed: a short read needn't be the last one.
+    pub closed: bool,
+    pub writable: bool,
+}
+
+/// One direction. It reads only once all that goes out was written: what waits is the rest of a piece, what goes
+/// out of it, and the open frame.
+#[derive(Drop)]
+pub(crate) struct Direction {
+    alloc: Global,
+    relay: Relay,
+    piece: ReadBuffer,
+    out: Vec<u8>,
+    /// How many bytes of `out` were written.
+    sent: usize,
+    ready: Readiness,
+    /// Why nothing more is read.
+    ended: Option<DirectionEnd>,
+}
+
+impl Direction {
+    /// A direction of which nothing was read.
+    pub(crate) fn new(alloc: Global, relay: Relay) -> Result<Direction, AllocError> {
+        Ok(Direction {
+            alloc,
+            relay,
+            piece: ReadBuffer::new(alloc)?,
+            out: Vec::new(alloc),
+            sent: 0,
+            ready: Readiness {
+                readable: false,
+                closed: false,
+                writable: false,
+            },
+            ended: None,
+        })
+    }
+
+    /// What an event says of the source.
+    pub(crate) fn mark_source(&mut self, readable: bool, closed: bool) {
+        self.ready.readable = self.ready.readable || readable || closed;
+        self.ready.closed = self.ready.closed || closed;
+    }
+
+    /// What an event says of the target.
+    pub(crate) fn mark_target(&mut self, writable: bool) {
+        self.ready.writable = self.ready.writable || writable;
+    }
+
+    /// How it ended, once nothing more goes out.
+    pub(crate) fn end(&self) -> Option<DirectionEnd> {
+        if self.is_written() { self.ended } else { None }
+    }
+
+    /// Whether something can be done before the next event.
+    pub(crate) fn goes_on(&self) -> bool {
+        if self.is_written() {
+            self.ended.is_none() && (!self.piece.is_taken() || self.ready.readable)
+        } else {
+            self.ready.writable
+        }
+    }
+
+    /// Takes pieces of the source until something goes out, lets through what is accepted of them, and writes as much as
+    /// the target takes. A long frame may take the spare buffer, which comes back once the frame was written.
+    pub(crate) fn turn<R: Read, W: Write, V: Visitor>(
+        &mut self,
+        from: &mut R,
+        to: &mut W,
+        visitor: &mut V,
+        spare: &mut Vec<u8>,
+    ) {
+        self.send(to, spare);
+        for _ in 0..PIECES {
+            if !self.is_written() || !self.goes_on() {
+                break;
+            }
+            if self.piece.is_taken() {
+                self.read(from);
+            }
+            self.pass(visitor, spare);
+        }
+        self.send(to, spare);
+    }
+
+    /// Whether all that goes out was written.
+    fn is_written(&self) -> bool {
+        self.sent >= self.out.len()
+    }
+
+    /// Reads a piece.
+    fn read<R: Read>(&mut self, from: &mut R) {
+        if !self.ready.readable {
+            return;
+        }
+        match self.piece.read(from) {
+            Ok(0) => self.finish(),
+            // After a short read of a source that goes on, the next bytes come with an event.
+            Ok(count) => self.ready.readable = self.ready.closed || count == PIECE,
+            Err(error) => match error.kind() {
+                ErrorKind::WouldBlock => self.ready.readable = false,
+                ErrorKind::Interrupted => (),
+                _ => self.ended = Some(DirectionEnd::Unread(error)),
+            },
+        }
+    }
+
+    /// The source has ended.
+    fn finish(&mut self) {
+        self.ended = Some(match self.relay.finish() {
+            Ok(()) => DirectionEnd::Well,
+            Err(fault) => DirectionEnd::Refused(fault),
+        });
+    }
+
+    /// Gives the piece to the relay.
+    fn pass<V: Visitor>(&mut self, visitor: &mut V, spare: &mut Vec<u8>) {
+        put_larger_first(&mut self.out, spare);
+        let piece = self.piece.rest();
+        match let_through(&mut self.relay, visitor, piece, &mut self.out) {
+            Ok(left) => self.piece.leave(left),
+            Err(fault) => self.ended = Some(DirectionEnd::Refused(fault)),
+        }
+        if self.out.is_empty() {
+            put_larger_first(spare, &mut self.out);
+        }
+    }
+
+    /// Writes, and gives up the buffer of what was written.
+    fn send<W: Write>(&mut self, to: &mut W, spare: &mut Vec<u8>) {
+        self.write(to);
+        if self.is_written() {
+            self.sent = 0;
+            self.out.clear();
+            put_larger_first(spare, &mut self.out);
+            if self.out.capacity() > SPARE {
+                self.out = Vec::new(self.alloc);
+            }
+        }
+    }
+
+    /// Writes until the target takes no more, or all was written.
+    fn write<W: Write>(&mut self, to: &mut W) {
+        'writing: while self.ready.writable && self.sent < self.out.len() {
+            match to.write(&self.out[self.sent..]) {
+                Ok(0) => {
+                    self.fail(io::Error::from(ErrorKind::WriteZero));
+                    break;
+                }
+                Ok(count) => self.sent += count,
+                Err(error) => {
+                    match error.kind() {
+                        ErrorKind::WouldBlock => self.ready.writable = false,
+                        ErrorKind::Interrupted => (),
+                        _ => self.fail(error),
+                    }
+                    break;
+                }
+            }
+        }
+    }
+
+    /// The target has failed: nothing more goes out.
+    fn fail(&mut self, error: io::Error) {
+        self.ended = Some(DirectionEnd::Unwritten(error));
+        self.sent = self.out.len();
+    }
+}
+
+/// Puts the larger one of two buffers without bytes in the first place.
+fn put_larger_first(first: &mut Vec<u8>, second: &mut Vec<u8>) {
+    if first.capacity() < second.capacity() {
+        mem::swap(first, second);
+    }
+}
+
+/// Lets a piece through, up to a frame after which much goes out, and gives how many bytes are left of it.
+fn let_through<V: Visitor>(
+    relay: &mut Relay,
+    visitor: &mut V,
+    piece: &[u8],
+    out: &mut Vec<u8>,
+) -> Result<usize, RelayFault> {
+    let mut left = piece;
+    'passing: while !left.is_empty() && out.len() < PIECE {
+        let Some(back) = relay.next(visitor, left, out)? else {
+            return Ok(0);
+        };
+        left = back;
+    }
+    Ok(left.len())
+}
