@@ -1,13 +1,13 @@
 //! The commands over connections.
 
+use cli_calls::{CallPlan, call_address};
 use cli_files::{BUFFER, STDIN};
 use cli_words::{Calling, GivenPlace, GivenService, Relaying, Serving};
-use cp_calls::{CallPlan, call_address};
 use cp_daemon::{
     LONGEST_LOOP, ListenAddress, Service, loop_bytes, serve_pipe, serve_place, serve_port,
 };
 use cp_frame::Mode;
-use cp_guard::{RelayPlan, RelayRoute, relay_port};
+use net_proxy::{RelayPlan, RelayRoute, relay_port};
 use std::fs::File;
 use std::io::{self, BufWriter, Read};
 

@@ -2,10 +2,10 @@
 
 use cp_commands::{ACCEPTED, BROKEN, REFUSED};
 use cp_frame::Mode;
-use cp_host::{End, Host, HostPlan, News};
 use cp_servants::{Cell, Desk, Sample};
-use cp_sockets::{Crowd, HostLimits, Listener, Peer};
 use cp_words::Limits;
+use net_host::{End, Host, HostPlan, News};
+use net_sockets::{Crowd, HostLimits, Listener, Peer};
 use std::alloc::{AllocGlobal, Global};
 use std::fmt;
 use std::fs::Files;

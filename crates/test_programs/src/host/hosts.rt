@@ -1,10 +1,10 @@
 //! A host of 127.0.0.1, and a client in the same thread.
 
 use cp_frame::Mode;
-use cp_host::{End, Host, HostPlan, News};
 use cp_servants::Desk;
-use cp_sockets::{HostLimits, Listener};
 use cp_words::Limits;
+use net_host::{End, Host, HostPlan, News};
+use net_sockets::{HostLimits, Listener};
 use std::alloc::Global;
 use std::io::{Read, Write};
 use std::net::{Ipv4Addr, Net, Shutdown, SocketAddr, TcpListener, TcpStream};

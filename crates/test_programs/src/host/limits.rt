@@ -1,6 +1,6 @@
 //! Each limit of a host, met and not met.
 
-use cp_sockets::{Crowd, HostLimits, Limit, Phase, Seat};
+use net_sockets::{Crowd, HostLimits, Limit, Phase, Seat};
 use std::process::Abort;
 
 /// Limits of round numbers.

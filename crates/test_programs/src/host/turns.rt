@@ -1,6 +1,6 @@
 //! When a connection of a host has another turn before its next event.
 
-use cp_sockets::{HostLimits, Ready, Seat};
+use net_sockets::{HostLimits, Ready, Seat};
 use std::process::Abort;
 
 /// Nothing can be done.

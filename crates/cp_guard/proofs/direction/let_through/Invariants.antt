@@ -1,5 +1,0 @@
-use Rattle.std.proofs.Common.{length}
-use Rattle.cp_guard.proofs.direction.let_through.Given as goal
-
-abbrev pub decreases-passing : goal.decreases-passing
-decreases-passing g l = length l.left

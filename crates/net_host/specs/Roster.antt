@@ -1,0 +1,68 @@
+-- What a host knows of the number of its connections.
+use Rattle.std.specs.Prelude.{◌≡◌, ℕ, ◌+◌, ◌≤◌, Option, Some, None}
+use Rattle.net_sockets.specs.Limits.{HasRoom}
+use Rattle.net_host.specs.Entry.{most}
+use Rattle.net_host.specs.declared.host.News.{News}
+use Rattle.net_host.specs.declared.host.News.TheVariants as all_news
+use Rattle.net_host.specs.declared.plan.HostPlan.{HostPlan}
+
+-- The plan, how many are to come, how many came, how many are served, and the number of the one that waits for its objects.
+pub record Roster : Type 0 where
+  pub plan : HostPlan
+  pub count : ℕ
+  pub came : ℕ
+  pub served : ℕ
+  pub awaits : Option ℕ
+
+-- no connection came
+abbrev pub begun : HostPlan → Roster
+begun plan = record { plan = plan; count = most plan.count; came = 0; served = 0; awaits = None }
+
+-- None came, and none waits for its objects. No more are served.
+pub record GoesOn (old new : Roster) : Type 0 where
+  pub rest : new ≡ record old { served = new.served; awaits = None }
+  pub no_more : new.served ≤ old.served
+
+-- One more came, of those that are to come. It has the next number, waits for its objects, and may be served. No more are served so far.
+pub record Comes (old : Roster) (number : ℕ) (new : Roster) : Type 0 where
+  pub next : number ≡ old.came + 1
+  pub wanted : number ≤ old.count
+  pub rest : new ≡ record old { came = number; served = new.served; awaits = Some number }
+  pub has_room : HasRoom old.plan.limits new.served
+  pub no_more : new.served ≤ old.served
+
+-- no more may be served
+abbrev pub IsCrowded : Roster → Type 0
+IsCrowded r = HasRoom r.plan.limits r.served → ⊥
+
+-- all that were to come have come and ended
+abbrev pub IsOver : Roster → Type 0
+IsOver r = (r.served ≡ 0) × (r.count ≤ r.came)
+
+-- what is so once a host gave this news, or none
+abbrev pub Hears : Roster → Option News → Roster → Type 0
+Hears old (Some (all_news.Came number peer)) new = Comes old number new
+Hears old (Some (all_news.Refused peer)) new = GoesOn old new × IsCrowded new
+Hears old (Some (all_news.Ended number peer end)) new = GoesOn old new
+Hears old None new = GoesOn old new × IsOver new
+
+-- how many are served with the one that waited for its objects
+abbrev pub with_awaited : Option ℕ → ℕ → ℕ
+with_awaited None served = served
+with_awaited (Some number) served = served + 1
+
+-- the one that waited for its objects is served
+abbrev pub Admits : Roster → Roster → Type 0
+Admits old new = new ≡ record old { served = with_awaited old.awaits old.served; awaits = None }
+
+-- what is so once the listener was asked for the next connection
+abbrev pub Accepts : Roster → Option News → Roster → Type 0
+Accepts old None new = new ≡ old
+Accepts old (Some (all_news.Came number peer)) new =
+    (number ≡ old.came + 1) × (new ≡ record old { came = number; awaits = Some number }) × HasRoom old.plan.limits old.served
+Accepts old (Some (all_news.Refused peer)) new = (new ≡ old) × IsCrowded old
+Accepts old (Some (all_news.Ended number peer end)) new = ⊥
+
+-- a round of turns, by which some may have ended
+abbrev pub Rounds : Roster → Roster → Type 0
+Rounds old new = (new ≡ record old { served = new.served }) × (new.served ≤ old.served)

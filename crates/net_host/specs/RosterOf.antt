@@ -1,0 +1,15 @@
+-- A host by the number of its connections.
+use Rattle.std.specs.Prelude.{option_map}
+use Rattle.slab.specs.Slab.{slab_len}
+use Rattle.net_host.specs.declared.host.Host.{Host}
+use Rattle.net_host.specs.Roster.{Roster}
+
+-- what a host knows of the number of its connections
+abbrev pub roster : {O : Type 0} → Host O → Roster
+roster host = record {
+  plan = host.plan;
+  count = host.entry.count;
+  came = host.entry.came;
+  served = slab_len host.event_loop.guests;
+  awaits = option_map (λ newcomer. newcomer.number) host.newcomer;
+}

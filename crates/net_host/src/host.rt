@@ -1,0 +1,216 @@
+//! A host.
+
+ghost use Rattle.std.specs.Prelude.{◌≡◌, ◌<◌, ◌↔◌, None, IsTrue, IfOk, OnOk, OnErr};
+ghost use Rattle.net_sockets.specs.Limits.{HasRoom};
+ghost use Rattle.net_host.specs.Roster.{begun, Accepts, Admits, GoesOn, Hears, IsOver, Rounds};
+ghost use Rattle.net_host.specs.RosterOf.{roster};
+ghost use Rattle.net_host.specs.declared.host.News.TheVariants as all_news;
+
+use crate::end::{End, Ended};
+use crate::entry::{Entry, Newcomer};
+use crate::event_loop::EventLoop;
+use crate::plan::HostPlan;
+use cp_servants::Servant;
+use net_sockets::{Crowd, Listener, Peer};
+use std::alloc::AllocGlobal;
+use std::io::{self, ErrorKind};
+use std::net::Net;
+use std::time::{Clock, Duration};
+
+/// The milliseconds after which a listener that failed is tried again.
+const AGAIN: u64 = 100;
+
+/// What is told of the connections of a host.
+#[derive(Drop)]
+pub enum News {
+    /// One came: give it its objects by `admit`, or it is closed. Numbers go up from 1.
+    Came { number: u64, peer: Peer },
+    /// One came and was closed, as there were as many as the host allows.
+    Refused { peer: Peer },
+    /// One ended, and its objects were dropped.
+    Ended { number: u64, peer: Peer, end: End },
+}
+
+/// Serves many connections in one process, each with objects of its own, all in one thread: it waits for none of them.
+///
+/// # In which order calls are made
+///
+/// 1. `new` takes a listener.
+/// 2. Call `next` until it gives none. It serves the connections until there is news of one, and gives that.
+/// 3. At `Came` make the connection's objects, and give them to `admit`: the one at place 0 is what a Bootstrap gets.
+/// 4. Drop it: the connections that are left are closed, and the listener.
+///
+/// # State of objects
+///
+/// Objects are of one type `O`, such as an enum. Those of one connection are called by that one alone. What all share is a
+/// value that they hold together, as by an `Rc`: all calls are made in one thread, one after another. An object that is to
+/// know its connection is made with its number.
+///
+/// They may call what they were given (`Servant::ask`), and are told what that came to. Nobody else uses a connection's imports: each is released once no
+/// object holds it, nor anything of the vat, also one that came with a call which reached no object.
+///
+/// # What each connection gets
+///
+/// - Connections that can go on have turns, one after another. In a turn what waits is written, and one piece of at most
+///   64 KiB is read and taken, or so many of its messages as the limits say. After each message each object is polled once. While
+///   an object says that it may give more, it is polled at each turn.
+/// - Nothing is read of a peer while more than `ahead` bytes wait for it, so a peer that doesn't read is not served on.
+/// - A limit that is met closes the connection. What is reported says which.
+/// - After an Abort that the peer gets for its fault, and after bytes of it that are refused, the stream is closed for writing, and
+///   what comes is dropped, until the peer closes or its time is over: so it can read what it was sent. After an Abort of the peer's its
+///   close is waited for likewise. After the end of its messages all that the objects give is written, and it is closed.
+///
+/// # Errors
+///
+/// An error of `next` is one of the listener's set of sockets, or says that memory ran out for it. Of a connection that fails the
+/// news says so, and the others go on.
+pub struct Host<O> {
+    plan: HostPlan,
+    entry: Entry,
+    newcomer: Option<Newcomer>,
+    event_loop: EventLoop<O>,
+}
+
+impl<O: Drop> Drop for Host<O> {
+    fn drop(self) {
+        let Host {
+            plan: _,
+            entry: _,
+            newcomer: _,
+            event_loop: _,
+        } = self;
+    }
+}
+
+impl<O: Servant> Host<O> {
+    /// A host to which no connection has come.
+    pub fn new<N: Net + Clock + AllocGlobal>(
+        rt: &N,
+        plan: HostPlan,
+        listener: Listener,
+    ) -> io::Result<Host<O>>
+        ensures { IfOk result (λ host. roster host ≡ begun plan) }
+    {
+        let mut entry = Entry::new(listener, plan.count);
+        let event_loop = EventLoop::new(rt, &mut entry)?;
+        Ok(Host {
+            plan,
+            entry,
+            newcomer: None,
+            event_loop,
+        })
+    }
+
+    /// Serves the connections until there is news of one. `None`: all that were to come have come and ended.
+    ///
+    /// A connection that came last, and got no objects, is closed.
+    pub fn next<N: Net + Clock>(&mut self, rt: &N) -> io::Result<Option<News>>
+        ensures hears { IfOk result (λ news. Hears (roster self.old) news (roster self.new)) }
+        ensures unheard { OnErr result (GoesOn (roster self.old) (roster self.new)) }
+    {
+        self.newcomer = None;
+        for _ in 0..u64::MAX {
+            if let Some(ended) = self.event_loop.next_end() {
+                return Ok(Some(News::ended(ended)));
+            }
+            if self.can_accept() {
+                let news = self.accept();
+                if news.is_some() {
+                    return Ok(news);
+                }
+            } else if self.is_over() {
+                return Ok(None);
+            } else {
+                self.round(rt)?;
+            }
+        }
+        Err(io::Error::from(ErrorKind::TimedOut))
+    }
+
+    /// Serves the connection that came last with these objects. Where this fails, it is closed.
+    pub fn admit(&mut self, objects: Vec<O>) -> io::Result<()>
+        ensures admits { OnOk result (Admits (roster self.old) (roster self.new)) }
+        ensures lost { OnErr result (roster self.new ≡ record (roster self.old) { awaits = None }) }
+    {
+        match self.newcomer.take() {
+            Some(newcomer) => self.event_loop.admit(&self.plan, newcomer, objects),
+            None => Ok(()),
+        }
+    }
+
+    /// Whether a connection may be waiting, and is wanted.
+    fn can_accept(&self) -> bool
+        ensures { IsTrue result → self.now.entry.came < self.now.entry.count }
+    {
+        self.entry.may_accept() && (self.has_room() || self.plan.limits.crowd == Crowd::Refuse)
+    }
+
+    /// Whether one more connection may be served.
+    fn has_room(&self) -> bool
+        ensures { IsTrue result ↔ HasRoom self.now.plan.limits (roster self.now).served }
+    {
+        self.plan.limits.has_room(self.event_loop.served())
+    }
+
+    /// Whether all that were to come have come and ended.
+    fn is_over(&self) -> bool
+        ensures { IsTrue result → IsOver (roster self.now) }
+    {
+        self.event_loop.served() == 0 && self.entry.is_full()
+    }
+
+    /// Takes the next connection that waits, if one does, or closes it where there are as many as are allowed.
+    fn accept(&mut self) -> Option<News>
+        requires { self.old.entry.came < self.old.entry.count }
+        ensures { Accepts (roster self.old) result (roster self.new) }
+    {
+        let (wire, peer) = self.entry.accept()?;
+        if !self.has_room() {
+            return Some(News::Refused { peer });
+        }
+        let number = self.entry.admit();
+        self.newcomer = Some(Newcomer { number, peer, wire });
+        Some(News::Came { number, peer })
+    }
+
+    /// Waits for events, and gives each connection that can go on a turn.
+    fn round<N: Net + Clock>(&mut self, rt: &N) -> io::Result<()>
+        ensures { Rounds (roster self.old) (roster self.new) }
+    {
+        let wait = self.wait();
+        let knocks = self.event_loop.wait(rt, wait)?;
+        self.entry.begin_round();
+        if knocks {
+            self.entry.mark();
+        }
+        self.event_loop.round(&self.plan.limits)
+    }
+
+    /// How long the next wait may take: no time while a connection can go on or can be taken, else until times are looked at.
+    fn wait(&self) -> Option<Duration> {
+        if self.event_loop.has_turns() || self.entry.has_burst() {
+            return Some(Duration::from_millis(0));
+        }
+        let tick = self.plan.limits.tick();
+        if self.entry.has_failed() {
+            return Some(Duration::from_millis(tick.min(AGAIN)));
+        }
+        if self.event_loop.served() == 0 {
+            return None;
+        }
+        Some(Duration::from_millis(tick))
+    }
+}
+
+impl News {
+    /// The news of a connection that ended.
+    fn ended(ended: Ended) -> News
+        ensures { result ≡ all_news.Ended ended.number ended.peer ended.end }
+    {
+        News::Ended {
+            number: ended.number,
+            peer: ended.peer,
+            end: ended.end,
+        }
+    }
+}

@@ -1,0 +1,113 @@
+//! A stream, and what is known of it.
+
+ghost use Rattle.std.specs.Prelude.{◌≤◌, IfOk, length};
+ghost use Rattle.net_sockets.specs.Reading.{Fits};
+
+use crate::stream::StreamSocket;
+use mio::event::Event;
+use mio::{Registry, Token};
+use std::io::{self, ErrorKind, Read, Write};
+
+/// What came of a read.
+#[derive(Clone, Copy)]
+pub enum Got {
+    Bytes(usize),
+    /// Nothing came so far.
+    Nothing,
+    /// The peer sends no more.
+    End,
+}
+
+/// A stream that never waits.
+#[derive(Drop)]
+pub struct NonblockingStream {
+    stream: StreamSocket,
+    /// What the last events and calls say of it. A wrong `true` costs one call.
+    readable: bool,
+    writable: bool,
+    /// The peer sends no more, or the stream failed: a short read needn't be the last one.
+    closed: bool,
+}
+
+impl NonblockingStream {
+    /// A stream of which nothing is known.
+    pub(crate) fn new(stream: StreamSocket) -> NonblockingStream {
+        NonblockingStream {
+            stream,
+            readable: true,
+            writable: true,
+            closed: false,
+        }
+    }
+
+    /// Has its readiness reported under a token.
+    pub fn register(&mut self, registry: &Registry, token: Token) -> io::Result<()> {
+        self.stream.register(registry, token)
+    }
+
+    /// What an event says of it.
+    pub fn mark(&mut self, event: &Event) {
+        let closed = event.is_read_closed() || event.is_error();
+        self.closed = self.closed || closed;
+        self.readable = self.readable || event.is_readable() || closed;
+        self.writable = self.writable
+            || event.is_writable()
+            || event.is_write_closed()
+            || event.is_error();
+    }
+
+    /// Whether it may have bytes, or its end.
+    pub fn is_readable(&self) -> bool {
+        self.readable
+    }
+
+    /// Whether it may take bytes.
+    pub fn is_writable(&self) -> bool {
+        self.writable
+    }
+
+    /// Reads a piece.
+    pub fn read(&mut self, piece: &mut [u8]) -> io::Result<Got>
+        ensures { IfOk result (λ got. Fits got (length piece.new)) }
+    {
+        match self.stream.read(piece) {
+            Ok(0) => Ok(Got::End),
+            Ok(count) => {
+                // After a short read of a stream that goes on, the next bytes come with an event.
+                self.readable = self.closed || count == piece.len();
+                Ok(Got::Bytes(count))
+            }
+            Err(error) => match error.kind() {
+                ErrorKind::WouldBlock => {
+                    self.readable = false;
+                    Ok(Got::Nothing)
+                }
+                ErrorKind::Interrupted => Ok(Got::Nothing),
+                _ => Err(error),
+            },
+        }
+    }
+
+    /// Writes the first of these bytes, which aren't none, and says how many.
+    pub fn write(&mut self, bytes: &[u8]) -> io::Result<usize>
+        ensures { IfOk result (λ count. count ≤ length bytes.now) }
+    {
+        match self.stream.write(bytes) {
+            Ok(0) => Err(io::Error::from(ErrorKind::WriteZero)),
+            Ok(count) => Ok(count),
+            Err(error) => match error.kind() {
+                ErrorKind::WouldBlock => {
+                    self.writable = false;
+                    Ok(0)
+                }
+                ErrorKind::Interrupted => Ok(0),
+                _ => Err(error),
+            },
+        }
+    }
+
+    /// Tells the peer that nothing more comes. One that is gone isn't told.
+    pub fn shut(&self) {
+        let _ = self.stream.shut();
+    }
+}
