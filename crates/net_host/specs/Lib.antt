@@ -1,5 +1,4 @@
 pub mod Feeding
-pub mod Entry
 pub mod Roster
 pub mod RosterOf
 pub mod Search

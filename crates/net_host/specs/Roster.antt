@@ -1,7 +1,7 @@
 -- What a host knows of the number of its connections.
 use Rattle.std.specs.Prelude.{◌≡◌, ℕ, ◌+◌, ◌≤◌, Option, Some, None}
 use Rattle.net_sockets.specs.Limits.{HasRoom}
-use Rattle.net_host.specs.Entry.{most}
+use Rattle.net_sockets.specs.Incoming.{most}
 use Rattle.net_host.specs.declared.host.News.{News}
 use Rattle.net_host.specs.declared.host.News.TheVariants as all_news
 use Rattle.net_host.specs.declared.plan.HostPlan.{HostPlan}

@@ -2,14 +2,15 @@
 use Rattle.std.specs.Prelude.{option_map}
 use Rattle.slab.specs.Slab.{slab_len}
 use Rattle.net_host.specs.declared.host.Host.{Host}
+use Rattle.net_sockets.specs.Incoming.{came_of, count_of}
 use Rattle.net_host.specs.Roster.{Roster}
 
 -- what a host knows of the number of its connections
 abbrev pub roster : {O : Type 0} → Host O → Roster
 roster host = record {
   plan = host.plan;
-  count = host.entry.count;
-  came = host.entry.came;
+  count = count_of host.incoming;
+  came = came_of host.incoming;
   served = slab_len host.event_loop.guests;
-  awaits = option_map (λ newcomer. newcomer.number) host.newcomer;
+  awaits = option_map (λ pending. pending.number) host.pending;
 }

@@ -2,16 +2,17 @@
 
 ghost use Rattle.std.specs.Prelude.{◌≡◌, ◌≤◌, ◌+◌, IfOk, OnOk, OnErr};
 ghost use Rattle.slab.specs.Slab.{slab_len};
+ghost use Rattle.net_sockets.specs.Incoming.{Keeps};
 
 use crate::crew::Crew;
 use crate::end::Ended;
-use crate::entry::{Entry, Newcomer};
 use crate::guest::{Guest, Turn};
+use crate::pending::PendingConnection;
 use crate::plan::HostPlan;
 use crate::time::Time;
 use cp_servants::Servant;
 use mio::{Events, Poll, Token};
-use net_sockets::HostLimits;
+use net_sockets::{HostLimits, Incoming};
 use slab::Slab;
 use std::alloc::{AllocGlobal, Global};
 use std::collections::VecDeque;
@@ -44,17 +45,16 @@ pub(crate) struct EventLoop<O> {
 }
 
 impl<O: Servant> EventLoop<O> {
-    /// No connection is served. Those that come to the entry are reported.
+    /// No connection is served. Those that come are reported.
     pub(crate) fn new<N: Net + Clock + AllocGlobal>(
         rt: &N,
-        entry: &mut Entry,
+        incoming: &mut Incoming,
     ) -> io::Result<EventLoop<O>>
         ensures nobody { IfOk result (λ it. slab_len it.guests ≡ 0) }
-        ensures same_came { entry.new.came ≡ entry.old.came }
-        ensures same_count { entry.new.count ≡ entry.old.count }
+        ensures same { Keeps incoming.old incoming.new }
     {
         let poll = Poll::new(rt)?;
-        entry.register(poll.registry(), LISTENER)?;
+        incoming.register(poll.registry(), LISTENER)?;
         let alloc = rt.alloc();
         let events = Events::with_capacity(alloc, EVENTS)?;
         let piece = vec![in alloc; 0u8; PIECE]?;
@@ -94,7 +94,7 @@ impl<O: Servant> EventLoop<O> {
     pub(crate) fn admit(
         &mut self,
         plan: &HostPlan,
-        mut newcomer: Newcomer,
+        mut pending: PendingConnection,
         objects: Vec<O>,
     ) -> io::Result<()>
         ensures served { OnOk result (slab_len self.new.guests ≡ slab_len self.old.guests + 1) }
@@ -103,10 +103,10 @@ impl<O: Servant> EventLoop<O> {
         let key = self.guests.vacant_key();
         // A key in the queue that names no connection is passed over.
         self.queue.push_back(key)?;
-        newcomer.wire.register(self.poll.registry(), Token(key))?;
+        pending.stream.register(self.poll.registry(), Token(key))?;
         self.guests.reserve(1)?;
         let crew = Crew::new(self.alloc, plan, objects);
-        let guest = Guest::new(newcomer, crew, self.time.now());
+        let guest = Guest::new(pending, crew, self.time.now());
         let _ = self.guests.insert_reserved(guest);
         Ok(())
     }
@@ -180,11 +180,11 @@ fn note_events<O: Servant>(
 ) -> io::Result<bool>
     ensures { slab_len guests.new ≡ slab_len guests.old }
 {
-    let mut knocks = false;
+    let mut has_event = false;
     for event in events {
         let token = event.token();
         if token == LISTENER {
-            knocks = true;
+            has_event = true;
         } else if let Some(guest) = guests.get_mut(token.0) {
             let enters = guest.mark(event);
             if enters {
@@ -192,5 +192,5 @@ fn note_events<O: Servant>(
             }
         }
     }
-    Ok(knocks)
+    Ok(has_event)
 }

@@ -2,7 +2,7 @@
 
 use crate::crew::Crew;
 use crate::end::{End, Ended};
-use crate::entry::Newcomer;
+use crate::pending::PendingConnection;
 use cp_connection::ConnectionFault;
 use cp_servants::Servant;
 use mio::event::Event;
@@ -24,7 +24,7 @@ pub(crate) enum Turn {
 pub(crate) struct Guest<O> {
     number: u64,
     peer: Peer,
-    wire: NonblockingStream,
+    stream: NonblockingStream,
     crew: Crew<O>,
     seat: Seat,
     /// The peer sends no more.
@@ -37,11 +37,11 @@ pub(crate) struct Guest<O> {
 
 impl<O: Servant> Guest<O> {
     /// A connection of which nothing was read.
-    pub(crate) fn new(newcomer: Newcomer, crew: Crew<O>, now: u64) -> Guest<O> {
+    pub(crate) fn new(pending: PendingConnection, crew: Crew<O>, now: u64) -> Guest<O> {
         Guest {
-            number: newcomer.number,
-            peer: newcomer.peer,
-            wire: newcomer.wire,
+            number: pending.number,
+            peer: pending.peer,
+            stream: pending.stream,
             crew,
             seat: Seat::new(now),
             is_finished: false,
@@ -61,7 +61,7 @@ impl<O: Servant> Guest<O> {
 
     /// What an event says of it. Says whether it comes into the queue.
     pub(crate) fn mark(&mut self, event: &Event) -> bool {
-        self.wire.mark(event);
+        self.stream.mark(event);
         let enters = !self.queued;
         self.queued = true;
         enters
@@ -128,7 +128,7 @@ impl<O: Servant> Guest<O> {
     ) -> io::Result<Result<(), ConnectionFault>> {
         if self.crew.untaken() > 0 {
             Ok(self.crew.receive_rest(limits))
-        } else if self.wire.is_readable() {
+        } else if self.stream.is_readable() {
             self.read(piece, limits, now)
         } else if self.crew.asks_again() {
             Ok(self.crew.round())
@@ -144,7 +144,7 @@ impl<O: Servant> Guest<O> {
         limits: &HostLimits,
         now: u64,
     ) -> io::Result<Result<(), ConnectionFault>> {
-        let done = match self.wire.read(piece)? {
+        let done = match self.stream.read(piece)? {
             Got::Bytes(count) => {
                 self.seat.move_at(now);
                 self.crew.receive(&piece[..count], limits)
@@ -196,20 +196,20 @@ impl<O: Servant> Guest<O> {
 
     /// Drops what the peer sends. Says whether it closed.
     fn drain(&mut self, piece: &mut [u8]) -> io::Result<bool> {
-        if !self.wire.is_readable() {
+        if !self.stream.is_readable() {
             return Ok(false);
         }
-        Ok(matches!(self.wire.read(piece)?, Got::End))
+        Ok(matches!(self.stream.read(piece)?, Got::End))
     }
 
     /// Writes as much as the stream takes.
     fn write(&mut self, now: u64) -> io::Result<()> {
         for _ in 0..u64::MAX {
             let bytes = self.crew.outgoing();
-            if bytes.is_empty() || !self.wire.is_writable() {
+            if bytes.is_empty() || !self.stream.is_writable() {
                 break;
             }
-            let count = self.wire.write(bytes)?;
+            let count = self.stream.write(bytes)?;
             if count > 0 {
                 self.crew.wrote(count);
                 self.seat.move_at(now);
@@ -234,7 +234,7 @@ impl<O: Servant> Guest<O> {
         }
         if let Some(end) = &self.end {
             if !end.is_peers() {
-                self.wire.shut();
+                self.stream.shut();
             }
         }
         self.seat.drain(now);
@@ -244,8 +244,8 @@ impl<O: Servant> Guest<O> {
     /// What can be done at once.
     fn ready(&self) -> Ready {
         Ready {
-            readable: self.wire.is_readable(),
-            writable: self.wire.is_writable(),
+            readable: self.stream.is_readable(),
+            writable: self.stream.is_writable(),
             untaken: self.crew.untaken(),
             unwritten: self.crew.outgoing().len(),
             again: self.asks(),

@@ -1,17 +1,18 @@
 //! A host.
 
 ghost use Rattle.std.specs.Prelude.{◌≡◌, ◌<◌, ◌↔◌, None, IsTrue, IfOk, OnOk, OnErr};
+ghost use Rattle.net_sockets.specs.Incoming.{came_of, count_of};
 ghost use Rattle.net_sockets.specs.Limits.{HasRoom};
 ghost use Rattle.net_host.specs.Roster.{begun, Accepts, Admits, GoesOn, Hears, IsOver, Rounds};
 ghost use Rattle.net_host.specs.RosterOf.{roster};
 ghost use Rattle.net_host.specs.declared.host.News.TheVariants as all_news;
 
 use crate::end::{End, Ended};
-use crate::entry::{Entry, Newcomer};
 use crate::event_loop::EventLoop;
+use crate::pending::PendingConnection;
 use crate::plan::HostPlan;
 use cp_servants::Servant;
-use net_sockets::{Crowd, Listener, Peer};
+use net_sockets::{Crowd, Incoming, Listener, Peer};
 use std::alloc::AllocGlobal;
 use std::io::{self, ErrorKind};
 use std::net::Net;
@@ -66,8 +67,8 @@ pub enum News {
 /// news says so, and the others go on.
 pub struct Host<O> {
     plan: HostPlan,
-    entry: Entry,
-    newcomer: Option<Newcomer>,
+    incoming: Incoming,
+    pending: Option<PendingConnection>,
     event_loop: EventLoop<O>,
 }
 
@@ -75,8 +76,8 @@ impl<O: Drop> Drop for Host<O> {
     fn drop(self) {
         let Host {
             plan: _,
-            entry: _,
-            newcomer: _,
+            incoming: _,
+            pending: _,
             event_loop: _,
         } = self;
     }
@@ -91,12 +92,12 @@ impl<O: Servant> Host<O> {
     ) -> io::Result<Host<O>>
         ensures { IfOk result (λ host. roster host ≡ begun plan) }
     {
-        let mut entry = Entry::new(listener, plan.count);
-        let event_loop = EventLoop::new(rt, &mut entry)?;
+        let mut incoming = Incoming::new(listener, plan.count);
+        let event_loop = EventLoop::new(rt, &mut incoming)?;
         Ok(Host {
             plan,
-            entry,
-            newcomer: None,
+            incoming,
+            pending: None,
             event_loop,
         })
     }
@@ -108,7 +109,7 @@ impl<O: Servant> Host<O> {
         ensures hears { IfOk result (λ news. Hears (roster self.old) news (roster self.new)) }
         ensures unheard { OnErr result (GoesOn (roster self.old) (roster self.new)) }
     {
-        self.newcomer = None;
+        self.pending = None;
         for _ in 0..u64::MAX {
             if let Some(ended) = self.event_loop.next_end() {
                 return Ok(Some(News::ended(ended)));
@@ -132,17 +133,17 @@ impl<O: Servant> Host<O> {
         ensures admits { OnOk result (Admits (roster self.old) (roster self.new)) }
         ensures lost { OnErr result (roster self.new ≡ record (roster self.old) { awaits = None }) }
     {
-        match self.newcomer.take() {
-            Some(newcomer) => self.event_loop.admit(&self.plan, newcomer, objects),
+        match self.pending.take() {
+            Some(pending) => self.event_loop.admit(&self.plan, pending, objects),
             None => Ok(()),
         }
     }
 
     /// Whether a connection may be waiting, and is wanted.
     fn can_accept(&self) -> bool
-        ensures { IsTrue result → self.now.entry.came < self.now.entry.count }
+        ensures { IsTrue result → came_of self.now.incoming < count_of self.now.incoming }
     {
-        self.entry.may_accept() && (self.has_room() || self.plan.limits.crowd == Crowd::Refuse)
+        self.incoming.may_accept() && (self.has_room() || self.plan.limits.crowd == Crowd::Refuse)
     }
 
     /// Whether one more connection may be served.
@@ -156,20 +157,24 @@ impl<O: Servant> Host<O> {
     fn is_over(&self) -> bool
         ensures { IsTrue result → IsOver (roster self.now) }
     {
-        self.event_loop.served() == 0 && self.entry.is_full()
+        self.event_loop.served() == 0 && self.incoming.is_full()
     }
 
     /// Takes the next connection that waits, if one does, or closes it where there are as many as are allowed.
     fn accept(&mut self) -> Option<News>
-        requires { self.old.entry.came < self.old.entry.count }
+        requires { came_of self.old.incoming < count_of self.old.incoming }
         ensures { Accepts (roster self.old) result (roster self.new) }
     {
-        let (wire, peer) = self.entry.accept()?;
+        let (stream, peer) = self.incoming.accept()?;
         if !self.has_room() {
             return Some(News::Refused { peer });
         }
-        let number = self.entry.admit();
-        self.newcomer = Some(Newcomer { number, peer, wire });
+        let number = self.incoming.admit();
+        self.pending = Some(PendingConnection {
+            number,
+            peer,
+            stream,
+        });
         Some(News::Came { number, peer })
     }
 
@@ -178,21 +183,18 @@ impl<O: Servant> Host<O> {
         ensures { Rounds (roster self.old) (roster self.new) }
     {
         let wait = self.wait();
-        let knocks = self.event_loop.wait(rt, wait)?;
-        self.entry.begin_round();
-        if knocks {
-            self.entry.mark();
-        }
+        let has_event = self.event_loop.wait(rt, wait)?;
+        self.incoming.begin_round(has_event);
         self.event_loop.round(&self.plan.limits)
     }
 
     /// How long the next wait may take: no time while a connection can go on or can be taken, else until times are looked at.
     fn wait(&self) -> Option<Duration> {
-        if self.event_loop.has_turns() || self.entry.has_burst() {
+        if self.event_loop.has_turns() || self.incoming.has_burst() {
             return Some(Duration::from_millis(0));
         }
         let tick = self.plan.limits.tick();
-        if self.entry.has_failed() {
+        if self.incoming.has_failed() {
             return Some(Duration::from_millis(tick.min(AGAIN)));
         }
         if self.event_loop.served() == 0 {

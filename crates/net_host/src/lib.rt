@@ -3,11 +3,11 @@
 
 mod crew;
 mod end;
-mod entry;
 mod event_loop;
 mod feeding;
 mod guest;
 mod host;
+mod pending;
 mod plan;
 mod search;
 mod time;

@@ -2,9 +2,9 @@
 
 use crate::read_buffer::{PIECE, ReadBuffer};
 use cp_relay::{Relay, RelayFault, Visitor};
+use net_sockets::{Got, NonblockingStream};
 use std::alloc::{AllocError, Global};
-use std::io::{self, ErrorKind, Read, Write};
-use std::mem;
+use std::{io, mem};
 
 /// The most pieces of a long frame that one turn takes, so that other connections have theirs.
 const PIECES: usize = 32;
@@ -25,15 +25,6 @@ pub(crate) enum DirectionEnd {
     Unwritten(io::Error),
 }
 
-/// What is known of the two streams of a direction. A wrong `true` costs one call.
-#[derive(Clone, Copy)]
-pub(crate) struct Readiness {
-    pub readable: bool,
-    /// The source sends no more, or failed: a short read needn't be the last one.
-    pub closed: bool,
-    pub writable: bool,
-}
-
 /// One direction. It reads only once all that goes out was written: what waits is the rest of a piece, what goes
 /// out of it, and the open frame.
 #[derive(Drop)]
@@ -44,7 +35,6 @@ pub(crate) struct Direction {
     out: Vec<u8>,
     /// How many bytes of `out` were written.
     sent: usize,
-    ready: Readiness,
     /// Why nothing more is read.
     ended: Option<DirectionEnd>,
 }
@@ -58,24 +48,8 @@ impl Direction {
             piece: ReadBuffer::new(alloc)?,
             out: Vec::new(alloc),
             sent: 0,
-            ready: Readiness {
-                readable: false,
-                closed: false,
-                writable: false,
-            },
             ended: None,
         })
-    }
-
-    /// What an event says of the source.
-    pub(crate) fn mark_source(&mut self, readable: bool, closed: bool) {
-        self.ready.readable = self.ready.readable || readable || closed;
-        self.ready.closed = self.ready.closed || closed;
-    }
-
-    /// What an event says of the target.
-    pub(crate) fn mark_target(&mut self, writable: bool) {
-        self.ready.writable = self.ready.writable || writable;
     }
 
     /// How it ended, once nothing more goes out.
@@ -83,27 +57,27 @@ impl Direction {
         if self.is_written() { self.ended } else { None }
     }
 
-    /// Whether something can be done before the next event.
-    pub(crate) fn goes_on(&self) -> bool {
+    /// Whether something can be done before the next event of these streams.
+    pub(crate) fn goes_on(&self, from: &NonblockingStream, to: &NonblockingStream) -> bool {
         if self.is_written() {
-            self.ended.is_none() && (!self.piece.is_taken() || self.ready.readable)
+            self.ended.is_none() && (!self.piece.is_taken() || from.is_readable())
         } else {
-            self.ready.writable
+            to.is_writable()
         }
     }
 
     /// Takes pieces of the source until something goes out, lets through what is accepted of them, and writes as much as
     /// the target takes. A long frame may take the spare buffer, which comes back once the frame was written.
-    pub(crate) fn turn<R: Read, W: Write, V: Visitor>(
+    pub(crate) fn turn<V: Visitor>(
         &mut self,
-        from: &mut R,
-        to: &mut W,
+        from: &mut NonblockingStream,
+        to: &mut NonblockingStream,
         visitor: &mut V,
         spare: &mut Vec<u8>,
     ) {
         self.send(to, spare);
         for _ in 0..PIECES {
-            if !self.is_written() || !self.goes_on() {
+            if !self.is_written() || !self.goes_on(from, to) {
                 break;
             }
             if self.piece.is_taken() {
@@ -119,20 +93,15 @@ impl Direction {
         self.sent >= self.out.len()
     }
 
-    /// Reads a piece.
-    fn read<R: Read>(&mut self, from: &mut R) {
-        if !self.ready.readable {
+    /// Reads a piece, if there may be one.
+    fn read(&mut self, from: &mut NonblockingStream) {
+        if !from.is_readable() {
             return;
         }
         match self.piece.read(from) {
-            Ok(0) => self.finish(),
-            // After a short read of a source that goes on, the next bytes come with an event.
-            Ok(count) => self.ready.readable = self.ready.closed || count == PIECE,
-            Err(error) => match error.kind() {
-                ErrorKind::WouldBlock => self.ready.readable = false,
-                ErrorKind::Interrupted => (),
-                _ => self.ended = Some(DirectionEnd::Unread(error)),
-            },
+            Ok(Got::Bytes(_)) | Ok(Got::Nothing) => (),
+            Ok(Got::End) => self.finish(),
+            Err(error) => self.ended = Some(DirectionEnd::Unread(error)),
         }
     }
 
@@ -158,7 +127,7 @@ impl Direction {
     }
 
     /// Writes, and gives up the buffer of what was written.
-    fn send<W: Write>(&mut self, to: &mut W, spare: &mut Vec<u8>) {
+    fn send(&mut self, to: &mut NonblockingStream, spare: &mut Vec<u8>) {
         self.write(to);
         if self.is_written() {
             self.sent = 0;
@@ -171,22 +140,14 @@ impl Direction {
     }
 
     /// Writes until the target takes no more, or all was written.
-    fn write<W: Write>(&mut self, to: &mut W) {
-        'writing: while self.ready.writable && self.sent < self.out.len() {
+    fn write(&mut self, to: &mut NonblockingStream) {
+        for _ in 0..u64::MAX {
+            if self.sent >= self.out.len() || !to.is_writable() {
+                break;
+            }
             match to.write(&self.out[self.sent..]) {
-                Ok(0) => {
-                    self.fail(io::Error::from(ErrorKind::WriteZero));
-                    break;
-                }
                 Ok(count) => self.sent += count,
-                Err(error) => {
-                    match error.kind() {
-                        ErrorKind::WouldBlock => self.ready.writable = false,
-                        ErrorKind::Interrupted => (),
-                        _ => self.fail(error),
-                    }
-                    break;
-                }
+                Err(error) => self.fail(error),
             }
         }
     }

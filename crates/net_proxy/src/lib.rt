@@ -2,9 +2,9 @@
 #![tactic(auto)]
 
 mod direction;
-mod hub;
-mod link;
+mod pair;
 mod plan;
+mod proxy;
 mod read_buffer;
 mod watch;
 

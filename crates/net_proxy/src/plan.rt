@@ -1,11 +1,11 @@
 //! What is relayed, and from where to where.
 
-use crate::hub::Hub;
+use crate::proxy::Proxy;
 use crate::watch::Watch;
 use cp_frame::Mode;
 use cp_relay::{Output, Relay};
 use cp_words::Limits;
-use mio::net::TcpListener;
+use net_sockets::{Incoming, Listener};
 use std::alloc::{AllocGlobal, Global};
 use std::io::{self, Write};
 use std::net::{Ipv4Addr, Net, SocketAddr, ToSocketAddrs};
@@ -104,6 +104,8 @@ where
     let Some(target) = route.target.to_socket_addrs(rt)?.next() else {
         return Err(io::Error::from(io::ErrorKind::NotFound));
     };
-    let listener = TcpListener::bind(rt, SocketAddr::from((Ipv4Addr::LOCALHOST, route.port)))?;
-    Hub::new(rt, *plan, listener, target, route.count)?.run(rt, watch, err)
+    let address = SocketAddr::from((Ipv4Addr::LOCALHOST, route.port));
+    let listener = Listener::bind(rt, address)?;
+    let incoming = Incoming::new(listener, Some(route.count as u64));
+    Proxy::new(rt, *plan, incoming, target)?.run(rt, watch, err)
 }

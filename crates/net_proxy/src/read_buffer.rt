@@ -2,8 +2,9 @@
 
 ghost use Rattle.std.specs.Prelude.{◌≤◌, vec_len};
 
+use net_sockets::{Got, NonblockingStream};
 use std::alloc::{AllocError, Global};
-use std::io::{self, Read};
+use std::io;
 
 /// The bytes that are read at once.
 pub(crate) const PIECE: usize = 16_384;
@@ -43,11 +44,13 @@ impl ReadBuffer {
         self.start = self.end.saturating_sub(left);
     }
 
-    /// Reads the next piece, and gives the number of its bytes: 0 at the end of the source.
-    pub(crate) fn read<R: Read>(&mut self, from: &mut R) -> io::Result<usize> {
-        let count = from.read(&mut self.bytes)?;
-        self.start = 0;
-        self.end = count;
-        Ok(count)
+    /// Reads the next piece.
+    pub(crate) fn read(&mut self, from: &mut NonblockingStream) -> io::Result<Got> {
+        let got = from.read(&mut self.bytes)?;
+        if let Got::Bytes(count) = got {
+            self.start = 0;
+            self.end = count;
+        }
+        Ok(got)
     }
 }

@@ -1,6 +1,6 @@
 //! The lines of the messages that go.
 
-use crate::link::arrow;
+use crate::pair::arrow;
 use cp_lines::push_line;
 use cp_relay::Visitor;
 use cp_rpc::MessageView;

@@ -1,3 +1,4 @@
+pub mod Incoming
 pub mod Reading
 pub mod Limits
 pub mod Seats

@@ -2,14 +2,14 @@
 //! host allows its connections, and what it decides of one by the clock and by how much is kept for it.
 #![tactic(auto)]
 
-mod door;
+mod incoming;
 mod limits;
 mod listener;
 mod nonblocking_stream;
 mod seat;
 mod stream;
 
-pub use door::Door;
+pub use incoming::Incoming;
 pub use limits::{Crowd, HostLimits};
 pub use listener::{Listener, Peer};
 pub use nonblocking_stream::{Got, NonblockingStream};

@@ -7,6 +7,7 @@ use crate::stream::StreamSocket;
 use mio::event::Event;
 use mio::{Registry, Token};
 use std::io::{self, ErrorKind, Read, Write};
+use std::net::{Net, SocketAddr};
 
 /// What came of a read.
 #[derive(Clone, Copy)]
@@ -30,6 +31,16 @@ pub struct NonblockingStream {
 }
 
 impl NonblockingStream {
+    /// Begins a connection to an address. An event says when there is one, or why there is none.
+    pub fn connect<N: Net>(rt: &N, address: SocketAddr) -> io::Result<NonblockingStream> {
+        Ok(NonblockingStream {
+            stream: StreamSocket::connect(rt, address)?,
+            readable: false,
+            writable: false,
+            closed: false,
+        })
+    }
+
     /// A stream of which nothing is known.
     pub(crate) fn new(stream: StreamSocket) -> NonblockingStream {
         NonblockingStream {

@@ -3,7 +3,7 @@
 use mio::net::{TcpStream, UnixStream};
 use mio::{Interest, Registry, Token};
 use std::io::{self, Read, Write};
-use std::net::Shutdown;
+use std::net::{Net, Shutdown, SocketAddr};
 
 /// A connection's socket.
 #[derive(Drop)]
@@ -13,6 +13,13 @@ pub(crate) enum StreamSocket {
 }
 
 impl StreamSocket {
+    /// Begins a connection to an address. What is sent on it goes out at once, as the peer may wait for it.
+    pub(crate) fn connect<N: Net>(rt: &N, address: SocketAddr) -> io::Result<StreamSocket> {
+        let stream = TcpStream::connect(rt, address)?;
+        let _ = stream.set_nodelay(true);
+        Ok(StreamSocket::Tcp(stream))
+    }
+
     /// Has its readiness reported under a token.
     pub(crate) fn register(&mut self, registry: &Registry, token: Token) -> io::Result<()> {
         let both = Interest::READABLE | Interest::WRITABLE;

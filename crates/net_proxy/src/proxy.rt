@@ -1,87 +1,74 @@
 //! The connections that are relayed at once.
 
+ghost use Rattle.std.specs.Prelude.{◌<◌, IsTrue};
+ghost use Rattle.net_sockets.specs.Incoming.{came_of, count_of};
+
 use crate::direction::DirectionEnd;
-use crate::link::{Link, PairEnd, PairTurn};
+use crate::pair::{Pair, PairEnd, PairTurn};
 use crate::plan::{ACCEPTED, RelayPlan};
 use crate::watch::Watch;
-use mio::net::{TcpListener, TcpStream};
-use mio::{Events, Interest, Poll, Token};
+use mio::{Events, Poll, Token};
+use net_sockets::{Incoming, NonblockingStream};
 use slab::Slab;
 use std::alloc::{AllocGlobal, Global};
 use std::collections::VecDeque;
-use std::io::{self, ErrorKind, Write};
+use std::io::{self, Write};
 use std::net::{Net, SocketAddr};
 use std::time::Duration;
 
-/// The listener's token, which no link has.
+/// The listener's token, which no stream has.
 const LISTENER: Token = Token(usize::MAX);
 
 /// The most events that one wait reports.
 const EVENTS: usize = 256;
 
 /// The most connections that are relayed at once: two descriptors each, below the 1,024 that most systems let a process have.
-const MOST_LINKS: usize = 480;
+const MOST_PAIRS: usize = 480;
 
 /// The most capacity that is kept for the next long frame.
 const MOST_SPARE: usize = 4_194_304;
 
-/// The most connections that one round takes.
-const BURST: usize = 64;
-
 /// The milliseconds after which a listener that failed is tried again.
 const AGAIN: u64 = 100;
 
-/// A listener, and the links of the connections that came to it.
+/// The connections that came, each with the one that was made for it.
 #[derive(Drop)]
-pub(crate) struct Hub {
+pub(crate) struct Proxy {
     alloc: Global,
     plan: RelayPlan,
     poll: Poll,
     events: Events,
-    listener: TcpListener,
+    incoming: Incoming,
     target: SocketAddr,
-    links: Slab<Link>,
+    pairs: Slab<Pair>,
     /// A buffer without bytes, for the next long frame.
     spare: Vec<u8>,
-    /// The keys of the links that can go on at once.
+    /// The keys of the pairs that can go on at once.
     queue: VecDeque<usize>,
-    /// A connection may be waiting.
-    acceptable: bool,
-    /// The listener failed, and is tried again.
-    starved: bool,
-    /// How many connections came, of how many.
-    came: u64,
-    count: u64,
     status: u8,
 }
 
-impl Hub {
-    /// A hub to which no connection has come.
+impl Proxy {
+    /// A proxy to which no connection has come.
     pub(crate) fn new<N: Net + AllocGlobal>(
         rt: &N,
         plan: RelayPlan,
-        mut listener: TcpListener,
+        mut incoming: Incoming,
         target: SocketAddr,
-        count: u32,
-    ) -> io::Result<Hub> {
+    ) -> io::Result<Proxy> {
         let poll = Poll::new(rt)?;
-        poll.registry()
-            .register(&mut listener, LISTENER, Interest::READABLE)?;
+        incoming.register(poll.registry(), LISTENER)?;
         let alloc = rt.alloc();
-        Ok(Hub {
+        Ok(Proxy {
             alloc,
             plan,
             poll,
             events: Events::with_capacity(alloc, EVENTS)?,
-            listener,
+            incoming,
             target,
-            links: Slab::new(alloc),
+            pairs: Slab::new(alloc),
             spare: Vec::new(alloc),
             queue: VecDeque::new(alloc),
-            acceptable: true,
-            starved: false,
-            came: 0,
-            count: count as u64,
             status: ACCEPTED,
         })
     }
@@ -94,7 +81,7 @@ impl Hub {
         err: &mut E,
     ) -> io::Result<u8> {
         for _ in 0..u64::MAX {
-            if self.came == self.count && self.links.is_empty() {
+            if self.incoming.is_full() && self.pairs.is_empty() {
                 break;
             }
             self.round(rt, watch, err)?;
@@ -102,7 +89,7 @@ impl Hub {
         Ok(self.status)
     }
 
-    /// Waits for events, takes connections, and gives each link that can go on a turn.
+    /// Waits for events, takes connections, and gives each pair that can go on a turn.
     fn round<N: Net, W: Write + Drop, E: Write>(
         &mut self,
         rt: &N,
@@ -111,7 +98,8 @@ impl Hub {
     ) -> io::Result<()> {
         let wait = self.wait();
         self.poll.poll(&mut self.events, wait)?;
-        self.note_events()?;
+        let has_event = self.note_events()?;
+        self.incoming.begin_round(has_event);
         self.accept(rt, watch, err);
         for _ in 0..self.queue.len() {
             if let Some(key) = self.queue.pop_front() {
@@ -121,99 +109,87 @@ impl Hub {
         watch.end_round()
     }
 
-    /// How long the next wait may take: no time while a link can go on or a connection can be taken.
+    /// How long the next wait may take: no time while a pair can go on or a connection can be taken.
     fn wait(&self) -> Option<Duration> {
-        if !self.queue.is_empty() || self.can_accept() {
+        if !self.queue.is_empty() || self.incoming.has_burst() || self.can_accept() {
             return Some(Duration::from_millis(0));
         }
-        if self.starved {
+        if self.incoming.has_failed() {
             Some(Duration::from_millis(AGAIN))
         } else {
             None
         }
     }
 
-    fn can_accept(&self) -> bool {
-        self.acceptable && self.came < self.count && self.links.len() < MOST_LINKS
+    /// Whether a connection may be waiting, and can be relayed.
+    fn can_accept(&self) -> bool
+        ensures { IsTrue result → came_of self.now.incoming < count_of self.now.incoming }
+    {
+        self.incoming.may_accept() && self.pairs.len() < MOST_PAIRS
     }
 
-    /// Notes what events say. Nothing is closed before all are read, so no event names a link that is gone.
-    fn note_events(&mut self) -> io::Result<()> {
-        // A listener that failed gets no event.
-        self.acceptable = self.acceptable || self.starved;
-        self.starved = false;
+    /// Notes what events say of pairs. Says whether the listener had one. Nothing is closed before all are read, so no event
+    /// names a pair that is gone.
+    fn note_events(&mut self) -> io::Result<bool> {
+        let mut has_event = false;
         for event in &self.events {
             let token = event.token();
             if token == LISTENER {
-                self.acceptable = true;
-            } else if let Some(link) = self.links.get_mut(token.0 / 2) {
-                let enters = link.mark(token.0 % 2 == 1, event);
+                has_event = true;
+            } else if let Some(pair) = self.pairs.get_mut(token.0 / 2) {
+                let enters = pair.mark(token.0 % 2 == 1, event);
                 if enters {
                     self.queue.push_back(token.0 / 2)?;
                 }
             }
         }
-        Ok(())
+        Ok(has_event)
     }
 
     /// Takes the connections that wait.
     fn accept<N: Net, W: Write + Drop, E: Write>(&mut self, rt: &N, watch: &Watch<W>, err: &mut E) {
-        for _ in 0..BURST {
+        for _ in 0..u64::MAX {
             if !self.can_accept() {
                 break;
             }
-            match self.listener.accept() {
-                Ok((stream, _)) => {
-                    let number = self.came.saturating_add(1);
-                    self.came = number;
-                    if let Err(error) = self.admit(rt, stream) {
-                        let end = DirectionEnd::Unwritten(error);
-                        let comes_back = false;
-                        self.report(watch, err, number, PairEnd { end, comes_back });
-                    }
-                }
-                Err(error) if error.kind() == ErrorKind::WouldBlock => self.acceptable = false,
-                Err(error) if error.kind() == ErrorKind::ConnectionAborted => (),
-                Err(error) if error.kind() == ErrorKind::Interrupted => (),
-                Err(_) => {
-                    self.acceptable = false;
-                    self.starved = true;
-                }
+            let Some((near, _)) = self.incoming.accept() else {
+                continue;
+            };
+            let number = self.incoming.admit();
+            if let Err(error) = self.admit(rt, near, number) {
+                let end = DirectionEnd::Unwritten(error);
+                let comes_back = false;
+                self.report(watch, err, number, PairEnd { end, comes_back });
             }
         }
     }
 
-    /// Makes the link of a connection. Where this fails both its streams are closed.
-    fn admit<N: Net>(&mut self, rt: &N, mut near: TcpStream) -> io::Result<()> {
-        let mut far = TcpStream::connect(rt, self.target)?;
-        near.set_nodelay(true)?;
-        far.set_nodelay(true)?;
-        let key = self.links.vacant_key();
-        let both = Interest::READABLE | Interest::WRITABLE;
-        let registry = self.poll.registry();
-        registry.register(&mut near, Token(key.wrapping_mul(2)), both)?;
-        registry.register(&mut far, Token(key.wrapping_mul(2) | 1), both)?;
-        let link = Link::new(self.alloc, &self.plan, near, far, self.came)?;
-        self.links.insert(link)?;
+    /// Makes the pair of a connection. Where this fails both its streams are closed.
+    fn admit<N: Net>(&mut self, rt: &N, near: NonblockingStream, number: u64) -> io::Result<()> {
+        let far = NonblockingStream::connect(rt, self.target)?;
+        let mut pair = Pair::new(self.alloc, &self.plan, near, far, number)?;
+        let key = self.pairs.vacant_key();
+        pair.register(self.poll.registry(), Token(key.wrapping_mul(2)))?;
+        self.pairs.insert(pair)?;
         Ok(())
     }
 
-    /// Gives a link a turn.
+    /// Gives a pair a turn.
     fn turn<W: Write + Drop, E: Write>(
         &mut self,
         key: usize,
         watch: &mut Watch<W>,
         err: &mut E,
     ) -> io::Result<()> {
-        let Some(link) = self.links.get_mut(key) else {
+        let Some(pair) = self.pairs.get_mut(key) else {
             return Ok(());
         };
-        let number = link.number();
-        match link.turn(watch, &mut self.spare) {
+        let number = pair.number();
+        match pair.turn(watch, &mut self.spare) {
             PairTurn::More => self.queue.push_back(key)?,
             PairTurn::Waits => (),
             PairTurn::Ends(ended) => {
-                let _ = self.links.try_remove(key);
+                drop(self.pairs.try_remove(key));
                 self.report(watch, err, number, ended);
             }
         }

@@ -7,11 +7,11 @@ use cp_frame::FrameFault;
 use cp_relay::Why;
 use cp_stream::Refusal;
 use mio::event::Event;
-use mio::net::TcpStream;
+use mio::{Registry, Token};
+use net_sockets::NonblockingStream;
 use std::alloc::{AllocError, Global};
 use std::fmt;
-use std::io::Write;
-use std::net::Shutdown;
+use std::io::{self, Write};
 
 /// How a connection ended.
 #[derive(Clone, Copy)]
@@ -84,9 +84,9 @@ pub(crate) enum PairTurn {
 
 /// A connection that was accepted, and the one to the target.
 #[derive(Drop)]
-pub(crate) struct Link {
-    near: TcpStream,
-    far: TcpStream,
+pub(crate) struct Pair {
+    near: NonblockingStream,
+    far: NonblockingStream,
     there: Direction,
     back: Direction,
     /// The target was told that there is no more.
@@ -97,16 +97,16 @@ pub(crate) struct Link {
     queued: bool,
 }
 
-impl Link {
-    /// A link of two streams, of which nothing was read.
+impl Pair {
+    /// A pair of streams, of which nothing was read.
     pub(crate) fn new(
         alloc: Global,
         plan: &RelayPlan,
-        near: TcpStream,
-        far: TcpStream,
+        near: NonblockingStream,
+        far: NonblockingStream,
         number: u64,
-    ) -> Result<Link, AllocError> {
-        Ok(Link {
+    ) -> Result<Pair, AllocError> {
+        Ok(Pair {
             near,
             far,
             there: Direction::new(alloc, plan.there(alloc))?,
@@ -123,16 +123,18 @@ impl Link {
         self.number
     }
 
-    /// What an event says of one of the streams. Says whether the link comes into the queue.
+    /// Has the readiness of its streams reported: of the near one under this token, of the far one under the next.
+    pub(crate) fn register(&mut self, registry: &Registry, token: Token) -> io::Result<()> {
+        self.near.register(registry, token)?;
+        self.far.register(registry, Token(token.0 | 1))
+    }
+
+    /// What an event says of one of the streams. Says whether the pair comes into the queue.
     pub(crate) fn mark(&mut self, is_far: bool, event: &Event) -> bool {
-        let closed = event.is_read_closed() || event.is_error();
-        let writable = event.is_writable() || event.is_write_closed() || event.is_error();
         if is_far {
-            self.back.mark_source(event.is_readable(), closed);
-            self.there.mark_target(writable);
+            self.far.mark(event);
         } else {
-            self.there.mark_source(event.is_readable(), closed);
-            self.back.mark_target(writable);
+            self.near.mark(event);
         }
         let enters = !self.queued;
         self.queued = true;
@@ -153,7 +155,8 @@ impl Link {
         if let Some(ended) = self.ended() {
             return PairTurn::Ends(ended);
         }
-        self.queued = self.there.goes_on() || self.back.goes_on();
+        self.queued = self.there.goes_on(&self.near, &self.far)
+            || self.back.goes_on(&self.far, &self.near);
         if self.queued {
             PairTurn::More
         } else {
@@ -173,11 +176,11 @@ impl Link {
     fn pass_ends_on(&mut self) {
         if self.there.end().is_some() && !self.far_is_shut {
             self.far_is_shut = true;
-            let _ = self.far.shutdown(Shutdown::Write);
+            self.far.shut();
         }
         if self.back.end().is_some() && !self.near_is_shut {
             self.near_is_shut = true;
-            let _ = self.near.shutdown(Shutdown::Write);
+            self.near.shut();
         }
     }
 
@@ -194,7 +197,7 @@ impl Link {
 }
 
 /// How a direction ended, if it did.
-fn ended_in(way: &Direction, comes_back: bool) -> Option<PairEnd> {
-    let end = way.end()?;
+fn ended_in(direction: &Direction, comes_back: bool) -> Option<PairEnd> {
+    let end = direction.end()?;
     Some(PairEnd { end, comes_back })
 }

@@ -1,0 +1,125 @@
+//! The connections that come to a listener.
+
+ghost use Rattle.std.specs.Prelude.{◌≡◌, ◌<◌, ◌≤◌, ◌+◌, ◌↔◌, IsTrue};
+ghost use Rattle.net_sockets.specs.Incoming.{most, came_of, count_of, Keeps};
+
+use crate::listener::{Listener, Peer};
+use crate::nonblocking_stream::NonblockingStream;
+use mio::{Registry, Token};
+use std::io::{self, ErrorKind};
+
+/// The most connections that are taken between two rounds of turns.
+const BURST: usize = 64;
+
+/// A listener whose connections are taken without waiting, and how many came.
+#[derive(Drop)]
+pub struct Incoming {
+    listener: Listener,
+    /// A connection may be waiting. A wrong `true` costs one call.
+    is_acceptable: bool,
+    /// The listener failed, as no descriptor was left. No event says when there is one again.
+    has_failed: bool,
+    /// How many connections came to be served.
+    came: u64,
+    /// How many are to come, in all.
+    count: u64,
+    /// How many were taken since the last round of turns.
+    burst: usize,
+}
+
+impl Incoming {
+    /// A listener to which no connection came. So many are to come in all; `None`: no end.
+    pub fn new(listener: Listener, count: Option<u64>) -> Incoming
+        ensures came { came_of result ≡ 0 }
+        ensures count { count_of result ≡ most count }
+    {
+        Incoming {
+            listener,
+            is_acceptable: true,
+            has_failed: false,
+            came: 0,
+            count: count.unwrap_or(u64::MAX),
+            burst: 0,
+        }
+    }
+
+    /// Has its connections reported under a token.
+    pub fn register(&mut self, registry: &Registry, token: Token) -> io::Result<()>
+        ensures { Keeps self.old self.new }
+    {
+        self.listener.register(registry, token)
+    }
+
+    /// Begins a round of turns. `has_event`: an event says that a connection may be waiting. A listener that failed is
+    /// tried again.
+    pub fn begin_round(&mut self, has_event: bool)
+        ensures { Keeps self.old self.new }
+    {
+        self.burst = 0;
+        self.is_acceptable = self.is_acceptable || self.has_failed || has_event;
+        self.has_failed = false;
+    }
+
+    /// Whether all connections came that were to come.
+    pub fn is_full(&self) -> bool
+        ensures { IsTrue result ↔ count_of self.now ≤ came_of self.now }
+    {
+        self.came >= self.count
+    }
+
+    /// Whether so many were taken that there is a round of turns first.
+    pub fn has_burst(&self) -> bool {
+        self.burst >= BURST
+    }
+
+    /// Whether a connection may be waiting, and is wanted.
+    pub fn may_accept(&self) -> bool
+        ensures { IsTrue result → came_of self.now < count_of self.now }
+    {
+        self.is_acceptable && !self.has_burst() && !self.is_full()
+    }
+
+    /// Whether the listener failed, and is to be tried again.
+    pub fn has_failed(&self) -> bool {
+        self.has_failed
+    }
+
+    /// Takes the next connection that waits, if one does.
+    pub fn accept(&mut self) -> Option<(NonblockingStream, Peer)>
+        ensures { Keeps self.old self.new }
+    {
+        self.burst = self.burst.saturating_add(1);
+        match self.listener.accept() {
+            Ok((stream, peer)) => Some((NonblockingStream::new(stream), peer)),
+            Err(error) => {
+                self.note(error.kind());
+                None
+            }
+        }
+    }
+
+    /// Counts a connection that is served, and gives its number, from 1 on.
+    pub fn admit(&mut self) -> u64
+        requires { came_of self.old < count_of self.old }
+        ensures number { result ≡ came_of self.old + 1 }
+        ensures came { came_of self.new ≡ result }
+        ensures count { count_of self.new ≡ count_of self.old }
+    {
+        self.came += 1;
+        self.came
+    }
+
+    /// Notes why no connection was taken. One that its peer closed before says nothing of the next.
+    fn note(&mut self, kind: ErrorKind)
+        ensures { Keeps self.old self.new }
+    {
+        match kind {
+            ErrorKind::ConnectionAborted | ErrorKind::Interrupted => (),
+            ErrorKind::WouldBlock => self.is_acceptable = false,
+            _ => {
+                self.is_acceptable = false;
+                self.has_failed = true;
+            }
+        }
+    }
+}
