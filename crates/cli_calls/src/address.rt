@@ -5,6 +5,7 @@ use crate::fault::CallFault;
 use crate::words::calls_of;
 use cp_commands::{ACCEPTED, REFUSED};
 use mio::net as ready;
+use net_sockets::NonblockingStream;
 use std::fs::Files;
 use std::io::{self, ErrorKind, Write};
 use std::net::{Net, TcpListener, TcpStream, ToSocketAddrs};
@@ -48,20 +49,19 @@ where
     N: Net<Listener = TcpListener, Stream = TcpStream> + Files + AllocGlobal,
 {
     let calls = calls_of(rt, words)?;
-    if address.contains('/') {
-        return match connect_unix(rt, address) {
-            Ok(stream) => converse(rt, stream, address, plan, calls, out),
-            Err(error) => Err(CallFault::of_device(rt.alloc(), address, error)),
-        };
-    }
-    match connect_tcp(rt, address, plan.timeout) {
+    let connected = if address.contains('/') {
+        connect_unix(rt, address)
+    } else {
+        connect_tcp(rt, address, plan.timeout)
+    };
+    match connected {
         Ok(stream) => converse(rt, stream, address, plan, calls, out),
         Err(error) => Err(CallFault::of_device(rt.alloc(), address, error)),
     }
 }
 
 /// A connection to HOST:PORT.
-fn connect_tcp<N>(rt: &N, address: &str, timeout: Option<u32>) -> io::Result<ready::TcpStream>
+fn connect_tcp<N>(rt: &N, address: &str, timeout: Option<u32>) -> io::Result<NonblockingStream>
 where
     N: Net<Listener = TcpListener, Stream = TcpStream>,
 {
@@ -71,7 +71,7 @@ where
     };
     stream.set_nodelay(true)?;
     stream.set_nonblocking(true)?;
-    Ok(ready::TcpStream::from_std(stream))
+    Ok(NonblockingStream::of_tcp(ready::TcpStream::from_std(stream)))
 }
 
 /// A connection to HOST:PORT, whose addresses are each tried for so long.
@@ -90,8 +90,8 @@ where
 }
 
 /// A connection to a Unix socket.
-fn connect_unix<N: Net>(rt: &N, path: &str) -> io::Result<ready::UnixStream> {
+fn connect_unix<N: Net>(rt: &N, path: &str) -> io::Result<NonblockingStream> {
     let stream = UnixStream::connect(rt, path)?;
     stream.set_nonblocking(true)?;
-    Ok(ready::UnixStream::from_std(stream))
+    Ok(NonblockingStream::of_unix(ready::UnixStream::from_std(stream)))
 }

@@ -1,17 +1,17 @@
 //! Calls and their outcomes, over a connection.
 
+use crate::duplex::{DuplexStream, Half};
 use crate::fault::CallFault;
-use crate::wire::{Side, Wire};
 use cp_client::{Client, ClientFault, Question};
 use cp_frame::Mode;
 use cp_refs::{Cap, Outcome, Request};
 use cp_scripts::Lines;
 use cp_stream::DeviceError;
 use cp_words::Limits;
-use mio::event::Source;
+use net_sockets::NonblockingStream;
 use std::alloc::{AllocError, Global};
 use std::cell::RefCell;
-use std::io::{ErrorKind, Read, Write};
+use std::io::{ErrorKind, Write};
 use std::net::Net;
 
 /// How calls are made.
@@ -26,46 +26,46 @@ pub struct CallPlan {
     pub timeout: Option<u32>,
 }
 
-/// Makes calls on the objects of the peer behind a stream whose calls don't wait, in one go, and prints what each came to.
+/// Makes calls on the objects of the peer behind a stream, in one go, and prints what each came to.
 /// Says whether each has results. Faults name the peer by this address.
-pub(crate) fn converse<N: Net + AllocGlobal, S: Source + Read + Write + Drop, O: Write>(
+pub(crate) fn converse<N: Net + AllocGlobal, O: Write>(
     rt: &N,
-    stream: S,
+    stream: NonblockingStream,
     address: &str,
     plan: &CallPlan,
     calls: Vec<(Cap, Request)>,
     out: &mut O,
 ) -> Result<bool, CallFault> {
     let alloc = rt.alloc();
-    let wire = match Wire::new(rt, alloc, stream, plan) {
-        Ok(wire) => RefCell::new(wire),
+    let stream = match DuplexStream::new(rt, alloc, stream, plan) {
+        Ok(stream) => RefCell::new(stream),
         Err(error) => return Err(CallFault::of_device(alloc, address, error)),
     };
-    let (from, to) = (Side::new(&wire), Side::new(&wire));
+    let (from, to) = (Half::new(&stream), Half::new(&stream));
     let mut conversation = Conversation {
         alloc,
         client: Client::new(alloc, from, to, plan.mode, plan.limits),
-        wire: &wire,
+        stream: &stream,
         address,
         timeout: plan.timeout,
     };
     let ended = conversation.ask(calls, out);
     conversation.end();
-    print_messages(&wire, out)?;
+    print_messages(&stream, out)?;
     out.flush()?;
     ended
 }
 
 /// A client and its peer.
-struct Conversation<'a, 'b, S> {
+struct Conversation<'a, 'b> {
     alloc: Global,
-    client: Client<Side<'a, S>, Side<'a, S>>,
-    wire: &'a RefCell<Wire<S>>,
+    client: Client<Half<'a>, Half<'a>>,
+    stream: &'a RefCell<DuplexStream>,
     address: &'b str,
     timeout: Option<u32>,
 }
 
-impl<'a, 'b, S: Source + Read + Write + Drop> Conversation<'a, 'b, S> {
+impl<'a, 'b> Conversation<'a, 'b> {
     /// Makes calls, and prints what each came to.
     fn ask<O: Write>(
         &mut self,
@@ -111,7 +111,7 @@ impl<'a, 'b, S: Source + Read + Write + Drop> Conversation<'a, 'b, S> {
         let mut lines = Lines::new(self.alloc);
         lines.push_outcome_of(question.number, &outcome);
         drop(outcome);
-        print_messages(self.wire, out)?;
+        print_messages(self.stream, out)?;
         print(&lines, out)?;
         Ok(has_results)
     }
@@ -148,7 +148,7 @@ impl<'a, 'b, S: Source + Read + Write + Drop> Conversation<'a, 'b, S> {
         let Conversation {
             alloc: _,
             client,
-            wire: _,
+            stream: _,
             address: _,
             timeout: _,
         } = self;
@@ -165,10 +165,10 @@ fn print<O: Write>(lines: &Lines, out: &mut O) -> Result<(), CallFault> {
 }
 
 /// Prints the messages that weren't.
-fn print_messages<S, O: Write>(wire: &RefCell<Wire<S>>, out: &mut O) -> Result<(), CallFault> {
-    if let Ok(mut wire) = wire.try_borrow_mut() {
-        out.write_all(wire.log.lines.as_bytes())?;
-        wire.log.lines.clear();
+fn print_messages<O: Write>(stream: &RefCell<DuplexStream>, out: &mut O) -> Result<(), CallFault> {
+    if let Ok(mut stream) = stream.try_borrow_mut() {
+        out.write_all(stream.log.lines.as_bytes())?;
+        stream.log.lines.clear();
     }
     Ok(())
 }

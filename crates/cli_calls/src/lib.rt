@@ -3,9 +3,9 @@
 
 mod address;
 mod asking;
+mod duplex;
 mod fault;
 mod log;
-mod wire;
 mod words;
 
 pub use address::call_address;

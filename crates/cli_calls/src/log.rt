@@ -20,9 +20,9 @@ pub(crate) struct Log {
     pub(crate) lines: String,
 }
 
-/// A way that messages go.
+/// Which way messages go.
 #[derive(Clone, Copy)]
-pub(crate) enum Way {
+pub(crate) enum MessageDirection {
     Sent,
     Received,
 }
@@ -41,13 +41,13 @@ impl Log {
     }
 
     /// Notes bytes that went this way.
-    pub(crate) fn note(&mut self, way: Way, bytes: &[u8]) {
+    pub(crate) fn note(&mut self, direction: MessageDirection, bytes: &[u8]) {
         if !self.notes {
             return;
         }
         let mut left = bytes;
         for _ in 0..bytes.len() {
-            match self.next(way, left) {
+            match self.next(direction, left) {
                 Some(rest) => left = rest,
                 None => return,
             }
@@ -55,16 +55,16 @@ impl Log {
     }
 
     /// Notes the next message of these bytes, and gives what follows it.
-    fn next<'a>(&mut self, way: Way, bytes: &'a [u8]) -> Option<&'a [u8]> {
-        let frame = match way {
-            Way::Sent => next_frame(&mut self.sent, bytes),
-            Way::Received => next_frame(&mut self.received, bytes),
+    fn next<'a>(&mut self, direction: MessageDirection, bytes: &'a [u8]) -> Option<&'a [u8]> {
+        let frame = match direction {
+            MessageDirection::Sent => next_frame(&mut self.sent, bytes),
+            MessageDirection::Received => next_frame(&mut self.received, bytes),
         };
         let (segments, rest) = frame?;
         let Ok(view) = view_in(&segments, self.limits) else {
             return None;
         };
-        self.lines.push_str(mark_of(way)).ok()?;
+        self.lines.push_str(mark_of(direction)).ok()?;
         push_line(self.alloc, &mut self.lines, &view).ok()?;
         Some(rest)
     }
@@ -79,9 +79,9 @@ fn next_frame<'a>(reader: &mut FrameReader, bytes: &'a [u8]) -> Option<(Segments
 }
 
 /// What comes before the line of a message that went this way.
-fn mark_of(way: Way) -> &'static str {
-    match way {
-        Way::Sent => "> ",
-        Way::Received => "< ",
+fn mark_of(direction: MessageDirection) -> &'static str {
+    match direction {
+        MessageDirection::Sent => "> ",
+        MessageDirection::Received => "< ",
     }
 }

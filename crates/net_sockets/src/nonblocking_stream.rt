@@ -5,6 +5,7 @@ ghost use Rattle.net_sockets.specs.Reading.{Fits};
 
 use crate::stream::StreamSocket;
 use mio::event::Event;
+use mio::net::{TcpStream, UnixStream};
 use mio::{Registry, Token};
 use std::io::{self, ErrorKind, Read, Write};
 use std::net::{Net, SocketAddr};
@@ -39,6 +40,16 @@ impl NonblockingStream {
             writable: false,
             closed: false,
         })
+    }
+
+    /// A connection over TCP.
+    pub fn of_tcp(stream: TcpStream) -> NonblockingStream {
+        NonblockingStream::new(StreamSocket::Tcp(stream))
+    }
+
+    /// A connection over a Unix socket.
+    pub fn of_unix(stream: UnixStream) -> NonblockingStream {
+        NonblockingStream::new(StreamSocket::Unix(stream))
     }
 
     /// A stream of which nothing is known.

@@ -4,9 +4,9 @@ ghost use Rattle.std.specs.Prelude.{◌≡◌, ◌≤◌, IfOk, length};
 ghost use Rattle.std.specs.Io.{ReadsAtMost, WritesAtMost};
 
 use crate::asking::CallPlan;
-use crate::log::{Log, Way};
-use mio::event::Source;
-use mio::{Events, Interest, Poll, Token};
+use crate::log::{Log, MessageDirection};
+use mio::{Events, Poll, Token};
+use net_sockets::{Got, NonblockingStream};
 use std::alloc::Global;
 use std::cell::RefCell;
 use std::io::{self, ErrorKind, Read, Write};
@@ -22,9 +22,9 @@ const MOST_AHEAD: usize = 67_108_864;
 /// A connection. A write that would wait takes in what comes, since a peer may not read on before its own bytes are read.
 /// Once the peer takes nothing more, what is written is lost, and what it had to say can still be read.
 #[derive(Drop)]
-pub(crate) struct Wire<S> {
+pub(crate) struct DuplexStream {
     alloc: Global,
-    stream: S,
+    stream: NonblockingStream,
     poll: Poll,
     events: Events,
     /// How many seconds a wait takes at the most.
@@ -39,18 +39,17 @@ pub(crate) struct Wire<S> {
     pub(crate) log: Log,
 }
 
-impl<S: Source + Read + Write + Drop> Wire<S> {
-    /// The connection of a stream whose calls don't wait.
+impl DuplexStream {
+    /// The connection of a stream.
     pub(crate) fn new<N: Net>(
         rt: &N,
         alloc: Global,
-        mut stream: S,
+        mut stream: NonblockingStream,
         plan: &CallPlan,
-    ) -> io::Result<Wire<S>> {
+    ) -> io::Result<DuplexStream> {
         let poll = Poll::new(rt)?;
-        let both = Interest::READABLE | Interest::WRITABLE;
-        poll.registry().register(&mut stream, Token(0), both)?;
-        Ok(Wire {
+        stream.register(poll.registry(), Token(0))?;
+        Ok(DuplexStream {
             alloc,
             stream,
             poll,
@@ -73,7 +72,7 @@ impl<S: Source + Read + Write + Drop> Wire<S> {
         } else {
             self.receive(buf)?
         };
-        self.log.note(Way::Received, &buf[..count]);
+        self.log.note(MessageDirection::Received, &buf[..count]);
         Ok(count)
     }
 
@@ -98,11 +97,14 @@ impl<S: Source + Read + Write + Drop> Wire<S> {
         ensures { ReadsAtMost result buf.new }
     {
         for _ in 0..u64::MAX {
-            match self.stream.read(buf) {
-                Ok(0) => return self.end(),
-                Ok(count) => return Ok(count),
-                Err(error) if error.kind() == ErrorKind::WouldBlock => self.wait()?,
-                Err(error) => return Err(error),
+            if !self.stream.is_readable() {
+                self.wait()?;
+                continue;
+            }
+            match self.stream.read(buf)? {
+                Got::Bytes(count) => return Ok(count),
+                Got::Nothing => (),
+                Got::End => return self.end(),
             }
         }
         Err(io::Error::from(ErrorKind::Other))
@@ -123,16 +125,19 @@ impl<S: Source + Read + Write + Drop> Wire<S> {
         ensures { WritesAtMost result bytes.now }
     {
         for _ in 0..u64::MAX {
-            if self.is_shut {
+            if self.is_shut || bytes.is_empty() {
                 return Ok(bytes.len());
             }
+            if !self.stream.is_writable() {
+                self.take_in()?;
+                continue;
+            }
             match self.stream.write(bytes) {
+                Ok(0) => (),
                 Ok(count) => {
-                    self.log.note(Way::Sent, &bytes[..count]);
+                    self.log.note(MessageDirection::Sent, &bytes[..count]);
                     return Ok(count);
                 }
-                Err(error) if error.kind() == ErrorKind::WouldBlock => self.take_in()?,
-                Err(error) if error.kind() == ErrorKind::Interrupted => (),
                 Err(error) => self.shut(error),
             }
         }
@@ -141,15 +146,14 @@ impl<S: Source + Read + Write + Drop> Wire<S> {
 
     /// Takes in what came, or waits where nothing came.
     fn take_in(&mut self) -> io::Result<()> {
-        if self.ahead.len() > MOST_AHEAD {
+        if self.ahead.len() > MOST_AHEAD || !self.stream.is_readable() {
             return self.wait();
         }
         let mut piece = vec![in self.alloc; 0u8; PIECE]?;
         match self.stream.read(&mut piece) {
-            Ok(0) => self.is_shut = true,
-            Ok(count) => self.ahead.extend_from_slice(&piece[..count])?,
-            Err(error) if error.kind() == ErrorKind::WouldBlock => self.wait()?,
-            Err(error) if error.kind() == ErrorKind::Interrupted => (),
+            Ok(Got::Bytes(count)) => self.ahead.extend_from_slice(&piece[..count])?,
+            Ok(Got::Nothing) => (),
+            Ok(Got::End) => self.is_shut = true,
             Err(error) => self.shut(error),
         }
         Ok(())
@@ -159,17 +163,26 @@ impl<S: Source + Read + Write + Drop> Wire<S> {
     /// itself: a signal ends a wait, and so takes no more than that second.
     fn wait(&mut self) -> io::Result<()> {
         let Some(seconds) = self.timeout else {
-            return self.poll.poll(&mut self.events, None);
+            self.poll(None)?;
+            return Ok(());
         };
         for _ in 0..seconds {
-            let second = Some(Duration::from_secs(1));
-            self.poll.poll(&mut self.events, second)?;
-            if !self.events.is_empty() {
+            let came = self.poll(Some(Duration::from_secs(1)))?;
+            if came {
                 return Ok(());
             }
         }
         let silence = io::Error::from(ErrorKind::TimedOut);
         Err(self.failed.unwrap_or(silence))
+    }
+
+    /// Waits for an event, and notes what it says. Says whether one came.
+    fn poll(&mut self, time: Option<Duration>) -> io::Result<bool> {
+        self.poll.poll(&mut self.events, time)?;
+        for event in &self.events {
+            self.stream.mark(event);
+        }
+        Ok(!self.events.is_empty())
     }
 
     /// Keeps why the peer takes nothing more.
@@ -179,32 +192,32 @@ impl<S: Source + Read + Write + Drop> Wire<S> {
     }
 }
 
-/// The reader and the writer of a connection.
+/// What reads, or writes, a connection.
 #[derive(Drop)]
-pub(crate) struct Side<'a, S> {
-    wire: &'a RefCell<Wire<S>>,
+pub(crate) struct Half<'a> {
+    stream: &'a RefCell<DuplexStream>,
 }
 
-impl<'a, S> Side<'a, S> {
-    /// What reads and writes this connection.
-    pub(crate) fn new(wire: &'a RefCell<Wire<S>>) -> Side<'a, S> {
-        Side { wire }
+impl<'a> Half<'a> {
+    /// A half of this connection.
+    pub(crate) fn new(stream: &'a RefCell<DuplexStream>) -> Half<'a> {
+        Half { stream }
     }
 }
 
-impl<'a, S: Source + Read + Write + Drop> Read for Side<'a, S> {
+impl<'a> Read for Half<'a> {
     fn read(&mut self, buf: &mut [u8]) -> io::Result<usize> {
-        match self.wire.try_borrow_mut() {
-            Ok(mut wire) => wire.read(buf),
+        match self.stream.try_borrow_mut() {
+            Ok(mut stream) => stream.read(buf),
             Err(_) => Err(io::Error::from(ErrorKind::Other)),
         }
     }
 }
 
-impl<'a, S: Source + Read + Write + Drop> Write for Side<'a, S> {
+impl<'a> Write for Half<'a> {
     fn write(&mut self, buf: &[u8]) -> io::Result<usize> {
-        match self.wire.try_borrow_mut() {
-            Ok(mut wire) => wire.write(buf),
+        match self.stream.try_borrow_mut() {
+            Ok(mut stream) => stream.write(buf),
             Err(_) => Err(io::Error::from(ErrorKind::Other)),
         }
     }
