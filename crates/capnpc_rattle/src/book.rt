@@ -86,6 +86,7 @@ impl<'s> Book<'s> {
     ) -> Result<Book<'s>, AllocError> {
         let mut names = Vec::new(alloc);
         for node in &schema.nodes {
+            // `--crate` names the crate of this file alone.
             let krate = if node.path() == path { krate } else { "" };
             names.push(names_of(alloc, schema, node, krate, scope))?;
         }
@@ -207,6 +208,7 @@ fn module_of<'s>(alloc: Global, schema: &'s Schema, node: &'s Node) -> Out {
 /// The struct that a group is in; another node is its own.
 fn owner_of<'s>(schema: &'s Schema, node: &'s Node) -> &'s Node {
     let mut owner = node;
+    // Bounded, since the scopes of a wrong request could be a circle.
     for _ in 0..DEEPEST {
         match &owner.kind {
             NodeKind::Struct(structure) if structure.is_group => {}

@@ -138,6 +138,7 @@ fn one_super<'b>(book: &'b Book<'_>, sheet: &mut Sheet<'b>, id: u64) {
 fn way_methods<'b>(book: &Book<'_>, sheet: &mut Sheet<'b>, node: &Node, way: &Way<'b>) {
     let args = way.args();
     let text = book.about_member(node.id, way.number);
+    // Params that can name no capability take no table.
     if way.names_caps {
         sheet.libraries.put("cp_stubs::Table\n");
     }

@@ -205,6 +205,7 @@ fn head<'b>(out: &mut Out, part: &Part<'_>, field: &StructField, setter: &Setter
 /// Writes the code of a method that sets a field. What may fail comes first.
 fn code<'b>(out: &mut Out, part: &Part<'_>, field: &StructField, setter: &Setter<'b>) {
     let args = setter.args();
+    // What may fail comes first, so that no member is chosen for nothing.
     let is_first = setter.shape.fails && field.is_member();
     if is_first {
         out.put("        let whole = ");

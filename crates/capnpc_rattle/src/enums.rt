@@ -94,6 +94,7 @@ pub fn enum_code<'n>(
     items: &'n [String],
 ) {
     if items.is_empty() {
+        // `Past` needs a last value.
         sheet.refuse(node.name(), "", "an enum without values can't be written");
     }
     let mut names = Vec::new(sheet.alloc);

@@ -8,6 +8,7 @@ use cp_tree::Tree;
 
 /// How a field is read: its type, its value as a definition says, and the code. They are templates of the places that
 /// `args` gives.
+/// Clause and code come from one place, so no proof finds a wrong one: `nightly/fields` compares with the reference library.
 #[derive(Clone, Copy)]
 pub struct Getter<'b> {
     pub of: &'static str,

@@ -9,6 +9,7 @@ use std::alloc::AllocError;
 
 const HEADING: &str = "-- What calls of `$0` of $1 lead to.\n";
 
+/// The relations speak of the reply and not of the typed answer, so that a dispatch's clause needs no "there is".
 const KIND: &str = "
 -- What a call of each method leads to.
 pub record $0Kind (S : Type 0) : Type 1 where
@@ -20,6 +21,7 @@ abbrev pub any_$1 : {S : Type 0} → $0Kind S
 any_$1 = record {
 ";
 
+/// First by the interface and then by the method's number, so that each clause is short, however many methods there are.
 const BY_METHOD: &str = "}
 
 -- A call of one of these methods does this to an object, by its number.

@@ -146,6 +146,7 @@ impl Task {
     fn scope(&self) -> Scope<'_> {
         Scope {
             only: self.only.as_str(),
+            // Typed clients take drafts.
             drafts: self.drafts || self.interfaces,
             interfaces: self.interfaces,
         }
@@ -266,6 +267,7 @@ fn put_sheets(
     of: &File<'_>,
     sheets: &[Sheet<'_>],
 ) -> anyhow::Result<()> {
+    // Before any file is written.
     check(sheets)?;
     task.put_modules(rt, of, sheets)?;
     task.put_roots(rt, of, book, sheets)

@@ -96,6 +96,7 @@ impl<'b> Way<'b> {
 
     /// Imports the types of its params and results with these endings.
     pub fn cite(&self, sheet: &mut Sheet<'_>, params: &str, results: &str) {
+        // Also of another crate, so an imported file has to be written with `--interfaces` too.
         sheet.cite(self.params, params);
         match self.results {
             Some(named) => sheet.cite(named, results),

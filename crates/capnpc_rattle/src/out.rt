@@ -256,6 +256,7 @@ impl Out {
 
     /// Adds the name of a variant.
     fn variant(&mut self, name: &str) {
+        // `Unknown` stands for later numbers, and `Self` is a word of the language.
         self.camel(name);
         if name == "unknown" || name == "self" {
             self.push('_');
@@ -369,6 +370,7 @@ fn sort<'t>(lines: &mut Vec<&'t str>, text: &'t str) -> Result<(), AllocError> {
 fn place_of(digit: char) -> usize {
     match digit.to_digit(10) {
         Some(place) => place as usize,
+        // No place has this number.
         None => 10,
     }
 }

@@ -30,6 +30,7 @@ pub fn sheets<'b>(book: &'b Book<'_>, krate: &'b str) -> Result<Vec<Sheet<'b>>, 
         }
     }
     modules.sort()?;
+    // A struct's module has its groups too.
     modules.dedup();
     let mut sheets = Vec::new(book.alloc);
     for module in &modules {
@@ -66,6 +67,7 @@ fn write_node<'b>(book: &'b Book<'_>, sheet: &mut Sheet<'b>, node: &'b Node, nam
 
 impl Sheet<'_> {
     /// The text of the module, of a schema's file of this name.
+    /// It isn't laid out: `rt fmt` does that.
     pub fn module_text(&self, schema: &str) -> Out {
         let args = [Arg::Text(self.module), Arg::Text(schema)];
         let mut text = Out::of(self.alloc, "//! `$0` of $1.\n\n", &args);

@@ -60,6 +60,7 @@ pub fn fields<'b>(book: &'b Book<'_>, sheet: &mut Sheet<'b>, part: &Part<'_>, wa
 }
 
 /// Writes the methods of the fields of a group.
+/// A group has no draft of its own, since its fields lie in the struct.
 #[cycle(fields)]
 fn group<'b>(
     book: &'b Book<'_>,
@@ -74,6 +75,7 @@ fn group<'b>(
     let NodeKind::Struct(of) = &node.kind else {
         return;
     };
+    // In a wrong request a group could lie in itself.
     if part.depth == 0 {
         sheet.refuse(node.name(), "", "its groups are too deep");
         return;

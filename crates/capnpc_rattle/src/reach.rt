@@ -27,6 +27,7 @@ pub fn lines(alloc: Global, schema: &Schema) -> Result<Vec<Line>, AllocError> {
 /// These interfaces, and all that they extend, each once.
 fn all_supers(alloc: Global, schema: &Schema, first: &[u64]) -> Result<Vec<u64>, AllocError> {
     let mut all = Vec::from_slice(alloc, first)?;
+    // No more interfaces than nodes, which bounds the walk.
     for i in 0..schema.nodes.len() {
         let Some(id) = all.get(i).copied() else {
             break;
@@ -55,6 +56,7 @@ fn supers_of(schema: &Schema, id: u64) -> &[u64] {
 /// in them.
 pub fn naming(alloc: Global, schema: &Schema) -> Result<Vec<u64>, AllocError> {
     let mut found: Vec<u64> = Vec::new(alloc);
+    // Each round finds one more, or is the last.
     for _ in 0..schema.nodes.len() {
         let before = found.len();
         for node in &schema.nodes {

@@ -24,6 +24,7 @@ pub struct Setter<'b> {
 /// definition says, and the code of the value.
 #[derive(Clone, Copy)]
 pub struct Shape {
+    /// The parameter is called `value`, so that no field's name clashes with it.
     pub takes: &'static str,
     pub opens: &'static str,
     pub place: &'static str,
@@ -218,6 +219,7 @@ fn with_default(of: Base) -> Form {
 
 /// The templates of a pointer that is no list.
 fn one_pointer(of: Base) -> Form {
+    // A pointer's default isn't looked at: null stands for it, and setting replaces all of it.
     match of {
         Base::Text => Form {
             shape: &COPIED,

@@ -91,6 +91,7 @@ impl<'b> Sheet<'b> {
 
     /// Says that a type, or a member of it, can't be written.
     pub fn refuse(&mut self, title: &str, member: &str, why: &str) {
+        // Only the first fault is reported.
         if self.fault.is_empty() {
             self.fault.put(title);
             if !member.is_empty() {

@@ -11,6 +11,7 @@ use crate::sheet::Sheet;
 use crate::unions::{union_code, union_method};
 use cp_schema::{Base, FieldKind, Node, Slot, StructField, Structure};
 
+/// A newtype with one public field: `StructView` has the `Model`, so each getter is proved by itself.
 const VIEW: &str = "\
 #[derive(Drop)]
 pub struct $0View<'a> {
@@ -83,6 +84,7 @@ pub fn structure<'b>(
     if book.scope.drafts && !of.is_group {
         draft(book, sheet, node, named, of);
     }
+    // No question gives params.
     if book.scope.interfaces && !of.is_group && !is_params(node) {
         promise(book, sheet, node, named, of);
     }
@@ -90,6 +92,7 @@ pub fn structure<'b>(
 
 /// Whether a struct is the params of a method, which has no name in its schema.
 fn is_params(node: &Node) -> bool {
+    // The schema compiler calls params so that have no name.
     node.name().ends_with("$Params")
 }
 

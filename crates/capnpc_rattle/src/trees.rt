@@ -7,6 +7,7 @@ use cp_tree::{Body, Tree};
 #[cycle(put)]
 pub fn put_tree(out: &mut Out, tree: &Tree) {
     match tree {
+        // A default names no capability.
         Tree::Null | Tree::Cap(_) => out.put("Constant::Null"),
         Tree::Struct(body) => {
             out.put("Constant::Struct(");

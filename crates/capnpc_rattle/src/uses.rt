@@ -139,6 +139,7 @@ const SIZES: &str = "Rattle.cp_words.specs.declared.pointer.ElementSize.TheVaria
 /// Whether a text has a word, comments aside.
 fn has_word(text: &str, word: &str) -> bool {
     for line in text.lines() {
+        // A word in a comment needs no import.
         if !is_comment(line) && line_has(line, word) {
             return true;
         }

@@ -50,6 +50,7 @@ pub(crate) fn converse<N: Net + AllocGlobal, O: Write>(
         timeout: plan.timeout,
     };
     let ended = conversation.ask(calls, out);
+    // Only now is the stream closed: some peers take the end of what they read as that of the connection.
     conversation.end();
     print_messages(&stream, out)?;
     out.flush()?;

@@ -126,6 +126,7 @@ impl DuplexStream {
     {
         for _ in 0..u64::MAX {
             if self.is_shut || bytes.is_empty() {
+                // Lost without an error: the peer's reason may still be read.
                 return Ok(bytes.len());
             }
             if !self.stream.is_writable() {
@@ -138,6 +139,8 @@ impl DuplexStream {
                     self.log.note(MessageDirection::Sent, &bytes[..count]);
                     return Ok(count);
                 }
+                // The peer may be waiting for its own bytes to be read.
+
                 Err(error) => self.shut(error),
             }
         }
@@ -146,6 +149,7 @@ impl DuplexStream {
 
     /// Takes in what came, or waits where nothing came.
     fn take_in(&mut self) -> io::Result<()> {
+        // A peer that sends without end doesn't fill the memory.
         if self.ahead.len() > MOST_AHEAD || !self.stream.is_readable() {
             return self.wait();
         }
@@ -209,6 +213,7 @@ impl<'a> Read for Half<'a> {
     fn read(&mut self, buf: &mut [u8]) -> io::Result<usize> {
         match self.stream.try_borrow_mut() {
             Ok(mut stream) => stream.read(buf),
+            // The client reads and writes in turn, so this can't be.
             Err(_) => Err(io::Error::from(ErrorKind::Other)),
         }
     }

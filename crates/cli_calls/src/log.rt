@@ -34,6 +34,7 @@ impl Log {
             alloc,
             limits: plan.limits,
             notes: plan.shows_messages,
+            // What goes out keeps to the standard limits.
             sent: FrameReader::new(alloc, plan.mode, Limits::standard()),
             received: FrameReader::new(alloc, plan.mode, plan.limits),
             lines: String::new(alloc),
@@ -46,6 +47,7 @@ impl Log {
             return;
         }
         let mut left = bytes;
+        // Each message takes a byte at least.
         for _ in 0..bytes.len() {
             match self.next(direction, left) {
                 Some(rest) => left = rest,

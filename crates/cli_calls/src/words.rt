@@ -82,6 +82,7 @@ fn params<N: Files + AllocGlobal>(
 /// A word, apart from the path of a stored message.
 fn parts_of(word: &str) -> (&str, Option<&str>) {
     match word.split_once(STORED) {
+        // Within braces it belongs to a text.
         Some((head, path)) if !head.contains('{') => (head, Some(path)),
         _ => (word, None),
     }

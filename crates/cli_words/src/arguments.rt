@@ -59,6 +59,7 @@ pub(crate) struct Words {
 }
 
 /// An argument.
+/// As data, arguments cost a proof nothing; a function over clap's values costs it up to 50 seconds.
 #[derive(Clone, Copy)]
 pub(crate) struct Argument {
     pub(crate) name: &'static str,
@@ -199,6 +200,7 @@ pub(crate) fn limits_of(matches: &ArgMatches) -> Option<Limits> {
     let traversal = matches
         .get_one::<u32>("traversal")
         .unwrap_or(standard.traversal());
+    // The limit on traversal has to be within that on a frame's words.
     let frame_words = standard.frame_words().max(traversal);
     Limits::new(nesting, traversal, standard.segments(), frame_words)
 }

@@ -56,6 +56,7 @@ const DASH: &str = "-";
 
 /// Whether the words are those of `serve`, other ones than a port and a count: a dash, or the path of a socket.
 pub(crate) fn is_open(words: &[String]) -> bool {
+    // A port is tested as a number, which a dash isn't, so the other forms have arguments of their own.
     let mut serves = false;
     for word in words {
         let word = word.as_str();

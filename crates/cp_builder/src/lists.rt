@@ -11,6 +11,7 @@ use std::alloc::{AllocError, Global};
 use std::marker::Model;
 
 /// The number of elements that a composite list has fewer of, and the words that they take fewer of together.
+/// A tag counts elements in 30 bits, and a list pointer counts words in 29.
 const MOST_ITEMS: usize = 0x4000_0000;
 
 const MOST_WORDS: usize = 0x2000_0000;

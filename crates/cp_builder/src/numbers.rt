@@ -81,6 +81,7 @@ fn put(word: u64, width: usize, first: usize, number: u64) -> u64
     requires fits { number < 2 ^ width }
     ensures { result ≡ put word width first number }
 {
+    // Two shifts: `first + width` may be 64, which would overflow one.
     let above = word >> first >> width;
     (((above << width) | number) << first) | (word % (1 << first))
 }

@@ -132,6 +132,7 @@ pub(crate) fn trees_of(alloc: Global, wholes: Vec<Whole>) -> Result<Vec<Tree>, A
 }
 
 /// Whether a list of bytes is short enough.
+/// It takes a slice, whose type tells the proof that each item fits its bits.
 fn are_bytes(items: &[u8]) -> bool
     ensures fit { IsTrue result → ElementsFit (bytes items.now) }
     ensures long { IsFalse result → 2 ^ 29 ≤ length items.now }

@@ -11,6 +11,8 @@ use std::marker::Model;
 /// A struct to be written, of `W` data words and `P` pointers, or more where it was read and its writer knew
 /// more fields. Its fields are set by their places: number `i` of a width counts numbers of that width from
 /// the start of the data section. A message can hold it at any time. Contracts see it as its tree.
+/// It is a tree and not a run of words, though a run is built and written in less than half the time: requests and
+/// outcomes want owned trees, and each level of a run would copy what is below it.
 pub struct StructDraft<const W: usize, const P: usize> {
     pub(crate) words: Vec<u64>,
     pub(crate) pointers: Vec<Tree>,
@@ -83,8 +85,10 @@ impl<const W: usize, const P: usize> StructDraft<W, P> {
             mut words,
             pointers: mut ptrs,
         } = self;
+        // As the reference library's `setWithCaveats` does: then a list needs no padding.
         words.truncate(W);
         ptrs.truncate(P);
+        // For the proof.
         fit(&words);
         Body { words, ptrs }
     }
@@ -117,6 +121,7 @@ impl<const W: usize, const P: usize> StructDraft<W, P> {
     {
         match self.into_whole().into_object() {
             Ok(object) => object,
+            // It was made as a struct.
             Err(_) => unreachable!(),
         }
     }

@@ -18,6 +18,7 @@ impl<const W: usize, const P: usize> StructDraft<W, P> {
     ghost use Rattle.cp_builder.specs.declared.fault.DraftFault.TheVariants.{TooLong};
 
     /// A draft of a struct that was read where it lies. `TooLong` says that it is owned, and no message can hold it.
+    /// It keeps all that the struct has, so that what a newer schema's program wrote goes on.
     pub fn of_view(alloc: Global, view: &StructView<'_>) -> Result<StructDraft<W, P>, DraftFault>
         requires words { W < 2 ^ 16 }
         requires pointers { P < 2 ^ 16 }
@@ -27,6 +28,7 @@ impl<const W: usize, const P: usize> StructDraft<W, P> {
     {
         match Object::new(view.tree(alloc)?) {
             Ok(object) => Ok(StructDraft::of_object(object)?),
+            // What is read in place always fits a message; an owned struct may not.
             Err(_) => Err(DraftFault::TooLong),
         }
     }
@@ -53,6 +55,7 @@ fn body_in(object: Object) -> Body
 {
     match object.into_tree() {
         Tree::Struct(body) => body,
+        // An object is a struct.
         _ => unreachable!(),
     }
 }

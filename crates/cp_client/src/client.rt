@@ -111,6 +111,7 @@ impl<R: Read + Drop, W: Write + Drop> Client<R, W> {
         ensures stops { let at = seat R.remaining W.contents in IfErr result (λ fault. Stops (at self.old) question.number fault (at self.new)) }
     {
         for _ in 0..u64::MAX {
+            // The outcome is looked for before anything is written: one that has come needs no writer.
             self.session.note()?;
             let came = self.session.take_outcome(question.number)?;
             if let Some(outcome) = came {
@@ -122,6 +123,7 @@ impl<R: Read + Drop, W: Write + Drop> Client<R, W> {
     }
 
     /// Calls a capability, waits for the outcome, and finishes the question.
+    /// Where memory runs out as the question is given up, the outcome is lost; `call`, `wait` and `finish` lose none.
     pub fn ask(&mut self, cap: Cap, request: Request) -> Result<Outcome, ClientFault>
         ensures answered { let at = seat R.remaining W.contents in IfOk result (λ outcome. IsAnswered (at self.old) cap request outcome (at self.new)) }
         ensures unanswered { let at = seat R.remaining W.contents in IfErr result (λ fault. IsUnanswered (at self.old) cap request fault (at self.new)) }
@@ -157,6 +159,7 @@ impl<R: Read + Drop, W: Write + Drop> Client<R, W> {
         ensures stops { let at = seat R.remaining W.contents in IfErr result (λ fault. StopsFor (at self.old) fault (at self.new)) }
     {
         self.write()?;
+        // The writer may keep bytes that the peer waits for.
         self.to.flush()?;
         Ok(())
     }
@@ -264,7 +267,9 @@ impl<R: Read + Drop, W: Write + Drop> Client<R, W> {
         ensures none_failed { OnOk result (failures_of self.new.to ≡ failures_of self.old.to) }
         ensures failed { IfErr result (λ fault. IsDevice fault × FailedOnce (failures_of self.old.to) (failures_of self.new.to)) }
     {
+        // Each count is noted, so that after a failed call it is known to the byte what was written.
         let count = self.to.write(self.session.connection.outgoing())?;
+        // A writer that takes nothing would be asked for ever.
         if count == 0 {
             return Err(ClientFault::Device(DeviceError::from(ErrorKind::WriteZero)));
         }

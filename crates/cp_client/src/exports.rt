@@ -27,6 +27,7 @@ const MOST: usize = 0xffff_ffff;
 
 /// The objects of a client, which its peer may call while the client waits, and which may call what they were given.
 /// `O` is their one type, or `Box<dyn Servant>` for objects of several.
+/// They stand beside the client, so that one without objects costs nothing, and its contracts say nothing of them.
 ///
 /// # In which order calls are made
 ///
@@ -37,6 +38,7 @@ const MOST: usize = 0xffff_ffff;
 ///
 /// In a turn the objects get the calls that came, in order, and then they are polled until none gives an outcome and none
 /// says that it may give more. Nothing is read before they had their turn and all that is sent was written.
+/// So an object that always says that it may give more keeps its client from reading.
 ///
 /// An import that several objects were given is released when each of them gave it up. What the client itself was given
 /// isn't counted: an object that gives up the same import takes it from the client too, unless a question of the
@@ -165,6 +167,7 @@ fn work_off<O: Servant>(
     ensures lives { Lives connection.old connection.new }
 {
     work.work_off(connection, objects)?;
+    // Before each read, so that nobody waits while an object could go on.
     for _ in 0..u64::MAX {
         let more = poll(work, connection, objects)?;
         if !more {
@@ -205,6 +208,7 @@ fn lose(session: &mut Session) -> ClientFault
     ensures fault { result ≡ Fault (first_fault session.old.over) }
     ensures over { session.new ≡ record session.old { over = Some (first_fault session.old.over) } }
 {
+    // A call or an outcome may be lost, and a wait for that would have no end.
     let fault = session.over.unwrap_or(ConnectionFault::OutOfMemory);
     session.over = Some(fault);
     ClientFault::Connection(fault)

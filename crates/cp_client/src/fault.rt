@@ -21,6 +21,7 @@ pub enum ClientFault {
     /// The peer's messages ended, and the outcome hadn't come.
     Ended,
     /// V1: the question wasn't asked, or it was finished, or its outcome was given out.
+    /// It isn't the vat's own V1: the vat still knows a question whose outcome was given out.
     NotAsked,
     /// The connection ended, or memory ran out, or the vat refuses the call.
     Connection(ConnectionFault),

@@ -125,6 +125,7 @@ impl Session {
                 Ok(())
             }
             Err(fault) => {
+                // What follows the fault can't be read either.
                 self.over = Some(fault);
                 Err(ClientFault::Connection(fault))
             }
@@ -167,6 +168,7 @@ impl Session {
     pub fn come(&mut self, question: u32, outcome: Outcome)
         ensures { self.new ≡ record self.old { asked = came self.old.asked question outcome } }
     {
+        // A finished question is waited for no more.
         if let Some(kept) = self.asked.get_mut(question) {
             *kept = Some(outcome);
         }
@@ -178,6 +180,7 @@ impl Session {
         ensures same { self.new ≡ record self.old { connection = self.new.connection } }
         ensures ended { IfErr result IsConnections }
     {
+        // The call's imports stay: the user may hold the same one by an outcome, and a release gives it back whole.
         let outcome = no_such_object(self.alloc)?;
         // Where the vat refuses even that, nobody waits for an answer.
         let _ = self.connection.answer(origin, outcome);

@@ -21,6 +21,7 @@ use std::marker::Model;
 /// `send` calls in the place of the typed client's method, and `end` waits for what is still under way. A call that fails is
 /// reported by the first `send`, or by the `end`, that waits for it. Calls reach their object in the order in which they are
 /// sent.
+/// The window counts calls, and the oldest is waited for before a send. The reference library counts bytes, and waits after it.
 #[derive(Drop)]
 pub struct Stream {
     window: u32,
@@ -127,6 +128,7 @@ impl Stream {
     {
         let number = question;
         let reason = failure_of(client.wait(Question { number })?);
+        // It is under way no more, whatever `finish` says.
         let _ = self.under_way.pop_front();
         client.finish(Question { number })?;
         if let Some(reason) = reason {

@@ -54,6 +54,8 @@ impl Names {
         plain: &str,
         answer: &ReturnView<View<'_>>,
     ) -> Result<Option<String>, Stop> {
+        // A Return has only a question's number, and the calls of its own stream are numbered apart: only a named file says what
+        // was asked.
         let Some(asked) = &self.asked else {
             return Ok(None);
         };

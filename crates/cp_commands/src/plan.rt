@@ -53,6 +53,7 @@ pub enum Plan<'s> {
 
 /// How many bytes are asked for at once: at first and after a frame, and after a piece that ended no
 /// frame half as many more.
+/// Larger pieces throughout make the C library give pages back after each; within a large frame they save calls.
 const PIECE: usize = 16_384;
 
 /// The most bytes that are asked for at once.
@@ -154,6 +155,7 @@ impl Plan<'_> {
             returns: Occurrences::new(alloc),
         };
         let done = self.do_pieces(from, &mut last, out, progress);
+        // Also after a fault: what was accepted before it goes out.
         last.batch.flush(out)?;
         done
     }

@@ -51,6 +51,7 @@ impl Agenda {
         match self.note_each(effects) {
             Ok(closed) => Ok(closed),
             Err(fault) => {
+                // All of an event or nothing: the vat then counts as one that ran out itself (V10), and no effect is half noted.
                 self.outgoing.truncate(unwritten);
                 self.happened.truncate(happened);
                 self.sent = sent;
@@ -109,6 +110,7 @@ impl Agenda {
         ensures noted { OnOk result (Notes self.old (Send message.now ∷ []) self.new) }
         ensures same { OnErr result (Stays self.old self.new) }
     {
+        // Framed now and not when it is written: each call of `Vat` ensures that it can be, so `outgoing` and `wrote` can't fail.
         self.outgoing.put(message, self.mode)?;
         self.sent = self.sent.saturating_add(1);
         Ok(())

@@ -15,6 +15,7 @@ use std::alloc::{AllocError, Global};
 use std::marker::Model;
 
 /// The most bytes for which an empty block keeps its memory.
+/// A larger block goes back to the system: with 1 MiB, results of that size took new pages at each call.
 const KEPT: usize = 2_097_152;
 
 /// The most words for which the memory that messages are laid out in is kept: as many bytes.
@@ -76,6 +77,7 @@ impl Outgoing {
             self.written += count;
             return;
         }
+        // Past the end means all: the count is the device's.
         self.written = 0;
         if self.block.capacity() > KEPT {
             self.block = Vec::new(self.alloc);
@@ -108,6 +110,7 @@ impl Outgoing {
     fn move_up(&mut self)
         ensures { self.new ≡ self.old }
     {
+        // Only then, so that each byte moves once on average.
         let left = self.len();
         if left <= self.written {
             self.block.copy_within(self.written.., 0);
@@ -130,6 +133,7 @@ fn put_after(
     ensures put { OnOk result (Puts mode message.now block.old.items block.new.items) }
     ensures same { OnErr result (block.new.items ≡ block.old.items) }
 {
+    // A peer need not share this end's own limits, so what goes out keeps to the standard ones.
     let put = put_message(alloc, block, words, message, mode, Limits::standard());
     keep_little(alloc, words);
     match put {
@@ -153,6 +157,7 @@ fn refusal_fault(refusal: Refusal, message: &Message) -> AllocError
     match refusal {
         Refusal::Frame(_) => AllocError,
         Refusal::Write(fault) => write_fault(fault, message),
+        // Only reading refuses so.
         Refusal::Tree(_) | Refusal::Schema(_) => unreachable!(),
     }
 }
@@ -164,6 +169,7 @@ fn write_fault(fault: WriteFault, message: &Message) -> AllocError
 {
     match fault {
         WriteFault::OutOfMemory => AllocError,
+        // Each message of the vat is within the standard limits.
         _ => unreachable!(),
     }
 }

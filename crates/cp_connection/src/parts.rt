@@ -91,6 +91,7 @@ impl Parts {
         ensures goes_on { IfOk result (λ r. 0 < length piece.now → 0 < r.0) }
         ensures unreceived { IfErr result (λ fault. (taken : List ℕ) × IsUnreceived (link_of self.old) piece.now taken fault (link_of self.new)) }
     {
+        // A lent call comes before what `next` gives, so nothing may be left there.
         if !self.agenda.happened.is_empty() {
             let count = self.receive(piece)?;
             return Ok((count, None));
@@ -153,6 +154,7 @@ impl Parts {
             }
             Ok(false) => Ok(acted.value),
             Err(_) => {
+                // What the vat asked for is lost, so from here it counts as closed by V10.
                 self.is_lost = true;
                 Err(self.fail(ConnectionFault::OutOfMemory))
             }

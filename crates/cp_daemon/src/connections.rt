@@ -63,6 +63,7 @@ where
 /// Serves connections one after another, each with a Desk and a Cell of its own. Of one that isn't
 /// served to its end a line says why, and names its peer; the next is taken. The status is that of
 /// `act` for the first of these.
+/// It blocks, and serves one at a time: `serve`'s contract says what is written for what was read, which a host's doesn't.
 pub fn serve_connections<E: Write>(
     alloc: Global,
     listener: &TcpListener,
@@ -114,7 +115,9 @@ impl Loop {
             server,
             written,
         } = self;
+        // The client keeps its writing end, so the bytes' number is what ends them.
         let from = (&server).take(written);
+        // Nobody reads yet, so a longer answer would fill the buffers and wait for ever.
         let to = Capped::new(&server, LONGEST_LOOP);
         let served = serve_objects(alloc, from, to, mode);
         // The answer ends here. A connection that is closed with unread bytes is reset instead.

@@ -30,6 +30,7 @@ pub(crate) fn part(stream: &TcpStream, served: Result<Ending, ServeFault>) {
 /// Drops what the peer sends until it closes, for a bounded time.
 fn wait_for_close(mut stream: &TcpStream) {
     let patience = Some(Duration::from_secs(PATIENCE));
+    // Without it the wait could have no end.
     if stream.set_read_timeout(patience).is_err() {
         return;
     }

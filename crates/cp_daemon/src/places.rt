@@ -75,6 +75,7 @@ impl Service {
             messages: Limits::standard(),
             limits: HostLimits {
                 connections: self.at_once as usize,
+                // Further connections wait, as they do at `serve`.
                 crowd: Crowd::Wait,
                 idle,
                 ..standard

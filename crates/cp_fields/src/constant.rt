@@ -17,6 +17,7 @@ use cp_words::ElementSize;
 use std::alloc::{AllocError, Global};
 
 /// A tree that is a constant.
+/// Its slices can lie in a `static`. The words of a frame would need vectors, and a check at each look.
 #[cycle(constant)]
 #[derive(Clone, Copy)]
 pub enum Constant<'a> {

@@ -46,6 +46,7 @@ pub(crate) fn number_at(words: &[u64], width: usize, index: usize) -> u64
 {
     let bit = index * width;
     match words.get(bit / 64) {
+        // No number crosses a word.
         Some(word) => (*word >> (bit % 64)) % (1 << width),
         None => 0,
     }
@@ -71,6 +72,7 @@ pub(crate) fn packed_at(words: &[u64], width: usize, index: usize) -> u64
     requires small { index < 2 ^ 32 }
     ensures { result ≡ element words.now width index }
 {
+    // `1 << 64` would overflow.
     if width == 64 {
         word_at(words, index)
     } else {

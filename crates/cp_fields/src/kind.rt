@@ -62,13 +62,16 @@ impl fmt::Display for WrongKind {
 impl Error for WrongKind {}
 
 /// Whether elements of a size are read from those of another.
+/// The rules are the reference library's; the specification says less.
 #[inline(always)]
 pub(crate) fn reads_from(wanted: ElementSize, found: ElementSize) -> bool
     ensures { result ≡ reads wanted found }
 {
     match (wanted, found) {
         (ElementSize::Bit, ElementSize::Bit) => true,
+        // A list of bits can't be upgraded to another list.
         (ElementSize::Bit, _) | (_, ElementSize::Bit) => false,
+        // Any other element is read as a struct: fields past its end are zero or null.
         (ElementSize::Void | ElementSize::Composite, _) => true,
         (ElementSize::Pointer, ElementSize::Pointer) => true,
         (ElementSize::Pointer, _) | (_, ElementSize::Pointer) => false,

@@ -25,6 +25,8 @@ use std::marker::{Model, PhantomData};
 /// A list, where it lies, whose elements are read as `T`. A list that an older or newer schema wrote is
 /// read as such a list is: elements that are numbers or pointers as structs with that one field, and
 /// structs as their first number or pointer. Contracts see it as its elements, each a struct.
+/// Since each element is seen as a struct, the rules of evolution are one definition, not a case for each
+/// pair.
 pub struct List<'a, T> {
     elements: Elements<'a>,
     of: PhantomData<T>,

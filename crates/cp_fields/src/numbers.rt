@@ -83,6 +83,7 @@ impl<'a> StructView<'a> {
     }
 
     /// Float `i` of 32 bits. Whatever its bits are, a NaN is one NaN.
+    /// The toolchain knows one NaN; `u32` of the same place gives its bits.
     #[inline]
     pub fn f32(&self, i: u32) -> f32
         ensures { result ≡ from_bits binary32 (plain self.now 32 i) }
@@ -91,6 +92,7 @@ impl<'a> StructView<'a> {
     }
 
     /// Float `i` of 64 bits. Whatever its bits are, a NaN is one NaN.
+    /// The toolchain knows one NaN; `u64` of the same place gives its bits.
     #[inline]
     pub fn f64(&self, i: u32) -> f64
         ensures { result ≡ from_bits binary64 (plain self.now 64 i) }
@@ -103,6 +105,7 @@ impl<'a> StructView<'a> {
     pub fn bit_or_true(&self, i: u32) -> bool
         ensures { result ≡ not (flag self.now i) }
     {
+        // Stored as the exclusive or with the default, so that zero bits stand for the default.
         !self.bit(i)
     }
 
@@ -111,6 +114,7 @@ impl<'a> StructView<'a> {
     pub fn u8_or(&self, i: u32, default: u8) -> u8
         ensures { result ≡ uint self.now 8 i default }
     {
+        // Stored as the exclusive or with the default.
         self.u8(i) ^ default
     }
 

@@ -87,6 +87,7 @@ impl<'a> Elements<'a> {
             Shape::List { size, count } => match size {
                 ElementSize::Void => Elements::new(Row::Zeros, count as usize),
                 ElementSize::Pointer => Elements::new(Row::Pointers(view), count as usize),
+                // A composite list doesn't come here: its shape is `Structs`.
                 ElementSize::Composite => Elements::empty(),
                 _ => {
                     let row = Row::Packed(view.words(), element_bits(size) as usize);
@@ -184,6 +185,7 @@ fn owned_item(tree: &Tree, i: usize) -> StructView<'_>
         Tree::Words(items) => StructView::of_number(items[i]),
         Tree::Ptrs(items) => StructView::of_pointer(Pointee::of_tree(&items[i])),
         Tree::Structs { items, .. } => StructView::of_body(&items[i]),
+        // These have no elements.
         Tree::Null | Tree::Cap(_) | Tree::Struct(_) => unreachable!(),
     }
 }

@@ -364,6 +364,7 @@ fn trees_copy(alloc: Global, pointers: &Pointers<'_>) -> Result<Vec<Tree>, Alloc
 {
     match pointers {
         Pointers::Nulls => Ok(Vec::new(alloc)),
+        // A view gives its tree whole; the data words in it are dropped.
         Pointers::View(view) => Ok(struct_trees(alloc, view.tree(alloc)?.into_tree())),
         Pointers::Body(body) => row_copy(alloc, &body.ptrs),
         Pointers::Constant(body) => pointers_copy(alloc, body),

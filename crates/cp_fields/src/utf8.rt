@@ -33,6 +33,7 @@ fn block_at(words: &[u64], first: usize, end: usize) -> [u8; 64]
     ensures { result ≡ map (λ k. byte_before words.now end (first + k)) (range_with_len 0 64) }
 {
     let mut block = [0; BLOCK];
+    // Zeros are valid UTF-8, and a sequence that is open before them is a fault.
     for i in 0..BLOCK {
         block[i] = if first + i < end {
             number_at(words, 8, first + i) as u8

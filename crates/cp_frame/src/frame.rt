@@ -20,6 +20,7 @@ use std::alloc::{AllocError, Global};
 use std::mem;
 
 /// How many words a header alone may reserve: with the table and the list of segments 1 MiB.
+/// Its bytes may never come.
 const FIRST_CAPACITY: usize = 129_024;
 
 /// What has come of a frame.
@@ -75,6 +76,7 @@ impl OpenFrame {
         if table::is_whole(&self.table) {
             self.segments = Vec::with_capacity(alloc, table::count(&self.table))?;
             self.words = first_segment(alloc, table::size(&self.table, 0), &mut self.spare)?;
+            // A first segment of size zero is whole at once.
             close(alloc, &self.table, &mut self.segments, &mut self.words)?;
         }
         Ok(())
@@ -96,6 +98,7 @@ impl OpenFrame {
     {
         let (word, back) = take_word(&mut self.part, left)?;
         match word {
+            // Four bytes make a number known, so a fault may show inside a word.
             None => table::check_part(&self.table, self.total, limits, &self.part)?,
             Some(word) => self.push_table(alloc, limits, word)?,
         }
@@ -164,6 +167,7 @@ impl OpenFrame {
         let back = take_groups(&mut self.table, &mut run, 1, left)?;
         let size = table::size_of_one(&self.table, limits);
         if size == 0 {
+            // Several segments, a fault or too few bytes: the table is read anew, byte by byte.
             self.table.clear();
             return Ok(left);
         }
@@ -207,6 +211,7 @@ impl OpenFrame {
         ensures shorter { IfOk result (λ back. length back.now < length left.now) }
         ensures begun { OnOk result (IsBegun limits self.new) }
     {
+        // Whole words at once, where none is open.
         if self.part.is_empty() && 8 <= left.len() {
             return take_words(
                 alloc,
@@ -265,6 +270,7 @@ impl OpenFrame {
     pub fn clear(&mut self, alloc: Global)
         ensures { IsEmpty self.new }
     {
+        // The buffers go too: after a fault nothing more is read.
         *self = OpenFrame::new(alloc);
     }
 
@@ -285,6 +291,7 @@ impl OpenFrame {
         let table = if self.table.is_empty() {
             0
         } else {
+            // Each word after the first has two sizes.
             table::count(&self.table) / 2
         };
         let words = table + 1 + self.total as usize;
@@ -326,6 +333,7 @@ fn close(
     ensures ends { OnOk result (EndsInOne table.now segments.new.items words.new.items) }
 {
     let count = table::count(table);
+    // A segment of size zero is whole as soon as it begins.
     'closing: while segments.len() < count && words.len() == table::size(table, segments.len()) {
         let next = new_segment(alloc, table, segments.len() + 1)?;
         segments.push(mem::replace(words, next))?;
@@ -405,6 +413,7 @@ fn take_segments(alloc: Global, segments: &mut Vec<Vec<u64>>) -> Segments
         return Segments::one(segments.swap_remove(0));
     }
     let Ok(held) = Segments::new(mem::replace(segments, Vec::new(alloc))) else {
+        // A frame has at least one segment.
         unreachable!()
     };
     held

@@ -14,6 +14,7 @@ pub fn pack(alloc: Global, words: &[u64]) -> Result<Vec<u8>, FrameFault>
     ensures packed { IfOk result (λ out. Spelt words.now out.items) }
     ensures refused { IfErr result (λ fault. fault ≡ OutOfMemory) }
 {
+    // A product that overflows asks for too much, and fails as an allocation does.
     let mut out = Vec::with_capacity(alloc, words.len().saturating_mul(LONGEST))?;
     push_packed(&mut out, words)?;
     Ok(out)

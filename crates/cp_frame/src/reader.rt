@@ -103,6 +103,7 @@ impl FrameReader {
                     self.status = Status::Failed;
                     return Err(fault);
                 }
+                // The frames come first: the next call reports the fault.
                 self.status = Status::Refusing(fault);
                 Ok(frames)
             }
@@ -114,6 +115,8 @@ impl FrameReader {
     /// the piece was read to its end.
     ///
     /// Faults come as `feed` reports them, but each frame is given before a fault after it is met; so none is kept.
+    /// One frame a call, so that it can be used and given back (`reuse`) before the next one takes its
+    /// buffer.
     pub fn next<'a>(
         &mut self,
         piece: &'a [u8],
@@ -169,6 +172,7 @@ impl FrameReader {
     {
         match (self.status, self.stream.mode) {
             (Status::Reading, Mode::Plain) => self.stream.rest.frame.needs(),
+            // Of a packed frame only the open group is sure to come.
             (Status::Reading, Mode::Packed) => self.stream.rest.group.needs(),
             _ => 0,
         }

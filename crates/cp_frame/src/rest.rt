@@ -67,11 +67,13 @@ impl Rest {
             if self.group.is_empty() {
                 return Ok(());
             }
+            // Words of a run are left after the frame's last one: F4.
             return Err(FrameFault::RunPastFrame);
         }
         if table::is_whole(&self.frame.table) {
             return Ok(());
         }
+        // Bytes of an open group count as soon as they are certain, so that F1 and F2 come with their byte.
         let (bytes, known) = self.group.laid();
         table::check_laid(&self.frame.table, self.frame.total, limits, &bytes[..known])
     }

@@ -20,6 +20,7 @@ use std::alloc::{AllocError, Global};
 use std::io::{self, Write};
 
 /// How many bytes are written at once.
+/// So no frame is held whole as bytes.
 const BUFFER: usize = 65_536;
 
 /// How many words are packed before what the buffer holds is written.
@@ -72,6 +73,7 @@ fn send_plain<W: Write>(
     ensures nothing { OnErr result (to.new ≡ to.old) }
 {
     let table = table_bytes(alloc, segments)?;
+    // A buffer that is used again isn't cleared again.
     if buffer.len() < BUFFER {
         buffer.resize(BUFFER, 0)?;
     }

@@ -7,9 +7,12 @@ use std::alloc::{AllocError, Global};
 use std::mem;
 
 /// How many times the words of a segment the capacity of its buffer may be.
+/// A small message that is kept then holds no large buffer.
 const MOST_SPARE: usize = 8;
 
 /// How many words a buffer that is kept has room for at the most: 2 MiB.
+/// A packed frame of 65 KB can name 64 MiB of zeros, whose buffer would stay as long as its connection.
+/// With 1 MiB, a call with params of that size took new pages from the system each time.
 const MOST_KEPT: usize = 262_144;
 
 /// A buffer that was given back, for the words of a later segment. It holds none.

@@ -89,6 +89,7 @@ impl OpenStream {
         ensures fault { IfErr result (λ fault. (fault ≡ OutOfMemory) ⊎ HasThere Plain self.old.limits self.old.rest piece.now fault) }
     {
         let frame = &mut self.rest.frame;
+        // Most frames come whole in one piece.
         if frame.is_empty() {
             if let Some(whole) = take_whole(self.alloc, self.limits, &mut frame.spare, piece)? {
                 return Ok(Some(whole));
@@ -137,6 +138,8 @@ impl OpenStream {
         ensures shorter { IfOk result (λ back. length back.now < length left.now) }
         ensures fault { IfErr result (λ fault. (fault ≡ OutOfMemory) ⊎ HasThere Packed self.old.limits self.old.rest left.now fault) }
     {
+        // Only groups that can show no fault go at once: a fault comes with its byte, however the stream is
+        // cut.
         let back = self.take_front(left)?;
         if back.len() < left.len() {
             return Ok(back);

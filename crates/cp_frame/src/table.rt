@@ -17,6 +17,7 @@ pub fn count(table: &[u64]) -> usize
     ensures value { result ≡ count_of table.now }
     ensures range { result ≤ 2 ^ 32 }
 {
+    // The word has one less than there are.
     (table[0] % 0x1_0000_0000) as usize + 1
 }
 
@@ -84,6 +85,7 @@ pub fn check_part(table: &[u64], total: u64, limits: Limits, part: &[u8]) -> Res
     ensures little { OnOk result (NamesLittle limits (halves table.now ++ numbers part.now)) }
     ensures fault { IfErr result (NamesFault limits (halves table.now ++ numbers part.now)) }
 {
+    // Four bytes are a number: that of the segments, or a size.
     if 4 <= part.len() {
         judge(table, total, limits, LittleEndian::read_u32(part) as u64)?;
     }
@@ -115,6 +117,7 @@ fn judge(table: &[u64], total: u64, limits: Limits, word: u64) -> Result<u64, Fr
     ensures fault { IfErr result (NamesFault limits (halves (table.now ++ word ∷ []))) }
 {
     let after = total_with(table, total, word);
+    // The word has one less than there are, so equal is too many.
     if table.is_empty() && limits.segments() as u64 <= word % 0x1_0000_0000 {
         return Err(FrameFault::TooManySegments);
     }
@@ -133,11 +136,13 @@ fn total_with(table: &[u64], total: u64, word: u64) -> u64
 {
     let low = word % 0x1_0000_0000;
     let high = word / 0x1_0000_0000;
+    // The first word has the number of segments and the first size.
     if table.is_empty() {
         high
     } else if 2 * table.len() < count(table) {
         total + low + high
     } else {
+        // With an even number of segments the last half word is padding, whatever its value.
         total + low
     }
 }

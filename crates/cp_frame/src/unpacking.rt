@@ -20,6 +20,7 @@ pub fn unpack(alloc: Global, bytes: &[u8], limit: usize) -> Result<Vec<u64>, Fra
     ensures within { IfOk result (λ words. length words.items ≤ limit) }
     ensures refused { IfErr result (IsNotUnpackedFor bytes.now limit) }
 {
+    // A guess of four bytes a word; more capacity is made as words come.
     let mut words = Vec::with_capacity(alloc, limit.min(bytes.len() / 4))?;
     let mut group = OpenGroup::new(alloc);
     let mut left = take_front(&mut words, &mut group, limit, bytes)?;
@@ -31,6 +32,7 @@ pub fn unpack(alloc: Global, bytes: &[u8], limit: usize) -> Result<Vec<u64>, Fra
         return Ok(words);
     }
     let (_, known) = group.laid();
+    // A word counts as soon as its bytes are known, even before its count: a byte 00 within no words is F2.
     if words.len() == limit && known == 8 {
         return Err(FrameFault::FrameTooLarge);
     }

@@ -30,6 +30,7 @@ pub fn push_table(out: &mut Vec<u8>, segments: &[Vec<u64>]) -> Result<(), AllocE
     for segment in segments {
         out.extend_from_slice(&(segment.len() as u32).to_le_bytes())?;
     }
+    // An even number of segments leaves half a word, which is padding.
     if segments.len() % 2 == 0 {
         out.extend_from_slice(&0u32.to_le_bytes())?;
     }
@@ -145,6 +146,7 @@ fn words_in(segments: &[Vec<u64>], limit: u64) -> Option<u64>
     let mut words: u64 = 0;
     for segment in segments {
         let size = segment.len() as u64;
+        // A difference, since the sum could overflow.
         if limit - words < size {
             return None;
         }

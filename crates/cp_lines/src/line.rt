@@ -210,6 +210,7 @@ fn text(alloc: Global, line: &mut String, view: &MessageText<View>) -> Result<()
     line.push('"')?;
     for byte in view.text(alloc)?.as_str().as_bytes() {
         match *byte {
+            // So that the line stays one, of ASCII.
             b'"' | b'\\' | 0..0x20 | 0x7f.. => write!(line, "\\x{byte:02x}")?,
             shown => line.push(shown as char)?,
         }

@@ -90,6 +90,7 @@ fn list(
         }
         let first = i as usize * width;
         let word = words.get(first / 8).copied().unwrap_or(0).to_le_bytes();
+        // No element crosses a word, so the part is always there.
         let element = word.get(first % 8..first % 8 + width).unwrap_or(&[]);
         line.push_str(&hex::encode(alloc, element)?)?;
     }
@@ -116,6 +117,7 @@ fn elements(alloc: Global, line: &mut String, view: &View, number: u32) -> Resul
         separate(line, i as usize)?;
         let element = view.child(i);
         let Shape::Struct { ptrs, .. } = element.shape() else {
+            // The elements of a composite list are structs.
             unreachable!();
         };
         body(alloc, line, &element, ptrs)?;

@@ -91,6 +91,7 @@ impl Call {
         let first = u32_part(Call::QUESTION_ID, self.question_id)
             + u16_part(Call::METHOD_ID, self.method_id)
             + u16_part(Call::SEND_RESULTS_TO, number);
+        // The third word has later fields, of which no flag is set.
         let words = [first, u64_part(self.interface_id), 0];
         triple_of(alloc, &words, target, params, third_party)
     }

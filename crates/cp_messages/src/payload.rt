@@ -93,6 +93,7 @@ impl CapTable {
         ensures held { IfOk result (λ d. All IsDescriptor self.now) }
     {
         let descriptors = self.descriptors();
+        // Null is read as the empty list.
         if descriptors.is_empty() {
             return Ok(null());
         }
@@ -133,6 +134,7 @@ impl Payload {
     pub(crate) fn fits(&self) -> bool
         ensures { result ≡ payload_fits self.now }
     {
+        // A descriptor takes two words, and a list has fewer than 2^29.
         self.cap_table.descriptors().len() < 1 << 28 && self.cap_table.descriptors_fit()
     }
 

@@ -110,6 +110,7 @@ impl Transform {
         ensures held { IfOk result (λ d. All IsOp self.now) }
     {
         let ops = self.ops();
+        // Null is read as the empty list.
         if ops.is_empty() {
             return Ok(null());
         }

@@ -73,6 +73,7 @@ impl Return {
         ensures held { IfOk result (λ d. IsReturn self.now) }
     {
         let (number, question, pointer) = self.returned.parts(alloc);
+        // The flag's default is true, so its bit is stored inverted.
         let first = u32_part(Return::ANSWER_ID, self.answer_id)
             + bit_part(Return::RELEASE_PARAM_CAPS, !self.release_param_caps)
             + u16_part(Return::WHICH, number);

@@ -60,6 +60,7 @@ impl Finish {
         ensures made { IfOk result (λ d. draft_of d ≡ finish_written self) }
         ensures held { IfOk result (λ d. IsFinish self) }
     {
+        // The flag's default is true, so its bit is stored inverted.
         let word = u32_part(Finish::QUESTION_ID, self.question_id)
             + bit_part(Finish::RELEASE_RESULT_CAPS, !self.release_result_caps);
         Ok(Draft::Struct(words_of(alloc, &[word])?))

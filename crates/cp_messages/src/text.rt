@@ -75,6 +75,7 @@ impl Text {
         ensures held { IfOk result (λ d. IsText self.now) }
     {
         let bytes = self.as_str().as_bytes();
+        // Null is read as the empty text.
         if bytes.is_empty() {
             return Ok(Draft::Own(Tree::Null));
         }

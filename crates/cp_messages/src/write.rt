@@ -23,6 +23,8 @@ pub fn draft_of(alloc: Global, message: &Message) -> Result<Draft<'_>, WriteFaul
     // A list is too long; or none is, and memory ran out.
     ensures refused { IfErr result (IsRefusalOf message.now) }
 {
+    // Before anything is made, so that a list that is too long is B2 whether or not memory would have
+    // sufficed.
     if !message.fits() {
         return Err(WriteFault::TooCostly);
     }
@@ -42,6 +44,7 @@ pub fn tree_of(alloc: Global, message: &Message) -> Result<Object, WriteFault>
     let whole = draft_of(alloc, message)?.copy(alloc)?;
     match whole.into_object() {
         Ok(object) => Ok(object),
+        // A message is a struct.
         Err(_) => unreachable!(),
     }
 }

@@ -4,6 +4,7 @@ use cp_refs::Outcome;
 use cp_vat_machine::Reason;
 
 /// What the user of a connection is told beside its objects, in the order in which it happened.
+/// It is kept, and not given to a function of the driver's: one loop serves all drivers, and nothing comes between two polls.
 #[derive(Drop)]
 pub enum Notice {
     /// A question of the user's came to this outcome. `finish` it when none of its paths is needed any more.

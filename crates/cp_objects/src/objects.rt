@@ -34,6 +34,7 @@ use std::mem;
 /// What a connection's objects owe its peer, and what happened that is no object's business. The objects themselves,
 /// a slice in which the object of number k is at place k, are kept beside the connection. They are of one type: boxes
 /// (`Box<dyn Servant>`) or an enum, where there are several kinds.
+/// They aren't kept here, since definitions can't name a struct with boxed objects.
 ///
 /// # In which order calls are made
 ///
@@ -137,8 +138,10 @@ impl Objects {
     {
         let mut frame = Segments::one(Vec::new(self.alloc));
         let (count, lent) = connection.receive_lending(piece, &mut frame)?;
+        // No byte of a further frame came, so the bytes ended with a message.
         let has_ended = connection.held().came == 0;
         self.answer_lent(connection, objects, lent)?;
+        // Nothing of the frame is lent any more.
         connection.reuse(frame);
         self.work_off(connection, objects)?;
         Ok((count, has_ended))
@@ -153,6 +156,7 @@ impl Objects {
         ensures done { OnOk result (WorksOff O.kind (work_of self.old connection.old) (work_of self.new connection.new) objects.old objects.new) }
         ensures lives { Lives connection.old connection.new }
     {
+        // Bounded, since every function has to return.
         for _ in 0..u64::MAX {
             let Some(happening) = connection.next() else {
                 return Ok(());
@@ -341,6 +345,7 @@ impl Objects {
         let Some(asker) = self.asked.remove(question) else {
             return self.note(Notice::Settled { question, outcome });
         };
+        // An object names no question, so none of its paths is needed any more.
         finish(connection, question)?;
         self.tell(objects, asker.place, asker.mark, outcome)?;
         self.make_calls(connection, objects, asker.place)
@@ -403,6 +408,7 @@ impl Objects {
                 let outcome = refused_call(self.alloc)?;
                 self.tell(objects, place, mark, outcome)
             }
+            // The connection ended, so no outcome will come.
             ConnectionFault::Closed => Ok(()),
             ConnectionFault::Unreadable { .. } => Ok(()),
         }
@@ -479,6 +485,8 @@ impl Objects {
     fn hold(&mut self, caps: &Caps) -> Result<(), AllocError>
         ensures { OnOk result ((link : Link) → Holds caps.now (work_of self.old link) (work_of self.new link)) }
     {
+        // A release gives an import back whole, so it waits for the last holder; an object that doesn't call has no use for an
+        // import.
         if !self.may_call {
             return Ok(());
         }
@@ -554,6 +562,7 @@ impl Objects {
         ensures done { OnOk result (Releases (work_of self.old connection.old) (work_of self.new connection.new)) }
         ensures lives { Lives connection.old connection.new }
     {
+        // A release that is refused puts its import into the new list.
         let imports = mem::replace(&mut self.given_up, Vec::new(self.alloc));
         self.release_each(connection, &imports)
     }
@@ -578,6 +587,7 @@ impl Objects {
         ensures done { OnOk result (TriesUnheld (work_of self.old connection.old) import (work_of self.new connection.new)) }
         ensures lives { Lives connection.old connection.new }
     {
+        // Its holder puts it on the list again when it gives the import up.
         if self.holders.of(import) > 0 {
             return Ok(());
         }

@@ -9,6 +9,7 @@ use crate::spelling::{put_raw, put_sparse, put_zeros, tag_of};
 use std::simd::prelude::*;
 
 /// How many words a run of zeros takes at the least after its first before words are looked at ahead.
+/// Most runs are short, and their end is found sooner word by word.
 const MANY: usize = 7;
 
 /// How many words are looked at ahead.
@@ -48,6 +49,7 @@ fn put_zero_words<'a>(block: &mut [u8], after: &'a [u64]) -> (usize, &'a [u64])
 {
     let (run, back) = after.split_at(zero_run(after));
     let size = put_zeros(block, run.len());
+    // A mask needs all of its words.
     if run.len() < MANY || back.len() <= AHEAD {
         return (size, back);
     }
@@ -75,6 +77,8 @@ fn put_ahead<'a>(block: &mut [u8], words: &'a [u64]) -> (usize, &'a [u64])
         let zeros = rest.trailing_zeros() as usize;
         let bytes = words[place + zeros].to_le_bytes();
         let tag = tag_of(&bytes);
+        // A full word may begin a raw run, which the mask doesn't show. 0 can't be: the mask's words aren't
+        // zero.
         if tag == 0 || tag == 255 {
             break;
         }

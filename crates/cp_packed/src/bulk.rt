@@ -33,6 +33,7 @@ pub fn take_groups<'a>(
         } else {
             take_run(words, run, most, left)?
         };
+        // What is left is taken byte by byte.
         if back.len() == left.len() {
             return Ok(back);
         }
@@ -53,6 +54,7 @@ fn take_some<'a>(
     ensures takes { IfOk result (λ back. TakesGroups most words.old.items run.old left.now words.new.items run.new back.now) }
     ensures ends { IfOk result (λ back. length back.now ≡ length left.now → IsAtEnd (most - length words.new.items) run.new back.now) }
 {
+    // Most groups go in blocks. A raw run's header, or what a block has no room for, goes alone.
     let back = take_block(words, most, left)?;
     if back.len() < left.len() {
         return Ok(back);
@@ -65,6 +67,7 @@ fn take_block<'a>(words: &mut Vec<u64>, most: usize, left: &'a [u8]) -> Result<&
     requires more { length words.old.items < most }
     ensures { IfOk result (λ back. TakesGroups most words.old.items 0 left.now words.new.items 0 back.now) }
 {
+    // A group's bytes are read together, so the longest group must have come.
     if left.len() < LONGEST || left[0] == 255 {
         return Ok(left);
     }
@@ -72,6 +75,7 @@ fn take_block<'a>(words: &mut Vec<u64>, most: usize, left: &'a [u8]) -> Result<&
     let missing = most - start;
     let block = missing.min(BLOCK);
     reserve_words(words, block, missing)?;
+    // Made as zeros, so that a run of zero words writes nothing more.
     words.resize(start + block, 0)?;
     let (filled, back) = fill(&mut words[start..], left);
     words.truncate(start + filled);
@@ -117,6 +121,7 @@ fn take_short<'a>(block: &mut [u64], left: &'a [u8]) -> (usize, &'a [u8])
         }
         return (count, back);
     }
+    // A word with a raw run after it goes through `take_header`.
     if tag == 255 && 0 < bytes[8] {
         return (0, left);
     }
@@ -145,6 +150,7 @@ fn take_header<'a>(
     let (bytes, back) = after.split_at(header(tag) - 1);
     if tag == 0 {
         let count = bytes[0] as usize + 1;
+        // A run past the end is a fault, which has to show with its byte.
         if missing < count {
             return Ok(left);
         }
@@ -153,6 +159,7 @@ fn take_header<'a>(
         return Ok(back);
     }
     let count = if tag == 255 { bytes[8] as usize } else { 0 };
+    // The run would go past the end: that has to show with its byte.
     if missing == 1 && 0 < count {
         return Ok(left);
     }
@@ -181,6 +188,7 @@ fn take_run<'a>(
     let fitting = if wanted <= missing {
         wanted
     } else {
+        // One word short of the end: with the last one the fault shows, byte by byte.
         missing - 1
     };
     let count = fitting.min(left.len() / 8);

@@ -120,6 +120,7 @@ impl OpenGroup {
         if self.part.len() != WORD {
             return Run { word: 0, count: 0 };
         }
+        // All eight bytes are written, as under the tag 255.
         let (bytes, _) = spread(255, &self.part);
         self.part.clear();
         self.run -= 1;

@@ -48,6 +48,7 @@ pub fn push_groups<'a>(
     ensures grown { OnErr result (Appends out.old.items out.new.items) }
 {
     let mut left = words;
+    // In steps, so that little capacity is made at once.
     'packing: while most < left.len() {
         left = push_some(out, left, most.max(left.len() - left.len().min(STEP)))?;
     }
@@ -73,7 +74,10 @@ fn push_some<'a>(out: &mut Vec<u8>, words: &'a [u64], most: usize) -> Result<&'a
     ensures same { OnErr result (out.new.items ≡ out.old.items) }
 {
     let start = out.len();
+    // Groups that begin within STEP words may take a run after them, and words looked at ahead.
     let count = words.len().min(STEP + MOST + AHEAD + 1);
+    // Room for the longest that groups can be: clearing ten bytes a word costs less than a push for each
+    // byte.
     out.resize(start + LONGEST * count, 0)?;
     let (filled, back) = put_groups(&mut out[start..], words, most);
     out.truncate(start + filled);

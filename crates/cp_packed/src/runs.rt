@@ -54,6 +54,7 @@ fn count_full(words: &[u64]) -> usize
     ensures ends { StartsWithout (λ w. zero_bytes w ≤ 1) (drop result words.now) }
 {
     for (place, word) in words.iter().enumerate() {
+        // A word with one zero byte is no longer in the run than in a group of its own.
         if 1 < count_zeros(*word) {
             return place;
         }

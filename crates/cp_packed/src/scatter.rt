@@ -271,7 +271,8 @@ pub fn scattered(tag: u8, written: &[u8]) -> [u8; 8]
     requires { 8 ≤ length written.now }
     ensures { result ≡ laid_by 8 tag written.now }
 {
-    // As lanes from the start: bytes that are copied one by one are put into lanes one by one.
+    // As lanes from the start: bytes that are copied one by one are put into lanes one by one, which took twice as
+    // long.
     let mut bytes = u8x8::from_slice(written).to_array();
     let lanes = widened(&bytes).swizzle_dyn(widened(&SOURCES[tag as usize]));
     bytes.copy_from_slice(&lanes.to_array()[..8]);

@@ -42,6 +42,7 @@ pub fn put_sparse(block: &mut [u8], mask: u8, bytes: &[u8; 8]) -> usize
     ensures count { result ≤ 9 }
 {
     block[0] = mask;
+    // Always eight bytes: those past the mask's are written over next.
     block[1..9].copy_from_slice(&gathered(mask, bytes).to_array()[..8]);
     1 + mask.count_ones() as usize
 }

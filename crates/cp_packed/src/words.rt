@@ -26,6 +26,7 @@ pub fn reserve_words(words: &mut Vec<u64>, taken: usize, missing: usize) -> Resu
 {
     let spare = words.capacity() - words.len();
     if spare < taken {
+        // At most doubles what has come, so that a peer pays for memory with bytes.
         words.reserve_exact(missing.min(words.len().max(taken)))?;
     }
     Ok(())

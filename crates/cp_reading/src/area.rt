@@ -11,6 +11,8 @@ use crate::target::{PointerTarget, segment_at};
 use cp_words::{BodyKind, ElementSize, Place, Pointer, decode_tag, list_words};
 
 /// What a body is.
+/// It isn't `Shape`, which has trees without a body too: a match of five kinds made lists about twice as
+/// slow.
 #[derive(Clone, Copy)]
 pub(crate) enum Form {
     Struct { words: u16, ptrs: u16 },
@@ -38,6 +40,7 @@ impl Form {
             Form::Struct { words, ptrs } => 1 + words as u64 + ptrs as u64,
             Form::List { size, count } => 1 + list_words(size, count),
             Form::Structs { words, ptrs, count } => {
+                // Each element costs one more than its words, so that many empty structs cost something.
                 2 + count as u64 * (1 + words as u64 + ptrs as u64)
             }
         }
@@ -80,6 +83,7 @@ pub(crate) fn area_of(
             size: ElementSize::Composite,
             count,
         } => {
+            // The list pointer doesn't count the tag.
             let tag = inside(at, words, count as usize + 1, target.start)?;
             return elements_at(segments, at, target.segment, tag, count);
         }
@@ -126,6 +130,7 @@ pub(crate) fn area_again(words: &[u64], at: Place, pointer: Pointer) -> Area
             size,
             count,
         } => (Form::List { size, count }, start_again(at.word, offset)),
+        // The caller sends null, capability and far pointers elsewhere.
         _ => unreachable!(),
     };
     Area {
@@ -155,6 +160,7 @@ fn elements_at(
         return Err(TreeFault::BadTag(at));
     };
     let each = elements.words as u64 + elements.ptrs as u64;
+    // Fewer words than the list has are allowed, as in the reference library.
     if elements.count as u64 * each > size as u64 {
         return Err(TreeFault::OutOfBounds(at));
     }
@@ -177,6 +183,7 @@ fn inside(at: Place, words: &[u64], size: usize, start: Option<usize>) -> Result
     ensures small { IfOk result (λ p. p + size < 2 ^ 63) }
 {
     match start {
+        // The start is compared first, so that the difference can't wrap.
         Some(start) if start <= words.len() && size <= words.len() - start => Ok(start),
         _ => Err(TreeFault::OutOfBounds(at)),
     }
@@ -194,6 +201,7 @@ fn elements_again(words: &[u64], at: Place, tag: usize, size: u32) -> Area
     ensures here { result.segment ≡ at.segment }
 {
     let Some(elements) = decode_tag(words[tag]) else {
+        // The tag was decoded when the message was checked.
         unreachable!();
     };
     Area {
@@ -217,6 +225,7 @@ fn start_again(word: usize, offset: i32) -> usize
     if offset >= 0 {
         word + 1 + offset as usize
     } else {
+        // Widened first: the least `i32` has no negation.
         word + 1 - (-i64::from(offset)) as usize
     }
 }

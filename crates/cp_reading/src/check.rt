@@ -49,6 +49,7 @@ impl<'a, 'v, L: Ledger> Checker<'a, 'v, L> {
         }
         self.visits.tick();
         let word = words[0];
+        // Nearly every root is a near struct pointer; the others go the longer way.
         if word == 0 || word % 4 != 0 {
             return self.check_any_root(nesting);
         }
@@ -75,6 +76,7 @@ impl<'a, 'v, L: Ledger> Checker<'a, 'v, L> {
             Some(Pointer::Cap(_)) => Err(TreeFault::RootKind(TOP)),
             Some(pointer) => {
                 let target = target_of(self.segments, TOP, pointer)?;
+                // The kind before the bounds: G2 says what the root's pointer says, wherever its body lies.
                 let BodyKind::Struct { .. } = target.kind else {
                     return Err(TreeFault::RootKind(TOP));
                 };
@@ -112,6 +114,7 @@ impl<'a, 'v, L: Ledger> Checker<'a, 'v, L> {
         ensures same { self.new.segments ≡ self.old.segments }
         ensures lent { self.new.visits.ghost_name ≡ self.old.visits.ghost_name }
     {
+        // Charged before its parts are read, so that no more than the limit is gone over.
         charge(at, depth, area.form.price(), &mut self.budget)?;
         self.check_parts(area, depth - 1)
     }
@@ -186,6 +189,7 @@ impl<'a, 'v, L: Ledger> Checker<'a, 'v, L> {
         ensures same { self.new.segments ≡ self.old.segments }
         ensures lent { self.new.visits.ghost_name ≡ self.old.visits.ghost_name }
     {
+        // Nothing hangs on such elements, however many there are.
         if ptrs == 0 {
             return Ok(());
         }
@@ -212,6 +216,7 @@ impl<'a, 'v, L: Ledger> Checker<'a, 'v, L> {
         ensures same { self.new.segments ≡ self.old.segments }
         ensures lent { self.new.visits.ghost_name ≡ self.old.visits.ghost_name }
     {
+        // Sliced once, so that the loop tests no bound.
         let words = &segment_at(self.segments, first.segment)[first.word..first.word + count];
         for (i, word) in words.iter().enumerate() {
             let at = Place {
@@ -239,6 +244,7 @@ impl<'a, 'v, L: Ledger> Checker<'a, 'v, L> {
         if word == 0 {
             return Ok(());
         }
+        // Near pointers are nearly all, and need no full decoding.
         match word % 4 {
             0 => {
                 let area = area_of(self.segments, at, struct_target(at, word))?;
@@ -285,6 +291,7 @@ fn charge(at: Place, depth: u32, price: u64, budget: &mut u64) -> Result<(), Tre
     ensures refused { IfErr result (λ e. budget_after at depth price budget.old ≡ Err e) }
     ensures kept { OnErr result (budget.new ≡ budget.old) }
 {
+    // The level before the price: at one pointer word G8 is reported before G9.
     if depth == 0 {
         return Err(TreeFault::NestingLimit(at));
     }

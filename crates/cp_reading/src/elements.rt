@@ -33,6 +33,7 @@ pub(crate) fn list_of(
         ElementSize::Byte => bytes_of(alloc, words, count).map(Tree::Bytes),
         ElementSize::TwoBytes => two_bytes_of(alloc, words, count).map(Tree::Halves),
         ElementSize::FourBytes => four_bytes_of(alloc, words, count).map(Tree::Quads),
+        // The last two don't come here: their trees are built from their pointers.
         ElementSize::EightBytes | ElementSize::Pointer | ElementSize::Composite => {
             words_of(alloc, words, count).map(Tree::Words)
         }
@@ -125,6 +126,7 @@ fn element_of(words: &[u64], width: usize, index: u32) -> u64
 {
     let bit = index as usize * width;
     let shifted = words[bit / 64] >> (bit % 64);
+    // `1 << 64` would overflow.
     if width == 64 {
         shifted
     } else {

@@ -4,7 +4,8 @@ ghost use Rattle.std.specs.Prelude.{All};
 ghost use Rattle.cp_words.specs.Segments.{words_of};
 ghost use Rattle.cp_tree.specs.Shaped.{AllFit};
 
-/// The words of all segments fit 64 bits. This does nothing but tell a proof, which learns it by the type of a slice alone.
+/// The words of all segments fit 64 bits. This only tells a proof, for a step a segment: of vectors in a slice it
+/// learns that by their types inside a loop alone, and by no lemma.
 pub(crate) fn segments_fit(segments: &[Vec<u64>])
     ensures { All (AllFit 64) (words_of segments.now) }
 {

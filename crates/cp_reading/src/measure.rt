@@ -39,5 +39,6 @@ fn fits_uncounted<L: Ledger>(view: &View, nesting: u32, traversal: u64, blank: B
         budget: traversal,
         visits: &mut visits,
     };
+    // The place would only be named by a fault, which is dropped here.
     checker.check_body(TOP, area, nesting).is_ok()
 }

@@ -65,8 +65,10 @@ pub fn read_counted<L: Ledger>(
     ensures few { visits.new ≤ visits.old + 2 * (1 + limits.traversal) }
 {
     let root = View::root_counted(segments, limits, visits)?;
+    // The check takes no memory, so a refused message costs none; the tree is built afterwards.
     match whole_of(alloc, &root, visits)?.into_object() {
         Ok(object) => Ok(object),
+        // A root that was checked is a struct.
         Err(_) => unreachable!(),
     }
 }

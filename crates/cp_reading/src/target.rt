@@ -76,6 +76,7 @@ pub(crate) fn start_from(word: usize, offset: i32) -> Option<usize>
     if offset >= 0 {
         Some(word + 1 + offset as usize)
     } else {
+        // Widened first: the least `i32` has no negation.
         (word + 1).checked_sub((-i64::from(offset)) as usize)
     }
 }
@@ -131,6 +132,7 @@ fn landing_pad_at(
     ensures target { result ≡ target_by_one at landing_pad.segment landing_pad.word pointer }
     ensures here { IfOk result (λ a. a.segment ≡ landing_pad.segment) }
 {
+    // A zero word, a capability or another far pointer is no landing pad of one word.
     match pointer {
         None => Err(TreeFault::BadPad(at)),
         Some(pointer) => target_at(landing_pad, pointer).ok_or(TreeFault::BadPad(at)),
@@ -157,6 +159,7 @@ fn target_by_two(
     else {
         return Err(TreeFault::BadPad(at));
     };
+    // The form of both words before the segment that they name: G5 is reported before G4.
     let Some(kind) = tag_kind(second) else {
         return Err(TreeFault::BadPad(at));
     };
@@ -176,6 +179,7 @@ fn tag_kind(second: Option<Pointer>) -> Option<BodyKind>
     ensures { result ≡ tag_kind_of second }
 {
     match second {
+        // The reference library writes such frames; the specification asks for a pointer here.
         Some(Pointer::Null) => Some(BodyKind::Struct { words: 0, ptrs: 0 }),
         Some(
             Pointer::Struct {

@@ -39,6 +39,7 @@ pub(crate) enum Viewed {
 pub struct View<'a> {
     segments: &'a [Vec<u64>],
     /// The words of the segment that the body lies in.
+    /// Kept with the view, so that a child in the same segment needs no look-up.
     here: &'a [u64],
     part: Viewed,
 }
@@ -110,6 +111,7 @@ impl<'a> View<'a> {
         ensures few { visits.new ≤ visits.old + 1 + limits.traversal }
     {
         let segments = segments.lists();
+        // For the proof.
         segments_fit(segments);
         let mut checker = Checker {
             segments,
@@ -125,6 +127,7 @@ impl<'a> View<'a> {
     }
 
     /// The same view once more.
+    /// It stands in place of `Copy`: a type that contracts see as a value gives no fields back.
     #[inline(always)]
     pub fn again(&self) -> View<'a>
         ensures { result ≡ self.now }
@@ -241,6 +244,7 @@ fn viewed_in(segments: &[Vec<u64>], here: &[u64], at: Place) -> Viewed
     ensures part { IsViewed (words_of segments.now) result }
 {
     match pointer_in(here[at.word]) {
+        // A bad capability word doesn't come here: the message was checked.
         None | Some(Pointer::Null) => Viewed::Null,
         Some(Pointer::Cap(index)) => Viewed::Cap(index),
         Some(pointer) => body_at(segments, here, at, pointer),
@@ -261,6 +265,7 @@ fn words_of_part<'a>(
 {
     match part {
         Viewed::Body(area) => {
+            // Most bodies lie in the segment of their pointer.
             if area.segment == index {
                 here
             } else {
@@ -380,6 +385,7 @@ fn far_body(segments: &[Vec<u64>], at: Place, pointer: Pointer) -> Viewed
     ensures part { IsViewed (words_of segments.now) result }
 {
     let Ok(target) = target_of(segments, at, pointer) else {
+        // It can't fail: the same pointer was followed when the message was checked.
         return Viewed::Null;
     };
     match area_of(segments, at, target) {

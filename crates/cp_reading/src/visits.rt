@@ -25,6 +25,7 @@ impl<L: Ledger> Model for Visits<L> {
 
 impl<L: Ledger> Visits<L> {
     /// No word was visited yet. `blank` names the ledger that counts.
+    /// The toolchain has counts that take no bytes only in this form.
     pub fn new(blank: Blank) -> Visits<L>
         requires name { blank.name ≡ L.name }
         requires parts { blank.parts ≡ L.parts }

@@ -10,7 +10,8 @@ use std::collections::BTreeMap;
 use std::collections::btree_map::Iter;
 use std::marker::Model;
 
-/// WideEntries under numbers. Contracts see them as a finite map.
+/// Entries under numbers of 64 bits. Contracts see them as a finite map. They have a type of their own, since contracts
+/// don't see a key that is a type parameter as a number.
 #[derive(Drop)]
 pub(crate) struct WideEntries<V> {
     entries: BTreeMap<u64, V>,

@@ -18,6 +18,8 @@ use std::snapshot::Snapshot;
 
 /// What is kept of an outcome: what it gives at each path, and its capability table. Contracts see it as
 /// the outcome itself, whose data isn't kept.
+/// The data goes into the Return or to the application, and is copied nowhere. By the snapshot every
+/// definition still speaks of the whole outcome.
 pub struct KeptOutcome {
     part: Reachable,
     /// It takes no bytes: contracts alone read it.

@@ -21,6 +21,7 @@ pub(crate) fn pointers_of(alloc: Global, tree: &Tree) -> Result<Tree, AllocError
                 ptrs,
             }))
         }
+        // No path leads into a list.
         Tree::Null
         | Tree::Voids(_)
         | Tree::Bits(_)

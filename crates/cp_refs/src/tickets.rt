@@ -11,6 +11,7 @@ use std::marker::Model;
 /// A set of tickets, of which the lowest is at hand. Contracts see it as that set.
 #[derive(Drop)]
 pub(crate) struct Tickets {
+    /// `Reverse`, since a heap gives its greatest.
     heap: BinaryHeap<Reverse<u64>>,
 }
 

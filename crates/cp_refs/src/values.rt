@@ -236,6 +236,7 @@ impl Values {
         requires { HasRoute self.now cap.now }
         ensures { IfOk result (λ r. Routes self.now cap.now r) }
     {
+        // The walk ends, since no promise leads back to itself.
         let mut walk = Walk::new(self, cap);
         loop {
             match walk.on()? {
@@ -254,6 +255,7 @@ impl Values {
             Cap::None => Step::Ends(Route::Fail(null_capability(self.alloc)?)),
             Cap::Object(object) => Step::Ends(Route::Deliver(*object)),
             Cap::Promise(id) => self.step_of_promise(*id),
+            // It isn't followed: a call on an import goes to the peer, whatever it came to.
             Cap::Import(id) => Step::Ends(Route::Import(*id)),
             Cap::Pipelined(id, path) => self.step_of_question(*id, path)?,
             Cap::Broken(exception) => Step::Ends(Route::Fail(exception.copy(self.alloc)?)),
@@ -268,6 +270,7 @@ impl Values {
         match self.promise(id) {
             Some(Some(value)) => Step::Leads(value),
             Some(None) => Step::Ends(Route::Wait(Gate::Promise(id))),
+            // What a capability names exists.
             None => unreachable!(),
         }
     }
@@ -301,6 +304,7 @@ fn open_route(alloc: Global, kind: QuestionKind, id: u32, path: &Path) -> Result
     let path = path.copy(alloc)?;
     Ok(match kind {
         QuestionKind::Local => Route::Wait(Gate::Question(id, path)),
+        // The peer knows the question, and holds the call there.
         QuestionKind::Wire => Route::Pipe(id, path),
     })
 }

@@ -92,6 +92,7 @@ impl Waiting {
         self.calls.put(ticket, held)?;
         if let Err(AllocError) = queue_up(self.alloc, &mut self.queues, key, ticket) {
             let Some(held) = self.calls.remove(ticket) else {
+                // It was put in just now.
                 unreachable!()
             };
             return Err(AllocFailed { value: held });
@@ -100,6 +101,7 @@ impl Waiting {
     }
 
     /// Ends a gate: the calls that wait at it may leave. An answer and a question end at every path.
+    /// A call that comes to the gate later waits until it ends again.
     pub fn end(&mut self, gate: &Gate) -> Result<(), AllocError>
         ensures ended { OnOk result (Ends self.old gate.now self.new) }
         ensures err { OnErr result (self.new ≡ self.old) }
@@ -110,6 +112,7 @@ impl Waiting {
 
     /// Takes out, of the calls whose gate was ended, the one with the lowest ticket. `None` says
     /// that there is none of them.
+    /// A call that came late with a low ticket leaves in that ticket's place.
     pub fn next(&mut self) -> Option<WaitingCall>
         ensures left { IfSome result (λ call. Leaves self.old call self.new) }
         ensures none { IfNone result ((self.old.ended ≡ set.empty) × (self.new ≡ self.old)) }
@@ -123,6 +126,7 @@ impl Waiting {
 fn gate_key(gate: &Gate) -> u64
     ensures { result ≡ key_of gate.now }
 {
+    // Four kinds of gates, so that no two have one number.
     match gate {
         Gate::Answer(id, _) => 4 * (*id as u64),
         Gate::Promise(id) => 4 * (*id as u64) + 1,

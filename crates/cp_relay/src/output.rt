@@ -9,5 +9,6 @@ pub enum Output {
     AsRead,
     /// The frame of the same message in one segment, in this form. What no pointer leads to, and fields that
     /// rpc.capnp doesn't have, stay behind.
+    /// A null pointer to a struct of rpc.capnp is written as a struct of defaults, so a message may become too deep or too costly.
     Anew(Mode),
 }

@@ -28,6 +28,8 @@ pub struct Passage {
     pub output: Output,
     pub frames: FrameReader,
     /// What goes out next: the bytes of the open frame, where they go out as they were read.
+    /// They are kept as bytes: words can be packed in several ways, and padding may have any value. An open frame is held twice
+    /// then.
     pub kept: Vec<u8>,
     /// How many bytes the frames took that were let through.
     pub at: u64,
@@ -101,10 +103,12 @@ impl Passage {
         ensures counts { self.new.at ≡ self.old.at }
     {
         let view = view_in(segments, self.limits)?;
+        // Before the visitor is asked, so that it allows only what can go.
         self.make(&view, front)?;
         if !visitor.visit(&view)? {
             return Err(Why::Forbidden);
         }
+        // At once and whole: an allocation failure leaves `out` as it was.
         self.give(out)?;
         Ok(())
     }

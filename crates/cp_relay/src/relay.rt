@@ -145,6 +145,7 @@ impl Relay {
     {
         match self.fault {
             None => Ok(()),
+            // The same fault again, and not F5 as a reader of messages has it: a relay's caller has one thing to report.
             Some(fault) => Err(fault),
         }
     }

@@ -70,6 +70,7 @@ impl<S: Source> CallView<S> {
         requires { IsStructField (S.seen t.now) }
         ensures { Checks (call_faults (S.seen t.now)) result }
     {
+        // In the order of the struct's fields, which decides which fault is reported.
         TargetView::check(&struct_field(t, Call::TARGET, Field::CallTarget)?)?;
         PayloadView::check(&struct_field(t, Call::PARAMS, Field::CallParams)?)
     }

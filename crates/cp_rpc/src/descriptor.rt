@@ -33,6 +33,7 @@ impl<S: Source> DescriptorView<S> {
         requires { IsStructField (S.seen t.now) }
         ensures { Checks (descriptor_faults (S.seen t.now)) result }
     {
+        // Of the members only `receiverAnswer` has a pointer that is looked into.
         if u16_at(t.data(), Descriptor::WHICH) != 4 {
             return Ok(());
         }

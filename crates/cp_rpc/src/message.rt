@@ -54,6 +54,7 @@ impl<S: Source> MessageIn<S> {
             6 => Field::MessageRelease,
             8 => Field::MessageBootstrap,
             13 => Field::MessageDisembargo,
+            // Other members aren't looked into.
             _ => return Ok(()),
         };
         let member = struct_field(t, Message::MEMBER, field)?;

@@ -25,6 +25,7 @@ pub(crate) enum TreePart<'a> {
 
 /// A part of an owned tree that a message can hold, looked at where it is. Contracts see it as
 /// its tree.
+/// It isn't `cp_fields::Pointee`, which may be any tree: here a message can hold the tree, by its type.
 #[derive(Drop)]
 pub(crate) struct Owned<'a> {
     part: TreePart<'a>,
@@ -107,6 +108,7 @@ impl<'a> Source for Owned<'a> {
 
     fn item(&self, i: usize) -> Owned<'a> {
         let TreePart::Tree(tree) = self.part else {
+            // Only a composite list has elements.
             unreachable!();
         };
         Owned {

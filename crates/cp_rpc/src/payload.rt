@@ -57,6 +57,7 @@ impl<S: Source> CapTableView<S> {
     fn of(source: S) -> Result<CapTableView<S>, SchemaFault>
         ensures { Gives (λ t. t) (descriptors_denoted (S.seen source)) (flat_map descriptor_faults (items_of (S.seen source))) result }
     {
+        // All at once, so that `descriptor` can't fail later.
         CapTableView::check(&source)?;
         Ok(CapTableView { source })
     }
@@ -75,6 +76,7 @@ impl<S: Source> CapTableView<S> {
     {
         match DescriptorView::of(&self.source.item(i)) {
             Ok(descriptor) => descriptor,
+            // All descriptors were checked when the table was made.
             Err(_) => unreachable!(),
         }
     }

@@ -53,6 +53,7 @@ pub fn message_of(alloc: Global, root: &Object) -> Result<Message, SchemaFault>
     // A fault is the first that the tree has, or an allocation failure.
     ensures fault { IfErr result (IsFirstFault (message_faults root.now)) }
 {
+    // By way of a view, so that owned trees and frames are read by the same code.
     let view = MessageIn::of(&Owned::of(root.tree()))?;
     Ok(view.message(alloc)?)
 }

@@ -19,6 +19,7 @@ pub(crate) fn bootstrap_of(words: &[u64]) -> Bootstrap
 pub(crate) fn finish_of(words: &[u64]) -> Finish
     ensures { result ≡ finish_denoted words.now }
 {
+    // The flag's default is true, so its bit is stored inverted.
     Finish {
         question_id: u32_at(words, Finish::QUESTION_ID),
         release_result_caps: !bit_at(words, Finish::RELEASE_RESULT_CAPS),

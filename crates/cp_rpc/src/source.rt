@@ -28,6 +28,7 @@ pub enum Look {
 }
 
 /// A tree that is looked at where it lies.
+/// Readers are generic in it: a reader for each kind of source would have to agree with the others.
 pub trait Source: Drop {
     ghost seen: { Self → Node };
 
@@ -93,8 +94,10 @@ impl<'a> Source for View<'a> {
 
     fn item(&self, i: usize) -> View<'a> {
         let Shape::Structs { count, .. } = self.shape() else {
+            // Only a composite list has elements.
             unreachable!();
         };
+        // For the proof: `i` fits 32 bits.
         prove!(i < count as usize);
         self.child(i as u32)
     }

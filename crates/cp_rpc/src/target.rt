@@ -29,6 +29,7 @@ impl<S: Source> TargetView<S> {
         requires { IsStructField (S.seen t.now) }
         ensures { Checks (target_faults (S.seen t.now)) result }
     {
+        // Of the members only `promisedAnswer` has a pointer that is looked into.
         if u16_at(t.data(), Target::WHICH) != 1 {
             return Ok(());
         }

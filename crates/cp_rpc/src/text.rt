@@ -41,6 +41,7 @@ impl<S: Source> MessageText<S> {
         ensures { result ≡ length self.now }
     {
         match self.source.look() {
+            // The zero byte at the end is no part of the text.
             Look::Bytes(count) => count - 1,
             _ => 0,
         }
@@ -80,6 +81,7 @@ pub(crate) fn text_at(alloc: Global, at: Pointee<'_>) -> Result<Text, AllocError
     ensures { IfOk result (λ t. t ≡ text_of at.entry) }
 {
     let Ok(text) = cp_fields::TextView::of(at, "") else {
+        // The field was tested when the message was read.
         unreachable!();
     };
     match text.text(alloc) {

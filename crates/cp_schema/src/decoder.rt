@@ -122,6 +122,7 @@ fn show_field(
         }
         FieldKind::Slot(slot) => {
             let is_null = is_pointer(slot.of) && at.pointer(slot.place).is_null();
+            // As the reference tool does, null where a default stands is left out, but for a union's later members.
             if is_null && (!field.is_member() || field.tag == 0) {
                 return;
             }
@@ -214,6 +215,7 @@ fn list(line: &mut Line, schema: &Schema, slot: &Slot, at: &StructView<'_>, dept
         line.is_deep = true;
         return;
     }
+    // Bits can't be read as structs.
     if slot.of.lists == 1 && matches!(slot.of.of, Base::Bool) {
         bools(line, at, slot.place);
         return;
@@ -222,6 +224,7 @@ fn list(line: &mut Line, schema: &Schema, slot: &Slot, at: &StructView<'_>, dept
         lists: slot.of.lists.saturating_sub(1),
         of: slot.of.of,
     });
+    // Seen as structs, elements of another edition's list are shown too, and narrower numbers, which the reference tool refuses.
     match at.list::<StructView<'_>>(slot.place) {
         Ok(items) => {
             line.open('[');

@@ -69,6 +69,7 @@ fn base_of(view: &TypeView<'_>, which: TypeWhich) -> Base {
         TypeWhich::Enum => Base::Enum(view.enum_().type_id()),
         TypeWhich::Struct => Base::Struct(view.struct_().type_id()),
         TypeWhich::Interface => Base::Interface(view.interface().type_id()),
+        // Types that a newer schema.capnp has are among these.
         _ => Base::AnyPointer,
     }
 }

@@ -96,6 +96,7 @@ impl Line {
     pub(crate) fn string(&mut self, text: &TextView<'_>) {
         match text.text(self.alloc) {
             Ok(owned) => self.characters(owned.as_str()),
+            // The reference tool prints such bytes as they are.
             Err(_) => self.bytes(&text.bytes()),
         }
     }
@@ -124,6 +125,7 @@ impl Line {
 
     /// Adds a byte of a text.
     fn byte(&mut self, byte: u8) {
+        // The reference tool's escapes.
         match byte {
             7 => self.put("\\a"),
             8 => self.put("\\b"),

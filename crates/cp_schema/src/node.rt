@@ -127,6 +127,7 @@ impl Schema {
 
 /// The types of the request that a message is.
 fn schema_of(alloc: Global, segments: &Segments) -> Result<Schema, RequestFault> {
+    // By views that the plugin made of schema.capnp, with the accessors of `only.txt` alone: another one needs a line there.
     let view = View::root(segments, Limits::standard())?;
     let request = CodeGeneratorRequestView::of(Pointee::of_view(view))?;
     let (nodes, files) = (request.nodes()?, request.requested_files()?);

@@ -16,6 +16,7 @@ pub(crate) fn signed(width: u32, bits: u64) -> (&'static str, u64) {
     if bits < half {
         ("", bits)
     } else {
+        // Of 64 bits the past doesn't fit, and is 0: the difference wraps.
         ("-", past.wrapping_sub(bits))
     }
 }
@@ -31,6 +32,7 @@ impl Line {
     /// Adds a float of 32 bits: by six digits, or by eight where six say another number, or where it is so small that
     /// it has fewer bits.
     pub(crate) fn float32(&mut self, x: f32) {
+        // The reference tool's digits.
         let mut short = Line::new(self.alloc);
         if write!(short.text, "{x:e}").is_err() {
             self.is_full = true;
@@ -79,6 +81,7 @@ impl Line {
     fn general(&mut self, written: &str, precision: i32) {
         let Some((mantissa, exponent)) = written.split_once('e') else {
             self.put(match written {
+                // The reference tool's word.
                 "NaN" => "nan",
                 other => other,
             });

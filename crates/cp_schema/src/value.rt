@@ -37,9 +37,11 @@ pub(crate) fn value_of(alloc: Global, view: &ValueView<'_>) -> Result<SchemaValu
         ValueWhich::Text => text_of(alloc, view.text()).map(SchemaValue::Text),
         ValueWhich::Data => Ok(SchemaValue::Data(view.data_()?.to_vec(alloc)?)),
         ValueWhich::List => match view.list().tree(alloc)? {
+            // Null reads as the empty list already.
             list if is_empty(&list) => Ok(SchemaValue::Other),
             list => Ok(SchemaValue::Tree(list)),
         },
+        // All of these are the same pointer.
         ValueWhich::Struct | ValueWhich::AnyPointer => match view.list().tree(alloc)? {
             Tree::Null => Ok(SchemaValue::Other),
             tree => Ok(SchemaValue::Tree(tree)),
@@ -53,6 +55,7 @@ pub(crate) fn value_of(alloc: Global, view: &ValueView<'_>) -> Result<SchemaValu
 pub(crate) fn bits_of(value: &ValueView<'_>) -> u64 {
     match value.which() {
         ValueWhich::Bool => value.bool_() as u64,
+        // By their bits: the sign is the type's.
         ValueWhich::Int8 | ValueWhich::Uint8 => value.uint8() as u64,
         ValueWhich::Int16 | ValueWhich::Uint16 | ValueWhich::Enum => value.uint16() as u64,
         ValueWhich::Int32 | ValueWhich::Uint32 | ValueWhich::Float32 => value.uint32() as u64,

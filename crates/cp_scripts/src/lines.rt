@@ -141,6 +141,7 @@ impl Lines {
 
     pub(crate) fn push_tree(&mut self, tree: &Whole) {
         match tree.copy(self.alloc) {
+            // By the line of a message that holds it, so that trees have one notation.
             Ok(tree) => self.push_after("unimplemented ", Message::Unimplemented(tree)),
             Err(_) => self.is_whole = false,
         }

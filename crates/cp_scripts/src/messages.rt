@@ -26,6 +26,7 @@ impl<'a> Reader<'a> {
         if self.takes("cap:") {
             return Tree::Cap(self.number());
         }
+        // A line could nest without end.
         if depth == 0 {
             self.miss("a tree that is less deep");
             return Tree::Null;
@@ -495,6 +496,7 @@ impl<'a> Reader<'a> {
     /// Ends the reading here.
     fn no_message(&mut self) -> Message {
         self.miss("a message");
+        // The fault counts; a value is needed all the same.
         Message::Bootstrap(Bootstrap { question_id: 0 })
     }
 

@@ -39,6 +39,7 @@ impl<'a> Reader<'a> {
 
     /// Ends the reading here, where this is wanted.
     pub(crate) fn miss(&mut self, wanted: &'static str) {
+        // Later faults follow from the first one.
         if self.wrong.is_none() {
             let column = self
                 .line
@@ -47,6 +48,7 @@ impl<'a> Reader<'a> {
                 .saturating_add(1);
             self.wrong = Some(Wrong { column, wanted });
         }
+        // Nothing is taken any more, so one look at the end suffices.
         self.rest = &[];
     }
 
@@ -70,6 +72,7 @@ impl<'a> Reader<'a> {
 
     /// How many parts are left at most.
     pub(crate) fn most(&self) -> usize {
+        // Each part takes a byte at least, which bounds the loops over rows.
         self.rest.len()
     }
 
@@ -180,6 +183,7 @@ impl<'a> Reader<'a> {
         let before = self.rest;
         let digits = self.digits();
         match value_of(digits, 16) {
+            // The digits are in the order of the stream, the lowest byte first.
             Some(number) if digits.len() == bytes * 2 => number.swap_bytes() >> (64 - bytes * 8),
             _ => {
                 let wanted = match bytes {

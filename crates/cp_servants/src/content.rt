@@ -140,6 +140,7 @@ impl Content {
         ensures content { result.0 ≡ content_of self }
         ensures caps { result.1 ≡ self.caps }
     {
+        // For the proof.
         fit(&self.words);
         let body = Body {
             words: self.words,

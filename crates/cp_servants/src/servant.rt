@@ -29,6 +29,7 @@ pub struct Settled {
 }
 
 /// A call that an object makes.
+/// Objects are asked for calls and don't get the connection: so they need no lifetime, and no call comes in the middle of another.
 #[derive(Drop)]
 pub struct Ask {
     /// An import that the object was given, or an object or a promise of this end.
@@ -39,6 +40,7 @@ pub struct Ask {
 }
 
 /// An object that answers calls, at once or when it is polled. `Err` ends the serving.
+/// What it does is a relation on the object itself, so that a box has that of what is in it.
 pub trait Servant: Drop {
     /// What objects of this kind do. Of an object that doesn't say it nothing is known.
     ghost kind: { Kind Self } = { any };
@@ -69,6 +71,7 @@ pub trait Servant: Drop {
     fn again(&self) -> bool
         ensures { result ≡ true → kind.may_go_on self.now }
     {
+        // The contract says when it may be true, not when it must be, so this body serves any object.
         false
     }
 
@@ -77,6 +80,7 @@ pub trait Servant: Drop {
     fn ask(&mut self) -> Result<Option<Ask>, AllocError>
         ensures { IfOk result (λ ask. Asks kind self.old ask self.new) }
     {
+        // The contract allows this of every kind, so this body serves any object.
         Ok(None)
     }
 

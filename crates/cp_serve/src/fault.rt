@@ -58,6 +58,7 @@ impl From<ConnectionFault> for ServeFault {
             ConnectionFault::Unreadable { at, refusal } => {
                 ServeFault::Stream(StreamFault::Refused { at, refusal })
             }
+            // Wherever memory ran out: a frame's place would say nothing of why.
             _ => ServeFault::OutOfMemory,
         }
     }

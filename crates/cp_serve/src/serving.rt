@@ -59,6 +59,7 @@ pub fn serve<R: Read, W: Write>(
 }
 
 /// Serves objects of one type, an enum for example, as `serve` does boxed ones.
+/// A definition can't name the kind of boxes that a function makes for itself, so whoever states more serves an enum.
 pub fn serve_each<O: Servant, R: Read, W: Write>(
     alloc: Global,
     from: &mut Tap<R>,
@@ -75,6 +76,7 @@ pub fn serve_each<O: Servant, R: Read, W: Write>(
 }
 
 /// One end of a connection, with what its objects owe.
+/// Its promise is said of a vat with one queue of effects; a lemma says that this does the same.
 #[derive(Drop)]
 struct Server {
     alloc: Global,
@@ -171,6 +173,7 @@ impl Server {
     {
         let mut storage = vec![in self.alloc; 0u8; PIECE]?;
         let buffer = storage.as_mut_slice();
+        // Bounded, since every function has to return.
         for pieces in 0..u64::MAX {
             let length = from.read(buffer)?;
             if length == 0 {
@@ -199,6 +202,7 @@ impl Server {
         let mut left = piece;
         'taking: while !left.is_empty() {
             let filled = self.fill_block(left, objects);
+            // What is ready goes out also at a fault, which is reported then.
             self.write(to)?;
             left = filled?;
             if self.has_ended() {
@@ -277,6 +281,7 @@ impl Server {
         ensures lives { Lives self.old.connection self.new.connection }
     {
         let gave = self.objects.round(&mut self.connection, objects)?;
+        // What an object answered before memory ran out for another is no beginning of what the messages lead to, and stays.
         self.ready = self.connection.outgoing().len();
         Ok(gave)
     }
@@ -343,6 +348,7 @@ fn write_out<W: Write>(to: &mut Tap<W>, bytes: &[u8]) -> Result<(), StreamFault>
     ensures broken { IfErr result (λ _. BreaksOff W.contents to.old to.new bytes.now) }
 {
     write_whole(to, bytes)?;
+    // No flush without bytes: it would be one more call that can fail.
     if bytes.is_empty() {
         return Ok(());
     }

@@ -74,7 +74,9 @@ fn take_frame<R: Read>(
 {
     let mut frames = FrameReader::new(alloc, mode, limits);
     let mut buffer = [0u8; PIECE];
+    // For the proof: a frame is whole long before.
     'reading: while frames.taken() < MOST {
+        // No more than the frame needs, so that what follows it stays in the device.
         let most = frames.needs().min(PIECE);
         let length = read_some(from, &mut buffer, most)?;
         if length == 0 {

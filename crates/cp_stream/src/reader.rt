@@ -163,6 +163,7 @@ fn read_piece(
             Ok(messages)
         }
         Err(refusal) => {
+            // An allocation failure lost messages of the piece, so it isn't kept for later.
             if refusal.is_memory() || messages.is_empty() {
                 *status = ReaderStatus::Failed;
                 return Err(refused(*at, refusal));
@@ -219,6 +220,7 @@ fn read_messages(
 fn give_back(frames: &mut FrameReader, mut given: Vec<(u64, Segments)>)
     ensures { IsAsBefore frames.old frames.new }
 {
+    // The reader keeps one buffer.
     if let Some((_, segments)) = given.pop() {
         frames.reuse(segments);
     }

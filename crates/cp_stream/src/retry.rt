@@ -14,6 +14,7 @@ pub(crate) fn read_retrying<R: Read>(from: &mut R, buf: &mut [u8]) -> Result<usi
     ensures bytes { ReadConsumes (R.remaining from.old) (R.remaining from.new) result buf.new }
     ensures retried { IfErr result (λ e. error_kind e ≢ Interrupted) }
 {
+    // Bounded, since every function has to return.
     for _ in 0..u64::MAX {
         match from.read(buf) {
             Err(error) if is_interrupted(&error) => {}

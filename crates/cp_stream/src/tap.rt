@@ -88,6 +88,7 @@ impl<W: Write> Write for Tap<W> {
         ensures retried { IfErr result (λ e. error_kind e ≢ Interrupted) }
     {
         match write_retrying(&mut self.inner, buf) {
+            // A writer that takes nothing would be asked for ever.
             Ok(0) => {
                 self.failures = self.failures.wrapping_add(1);
                 Ok(0)

@@ -59,6 +59,7 @@ pub(crate) fn message_in(
 {
     let view = view_in(segments, limits)?;
     let message = view.message(alloc);
+    // For the proof: it is dropped at one place.
     drop(view);
     message.map_err(|_| Refusal::Schema(SchemaFault::OutOfMemory))
 }

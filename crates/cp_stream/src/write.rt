@@ -94,6 +94,8 @@ pub fn put_message(
     ensures emptied { words.new.items ≡ [] }
 {
     let put = match mode {
+        // Saves a copy of all words. A layout after other bytes would carry these through each step and its
+        // proof.
         Mode::Plain if block.is_empty() => put_straight(alloc, block, message, limits),
         _ => put_over(alloc, block, words, message, mode, limits),
     };
@@ -132,6 +134,7 @@ fn put_straight(
     ensures refused { IfErr result (IsUnwrittenFor limits limits.frame_words 1 message.now) }
     ensures same { OnErr result (block.new.items ≡ []) }
 {
+    // At a fault the buffer's memory goes back to the system.
     let buffer = mem::replace(block, Vec::new(alloc));
     *block = frame_over(alloc, buffer, message, limits)?;
     Ok(())
@@ -149,8 +152,10 @@ fn frame_over(
 {
     let draft = draft_of(alloc, message)?;
     let written = write_draft_bytes(alloc, buffer, &draft, limits);
+    // For the proof: it is dropped at one place, and not under a `?`.
     drop(draft);
     let mut frame = written?;
+    // The frame's first word is its segment table.
     let words = frame.len() / 8 - 1;
     put_size(&mut frame, words as u32);
     Ok(frame)
@@ -177,6 +182,7 @@ fn put_over(
     ensures refused { IfErr result (IsUnwrittenFor limits limits.frame_words 1 message.now) }
     ensures same { OnErr result (block.new.items ≡ block.old.items) }
 {
+    // The caller keeps the buffer, so that nothing is kept here.
     let buffer = mem::replace(words, Vec::new(alloc));
     let segments = segments_of(alloc, buffer, message, limits.frame_words(), limits)?;
     write_after(alloc, block, &segments, mode, limits)?;

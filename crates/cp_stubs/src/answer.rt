@@ -76,6 +76,7 @@ impl<D: Drop> Answer<D> {
     }
 
     /// The same, where the object keeps this capability of the params.
+    /// All others are given up with the answer: if they were kept until the object says so, each call could leak.
     pub fn keeping(self, target: &CallTarget) -> Result<Answer<D>, AllocError>
         ensures { IfOk result (λ answer. answer ≡ keeping (import_of target.now) self) }
     {

@@ -4,6 +4,7 @@ use cp_refs::{Cap, Request};
 use std::alloc::Global;
 
 /// One end of a connection by which typed clients call, as a `Client`.
+/// Generated code calls by this and not by a `Client`, so it needs no connection, and is proved beside the vat.
 pub trait Caller {
     /// Why a call isn't made.
     type Fault: Drop;

@@ -16,6 +16,7 @@ pub enum MethodFault {
     /// The call fails with this exception.
     Fails(Exception),
     /// The object has no such method.
+    /// No method has a body by default, which would have to do what every object says of itself: an object returns this.
     Unimplemented,
     /// A pointer of the params is of another kind than the schema says.
     WrongKind(WrongKind),

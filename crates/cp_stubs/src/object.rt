@@ -19,6 +19,7 @@ pub trait ServerObject: Drop {
     fn poll(&mut self) -> Result<Option<Settled>, AllocError>
         ensures { IfOk result (λ settled. Polls kind self.old settled self.new) }
     {
+        // The contract allows this of every kind, so this body serves any object.
         Ok(None)
     }
 

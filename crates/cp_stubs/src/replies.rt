@@ -86,6 +86,7 @@ fn note(noted: &mut Vec<u32>, cap: &Cap, keeps: &[u32]) -> Result<(), AllocError
     ensures { OnOk result (noted.new.items ≡ noted_but keeps.now noted.old.items cap.now) }
 {
     if let Cap::Import(import) = cap {
+        // An object gives an import up once, however often the table names it.
         if keeps.contains(import) || noted.contains(import) {
             return Ok(());
         }

@@ -52,6 +52,7 @@ impl Table {
         ensures left { OnErr result (self.new ≡ self.old) }
     {
         let place = self.caps.len();
+        // A pointer names a place of 32 bits.
         if place >= MOST {
             drop(cap);
             return Err(AllocError);

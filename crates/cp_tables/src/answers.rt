@@ -96,6 +96,7 @@ impl<T: Drop> Answers<T> {
         ensures else_opened { map.get self.old id ≡ None → map.len self.old ≢ LIMIT → IsOkUnless result TableFault.OutOfMemory }
         ensures err { OnErr result (self.new ≡ self.old) }
     {
+        // `Taken` is reported before `Full`.
         if self.entries.contains(id) {
             return Err(TableFault::Taken);
         }

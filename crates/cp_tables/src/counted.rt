@@ -9,6 +9,7 @@ pub struct Counted<T> {
     /// From 1 on: at 0 the entry is gone.
     pub count: u32,
     /// What the table's user keeps with it.
+    /// It lies in the entry, so that both come and go in one step and one allocation.
     pub kept: T,
 }
 

@@ -20,6 +20,7 @@ pub struct Exchange<T> {
     /// Which of the two was noted.
     pub stage: Stage,
     /// What the table's user keeps with it.
+    /// It lies in the entry, so that both come and go in one step and one allocation.
     pub kept: T,
 }
 

@@ -30,4 +30,5 @@ pub use imports::Imports;
 pub use questions::Questions;
 
 /// How many entries a table holds at most.
+/// It bounds what a peer's messages make this end keep. Some callers test it too, for their own clauses.
 pub const LIMIT: usize = 65_536;

@@ -12,6 +12,7 @@ use crate::draft::{Draft, DraftBody};
 use crate::tree::{Body, Tree};
 
 /// A tree that is lent.
+/// One recursion over it measures, copies and lays out owned trees and drafts alike.
 #[derive(Clone, Copy)]
 pub enum TreeRef<'a, 'd> {
     Tree(&'a Tree),

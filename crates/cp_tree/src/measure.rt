@@ -40,7 +40,9 @@ pub fn nests(tree: TreeRef, levels: u32, budget: &mut Option<u64>) -> bool
             levels > 0 && row_nests(row, levels - 1, budget)
         }
         Top::Structs(list) => {
+            // The list's own level, and its tag; elements are charged one by one.
             spend(budget, 2);
+            // One more than its words, so that many elements of size zero cost something.
             let price = 1 + list.words as u64 + list.ptrs as u64;
             levels > 0 && bodies_nest(list.items, price, levels - 1, budget)
         }
@@ -82,6 +84,7 @@ fn bodies_nest(bodies: BodiesRef, price: u64, levels: u32, budget: &mut Option<u
 fn spend(budget: &mut Option<u64>, price: u64)
     ensures { budget.new ≡ spent budget.old price }
 {
+    // A walk goes on past the limit on cost: a tree that is also too deep is reported as too deep.
     if let Some(rest) = *budget {
         *budget = if price <= rest {
             Some(rest - price)

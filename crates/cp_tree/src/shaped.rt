@@ -14,6 +14,7 @@ pub(crate) fn is_shaped(tree: &Tree) -> bool
     match tree {
         Tree::Null => true,
         Tree::Cap(index) => {
+            // For the proof: an index fits 32 bits by its type.
             prove!(*index <= u32::MAX);
             true
         }
@@ -92,6 +93,7 @@ fn words_fit(items: &[u64]) -> bool
 fn elements_fit(count: usize, words: u16, ptrs: u16) -> bool
     ensures { Decides result (HasSizes words ptrs × (count < 2 ^ 30) × (count * (words + ptrs) < 2 ^ 29)) }
 {
+    // A tag counts elements in 30 bits, and a list pointer counts words in 29.
     count < 0x4000_0000 && count * (words as usize + ptrs as usize) < 0x2000_0000
 }
 

@@ -6,6 +6,7 @@ ghost use Rattle.cp_tree.specs.NodeOf.{node_of, struct_of};
 ghost use Rattle.cp_tree.specs.Seen.{pointee_of};
 
 /// What a pointer word stands for (encoding specification, "Structs", "Lists", "Capabilities").
+/// `==` carries no contract.
 #[cycle(tree)]
 #[derive(PartialEq, Eq, Debug, Drop)]
 pub enum Tree {

@@ -41,6 +41,7 @@ pub(crate) fn resolve(
     ensures { CallsOn (λ s. DoResolve s promise value) (λ _. values.Nothing) core.old result effects.old.items effects.new.items core.new }
 {
     check_resolve(core, promise, &value)?;
+    // By what it comes to, so that a path of a settled question leads back too (V4).
     let last = resolve_cap(core.alloc, core.values.values(), &value)?;
     if is_promise(&last, promise) {
         return Err(VatFault::PromiseCycle);

@@ -22,6 +22,7 @@ pub(crate) fn bootstrap(core: &mut Core, effects: &mut Vec<Effect>) -> Result<u3
     requires { Local (state_of core.old) }
     ensures { Calls (DoBootstrap (state_of core.old)) (λ q. values.Question q) (state_of core.old) result effects.old.items effects.new.items (state_of core.new) }
 {
+    // A Bootstrap is no call, so it has no ticket.
     let question_id = ask(core, QuestionKind::Wire, None, true)?;
     effects.push(Effect::Send(Message::Bootstrap(Bootstrap { question_id })))?;
     Ok(question_id)

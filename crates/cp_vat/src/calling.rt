@@ -50,9 +50,11 @@ fn open_call(
     match go_from(core, call, cap, reference, effects) {
         Ok(()) => Ok(question),
         Err(Halt::Fault(fault)) => {
+            // A full table refuses the call (V8), so what it did is taken back.
             take_back(core, question);
             Err(Halt::Fault(fault))
         }
+        // An allocation failure closes the vat, so nothing is taken back.
         Err(Halt::OutOfMemory) => Err(Halt::OutOfMemory),
     }
 }
@@ -70,6 +72,7 @@ fn enter(core: &mut Core, kind: QuestionKind, request: Request) -> Result<(u32, 
     ensures full { (fault : PeerFault) → result ≡ Err (Halt.Fault fault) → Fresh core.old.questions (Err fault) }
     ensures unchanged { IfFault result (core.new ≡ core.old) }
 {
+    // The ticket is taken once the question is open, since opening may fail.
     let ticket = core.gates.next_ticket();
     let question = ask(core, kind, Some(ticket), false)?;
     let call = Underway {

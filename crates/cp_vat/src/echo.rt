@@ -17,9 +17,11 @@ use cp_vat_machine::{Effect, PeerFault};
 use cp_vat_state::{Core, Halt};
 
 /// How deep a tree is at most that an Unimplemented holds.
+/// The Unimplemented around it adds a level, and the standard limit is 64.
 const ECHO_DEPTH: u32 = 63;
 
 /// How much it costs at most.
+/// The Unimplemented around it costs three, and the standard limit is 8,388,608.
 const ECHO_COST: u64 = 8_388_605;
 
 /// A message that isn't supported is sent back as its tree, if that can be written.
@@ -78,6 +80,7 @@ fn charge_target(left: u64, target: &TargetView<View>) -> Option<u64>
     ensures { Charges left (lists_of_target (viewed_target (λ t. t) target.now)) result }
 {
     match target {
+        // An `Op` is a struct of one word, which costs two.
         TargetView::PromisedAnswer(answer) => charge_each(left, answer.transform.len(), 2),
         _ => Some(left),
     }
@@ -104,6 +107,7 @@ fn charge_resolution(left: u64, resolution: &ResolutionView<View>) -> Option<u64
 fn charge_table(left: u64, table: &CapTableView<View>) -> Option<u64>
     ensures { Charges left (lists_of_table table.now) result }
 {
+    // A descriptor is a struct of one word and one pointer, which costs three.
     let mut rest = charge_each(left, table.len(), 3)?;
     for i in 0..table.len() {
         rest = charge_descriptor(rest, &table.descriptor(i))?;

@@ -26,6 +26,7 @@ pub(crate) fn end_call<V: Drop>(
 {
     match done {
         Ok(value) => follow(core, value, effects),
+        // The peer isn't told: an Abort would take memory too.
         Err(VatFault::OutOfMemory) => {
             core.is_closed = true;
             Err(VatFault::OutOfMemory)
@@ -47,6 +48,7 @@ pub(crate) fn end_message(
         Ok(()) => follow(core, (), effects),
         Err(Halt::Fault(fault)) => {
             core.is_closed = true;
+            // A fault in the message's own part sends the Abort alone.
             let mut aborted = Vec::new(core.alloc);
             abort(core.alloc, fault, &mut aborted)?;
             Ok(Acted {
@@ -95,6 +97,7 @@ fn follow<V: Drop>(
         Ok(()) => {}
         Err(Halt::Fault(fault)) => {
             core.is_closed = true;
+            // The Abort follows the effects of the calls that left before.
             abort(core.alloc, fault, &mut effects)?;
         }
         Err(Halt::OutOfMemory) => {

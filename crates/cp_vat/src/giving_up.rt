@@ -27,6 +27,7 @@ pub(crate) fn finish(core: &mut Core, id: u32, effects: &mut Vec<Effect>) -> Res
     if !is_own_question(core, id) {
         return Err(VatFault::UnknownQuestion);
     }
+    // Calls that wait for its outcome would have none.
     if core.is_question_used(id) {
         return Err(VatFault::InUse);
     }
@@ -36,12 +37,15 @@ pub(crate) fn finish(core: &mut Core, id: u32, effects: &mut Vec<Effect>) -> Res
     let is_sent = question.kept.is_sent;
     match question.stage {
         Stage::Open => {
+            // It stays until its Return, which would be of an unknown question (P2) otherwise.
             let _ = core.questions.note_finish(id);
+            // Nothing of the outcome was taken in, so the peer may release all that it names.
             tell_if(is_sent, id, true, effects)?;
             Ok(())
         }
         Stage::Returned => {
             remove_question(core, id);
+            // The application releases what it took in.
             tell_if(is_sent, id, false, effects)?;
             Ok(())
         }

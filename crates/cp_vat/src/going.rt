@@ -51,6 +51,8 @@ pub(crate) fn kind_of(reference: &Standing) -> QuestionKind
     ensures { result ≡ kind_of reference.now }
 {
     match reference {
+        // Only a reference that came to an import itself goes at once; one that comes to it by a promise is
+        // local.
         Standing::OnWire | Standing::CameTo(Cap::Import(_)) => QuestionKind::Wire,
         Standing::Plain | Standing::CameTo(_) => QuestionKind::Local,
     }
@@ -113,6 +115,7 @@ fn go_marked(
     match go_to(core, call, cap, effects) {
         Ok(()) => Ok(()),
         Err(halt) => {
+            // A mark from an earlier call stays.
             if !is_marked {
                 core.marks.remove_mark(cap);
             }
@@ -136,6 +139,7 @@ fn go_by_value(
     ensures unchanged { IfFault result (core.new ≡ core.old) }
 {
     match value {
+        // At once, and without a mark on that import.
         Cap::Import(id) => go(core, call, Route::Import(id), effects),
         Cap::Object(_) | Cap::Promise(_) => go_back(core, call, cap, value, effects),
         _ => go_to(core, call, &value, effects),
@@ -158,6 +162,7 @@ fn go_back(
     ensures unchanged { IfFault result (core.new ≡ core.old) }
 {
     match core.marks.mark(cap) {
+        // No call went out on the reference, so none can be overtaken.
         None => go_to(core, call, &value, effects),
         Some(None) => put_embargo(core, call, cap, value, effects),
         Some(Some(number)) => go(core, call, Route::Wait(Gate::Embargo(number)), effects),
@@ -184,6 +189,7 @@ fn put_embargo(
         context: Context::SenderLoopback(number),
         target,
     })))?;
+    // It waits at its embargo, and not at the import that it named, which may be released meanwhile.
     go(core, call, Route::Wait(Gate::Embargo(number)), effects)
 }
 
@@ -196,6 +202,7 @@ fn old_target(alloc: Global, cap: &Cap) -> Result<Target, AllocError>
             alloc, *question, path,
         )?)),
         Cap::Import(id) => Ok(Target::ImportedCap(*id)),
+        // Only these two are ever marked.
         _ => Ok(Target::ImportedCap(0)),
     }
 }

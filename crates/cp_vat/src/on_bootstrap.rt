@@ -57,6 +57,7 @@ fn bootstrap_outcome(alloc: Global, bootstrap: Option<u32>) -> Result<Outcome, A
         return Ok(Outcome::Failed(failed(alloc, "no bootstrap")?));
     };
     let Ok(content) = Whole::new(Tree::Cap(0)) else {
+        // A message can hold a capability.
         unreachable!()
     };
     let mut caps = Vec::new(alloc);

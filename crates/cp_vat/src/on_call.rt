@@ -102,6 +102,7 @@ fn arrive(core: &mut Core, call: &Call) -> Result<Arrival, Halt>
         return Err(Halt::Fault(fault));
     }
     let caps = receive_caps(core, call.params.cap_table.descriptors())?;
+    // The answer opens only now, so a target or a table that names the call's own number is P3.
     let ticket = enter(core, call.question_id)?;
     let route = route_to(core, &call.target)?;
     Ok(Arrival {
@@ -202,6 +203,7 @@ fn route_to(core: &Core, target: &Target) -> Result<Route, AllocError>
             let path = path_of(core.alloc, &answer.transform)?;
             route_to_answer(core, answer.question_id, path)
         }
+        // A message with an unknown target isn't supported, and was sent back.
         Target::Unknown(_) => unreachable!(),
     }
 }
@@ -213,6 +215,7 @@ fn route_to_export(core: &Core, id: u32) -> Result<Route, AllocError>
     ensures { IfOk result (LeadsBy (λ call out. GoToExport (state_of core.now) call (map.get core.now.exports id) out) (state_of core.now)) }
 {
     let Some(export) = core.exports.get(id) else {
+        // `check_call` found the export.
         unreachable!()
     };
     core.values.values().route(&export.kept)

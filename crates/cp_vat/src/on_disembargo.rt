@@ -38,6 +38,7 @@ pub(crate) fn on_disembargo(
             }
             echo_target(core, number, &message.target, effects)
         }
+        // The number alone says which embargo it is.
         Context::ReceiverLoopback(number) => end_embargo(core, number),
         Context::Accept | Context::Provide(_) | Context::Unknown(_) => unreachable!(),
     }
@@ -101,6 +102,7 @@ fn echo_answer(
 {
     match answer_of(core, id) {
         None => unreachable!(),
+        // A peer has no reason to ask before the answer is given.
         Some(None) => Err(Halt::Fault(PeerFault::DisembargoTarget)),
         Some(Some(outcome)) => {
             let cap = outcome.at(core.alloc, path.fields())?;
@@ -116,6 +118,7 @@ fn echo(core: &Core, number: u32, cap: &Cap, effects: &mut Vec<Effect>) -> Resul
 {
     match resolve_cap(core.alloc, core.values.values(), cap)? {
         Cap::Import(id) => {
+            // The echo goes the way of the calls that were forwarded before, and so follows them.
             effects.push(Effect::Send(Message::Disembargo(Disembargo {
                 context: Context::ReceiverLoopback(number),
                 target: Target::ImportedCap(id),

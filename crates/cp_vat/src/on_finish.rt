@@ -22,6 +22,7 @@ pub(crate) fn on_finish(core: &mut Core, finish: Finish) -> Result<(), Halt>
     };
     match answer.stage {
         Stage::Open => {
+            // The call goes on, and its Return will say `Canceled`.
             let _ = core.answers.note_finish(finish.question_id);
             Ok(())
         }

@@ -27,6 +27,7 @@ pub(crate) fn on_resolve(
 {
     let id = message.promise_id;
     let Some(import) = core.imports.get(id) else {
+        // The import was released meanwhile, so what the message names is only given back.
         if let Some(given) = given_back(&message.resolution) {
             effects.push(release_effect(given, 1))?;
         }

@@ -90,6 +90,7 @@ impl<'a> Bearing for &'a ReturnedView<View<'a>> {
     fn receive(self, core: &mut Core) -> Result<Outcome, Halt> {
         match self {
             ReturnedView::Results(payload) => {
+                // The table first: it may be at fault, and then no content is made.
                 let table = payload.cap_table.cap_table(core.alloc)?;
                 let caps = receive_caps(core, table.descriptors())?;
                 Ok(Outcome::Results {
@@ -127,6 +128,7 @@ fn begin(core: &mut Core, id: u32, release_param_caps: bool) -> Result<Remaining
     match stage {
         Stage::Open => Ok(Remaining::Settle { forwards }),
         Stage::Finished => {
+            // What the table names may be another capability's by now, so it isn't looked at.
             remove_question(core, id);
             Ok(Remaining::Nothing)
         }
@@ -169,6 +171,7 @@ fn settle(
         return give_own(core, id, outcome, effects);
     };
     remove_question(core, id);
+    // The application releases what the results brought, once the peer's call needs it no more.
     effects.push(finish_effect(id, false))?;
     give_answer(core, answer, outcome, effects)
 }

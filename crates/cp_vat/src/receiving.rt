@@ -55,6 +55,7 @@ pub(crate) fn receive_view(
     requires { Local (state_of core.old) }
     ensures { Acts (Receives (state_of core.old) (viewed message.now)) result effects.old.items effects.new.items (state_of core.new) }
 {
+    // Looked at in its view, which takes no memory.
     if !is_supported_view(message) {
         return echo_view(core, message, effects);
     }
@@ -76,6 +77,7 @@ pub(crate) fn receive_lending<'a>(
     let MessageIn::Call(call) = message else {
         return receive_whole(core, message, effects);
     };
+    // `receive_view` tests the same, and answers it.
     if !is_supported_view(message) || !message_fits_view(message) {
         return receive_whole(core, message, effects);
     }
@@ -106,6 +108,7 @@ fn act_on(core: &mut Core, message: Message, effects: &mut Vec<Effect>) -> Resul
         Message::Unimplemented(tree) => on_unimplemented(core, tree),
         Message::Abort(exception) => on_abort(core, exception, effects),
         Message::Call(mut call) => {
+            // The content comes beside the call, as that of a call which is read in place does.
             let content = mem::replace(&mut call.params.content, Whole::null());
             on_call(core, call, content, effects)
         }

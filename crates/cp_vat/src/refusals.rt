@@ -25,6 +25,7 @@ pub(crate) fn check_call(core: &Core, cap: &Cap, request: &Request) -> Result<()
     if !has_promise(core, cap) || !have_promises(core, table) {
         return Err(VatFault::UnknownPromise);
     }
+    // Such a path may be called, but in a table the peer wouldn't know the question.
     if names_local_path(core, table) {
         return Err(VatFault::Unsettled);
     }

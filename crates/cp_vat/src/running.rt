@@ -67,6 +67,7 @@ fn act_on_all(
 {
     for event in events {
         match vat.act(event) {
+            // Its capacity was made before the first event.
             Ok(acted) => done.push(acted).unwrap(),
             Err(fault) => return Some((done.len(), fault)),
         }

@@ -15,9 +15,11 @@ use cp_rpc::{
 use cp_tree::{Whole, fits};
 
 /// How deep a content is at most.
+/// What a message puts around it keeps within the standard 64 levels.
 const CONTENT_DEPTH: u32 = 60;
 
 /// How much a content costs at most.
+/// Half the standard limit: what a message puts around it costs less than the other half.
 const CONTENT_COST: u64 = 4_194_304;
 
 /// How many capabilities a table holds at most.

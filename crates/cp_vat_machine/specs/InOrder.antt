@@ -1,5 +1,6 @@
 -- Order inside one vat, a law on the turns of a run. (rpc.capnp: "Call", "Resolve", "Disembargo"; the order of calls on one capability is known as
 -- E-order.)
+-- It speaks of turns and not of events: within one event calls fail, answers are given and gates end, and each changes where the next call goes.
 use Rattle.std.specs.Prelude.{◌≡◌, ◌≢◌, ◌⊎◌, ℕ, ◌<◌, ◌==◌, Bool, true, List, [], ◌∷◌, Option, Some, IsSome, ⊤}
 use Rattle.std.specs.List.{AllByRecursion, list_any}
 use Rattle.std.specs.FinMap.{get}
@@ -47,6 +48,7 @@ abbrev pub has_left : List Exit → ℕ → Bool
 has_left exits ticket = list_any (λ exit. exit.ticket == ticket) exits
 
 -- a call left, or waits at an open embargo, or the route of its port is to wait
+-- That the port merely leads to no object, import, null or failure would be weaker.
 abbrev pub LeftOrWaits : List Turn → State → Called → Type 0
 LeftOrWaits turns s call =
     (has_left (exits_of turns) call.ticket ≡ true) ⊎ (IsEmbargoed s call.ticket ⊎ ((gate : Gate) × PortRoute turns call.port (routes.Wait gate)))

@@ -83,6 +83,8 @@ absences name [] = 0
 absences name (turn ∷ past) = cond (is_there turn.after.values name) (absences name past) (suc (absences name past))
 
 -- The port of a call: what it names, in one life of its number. Two lives differ by how often the number had no entry before.
+-- A call of the peer's on an export has the port of what is exported, as the application's own call on that has: so the order holds across both
+-- sides.
 pub record Port : Type 0 where
   pub name : Name
   pub life : ℕ

@@ -1,4 +1,5 @@
 -- What is given in a turn, and how it is reported. (rpc.capnp: "Return", "Finish", "CapDescriptor".)
+-- An outcome is reported in the very turn in which it is given. A promise that is settled later is still named as a promise there.
 use Rattle.std.specs.Prelude.{◌≡◌, ◌⊎◌, ℕ, zero, suc, Bool, true, false, List, [], ◌∷◌, filter, Option, Some, None}
 use Rattle.std.specs.List.{Contains, AllZip}
 use Rattle.std.specs.FinMap.{get}

@@ -1,4 +1,5 @@
 -- The calls on one reference, as they were made and as they were delivered. (rpc.capnp: "Call", "Disembargo".)
+-- The order is that of references whose value is an object itself, and not a promise that came to one.
 use Rattle.std.specs.Prelude.{◌≡◌, ℕ, ◌==◌, ◌&&◌, if◌then◌else◌, Bool, true, false, List, [], ◌∷◌, ◌++◌, map, filter, flat_map, Option, Some, None, option_to_list, Result, Ok, Err}
 use Rattle.std.specs.List.{list_any, AllByRecursion}
 use Rattle.std.specs.Ordering.{nat_cmp, eq_by_cmp}
@@ -22,6 +23,7 @@ use Rattle.cp_vat_machine.specs.declared.fault.VatFault.{VatFault}
 use Rattle.cp_vat_pair_laws.specs.VatPair.{VatPair, Side, at_first, at_second, across, end_of, Move}
 
 -- A reference of a vat: an import, or a question with a path. Where nothing is finished or released, each number is one for good.
+-- Where a number is used again, it is that of the moves after its former life.
 pub data Reference : Type 0 where
   import_ : ℕ → Reference
   path_to : ℕ → List ℕ → Reference

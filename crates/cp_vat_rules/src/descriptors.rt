@@ -80,6 +80,7 @@ pub(crate) fn write_end(
         Cap::Pipelined(q, path) => Ok(Descriptor::ReceiverAnswer(promised_answer(
             alloc, *q, path,
         )?)),
+        // No descriptor says that a capability is broken; calls on null fail too.
         Cap::Broken(_) => Ok(Descriptor::None),
     }
 }

@@ -14,6 +14,7 @@ use cp_vat_state::Exported;
 pub fn release_exports(exports: &mut Exported, ids: &[u32]) -> Result<(), PeerFault>
     ensures { release_exports exports.old ids.now ≡ leaving result exports.new }
 {
+    // All must exist before one is lowered: P4 is reported before P5.
     if !are_there(exports, ids) {
         return Err(PeerFault::UnknownExport);
     }

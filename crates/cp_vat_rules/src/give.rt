@@ -66,6 +66,7 @@ pub fn give_answer(
     match answer.stage {
         Stage::Open => give_open(core, id, is_tied, outcome, effects),
         Stage::Finished => give_finished(core, id, is_tied, outcome, effects),
+        // An answer is given once.
         Stage::Returned => unreachable!(),
     }
 }
@@ -91,6 +92,8 @@ fn give_open(
     ensures acts { GivesAnswer stages.Open core.old id outcome result effects.old.items effects.new.items core.new }
     ensures unchanged { IfFault result (core.new ≡ core.old) }
 {
+    // Made twice, for the answer and for its gate. Sharing one would cost an allocation each time; of an
+    // outcome without capabilities the second takes no memory.
     let kept = KeptOutcome::of(core.alloc, &outcome)?;
     let gift = KeptOutcome::of(core.alloc, &outcome)?;
     let said = returned(core.alloc, core.values.values(), &mut core.exports, outcome)?;
@@ -103,6 +106,7 @@ fn give_open(
             return Err(halt);
         }
     };
+    // No table can be full any more: gates end only now, since that can't be taken back.
     let ended = end_answer(core, id, kept, gift, ids, &settled);
     drop(settled);
     Ok(ended?)
@@ -145,8 +149,10 @@ fn give_finished(
     ensures unchanged { IfFault result (core.new ≡ core.old) }
 {
     let copied = KeptOutcome::of(core.alloc, &outcome);
+    // For the proof: it is dropped at one place, and not under a `?`.
     drop(outcome);
     let kept = copied?;
+    // The peer gave the question up, and takes nothing of its outcome.
     add(effects, return_effect(id, Returned::Canceled))?;
     let settled = settle_promises(core, id, is_tied, &kept, effects)?;
     let ended = end_finished(core, id, kept, &settled);
@@ -206,6 +212,8 @@ fn settle_promises(
 fn return_effect(answer_id: u32, returned: Returned) -> Effect
     ensures { result ≡ return_of answer_id returned }
 {
+    // `releaseParamCaps` is false, though its default is true: the application releases what the params
+    // brought.
     Effect::Send(Message::Return(Return {
         answer_id,
         release_param_caps: false,

@@ -37,6 +37,7 @@ pub fn give_own(
             drop(outcome);
             Ok(ended?)
         }
+        // A question is settled once.
         Stage::Returned => unreachable!(),
     }
 }

@@ -135,6 +135,7 @@ fn forward(
     ensures acts { Acts (GoOut (state_of core.old) (underway_of call) target (Origin.Answer answer)) result effects.old.items effects.new.items (state_of core.new) }
     ensures unchanged { IfFault result (core.new ≡ core.old) }
 {
+    // Tested here for the clause; the table tests it again.
     if core.questions.len() == LIMIT {
         return Err(Halt::Fault(PeerFault::TableFull));
     }
@@ -154,6 +155,7 @@ fn forward(
     let table = match said {
         Ok(table) => table,
         Err(halt) => {
+            // A call that fails changes nothing.
             core.questions.close(question);
             return Err(halt);
         }
@@ -219,6 +221,7 @@ fn finish_after(question: u32, stage: Stage, effects: &mut Vec<Effect>) -> Resul
     if stage != Stage::Finished {
         return Ok(());
     }
+    // Nothing of the outcome was taken in, so the peer may release all that it names.
     add(effects, finish_effect(question, true))?;
     Ok(())
 }

@@ -32,6 +32,7 @@ pub fn path_of(alloc: Global, transform: &Transform) -> Result<Path, AllocError>
 {
     let mut fields = Vec::new(alloc);
     for op in transform.ops() {
+        // An unknown step was refused before, so any other one does nothing.
         if let Op::GetPointerField(field) = op {
             fields.push(*field)?;
         }

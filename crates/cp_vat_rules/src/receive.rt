@@ -44,6 +44,7 @@ pub fn receive_cap(core: &mut Core, descriptor: &Descriptor) -> Result<Cap, Halt
             let path = path_of(core.alloc, &answer.transform)?;
             receive_answer(core, answer.question_id, path)
         }
+        // The vat refused these before, as messages that it doesn't support.
         Descriptor::ThirdPartyHosted(_) | Descriptor::Unknown(_) => unreachable!(),
     }
 }
@@ -73,9 +74,11 @@ fn hold_import(core: &mut Core, id: u32, kind: ImportKind) -> Result<(), Halt>
     let Some(import) = core.imports.get(id) else {
         return open_import(core, id, kind);
     };
+    // A count that can't rise is as a full table.
     if import.count == u32::MAX {
         return Err(Halt::Fault(PeerFault::TableFull));
     }
+    // The import keeps the kind that it was first sent as.
     let _ = core.imports.raise(id, kind);
     Ok(())
 }

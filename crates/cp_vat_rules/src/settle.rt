@@ -79,6 +79,7 @@ pub(crate) fn settle_tied(
         match settle_value(alloc, values, exports, one.promise, value, effects) {
             Ok(one) => add(&mut settled, one)?,
             Err(halt) => {
+                // The call is refused for a full table, so the promises before it are opened again.
                 take_back(values, exports, &settled)?;
                 return Err(halt);
             }
@@ -124,6 +125,7 @@ fn settle_value(
     let value = value_for(alloc, promise, &reached, value)?;
     let last = last_for(alloc, promise, reached)?;
     let told = tell(alloc, exports, promise, &last, effects);
+    // For the proof: it is dropped at one place, and not under a `?`.
     drop(last);
     let raised = told?;
     put_value(alloc, values, promise, &value)?;

@@ -97,7 +97,9 @@ impl CountedCalls {
         ensures held { OnOk result (self.new ≡ record self.old { calls = map.insert self.old.calls held.ticket held }) }
         ensures err { OnErr result (self.new ≡ self.old) }
     {
+        // Counted first, so that what a held call names is always counted.
         self.uses.raise(&held)?;
+        // The call isn't held then, so its count goes back.
         if let Err(failed) = self.calls.hold(held) {
             self.uses.lower(&failed.value);
             return Err(AllocError);

@@ -98,6 +98,7 @@ impl CountedEmbargoes {
         ensures else_opened { map.len self.old ≢ LIMIT → IsOkUnless result TableFault.OutOfMemory }
         ensures err { OnErr result (self.new ≡ self.old) }
     {
+        // Tested here for the clause; the table tests it again.
         if self.embargoes.len() == LIMIT {
             return Err(TableFault::Full);
         }

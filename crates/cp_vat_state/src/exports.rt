@@ -124,11 +124,14 @@ impl Exported {
     {
         if let Some(id) = self.index.number(hosted) {
             let Some(export) = self.exports.get(id) else {
+                // The index has only exports that exist.
                 unreachable!()
             };
+            // A count that can't rise is as a full table.
             if export.count == u32::MAX {
                 return Err(Halt::Fault(PeerFault::TableFull));
             }
+            // An export that exists keeps its capability, so none is handed over.
             let _ = self.exports.raise(Some(id), Cap::None);
             return Ok(id);
         }
@@ -136,6 +139,7 @@ impl Exported {
             return Err(Halt::Fault(PeerFault::TableFull));
         }
         let id = self.exports.raise(None, hosted.cap())?;
+        // Without its index entry the export would be opened twice.
         if let Err(error) = self.index.put(hosted, id) {
             let _ = self.exports.lower(id, 1);
             return Err(error.into());

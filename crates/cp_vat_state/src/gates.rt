@@ -207,11 +207,14 @@ impl Gates {
         if self.is_torn {
             return Err(AllocError);
         }
+        // An answer's gate and a question's end at every path.
         let gate = without_path(self.alloc, &held.gate);
         self.calls.hold(held)?;
+        // Its gate ended in this same event, so the call leaves in it too.
         if !self.over.has(&gate) {
             return Ok(());
         }
+        // Halfway, the state fits no step of the machine, so each further change is refused.
         if let Err(error) = self.calls.end(&gate) {
             self.is_torn = true;
             return Err(error);
@@ -249,6 +252,7 @@ impl Gates {
             return Ok(None);
         };
         let Some(cap) = self.over.gave(self.alloc, &call.gate)? else {
+            // Only a call whose gate ended leaves.
             unreachable!()
         };
         Ok(Some(Next { call, cap }))

@@ -12,6 +12,7 @@ use cp_refs::{Cap, KeptOutcome, QuestionState};
 use std::alloc::{AllocError, Global};
 
 /// How often each import, each promise and each question's paths are held.
+/// By these counts `release`, `forget` and `finish` need no walk over the tables.
 pub(crate) struct Holders {
     imports: Counts,
     promises: Counts,

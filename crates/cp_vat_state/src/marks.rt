@@ -122,6 +122,7 @@ impl Marks {
         match reference {
             Cap::Import(id) => Ok(self.imports.put(*id, None)?),
             Cap::Pipelined(question, path) => {
+                // The marks of imports are bounded by the imports; those of paths need a bound of their own.
                 if self.paths.len() >= LIMIT {
                     return Err(Halt::Fault(PeerFault::TableFull));
                 }
@@ -221,6 +222,7 @@ enum MarkKey {
 fn unmark_import(imports: &mut Entries<Option<u32>>, import: u32, id: u32)
     ensures { imports.new ≡ unmarked imports.old import id }
 {
+    // The import may have been released, and its number marked anew.
     if is_under(imports.get(import).copied(), id) {
         drop(imports.remove(import));
     }
@@ -230,6 +232,7 @@ fn unmark_import(imports: &mut Entries<Option<u32>>, import: u32, id: u32)
 fn unmark_path(paths: &mut PathMarks, question: u32, path: &[u16], id: u32)
     ensures { paths.new ≡ unmarked paths.old (question ∷ path.now) id }
 {
+    // The question may be gone, and its number marked anew.
     if is_under(paths.get(question, path), id) {
         paths.remove(question, path);
     }

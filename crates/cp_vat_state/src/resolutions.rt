@@ -245,6 +245,7 @@ impl Resolutions {
     pub(crate) fn is_value_of_another(&self, id: u32) -> bool
         ensures { result ≡ list_any (is_import id) (values_of_others self.now id) }
     {
+        // An import that is its own value isn't used by that.
         self.imported.number(Sought::Import(id)) > own_uses(&self.values, id)
     }
 
@@ -254,6 +255,7 @@ impl Resolutions {
         ensures put { OnOk result (self.new ≡ record self.old { promises = map.insert self.old.promises id value }) }
         ensures err { OnErr result (self.new ≡ self.old) }
     {
+        // Counted before it is put, so that what is held is always counted.
         self.kept.raise_all(caps_of_value(&value))?;
         let old = match self.values.put_promise(id, value) {
             Ok(old) => old.flatten(),

@@ -34,6 +34,7 @@ impl Sought {
         match gate {
             Gate::Promise(id) => Some(Sought::Promise(*id)),
             Gate::Question(id, _) => Some(Sought::PathOf(*id)),
+            // A call at an embargo doesn't hold the import that it named: the embargo holds what it leads to.
             Gate::Answer(_, _) | Gate::Embargo(_) => None,
         }
     }

@@ -68,6 +68,7 @@ pub fn offset_of(word: u64) -> i32
     ensures { result ≡ offset_of word }
 {
     let field = (word / 4 % 0x4000_0000) as i32;
+    // Two's complement over 30 bits: from 2^29 on the number is negative.
     if field < 0x2000_0000 {
         field
     } else {
@@ -102,6 +103,7 @@ pub fn decode(word: u64) -> Result<Pointer, BadCapability>
     if word == 0 {
         return Ok(Pointer::Null);
     }
+    // Divisions by powers of two, as the definitions have them: they compile to shifts.
     let high = word / 0x1_0000_0000;
     match word % 4 {
         0 => Ok(Pointer::Struct {
@@ -120,6 +122,7 @@ pub fn decode(word: u64) -> Result<Pointer, BadCapability>
             segment: high as u32,
         }),
         _ => {
+            // Bits 2 to 31 of a capability word are reserved, and have to be zero.
             if word % 0x1_0000_0000 == 3 {
                 Ok(Pointer::Cap(high as u32))
             } else {

@@ -75,6 +75,7 @@ impl Segments {
         let Segments { held } = self;
         match held {
             SegmentList::One(words) => words,
+            // The other segments are dropped, so their order doesn't matter.
             SegmentList::Many(mut segments) => segments.swap_remove(0),
         }
     }

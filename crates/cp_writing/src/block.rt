@@ -101,6 +101,7 @@ impl Block {
         match push_plain(&mut self.bytes, words) {
             Ok(()) => Ok(()),
             Err(error) => {
+                // A part may have been written before memory ran out.
                 self.bytes.truncate(length);
                 Err(error)
             }

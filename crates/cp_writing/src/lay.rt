@@ -53,6 +53,7 @@ pub(crate) fn lay(
             let price = 1 + list.words as u64 + list.ptrs as u64;
             let below = sheet.charge(levels, 2 + list.items.len() as u64 * price)?;
             let first = begin_structs(sheet, at, list)?;
+            // The elements stand together, before what hangs on any of them.
             lay_bodies(sheet, first, list, below)
         }
     }
@@ -98,6 +99,7 @@ fn lay_null(sheet: &mut Sheet, at: Place, _levels: u32) -> Result<(), WriteFault
     requires there { IsPlace (written sheet.old) at }
     ensures { LaysTree sheet.old sheet.new _levels result at null }
 {
+    // `_levels` is named by the contract alone.
     sheet.put(at, 0);
     Ok(())
 }
@@ -115,6 +117,7 @@ fn lay_bodies(
     requires even { EachEven list.words list.ptrs (bodies_of (bodies_in list.items)) }
     ensures { LaysBodies sheet.old sheet.new levels result first list.entry.words list.entry.ptrs (bodies_of (bodies_in list.entry.items)) }
 {
+    // Nothing hangs on such elements, however many there are.
     if list.ptrs == 0 {
         return Ok(());
     }
@@ -145,6 +148,7 @@ fn begin_struct(
     ensures { Begins sheet.old sheet.new result at ptrs (struct words.now) }
 {
     if words.len() + ptrs == 0 {
+        // With offset 0 the word would be 0, which says null.
         let empty = Pointer::Struct {
             offset: -1,
             words: 0,
@@ -204,6 +208,7 @@ fn begin_elements(
     requires small { count * (words + ptrs) < 2 ^ 29 }
     ensures { Places sheet.old sheet.new result (structs_begun sheet.old.capacity at.segment at.word words ptrs count [] (written sheet.old)) }
 {
+    // The list pointer doesn't count the tag.
     let size = count * (words as usize + ptrs as usize);
     let tag = place_list(sheet, at, ElementSize::Composite, size, size + 1)?;
     sheet.append(&[tag_word(count, words, ptrs)])?;

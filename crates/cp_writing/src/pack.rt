@@ -60,6 +60,7 @@ pub(crate) fn bits_word(items: &[bool]) -> u64
 {
     let mut word = 0;
     let mut i = items.len();
+    // From the last bit down, so that the first one ends up lowest.
     while i > 0 {
         i -= 1;
         word = 2 * word + bit(items[i]);

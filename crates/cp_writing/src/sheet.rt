@@ -16,6 +16,7 @@ use std::alloc::{AllocError, Global};
 use std::mem;
 
 /// A segment begins with capacity for this many words, if it may have them.
+/// A message that fits grows no buffer.
 const FIRST_WORDS: usize = 128;
 
 /// How much may be written: at most this many words in a segment, this many segments, and this many words
@@ -79,6 +80,7 @@ impl Sheet {
             return Ok(Segments::one(last));
         }
         segments.push(last)?;
+        // There is at least the last segment.
         let Ok(segments) = Segments::new(segments) else {
             unreachable!()
         };
@@ -105,6 +107,7 @@ impl Sheet {
     pub fn charge(&mut self, levels: u32, price: u64) -> Result<u32, WriteFault>
         ensures { Charges self.old self.new levels result price }
     {
+        // Which limit is met first doesn't matter here: `keeps_to` decides which one is reported.
         if levels == 0 {
             return Err(WriteFault::TooDeep);
         }
@@ -149,6 +152,7 @@ impl Sheet {
         ensures within { OnOk result (self.old.words + words ≤ self.old.capacity.whole) }
         ensures past { IfErr result (λ e. (e ≡ TooManyWords) × (self.old.capacity.whole < self.old.words + words)) }
     {
+        // The words never pass the whole, so the difference can't wrap.
         if words > self.capacity.whole - self.words {
             return Err(WriteFault::TooManyWords);
         }
@@ -236,10 +240,12 @@ impl Sheet {
         ensures written { OnOk result (written self.new ≡ with_segment_for self.old.capacity segment size (written self.old)) }
         ensures limits { OnOk result (SameLimits self.old self.new) }
     {
+        // A pointer in an earlier segment needs a landing pad beside the body.
         let landing_pad = if segment == self.full.len() { 0 } else { 1 };
         if size == 0 || self.last.len() + landing_pad + size <= self.capacity.words {
             return Ok(());
         }
+        // With no further segment allowed, the last one takes all that is left, however much.
         if self.full.len() + 1 >= self.capacity.segments {
             return Ok(());
         }
@@ -299,6 +305,7 @@ impl Sheet {
         ensures { Places self.old self.new result (place_on self.old at kind size) }
     {
         self.segment_for(at.segment, size)?;
+        // A body without words fits anywhere, even in a full segment.
         if size == 0 || at.segment == self.full.len() {
             return Ok(self.place_here(at, kind));
         }

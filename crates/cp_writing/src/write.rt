@@ -88,6 +88,7 @@ pub fn write_root(alloc: Global, object: &Object, limits: Limits) -> Result<Vec<
         alloc,
         Strip::Words(Vec::new(alloc)),
         tree,
+        // One segment, which only B4 bounds.
         limits.frame_words(),
         1,
         limits,
@@ -168,8 +169,11 @@ fn lay_out(
     };
     match lay(&mut sheet, root, tree, limits.nesting()) {
         Ok(()) => Ok(sheet),
+        // The walk ended before the limits were known, so B3 stands.
         Err(WriteFault::OutOfMemory) => Err(WriteFault::OutOfMemory),
         Err(fault) => {
+            // The first limit that was met may not be the one to report: B1 comes before B2, and both before
+            // B4. Testing them in a pass beforehand took half as long again.
             keeps_to(tree, limits)?;
             Err(fault)
         }

@@ -36,6 +36,8 @@ impl<O: Servant> Crew<O> {
         Crew {
             alloc,
             connection: Connection::new(alloc, plan.mode, plan.messages, Some(0)),
+            // Nobody else uses the imports, so holders are counted: else a call that reaches no object would leave its callbacks
+            // for good.
             work: Objects::that_call(alloc),
             objects,
             rest: Vec::new(alloc),
@@ -65,6 +67,7 @@ impl<O: Servant> Crew<O> {
         let objects = self.objects.as_mut_slice();
         let (connection, work) = (&mut self.connection, &mut self.work);
         let count = feed(connection, work, objects, &self.rest, limits)?;
+        // A new vector, so that the memory of a long rest goes back.
         self.rest = Vec::from_slice(self.alloc, &self.rest[count..])?;
         Ok(())
     }
@@ -90,6 +93,7 @@ impl<O: Servant> Crew<O> {
             .search
             .is_due(&self.connection.held(), by_objects, messages)
         {
+            // `idle` names these and what promises came to, so the vat needs no further call for this.
             self.work.release_idle(&mut self.connection)?;
             self.search.note(&self.connection.held(), messages);
         }

@@ -104,6 +104,7 @@ impl<O: Servant> EventLoop<O> {
         // A key in the queue that names no connection is passed over.
         self.queue.push_back(key)?;
         pending.stream.register(self.poll.registry(), Token(key))?;
+        // After this nothing fails, so a guest that is made is served.
         self.guests.reserve(1)?;
         let crew = Crew::new(self.alloc, plan, objects);
         let guest = Guest::new(pending, crew, self.time.now());
@@ -129,6 +130,7 @@ impl<O: Servant> EventLoop<O> {
     pub(crate) fn round(&mut self, limits: &HostLimits) -> io::Result<()>
         ensures { slab_len self.new.guests ≤ slab_len self.old.guests }
     {
+        // One piece or one round of polls each, so that a fast peer delays the others by a piece.
         for _ in 0..self.queue.len() {
             if let Some(key) = self.queue.pop_front() {
                 self.turn(key, limits)?;
@@ -149,6 +151,7 @@ impl<O: Servant> EventLoop<O> {
             Turn::Waits => (),
             Turn::Over(end) => {
                 self.ended.push_back(guest.ended(end))?;
+                // This closes its stream.
                 drop(self.guests.try_remove(key));
             }
         }

@@ -77,6 +77,7 @@ impl<O: Servant> Guest<O> {
             return Turn::Over(self.end_or(End::Ended));
         }
         if let Some(limit) = self.limit_met(limits, now) {
+            // At once and without an Abort: a vat has no call that sends one, and who meets a limit isn't owed an answer.
             return Turn::Over(self.end_or(End::Limit(limit)));
         }
         self.queued = self.seat.goes_on(limits, &self.ready());
@@ -95,6 +96,7 @@ impl<O: Servant> Guest<O> {
 
     /// Goes on by one piece. Says whether the connection is to be closed.
     fn move_on(&mut self, piece: &mut [u8], limits: &HostLimits, now: u64) -> io::Result<bool> {
+        // First what waits, so that more may be taken.
         self.write(now)?;
         match self.seat.phase() {
             Phase::Serving => self.serve(piece, limits, now)?,
@@ -226,6 +228,7 @@ impl<O: Servant> Guest<O> {
         if self.seat.phase() != Phase::Ending || !self.crew.outgoing().is_empty() {
             return false;
         }
+        // Its objects may still give what is awaited.
         if self.crew.gives_more() && self.is_finished {
             return false;
         }

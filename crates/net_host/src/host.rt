@@ -25,6 +25,7 @@ const AGAIN: u64 = 100;
 #[derive(Drop)]
 pub enum News {
     /// One came: give it its objects by `admit`, or it is closed. Numbers go up from 1.
+    /// The application makes them, so it can look at the peer first.
     Came { number: u64, peer: Peer },
     /// One came and was closed, as there were as many as the host allows.
     Refused { peer: Peer },
@@ -46,6 +47,7 @@ pub enum News {
 /// Objects are of one type `O`, such as an enum. Those of one connection are called by that one alone. What all share is a
 /// value that they hold together, as by an `Rc`: all calls are made in one thread, one after another. An object that is to
 /// know its connection is made with its number.
+/// Nothing is lent to a call beside its params, since boxed objects can hold no borrow.
 ///
 /// They may call what they were given (`Servant::ask`), and are told what that came to. Nobody else uses a connection's imports: each is released once no
 /// object holds it, nor anything of the vat, also one that came with a call which reached no object.
@@ -109,6 +111,7 @@ impl<O: Servant> Host<O> {
         ensures hears { IfOk result (λ news. Hears (roster self.old) news (roster self.new)) }
         ensures unheard { OnErr result (GoesOn (roster self.old) (roster self.new)) }
     {
+        // A connection that got no objects is closed by this.
         self.pending = None;
         for _ in 0..u64::MAX {
             if let Some(ended) = self.event_loop.next_end() {
@@ -166,6 +169,7 @@ impl<O: Servant> Host<O> {
         ensures { Accepts (roster self.old) result (roster self.new) }
     {
         let (stream, peer) = self.incoming.accept()?;
+        // It is closed by its drop.
         if !self.has_room() {
             return Some(News::Refused { peer });
         }

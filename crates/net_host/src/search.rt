@@ -13,6 +13,7 @@ const SHARE: usize = 32;
 /// To seek them goes over all imports and promises of the vat. Those that came since the last time were paid for by the messages that
 /// brought them. Those that were left then may be as many as a peer likes, so messages pay for them first: one for each 32 imports, and one for each 32
 /// promises. Where fewer were left, any turn may seek.
+/// Time could pay for it too, but then a silent crowd would cost as much as a busy one.
 #[derive(Clone, Copy)]
 pub(crate) struct Search {
     /// The messages that are taken first, in all.

@@ -77,6 +77,7 @@ impl Direction {
     ) {
         self.send(to, spare);
         for _ in 0..PIECES {
+            // Only once all was written, so that a slow reader stops its writer.
             if !self.is_written() || !self.goes_on(from, to) {
                 break;
             }
@@ -115,6 +116,7 @@ impl Direction {
 
     /// Gives the piece to the relay.
     fn pass<V: Visitor>(&mut self, visitor: &mut V, spare: &mut Vec<u8>) {
+        // A long frame gets the larger buffer.
         put_larger_first(&mut self.out, spare);
         let piece = self.piece.rest();
         match let_through(&mut self.relay, visitor, piece, &mut self.out) {
@@ -133,6 +135,7 @@ impl Direction {
             self.sent = 0;
             self.out.clear();
             put_larger_first(spare, &mut self.out);
+            // The spare buffer is larger, so this one goes back to the system.
             if self.out.capacity() > SPARE {
                 self.out = Vec::new(self.alloc);
             }
@@ -155,6 +158,7 @@ impl Direction {
     /// The target has failed: nothing more goes out.
     fn fail(&mut self, error: io::Error) {
         self.ended = Some(DirectionEnd::Unwritten(error));
+        // Counted as written, so that the end is reported.
         self.sent = self.out.len();
     }
 }

@@ -48,6 +48,7 @@ impl PairEnd {
     fn ends_both(&self) -> bool {
         match self.end {
             DirectionEnd::Refused(_) | DirectionEnd::Unread(_) => true,
+            // A server that aborts closes while its client may still be sending: what it sent goes out.
             DirectionEnd::Well | DirectionEnd::Unwritten(_) => false,
         }
     }

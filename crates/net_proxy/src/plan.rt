@@ -55,6 +55,7 @@ impl RelayPlan {
 
     /// What goes out, in this form.
     fn output(&self, mode: Mode) -> Output {
+        // A frame changes its form only as its message is written anew.
         if self.anew || self.near != self.far {
             Output::Anew(mode)
         } else {

@@ -137,6 +137,7 @@ impl Proxy {
             if token == LISTENER {
                 has_event = true;
             } else if let Some(pair) = self.pairs.get_mut(token.0 / 2) {
+                // Two tokens a pair: the even one is that of the stream that was accepted.
                 let enters = pair.mark(token.0 % 2 == 1, event);
                 if enters {
                     self.queue.push_back(token.0 / 2)?;
@@ -157,6 +158,7 @@ impl Proxy {
             };
             let number = self.incoming.admit();
             if let Err(error) = self.admit(rt, near, number) {
+                // A target that can't be reached counts as one that failed.
                 let end = DirectionEnd::Unwritten(error);
                 let comes_back = false;
                 self.report(watch, err, number, PairEnd { end, comes_back });
@@ -189,6 +191,7 @@ impl Proxy {
             PairTurn::More => self.queue.push_back(key)?,
             PairTurn::Waits => (),
             PairTurn::Ends(ended) => {
+                // This closes both streams.
                 drop(self.pairs.try_remove(key));
                 self.report(watch, err, number, ended);
             }

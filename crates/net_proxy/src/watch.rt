@@ -86,6 +86,7 @@ impl<'a, W: Write + Drop> Visitor for Watch<'a, W> {
                 self.failed = Some(error);
             }
         }
+        // A line that can't be printed stops no message; the round ends with its error.
         Ok(true)
     }
 }

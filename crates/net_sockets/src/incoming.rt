@@ -56,6 +56,7 @@ impl Incoming {
         ensures { Keeps self.old self.new }
     {
         self.burst = 0;
+        // A listener that failed gets no event.
         self.is_acceptable = self.is_acceptable || self.has_failed || has_event;
         self.has_failed = false;
     }

@@ -26,6 +26,7 @@ pub struct HostLimits {
     /// The time in which the peer closes, once nothing more goes to it.
     pub closing: u64,
     /// The bytes of a connection that may wait to be written while more is taken from its peer.
+    /// It isn't 0, since two ends that only write would stop each other.
     pub ahead: usize,
     /// The most bytes that are kept for a connection: of the open message, of what waits to be written, and of what its vat has
     /// entries for.

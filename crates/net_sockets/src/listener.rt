@@ -39,6 +39,7 @@ impl Listener {
     }
 
     /// Listens on a path, at which a file is made. It isn't removed.
+    /// A process that is killed leaves such a file too.
     pub fn bind_path<N: Net + Files>(rt: &N, path: &str) -> io::Result<Listener> {
         Ok(Listener::Unix(UnixListener::bind(rt, path)?))
     }
@@ -64,6 +65,7 @@ impl Listener {
         match self {
             Listener::Tcp(listener) => {
                 let (stream, address) = listener.accept()?;
+                // A connection that failed meanwhile shows that at its first read.
                 let _ = stream.set_nodelay(true);
                 Ok((StreamSocket::Tcp(stream), Peer::Tcp(address)))
             }

@@ -104,6 +104,7 @@ impl NonblockingStream {
                     self.readable = false;
                     Ok(Got::Nothing)
                 }
+                // The stream still counts as readable, so the caller comes again.
                 ErrorKind::Interrupted => Ok(Got::Nothing),
                 _ => Err(error),
             },

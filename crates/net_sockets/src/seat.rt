@@ -46,6 +46,7 @@ pub struct Ready {
 }
 
 /// What a host knows of one of its connections. Times are milliseconds of one clock.
+/// Decisions are made here, apart from sockets, of which no contract can say anything.
 #[derive(Clone, Copy)]
 pub struct Seat {
     phase: Phase,
@@ -87,6 +88,7 @@ impl Seat {
     {
         self.opened = match (is_open, ended) {
             (false, _) => None,
+            // One message ended, and the next one has begun.
             (true, true) => Some(now),
             (true, false) => Some(self.opened.unwrap_or(now)),
         };
@@ -121,6 +123,7 @@ impl Seat {
     pub fn goes_on(&self, limits: &HostLimits, ready: &Ready) -> bool
         ensures { IsTrue result ↔ GoesOn limits.now self.now ready.now }
     {
+        // In any phase: what was sent goes out.
         if ready.writable && ready.unwritten > 0 {
             return true;
         }
@@ -139,6 +142,7 @@ impl Seat {
         ensures met { IfSome result (λ limit. Meets limits.now self.now kept now limit) }
         ensures none { IfNone result ((limit : Limit) → Meets limits.now self.now kept now limit → ⊥) }
     {
+        // Only this time counts: what is kept goes nowhere any more.
         if let Phase::Draining { since } = self.phase {
             return if went_by(since, limits.closing, now) {
                 Some(Limit::Closing)
