@@ -1,17 +1,18 @@
 -- What was set is read back.
 use Rattle.std.proofs.Common.{◌≡◌, ℕ, zero, suc, ◌+◌, ◌-◌, ◌*◌, ◌/◌, ◌%◌, ◌^◌, ◌<◌, List, [], ◌∷◌, ◌++◌, length, set, get_or, get_or-set_same, ap, ◌∙◌, refl, arith, subst, sym}
-use Rattle.std.specs.Prelude.{slice_index, slice_index_or, take, Bool, true, if◌then◌else◌, Result, Ok, ◌==◌}
-use Rattle.std.proofs.lemmas.Nat.{shr_high, mod_low, mod_below, pow_pos}
+use Rattle.std.specs.Prelude.{slice_index, slice_index_or, take, Bool, true, false, not, bit_xor, if◌then◌else◌, Result, Ok, ◌==◌}
+use Rattle.std.proofs.lemmas.Nat.{shr_high, mod_low, mod_below, pow_pos, xor_lt}
+use lib.Bits.{xor_assoc, xor_self, xor_zero_r}
 use Rattle.std.proofs.lemmas.List.{length-append}
-use Rattle.cp_tree.specs.Node.{Node, null, cap, list, ptrs, structs, bytes, struct, Nodes, no_nodes, node, IsStruct, data_of, count}
+use Rattle.cp_tree.specs.Node.{Node, null, cap, list, ptrs, structs, bytes, struct, Nodes, no_nodes, node, data_of, count}
 use Rattle.cp_tree.specs.Seen.{pointee_of, node_at}
 use Rattle.cp_tree.specs.Elements.{element}
-use Rattle.cp_fields.specs.Numbers.{plain}
+use Rattle.cp_fields.specs.Numbers.{plain, uint, flag}
 use Rattle.cp_fields.specs.Pointers.{pointers_of, ends_in_zero, text_field}
 use Rattle.cp_fields.specs.Kinds.{wrong}
 use Rattle.cp_fields.specs.declared.kind.Kind.TheVariants as kinds
 use Rattle.cp_fields.specs.declared.kind.WrongKind.{WrongKind}
-use Rattle.cp_builder.specs.Numbers.{put, with_number}
+use Rattle.cp_builder.specs.Numbers.{put, with_number, flag_bit}
 use Rattle.cp_builder.specs.Drafts.{with_uint, with_node, with_pointer, text_tree}
 
 -- the bits of a word that were replaced are those of the number
@@ -25,13 +26,39 @@ element_back ws w i n within small =
     ap (λ (x : ℕ). x / 2 ^ (i * w % 64) % 2 ^ w) (get_or-set_same ws (i * w / 64) (put (slice_index ws (i * w / 64)) w (i * w % 64) n) 0 within)
     ∙ put_read (slice_index ws (i * w / 64)) w (i * w % 64) n small
 
-pub number_back : (t : Node) (w i n : ℕ) → IsStruct t → i * w / 64 < length (data_of t) → n < 2 ^ w → plain (with_uint t w i n) w i ≡ n
-number_back (struct ws ts) w i n is within small = element_back ws w i n within small
-number_back null w i n is within small = absurd is
-number_back (cap k) w i n is within small = absurd is
-number_back (list es) w i n is within small = absurd is
-number_back (ptrs ts) w i n is within small = absurd is
-number_back (structs d k bs) w i n is within small = absurd is
+pub number_back : (t : Node) (w i n : ℕ) → i * w / 64 < length (data_of t) → n < 2 ^ w → plain (with_uint t w i n) w i ≡ n
+number_back (struct ws ts) w i n within small = element_back ws w i n within small
+number_back null w i n within small = absurd (omega (arith, within))
+number_back (cap k) w i n within small = absurd (omega (arith, within))
+number_back (list es) w i n within small = absurd (omega (arith, within))
+number_back (ptrs ts) w i n within small = absurd (omega (arith, within))
+number_back (structs d k bs) w i n within small = absurd (omega (arith, within))
+
+-- a number that is xor'd with another one twice is as it was
+xor_back : (n d : ℕ) → bit_xor (bit_xor n d) d ≡ n
+xor_back n d = xor_assoc n d d ∙ ap (λ (x : ℕ). bit_xor n x) (xor_self d) ∙ xor_zero_r n
+
+pub number_back_or : (t : Node) (w i n d : ℕ) → i * w / 64 < length (data_of t) → n < 2 ^ w → d < 2 ^ w → uint (with_uint t w i (bit_xor n d)) w i d ≡ n
+number_back_or t w i n d within small default =
+    ap (λ (x : ℕ). bit_xor x d) (number_back t w i (bit_xor n d) within (xor_lt w n d small default)) ∙ xor_back n d
+
+bit_fits : (b : Bool) → flag_bit b < 2 ^ 1
+bit_fits true = omega arith
+bit_fits false = omega arith
+
+bit_is : (b : Bool) → (flag_bit b == 1) ≡ b
+bit_is true = refl
+bit_is false = refl
+
+twice_turned : (b : Bool) → not (not b) ≡ b
+twice_turned true = refl
+twice_turned false = refl
+
+pub bit_back : (t : Node) (i : ℕ) (b : Bool) → i / 64 < length (data_of t) → flag (with_uint t 1 i (flag_bit b)) i ≡ b
+bit_back t i b within = ap (λ (x : ℕ). x == 1) (number_back t 1 i (flag_bit b) (omega (arith, within)) (bit_fits b)) ∙ bit_is b
+
+pub bit_back_or_true : (t : Node) (i : ℕ) (b : Bool) → i / 64 < length (data_of t) → not (flag (with_uint t 1 i (flag_bit (not b))) i) ≡ b
+bit_back_or_true t i b within = ap not (bit_back t i (not b) within) ∙ twice_turned b
 
 node_back : (ts : Nodes) (i : ℕ) (x : Node) → i < count ts → node_at (with_node ts i x) i ≡ x
 node_back no_nodes i x within = absurd (omega (arith, within))

@@ -1,17 +1,30 @@
 //! What is set is read back, and all else stays.
 
-ghost use Rattle.std.specs.Prelude.{◌≡◌, ◌≢◌, ℕ, ◌*◌, ◌/◌, ◌^◌, ◌<◌, List, length, Ok};
-ghost use Rattle.cp_tree.specs.Node.{Node, IsStruct, data_of, count};
+ghost use Rattle.std.specs.Prelude.{◌≡◌, ◌≢◌, ℕ, ◌*◌, ◌/◌, ◌^◌, ◌<◌, Bool, bit_xor, not, List, length, Ok};
+ghost use Rattle.cp_tree.specs.Node.{Node, data_of, count};
 ghost use Rattle.cp_tree.specs.Seen.{pointee_of};
-ghost use Rattle.cp_fields.specs.Numbers.{plain};
+ghost use Rattle.cp_fields.specs.Numbers.{plain, uint, flag};
 ghost use Rattle.cp_fields.specs.Pointers.{pointers_of, text_field};
-ghost use Rattle.cp_builder.specs.Numbers.{AreApart, IsInWord, IsNumber};
+ghost use Rattle.cp_builder.specs.Numbers.{AreApart, IsInWord, IsNumber, flag_bit};
 ghost use Rattle.cp_builder.specs.Drafts.{widened, with_uint, with_pointer, text_tree};
 
 /// A number that was set is read back, if it lies within the data section.
 #[tactic(auto, using(crate::proofs::ReadBack::number_back))]
 pub fn numbers_come_back()
-    ensures { (t : Node) (w i n : ℕ) → IsStruct t → i * w / 64 < length (data_of t) → n < 2 ^ w → plain (with_uint t w i n) w i ≡ n }
+    ensures { (t : Node) (w i n : ℕ) → i * w / 64 < length (data_of t) → n < 2 ^ w → plain (with_uint t w i n) w i ≡ n }
+{}
+
+/// A number with a default that was set, xor'd with the default, is read back, if it lies within the data section.
+#[tactic(auto, using(crate::proofs::ReadBack::number_back_or))]
+pub fn numbers_with_defaults_come_back()
+    ensures { (t : Node) (w i n d : ℕ) → i * w / 64 < length (data_of t) → n < 2 ^ w → d < 2 ^ w → uint (with_uint t w i (bit_xor n d)) w i d ≡ n }
+{}
+
+/// A bit that was set is read back, if it lies within the data section; and so is one whose default is true, which is set turned.
+#[tactic(auto, using(crate::proofs::ReadBack::bit_back, crate::proofs::ReadBack::bit_back_or_true))]
+pub fn bits_come_back()
+    ensures plain { (t : Node) (i : ℕ) (b : Bool) → i / 64 < length (data_of t) → flag (with_uint t 1 i (flag_bit b)) i ≡ b }
+    ensures or_true { (t : Node) (i : ℕ) (b : Bool) → i / 64 < length (data_of t) → not (flag (with_uint t 1 i (flag_bit (not b))) i) ≡ b }
 {}
 
 /// Setting a number changes no other one that shares no bit with it.

@@ -12,8 +12,9 @@ mod views;
 
 pub use fault::DraftFault;
 pub use laws::{
-    fields_are_kept, numbers_come_back, numbers_stay, pointers_come_back, pointers_stay,
-    sections_stay, texts_come_back,
+    bits_come_back, fields_are_kept, numbers_come_back, numbers_stay,
+    numbers_with_defaults_come_back, pointers_come_back, pointers_stay, sections_stay,
+    texts_come_back,
 };
 pub use lists::StructsDraft;
 pub use parts::{

@@ -48,6 +48,34 @@ fn fields_are_set(rt: HostRuntime) {
     drop(object);
 }
 
+/// A draft whose numbers are set as those of fields with defaults: xor'd with them.
+fn with_defaults(rt: &impl Abort, alloc: Global) -> Object {
+    let mut draft: StructDraft<2, 0> = StructDraft::new(alloc).expect(rt, "memory");
+    draft.set_bit(0, !false);
+    draft.set_u8(1, 200 ^ 18);
+    draft.set_u16(1, 40_000 ^ 500);
+    draft.set_u32(1, 7 ^ 0xffff_fffe);
+    draft.set_u64(1, 5 ^ 0x4050_1000_0000_0000);
+    draft.into_object()
+}
+
+/// Their fields read as they were set.
+fn expect_as_set(rt: &impl Abort, object: &Object) {
+    let root = StructView::of(Pointee::of_object(object)).expect(rt, "a struct");
+    check!(rt; !root.bit_or_true(0));
+    check!(rt; root.u8_or(1, 18) == 200);
+    check!(rt; root.u16_or(1, 500) == 40_000);
+    check!(rt; root.u32_or(1, 0xffff_fffe) == 7);
+    check!(rt; root.u64_or(1, 0x4050_1000_0000_0000) == 5);
+}
+
+#[test]
+fn numbers_with_defaults_come_back(rt: HostRuntime) {
+    let object = with_defaults(&rt, rt.alloc());
+    expect_as_set(&rt, &object);
+    drop(object);
+}
+
 /// A draft of the fields that an object has.
 fn taken(rt: &impl Abort, alloc: Global, object: &Object) -> StructDraft<2, 3> {
     let root = StructView::of(Pointee::of_object(object)).expect(rt, "a struct");
