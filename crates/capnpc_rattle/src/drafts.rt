@@ -66,12 +66,13 @@ const CLIENT: &str = "    pub fn set_$0_client(
         &mut self,
         table: &mut Table,
         value: $1Client,
-    ) -> Result<(), AllocError>
+    ) -> Result<(), DraftFault>
         ensures set { OnOk result (self.new.body ≡ with_pointer ";
 
 const CLIENT_SET: &str = " $2 (cap_tree (length table.old))) }
         ensures added { OnOk result (table.new ≡ table.old ++ value.target ∷ []) }
         ensures left { OnErr result ((self.new ≡ self.old) × (table.new ≡ table.old)) }
+        ensures full { result ≡ Err TooLong ↔ 2 ^ 32 ≤ length table.old + 1 }
     {
         let place = table.add(value.target.into_cap())?;
         self.set_$0(place);
@@ -80,7 +81,7 @@ const CLIENT_SET: &str = " $2 (cap_tree (length table.old))) }
 ";
 
 /// What a setter of a capability by name cites.
-const CLIENT_CITED: &str = "cp_stubs::Table\nstd::alloc::AllocError\n";
+const CLIENT_CITED: &str = "cp_stubs::Table\n";
 
 /// Writes the draft of a struct, and that of a list of them.
 pub fn draft<'b>(

@@ -106,7 +106,7 @@ const CONSTANTS: [&str; 3] = [
 ];
 
 /// The words of the prelude, each with parts of a text that has it.
-const PRELUDE: [(&str, &[&str]); 24] = [
+const PRELUDE: [(&str, &[&str]); 25] = [
     ("ℕ", &["ℕ"]),
     ("◌≡◌", &[" ≡ "]),
     ("◌==◌", &[" == "]),
@@ -122,10 +122,11 @@ const PRELUDE: [(&str, &[&str]); 24] = [
     ("OnErr", &["OnErr"]),
     ("IfErr", &["IfErr"]),
     ("Err", &["≡ Err"]),
+    ("◌↔◌", &[" ↔ "]),
     ("◌≤◌", &[" ≤ "]),
     ("◌^◌", &["2 ^ "]),
     ("length", &["length value", "length table"]),
-    ("◌+◌", &["now + 1", "HoldsOneMore self"]),
+    ("◌+◌", &["now + 1", "old + 1", "HoldsOneMore self"]),
     ("◌++◌", &[" ++ "]),
     ("◌∷◌", &[" ∷ "]),
     ("[]", &["[]"]),

@@ -249,6 +249,8 @@ consumes_none old new (client_faults.Device error) h = Consumes-kept old.bytes o
 consumes_none old new (client_faults.Connection fault) h = rw h (Consumes-nil old.bytes)
 consumes_none old new client_faults.Ended h = absurd h
 consumes_none old new client_faults.NotAsked h = absurd h
+consumes_none old new client_faults.TooLong h = absurd h
+consumes_none old new client_faults.TooManyObjects h = absurd h
 
 -- nothing was read
 pub exchanges_unread : (old new : Seat) (fault : ClientFault) → old.left ≡ [] → new.left ≡ [] → IsUnread fault old.from new.from → new ≡ record old { left = new.left; from = new.from } → Exchanges old new
@@ -260,6 +262,8 @@ stops_unread old new (client_faults.Device error) h = h.0
 stops_unread old new (client_faults.Connection fault) h = ap (λ (d : Device). d.failures) h
 stops_unread old new client_faults.Ended h = absurd h
 stops_unread old new client_faults.NotAsked h = absurd h
+stops_unread old new client_faults.TooLong h = absurd h
+stops_unread old new client_faults.TooManyObjects h = absurd h
 
 -- the peer's bytes ended
 pub exchanges_lived : (old new : Seat) → Life old.link [] [] [] new.link → new ≡ record old { link = new.link } → Exchanges old new

@@ -42,6 +42,8 @@ stops_after c (client_faults.Device error) none (inr h) = inr (record { reads = 
 stops_after c client_faults.Ended none h = (none_both none h.0, h.1)
 stops_after c (client_faults.Connection fault) none h = none_both none h
 stops_after c client_faults.NotAsked none h = absurd h
+stops_after c client_faults.TooLong none h = absurd h
+stops_after c client_faults.TooManyObjects none h = absurd h
 
 -- it read, after all was written
 pub stops_reading : {a b : Seat} (c : Seat) (fault : ClientFault) → NoneFailed a b → b.link.unwritten ≡ [] → c.to ≡ b.to → StopsReading b fault c → StopsFor a fault c
@@ -52,16 +54,22 @@ stops_reading c client_faults.Ended none written to h = (
 )
 stops_reading c (client_faults.Connection fault) none written to h = record { reads = h ∙ none.reads; writes = ap (λ d. d.failures) to ∙ none.writes }
 stops_reading c client_faults.NotAsked none written to h = absurd h
+stops_reading c client_faults.TooLong none written to h = absurd h
+stops_reading c client_faults.TooManyObjects none written to h = absurd h
 
 -- a fault of the connection isn't one of a device
 pub stops_connections : (a b : Seat) (fault : ClientFault) → IsConnections fault → NoneFailed a b → StopsFor a fault b
 stops_connections a b (client_faults.Device error) is none = absurd is
 stops_connections a b client_faults.Ended is none = absurd is
 stops_connections a b client_faults.NotAsked is none = absurd is
+stops_connections a b client_faults.TooLong is none = absurd is
+stops_connections a b client_faults.TooManyObjects is none = absurd is
 stops_connections a b (client_faults.Connection fault) is none = none
 
 pub untold_by : (a b : Seat) (q : ℕ) (fault : ClientFault) → StopsFor a fault b → IsUntold a q fault b
 untold_by a b q client_faults.NotAsked h = absurd h
+untold_by a b q client_faults.TooLong h = absurd h
+untold_by a b q client_faults.TooManyObjects h = absurd h
 untold_by a b q (client_faults.Device error) h = h
 untold_by a b q client_faults.Ended h = h
 untold_by a b q (client_faults.Connection fault) h = h

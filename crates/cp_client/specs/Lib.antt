@@ -1,5 +1,6 @@
 pub mod Seat
 pub mod Goes
+pub mod Faults
 pub mod Reading
 pub mod Waits
 pub mod SeatOf

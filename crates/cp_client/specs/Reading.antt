@@ -30,4 +30,4 @@ StopsReading old (client_faults.Device error) new = FailedOnce old.from.failures
 StopsReading old client_faults.Ended new =
     (new.from.failures ≡ old.from.failures) × IsAtEnd new.from.bytes × EndsWell new.link new.link × (new.link ≡ old.link)
 StopsReading old (client_faults.Connection fault) new = new.from.failures ≡ old.from.failures
-StopsReading old client_faults.NotAsked new = ⊥
+StopsReading old fault new = ⊥

@@ -48,7 +48,7 @@ abbrev pub StopsFor : Seat → ClientFault → Seat → Type 0
 StopsFor old (client_faults.Device error) new = ReadFailed old new ⊎ WriteFailed old new
 StopsFor old client_faults.Ended new = NoneFailed old new × IsEnded new
 StopsFor old (client_faults.Connection fault) new = NoneFailed old new
-StopsFor old client_faults.NotAsked new = ⊥
+StopsFor old fault new = ⊥
 
 -- why no outcome is given out: the question isn't asked; or it is, its outcome hasn't come, and the client doesn't go on
 abbrev pub IsUntold : Seat → ℕ → ClientFault → Seat → Type 0

@@ -1,12 +1,13 @@
 //! Objects that answer while a client waits.
 
-ghost use Rattle.std.specs.Prelude.{◌≡◌, ◌∷◌, ◌++◌, [], true, Some, IfOk, IfErr, OnOk, length, map};
+ghost use Rattle.std.specs.Prelude.{◌≡◌, ◌⊎◌, ◌↔◌, ◌≤◌, ◌^◌, ◌∷◌, ◌++◌, [], true, Some, Err, IfOk, IfErr, OnOk, OnErr, length, map};
 ghost use Rattle.cp_refs.specs.declared.cap.Cap.TheVariants.{Object};
 ghost use Rattle.cp_connection.specs.Link.{Link};
+ghost use Rattle.cp_connection.specs.declared.fault.ConnectionFault.TheVariants.{OutOfMemory};
 ghost use Rattle.cp_objects.specs.Work.{begun, Lives};
 ghost use Rattle.cp_objects.specs.WorkOf.{work_of};
 ghost use Rattle.cp_client.specs.SeatOf.{seat};
-ghost use Rattle.cp_client.specs.declared.fault.ClientFault.TheVariants.{Connection as Fault, Ended};
+ghost use Rattle.cp_client.specs.declared.fault.ClientFault.TheVariants.{Connection as Fault, Ended, TooManyObjects};
 ghost use Rattle.cp_client.specs.Attends.{Waits, Halts, Stops, IsUntold, TalksOn};
 ghost use Rattle.cp_client.specs.PartyOf.{objects_of, owed_by, party, Between, knowing};
 ghost use Rattle.cp_client.specs.Turns.{PollsOnce, WorksOut, Turns, Loses, happening_of, first_fault};
@@ -66,16 +67,20 @@ impl<O: Servant> ExportedObjects<O> {
         }
     }
 
-    /// Adds an object, and gives the capability of it. `Err`: memory ran out, or there are 2^32 objects.
-    pub fn export(&mut self, object: O) -> Result<Cap, AllocError>
+    /// Adds an object, and gives the capability of it. `TooManyObjects` says that there are 2^32 of them; at any other
+    /// `Err` memory ran out.
+    pub fn export(&mut self, object: O) -> Result<Cap, ClientFault>
         ensures cap { IfOk result (λ cap. cap ≡ Object (length (objects_of self.old))) }
         ensures added { OnOk result (objects_of self.new ≡ objects_of self.old ++ object ∷ []) }
+        ensures left { OnErr result (objects_of self.new ≡ objects_of self.old) }
+        ensures full { result ≡ Err TooManyObjects ↔ 2 ^ 32 ≤ length (objects_of self.old) }
+        ensures otherwise { IfErr result (λ fault. (fault ≡ TooManyObjects) ⊎ (fault ≡ Fault OutOfMemory)) }
         ensures same { (link : Link) → owed_by self.new link ≡ owed_by self.old link }
     {
         let place = self.objects.len();
         if place > MOST {
             drop(object);
-            return Err(AllocError);
+            return Err(ClientFault::TooManyObjects);
         }
         self.objects.push(object)?;
         Ok(Cap::Object(place as u32))

@@ -4,7 +4,9 @@ ghost use Rattle.std.specs.Prelude.{◌≡◌};
 ghost use Rattle.cp_client.specs.declared.fault.ClientFault.TheVariants.{Connection, Device};
 ghost use Rattle.cp_connection.specs.declared.fault.ConnectionFault.TheVariants.{OutOfMemory};
 ghost use Rattle.cp_stream.specs.Device.{of_error};
+ghost use Rattle.cp_client.specs.Faults.{of_draft};
 
+use cp_builder::DraftFault;
 use cp_connection::ConnectionFault;
 use cp_stream::DeviceError;
 use cp_stubs::NoResults;
@@ -23,6 +25,10 @@ pub enum ClientFault {
     /// V1: the question wasn't asked, or it was finished, or its outcome was given out.
     /// It isn't the vat's own V1: the vat still knows a question whose outcome was given out.
     NotAsked,
+    /// A struct, a list, a text or data of a call, or its table of capabilities, is longer than a message's can be.
+    TooLong,
+    /// There are 2^32 objects, and their numbers name no more.
+    TooManyObjects,
     /// The connection ended, or memory ran out, or the vat refuses the call.
     Connection(ConnectionFault),
 }
@@ -33,6 +39,8 @@ impl fmt::Display for ClientFault {
             ClientFault::Device(error) => write!(f, "a call of a device failed: {error}"),
             ClientFault::Ended => f.write_str("the peer's messages ended"),
             ClientFault::NotAsked => f.write_str("V1 UnknownQuestion"),
+            ClientFault::TooLong => DraftFault::TooLong.fmt(f),
+            ClientFault::TooManyObjects => f.write_str("there are 2^32 objects already"),
             ClientFault::Connection(fault) => fault.fmt(f),
         }
     }
@@ -53,6 +61,17 @@ impl From<ConnectionFault> for ClientFault {
 
     fn from(fault: ConnectionFault) -> ClientFault {
         ClientFault::Connection(fault)
+    }
+}
+
+impl From<DraftFault> for ClientFault {
+    ghost from_gives = { λ fault r. r ≡ of_draft fault };
+
+    fn from(fault: DraftFault) -> ClientFault {
+        match fault {
+            DraftFault::TooLong => ClientFault::TooLong,
+            DraftFault::OutOfMemory => ClientFault::Connection(ConnectionFault::OutOfMemory),
+        }
     }
 }
 

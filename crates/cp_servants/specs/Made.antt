@@ -1,5 +1,5 @@
 -- Structs that are made field by field.
-use Rattle.std.specs.Prelude.{ℕ, ◌<◌, ◌≤◌, ◌^◌, List, [], ◌∷◌, ◌++◌, length, refl}
+use Rattle.std.specs.Prelude.{◌≡◌, ℕ, ◌<◌, ◌≤◌, ◌^◌, List, [], ◌∷◌, ◌++◌, length, refl, Result, Ok, Err}
 use Rattle.std.specs.Coded.{Coded, code_by, coded×, coded_ℕ, coded_list}
 use Rattle.cp_tree.specs.Node.{Node, struct}
 use Rattle.cp_tree.specs.NodeOf.{nodes_of}
@@ -7,6 +7,11 @@ use Rattle.cp_tree.specs.Shaped.{EachShaped}
 use Rattle.cp_tree.specs.Code.{tree_code}
 use Rattle.cp_refs.specs.declared.cap.Cap.{Cap}
 use Rattle.cp_refs.specs.contracts.cap.Cap as cap
+use Rattle.cp_refs.specs.declared.outcome.Outcome.{Outcome}
+use Rattle.cp_refs.specs.declared.outcome.Outcome.TheVariants as outcomes
+use Rattle.cp_builder.specs.declared.fault.DraftFault.{DraftFault}
+use Rattle.cp_builder.specs.declared.fault.DraftFault.TheVariants as drafts
+use Rattle.cp_servants.specs.Outcomes.{results_too_long}
 
 -- The data words, what the pointers stand for, and the capabilities that these name.
 pub record Made : Type 0 where
@@ -29,6 +34,12 @@ with_pointer made t = record made { pointers = made.pointers ++ t ∷ [] }
 -- the struct
 abbrev pub content_of : Made → Node
 content_of made = struct made.words (nodes_of made.pointers)
+
+-- The outcome is the results, if they were made; or the call fails, since no message can hold them. Where memory ran out there is none.
+abbrev pub ComesTo : Result Made DraftFault → Outcome → Type 0
+ComesTo (Ok made) outcome = outcome ≡ outcomes.Results (content_of made) made.caps
+ComesTo (Err drafts.TooLong) outcome = outcome ≡ results_too_long
+ComesTo (Err drafts.OutOfMemory) outcome = ⊥
 
 -- A message can hold so many words, and these pointers, and no more capabilities are named than there are pointers.
 pub record HoldsUp (words : ℕ) (pointers : List Node) (caps : ℕ) : Type 0 where

@@ -29,6 +29,10 @@ refused_call = outcomes.Failed (exception_of kinds.Failed (codes "call refused")
 abbrev pub no_such_method : Outcome
 no_such_method = outcomes.Failed (exception_of kinds.Unimplemented (codes "no such method"))
 
+-- what a call fails with whose results no message can hold
+abbrev pub results_too_long : Outcome
+results_too_long = outcomes.Failed (exception_of kinds.Failed (codes "the results are too long"))
+
 -- one more capability was looked at: an import that wasn't noted before is
 abbrev pub noted_with : List ℕ → Cap → List ℕ
 noted_with found (caps.Import i) = if list_any (λ other. other == i) found then found else found ++ i ∷ []

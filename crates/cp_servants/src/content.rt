@@ -1,8 +1,11 @@
 //! Contents that are made field by field.
 
+ghost use Rattle.std.specs.Prelude.{IfOk};
 ghost use Rattle.cp_tree.specs.Shaped.{AllFit};
+ghost use Rattle.cp_servants.specs.Made.{ComesTo};
 
-use cp_builder::{bytes_of, cap_of, text_of};
+use crate::outcomes::results_too_long;
+use cp_builder::{DraftFault, bytes_of, cap_of, text_of};
 use cp_refs::{Cap, Caps, Outcome, Request};
 use cp_tree::{Body, Tree, Whole};
 use std::alloc::{AllocError, Global};
@@ -14,8 +17,8 @@ const MOST: usize = 0xffff;
 /// The params of a call, or the results of one: a struct that is made field by field, with the capabilities that its
 /// pointers name. Each call adds a data word, or a pointer, after those before it.
 ///
-/// `AllocError` says that memory ran out, or that no message holds so much: a struct has at most 65,535 words and as many
-/// pointers, and a text or data has fewer than 2^29 bytes.
+/// `TooLong` says that no message holds so much: a struct has at most 65,535 words and as many pointers, and a text or data
+/// has fewer than 2^29 bytes.
 #[derive(Drop)]
 pub struct Content {
     alloc: Global,
@@ -43,8 +46,9 @@ impl Model for Content {
 }
 
 impl Content {
-    ghost use Rattle.std.specs.Prelude.{◌≡◌, ◌++◌, ◌∷◌, [], length, IfOk};
+    ghost use Rattle.std.specs.Prelude.{◌≡◌, ◌⊎◌, ◌↔◌, ◌+◌, ◌≤◌, ◌^◌, ◌++◌, ◌∷◌, [], length, Err, IfOk};
     ghost use Rattle.cp_builder.specs.Drafts.{text_tree, bytes_tree, cap_tree};
+    ghost use Rattle.cp_builder.specs.declared.fault.DraftFault.TheVariants.{TooLong};
     ghost use Rattle.cp_refs.specs.declared.outcome.Outcome.TheVariants.{Results};
     ghost use Rattle.cp_servants.specs.Made.{nothing, with_word, with_pointer, content_of};
 
@@ -61,51 +65,56 @@ impl Content {
     }
 
     /// One data word more.
-    pub fn word(mut self, word: u64) -> Result<Content, AllocError>
-        ensures { IfOk result (λ c. c ≡ with_word self word) }
+    pub fn word(mut self, word: u64) -> Result<Content, DraftFault>
+        ensures made { IfOk result (λ c. c ≡ with_word self word) }
+        ensures long { result ≡ Err TooLong ↔ 2 ^ 16 ≤ length self.words + 1 }
     {
         if self.words.len() >= MOST {
-            return Err(AllocError);
+            return Err(DraftFault::TooLong);
         }
         self.words.push(word)?;
         Ok(self)
     }
 
     /// One pointer more, to this.
-    pub fn pointer(mut self, whole: Whole) -> Result<Content, AllocError>
-        ensures { IfOk result (λ c. c ≡ with_pointer self whole) }
+    pub fn pointer(mut self, whole: Whole) -> Result<Content, DraftFault>
+        ensures made { IfOk result (λ c. c ≡ with_pointer self whole) }
+        ensures long { result ≡ Err TooLong ↔ 2 ^ 16 ≤ length self.pointers + 1 }
     {
         if self.pointers.len() >= MOST {
-            return Err(AllocError);
+            return Err(DraftFault::TooLong);
         }
         self.pointers.push(whole.into_tree())?;
         Ok(self)
     }
 
     /// One pointer more, to a text.
-    pub fn text(self, text: &str) -> Result<Content, AllocError>
-        ensures { IfOk result (λ c. c ≡ with_pointer self (text_tree text.now)) }
+    pub fn text(self, text: &str) -> Result<Content, DraftFault>
+        ensures made { IfOk result (λ c. c ≡ with_pointer self (text_tree text.now)) }
+        ensures long { result ≡ Err TooLong → (2 ^ 29 ≤ length text.now + 1) ⊎ (2 ^ 16 ≤ length self.pointers + 1) }
     {
         match text_of(self.alloc, text) {
             Ok(whole) => self.pointer(whole),
-            Err(_) => Err(AllocError),
+            Err(fault) => Err(fault),
         }
     }
 
     /// One pointer more, to data.
-    pub fn data(self, bytes: &[u8]) -> Result<Content, AllocError>
-        ensures { IfOk result (λ c. c ≡ with_pointer self (bytes_tree bytes.now)) }
+    pub fn data(self, bytes: &[u8]) -> Result<Content, DraftFault>
+        ensures made { IfOk result (λ c. c ≡ with_pointer self (bytes_tree bytes.now)) }
+        ensures long { result ≡ Err TooLong → (2 ^ 29 ≤ length bytes.now) ⊎ (2 ^ 16 ≤ length self.pointers + 1) }
     {
         let copy = Vec::from_slice(self.alloc, bytes)?;
         match bytes_of(copy) {
             Ok(whole) => self.pointer(whole),
-            Err(_) => Err(AllocError),
+            Err(fault) => Err(fault),
         }
     }
 
     /// One pointer more, to a capability.
-    pub fn cap(self, cap: Cap) -> Result<Content, AllocError>
-        ensures { IfOk result (λ c. c ≡ record (with_pointer self (cap_tree (length self.caps))) { caps = self.caps ++ cap ∷ [] }) }
+    pub fn cap(self, cap: Cap) -> Result<Content, DraftFault>
+        ensures made { IfOk result (λ c. c ≡ record (with_pointer self (cap_tree (length self.caps))) { caps = self.caps ++ cap ∷ [] }) }
+        ensures long { result ≡ Err TooLong ↔ 2 ^ 16 ≤ length self.pointers + 1 }
     {
         let index = self.caps.len() as u32;
         let mut named = self.pointer(cap_of(index))?;
@@ -147,6 +156,21 @@ impl Content {
             ptrs: self.pointers,
         };
         (Whole::from_shaped(Tree::Struct(body)), Caps::new(self.caps))
+    }
+}
+
+/// What a call comes to whose results are made so. Where these are too long for a message it fails: failed,
+/// `the results are too long`. `Err`: memory ran out.
+pub fn outcome_of(
+    alloc: Global,
+    results: Result<Content, DraftFault>,
+) -> Result<Outcome, AllocError>
+    ensures { IfOk result (ComesTo results) }
+{
+    match results {
+        Ok(content) => Ok(content.results()),
+        Err(DraftFault::TooLong) => results_too_long(alloc),
+        Err(DraftFault::OutOfMemory) => Err(AllocError),
     }
 }
 

@@ -17,7 +17,7 @@ mod servant;
 
 pub use awaited::Awaited;
 pub use cell::Cell;
-pub use content::Content;
+pub use content::{Content, outcome_of};
 pub use content_fields::{data_in, results_of, text_in, word_in};
 pub use desk::Desk;
 pub use outcomes::{bad_outcome, named_imports, no_such_method, no_such_object, refused_call};

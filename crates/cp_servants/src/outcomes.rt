@@ -1,7 +1,7 @@
 //! What calls come to, as drivers and objects make it.
 
 ghost use Rattle.std.specs.Prelude.{◌≡◌, IfOk, OnOk};
-ghost use Rattle.cp_servants.specs.Outcomes.{exception_of, no_such_object, bad_outcome, no_such_method, named_imports, noted_with, refused_call};
+ghost use Rattle.cp_servants.specs.Outcomes.{exception_of, no_such_object, bad_outcome, no_such_method, named_imports, noted_with, refused_call, results_too_long};
 
 use cp_refs::{Cap, Caps, Outcome};
 use cp_rpc::{Exception, ExceptionKind, Text};
@@ -38,6 +38,14 @@ pub fn no_such_method(alloc: Global) -> Result<Outcome, AllocError>
 {
     let kind = ExceptionKind::Unimplemented;
     Ok(Outcome::Failed(exception(alloc, kind, "no such method")?))
+}
+
+/// The exception of a call whose results no message can hold: failed, `the results are too long`.
+pub(crate) fn results_too_long(alloc: Global) -> Result<Outcome, AllocError>
+    ensures { IfOk result (λ o. o ≡ results_too_long) }
+{
+    let kind = ExceptionKind::Failed;
+    Ok(Outcome::Failed(exception(alloc, kind, "the results are too long")?))
 }
 
 /// The imports that a capability table names, each once: what an object gives up that keeps none of them.

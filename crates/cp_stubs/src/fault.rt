@@ -22,7 +22,7 @@ pub enum MethodFault {
     WrongKind(WrongKind),
     /// A text of the params isn't UTF-8.
     NotUtf8,
-    /// A list, a text or data of the results is longer than a list can be.
+    /// A struct, a list, a text or data of the results, or their table of capabilities, is longer than a message's can be.
     TooLong,
     /// It ends the serving.
     OutOfMemory,

@@ -1,9 +1,11 @@
 //! The capabilities that a draft names.
 
-ghost use Rattle.std.specs.Prelude.{◌≡◌, ◌++◌, ◌∷◌, [], length, IfOk, OnOk, OnErr};
+ghost use Rattle.std.specs.Prelude.{◌≡◌, ◌↔◌, ◌+◌, ◌≤◌, ◌^◌, ◌++◌, ◌∷◌, [], length, Err, IfOk, OnOk, OnErr};
+ghost use Rattle.cp_builder.specs.declared.fault.DraftFault.TheVariants.{TooLong};
 
+use cp_builder::DraftFault;
 use cp_refs::{Cap, Caps};
-use std::alloc::{AllocError, Global};
+use std::alloc::Global;
 use std::marker::Model;
 
 /// The number of capabilities that a table has at most.
@@ -45,17 +47,18 @@ impl Table {
         }
     }
 
-    /// Adds a capability, and gives its place. `Err`: memory ran out, or the table is full.
-    pub fn add(&mut self, cap: Cap) -> Result<u32, AllocError>
+    /// Adds a capability, and gives its place. `TooLong` says that the table is full: it has 2^32 - 1 of them.
+    pub fn add(&mut self, cap: Cap) -> Result<u32, DraftFault>
         ensures place { IfOk result (λ place. place ≡ length self.old) }
         ensures added { OnOk result (self.new ≡ self.old ++ cap ∷ []) }
         ensures left { OnErr result (self.new ≡ self.old) }
+        ensures full { result ≡ Err TooLong ↔ 2 ^ 32 ≤ length self.old + 1 }
     {
         let place = self.caps.len();
         // A pointer names a place of 32 bits.
         if place >= MOST {
             drop(cap);
-            return Err(AllocError);
+            return Err(DraftFault::TooLong);
         }
         self.caps.push(cap)?;
         Ok(place as u32)

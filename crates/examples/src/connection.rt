@@ -2,7 +2,7 @@
 
 use jamdrosek::client::{Cap, Content, Path, Request, word_at, word_in};
 use jamdrosek::connection::{Connection, Happening, Objects};
-use jamdrosek::server::{Ids, Reply, Servant, Settled};
+use jamdrosek::server::{Ids, Reply, Servant, Settled, outcome_of};
 use jamdrosek::{Limits, Mode};
 use std::alloc::{AllocError, Global};
 
@@ -51,8 +51,9 @@ struct Total {
 impl Servant for Total {
     fn call(&mut self, _ticket: u64, request: Request) -> Result<Reply, AllocError> {
         self.number = self.number.saturating_add(word_in(&request.content, 0));
+        let results = Content::new(self.alloc).word(self.number);
         Ok(Reply::Now {
-            outcome: Content::new(self.alloc).word(self.number)?.results(),
+            outcome: outcome_of(self.alloc, results)?,
             gives_up: Ids::new(Vec::new(self.alloc)),
         })
     }

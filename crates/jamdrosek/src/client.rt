@@ -24,6 +24,7 @@
 //!
 //! The reader and the writer may be the two ends of a `TcpStream`, `&stream` twice, or bytes in memory.
 
+pub use cp_builder::DraftFault;
 pub use cp_client::{
     Client, ClientFault, ExportedObjects, Question, Stream, StreamingFault, request_of, word_at,
 };

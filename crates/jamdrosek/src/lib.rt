@@ -274,8 +274,9 @@
 //! impl Servant for Doubler {
 //!     fn call(&mut self, _ticket: u64, request: Request) -> Result<Reply, AllocError> {
 //!         let number = word_in(&request.content, 0).saturating_mul(2);
+//!         let results = Content::new(self.alloc).word(number);
 //!         Ok(Reply::Now {
-//!             outcome: Content::new(self.alloc).word(number)?.results(),
+//!             outcome: outcome_of(self.alloc, results)?,
 //!             gives_up: Ids::new(Vec::new(self.alloc)),
 //!         })
 //!     }

@@ -20,8 +20,8 @@
 //! A call on a number past the list fails with `no such object`, and one whose answer the vat refuses with
 //! `bad outcome`.
 //!
-//! `Content` makes what an object answers, field by field, and `word_in`, `text_in` and `data_in` are the fields of the request's
-//! content.
+//! `Content` makes results field by field, and `outcome_of` is what a call comes to by them: where they are too long for a
+//! message, it fails. `word_in`, `text_in` and `data_in` are the fields of the request's content.
 //!
 //! `Report` says how many messages were taken and sent, and why the vat closed, if it did. A `ServeFault`
 //! ends the serving: the messages can't be read on (the faults of `StreamFault`), or memory ran out.
@@ -29,9 +29,10 @@
 //!
 //! The reader and the writer may be the two ends of a `TcpStream`, `&stream` twice, or bytes in memory.
 
+pub use cp_builder::DraftFault;
 pub use cp_refs::{Cap, Caps, Outcome, Request};
 pub use cp_servants::{
-    Ask, Content, Reply, RequestView, Servant, Settled, data_in, text_in, word_in,
+    Ask, Content, Reply, RequestView, Servant, Settled, data_in, outcome_of, text_in, word_in,
 };
 pub use cp_serve::{Report, ServeFault, serve, serve_each};
 pub use cp_vat_machine::{Ids, PeerFault, Reason};

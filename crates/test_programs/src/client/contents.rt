@@ -1,11 +1,13 @@
 //! Contents that are made field by field, and read.
 
+use cp_builder::DraftFault;
 use cp_refs::{Cap, Outcome, Request};
-use cp_servants::{Content, data_in, results_of, text_in, word_in};
-use std::alloc::{AllocError, Global};
+use cp_servants::{Content, data_in, outcome_of, results_of, text_in, word_in};
+use cp_tree::Whole;
+use std::alloc::Global;
 
 /// A call with two words, a text, data and a capability.
-fn call(alloc: Global) -> Result<Request, AllocError> {
+fn call(alloc: Global) -> Result<Request, DraftFault> {
     let words = Content::new(alloc).word(7)?.word(u64::MAX)?;
     let named = words.text("Grüße")?.data(&[1, 2])?.cap(Cap::Import(3))?;
     Ok(named.request(9, 2))
@@ -32,4 +34,56 @@ fn results_have_their_content(rt: HostRuntime) {
     drop(outcome);
     check!(&rt; word == Some(5));
     check!(&rt; results_of(&Outcome::Canceled).is_none());
+}
+
+/// How many words a struct gets, and why it gets no further one.
+fn most_words(alloc: Global) -> (u32, Option<DraftFault>) {
+    let mut content = Content::new(alloc);
+    for count in 0..0x1_0001 {
+        match content.word(0) {
+            Ok(longer) => content = longer,
+            Err(fault) => return (count, Some(fault)),
+        }
+    }
+    drop(content);
+    (0x1_0001, None)
+}
+
+/// The same of pointers.
+fn most_pointers(alloc: Global) -> (u32, Option<DraftFault>) {
+    let mut content = Content::new(alloc);
+    for count in 0..0x1_0001 {
+        match content.pointer(Whole::null()) {
+            Ok(longer) => content = longer,
+            Err(fault) => return (count, Some(fault)),
+        }
+    }
+    drop(content);
+    (0x1_0001, None)
+}
+
+#[test]
+fn a_struct_has_at_most_65_535_words_and_pointers(rt: HostRuntime) {
+    let most = (0xffff, Some(DraftFault::TooLong));
+    check!(&rt; most_words(rt.alloc()) == most);
+    check!(&rt; most_pointers(rt.alloc()) == most);
+}
+
+/// Why a call failed.
+fn reason_in(outcome: &Outcome) -> Option<&str> {
+    match outcome {
+        Outcome::Failed(exception) => Some(exception.reason.as_str()),
+        _ => None,
+    }
+}
+
+#[test]
+fn a_call_whose_results_are_too_long_fails(rt: HostRuntime) {
+    let failed = outcome_of(rt.alloc(), Err(DraftFault::TooLong)).expect(&rt, "memory");
+    check!(&rt; reason_in(&failed) == Some("the results are too long"));
+    drop(failed);
+    let made = outcome_of(rt.alloc(), Content::new(rt.alloc()).word(5)).expect(&rt, "memory");
+    let word = results_of(&made).map(|content| word_in(content, 0));
+    drop(made);
+    check!(&rt; word == Some(5));
 }

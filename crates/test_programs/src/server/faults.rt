@@ -32,10 +32,20 @@ const OF_SERVERS: &[(ServeFault, &str)] = &[(
     "device failed: Connection reset by peer (os error 104)",
 )];
 
-const OF_CLIENTS: &[(ClientFault, &str)] = &[(
-    ClientFault::Device(RESET),
-    "a call of a device failed: Connection reset by peer (os error 104)",
-)];
+const OF_CLIENTS: &[(ClientFault, &str)] = &[
+    (
+        ClientFault::Device(RESET),
+        "a call of a device failed: Connection reset by peer (os error 104)",
+    ),
+    (
+        ClientFault::TooLong,
+        "a struct, a list, a text, data or a table is longer than a message's can be",
+    ),
+    (
+        ClientFault::TooManyObjects,
+        "there are 2^32 objects already",
+    ),
+];
 
 const OF_CONNECTIONS: &[(ConnectionFault, &str)] = &[
     (ConnectionFault::Closed, "the connection is closed"),
