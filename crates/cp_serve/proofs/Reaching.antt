@@ -287,6 +287,12 @@ module _ {A : Type 0} {kind : Kind A} {mode : Mode} {start : List A} {held : Dev
   cut_out bytes rest left s {to = to} r out =
       record { taken = r.taken; rest = rest; messages = r.messages; sent = r.sent; starts = inl (_, _, r.takes); writes = writes_all held to (all_written bytes rest s r out) }
 
+  -- no message that came whole is left
+  pub rest_is_open : (rest : List ℕ) (s : Server) {bytes : List ℕ} {seen : List A} {to : Device} → Reached kind mode start held bytes rest s seen to → ReadsOn rest s → Open mode standard rest
+  rest_is_open rest s r on =
+      let there = is_open_of s.connection.mode s.connection.limits s.connection.reading rest on.came.0 on.came.1 in
+      subst (λ (l : Bounds). Open mode l rest) r.same_limits (subst (λ (x : Mode). Open x s.connection.limits rest) r.same_mode there)
+
   -- the stream ends inside a frame
   pub stops_inside : (bytes rest : List ℕ) (from left : Device) (s : Server) (link : Link) {seen : List A} {to : Device} → Reached kind mode start held bytes rest s seen to → ReadsOn rest s → AllOut s
       → (fault : ConnectionFault) → EndsBadly s.connection fault link → IsAtEnd left.bytes → StopsFor kind mode start bytes from left held to seen (fault_of fault)
@@ -295,11 +301,7 @@ module _ {A : Type 0} {kind : Kind A} {mode : Mode} {start : List A} {held : Dev
       subst (λ (f : ConnectionFault). StopsFor kind mode start bytes from left held to seen (fault_of f)) (sym h.0)
       (inl (record {
         before = taken_out bytes rest s r out on.is_open;
-        fault = (
-          h.2 rest on.came,
-          subst (λ (l : Bounds). Open mode l rest) r.same_limits (subst (λ (x : Mode). Open x s.connection.limits rest) r.same_mode (is_open_of s.connection.mode s.connection.limits s.connection.reading rest on.came.0 on.came.1)),
-          at_end,
-        );
+        fault = (h.2 rest on.came, rest_is_open rest s r on, at_end);
         place = r.place;
       }))
 

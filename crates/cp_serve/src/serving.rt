@@ -32,7 +32,7 @@ type Boxed = Box<dyn Servant>;
 ///
 /// Each message is received, and each call that it leads to goes to its object; then each object is
 /// polled once, in order. Where the messages end, rounds of polls go on until one gives nothing that
-/// is awaited.
+/// is awaited. No byte is read before all that came whole was answered and written, nor once the vat closed.
 ///
 /// # Errors
 ///
@@ -50,7 +50,7 @@ pub fn serve<R: Read, W: Write>(
     ensures served { IfOk result (IsServedAt ⟦<Boxed as Servant>⟧.kind mode (ends objects.old objects.new R.remaining from.old from.new W.contents to.old to.new)) }
     // No call of the reader failed.
     ensures read { OnOk result (failures_of from.new ≡ failures_of from.old) }
-    // Or one did, and then all that the messages before it lead to was written.
+    // Or one did: before it all that came whole was answered, and the vat was open. Any call may fail, so this holds of each.
     ensures unread { IfErr result (ReadsUpTo ⟦<Boxed as Servant>⟧.kind mode (ends objects.old objects.new R.remaining from.old from.new W.contents to.old to.new)) }
     // A fault says why it was cut off, and what was written is a beginning of one.
     ensures stopped { IfErr result (IsStoppedAt ⟦<Boxed as Servant>⟧.kind mode (ends objects.old objects.new R.remaining from.old from.new W.contents to.old to.new)) }

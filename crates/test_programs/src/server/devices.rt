@@ -209,6 +209,28 @@ fn a_piece_is_answered_in_one_write(rt: HostRuntime) {
     check!(&rt; writes_of(&rt, rt.alloc(), 1, 1) > 2);
 }
 
+#[test]
+fn nothing_is_read_after_an_abort(rt: HostRuntime) {
+    let alloc = rt.alloc();
+    let first = bytes_of(&rt, alloc, &[STRANGE_FINISH]);
+    let most_read = first.len();
+    drop(first);
+    let bytes = bytes_of(&rt, alloc, &[STRANGE_FINISH, BOOTSTRAP]);
+    let whole = bytes_of(&rt, alloc, &[ABORTED]);
+    // The second read would fail.
+    let trial = Trial {
+        read: 2,
+        most_read,
+        ..SOUND
+    };
+    let tried = over(alloc, &bytes, trial);
+    drop(bytes);
+    check!(&rt; tried.reads == 1);
+    check!(&rt; !expect_tried(&rt, &tried, &whole, trial));
+    drop(whole);
+    drop(tried);
+}
+
 /// A writer that takes all, keeps none of it, and compares it with what is wanted.
 #[derive(Drop)]
 struct Compared<'a> {

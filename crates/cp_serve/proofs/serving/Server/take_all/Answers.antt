@@ -2,7 +2,7 @@ use Rattle.std.proofs.Common.{◌<◌, ◌≤◌, ◌+◌, ◌-◌, ◌%◌, ◌
 use Rattle.std.proofs.lemmas.Result.{err_from_is_err_and}
 use Rattle.std.proofs.KnownBytes.{Consumes-nil, Consumes-trans, Consumes-kept}
 use Rattle.cp_serve.specs.Output.{device}
-use Rattle.cp_serve.proofs.Reaching.{not_some, cut_out, taken_out, one_more_piece, stops_inside, reads_nothing, goes_over, goes_still, reads_well}
+use Rattle.cp_serve.proofs.Reaching.{not_some, cut_out, taken_out, rest_is_open, one_more_piece, stops_inside, reads_nothing, goes_over, goes_still, reads_well}
 use Rattle.cp_serve.proofs.serving.Server.take_all.Goals as goal
 
 pub loop-pieces-init : goal.loop-pieces-init
@@ -108,7 +108,13 @@ returns-in_err-length-clause-unread g c =
     let failed = c.in_err-length.ensures.counts.failures ∙ ap (λ (n : ℕ). (n + 1) % 2 ^ 64) c.loop-pieces.invariant.0 in
     rw (p.1, p.2) (λ mode start held serves out.
     let now = c.loop-pieces.invariant.1 mode start held serves out in
-    inr (failed, now.0, Consumes-kept _ _ _ now.0 now.1 c.in_err-length.ensures.bytes, taken_out now.0 now.3.0 c.loop-pieces.self now.3.1 now.4 now.3.2.is_open))
+    inr (
+      failed,
+      now.0,
+      Consumes-kept _ _ _ now.0 now.1 c.in_err-length.ensures.bytes,
+      taken_out now.0 now.3.0 c.loop-pieces.self now.3.1 now.4 now.3.2.is_open,
+      rest_is_open now.3.0 c.loop-pieces.self now.3.1 now.3.2,
+    ))
 
 pub returns-in_err-end-clause-unread : goal.returns-in_err-end-clause-unread
 returns-in_err-end-clause-unread g c =
