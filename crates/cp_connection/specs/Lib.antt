@@ -1,6 +1,7 @@
 pub mod Refusing
 pub mod Counting
 pub mod Effects
+pub mod Outgoing
 pub mod Noting
 pub mod Link
 pub mod Doing

@@ -41,7 +41,7 @@ use std::marker::Model;
 ///
 /// A connection keeps what came of the open frame, what is to go out, what happened and wasn't taken, and what its
 /// vat keeps. `held` says how much that is. One that is emptied after each message keeps no more of these than one
-/// message leads to.
+/// message leads to. Three empty buffers are kept for later frames, of at most 2 MiB each, whatever frames came and went.
 pub struct Connection {
     parts: Parts,
 }

@@ -1,10 +1,11 @@
 //! The bytes that are to be written.
 
-ghost use Rattle.std.specs.Prelude.{◌≡◌, [], OnOk, OnErr, length, take, drop};
+ghost use Rattle.std.specs.Prelude.{◌≡◌, ◌≤◌, [], OnOk, OnErr, length, take, drop, vec_capacity};
 ghost use Rattle.cp_words.specs.Limits.{standard};
 ghost use Rattle.cp_stream.specs.Write.{IsNotLaidOut, IsUnwrittenFor};
 ghost use Rattle.cp_vat_laws.specs.Sizes.{IsWritable};
 ghost use Rattle.cp_connection.specs.Effects.{Puts};
+ghost use Rattle.cp_connection.specs.Outgoing.{most_spare, most_words};
 
 use cp_frame::Mode;
 use cp_rpc::Message;
@@ -33,13 +34,14 @@ pub(crate) struct Outgoing {
 }
 
 impl Model for Outgoing {
-    ghost use Rattle.std.specs.Prelude.{List, ℕ, ◌≤◌, drop, length};
+    ghost use Rattle.std.specs.Prelude.{List, ℕ, drop};
+    ghost use Rattle.cp_connection.specs.Outgoing.{KeepsLittle};
 
     ghost Value = { List ℕ };
 
     ghost view = { λ o. drop o.written o.block.items };
 
-    ghost invariant = { λ o. o.written ≤ length o.block.items };
+    ghost invariant = { λ o. KeepsLittle o.written o.block o.words };
 }
 
 impl Outgoing {
@@ -75,14 +77,9 @@ impl Outgoing {
     {
         if count < self.len() {
             self.written += count;
-            return;
-        }
-        // Past the end means all: the count is the device's.
-        self.written = 0;
-        if self.block.capacity() > KEPT {
-            self.block = Vec::new(self.alloc);
         } else {
-            self.block.clear();
+            // Past the end means all: the count is the device's.
+            self.clear();
         }
     }
 
@@ -101,9 +98,20 @@ impl Outgoing {
     pub(crate) fn truncate(&mut self, length: usize)
         ensures { self.new ≡ take length self.old }
     {
-        if length < self.len() {
+        if length == 0 {
+            self.clear();
+        } else if length < self.len() {
             self.block.truncate(self.written + length);
         }
+    }
+
+    /// Takes all of them away. Little memory stays for later frames.
+    fn clear(&mut self)
+        ensures { self.new ≡ [] }
+    {
+        self.written = 0;
+        self.block.clear();
+        keep_little(self.alloc, &mut self.block, KEPT);
     }
 
     /// Moves them to the block's front, once more of it was written than is left.
@@ -132,20 +140,26 @@ fn put_after(
     requires writable { IsWritable message.now }
     ensures put { OnOk result (Puts mode message.now block.old.items block.new.items) }
     ensures same { OnErr result (block.new.items ≡ block.old.items) }
+    ensures spare { block.new.items ≡ [] → vec_capacity block.new ≤ most_spare }
+    ensures words { vec_capacity words.new ≤ most_words }
 {
     // A peer need not share this end's own limits, so what goes out keeps to the standard ones.
     let put = put_message(alloc, block, words, message, mode, Limits::standard());
-    keep_little(alloc, words);
+    keep_little(alloc, block, KEPT);
+    keep_little(alloc, words, KEPT_WORDS);
     match put {
         Ok(()) => Ok(()),
         Err(refusal) => Err(refusal_fault(refusal, message)),
     }
 }
 
-/// Lets the memory of words go, if it is more than is kept.
-fn keep_little(alloc: Global, words: &mut Vec<u64>) {
-    if words.capacity() > KEPT_WORDS {
-        *words = Vec::new(alloc);
+/// Lets the memory of a list without items go, if it has room for more than this many.
+fn keep_little<T: Drop>(alloc: Global, list: &mut Vec<T>, most: usize)
+    ensures same { list.new.items ≡ list.old.items }
+    ensures little { list.new.items ≡ [] → vec_capacity list.new ≤ most }
+{
+    if list.is_empty() && list.capacity() > most {
+        *list = Vec::new(alloc);
     }
 }
 

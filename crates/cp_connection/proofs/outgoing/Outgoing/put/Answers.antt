@@ -9,5 +9,5 @@ returns-clause-put c =
     after_ok c.put_after.result c.put_after.ensures.put (λ h. (
       h.0,
       h.1,
-      ap (λ (b : List ℕ). drop o.written b) h.2 ∙ drop-append-le o.written o.block.items h.0 c.self.invariant ∙ ap (λ (b : List ℕ). b ++ h.0) (c.self.view_is ∙ c.move_up.ensures),
+      ap (λ (b : List ℕ). drop o.written b) h.2 ∙ drop-append-le o.written o.block.items h.0 c.self.invariant.front ∙ ap (λ (b : List ℕ). b ++ h.0) (c.self.view_is ∙ c.move_up.ensures),
     ))
