@@ -24,6 +24,10 @@ device known tap = record { bytes = known (inner_of tap); failures = failures_of
 abbrev pub fresh : Option (List ℕ) → Device
 fresh bytes = record { bytes = bytes; failures = 0 }
 
+-- the most bytes that a buffer holds that is kept for later pieces: 64 KiB
+abbrev pub most_kept : ℕ
+most_kept = 65536
+
 -- the questions whose outcome wasn't given out, each with its outcome once that came
 abbrev pub Asked : Type 0
 Asked = Table (Option Outcome)

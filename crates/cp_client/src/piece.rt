@@ -19,7 +19,7 @@ const PIECE: usize = 65_536;
 #[derive(Drop)]
 pub(crate) struct Piece {
     alloc: Global,
-    /// Where bytes are read to. It has none until some are asked for.
+    /// Where bytes are read to. It has none until some are asked for, and never more than are asked for at once.
     buffer: Vec<u8>,
     start: usize,
     end: usize,
@@ -27,12 +27,13 @@ pub(crate) struct Piece {
 
 impl Model for Piece {
     ghost use Rattle.std.specs.Prelude.{List, ℕ, ◌≤◌, drop, take, length};
+    ghost use Rattle.cp_client.specs.Seat.{most_kept};
 
     ghost Value = { List ℕ };
 
     ghost view = { λ p. drop p.start (take p.end p.buffer.items) };
 
-    ghost invariant = { λ p. (p.start ≤ p.end) × (p.end ≤ length p.buffer.items) };
+    ghost invariant = { λ p. (p.start ≤ p.end) × (p.end ≤ length p.buffer.items) × (length p.buffer.items ≤ most_kept) };
 }
 
 impl Piece {
