@@ -1,5 +1,6 @@
 -- What a relay keeps, and what its callers see of it. No public clause names these.
-use Rattle.std.specs.Prelude.{◌≡◌, ◌⊎◌, ℕ, Bool, true, false, List, [], ◌++◌, Option, Some, None}
+use Rattle.std.specs.Prelude.{◌≡◌, ◌⊎◌, ℕ, ◌≤◌, Bool, true, false, List, [], ◌++◌, Option, Some, None, vec_capacity}
+use Rattle.std.specs.Global.{Vec}
 use Rattle.cp_words.specs.Limits.{Bounds}
 use Rattle.cp_frame.specs.Reader as frames
 use Rattle.cp_messages.specs.declared.message.Message.{Message}
@@ -13,11 +14,11 @@ use Rattle.cp_relay.specs.declared.fault.RelayFault.{RelayFault}
 use Rattle.cp_relay.specs.declared.fault.Why.{Why}
 use Rattle.cp_relay.specs.declared.fault.Why.TheVariants as whys
 use Rattle.cp_relay.specs.declared.passage.Passage.{Passage}
-use Rattle.cp_relay.specs.Relay.{Relay, StandsFor, IsSentFor, StopsFor, GivesNext, GivesNone}
+use Rattle.cp_relay.specs.Relay.{Relay, most_spare, StandsFor, IsSentFor, StopsFor, GivesNext, GivesNone}
 
 -- a relay by its parts
 abbrev pub seen : Passage → Option RelayFault → Relay
-seen p fault = record { output = p.output; frames = p.frames; kept = p.kept.items; fault = fault; at = p.at }
+seen p fault = record { output = p.output; frames = p.frames; kept = p.kept.items; room = vec_capacity p.kept; fault = fault; at = p.at }
 
 -- The stream is read on, within the limits, and what has come of it is some bytes.
 pub record IsOpen (p : Passage) : Type 0 where
@@ -29,6 +30,10 @@ pub record IsOpen (p : Passage) : Type 0 where
 abbrev pub KeepsUp : Passage → Option RelayFault → Type 0
 KeepsUp p None = IsOpen p
 KeepsUp p (Some fault) = (fault.at ≡ p.at) × (p.kept.items ≡ [])
+
+-- a buffer that holds no bytes has room for little
+abbrev pub IsSmall : Vec ℕ → Type 0
+IsSmall buffer = buffer.items ≡ [] → vec_capacity buffer ≤ most_spare
 
 -- memory ran out
 abbrev pub IsMemoryFor : Why → Type 0

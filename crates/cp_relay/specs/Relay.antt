@@ -16,13 +16,19 @@ use Rattle.cp_relay.specs.declared.fault.RelayFault.{RelayFault}
 use Rattle.cp_relay.specs.declared.fault.Why.{Why}
 use Rattle.cp_relay.specs.declared.fault.Why.TheVariants as whys
 
--- A relay as its callers see it: what goes out for a message, what reads the frames, the bytes of the open frame that are kept to go out, why nothing more is let through, and how many bytes the frames took that were.
+-- A relay as its callers see it: what goes out for a message, what reads the frames, the bytes of the open frame that are kept to go out, how many their
+-- buffer has room for, why nothing more is let through, and how many bytes the frames took that were.
 pub record Relay : Type 0 where
   pub output : Output
   pub frames : frames.Reader
   pub kept : List ℕ
+  pub room : ℕ
   pub fault : Option RelayFault
   pub at : ℕ
+
+-- the most that a buffer has room for that is kept for later frames: 64 KiB
+abbrev pub most_spare : ℕ
+most_spare = 65536
 
 -- nothing is said of what a visitor says
 abbrev pub says_nothing : {V : Type 0} → V → Message → Bool → V → Type 0
@@ -145,12 +151,14 @@ pub record EndsInside (old new : Relay) (fault : RelayFault) : Type 0 where
   pub truncated : fault.why ≡ whys.Refused (refusals.Frame faults.Truncated)
   pub inside : (b : List ℕ) → StandsFor old b → b ≢ []
 
--- Of the bytes that go out as they were read it keeps no more than have come of the open frame, and what its reader keeps is little.
+-- Of the bytes that go out as they were read it keeps no more than have come of the open frame, and what its reader keeps is little. The buffer that is
+-- kept for later frames is small, whatever frames came.
 pub record HoldsLittle (r : Relay) : Type 0 where
   pub reader : frames.KeepsLittle r.frames
   pub kept : (b : List ℕ) → StandsFor r b → length r.kept ≤ length b
   pub none : r.fault ≢ None → r.kept ≡ []
+  pub room : r.kept ≡ [] → r.room ≤ most_spare
 
 -- a relay to which nothing has come
 abbrev pub new_relay : Mode → Output → Bounds → Relay
-new_relay mode output limits = record { output = output; frames = frames.new_reader mode limits; kept = []; fault = None; at = 0 }
+new_relay mode output limits = record { output = output; frames = frames.new_reader mode limits; kept = []; room = 0; fault = None; at = 0 }

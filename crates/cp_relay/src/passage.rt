@@ -2,7 +2,7 @@
 
 ghost use Rattle.std.specs.Prelude.{◌≡◌, ◌++◌, [], IfOk, IfErr, IfNone, IfSome, OnOk, None};
 ghost use Rattle.cp_rpc.specs.Viewed.{viewed};
-ghost use Rattle.cp_relay.specs.Passage.{seen, kept_with, IsOpen, IsMemoryFor, OnlyKeeps, Refuses, PassesNext, PassesNone, PutsFrame, StopsAtFrame, Makes, IsUnmade};
+ghost use Rattle.cp_relay.specs.Passage.{seen, kept_with, IsOpen, IsSmall, IsMemoryFor, OnlyKeeps, Refuses, PassesNext, PassesNone, PutsFrame, StopsAtFrame, Makes, IsUnmade};
 
 use crate::fault::{RelayFault, Why};
 use crate::output::Output;
@@ -44,8 +44,10 @@ impl Passage {
         piece: &'a [u8],
         out: &mut Vec<u8>,
     ) -> Result<Option<&'a [u8]>, Why>
-        requires { IsOpen self.old }
+        requires open { IsOpen self.old }
+        requires small { IsSmall self.old.kept }
         ensures open { OnOk result (IsOpen self.new) }
+        ensures small { OnOk result (IsSmall self.new.kept) }
         ensures given { IfOk result (λ next. IfSome next (λ back. PassesNext V.says self.old piece.now self.new visitor.old visitor.new out.old.items out.new.items back.now)) }
         ensures none { IfOk result (λ next. IfNone next (PassesNone V.says self.old piece.now self.new visitor.old visitor.new out.old.items out.new.items)) }
         ensures refused { IfErr result (Refuses V.says (seen self.old None) piece.now visitor.old visitor.new) }
@@ -68,6 +70,7 @@ impl Passage {
         ensures place { result.at ≡ self.new.at }
         ensures why { result.why ≡ why }
         ensures none { self.new.kept.items ≡ [] }
+        ensures small { IsSmall self.new.kept }
         ensures counts { self.new.at ≡ self.old.at }
     {
         self.kept = Vec::new(self.alloc);
@@ -76,12 +79,14 @@ impl Passage {
 
     /// Keeps a piece in which no frame ends, where it is to go out as it was read.
     fn keep(&mut self, piece: &[u8], out: &mut Vec<u8>) -> Result<(), Why>
+        requires { IsSmall self.old.kept }
         ensures kept { OnOk result (OnlyKeeps self.old (kept_with self.old.output self.old.kept.items piece.now) self.new) }
+        ensures small { OnOk result (IsSmall self.new.kept) }
         ensures memory { IfErr result IsMemoryFor }
         ensures nothing { out.new.items ≡ out.old.items }
         ensures counts { self.new.at ≡ self.old.at }
     {
-        if self.output == Output::AsRead {
+        if self.output == Output::AsRead && !piece.is_empty() {
             make_capacity(&mut self.kept, out, piece.len(), self.frames.needs())?;
             self.kept.extend_from_slice(piece)?;
         }
@@ -98,6 +103,7 @@ impl Passage {
         out: &mut Vec<u8>,
     ) -> Result<(), Why>
         ensures put { OnOk result (PutsFrame V.says self.old segments.now front.now self.new visitor.old visitor.new out.old.items out.new.items) }
+        ensures small { OnOk result (IsSmall self.new.kept) }
         ensures refused { IfErr result (StopsAtFrame V.says self.old segments.now visitor.old visitor.new) }
         ensures nothing { IfErr result (λ why. out.new.items ≡ out.old.items) }
         ensures counts { self.new.at ≡ self.old.at }
@@ -117,6 +123,7 @@ impl Passage {
     fn give(&mut self, out: &mut Vec<u8>) -> Result<(), AllocError>
         ensures gives { OnOk result (out.new.items ≡ out.old.items ++ self.old.kept.items) }
         ensures forgets { OnOk result (OnlyKeeps self.old [] self.new) }
+        ensures small { OnOk result (IsSmall self.new.kept) }
         ensures nothing { IfErr result (λ _. out.new.items ≡ out.old.items) }
         ensures counts { self.new.at ≡ self.old.at }
     {
@@ -142,9 +149,10 @@ impl Passage {
         Ok(())
     }
 
-    /// Forgets what went out.
+    /// Forgets what went out. A small buffer stays for later frames.
     fn forget(&mut self)
-        ensures { OnlyKeeps self.old [] self.new }
+        ensures forgets { OnlyKeeps self.old [] self.new }
+        ensures small { IsSmall self.new.kept }
     {
         if self.kept.capacity() > SPARE {
             self.kept = Vec::new(self.alloc);

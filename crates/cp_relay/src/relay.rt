@@ -23,13 +23,13 @@ pub struct Relay {
 
 impl Model for Relay {
     ghost use Rattle.cp_relay.specs.Relay.{Relay as Seen};
-    ghost use Rattle.cp_relay.specs.Passage.{seen, KeepsUp};
+    ghost use Rattle.cp_relay.specs.Passage.{seen, IsSmall, KeepsUp};
 
     ghost Value = { Seen };
 
     ghost view = { λ r. seen r.passage r.fault };
 
-    ghost invariant = { λ r. KeepsUp r.passage r.fault };
+    ghost invariant = { λ r. KeepsUp r.passage r.fault × IsSmall r.passage.kept };
 }
 
 impl Relay {
@@ -128,7 +128,9 @@ impl Relay {
             }
         }
     }
-    /// How many bytes and how many words it keeps: of the open frame no more than have come, but for 9 bytes.
+
+    /// How many bytes and how many words it keeps: of the open frame no more than have come, but for 9 bytes. Where it
+    /// keeps no bytes to go out, their buffer has room for at most 64 KiB.
     pub fn held(&self) -> (usize, usize)
         ensures bytes { result.0 ≡ self.now.frames.bytes + length self.now.kept }
         ensures words { result.1 ≡ self.now.frames.words }
