@@ -5,8 +5,7 @@
 //! fields for a call. Calls are sent when the client next waits, in one go. `ask` calls and waits.
 //!
 //! `finish` gives a question up, and `release` an import that an outcome named: till then the peer keeps them. `flush` writes
-//! what is still to be sent. `into_devices` ends the client, and gives the reader and the writer back: a crate that ends its
-//! clients so has no drop of a whole vat to prove.
+//! what is still to be sent. `into_devices` ends the client, and gives the reader and the writer back.
 //!
 //! A `ClientFault` says why a call gives nothing. `Device` has the error of the reader or of the writer. After it and after
 //! `Ended` the client goes on, as where a reader's timeout ended a read. After a fault of the connection outcomes that came
