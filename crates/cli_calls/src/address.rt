@@ -13,9 +13,9 @@ use std::os::unix::net::UnixStream;
 use std::time::Duration;
 
 /// Makes the calls that these words name, of the objects of the peer at an address, in one go: HOST:PORT, or the path of
-/// a Unix socket, which has a slash. What each came to goes to `out` as a line, in the order of the calls, and a line that
-/// says why it stopped to `err`. The status is 0 where each call has results, 1 where one has none, and 2 where a word
-/// isn't a call, or a device failed.
+/// a Unix socket, which has a slash or comes after `unix:`. What each came to goes to `out` as a line, in the order of
+/// the calls, and a line that says why it stopped to `err`. The status is 0 where each call has results, 1 where one has
+/// none, and 2 where a word isn't a call, or a device failed.
 pub fn call_address<N, O: Write, E: Write>(
     rt: &N,
     address: &str,
@@ -49,10 +49,9 @@ where
     N: Net<Listener = TcpListener, Stream = TcpStream> + Files + AllocGlobal,
 {
     let calls = calls_of(rt, words)?;
-    let connected = if address.contains('/') {
-        connect_unix(rt, address)
-    } else {
-        connect_tcp(rt, address, plan.timeout)
+    let connected = match path_of(address) {
+        Some(path) => connect_unix(rt, path),
+        None => connect_tcp(rt, address, plan.timeout),
     };
     match connected {
         Ok(stream) => converse(rt, stream, address, plan, calls, out),
@@ -89,9 +88,18 @@ where
     Err(last)
 }
 
-/// A connection to a Unix socket.
+/// A connection to the Unix socket at a path.
 fn connect_unix<N: Net>(rt: &N, path: &str) -> io::Result<NonblockingStream> {
     let stream = UnixStream::connect(rt, path)?;
     stream.set_nonblocking(true)?;
     Ok(NonblockingStream::of_unix(ready::UnixStream::from_std(stream)))
+}
+
+/// The path of a Unix socket, if an address is one: after `unix:`, as the tools of the reference library have it, or with a slash.
+fn path_of(address: &str) -> Option<&str> {
+    match address.strip_prefix("unix:") {
+        Some(path) => Some(path),
+        None if address.contains('/') => Some(address),
+        None => None,
+    }
 }

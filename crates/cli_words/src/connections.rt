@@ -41,7 +41,7 @@ const FRAME_WORDS: Argument = Argument {
 const TARGET: Argument = Argument {
     name: "HOST:PORT",
     form: ArgumentForm::Place,
-    help: "A name or an address, and a port",
+    help: "A name or an address, and a port; or the path of a Unix socket, with a slash or after unix:",
 };
 
 /// Whether messages are printed.
@@ -62,7 +62,7 @@ const TIMEOUT: Argument = Argument {
 const ADDRESS: Argument = Argument {
     name: "ADDRESS",
     form: ArgumentForm::Place,
-    help: "HOST:PORT, or the path of a Unix socket, with a slash",
+    help: "HOST:PORT, or the path of a Unix socket, with a slash or after unix:",
 };
 
 /// The calls.

@@ -6,6 +6,7 @@ mod pair;
 mod plan;
 mod proxy;
 mod read_buffer;
+mod target;
 mod watch;
 
 pub use plan::{RelayPlan, RelayRoute, relay_port};

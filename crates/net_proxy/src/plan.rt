@@ -1,6 +1,7 @@
 //! What is relayed, and from where to where.
 
 use crate::proxy::Proxy;
+use crate::target::Target;
 use crate::watch::Watch;
 use cp_frame::Mode;
 use cp_relay::{Output, Relay};
@@ -8,7 +9,7 @@ use cp_words::Limits;
 use net_sockets::{Incoming, Listener};
 use std::alloc::{AllocGlobal, Global};
 use std::io::{self, Write};
-use std::net::{Ipv4Addr, Net, SocketAddr, ToSocketAddrs};
+use std::net::{Ipv4Addr, Net, SocketAddr};
 
 /// Everything was let through.
 pub(crate) const ACCEPTED: u8 = 0;
@@ -22,7 +23,7 @@ pub(crate) const BROKEN: u8 = 2;
 pub struct RelayRoute<'a> {
     /// The port of 127.0.0.1 that takes them.
     pub port: u16,
-    /// A `HOST:PORT`, to which one is made for each.
+    /// A `HOST:PORT`, or the path of a Unix socket, to which one is made for each.
     pub target: &'a str,
     /// How many are taken.
     pub count: u32,
@@ -102,9 +103,7 @@ fn relay<N, W: Write + Drop, E: Write>(
 where
     N: Net + AllocGlobal,
 {
-    let Some(target) = route.target.to_socket_addrs(rt)?.next() else {
-        return Err(io::Error::from(io::ErrorKind::NotFound));
-    };
+    let target = Target::of(rt, route.target)?;
     let address = SocketAddr::from((Ipv4Addr::LOCALHOST, route.port));
     let listener = Listener::bind(rt, address)?;
     let incoming = Incoming::new(listener, Some(route.count as u64));

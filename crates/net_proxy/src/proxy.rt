@@ -6,6 +6,7 @@ ghost use Rattle.net_sockets.specs.Incoming.{came_of, count_of};
 use crate::direction::DirectionEnd;
 use crate::pair::{Pair, PairEnd, PairTurn};
 use crate::plan::{ACCEPTED, RelayPlan};
+use crate::target::Target;
 use crate::watch::Watch;
 use mio::{Events, Poll, Token};
 use net_sockets::{Incoming, NonblockingStream};
@@ -13,7 +14,7 @@ use slab::Slab;
 use std::alloc::{AllocGlobal, Global};
 use std::collections::VecDeque;
 use std::io::{self, Write};
-use std::net::{Net, SocketAddr};
+use std::net::Net;
 use std::time::Duration;
 
 /// The listener's token, which no stream has.
@@ -33,13 +34,13 @@ const AGAIN: u64 = 100;
 
 /// The connections that came, each with the one that was made for it.
 #[derive(Drop)]
-pub(crate) struct Proxy {
+pub(crate) struct Proxy<'a> {
     alloc: Global,
     plan: RelayPlan,
     poll: Poll,
     events: Events,
     incoming: Incoming,
-    target: SocketAddr,
+    target: Target<'a>,
     pairs: Slab<Pair>,
     /// A buffer without bytes, for the next long frame.
     spare: Vec<u8>,
@@ -48,14 +49,14 @@ pub(crate) struct Proxy {
     status: u8,
 }
 
-impl Proxy {
+impl<'a> Proxy<'a> {
     /// A proxy to which no connection has come.
     pub(crate) fn new<N: Net + AllocGlobal>(
         rt: &N,
         plan: RelayPlan,
         mut incoming: Incoming,
-        target: SocketAddr,
-    ) -> io::Result<Proxy> {
+        target: Target<'a>,
+    ) -> io::Result<Proxy<'a>> {
         let poll = Poll::new(rt)?;
         incoming.register(poll.registry(), LISTENER)?;
         let alloc = rt.alloc();
@@ -168,7 +169,7 @@ impl Proxy {
 
     /// Makes the pair of a connection. Where this fails both its streams are closed.
     fn admit<N: Net>(&mut self, rt: &N, near: NonblockingStream, number: u64) -> io::Result<()> {
-        let far = NonblockingStream::connect(rt, self.target)?;
+        let far = self.target.connect(rt)?;
         let mut pair = Pair::new(self.alloc, &self.plan, near, far, number)?;
         let key = self.pairs.vacant_key();
         pair.register(self.poll.registry(), Token(key.wrapping_mul(2)))?;

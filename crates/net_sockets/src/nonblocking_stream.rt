@@ -42,6 +42,11 @@ impl NonblockingStream {
         })
     }
 
+    /// A connection to the Unix socket at a path.
+    pub fn connect_path<N: Net>(rt: &N, path: &str) -> io::Result<NonblockingStream> {
+        Ok(NonblockingStream::of_unix(UnixStream::connect(rt, path)?))
+    }
+
     /// A connection over TCP.
     pub fn of_tcp(stream: TcpStream) -> NonblockingStream {
         NonblockingStream::new(StreamSocket::Tcp(stream))
