@@ -1,5 +1,5 @@
 -- Each export's count is what it is owed (CountsAgree), and what follows of the messages on the way. rules/ has what each rule of one
--- vat sends; the files here join two vats.
+-- vat sends, and local/ what it does to questions whose Call wasn't sent; the files here join two vats.
 pub mod rules
 pub mod Sums
 pub mod Standing
@@ -11,4 +11,5 @@ pub mod Expected
 pub mod RulesMeetNoFault
 pub mod NoFault
 pub mod Tally
+pub mod local
 pub mod LedgerAgrees

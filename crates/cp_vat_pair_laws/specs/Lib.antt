@@ -1,4 +1,5 @@
 pub mod Ledger
+pub mod LocalQuestions
 pub mod Tallied
 pub mod VatPair
 pub mod Accounts

@@ -1,5 +1,5 @@
 -- Exchanges beside what the Ledger says of their messages.
-use Rattle.std.specs.Prelude.{ℕ, true, false, List, [], ◌∷◌, ◌++◌, Option}
+use Rattle.std.specs.Prelude.{ℕ, true, false, Bool, List, [], ◌∷◌, ◌++◌, Option}
 use Rattle.cp_tree.specs.Node.{cap}
 use Rattle.cp_tables.specs.declared.exchange.Stage.{Stage}
 use Rattle.cp_messages.specs.Written.{message_written}
@@ -17,7 +17,8 @@ use Rattle.cp_vat_machine.specs.declared.effect.Effect.TheVariants as effects
 use Rattle.cp_vat_machine.specs.declared.event.Event.TheVariants as events
 use Rattle.cp_vat_machine.specs.declared.event.Value.TheVariants as values
 use Rattle.cp_vat_pair_laws.specs.Ledger.{past_of, export_count, import_count, question_stage, answer_stage}
-use Rattle.test_vat.specs.RowWords.{comes, does, bootstrap_message, call_message, return_message, finish_message, resolve_message, release_message, sends, on_import, on_answer, small_call, small_request, results, no_content, one_object, request, bootstrap_comes, bootstrap_does}
+use Rattle.cp_vat_pair_laws.specs.LocalQuestions.{local_question}
+use Rattle.test_vat.specs.RowWords.{comes, does, bootstrap_message, call_message, return_message, finish_message, resolve_message, release_message, sends, on_import, on_answer, small_call, small_request, results, no_content, one_object, request, x_failed, bootstrap_comes, bootstrap_does}
 use Rattle.test_vat.specs.Rows.{call_comes}
 
 -- a promise of the application is exported, calls wait at it, and they go when it is resolved, after the Resolve
@@ -53,6 +54,12 @@ asked history q = question_stage (past_of history) q
 
 abbrev pub answered : List Moment → ℕ → Option Stage
 answered history a = answer_stage (past_of history) a
+
+abbrev pub called_here : List Moment → ℕ → Option Stage
+called_here history q = (local_question history q).stage
+
+abbrev pub is_delivered : List Moment → ℕ → Bool
+is_delivered history q = (local_question history q).is_delivered
 
 -- a call's params name an export twice
 abbrev pub params_named : List Moment
@@ -147,3 +154,61 @@ import_given_back =
     ++ does (events.Finish 0) values.Nothing (sends (finish_message 0 false) ∷ [])
     ∷ does (events.Release 7) values.Nothing (sends (release_message 7 2) ∷ [])
     ∷ []
+
+-- a call on a promise of the application waits, and isn't sent
+abbrev pub local_asked : List Moment
+local_asked = does events.Promise (values.Promise 0) [] ∷ does (events.Call (caps.Promise 0) small_request) (values.Question 0) [] ∷ []
+
+-- the promise is resolved to an object, which gets the call and answers it; and the question is finished
+abbrev delivers : Moment
+delivers = does (events.Resolve 0 (caps.Object 5)) values.Nothing (effects.Deliver 5 (origins.Own 0) 0 small_request ∷ [])
+
+abbrev pub local_delivered : List Moment
+local_delivered = local_asked ++ delivers ∷ []
+
+abbrev pub local_settled : List Moment
+local_settled =
+    local_delivered
+    ++ does
+    (events.Answer (origins.Own 0) (outcomes.Results no_content []))
+    values.Nothing
+    (effects.Settled 0 (outcomes.Results no_content []) ∷ [])
+    ∷ []
+
+abbrev finishes : Moment
+finishes = does (events.Finish 0) values.Nothing []
+
+abbrev pub local_over : List Moment
+local_over = local_settled ++ finishes ∷ []
+
+-- it is finished first, and its answer isn't reported
+abbrev pub local_finished : List Moment
+local_finished = local_asked ++ finishes ∷ []
+
+abbrev pub finished_delivered : List Moment
+finished_delivered = local_finished ++ delivers ∷ []
+
+abbrev pub finished_over : List Moment
+finished_over = finished_delivered ++ does (events.Answer (origins.Own 0) (outcomes.Results no_content [])) values.Nothing [] ∷ []
+
+-- the promise is broken: the call fails, which is reported unless it was finished
+abbrev pub local_failed : List Moment
+local_failed =
+    local_asked ++ does (events.Resolve 0 (caps.Broken x_failed)) values.Nothing (effects.Settled 0 (outcomes.Failed x_failed) ∷ []) ∷ []
+
+abbrev pub finished_failed : List Moment
+finished_failed = local_finished ++ does (events.Resolve 0 (caps.Broken x_failed)) values.Nothing [] ∷ []
+
+-- the promise is resolved to an import, and the call is sent
+abbrev pub before_import : List Moment
+before_import =
+    bootstrap_does
+    ∷ comes
+    (return_message 0 (results (cap 0) (descriptors.SenderHosted 7 ∷ [])))
+    (effects.Settled 0 (outcomes.Results (cap 0) (caps.Import 7 ∷ [])) ∷ [])
+    ∷ does events.Promise (values.Promise 0) []
+    ∷ does (events.Call (caps.Promise 0) small_request) (values.Question 1) []
+    ∷ []
+
+abbrev pub local_sent : List Moment
+local_sent = before_import ++ does (events.Resolve 0 (caps.Import 7)) values.Nothing (sends (small_call 1 (on_import 7)) ∷ []) ∷ []

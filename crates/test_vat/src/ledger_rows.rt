@@ -1,10 +1,10 @@
 //! Exchanges beside what the Ledger says of their messages: each is a run of the machine.
 
-ghost use Rattle.std.specs.Prelude.{◌≡◌, Some, None};
+ghost use Rattle.std.specs.Prelude.{◌≡◌, true, false, Some, None};
 ghost use Rattle.cp_tables.specs.declared.exchange.Stage.TheVariants as stages;
 ghost use Rattle.cp_vat_machine.specs.Run.{Run};
 ghost use Rattle.test_vat.specs.LedgerRows as rows;
-ghost use Rattle.test_vat.specs.LedgerRows.{exported, imported, asked, answered, promise_exported};
+ghost use Rattle.test_vat.specs.LedgerRows.{exported, imported, asked, answered, called_here, is_delivered, promise_exported};
 
 /// A Return gives back the exports that the params named, where it asks for it.
 pub fn params_given_back()
@@ -57,4 +57,41 @@ pub fn import_given_back()
     ensures taken { imported rows.import_taken 7 ≡ 2 }
     ensures back { imported rows.import_given_back 7 ≡ 0 }
     ensures gone { asked rows.import_given_back 0 ≡ None }
+{}
+
+/// A question whose Call isn't sent stands from its call until it has its outcome and was finished.
+pub fn local_is_asked()
+    ensures run { Run None rows.local_over }
+    ensures open { called_here rows.local_asked 0 ≡ Some stages.Open }
+    ensures still { called_here rows.local_delivered 0 ≡ Some stages.Open }
+    ensures returned { called_here rows.local_settled 0 ≡ Some stages.Returned }
+    ensures gone { called_here rows.local_over 0 ≡ None }
+{}
+
+/// Finished first, it stands until its call is answered.
+pub fn local_is_finished()
+    ensures run { Run None rows.finished_over }
+    ensures finished { called_here rows.local_finished 0 ≡ Some stages.Finished }
+    ensures still { called_here rows.finished_delivered 0 ≡ Some stages.Finished }
+    ensures here { is_delivered rows.finished_delivered 0 ≡ true }
+    ensures gone { called_here rows.finished_over 0 ≡ None }
+{}
+
+/// A call that fails gives its question the exception. A finished one ends unreported: it was never
+/// delivered.
+pub fn local_fails()
+    ensures run { Run None rows.local_failed }
+    ensures returned { called_here rows.local_failed 0 ≡ Some stages.Returned }
+    ensures ends { Run None rows.finished_failed }
+    ensures finished { called_here rows.finished_failed 0 ≡ Some stages.Finished }
+    ensures undelivered { is_delivered rows.finished_failed 0 ≡ false }
+{}
+
+/// Once its Call is sent it is a question of the wire.
+pub fn local_is_sent()
+    ensures run { Run None rows.local_sent }
+    ensures open { called_here rows.before_import 1 ≡ Some stages.Open }
+    ensures unknown { asked rows.before_import 1 ≡ None }
+    ensures sent { called_here rows.local_sent 1 ≡ None }
+    ensures known { asked rows.local_sent 1 ≡ Some stages.Open }
 {}

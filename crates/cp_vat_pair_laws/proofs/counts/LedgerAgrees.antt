@@ -1,9 +1,9 @@
--- Each step of an open vat keeps its accounts as the Ledger says.
-use Rattle.std.specs.Prelude.{◌≡◌, refl, ℕ, ltb, not, if◌then◌else◌, Bool, true, false, List, [], ◌∷◌, ◌++◌, flat_map, reverse, Option, Some, None, is_some, IfSome, IsTrue, Result, Ok, Err}
+-- Each step of an open vat keeps its accounts as the Ledger says, and its local questions as its application's calls say.
+use Rattle.std.specs.Prelude.{◌≡◌, refl, ℕ, ltb, not, if◌then◌else◌, Bool, true, false, List, [], ◌∷◌, ◌++◌, flat_map, reverse, Option, Some, None, is_some, IfSome, IsTrue, Result, Ok}
 use Rattle.std.specs.Option.{option_map_or}
 use Rattle.std.specs.Ordering.{nat_cmp}
 use Rattle.std.specs.FinMap.{get, get-empty}
-use Rattle.std.proofs.Common.{arith, ap, sym, ◌∙◌, append_assoc}
+use Rattle.std.proofs.Common.{arith, sym, ◌∙◌, append_assoc}
 use Rattle.std.proofs.lemmas.List.{reverse-append, append-nil}
 use Rattle.std.proofs.lemmas.Bool.Decides.{nat_tests}
 use Rattle.cp_tables.specs.Counted.{IsCount}
@@ -26,7 +26,7 @@ use Rattle.cp_vat_machine.specs.Asking.{is_asked, ReturnOf}
 use Rattle.cp_vat_machine.specs.Calling.{OwnDone}
 use Rattle.cp_vat_machine.specs.Local.{Local}
 use Rattle.cp_vat_machine.specs.Run.{Moment, Steps}
-use Rattle.cp_vat_machine.specs.Step.{On, echo_fits, echoed, ReceivesIf, Does, Follows, Step, was_closed, ran_out, refused, did, received, faulted}
+use Rattle.cp_vat_machine.specs.Step.{On, ReceivesIf, Does, Follows, Step, was_closed, ran_out, refused, did, received, faulted}
 use Rattle.cp_vat_machine.specs.declared.effect.Effect.{Effect}
 use Rattle.cp_vat_machine.specs.declared.effect.Effect.TheVariants as effects
 use Rattle.cp_vat_machine.specs.declared.entry.AnswerEntry.{AnswerEntry}
@@ -38,20 +38,23 @@ use Rattle.cp_vat_machine.specs.declared.event.Value.{Value}
 use Rattle.cp_vat_machine.specs.declared.fault.PeerFault.{PeerFault}
 use Rattle.cp_vat_machine.specs.declared.fault.PeerFault.TheVariants as faults
 use Rattle.cp_vat_machine.specs.declared.fault.VatFault.{VatFault}
-use Rattle.cp_vat_machine.proofs.Basics.{ok_in, ok_out, unless_out}
+use Rattle.cp_vat_machine.proofs.Basics.{ok_out, unless_out}
 use Rattle.cp_vat_laws.proofs.within.Step.{runs_keep}
-use Rattle.cp_vat_pair_laws.specs.Ledger.{Traffic, came, sent, arrival, departure, traffic_if, traffic_of, export_count, import_count, question_stage, answer_stage}
+use Rattle.cp_vat_pair_laws.specs.Ledger.{Traffic, came, sent, arrival, departure, traffic_if, traffic_of, past_of, export_count, import_count, question_stage, answer_stage}
 use Rattle.cp_vat_pair_laws.specs.Accounts.{Accounts, accounts_of, asked_account, kept_account, Sent}
 use Rattle.cp_vat_pair_laws.specs.VatPair.{messages_sent}
 use Rattle.cp_vat_pair_laws.specs.Posting.{Posts}
 use Rattle.cp_vat_pair_laws.specs.Orderly.{IsOrderly}
-use Rattle.cp_vat_pair_laws.specs.Tallied.{asked_stage, kept_stage, AreTallied, LedgerAgrees}
+use Rattle.cp_vat_pair_laws.specs.LocalQuestions.{local_question}
+use Rattle.cp_vat_pair_laws.specs.Tallied.{asked_stage, unsent_stage, local_stage, kept_stage, AreTallied, LedgerAgrees}
 use Rattle.cp_vat_pair_laws.proofs.counts.Tally.{IsQuestion, IsAnswer, Tallies, sent_tallies, IsKnown, came_tallies}
 use Rattle.cp_vat_pair_laws.proofs.NewPairs.{new_orderly}
 use Rattle.cp_vat_pair_laws.proofs.counts.rules.TwoParts.{sends_both, hears_both}
 use Rattle.cp_vat_pair_laws.proofs.counts.rules.Does.{does_goes}
-use Rattle.cp_vat_pair_laws.proofs.counts.rules.Receives.{receives_heeds, follows_goes}
-use Rattle.cp_vat_pair_laws.proofs.counts.Moves.{step_open, closed_open}
+use Rattle.cp_vat_pair_laws.proofs.counts.rules.Receives.{receives_heeds, follows_goes, echo_goes}
+use Rattle.cp_vat_pair_laws.proofs.counts.Moves.{closed_open}
+use Rattle.cp_vat_pair_laws.proofs.counts.local.Steps.{still_open}
+use Rattle.cp_vat_pair_laws.proofs.counts.local.Stages.{local_as}
 
 -- later messages on a past, one by one
 abbrev later : List Traffic → List Traffic → List Traffic
@@ -113,15 +116,6 @@ on_known old (messages.Other which body) done does = tt
 echo_sent : (accounts : Accounts) (m : Message) → Sent accounts (messages.Unimplemented (message_written m)) accounts
 echo_sent accounts m = record { exports = λ e. omega arith; imports = λ i. omega arith; questions = λ q. refl; answers = λ a. refl }
 
-echo_goes : (old : State) (m : Message) (done : Done) → Ok done ≡ echoed old m
-    → (done.1 ≡ old) × (done.0 ≡ effects.Send (messages.Unimplemented (message_written m)) ∷ [])
-echo_goes old m done is = by (echo_fits (message_written (messages.Unimplemented (message_written m)))) is
-  where
-    by : (b : Bool) → Ok done ≡ (if b then Ok (effects.Send (messages.Unimplemented (message_written m)) ∷ [], old) else Err faults.EchoTooLarge)
-        → (done.1 ≡ old) × (done.0 ≡ effects.Send (messages.Unimplemented (message_written m)) ∷ [])
-    by true same = (ap (λ d. d.1) (ok_in _ _ same), ap (λ d. d.0) (ok_in _ _ same))
-    by false same = ok_out same
-
 -- a step of an open vat
 abbrev StaysTallied : List Traffic → State → Type 0
 StaysTallied past new = Tallies past (accounts_of new) × IsOrderly new
@@ -173,10 +167,6 @@ step_tallies {old = old} {new = new} past is orderly open_ (received m first res
 step_tallies past is orderly open_ (faulted m was does shut) = closed_open shut open_
 
 -- steps one after another
-still_open : (history : List Moment) (old last : State) → Steps old history last → last.is_closed ≡ false → old.is_closed ≡ false
-still_open [] old last steps open_ = rw (← steps) open_
-still_open (moment ∷ more) old last steps open_ = step_open (still_open more steps.0 last steps.2 open_) steps.1
-
 steps_tally : (history : List Moment) (past : List Traffic) (old last : State) → Tallies past (accounts_of old) → IsOrderly old → Steps old history last → last.is_closed ≡ false
     → Tallies (later past (flat_map traffic_of history)) (accounts_of last)
 steps_tally [] past old last is orderly steps open_ = rw (steps) is
@@ -213,20 +203,21 @@ counted_there : {X : Type 0} (o : Option (Counted X)) (n : ℕ) → IfSome o (λ
 counted_there None n all is = rw (← is) refl
 counted_there (Some entry) n all is = sym (grind (arith, nat_tests, all.0, is))
 
-tallied : (s : State) (past : List Traffic) → Tallies past (accounts_of s) → Local s → AreTallied s past
-tallied s past is local =
+tallied : (s : State) (history : List Moment) → Tallies (past_of history) (accounts_of s) → Local s
+    → ((q : ℕ) → unsent_stage (get s.entries.questions q) ≡ local_stage s q (local_question history q)) → AreTallied s history
+tallied s history is local locally =
     record {
       exports = is.exports;
       imports = is.imports;
-      exported = λ e. counted_there (get s.counts.exports e) (export_count past e) (local.counts e) (is.exports e);
-      imported = λ i. counted_there (get s.counts.imports i) (import_count past i) (local.imported i) (is.imports i);
-      questions = λ q. asked_as (question_stage past q) _ _ (get s.entries.questions q) (is.questions q);
-      answers = λ a. kept_as (answer_stage past a) _ (get s.entries.answers a) (is.answers a);
+      exported = λ e. counted_there (get s.counts.exports e) (export_count (past_of history) e) (local.counts e) (is.exports e);
+      imported = λ i. counted_there (get s.counts.imports i) (import_count (past_of history) i) (local.imported i) (is.imports i);
+      questions = λ q. asked_as (question_stage (past_of history) q) _ _ (get s.entries.questions q) (is.questions q);
+      local = locally;
+      answers = λ a. kept_as (answer_stage (past_of history) a) _ (get s.entries.answers a) (is.answers a);
     }
 
 pub ledger_agrees : LedgerAgrees
 ledger_agrees bootstrap history last steps open_ =
-    rw
-    (is_later (flat_map traffic_of history))
-    (tallied last (later [] (flat_map traffic_of history))
-    (steps_tally history [] (new_state bootstrap) last (new_tallies bootstrap) (new_orderly bootstrap) steps open_) (runs_keep bootstrap history last steps open_))
+    let all = steps_tally history [] (new_state bootstrap) last (new_tallies bootstrap) (new_orderly bootstrap) steps open_ in
+    let local = runs_keep bootstrap history last steps open_ in
+    tallied last history (rw (is_later (flat_map traffic_of history)) all) local (local_as bootstrap history last steps open_ local)

@@ -42,7 +42,7 @@ pub fresh_put : (table : Table (Exchange QuestionEntry)) (q p : ℕ) (kept : Que
 fresh_put table q p kept true t fresh unsent = rw (put_at table q p (new_exchange kept) true t, ← is_equal q p t, fresh, unsent) refl
 fresh_put table q p kept false t fresh unsent = rw (put_at table q p (new_exchange kept) false t) refl
 
-abbrev asked_entry : Option ℕ → Bool → QuestionEntry
+abbrev pub asked_entry : Option ℕ → Bool → QuestionEntry
 asked_entry ticket is_sent = record { forwards = None; ticket = ticket; is_sent = is_sent; is_delivered = false; mentions = [] }
 
 pub asked_orderly : (old : State) (q : ℕ) (kind : QuestionKind) (ticket : Option ℕ) (is_sent : Bool) → IsOrderly old → get old.entries.questions q ≡ None
@@ -98,7 +98,7 @@ to_start old from q request cap done ticket start goes =
     (goto_goes from (record { ticket = ticket; origin = origins.Own q; request = request }) cap done start.orderly start.may goes)
 
 -- marks change nothing else
-with_mark_is : (s : State) (cap : Cap) (embargo : Option ℕ) → with_mark s cap embargo ≡ record s { marks = (with_mark s cap embargo).marks }
+pub with_mark_is : (s : State) (cap : Cap) (embargo : Option ℕ) → with_mark s cap embargo ≡ record s { marks = (with_mark s cap embargo).marks }
 with_mark_is s (caps.Import i) embargo = refl
 with_mark_is s (caps.Pipelined q path) embargo = refl
 with_mark_is s caps.None embargo = refl
@@ -106,7 +106,7 @@ with_mark_is s (caps.Object k) embargo = refl
 with_mark_is s (caps.Promise p) embargo = refl
 with_mark_is s (caps.Broken x) embargo = refl
 
-marked_is : (s mid : State) (cap : Cap) (o : Option (Option ℕ)) → Ok mid ≡ marked s cap o → mid ≡ record s { marks = mid.marks }
+pub marked_is : (s mid : State) (cap : Cap) (o : Option (Option ℕ)) → Ok mid ≡ marked s cap o → mid ≡ record s { marks = mid.marks }
 marked_is s mid cap (Some embargo) is = rw (ok_in _ _ is) refl
 marked_is s mid cap None is = by (has_mark_capacity s cap) is
   where

@@ -1,10 +1,11 @@
 -- Resolves that come, and whole steps of a vat, as the accounts see them.
-use Rattle.std.specs.Prelude.{◌≡◌, refl, ℕ, ◌+◌, not, Bool, true, false, List, [], ◌∷◌, Option, Some, None, IsTrue, Ok}
+use Rattle.std.specs.Prelude.{◌≡◌, refl, ℕ, ◌+◌, not, if◌then◌else◌, Bool, true, false, List, [], ◌∷◌, Option, Some, None, IsTrue, Ok, Err}
 use Rattle.std.specs.FinMap.{get}
 use Rattle.std.proofs.Common.{arith, ap, sym, ◌∙◌, true≢false}
 use Rattle.cp_tree.specs.Node.{Node}
 use Rattle.cp_tables.specs.Table.{Table}
 use Rattle.cp_tables.specs.declared.counted.Counted.{Counted}
+use Rattle.cp_messages.specs.Written.{message_written}
 use Rattle.cp_messages.specs.declared.descriptor.Descriptor.{Descriptor}
 use Rattle.cp_messages.specs.declared.exception.Exception.{Exception}
 use Rattle.cp_messages.specs.declared.message.Message.{Message}
@@ -21,8 +22,9 @@ use Rattle.cp_vat_machine.specs.Supported.{is_supported}
 use Rattle.cp_vat_machine.specs.Writing.{mentioned_by, mentions_of}
 use Rattle.cp_vat_machine.specs.Receiving.{times, release_exports}
 use Rattle.cp_vat_machine.specs.Resolving.{given_back, releases_of, is_open_promise, TakeResolution, resolved, ResolveOf, told, UnknownToPeer, OnAbort}
-use Rattle.cp_vat_machine.specs.Step.{On, ReceivesIf, Receives, Follows, all_left, found_full}
+use Rattle.cp_vat_machine.specs.Step.{On, echo_fits, echoed, ReceivesIf, Receives, Follows, all_left, found_full}
 use Rattle.cp_vat_machine.specs.declared.effect.Effect.{Effect}
+use Rattle.cp_vat_machine.specs.declared.effect.Effect.TheVariants as effects
 use Rattle.cp_vat_machine.specs.declared.entry.ImportKind.{ImportKind}
 use Rattle.cp_vat_machine.specs.declared.fault.PeerFault.{PeerFault}
 use Rattle.cp_vat_machine.specs.declared.fault.PeerFault.TheVariants as faults
@@ -193,6 +195,16 @@ supported_receives false old m done is does = absurd (true≢false (sym is))
 
 pub receives_heeds : (old : State) (m : Message) (done : Done) → IsTrue (is_supported m) → IsOrderly old → Receives old m (Ok done) → Heeds old m done.0 done.1
 receives_heeds old m done supported orderly does = on_heeds old m done orderly (supported_receives (is_supported m) old m done supported does)
+
+-- one that isn't supported is sent back, and changes nothing
+pub echo_goes : (old : State) (m : Message) (done : Done) → Ok done ≡ echoed old m
+    → (done.1 ≡ old) × (done.0 ≡ effects.Send (messages.Unimplemented (message_written m)) ∷ [])
+echo_goes old m done is = by (echo_fits (message_written (messages.Unimplemented (message_written m)))) is
+  where
+    by : (b : Bool) → Ok done ≡ (if b then Ok (effects.Send (messages.Unimplemented (message_written m)) ∷ [], old) else Err faults.EchoTooLarge)
+        → (done.1 ≡ old) × (done.0 ≡ effects.Send (messages.Unimplemented (message_written m)) ∷ [])
+    by true same = (ap (λ d. d.1) (ok_in _ _ same), ap (λ d. d.0) (ok_in _ _ same))
+    by false same = ok_out same
 
 -- what follows, while the vat is open
 pub follows_goes : (mid new : State) (rest : List Effect) → new.is_closed ≡ false → IsOrderly mid → Follows mid rest new → Goes mid rest new
