@@ -4,7 +4,7 @@ use Rattle.cp_connection.specs.declared.happening.Happening.{Happening}
 use Rattle.cp_connection.specs.Link.{Link}
 use Rattle.cp_connection.specs.Lives.{Life}
 
--- A connection took these bytes of its peer, in order and each once. None was written, and what happened was handed to its objects.
+-- A connection took these bytes of its peer, in order and each once. None was written, and what happened was handed out.
 abbrev pub IsFed : Link → List ℕ → Link → Type 0
 IsFed old taken new = (handed : List Happening) × Life old taken [] handed new
 
