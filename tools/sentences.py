@@ -1,8 +1,8 @@
 #!/usr/bin/env python3
 """tools/sentences.py [FILE..]    lists sentences over 30 words, lines over 140 characters and table cells over 120.
 
-Without FILE it reads README.md, bench/README.md, nightly/README.md and docs/. It skips code blocks; code within a line counts
-as one word, and a table's lines may be long. The status is 1 where something is listed.
+Without FILE it reads README.md, bench/README.md and docs/. It skips code blocks; code within a line counts as one word, and
+a table's lines may be long. The status is 1 where something is listed.
 """
 import os
 import pathlib
@@ -34,14 +34,14 @@ def faults_of(text):
         if line.startswith("|"):
             yield from ((number, f"a cell of {len(it.strip())}: {it.strip()[:60]}") for it in line.split("|") if len(it.strip()) > 120)
     for number, part in parts_of(text):
-        for sentence in re.split(r"(?<=[.!?])\**\s+(?=[A-Z`*\[(0-9])", re.sub(r"`[^`]*`", "`x`", part)):
+        for sentence in re.split(r"(?<=[.!?])\**\s+(?=[A-Z`*\[(0-9]|cp_|capnp)", re.sub(r"`[^`]*`", "`x`", part)):
             words = len(re.findall(r"\S*\w\S*", sentence))
             if words > 30:
                 yield number, f"{words} words: {sentence.strip()[:70]}"
 
 
 def main():
-    names = sys.argv[1:] or [TOP / "README.md", TOP / "bench/README.md", TOP / "nightly/README.md", *sorted((TOP / "docs").glob("*.md"))]
+    names = sys.argv[1:] or [TOP / "README.md", TOP / "bench/README.md", *sorted((TOP / "docs").glob("*.md"))]
     found = [(name, *it) for name in names for it in sorted(faults_of(pathlib.Path(name).read_text()))]
     for name, number, fault in found:
         print(f"{os.path.relpath(name)}:{number}: {fault}")
