@@ -29,4 +29,5 @@ mod vat;
 
 pub use lent::Lent;
 pub use running::run;
+pub use supported::is_supported_call;
 pub use vat::Vat;

@@ -2,14 +2,14 @@
 
 ghost use Rattle.std.specs.Prelude.{◌≡◌};
 ghost use Rattle.std.specs.List.{list_all};
-ghost use Rattle.cp_rpc.specs.Viewed.{viewed, viewed_descriptor, viewed_resolution, viewed_returned, viewed_target};
-ghost use Rattle.cp_vat_machine.specs.Supported.{is_supported, is_supported_context, is_supported_descriptor, is_supported_resolution, is_supported_returned, is_supported_target, is_supported_transform};
+ghost use Rattle.cp_rpc.specs.Viewed.{viewed, viewed_call, viewed_descriptor, viewed_resolution, viewed_returned, viewed_target};
+ghost use Rattle.cp_vat_machine.specs.Supported.{is_supported, is_supported_context, is_supported_descriptor, is_supported_resolution, is_supported_returned, is_supported_target, is_supported_to_caller, is_supported_transform};
 
 use cp_reading::View;
 use cp_rpc::{
-    CapTableView, Context, Descriptor, DescriptorView, Message, MessageIn, MessageView, Op,
-    Resolution, ResolutionView, Returned, ReturnedView, SendResultsTo, SendResultsToView, Target,
-    TargetView, TransformView,
+    CallView, CapTableView, Context, Descriptor, DescriptorView, Message, MessageIn, MessageView,
+    Op, Resolution, ResolutionView, Returned, ReturnedView, SendResultsTo, SendResultsToView,
+    Target, TargetView, TransformView,
 };
 
 /// Whether a message has no member that is unknown (the type of an exception aside), of three-party
@@ -39,9 +39,7 @@ pub(crate) fn is_supported_view(message: &MessageView) -> bool
 {
     match message {
         MessageIn::Call(call) => {
-            matches!(&call.send_results_to, SendResultsToView::Caller)
-                && is_supported_target_view(&call.target)
-                && are_supported_view(&call.params.cap_table)
+            matches!(&call.send_results_to, SendResultsToView::Caller) && is_supported_call(call)
         }
         MessageIn::Return(returned) => is_supported_returned_view(&returned.returned),
         MessageIn::Resolve(resolve) => is_supported_resolution_view(&resolve.resolution),
@@ -51,6 +49,13 @@ pub(crate) fn is_supported_view(message: &MessageView) -> bool
         MessageIn::Other { .. } => false,
         _ => true,
     }
+}
+
+/// Whether a call that is read in place has no such member but for where its results go.
+pub fn is_supported_call(call: &CallView<View>) -> bool
+    ensures { result ≡ is_supported_to_caller (viewed_call (λ t. t) call.now) }
+{
+    is_supported_target_view(&call.target) && are_supported_view(&call.params.cap_table)
 }
 
 fn is_supported_target(target: &Target) -> bool

@@ -4,6 +4,7 @@ ghost use Rattle.std.specs.Prelude.{◌≡◌};
 ghost use Rattle.std.specs.FinMap as map;
 ghost use Rattle.cp_rpc.specs.Viewed.{viewed};
 ghost use Rattle.cp_vat_machine.specs.State.{new_state};
+ghost use Rattle.cp_vat_machine.specs.Asked.{stage_of};
 ghost use Rattle.cp_vat_machine.specs.Step.{Step};
 ghost use Rattle.cp_vat_machine.specs.declared.event.Event.TheVariants as events;
 ghost use Rattle.cp_vat_machine.specs.declared.event.Value.TheVariants as values;
@@ -17,6 +18,7 @@ use crate::lent::Lent;
 use crate::{answering, asking, calling, giving_up, receiving};
 use cp_refs::{Cap, Origin, Outcome, PromiseId, Request};
 use cp_rpc::{Message, MessageView};
+use cp_tables::Stage;
 use cp_vat_machine::{Acted, Idle, VatFault};
 use cp_vat_state::Core;
 use std::alloc::Global;
@@ -120,6 +122,19 @@ impl Vat {
         ensures { result ≡ map.len self.now.values.promises }
     {
         self.core.values.values().promises().len()
+    }
+
+    /// The stage of a question that the peer was asked: its Return is due while it is open, and after the application gave it up
+    /// till that comes.
+    pub fn stage_of(&self, question: u32) -> Option<Stage>
+        ensures { result ≡ stage_of self.now question }
+    {
+        let question = self.core.questions.get(question)?;
+        if question.kept.is_sent {
+            Some(question.stage)
+        } else {
+            None
+        }
     }
 
     /// Takes in a message of the peer's.

@@ -7,6 +7,7 @@ pub mod Receiving
 pub mod Give
 pub mod Go
 pub mod Supported
+pub mod Asked
 pub mod Answering
 pub mod Asking
 pub mod Resolving

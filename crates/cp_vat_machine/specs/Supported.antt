@@ -7,6 +7,7 @@ use Rattle.cp_messages.specs.declared.target.Target.{Target}
 use Rattle.cp_messages.specs.declared.target.Target.TheVariants as targets
 use Rattle.cp_messages.specs.declared.descriptor.Descriptor.{Descriptor}
 use Rattle.cp_messages.specs.declared.descriptor.Descriptor.TheVariants as descriptors
+use Rattle.cp_messages.specs.declared.call.Call.{Call}
 use Rattle.cp_messages.specs.declared.call.SendResultsTo.{SendResultsTo}
 use Rattle.cp_messages.specs.declared.call.SendResultsTo.TheVariants as results_to
 use Rattle.cp_messages.specs.declared.returned.Returned.{Returned}
@@ -60,10 +61,13 @@ is_supported_context (contexts.SenderLoopback n) = true
 is_supported_context (contexts.ReceiverLoopback n) = true
 is_supported_context other = false
 
+-- the call with its results to its caller is one that a vat acts on
+abbrev pub is_supported_to_caller : Call → Bool
+is_supported_to_caller call = is_supported_target call.target && list_all is_supported_descriptor call.params.cap_table
+
 -- A message without a member that is unknown (the type of an exception aside), of three-party handoff or of tail calls.
 abbrev pub is_supported : Message → Bool
-is_supported (messages.Call c) =
-    is_supported_way_back c.send_results_to && is_supported_target c.target && list_all is_supported_descriptor c.params.cap_table
+is_supported (messages.Call c) = is_supported_way_back c.send_results_to && is_supported_to_caller c
 is_supported (messages.Return r) = is_supported_returned r.returned
 is_supported (messages.Resolve r) = is_supported_resolution r.resolution
 is_supported (messages.Disembargo d) = is_supported_context d.context && is_supported_target d.target
