@@ -124,6 +124,13 @@ impl Vat {
         self.core.values.values().promises().len()
     }
 
+    /// Whether it is closed: it refuses each event then.
+    pub fn is_closed(&self) -> bool
+        ensures { result ≡ self.now.is_closed }
+    {
+        self.core.is_closed
+    }
+
     /// The stage of a question that the peer was asked: its Return is due while it is open, and after the application gave it up
     /// till that comes.
     pub fn stage_of(&self, question: u32) -> Option<Stage>
