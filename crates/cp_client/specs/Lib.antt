@@ -1,6 +1,7 @@
 pub mod Seat
 pub mod Goes
 pub mod Faults
+pub mod Kinds
 pub mod Reading
 pub mod Waits
 pub mod SeatOf

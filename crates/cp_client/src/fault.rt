@@ -8,6 +8,7 @@ ghost use Rattle.cp_client.specs.Faults.{of_draft};
 
 use cp_builder::DraftFault;
 use cp_connection::ConnectionFault;
+use cp_messages::ExceptionKind;
 use cp_stream::DeviceError;
 use cp_stubs::NoResults;
 use std::alloc::{AllocError, AllocFailed};
@@ -31,6 +32,23 @@ pub enum ClientFault {
     TooManyObjects,
     /// The connection ended, or memory ran out, or the vat refuses the call.
     Connection(ConnectionFault),
+}
+
+impl ClientFault {
+    ghost use Rattle.cp_client.specs.Kinds.{kind_of};
+
+    /// What its caller may do: connect anew where the connection ended, try again later where there is no room.
+    /// (rpc.capnp: "Exception".)
+    pub fn kind(self) -> ExceptionKind
+        ensures { result ≡ kind_of self }
+    {
+        match self {
+            ClientFault::Device(_) | ClientFault::Ended => ExceptionKind::Disconnected,
+            ClientFault::NotAsked | ClientFault::TooLong => ExceptionKind::Failed,
+            ClientFault::TooManyObjects => ExceptionKind::Overloaded,
+            ClientFault::Connection(fault) => fault.kind(),
+        }
+    }
 }
 
 impl fmt::Display for ClientFault {

@@ -1,4 +1,5 @@
 pub mod Refusing
+pub mod Kinds
 pub mod Counting
 pub mod Effects
 pub mod Outgoing

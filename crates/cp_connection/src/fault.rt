@@ -4,6 +4,7 @@ ghost use Rattle.std.specs.Prelude.{◌≡◌};
 ghost use Rattle.cp_connection.specs.declared.fault.ConnectionFault.TheVariants.{OutOfMemory};
 ghost use Rattle.cp_connection.specs.Refusing.{refusal_of};
 
+use cp_rpc::ExceptionKind;
 use cp_stream::Refusal;
 use cp_vat_machine::VatFault;
 use std::alloc::AllocError;
@@ -22,6 +23,24 @@ pub enum ConnectionFault {
     OutOfMemory,
     /// V1 to V9, V11: the vat refuses this call, which changes nothing.
     Refused(VatFault),
+}
+
+impl ConnectionFault {
+    ghost use Rattle.cp_connection.specs.Kinds.{kind_of};
+
+    /// What its caller may do: connect anew where the connection ended, try again later where there is no room.
+    /// (rpc.capnp: "Exception".)
+    pub fn kind(self) -> ExceptionKind
+        ensures { result ≡ kind_of self }
+    {
+        match self {
+            ConnectionFault::Unreadable { .. } | ConnectionFault::Closed => {
+                ExceptionKind::Disconnected
+            }
+            ConnectionFault::OutOfMemory => ExceptionKind::Overloaded,
+            ConnectionFault::Refused(fault) => fault.kind(),
+        }
+    }
 }
 
 impl fmt::Display for ConnectionFault {

@@ -7,6 +7,7 @@ ghost use Rattle.cp_stream.specs.Device.{of_error};
 ghost use Rattle.cp_stream.specs.declared.fault.StreamFault.TheVariants.{Device};
 
 use cp_connection::ConnectionFault;
+use cp_messages::ExceptionKind;
 use cp_stream::StreamFault;
 use std::alloc::{AllocError, AllocFailed};
 use std::error::Error;
@@ -21,6 +22,20 @@ pub enum ServeFault {
     /// V10: memory ran out, for a message, for the vat or for an object; or 2^64 - 1 rounds or effects
     /// followed one another.
     OutOfMemory,
+}
+
+impl ServeFault {
+    ghost use Rattle.cp_serve.specs.Kinds.{kind_of};
+
+    /// What its caller may do: as the stream says, or try again later where memory ran out. (rpc.capnp: "Exception".)
+    pub fn kind(self) -> ExceptionKind
+        ensures { result ≡ kind_of self }
+    {
+        match self {
+            ServeFault::Stream(fault) => fault.kind(),
+            ServeFault::OutOfMemory => ExceptionKind::Overloaded,
+        }
+    }
 }
 
 impl fmt::Display for ServeFault {

@@ -1,5 +1,6 @@
 pub mod Tap
 pub mod Device
+pub mod Kinds
 pub mod Stream
 pub mod Reader
 pub mod Kept

@@ -9,7 +9,7 @@ ghost use Rattle.cp_stream.specs.Device.{of_error};
 use crate::device::DeviceError;
 use cp_frame::FrameFault;
 use cp_reading::TreeFault;
-use cp_rpc::SchemaFault;
+use cp_rpc::{ExceptionKind, SchemaFault};
 use cp_tree::WriteFault;
 use std::alloc::{AllocError, AllocFailed};
 use std::error::Error;
@@ -47,7 +47,21 @@ pub(crate) fn refused(at: u64, refusal: Refusal) -> StreamFault
 
 impl Refusal {
     ghost use Rattle.std.specs.Prelude.{Decides};
+    ghost use Rattle.cp_stream.specs.Kinds.{kind_of_refusal};
     ghost use Rattle.cp_stream.specs.Reader.{IsMemory};
+
+    /// What its caller may do: try again later where memory ran out. (rpc.capnp: "Exception".)
+    pub fn kind(self) -> ExceptionKind
+        ensures { result ≡ kind_of_refusal self }
+    {
+        match self {
+            Refusal::Frame(FrameFault::OutOfMemory)
+            | Refusal::Tree(TreeFault::OutOfMemory)
+            | Refusal::Schema(SchemaFault::OutOfMemory)
+            | Refusal::Write(WriteFault::OutOfMemory) => ExceptionKind::Overloaded,
+            _ => ExceptionKind::Failed,
+        }
+    }
 
     /// Whether memory ran out while a stream was read.
     pub(crate) fn is_memory(self) -> bool
@@ -57,6 +71,20 @@ impl Refusal {
             self,
             Refusal::Frame(FrameFault::OutOfMemory) | Refusal::Schema(SchemaFault::OutOfMemory)
         )
+    }
+}
+
+impl StreamFault {
+    ghost use Rattle.cp_stream.specs.Kinds.{kind_of};
+
+    /// What its caller may do: open the device anew where it failed, else as the refusal says. (rpc.capnp: "Exception".)
+    pub fn kind(self) -> ExceptionKind
+        ensures { result ≡ kind_of self }
+    {
+        match self {
+            StreamFault::Refused { refusal, .. } => refusal.kind(),
+            StreamFault::Device(_) => ExceptionKind::Disconnected,
+        }
     }
 }
 

@@ -1,4 +1,5 @@
 pub mod Texts
+pub mod Kinds
 pub mod State
 pub mod Then
 pub mod Capacity

@@ -1,5 +1,6 @@
 //! What a peer can do wrong, and what an application's call can be refused for.
 
+use cp_messages::ExceptionKind;
 use std::alloc::{AllocError, AllocFailed};
 use std::error::Error;
 use std::fmt;
@@ -100,6 +101,21 @@ pub enum VatFault {
 }
 
 impl VatFault {
+    ghost use Rattle.std.specs.Prelude.{◌≡◌};
+    ghost use Rattle.cp_vat_machine.specs.Kinds.{kind_of};
+
+    /// What its caller may do: try again later where there is no room, connect anew where the vat is closed.
+    /// (rpc.capnp: "Exception".)
+    pub fn kind(self) -> ExceptionKind
+        ensures { result ≡ kind_of self }
+    {
+        match self {
+            VatFault::Full | VatFault::OutOfMemory => ExceptionKind::Overloaded,
+            VatFault::Closed => ExceptionKind::Disconnected,
+            _ => ExceptionKind::Failed,
+        }
+    }
+
     /// What the fault means.
     fn meaning(self) -> &'static str {
         match self {
