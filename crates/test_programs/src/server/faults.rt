@@ -1,10 +1,13 @@
-//! What the faults of a server, of a client and of a connection print that no row of test_exchanges comes to.
+//! What the faults of a server, of a client and of a connection print that no row of test_exchanges comes to, and what their
+//! callers may do.
 
 use crate::devices::ECONNRESET;
 use cp_client::ClientFault;
 use cp_connection::ConnectionFault;
+use cp_frame::FrameFault;
+use cp_rpc::ExceptionKind;
 use cp_serve::ServeFault;
-use cp_stream::{DeviceError, StreamFault};
+use cp_stream::{DeviceError, Refusal, StreamFault};
 use cp_vat_machine::VatFault;
 use std::alloc::Global;
 use std::fmt::Display;
@@ -58,4 +61,19 @@ fn texts(rt: HostRuntime) {
     expect_texts(&rt, rt.alloc(), OF_SERVERS);
     expect_texts(&rt, rt.alloc(), OF_CLIENTS);
     expect_texts(&rt, rt.alloc(), OF_CONNECTIONS);
+}
+
+#[test]
+fn kinds(rt: HostRuntime) {
+    let lost = StreamFault::Device(RESET);
+    check!(&rt; lost.kind() == ExceptionKind::Disconnected);
+    check!(&rt; ServeFault::Stream(lost).kind() == ExceptionKind::Disconnected);
+    check!(&rt; ServeFault::OutOfMemory.kind() == ExceptionKind::Overloaded);
+    check!(&rt; Refusal::Frame(FrameFault::OutOfMemory).kind() == ExceptionKind::Overloaded);
+    check!(&rt; Refusal::Frame(FrameFault::Truncated).kind() == ExceptionKind::Failed);
+    check!(&rt; ClientFault::Ended.kind() == ExceptionKind::Disconnected);
+    check!(&rt; ClientFault::NotAsked.kind() == ExceptionKind::Failed);
+    let full = ConnectionFault::Refused(VatFault::Full);
+    check!(&rt; ClientFault::Connection(full).kind() == ExceptionKind::Overloaded);
+    check!(&rt; ConnectionFault::Closed.kind() == ExceptionKind::Disconnected);
 }
